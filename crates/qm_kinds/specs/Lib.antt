@@ -1,0 +1,7 @@
+pub mod Padding
+pub mod Text
+pub mod Wildcards
+pub mod Sizes
+pub mod Files
+pub mod MatchRows
+pub mod Words

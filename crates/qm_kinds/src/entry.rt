@@ -1,0 +1,87 @@
+use crate::file::FileName;
+use crate::form::CharacteristicSet;
+use crate::mark::Mark;
+use crate::moment::Moment;
+use crate::name::Name;
+
+#[derive(Clone, Copy, Debug, PartialEq, Eq)]
+pub enum JobKind {
+    Batch,
+    Print,
+}
+
+/// Whether a job is kept in its queue's listing after it ends.
+#[derive(Clone, Copy, Debug, PartialEq, Eq)]
+pub enum JobRetain {
+    /// As the queue says.
+    Default,
+    Always,
+    Failed,
+    Until(Moment),
+}
+
+/// What becomes of an aborting job once its run has ended.
+#[derive(Clone, Copy, Debug, PartialEq, Eq)]
+pub enum Fate {
+    Requeue,
+    Finish,
+    Remove,
+}
+
+#[derive(Clone, Copy, Debug, PartialEq, Eq)]
+pub enum EntryState {
+    Pending,
+    Holding,
+    Timed {
+        at: Moment,
+    },
+    Running {
+        queue: Name,
+        node: Name,
+        run: u64,
+    },
+    Aborting {
+        queue: Name,
+        node: Name,
+        run: u64,
+        fate: Fate,
+    },
+    Retained {
+        status: u32,
+        until: Option<Moment>,
+    },
+}
+
+/// A job in a queue. It stands in its home, the queue to which it was submitted or moved, or, while its run lasts,
+/// in the queue where it runs.
+#[derive(Clone, Copy, Debug, PartialEq, Eq)]
+pub struct Entry {
+    /// Entries are numbered from 1 on, and no number is used again.
+    pub number: u32,
+    pub kind: JobKind,
+    pub home: Name,
+    pub name: Name,
+    pub user: Name,
+    pub file: FileName,
+    /// Blocks of 512 bytes.
+    pub size: u32,
+    /// 0 to 255, the greater first.
+    pub priority: u8,
+    /// The moment before which the job doesn't start.
+    pub after: Option<Moment>,
+    pub held: bool,
+    pub retain: JobRetain,
+    /// Whether the job may start again after its run was cut short.
+    pub restart: bool,
+    pub characteristics: CharacteristicSet,
+    /// The form of a print job.
+    pub form: Option<Name>,
+    pub copies: u8,
+    /// Whether a page that names the job stands before its text.
+    pub flag: bool,
+    /// The last checkpoint that was recorded.
+    pub mark: Mark,
+    /// Whether the job was put back into its queue after a run.
+    pub again: bool,
+    pub state: EntryState,
+}

@@ -1,0 +1,47 @@
+//! The types of a queue system: names, moments, forms, queues, jobs, requests, replies and refusals, and the rules
+//! that each value of one keeps. What a request does to a system is said in the model, above.
+#![tactic(auto)]
+
+mod count;
+mod entry;
+mod fault;
+mod file;
+mod form;
+mod input;
+mod mark;
+mod moment;
+mod name;
+mod pattern;
+mod query;
+mod queue;
+mod refusal;
+mod reply;
+mod request;
+mod run;
+mod script;
+mod seq;
+mod short_bytes;
+mod system;
+#[cfg(test)]
+mod tests;
+mod wildcards;
+
+pub use count::{blocks, success};
+pub use entry::{Entry, EntryState, Fate, JobKind, JobRetain};
+pub use fault::{MarkFault, NameFault};
+pub use file::{File, FileName};
+pub use form::{Characteristic, CharacteristicSet, Form, Shape};
+pub use input::Input;
+pub use mark::Mark;
+pub use moment::Moment;
+pub use name::Name;
+pub use pattern::Pattern;
+pub use query::{After, Kinds, Listing, Query, Row};
+pub use queue::{Queue, QueueChange, QueueKind, QueueRetain, QueueState};
+pub use refusal::{Holder, ParseKind, Refusal};
+pub use reply::{Act, Reply};
+pub use request::{NameOrNumber, Request, StopMode};
+pub use run::{Run, Start};
+pub use script::ScriptKind;
+pub use seq::Seq;
+pub use system::{Node, System};

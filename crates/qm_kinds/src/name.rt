@@ -1,0 +1,128 @@
+ghost use Rattle.std.specs.Char.{to_ascii_uppercase};
+ghost use Rattle.std.specs.Prelude.{position, not, ◌≡◌, ◌≤◌, ◌<◌, length, Some, true};
+ghost use Rattle.std.specs.Ordering.{nat_cmp};
+ghost use Rattle.std.specs.Cmp.{partial_equiv_from_equiv};
+ghost use Rattle.std.specs.Cmp.Lexicographic.{pointwise, slice_cmp, nat_list_eq_equiv, nat_list_cmp_total, texts_po, texts_ties};
+ghost use Rattle.std.specs.Prelude.{nat_eq};
+ghost use Rattle.std.proofs.Common.{rules};
+ghost use Rattle.qm_kinds.specs.Text.{IsText, is_name_byte, text_of};
+
+use crate::fault::NameFault;
+use crate::short_bytes::{ShortBytes, read_text};
+use std::cmp::Ordering;
+use std::fmt;
+use std::marker::Model;
+
+/// A name of a node, a queue, a form, a job or the like: 1 to 39 bytes of `A` to `Z`, digits, `$` and `_`.
+/// What a name stands for may ask for fewer bytes.
+#[derive(Clone, Copy)]
+pub struct Name {
+    text: ShortBytes<39>,
+}
+
+impl Model for Name {
+    ghost use Rattle.std.specs.Prelude.{ℕ, List};
+    ghost use Rattle.qm_kinds.specs.Text.{IsText, is_name_byte};
+
+    ghost Value = { List ℕ };
+
+    ghost view = { λ n. n.text };
+
+    ghost invariant = { λ n. IsText is_name_byte n.text };
+
+    ghost inverse = { λ text. record { text = text } };
+}
+
+impl Name {
+    /// The name that a text spells. Small letters are raised.
+    pub fn read(text: &[u8]) -> Result<Name, NameFault>
+        ensures { result ≡ text_of is_name_byte text.now }
+    {
+        let text = read_text(text, first_bad(text))?;
+        Ok(Name { text })
+    }
+
+    /// The bytes of the name.
+    pub fn as_bytes(&self) -> &[u8]
+        ensures value { result.now ≡ self.now }
+        ensures lawful { IsText is_name_byte self.now }
+    {
+        self.text.as_bytes()
+    }
+
+    /// The name as text.
+    #[tactic(auto, using(crate::proofs::Ascii::name_is_text))]
+    pub fn as_str(&self) -> &str
+        ensures { result.now ≡ self.now }
+    {
+        str::from_utf8(self.as_bytes()).unwrap()
+    }
+}
+
+// The place of the first byte that may not stand in a name, even raised.
+fn first_bad(text: &[u8]) -> Option<usize>
+    ensures { result ≡ position (λ b. not (is_name_byte (to_ascii_uppercase b))) text.now }
+{
+    text.iter()
+        .position(|b| !is_name_byte(b.to_ascii_uppercase()))
+}
+
+/// Whether a byte may stand in a name.
+pub(crate) fn is_name_byte(byte: u8) -> bool
+    ensures { result ≡ is_name_byte byte }
+{
+    byte.is_ascii_uppercase() || byte.is_ascii_digit() || byte == b'$' || byte == b'_'
+}
+
+impl PartialEq for Name {
+    ghost eq = { pointwise nat_eq };
+
+    ghost laws = { partial_equiv_from_equiv nat_list_eq_equiv };
+
+    fn eq(&self, other: &Self) -> bool {
+        self.as_bytes() == other.as_bytes()
+    }
+}
+
+impl Eq for Name {
+    ghost laws = { nat_list_eq_equiv };
+}
+
+impl PartialOrd for Name {
+    ghost partial_cmp = { λ a b. Some (slice_cmp nat_cmp a b) };
+
+    ghost laws = { texts_po };
+
+    fn partial_cmp(&self, other: &Self) -> Option<Ordering> {
+        Some(self.cmp(other))
+    }
+}
+
+/// Names stand byte by byte, and a name before those that begin with it.
+impl Ord for Name {
+    ghost cmp = { slice_cmp nat_cmp };
+
+    ghost total = { nat_list_cmp_total };
+
+    ghost matches_partial_cmp = { Prim.search rules };
+
+    ghost matches_eq = { texts_ties };
+
+    fn cmp(&self, other: &Self) -> Ordering {
+        self.as_bytes().cmp(other.as_bytes())
+    }
+}
+
+impl fmt::Display for Name {
+    ghost output = { λ n. Some n };
+
+    fn fmt<W: fmt::Write>(&self, f: &mut fmt::Formatter<W>) -> fmt::Result {
+        f.pad(self.as_str())
+    }
+}
+
+impl fmt::Debug for Name {
+    fn fmt<W: fmt::Write>(&self, f: &mut fmt::Formatter<W>) -> fmt::Result {
+        fmt::Debug::fmt(self.as_str(), f)
+    }
+}
