@@ -1,0 +1,254 @@
+-- Each lawful request leaves a consistent system.
+use Rattle.std.proofs.Common.{◌≡◌, ℕ, ◌&&◌, Bool, true, false, cond, List, refl, sym, ◌∙◌, subst, inl, inr, Option, None, Some, All, filter, map, Ok}
+use Rattle.std.specs.Prelude.{IfSome, filter_map}
+use Rattle.std.specs.Option.{option_map_or}
+use Rattle.std.proofs.lemmas.List.Elements.{All-weaker}
+use Rattle.qm_kinds.specs.declared.entry.Entry.{Entry}
+use Rattle.qm_kinds.specs.declared.entry.EntryState.{EntryState}
+use Rattle.qm_kinds.specs.declared.entry.EntryState.TheVariants.{Pending, Holding, Timed, Running, Aborting, Retained}
+use Rattle.qm_kinds.specs.declared.entry.Fate.{Fate}
+use Rattle.qm_kinds.specs.declared.entry.Fate.TheVariants.{Requeue, Finish, Remove}
+use Rattle.qm_kinds.specs.declared.queue.Queue.{Queue}
+use Rattle.qm_kinds.specs.declared.request.Request.{Request}
+use Rattle.qm_kinds.specs.declared.request.Request.TheVariants as request
+use Rattle.qm_kinds.specs.declared.system.Node.{Node}
+use Rattle.qm_kinds.specs.declared.system.System.{System}
+use Rattle.qm_kinds.specs.Sizes.{is_success}
+use Rattle.qm_model.specs.Find.{entry_numbered, same_file_name}
+use Rattle.qm_model.specs.Consistent.{IsConsistent, IsEntry, IsQueue}
+use Rattle.qm_model.specs.Outcome.{Accepted}
+use Rattle.qm_model.specs.Apply.{at_moment}
+use Rattle.qm_model.specs.Standing.{with_entry, node_at, is_executing}
+use Rattle.qm_model.specs.Due.{entry_at, due}
+use Rattle.qm_model.specs.Filing.{filling}
+use Rattle.qm_model.specs.Entries.{EntryChange}
+use Rattle.qm_model.specs.Retaining.{is_retained, retained_until}
+use Rattle.qm_model.specs.Ending.{queue_retain, aborted_status, node_lost_status, ended, requeued, fated}
+use Rattle.qm_model.specs.Losing.{is_among, interrupted, after_loss, without_node, without_nodes}
+use Rattle.qm_model.specs.States.{state_on_start, stopped_when_idle}
+use Rattle.qm_model.specs.Stopping.{state_with_fate, with_fate, reset_fate, entry_aborting}
+use Rattle.qm_model.specs.Runs.{RunReport, Checkpoint, End, on_report, after_report, entry_of_run, reported_of, reported}
+use Rattle.qm_model.specs.Nodes.{as_up, up_exactly, with_manager}
+use Rattle.qm_model.specs.Applied.{refusal_of, asks_for_numbers, are_numbers_spent, first_refusal_of, change_of, completed, applied}
+use Rattle.qm_model.specs.Forms.{is_named}
+use Rattle.qm_model.specs.Characteristics.{has_named}
+use Rattle.qm_model.specs.Queues.{runs_for}
+use Rattle.qm_model.specs.Lawful.{IsLawful}
+use Rattle.qm_model.proofs.SettlingLemmas.{accepted_is}
+use Rattle.qm_model.proofs.ListLemmas.{Pairs, pairs_of}
+use Rattle.qm_model.proofs.SoundLemmas.{AreApart, settled_is_consistent}
+use Rattle.qm_model.proofs.FileLemmas.{appended_sound}
+use Rattle.qm_model.proofs.MoveLemmas.{dropped_sound, merged_sound, stopped_sound}
+use Rattle.qm_model.proofs.SetEntryLemmas.{CanChange, may_change, still_may, entry_set_sound}
+use Rattle.qm_model.proofs.CharacteristicLemmas.{characteristic_defined_sound, characteristic_deleted_sound}
+use Rattle.qm_model.proofs.FormLemmas.{form_defined_sound, form_deleted_sound}
+use Rattle.qm_model.proofs.QueueLemmas.{runs_for_at, queue_deleted_sound, set_sound}
+use Rattle.qm_model.proofs.InitializeLemmas.{node_there, initialized_sound}
+use Rattle.qm_model.proofs.DueLemmas.{due_is_consistent, due_shorter, due_all}
+use Rattle.qm_model.proofs.RefusalLemmas.{accepted_unrefused, numbers_left}
+use Rattle.qm_model.proofs.SubmitLemmas.{submitted_sound}
+use Rattle.qm_model.proofs.ChangeLemmas.{IsSound, IsSoundQueue, sound_of, Calms, Calmer, itself, entries_calm, one_calms, all_calm, nodes_keep, names_stay, idle_is_consistent}
+
+-- ---- what becomes of an entry
+
+if_kept : (b : Bool) (x y : Entry) → Calmer x y → IfSome (cond b (Some y) None) (Calmer x)
+if_kept true x y h = h
+if_kept false x y h = tt
+
+ended_calms : (qs : List Queue) (now status : ℕ) (x : Entry) → IfSome (ended qs now status x) (Calmer x)
+ended_calms qs now status x =
+    if_kept (is_retained x.retain (queue_retain qs x) (is_success status) now) x (record x { state = Retained status (retained_until x.retain) })
+    (record { same = refl; calms = inr (refl, refl, refl) })
+
+requeued_calms : (x : Entry) → Calmer x (requeued x)
+requeued_calms x = record { same = refl; calms = inr (refl, refl, refl) }
+
+fated_calms : (qs : List Queue) (now : ℕ) (fate : Fate) (x : Entry) → IfSome (fated qs now fate x) (Calmer x)
+fated_calms qs now Requeue x = requeued_calms x
+fated_calms qs now Finish x = ended_calms qs now aborted_status x
+fated_calms qs now Remove x = tt
+
+on_report_calms : (qs : List Queue) (now : ℕ) (report : RunReport) (x : Entry) → IfSome (on_report qs now report x) (Calmer x)
+on_report_calms qs now (Checkpoint value) x = record { same = refl; calms = inl (refl, refl, refl) }
+on_report_calms qs now (End status) x = ended_calms qs now status x
+
+report_calms : (qs : List Queue) (now : ℕ) (report : RunReport) (state : EntryState) (x : Entry) → IfSome (after_report qs now report state x) (Calmer x)
+report_calms qs now report Pending x = itself x
+report_calms qs now report Holding x = itself x
+report_calms qs now report (Timed at) x = itself x
+report_calms qs now report (Running queue node run) x = on_report_calms qs now report x
+report_calms qs now report (Aborting queue node run fate) x = fated_calms qs now fate x
+report_calms qs now report (Retained status until) x = itself x
+
+either_calms : (b : Bool) (o p : Option Entry) (x : Entry) → IfSome o (Calmer x) → IfSome p (Calmer x) → IfSome (cond b o p) (Calmer x)
+either_calms true o p x h k = h
+either_calms false o p x h k = k
+
+interrupted_calms : (qs : List Queue) (now : ℕ) (x : Entry) → IfSome (interrupted qs now x) (Calmer x)
+interrupted_calms qs now x = either_calms x.restart (Some (requeued x)) (ended qs now node_lost_status x) x (requeued_calms x) (ended_calms qs now node_lost_status x)
+
+loss_calms : (qs : List Queue) (now : ℕ) (lost : List (List ℕ)) (state : EntryState) (x : Entry) → IfSome (after_loss qs now lost state x) (Calmer x)
+loss_calms qs now lost Pending x = itself x
+loss_calms qs now lost Holding x = itself x
+loss_calms qs now lost (Timed at) x = itself x
+loss_calms qs now lost (Running queue node run) x = either_calms (is_among lost node) (interrupted qs now x) (Some x) x (interrupted_calms qs now x) (itself x)
+loss_calms qs now lost (Aborting queue node run fate) x = either_calms (is_among lost node) (fated qs now fate x) (Some x) x (fated_calms qs now fate x) (itself x)
+loss_calms qs now lost (Retained status until) x = itself x
+
+fate_keeps : (fate : Fate) (state : EntryState) → Calms state (state_with_fate fate state)
+fate_keeps fate Pending = inl (refl, refl, refl)
+fate_keeps fate Holding = inl (refl, refl, refl)
+fate_keeps fate (Timed at) = inl (refl, refl, refl)
+fate_keeps fate (Running queue node run) = inl (refl, refl, refl)
+fate_keeps fate (Aborting queue node run old) = inl (refl, refl, refl)
+fate_keeps fate (Retained status until) = inl (refl, refl, refl)
+
+with_fate_calms : (fate : Fate) (x : Entry) → Calmer x (with_fate fate x)
+with_fate_calms fate x = record { same = refl; calms = fate_keeps fate x.state }
+
+-- ---- what becomes of a system
+
+abort_sound : (s : System) (fate : Fate) (number : ℕ) → IsSound s → IsSound (entry_aborting s fate number).system
+abort_sound s fate number h =
+    entries_calm s (with_entry number (λ e. Some (with_fate fate e)) s.entries) h (one_calms number (λ e. Some (with_fate fate e)) (λ x. with_fate_calms fate x) s.entries)
+
+report_sound_of : (s : System) (now run : ℕ) (report : RunReport) (e : Entry) → IsSound s → IsSound (reported_of s now run report e).system
+report_sound_of s now run report e h =
+    entries_calm s (with_entry e.number (λ x. after_report s.queues now report x.state x) s.entries) h
+    (one_calms e.number (λ x. after_report s.queues now report x.state x) (λ x. report_calms s.queues now report x.state x) s.entries)
+
+of_option : (f : Entry → Accepted) (o : Option Entry) (d : Accepted) → ((e : Entry) → IsSound (f e).system) → IsSound d.system → IsSound (option_map_or f o d).system
+of_option f None d h k = k
+of_option f (Some e) d h k = h e
+
+report_sound : (s : System) (now : ℕ) (node : List ℕ) (run : ℕ) (report : RunReport) → IsSound s → IsSound (reported s now node run report).system
+report_sound s now node run report h = of_option (reported_of s now run report) (entry_of_run s node run) _ (λ e. report_sound_of s now run report e h) h
+
+either_sound : (b : Bool) (x y : Accepted) → IsSound x.system → IsSound y.system → IsSound (cond b x y).system
+either_sound true x y h k = h
+either_sound false x y h k = k
+
+removed_sound : (s : System) (number : ℕ) → IsSound s → IsSound (record s { entries = with_entry number (λ e. None) s.entries })
+removed_sound s number h = entries_calm s (with_entry number (λ e. None) s.entries) h (one_calms number (λ e. None) (λ x. tt) s.entries)
+
+lost_sound : (s : System) (now : ℕ) (lost : List (List ℕ)) → IsSound s → IsSound (without_nodes s now lost)
+lost_sound s now lost h =
+    let es = filter_map (λ (e : Entry). after_loss s.queues now lost e.state e) s.entries in
+    nodes_keep (record s { entries = es }) (without_node lost) (λ n. refl)
+    (entries_calm s es h (all_calm (λ (e : Entry). after_loss s.queues now lost e.state e) (λ x. loss_calms s.queues now lost x.state x) s.entries))
+
+may_changes : (s : System) (may : List (List ℕ)) → may ≡ filter (is_among may) (map (λ (n : Node). n.name) s.nodes) → IsSound s → IsSound (record s { may = may })
+may_changes s may is h =
+    let t : System = record s { may = may } in
+    record {
+      nodes = h.nodes;
+      may = is;
+      forms = h.forms;
+      characteristics = h.characteristics;
+      files = h.files;
+      few = h.few;
+      queues = All-weaker (IsSoundQueue s) (IsSoundQueue t) (λ q k. record { name = k.name; placed = k.placed; mounted = k.mounted; characteristics = k.characteristics; limit = k.limit; sizes = k.sizes }) s.queues h.queues;
+      order = h.order;
+      entries = record {
+        few = h.entries.few;
+        each = All-weaker (IsEntry s) (IsEntry t) (λ x k. record { number = k.number; home = k.home; file = k.file; form = k.form; copies = k.copies; characteristics = k.characteristics; queue = k.queue; node = k.node; run = k.run }) s.entries h.entries.each;
+        order = h.entries.order;
+        runs = h.entries.runs;
+      };
+      next_entry = h.next_entry;
+      next_run = h.next_run;
+    }
+
+manager_sound : (s : System) (now : ℕ) (gone up may : List (List ℕ)) → may ≡ filter (is_among may) (map (λ (n : Node). n.name) s.nodes) → IsSound s → IsSound (with_manager s now gone up may)
+manager_sound s now gone up may is h =
+    let left = without_nodes s now gone in
+    let among : System = record left { nodes = map (up_exactly up) left.nodes } in
+    let names : map (λ (n : Node). n.name) among.nodes ≡ map (λ (n : Node). n.name) s.nodes = names_stay (up_exactly up) (λ n. refl) left.nodes ∙ names_stay (without_node gone) (λ n. refl) s.nodes in
+    may_changes among may (subst (λ ns. may ≡ filter (is_among may) ns) (sym names) is) (nodes_keep left (up_exactly up) (λ n. refl) (lost_sound s now gone h))
+
+at_moment_sound : (s : System) (now : ℕ) → IsConsistent s → IsConsistent (at_moment now s)
+at_moment_sound s now h =
+    let t = at_moment now s in
+    record {
+      nodes = h.nodes;
+      may = h.may;
+      forms = h.forms;
+      characteristics = h.characteristics;
+      files = h.files;
+      queues = record {
+        few = h.queues.few;
+        each = All-weaker (IsQueue s) (IsQueue t) (λ q k. record { name = k.name; placed = k.placed; mounted = k.mounted; characteristics = k.characteristics; limit = k.limit; sizes = k.sizes; stopping = k.stopping }) s.queues h.queues.each;
+        order = h.queues.order;
+      };
+      entries = record {
+        few = h.entries.few;
+        each = All-weaker (IsEntry s) (IsEntry t) (λ x k. record { number = k.number; home = k.home; file = k.file; form = k.form; copies = k.copies; characteristics = k.characteristics; queue = k.queue; node = k.node; run = k.run }) s.entries h.entries.each;
+        order = h.entries.order;
+        runs = h.entries.runs;
+      };
+      next_entry = h.next_entry;
+      next_run = h.next_run;
+    }
+
+-- what the moment finds
+abbrev found_at : System → ℕ → System
+found_at before now = due now (at_moment now before)
+
+module _ (before : System) (now : ℕ) (at : IsConsistent (at_moment now before)) (h : IsSound (found_at before now)) (place : ℕ) where
+  abbrev node : List ℕ
+  node = node_at place before.nodes
+
+  through : (P : Entry → Type 0) → ((x : Entry) → P x → P (entry_at now x)) → All P before.entries → All P (found_at before now).entries
+  through = due_all (at_moment now before) now at
+
+  apart : Pairs AreApart before.entries
+  apart = pairs_of AreApart before.entries (λ i j d below within. (at.entries.order i j d below within, at.entries.runs i j d below within))
+
+  change_sound : (r : Request) → IsLawful before place r → refusal_of before node r ≡ None → IsSound (change_of (found_at before now) now node r).system
+  change_sound (request.Append file bytes) of clear = appended_sound before (found_at before now) file bytes h refl clear
+  change_sound (request.Fill file lines) of clear = appended_sound before (found_at before now) file (filling lines) h refl clear
+  change_sound (request.Drop file) of clear =
+      dropped_sound before (found_at before now) file h clear (through (λ (x : Entry). same_file_name x.file file ≡ false) (λ x k. k))
+  change_sound (request.DefineForm name number stock shape) of clear =
+      form_defined_sound before (found_at before now) (record { name = name; number = number; stock = stock; shape = shape }) h refl of.0 of.1 clear
+  change_sound (request.DeleteForm name) of clear =
+      form_deleted_sound before (found_at before now) name h refl clear (through (λ (x : Entry). is_named name x.form ≡ false) (λ x k. k))
+  change_sound (request.DefineCharacteristic name number) of clear =
+      characteristic_defined_sound before (found_at before now) (record { name = name; number = number }) h refl of clear
+  change_sound (request.DeleteCharacteristic name) of clear =
+      characteristic_deleted_sound before (found_at before now) name h refl refl clear (through (λ (x : Entry). has_named before.characteristics name x.characteristics.0 ≡ false) (λ x k. k))
+  change_sound (request.InitializeQueue name kind on device targets change start) of clear =
+      initialized_sound (found_at before now) node (record { name = name; kind = kind; node = on; device = device; targets = targets; change = change; start = start }) h (node_there place before.nodes of.2) of.0 of.1 clear
+  change_sound (request.SetQueue name change) of clear = set_sound (found_at before now) change (λ (q : Queue). q.state) name h clear
+  change_sound (request.StartQueue name change) of clear = set_sound (found_at before now) change (λ (q : Queue). state_on_start q.state) name h clear
+  change_sound (request.StopQueue name how) of clear = stopped_sound (found_at before now) name how h (λ x. with_fate_calms (reset_fate x) x)
+  change_sound (request.AbortJob queue entry requeue) of clear = abort_sound (found_at before now) _ _ h
+  change_sound (request.DeleteQueue name) of clear =
+      queue_deleted_sound before (found_at before now) name h refl clear (through (λ (x : Entry). runs_for name x ≡ false) (runs_for_at name now))
+  change_sound (request.Merge to from) of clear = merged_sound before (found_at before now) to from h refl clear
+  change_sound (request.Submit user kind queue file name priority after hold retain restart characteristics form copies flag) of clear =
+      submitted_sound before (found_at before now) now (record { user = user; kind = kind; queue = queue; file = file; name = name; priority = priority; after = after; hold = hold; retain = retain; restart = restart; characteristics = characteristics; form = form; copies = copies; flag = flag }) h refl refl refl (due_shorter (at_moment now before) now at) clear
+  change_sound (request.SetEntry entry release hold after priority name characteristics form queue restart retain) of clear =
+      let change : EntryChange = record { release = release; hold = hold; after = after; priority = priority; name = name; characteristics = characteristics; form = form; queue = queue; restart = restart; retain = retain } in
+      entry_set_sound (found_at before now) now entry change h
+      (through (λ (x : Entry). x.number ≡ entry → CanChange before.queues before.forms change x) (λ x k. still_may before.queues before.forms entry now change x k) (may_change before entry change apart clear))
+  change_sound (request.DeleteEntry entry) of clear =
+      either_sound (option_map_or is_executing (entry_numbered entry (found_at before now).entries) false) _ _ (abort_sound (found_at before now) Remove entry h) (removed_sound (found_at before now) entry h)
+  change_sound (request.Mark run value) of clear = report_sound (found_at before now) now node run (Checkpoint value) h
+  change_sound (request.Done run status) of clear = report_sound (found_at before now) now node run (End status) h
+  change_sound request.Tick of clear = h
+  change_sound request.NodeUp of clear = nodes_keep (found_at before now) (as_up node) (λ n. refl) h
+  change_sound (request.NodeLost nodes) of clear = lost_sound (found_at before now) now nodes h
+  change_sound (request.Took epoch gone up may) of clear = manager_sound (found_at before now) now gone up may of h
+
+pub stays_consistent : (s : System) (now node : ℕ) (r : Request) (a : Accepted) → IsConsistent s → IsLawful s node r → applied s now node r ≡ Ok a → IsConsistent a.system
+stays_consistent s now node r a h of is =
+    let name = node_at node s.nodes in
+    let t = due now (at_moment now s) in
+    let change = change_of t now name r in
+    let same : completed change ≡ a = accepted_is (first_refusal_of s name r) (completed change) a is in
+    let at = at_moment_sound s now h in
+    let none = numbers_left (asks_for_numbers r && are_numbers_spent s) (refusal_of s name r) (accepted_unrefused (first_refusal_of s name r) (completed change) a is) in
+    let h1 = sound_of t (due_is_consistent (at_moment now s) now at) in
+    let sound = change_sound s now at h1 node r of none in
+    subst (λ (b : Accepted). IsConsistent b.system) same (settled_is_consistent (stopped_when_idle change.system) (idle_is_consistent change.system sound))

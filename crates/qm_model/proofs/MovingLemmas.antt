@@ -1,0 +1,76 @@
+-- No change touches the moment or the numbers of runs, and entries' numbers only rise.
+use Rattle.std.proofs.Common.{◌≡◌, ℕ, ◌+◌, ◌≤◌, Bool, true, false, cond, List, length, refl, sym, ◌∙◌, ap, subst, arith, Option, None, Some, Ok}
+use Rattle.std.specs.Option.{option_map_or}
+use Rattle.qm_kinds.specs.declared.entry.Entry.{Entry}
+use Rattle.qm_kinds.specs.declared.request.Request.{Request}
+use Rattle.qm_kinds.specs.declared.request.Request.TheVariants.{Submit, DeleteEntry, Mark, Done}
+use Rattle.qm_kinds.specs.declared.system.System.{System}
+use Rattle.qm_model.specs.Outcome.{Accepted}
+use Rattle.qm_model.specs.Apply.{at_moment}
+use Rattle.qm_model.specs.Due.{due}
+use Rattle.qm_model.specs.Standing.{node_at, is_executing}
+use Rattle.qm_model.specs.Find.{entry_numbered}
+use Rattle.qm_model.specs.States.{stopped_when_idle}
+use Rattle.qm_model.specs.Settling.{settled}
+use Rattle.qm_model.specs.Runs.{RunReport, Checkpoint, End, entry_of_run, reported, reported_of}
+use Rattle.qm_model.specs.Applied.{first_refusal_of, change_of, completed, applied}
+use Rattle.qm_model.proofs.SettlingLemmas.{rest_stays, numbers_taken, accepted_is}
+
+pub record Moves (s t : System) : Type 0 where
+  pub last : t.last ≡ s.last
+  pub runs : t.next_run ≡ s.next_run
+  pub entries : s.next_entry ≤ t.next_entry
+
+as_it_was : (s t : System) → t.last ≡ s.last → t.next_run ≡ s.next_run → t.next_entry ≡ s.next_entry → Moves s t
+as_it_was s t last runs entries = record { last = last; runs = runs; entries = omega (arith, entries) }
+
+either : (s : System) (b : Bool) (x y : Accepted) → Moves s x.system → Moves s y.system → Moves s (cond b x y).system
+either s true x y h k = h
+either s false x y h k = k
+
+of_option : (s : System) (f : Entry → Accepted) (o : Option Entry) (d : Accepted) → ((e : Entry) → Moves s (f e).system) → Moves s d.system → Moves s (option_map_or f o d).system
+of_option s f None d h k = k
+of_option s f (Some e) d h k = h e
+
+report_moves : (s : System) (now : ℕ) (node : List ℕ) (run : ℕ) (report : RunReport) → Moves s (reported s now node run report).system
+report_moves s now node run report =
+    of_option s (reported_of s now run report) (entry_of_run s node run) _ (λ e. as_it_was _ _ refl refl refl) (as_it_was _ _ refl refl refl)
+
+change_moves : (s : System) (now : ℕ) (node : List ℕ) (request : Request) → Moves s (change_of s now node request).system
+change_moves s now node (Submit user kind queue file name priority after hold retain restart characteristics form copies flag) =
+    record { last = refl; runs = refl; entries = omega arith }
+change_moves s now node (DeleteEntry entry) =
+    either s (option_map_or is_executing (entry_numbered entry s.entries) false) _ _ (as_it_was _ _ refl refl refl) (as_it_was _ _ refl refl refl)
+change_moves s now node (Mark run value) = report_moves s now node run (Checkpoint value)
+change_moves s now node (Done run status) = report_moves s now node run (End status)
+change_moves s now node _ = as_it_was _ _ refl refl refl
+
+module _ (s : System) (now node : ℕ) (request : Request) (a : Accepted) (is : applied s now node request ≡ Ok a) where
+  change : Accepted
+  change = change_of (due now (at_moment now s)) now (node_at node s.nodes) request
+
+  idle : System
+  unfolding change
+  idle = stopped_when_idle change.system
+
+  same : completed change ≡ a
+  unfolding change
+  same = accepted_is (first_refusal_of s (node_at node s.nodes) request) (completed change) a is
+
+  moves : Moves (due now (at_moment now s)) change.system
+  unfolding change
+  moves = change_moves (due now (at_moment now s)) now (node_at node s.nodes) request
+
+  pub last_is_now : a.system.last ≡ now
+  unfolding change idle
+  last_is_now = ap (λ (b : Accepted). b.system.last) (sym same) ∙ ap (λ (t : System). t.last) (rest_stays idle) ∙ moves.last
+
+  pub runs_rise : a.system.next_run ≡ s.next_run + length a.reply.started
+  unfolding change idle
+  runs_rise = subst (λ (b : Accepted). b.system.next_run ≡ s.next_run + length b.reply.started) same (numbers_taken idle ∙ ap (λ (n : ℕ). n + length (settled idle).started) moves.runs)
+
+  pub entries_rise : s.next_entry ≤ a.system.next_entry
+  unfolding change idle
+  entries_rise =
+      subst (λ (b : Accepted). s.next_entry ≤ b.system.next_entry) same
+      (subst (λ (n : ℕ). s.next_entry ≤ n) (ap (λ (t : System). t.next_entry) (sym (rest_stays idle))) moves.entries)

@@ -1,0 +1,18 @@
+use Rattle.std.proofs.Common.{◌≡◌, subst, None}
+use Rattle.qm_model.specs.Outcome.{Accepted}
+use Rattle.qm_model.specs.Apply.{at_moment}
+use Rattle.qm_model.specs.Due.{due}
+use Rattle.qm_model.specs.Standing.{node_at}
+use Rattle.qm_model.specs.States.{stopped_when_idle}
+use Rattle.qm_model.specs.Settling.{next_choice}
+use Rattle.qm_model.specs.Applied.{first_refusal_of, change_of, completed}
+use Rattle.qm_model.proofs.SettlingLemmas.{nothing_starts, none_can_start, accepted_is}
+use Rattle.qm_model.proofs.settle.requests_settle.Goals as goal
+
+pub returns : goal.returns
+returns c s now node request a is numbers =
+    let name = node_at node s.nodes in
+    let change = change_of (due now (at_moment now s)) now name request in
+    let same : completed change ≡ a = accepted_is (first_refusal_of s name request) (completed change) a is in
+    let none : next_choice a.system ≡ None = subst (λ (b : Accepted). next_choice b.system ≡ None) same (nothing_starts (stopped_when_idle change.system)) in
+    none_can_start a.system none numbers

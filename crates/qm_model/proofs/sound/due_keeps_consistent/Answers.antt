@@ -1,0 +1,5 @@
+use Rattle.qm_model.proofs.DueLemmas.{due_is_consistent}
+use Rattle.qm_model.proofs.sound.due_keeps_consistent.Goals as goal
+
+pub returns : goal.returns
+returns c = due_is_consistent

@@ -1,0 +1,80 @@
+-- The runs that a node has to serve.
+-- OpenVMS System Services Reference Manual, $GETQUI, on executing jobs of a node's queues.
+use Rattle.std.specs.Prelude.{ℕ, ◌==◌, nat_lt, Bool, true, false, if◌then◌else◌, List, [], map, filter, fold, unwrap_or, Option, None, Some}
+use Rattle.std.specs.List.{list_any}
+use Rattle.std.specs.Option.{option_map_or, option_and_then}
+use Rattle.qm_kinds.specs.declared.entry.Entry.{Entry}
+use Rattle.qm_kinds.specs.declared.entry.EntryState.{EntryState}
+use Rattle.qm_kinds.specs.declared.entry.EntryState.TheVariants.{Pending, Holding, Timed, Running, Aborting, Retained}
+use Rattle.qm_kinds.specs.declared.form.Shape.{Shape}
+use Rattle.qm_kinds.specs.declared.queue.Queue.{Queue}
+use Rattle.qm_kinds.specs.declared.queue.QueueState.{QueueState}
+use Rattle.qm_kinds.specs.declared.queue.QueueState.TheVariants.{Stopped, Started, Paused, Stopping}
+use Rattle.qm_kinds.specs.declared.request.NameOrNumber.TheVariants.{Name}
+use Rattle.qm_kinds.specs.declared.system.System.{System}
+use Rattle.qm_model.specs.Names.{default_form}
+use Rattle.qm_model.specs.Find.{queue_named, form_wanted}
+use Rattle.qm_model.specs.Consistent.{run_of, runs_in}
+use Rattle.qm_model.specs.First.{first_form}
+use Rattle.qm_model.specs.Appending.{bytes_of}
+use Rattle.qm_model.specs.Standing.{is_run_on}
+use Rattle.qm_model.specs.Inserting.{inserted}
+use Rattle.qm_model.specs.Work.{Work, Duty}
+
+abbrev pub is_aborting : EntryState → Bool
+is_aborting Pending = false
+is_aborting Holding = false
+is_aborting (Timed at) = false
+is_aborting (Running queue node run) = false
+is_aborting (Aborting queue node run fate) = true
+is_aborting (Retained status until) = false
+
+abbrev pub is_paused : QueueState → Bool
+is_paused Stopped = false
+is_paused Started = false
+is_paused Paused = true
+is_paused Stopping = false
+
+-- the number of an entry's run
+abbrev pub run_number : Entry → ℕ
+run_number e = unwrap_or (run_of e.state) 0
+
+-- the queue where an entry runs
+abbrev pub queue_of_run : System → Entry → Option Queue
+queue_of_run s e = option_and_then (λ name. queue_named name s.queues) (runs_in e.state)
+
+-- the shape of a print job's form, and of DEFAULT for a batch job
+abbrev pub shape_of : System → Entry → Shape
+shape_of s e = option_map_or (λ f. f.shape) (form_wanted (Name (unwrap_or e.form default_form)) s.forms) first_form.shape
+
+abbrev pub work_of : System → Entry → Work
+work_of s e = record {
+  run = run_number e;
+  entry = e.number;
+  kind = e.kind;
+  name = e.name;
+  user = e.user;
+  device = unwrap_or (option_and_then (λ q. q.device) (queue_of_run s e)) [];
+  text = bytes_of e.file s.files;
+  shape = shape_of s e;
+  copies = e.copies;
+  flag = e.flag;
+  again = e.again;
+  mark = e.mark;
+}
+
+abbrev pub duty_of : System → List ℕ → Entry → Duty
+duty_of s known e = record {
+  run = run_number e;
+  aborting = is_aborting e.state;
+  paused = option_map_or (λ q. is_paused q.state) (queue_of_run s e) false;
+  work = if list_any (λ run. run == run_number e) known then None else Some (work_of s e);
+}
+
+-- by the number of the run
+abbrev pub by_run : List Entry → List Entry
+by_run entries = fold (λ sorted e. inserted (λ a b. nat_lt (run_number a) (run_number b)) e sorted) [] entries
+
+-- what a node has to do that knows the work of some runs
+abbrev pub duties : System → List ℕ → List ℕ → List Duty
+duties s node known = map (duty_of s known) (by_run (filter (is_run_on node) s.entries))

@@ -1,0 +1,36 @@
+-- What a request's names and lists keep to, beside what is checked before it is accepted.
+-- DCL Dictionary, DEFINE/CHARACTERISTIC, DEFINE/FORM and INITIALIZE/QUEUE, on their names; OpenVMS System Manager's Manual,
+-- Managing the Queue Manager, on the nodes where it runs.
+use Rattle.std.specs.Prelude.{ℕ, ◌≡◌, ◌<◌, length, map, filter, IfSome}
+use Rattle.qm_kinds.specs.declared.request.Request.{Request}
+use Rattle.qm_kinds.specs.declared.request.Request.TheVariants.{Append, Fill, Drop, DefineForm, DeleteForm, DefineCharacteristic, DeleteCharacteristic, InitializeQueue, SetQueue, StartQueue, StopQueue, AbortJob, DeleteQueue, Merge, Submit, SetEntry, DeleteEntry, Mark, Done, Tick, NodeUp, NodeLost, Took}
+use Rattle.qm_kinds.specs.declared.system.System.{System}
+use Rattle.qm_model.specs.Consistent.{IsShort, IsLabel}
+use Rattle.qm_model.specs.Losing.{is_among}
+
+-- Whatever is new has a name that can stand, a queue comes from a node of the cluster, and the nodes that may be manager
+-- stand in the cluster's order.
+abbrev pub IsLawful : System → ℕ → Request → Type 0
+IsLawful s node (Append file bytes) = Unit {0}
+IsLawful s node (Fill file lines) = Unit {0}
+IsLawful s node (Drop file) = Unit {0}
+IsLawful s node (DefineForm name number stock shape) = IsLabel name × IsShort stock
+IsLawful s node (DeleteForm name) = Unit {0}
+IsLawful s node (DefineCharacteristic name number) = IsLabel name
+IsLawful s node (DeleteCharacteristic name) = Unit {0}
+IsLawful s node (InitializeQueue name kind on device targets change start) = IsShort name × IfSome device IsShort × (node < length s.nodes)
+IsLawful s node (SetQueue name change) = Unit {0}
+IsLawful s node (StartQueue name change) = Unit {0}
+IsLawful s node (StopQueue name how) = Unit {0}
+IsLawful s node (AbortJob queue entry requeue) = Unit {0}
+IsLawful s node (DeleteQueue name) = Unit {0}
+IsLawful s node (Merge to from) = Unit {0}
+IsLawful s node (Submit user kind queue file name priority after hold retain restart characteristics form copies flag) = Unit {0}
+IsLawful s node (SetEntry entry release hold after priority name characteristics form queue restart retain) = Unit {0}
+IsLawful s node (DeleteEntry entry) = Unit {0}
+IsLawful s node (Mark run value) = Unit {0}
+IsLawful s node (Done run status) = Unit {0}
+IsLawful s node Tick = Unit {0}
+IsLawful s node NodeUp = Unit {0}
+IsLawful s node (NodeLost nodes) = Unit {0}
+IsLawful s node (Took epoch gone up may) = may ≡ filter (is_among may) (map (λ n. n.name) s.nodes)

@@ -1,0 +1,91 @@
+-- A script: lines for the nodes of a site.
+use Rattle.std.specs.Prelude.{ℕ, nat_eq, ◌==◌, ◌+◌, nat_lt, nat_le, Bool, false, ◌&&◌, not, if◌then◌else◌, List, [], ◌∷◌, ◌++◌, length, Option, None, Some, Result, Err, codes, ok_or}
+use Rattle.std.specs.List.{list_all, slice_split, ends_with}
+use Rattle.std.specs.Option.{option_map, option_and_then}
+use Rattle.std.specs.Str.{bytes_eq}
+use Rattle.qm_kinds.specs.Files.{name_of, file_name_of}
+use Rattle.qm_kinds.specs.declared.file.FileName.{FileName}
+use Rattle.qm_kinds.specs.declared.input.Input.{Input}
+use Rattle.qm_kinds.specs.declared.input.Input.TheVariants.{Ask, Fault}
+use Rattle.qm_kinds.specs.declared.refusal.ParseKind.TheVariants as parse
+use Rattle.qm_kinds.specs.declared.request.Request.TheVariants.{Append}
+use Rattle.qm_kinds.specs.declared.script.ScriptKind.{ScriptKind}
+use Rattle.qm_kinds.specs.declared.script.ScriptKind.TheVariants.{Form, Long}
+use Rattle.qm_model.specs.Names.{system_user}
+use Rattle.qm_model.specs.Command.{command_of, cut_at_blank}
+
+-- a command, or an act at the site
+pub data Sort : Type 0 where
+  Command : Sort
+  Site : Sort
+
+-- a line of a script: its number, counted from 1, its sort, and what stands behind the sort
+pub record ScriptLine : Type 0 where
+  pub number : ℕ
+  pub sort : Sort
+  pub text : List ℕ
+
+abbrev pub is_line_byte : ℕ → Bool
+is_line_byte b = nat_le 32 b && nat_le b 126
+
+-- `$`, a blank and a command that doesn't end in `-`; or `!`, a blank and an act
+abbrev pub sorted : ℕ → List ℕ → Option ScriptLine
+sorted number [] = None
+sorted number (mark ∷ []) = None
+sorted number (mark ∷ blank ∷ text) =
+    if not (blank == 32) then None else
+    if mark == 33 then Some (record { number = number; sort = Site; text = text }) else
+    if mark == 36 && not (ends_with nat_eq text (45 ∷ [])) then Some (record { number = number; sort = Command; text = text }) else None
+
+-- the name is the node's
+abbrev pub is_node : List ℕ → Option (List ℕ) → Bool
+is_node node None = false
+is_node node (Some name) = bytes_eq name node
+
+-- the node, a blank, and the rest
+abbrev pub line_of : List ℕ → ℕ → List ℕ → Option ScriptLine
+line_of node number text =
+    if not (list_all is_line_byte text) then None else
+    option_and_then (λ parts. if is_node node (name_of parts.0) then sorted number parts.1 else None) (cut_at_blank text)
+
+-- the lines that aren't empty, of the parts between line feeds, of which the last has to be empty
+abbrev pub lines_from : List ℕ → ℕ → List (List ℕ) → Option (List ScriptLine)
+lines_from node number [] = Some []
+lines_from node number (part ∷ []) = if length part == 0 then Some [] else None
+lines_from node number (part ∷ next ∷ parts) =
+    if length part == 0 then lines_from node (number + 1) (next ∷ parts) else
+    option_and_then (λ line. option_map (λ lines. line ∷ lines) (lines_from node (number + 1) (next ∷ parts))) (line_of node number part)
+
+-- the lines of a script, or what is wrong with it
+abbrev pub script_of : List ℕ → List ℕ → Result (List ScriptLine) ScriptKind
+script_of node bytes =
+    if nat_lt 16777216 (length bytes) then Err Long else
+    ok_or (lines_from node 1 (slice_split (λ b. b == 10) bytes)) Form
+
+-- the text and a line feed go to the end of the file
+abbrev pub append_to : Option FileName → List ℕ → Input
+append_to None text = Fault 0 parse.Form
+append_to (Some file) text = Ask (Append file (text ++ 10 ∷ []))
+
+-- LINE file text
+abbrev pub line_act : Option (List ℕ × List ℕ) → Input
+line_act None = Fault 0 parse.Form
+line_act (Some parts) = append_to (file_name_of parts.0) parts.1
+
+-- the acts that are built: a word, and behind a blank what it takes
+abbrev pub act_from : List ℕ → Option (List ℕ × List ℕ) → Input
+act_from text None = if bytes_eq text (codes "LINE") then Fault 0 parse.Form else Fault 0 parse.NotBuilt
+act_from text (Some parts) = if bytes_eq parts.0 (codes "LINE") then line_act (cut_at_blank parts.1) else Fault 0 parse.NotBuilt
+
+abbrev pub act_of : List ℕ → Input
+act_of text = act_from text (cut_at_blank text)
+
+-- a command that isn't built is a fault at its first byte
+abbrev pub or_not_built : Option Input → Input
+or_not_built None = Fault 0 parse.NotBuilt
+or_not_built (Some input) = input
+
+-- what a line asks for
+abbrev pub input_of : Sort → List ℕ → Input
+input_of Command text = or_not_built (command_of system_user text)
+input_of Site text = act_of text

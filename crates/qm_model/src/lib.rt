@@ -1,0 +1,38 @@
+//! The model of a queue system: what a system is, what makes it consistent, what each request does to it and what is
+//! told of it, as definitions that the crates above cite. It has no program: its functions are laws.
+#![tactic(auto)]
+
+ghost use Rattle.std.specs.Prelude.{◌≤◌, ℕ, List, length};
+ghost use Rattle.qm_model.specs.Consistent.{IsConsistent};
+ghost use Rattle.qm_model.specs.First.{first_system};
+
+mod agreeing;
+mod listing;
+mod moving;
+mod order;
+mod reporting;
+mod settle;
+mod sound;
+mod standing;
+mod tables;
+
+pub use agreeing::{first_requests_agree, first_requests_leave_quiet};
+pub use listing::one_entry_is_listed;
+pub use moving::requests_move_on;
+pub use order::{fits_without_a_reason, order_is_strict_and_total};
+pub use reporting::{runs_end_once, runs_go_on_at_marks};
+pub use settle::{
+    first_jobs_are_started, requests_settle, settling_changes_entries_alone, settling_ends,
+    settling_is_done_once,
+};
+pub use sound::{
+    due_keeps_consistent, first_requests_keep_consistent, requests_keep_consistent,
+    settling_keeps_consistent,
+};
+pub use standing::entries_stand_in_one_queue;
+pub use tables::{job_retention, queue_states};
+
+/// The system of a new site is consistent, whatever its node is called.
+pub fn first_system_is_consistent()
+    ensures { (node : List ℕ) → length node ≤ 6 → IsConsistent (first_system node) }
+{}
