@@ -1,0 +1,20 @@
+-- What stands behind a source over a reader and a sink over a writer.
+use Rattle.std.specs.Prelude.{ℕ}
+use Rattle.qm_io.specs.declared.adapters.InputSource.{InputSource}
+use Rattle.qm_io.specs.declared.adapters.OutputSink.{OutputSink}
+
+-- the reader that a source reads from
+abbrev pub reader_of : {R : Type 0} → InputSource R → R
+reader_of source = source.reader
+
+-- how often a source has failed
+abbrev pub input_faults : {R : Type 0} → InputSource R → ℕ
+input_faults source = source.faults
+
+-- the writer that a sink writes to
+abbrev pub writer_of : {W : Type 0} → OutputSink W → W
+writer_of sink = sink.writer
+
+-- how often a sink has failed
+abbrev pub output_faults : {W : Type 0} → OutputSink W → ℕ
+output_faults sink = sink.faults

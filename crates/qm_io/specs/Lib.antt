@@ -1,0 +1,5 @@
+pub mod Adapters
+pub mod Bytes
+pub mod Faults
+pub mod Memory
+pub mod ReadEnd

@@ -1,0 +1,149 @@
+// Reading all that a source has, up to a limit, and writing all of a text.
+ghost use Rattle.std.specs.Prelude.{◌≡◌, ◌+◌, ◌<◌, ◌≤◌, ◌++◌, length, vec_len, is_some, IfOk, IfSome, IsErrOf, OnErr, OnOk};
+ghost use Rattle.std.specs.Io.KnownBytes.{Appends, Consumes, IsAtEnd};
+ghost use Rattle.qm_io.specs.Bytes.{LosesAtMost, TakesPrefix};
+ghost use Rattle.qm_io.specs.Faults.{Rose};
+ghost use Rattle.qm_io.specs.declared.whole.ReadEnd.TheVariants as ends;
+
+use crate::{Failed, Sink, Source};
+use std::alloc::{AllocError, AllocFailed, Global};
+use std::error::Error;
+use std::fmt;
+
+// The bytes that one read asks for at most.
+const PIECE: usize = 4096;
+
+/// Why `read_whole` gave no bytes.
+#[derive(Clone, Copy, Debug, PartialEq, Eq)]
+pub enum ReadEnd {
+    /// The source failed.
+    Failed,
+    /// The source had more bytes than the limit.
+    TooLong,
+    /// There was no memory for the bytes.
+    NoMemory,
+}
+
+impl fmt::Display for ReadEnd {
+    ghost use Rattle.std.specs.Prelude.{Some};
+    ghost use Rattle.qm_io.specs.ReadEnd.{end_text};
+
+    ghost output = { λ end. Some (end_text end) };
+
+    fn fmt<W: fmt::Write>(&self, f: &mut fmt::Formatter<W>) -> fmt::Result {
+        match self {
+            ReadEnd::Failed => f.write_str("the input failed"),
+            ReadEnd::TooLong => f.write_str("the input is too long"),
+            ReadEnd::NoMemory => f.write_str("out of memory"),
+        }
+    }
+}
+
+impl Error for ReadEnd {}
+
+impl From<Failed> for ReadEnd {
+    ghost from_gives = { λ _ end. end ≡ ends.Failed };
+
+    fn from(_: Failed) -> ReadEnd {
+        ReadEnd::Failed
+    }
+}
+
+impl From<AllocError> for ReadEnd {
+    ghost from_gives = { λ _ end. end ≡ ends.NoMemory };
+
+    fn from(_: AllocError) -> ReadEnd {
+        ReadEnd::NoMemory
+    }
+}
+
+impl<T: Drop> From<AllocFailed<T>> for ReadEnd {
+    ghost from_gives = { λ _ end. end ≡ ends.NoMemory };
+
+    fn from(_: AllocFailed<T>) -> ReadEnd {
+        ReadEnd::NoMemory
+    }
+}
+
+/// Reads a source to its end.
+///
+/// It takes at most `limit` bytes and one more, which tells that there are too many, and holds at
+/// most `limit` bytes and one piece of 4 KiB. Each read but the last gives a byte at least, so it
+/// ends at any source, also at one that never ends.
+///
+/// `Failed` comes only where the source failed in this call, `TooLong` exactly where it had more
+/// than `limit` bytes and nothing failed before they were read, and `NoMemory` only where an
+/// allocation failed. After each of them the source has lost the bytes read so far.
+pub fn read_whole<S: Source>(
+    alloc: Global,
+    source: &mut S,
+    limit: usize,
+) -> Result<Vec<u8>, ReadEnd>
+    ensures whole { IfOk result (λ bytes.
+        IfSome (S.remaining source.old) (λ left. bytes.items ≡ left)) }
+    ensures at_end { OnOk result (IsAtEnd (S.remaining source.new)) }
+    ensures within { IfOk result (λ bytes. vec_len bytes ≤ limit) }
+
+    ensures too_long { IsErrOf result ReadEnd.TooLong
+        → IfSome (S.remaining source.old) (λ left. limit < length left) }
+    ensures cause { IsErrOf result ReadEnd.Failed
+        → Rose (S.faults source.old) (S.faults source.new) }
+
+    ensures lost { LosesAtMost (limit + 1) (S.remaining source.old) (S.remaining source.new) }
+    ensures told { is_some (S.remaining source.new) ≡ is_some (S.remaining source.old) }
+    ensures never_falls { S.faults source.old ≤ S.faults source.new }
+{
+    let mut bytes = Vec::new(alloc);
+    let mut piece = [0; PIECE];
+    loop {
+        let room = limit - bytes.len();
+        let asked = room.min(PIECE - 1) + 1;
+        let count = source.read(&mut piece[..asked])?;
+        if count == 0 {
+            return Ok(bytes);
+        }
+        if count > room {
+            return Err(ReadEnd::TooLong);
+        }
+        append_within(&mut bytes, &piece[..count], limit)?;
+    }
+}
+
+// Appends a piece. Where the room is spent it doubles, but not past the limit: so each byte is
+// moved a few times at most, and no more is held than the limit.
+fn append_within(bytes: &mut Vec<u8>, piece: &[u8], limit: usize) -> Result<(), AllocError>
+    requires { vec_len bytes.old + length piece.now ≤ limit }
+    ensures ok { OnOk result (bytes.new.items ≡ bytes.old.items ++ piece.now) }
+    ensures err { OnErr result (bytes.new.items ≡ bytes.old.items) }
+{
+    let needed = bytes.len() + piece.len();
+    if needed > bytes.capacity() {
+        let doubled = bytes.capacity().saturating_mul(2).min(limit);
+        bytes.reserve_exact(doubled.max(needed) - bytes.len())?;
+    }
+    bytes.extend_from_slice(piece)
+}
+
+/// Writes all of these bytes.
+///
+/// `Failed` comes only where the sink failed in this call, or took none of the piece that it was
+/// given, which counts as a fault. It has then taken first bytes of these, and not all.
+pub fn write_whole<O: Sink>(sink: &mut O, bytes: &[u8]) -> Result<(), Failed>
+    ensures all { OnOk result (Appends (O.taken sink.old) (O.taken sink.new) bytes.now) }
+    ensures prefix { OnErr result
+        (TakesPrefix (O.taken sink.old) (O.taken sink.new) bytes.now) }
+
+    ensures cause { OnErr result (Rose (O.faults sink.old) (O.faults sink.new)) }
+    ensures told { is_some (O.taken sink.new) ≡ is_some (O.taken sink.old) }
+    ensures never_falls { O.faults sink.old ≤ O.faults sink.new }
+{
+    let mut at = 0;
+    while at < bytes.len() {
+        let count = sink.write(&bytes[at..])?;
+        if count == 0 {
+            return Err(Failed);
+        }
+        at += count;
+    }
+    Ok(())
+}
