@@ -1,0 +1,10 @@
+pub mod Search
+pub mod FileNames
+pub mod Replacing
+pub mod Places
+pub mod Extending
+pub mod Inserting
+pub mod Deciding
+pub mod Entering
+pub mod Gathering
+pub mod Starting

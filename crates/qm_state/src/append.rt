@@ -1,0 +1,154 @@
+ghost use Rattle.std.specs.Prelude.{◌≡◌, ◌<◌, ◌≤◌, ◌+◌, IfOk, Ok, Err, length, vec_len};
+ghost use Rattle.std.specs.List.{HoldsAt};
+ghost use Rattle.qm_state.specs.Image.{system_of};
+ghost use Rattle.qm_state.specs.Preparing.{made, IsPrepared, IsReady};
+ghost use Rattle.qm_state.specs.Refusing.{Refuses};
+ghost use Rattle.qm_state.specs.Spool.{IsPlace};
+
+use crate::image::Image;
+use crate::prepared::{Change, Prepared};
+use crate::refused::Refused;
+use crate::spooled::{find_file, reserve_bytes};
+use qm_kinds::{FileName, Holder, Moment, Refusal};
+use std::alloc::AllocError;
+
+/// How many bytes a file has at most.
+const FILE_LIMIT: usize = 1_048_576;
+
+/// How many bytes all files together have at most.
+const SPOOL_LIMIT: usize = 67_108_864;
+
+/// How many files there are at most.
+const FILES_LIMIT: usize = 4096;
+
+/// What is known of a file to which bytes should be added.
+#[derive(Clone, Copy, Debug)]
+pub(crate) struct Standing {
+    /// The least entry that names it.
+    pub(crate) named_by: Option<u32>,
+    /// How many bytes it has.
+    pub(crate) size: usize,
+    /// Whether it isn't there yet.
+    pub(crate) is_new: bool,
+}
+
+impl Image {
+    ghost use Rattle.qm_state.specs.Appending.{StandsAs, standing_refusal, Adds, append_outcome};
+
+    // What is known of the file that stands, or belongs, at the place.
+    fn standing(&self, name: &FileName, place: Result<usize, usize>) -> Standing
+        requires { IsPlace name.now self.now.files.items place }
+        ensures known { StandsAs self.now.files.items self.now.entries.items name.now result }
+        ensures small { result.size ≤ 1048576 }
+    {
+        match place {
+            Ok(place) => Standing {
+                named_by: self.files[place].named_by,
+                size: self.files[place].bytes.len(),
+                is_new: false,
+            },
+            Err(_) => Standing {
+                named_by: None,
+                size: 0,
+                is_new: true,
+            },
+        }
+    }
+
+    // Why so many more bytes are refused.
+    fn standing_refusal(&self, standing: &Standing, more: usize) -> Option<Refusal>
+        requires { standing.now.size ≤ 1048576 }
+        ensures { result ≡ standing_refusal standing.now more self.now.spool_size (vec_len self.now.files) }
+    {
+        if let Some(number) = standing.named_by {
+            return Some(Refusal::Referenced {
+                by: Holder::Entry(number),
+            });
+        }
+        if more > FILE_LIMIT - standing.size || more > SPOOL_LIMIT - self.spool_size as usize {
+            return Some(Refusal::SpoolFull);
+        }
+        if standing.is_new && self.files.len() >= FILES_LIMIT {
+            return Some(Refusal::SpoolFull);
+        }
+        None
+    }
+
+    // Takes room for more bytes in the file at the place.
+    fn prepare_more(
+        &mut self,
+        place: usize,
+        name: &FileName,
+        bytes: &[u8],
+    ) -> Result<Change, AllocError>
+        requires stands { IsPlace name.now self.old.files.items (Ok place) }
+        requires small { HoldsAt (λ f. vec_len f.bytes + length bytes.now ≤ 1048576) self.old.files.items place }
+        requires limit { self.old.spool_size + length bytes.now ≤ 67108864 }
+        ensures rows { system_of self.new ≡ system_of self.old }
+        ensures ready { IfOk result (IsReady self.new) }
+        ensures adds { IfOk result (Adds name.now bytes.now) }
+    {
+        let bytes = Vec::from_slice(self.alloc, bytes)?;
+        reserve_bytes(&mut self.files, place, bytes.len())?;
+        Ok(Change::MoreBytes {
+            place,
+            name: *name,
+            bytes,
+        })
+    }
+
+    // Takes room for a new file of these bytes.
+    #[tactic(auto, unfolding(crate::specs::Image::system_of))]
+    fn prepare_file(
+        &mut self,
+        place: usize,
+        name: &FileName,
+        bytes: &[u8],
+    ) -> Result<Change, AllocError>
+        requires stands { IsPlace name.now self.old.files.items (Err place) }
+        requires few { vec_len self.old.files < 4096 }
+        requires small { length bytes.now ≤ 1048576 }
+        requires limit { self.old.spool_size + length bytes.now ≤ 67108864 }
+        ensures rows { system_of self.new ≡ system_of self.old }
+        ensures ready { IfOk result (IsReady self.new) }
+        ensures adds { IfOk result (Adds name.now bytes.now) }
+    {
+        let bytes = Vec::from_slice(self.alloc, bytes)?;
+        self.files.reserve(1)?;
+        Ok(Change::NewFile {
+            place,
+            name: *name,
+            bytes,
+        })
+    }
+
+    /// Decides on bytes for a file, and takes the memory for them.
+    #[tactic(auto, unfolding(crate::specs::Preparing::made, crate::specs::Preparing::IsPrepared))]
+    pub(crate) fn prepare_append(
+        &mut self,
+        now: Moment,
+        name: &FileName,
+        bytes: &[u8],
+    ) -> Result<Prepared, Refused>
+        ensures rows { system_of self.new ≡ system_of self.old }
+        ensures refused { Refuses result (append_outcome (system_of self.old) now name.now bytes.now) }
+        ensures ready { IfOk result (IsPrepared self.new) }
+        ensures accepted { IfOk result (λ prepared. append_outcome (system_of self.old) now name.now bytes.now ≡ Ok (made prepared (system_of self.old))) }
+    {
+        let place = find_file(self.files.as_slice(), name);
+        let standing = self.standing(name, place);
+        if let Some(refusal) = self.standing_refusal(&standing, bytes.len()) {
+            return Err(Refused::By(refusal));
+        }
+        match place {
+            Ok(place) => {
+                let change = self.prepare_more(place, name, bytes)?;
+                Ok(Prepared { at: now, change })
+            }
+            Err(place) => {
+                let change = self.prepare_file(place, name, bytes)?;
+                Ok(Prepared { at: now, change })
+            }
+        }
+    }
+}
