@@ -1,0 +1,16 @@
+use Rattle.std.proofs.Common.{◌≡◌, ◌+◌, ◌≤◌, ◌==◌, length}
+use Rattle.std.specs.List.{slice_split}
+use Rattle.qm_model.specs.Script.{lines_from}
+use Rattle.qm_program.specs.Lines.{lines_view}
+use Rattle.qm_program.proofs.Parts.{with_lines}
+use Rattle.qm_program.proofs.script.read_script.Given as goal
+
+-- the lines so far and those of the rest are those of the whole, and each line took a byte at least
+abbrev pub invariant-loop-text : goal.invariant-loop-text
+invariant-loop-text l = record {
+  lines : with_lines (lines_view l.lines.items) (lines_from l.node l.number (slice_split (λ b. b == 10) l.rest)) ≡ lines_from l.node 1 (slice_split (λ b. b == 10) l.script);
+  number : l.number + length l.rest ≤ length l.script + 1;
+}
+
+abbrev pub decreases-loop-text : goal.decreases-loop-text
+decreases-loop-text l = length l.rest

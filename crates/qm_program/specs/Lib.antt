@@ -1,0 +1,5 @@
+pub mod Lines
+pub mod Ends
+pub mod Serving
+pub mod Taking
+pub mod Running

@@ -1,0 +1,161 @@
+// A script: lines for the node of a site, each ended by a line feed.
+ghost use Rattle.std.specs.Prelude.{◌≡◌, ◌==◌, ◌+◌, ◌<◌, ◌≤◌, ◌∷◌, [], not, nat_lt, map, length, position, Ok, Err, IsOk, IfOk, IfSome, MatchOption, MatchResult};
+ghost use Rattle.std.specs.List.{list_all, slice_split};
+ghost use Rattle.std.specs.Option.{option_map, option_copied};
+ghost use Rattle.qm_kinds.specs.Files.{name_of};
+ghost use Rattle.qm_kinds.specs.declared.script.ScriptKind.TheVariants.{Form};
+ghost use Rattle.qm_model.specs.Command.{cut_at_blank};
+ghost use Rattle.qm_model.specs.Script.{is_line_byte, is_node, sorted, line_of, script_of};
+ghost use Rattle.qm_program.specs.Lines.{line_view, lines_view, parts_view, CutsFirstLine, ReadsScript};
+ghost use Rattle.qm_program.specs.declared.script.ScriptEnd.TheVariants.{NoMemory};
+
+use qm_kinds::{Name, ScriptKind};
+use std::alloc::{AllocError, AllocFailed, Global};
+
+/// The most bytes that a script may have.
+pub(crate) const SCRIPT_BYTES: usize = 16_777_216;
+
+#[derive(Clone, Copy, Debug, PartialEq, Eq)]
+pub(crate) enum Sort {
+    /// A command that a user types, behind a `$`.
+    Command,
+    /// An act at the site, behind a `!`.
+    Site,
+}
+
+/// A line of a script.
+#[derive(Clone, Copy, Debug)]
+pub(crate) struct Line<'a> {
+    /// Lines of the text are counted from 1, empty ones too.
+    pub(crate) number: u32,
+    pub(crate) sort: Sort,
+    /// What stands behind the sort and a blank.
+    pub(crate) text: &'a [u8],
+}
+
+/// Why no script was read.
+#[derive(Clone, Copy, Debug, PartialEq, Eq)]
+pub(crate) enum ScriptEnd {
+    Fault(ScriptKind),
+    NoMemory,
+}
+
+impl From<AllocError> for ScriptEnd {
+    ghost from_gives = { λ _ end. end ≡ NoMemory };
+
+    fn from(_: AllocError) -> ScriptEnd {
+        ScriptEnd::NoMemory
+    }
+}
+
+impl<T: Drop> From<AllocFailed<T>> for ScriptEnd {
+    ghost from_gives = { λ _ end. end ≡ NoMemory };
+
+    fn from(_: AllocFailed<T>) -> ScriptEnd {
+        ScriptEnd::NoMemory
+    }
+}
+
+// The place of the first such byte.
+fn first(byte: u8, text: &[u8]) -> Option<usize>
+    ensures value { result ≡ position (λ b. b == byte) text.now }
+    ensures within { IfSome result (λ place. place < length text.now) }
+{
+    text.iter().position(|b| *b == byte)
+}
+
+/// What stands before the first blank, and what behind it.
+pub(crate) fn cut_at_blank(text: &[u8]) -> Option<(&[u8], &[u8])>
+    ensures { option_map parts_view result ≡ cut_at_blank text.now }
+{
+    let place = first(b' ', text)?;
+    Some((&text[..place], &text[place + 1..]))
+}
+
+// What stands before the first line feed, and what behind it.
+fn cut_at_line_feed(text: &[u8]) -> Option<(&[u8], &[u8])>
+    ensures { CutsFirstLine text.now (option_map parts_view result) }
+{
+    match first(b'\n', text) {
+        None => None,
+        Some(place) => Some((&text[..place], &text[place + 1..])),
+    }
+}
+
+fn is_of_line(text: &[u8]) -> bool
+    ensures { result ≡ list_all is_line_byte text.now }
+{
+    text.iter().all(|b| 32 <= *b && *b <= 126)
+}
+
+// A command that doesn't end in `-`, or an act.
+fn read_sorted(number: u32, text: &[u8]) -> Option<Line<'_>>
+    ensures { option_map line_view result ≡ sorted number text.now }
+{
+    match text {
+        [b'!', b' ', text @ ..] => Some(Line {
+            number,
+            sort: Sort::Site,
+            text,
+        }),
+        [b'$', b' ', text @ ..] if !text.ends_with(b"-") => Some(Line {
+            number,
+            sort: Sort::Command,
+            text,
+        }),
+        _ => None,
+    }
+}
+
+fn is_node(node: &Name, text: &[u8]) -> bool
+    ensures { result ≡ is_node node.now (name_of text.now) }
+{
+    match Name::read(text) {
+        Ok(name) => name == *node,
+        Err(_) => false,
+    }
+}
+
+// The line of this node, if that is what the text is.
+fn read_line<'a>(node: &Name, number: u32, text: &'a [u8]) -> Option<Line<'a>>
+    ensures { option_map line_view result ≡ line_of node.now number text.now }
+{
+    if !is_of_line(text) {
+        return None;
+    }
+    let (who, rest) = cut_at_blank(text)?;
+    if is_node(node, who) {
+        read_sorted(number, rest)
+    } else {
+        None
+    }
+}
+
+/// The lines of a script that aren't empty.
+pub(crate) fn read_script<'a>(
+    alloc: Global,
+    node: &Name,
+    script: &'a [u8],
+) -> Result<Vec<Line<'a>>, ScriptEnd>
+    requires { length script.now ≤ SCRIPT_BYTES }
+    ensures { ReadsScript (λ lines. lines_view lines.items) (script_of node.now script.now) result }
+{
+    let mut lines = Vec::new(alloc);
+    let mut rest = script;
+    let mut number = 1;
+    while let Some((text, more)) = cut_at_line_feed(rest) {
+        if !text.is_empty() {
+            let Some(line) = read_line(node, number, text) else {
+                return Err(ScriptEnd::Fault(ScriptKind::Form));
+            };
+            lines.push(line)?;
+        }
+        rest = more;
+        number += 1;
+    }
+    if rest.is_empty() {
+        Ok(lines)
+    } else {
+        Err(ScriptEnd::Fault(ScriptKind::Form))
+    }
+}
