@@ -1,0 +1,5 @@
+pub mod Disk
+pub mod Moments
+pub mod Calls
+pub mod Crash
+pub mod Memory

@@ -1,0 +1,42 @@
+-- What a disk in memory shows.
+use Rattle.std.specs.Prelude.{◌≡◌, ◌+◌, ◌-◌, ◌^◌, ℕ, List, length, min, Contains, Result, IsErr}
+use Rattle.qm_disk.specs.Disk.{Image}
+use Rattle.qm_disk.specs.Calls.{reading_of, first_of, crashed, LeftOf, LeftSince}
+use Rattle.qm_disk.specs.declared.memory.MemoryDisk.{MemoryDisk}
+
+-- what file f holds
+abbrev pub held_of : MemoryDisk → ℕ → List ℕ
+held_of disk f = reading_of disk.first disk.changed f
+
+-- what a crash may leave of file f
+abbrev pub left_of : MemoryDisk → ℕ → List ℕ → Type 0
+left_of disk f = LeftOf disk.first disk.calls.items f
+
+-- how many calls are on record
+abbrev pub moment_of : MemoryDisk → ℕ
+moment_of disk = length disk.calls.items
+
+-- the images that a crash at some moment since that one may have left
+abbrev pub left_since_of : MemoryDisk → ℕ → Image → Type 0
+left_since_of disk = LeftSince disk.first disk.calls.items
+
+abbrev pub faults_of : MemoryDisk → ℕ
+faults_of disk = disk.faults
+
+-- how many calls were made, a number that stands at the end of its type
+abbrev pub made_of : MemoryDisk → ℕ
+made_of disk = disk.made
+
+-- the numbers of the calls that fail
+abbrev pub fail_of : MemoryDisk → List ℕ
+fail_of disk = disk.fail.items
+
+-- the image of this kind that a crash leaves of file f
+abbrev pub crash_of : MemoryDisk → ℕ → ℕ → List ℕ
+crash_of disk pick f = crashed pick f disk.calls.items (first_of disk.first f) (first_of disk.first f)
+
+-- the call takes the next number, and fails where the list has that number
+pub record TakesNumber {T E : Type 0} (old new : MemoryDisk) (result : Result T E) : Type 0 where
+  pub number : made_of new ≡ min (made_of old + 1) (2 ^ 64 - 1)
+  pub same_list : fail_of new ≡ fail_of old
+  pub fails : Contains (fail_of old) (made_of new) → IsErr result
