@@ -1,0 +1,41 @@
+-- What a crash leaves at each moment of an append.
+use Rattle.std.proofs.Common.{◌≡◌, inl, sym, ◌∙◌, ap, subst, ℕ, ◌+◌, ◌^◌, ◌<◌, List, [], ◌∷◌, ◌++◌, length, drop}
+use Rattle.qm_disk.specs.Disk.{Image, spliced, Torn, KeepsOthers}
+use Rattle.qm_glog.specs.Records.{text, IsLog}
+use Rattle.qm_glog.specs.Moments.{Written, Appended}
+use Rattle.qm_glog.proofs.Adding.{tail, staged, torn_behind, written_behind, torn_gate, written_gate, after_gate}
+
+module _ {D : Type 0} (seen : D → ℕ → List ℕ) (may_leave : D → ℕ → List ℕ → Type 0) (file : ℕ) (old : D) (bodies : List (List ℕ)) (log : IsLog (seen old file) bodies)
+    (end : ℕ) (is : end ≡ length (text bodies)) (body : List ℕ) (small : length body < 2 ^ 32) where
+  -- the first write leaves the old records
+  pub first_leaves : (n : ℕ) (image : Image) → Written (may_leave old) file (end + 1) n (seen old file) image → Appended (may_leave old) file bodies body image
+  first_leaves n image written = record {
+    records = inl (torn_behind bodies log.fit end is body small (seen old file) log.gate log.rest log.shut log.whole n (image file) written.torn);
+    others = written.others;
+  }
+
+  rest : ℕ → List ℕ
+  rest n = drop n (seen old file)
+
+  module _ (mid : D) (bytes : List ℕ) (spelled : bytes ≡ tail body) (wrote : seen mid file ≡ spliced (end + 1) bytes (seen old file)) where
+    abbrev behind : List ℕ
+    behind = drop (end + 1 + length (tail body)) (seen old file)
+
+    is_staged : seen mid file ≡ staged bodies body log.gate behind
+    is_staged =
+        wrote ∙ ap (λ (l : List ℕ). spliced (end + 1) l (seen old file)) spelled
+        ∙ written_behind bodies log.fit end is body small (seen old file) log.gate log.rest log.shut log.whole
+
+    -- the second leaves them with the new one or without
+    pub second_leaves : KeepsOthers seen may_leave file old mid → (image : Image) → Written (may_leave mid) file end 1 (seen mid file) image → Appended (may_leave old) file bodies body image
+    second_leaves others image written = record {
+      records = torn_gate bodies log.fit end is body small log.gate behind (image file) (subst (λ (l : List ℕ). Torn end 1 l (image file)) is_staged written.torn);
+      others = λ f le other. others.no_more f (image f) le other (written.others f le other);
+    }
+
+    -- and then the file has it
+    pub has_both : (new : D) → seen new file ≡ spliced end (1 ∷ []) (seen mid file) → IsLog (seen new file) (bodies ++ body ∷ [])
+    has_both new opened =
+        let whole : seen new file ≡ staged bodies body 1 behind =
+        opened ∙ ap (λ (l : List ℕ). spliced end (1 ∷ []) l) is_staged ∙ written_gate bodies log.fit end is body small log.gate behind in
+        subst (λ (l : List ℕ). IsLog l (bodies ++ body ∷ [])) (sym whole) (after_gate bodies log.fit end is body small behind)

@@ -1,0 +1,5 @@
+pub mod Added
+pub mod Adding
+pub mod Heads
+pub mod OneWrite
+pub mod Walk

@@ -1,0 +1,5 @@
+use Rattle.qm_glog.specs.Reading.{one_place as law}
+use Rattle.qm_glog.proofs.laws.one_place.Goals as goal
+
+pub returns : goal.returns
+returns c = law

@@ -1,0 +1,31 @@
+-- What a log shows.
+use Rattle.std.specs.Prelude.{ℕ, ◌+◌, ◌-◌, ◌^◌, min, List, length}
+use Rattle.qm_disk.specs.Disk.{Only}
+use Rattle.qm_glog.specs.Records.{text, IsLog}
+use Rattle.qm_glog.specs.Bodies.{contents}
+use Rattle.qm_glog.specs.declared.log.Log.{Log}
+
+-- the bodies of its records, the first one first
+abbrev pub bodies_of : Log → List (List ℕ)
+bodies_of log = contents log.bodies.items
+
+-- the file of the disk in which it stands
+abbrev pub file_of : Log → ℕ
+file_of log = log.file
+
+-- the greatest size that an append may give the file, in bytes
+abbrev pub cap_of : Log → ℕ
+cap_of log = log.cap
+
+-- one more than the bytes of the longest body for which an append has memory, or 0 where it has none
+abbrev pub spare_of : Log → ℕ
+spare_of log = log.spare
+
+-- how many bytes the file takes with this record and the closed gate behind it, a number that stands at the end of its type
+abbrev pub need_of : List (List ℕ) → List ℕ → ℕ
+need_of bodies body = min (length (text bodies) + length body + 6) (2 ^ 64 - 1)
+
+-- the file is as the last call of this log left it: it holds the log's records, all on the disk
+pub record IsAsLeft {D : Type 0} (seen : D → ℕ → List ℕ) (may_leave : D → ℕ → List ℕ → Type 0) (log : Log) (disk : D) : Type 0 where
+  pub records : IsLog (seen disk log.file) (bodies_of log)
+  pub durable : Only (seen disk log.file) (may_leave disk log.file)

@@ -1,0 +1,19 @@
+//! The gated log: a list of records in one file of a disk, read again after any crash. An append is acknowledged
+//! once no crash can lose it, and a crash at any moment of it leaves the records with the new one or without.
+//! What a file holds is `IsLog` of `specs/Records.antt`.
+#![tactic(auto)]
+
+mod fault;
+mod laws;
+mod log;
+mod opening;
+mod reading;
+mod spare;
+#[cfg(test)]
+mod tests;
+mod through;
+
+pub use fault::LogFault;
+pub use laws::{one_list, one_place, sound_if_log};
+pub use log::{GREATEST_CAP, Log};
+pub use opening::{format, open};

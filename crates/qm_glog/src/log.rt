@@ -1,0 +1,148 @@
+// The log and its calls on records.
+ghost use Rattle.std.specs.Prelude.{◌≡◌, ◌⊎◌, ◌+◌, ◌<◌, ◌≤◌, ◌↔◌, [], ◌∷◌, ◌++◌, IsTrue, length, vec_len, vec_capacity, IfErr, OnOk, OnErr, IsErrOf, slice_get, Some};
+ghost use Rattle.qm_disk.specs.Disk.{KeepsOthers, LeavesOnly, Rose};
+ghost use Rattle.qm_glog.specs.Records.{text};
+ghost use Rattle.qm_glog.specs.Bodies.{contents};
+
+use crate::LogFault;
+use crate::spare::{keep, spell};
+use crate::through::write_through;
+use qm_disk::Disk;
+use std::alloc::{AllocError, Global};
+
+/// The greatest cap of a log, in bytes.
+pub const GREATEST_CAP: u64 = 268_435_456;
+
+/// The records of one file of a disk, which it doesn't own.
+#[derive(Drop)]
+pub struct Log {
+    alloc: Global,
+    file: u8,
+    cap: u64,
+    /// The place of the closed gate.
+    end: u64,
+    bodies: Vec<Vec<u8>>,
+    /// One more than the bytes of the longest body for which there is memory, or 0.
+    spare: usize,
+    /// Memory for the next body.
+    next: Vec<u8>,
+    /// Memory for the next record as it is written.
+    buffer: Vec<u8>,
+    ghost in_disk: { file ≤ 2 },
+    ghost capped: { cap ≤ 268435456 },
+    ghost at_end: { end ≡ length (text (contents bodies.items)) },
+    ghost empty: { next.items ≡ [] },
+    ghost has_room: { 0 < spare → vec_len bodies < vec_capacity bodies },
+    ghost has_next: { 0 < spare → spare ≤ vec_capacity next + 1 },
+    ghost has_buffer: { 0 < spare → spare + 4 ≤ vec_capacity buffer },
+}
+
+impl Log {
+    ghost use Rattle.qm_glog.specs.Moments.{Appended};
+    ghost use Rattle.qm_glog.specs.Log.{bodies_of, file_of, cap_of, spare_of, need_of, IsAsLeft};
+
+    // The log with these bodies and this end, with nothing spare.
+    pub(crate) fn of(alloc: Global, file: u8, cap: u64, bodies: Vec<Vec<u8>>, end: u64) -> Self
+        requires file { file ≤ 2 }
+        requires cap { cap ≤ 268435456 }
+        requires end { end ≡ length (text (contents bodies.items)) }
+        ensures bodies { bodies_of result ≡ contents bodies.items }
+        ensures file { file_of result ≡ file }
+        ensures cap { cap_of result ≡ cap }
+        ensures spare { spare_of result ≡ 0 }
+    {
+        Log {
+            alloc,
+            file,
+            cap,
+            end,
+            bodies,
+            spare: 0,
+            next: Vec::new(alloc),
+            buffer: Vec::new(alloc),
+        }
+    }
+
+    /// How many records there are.
+    pub fn count(&self) -> usize
+        ensures { result ≡ length (bodies_of self.now) }
+    {
+        self.bodies.len()
+    }
+
+    /// The body of a record; the first has index 0.
+    pub fn record(&self, index: usize) -> &[u8]
+        requires { index < length (bodies_of self.now) }
+        ensures { slice_get (bodies_of self.now) index ≡ Some result.now }
+    {
+        &self.bodies[index]
+    }
+
+    /// The place of the closed gate behind the last record, in bytes.
+    pub fn end(&self) -> u64
+        ensures { result ≡ length (text (bodies_of self.now)) }
+    {
+        self.end
+    }
+
+    /// Makes so many bytes spare for the body of one record. An `Err` leaves what was spare.
+    pub fn reserve(&mut self, bytes: usize) -> Result<(), AllocError>
+        ensures ok { OnOk result (bytes < spare_of self.new) }
+        ensures no_less { spare_of self.old ≤ spare_of self.new }
+        ensures bodies { bodies_of self.new ≡ bodies_of self.old }
+        ensures file { file_of self.new ≡ file_of self.old }
+        ensures cap { cap_of self.new ≡ cap_of self.old }
+    {
+        let record = bytes.checked_add(5).ok_or(AllocError)?;
+        self.bodies.reserve(1)?;
+        self.next.reserve(bytes)?;
+        self.buffer.clear();
+        self.buffer.reserve(record)?;
+        self.spare = self.spare.max(bytes + 1);
+        Ok(())
+    }
+
+    /// Adds a record, by four calls on the disk, two of them syncs. At `Ok` it is acknowledged: from then on each
+    /// crash leaves it. At `Full` nothing has changed. After `Disk` the file has to be opened again as a new log.
+    pub fn append<D: Disk>(&mut self, disk: &mut D, body: &[u8]) -> Result<(), LogFault>
+        requires room { length body.now < spare_of self.old }
+        // The file is as this log's last call left it, and no call of this log answered `Disk`.
+        requires left { IsTrue D.tells → IsAsLeft D.seen D.may_leave self.old disk.old }
+
+        ensures ok { OnOk result (bodies_of self.new ≡ bodies_of self.old ++ body.now ∷ []) }
+        ensures acknowledged { OnOk result (IsTrue D.tells → IsAsLeft D.seen D.may_leave self.new disk.new) }
+        ensures err { OnErr result (bodies_of self.new ≡ bodies_of self.old) }
+
+        // A crash at any moment of the call leaves the old records, or these and the new one.
+        ensures any_moment { IsTrue D.tells → LeavesOnly D.moment D.left_since disk.old disk.new
+            (Appended (D.may_leave disk.old) (file_of self.old) (bodies_of self.old) body.now) }
+        ensures others { KeepsOthers D.seen D.may_leave (file_of self.old) disk.old disk.new }
+
+        ensures full { IsErrOf result (LogFault.Full (need_of (bodies_of self.old) body.now) (cap_of self.old))
+            ↔ (cap_of self.old < need_of (bodies_of self.old) body.now) }
+        ensures unchanged { cap_of self.old < need_of (bodies_of self.old) body.now → (self.new ≡ self.old) × (disk.new ≡ disk.old) }
+        ensures faults { D.faults disk.old ≤ D.faults disk.new }
+        ensures failed { IsErrOf result LogFault.Disk → Rose (D.faults disk.old) (D.faults disk.new) }
+        ensures no_other { IfErr result (λ e. (e ≡ LogFault.Disk) ⊎ (e ≡ LogFault.Full (need_of (bodies_of self.old) body.now) (cap_of self.old))) }
+
+        ensures spare { OnOk result (spare_of self.new ≡ 0) }
+        ensures file { file_of self.new ≡ file_of self.old }
+        ensures cap { cap_of self.new ≡ cap_of self.old }
+    {
+        let need = self.end.saturating_add(body.len() as u64).saturating_add(6);
+        if need > self.cap {
+            return Err(LogFault::Full {
+                need,
+                cap: self.cap,
+            });
+        }
+        spell(&mut self.buffer, body);
+        // The record has to be on the disk before its gate opens.
+        write_through(disk, self.file, self.end + 1, &self.buffer)?;
+        write_through(disk, self.file, self.end, &[1])?;
+        keep(self.alloc, &mut self.bodies, &mut self.next, body);
+        self.end += 5 + body.len() as u64;
+        self.spare = 0;
+        Ok(())
+    }
+}

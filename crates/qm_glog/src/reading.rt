@@ -1,0 +1,171 @@
+// How a log is read, record by record.
+ghost use Rattle.std.specs.Prelude.{◌≡◌, ◌⊎◌, ◌+◌, ◌<◌, ◌≤◌, IsTrue, length, take, drop, IfOk, IfErr, IfSome, IsErrOf};
+ghost use Rattle.std.specs.Int.{w32, to_le_bytes, from_le_bytes};
+ghost use Rattle.qm_disk.specs.Disk.{Rose};
+ghost use Rattle.qm_glog.specs.Records.{text};
+ghost use Rattle.qm_glog.specs.Bodies.{contents};
+ghost use Rattle.qm_glog.specs.Moments.{OnlyLooks};
+ghost use Rattle.qm_glog.specs.Found.{length_bytes, HeadAt, EndsWithin, RecordAt, RecordsOf, IsNotFull};
+ghost use Rattle.qm_glog.specs.declared.reading.Head.TheVariants.{Closed, Open};
+
+use crate::LogFault;
+use qm_disk::Disk;
+use std::alloc::Global;
+
+// What stands at a gate.
+#[derive(Clone, Copy)]
+pub(crate) enum Head {
+    Closed,
+    Open { length: u32 },
+}
+
+// The gate at a place behind which fewer than four bytes stand.
+fn read_last_gate<D: Disk>(disk: &mut D, file: u8, place: u64, size: u64) -> Result<Head, LogFault>
+    requires file { file ≤ 2 }
+    requires place { place < size }
+    requires near { size < place + 5 }
+    requires size { IsTrue D.tells → size ≡ length (D.seen disk.old file) }
+    ensures head { IsTrue D.tells → HeadAt (drop place (D.seen disk.old file)) place result }
+    ensures none { IfOk result (λ head. head ≡ Closed) }
+    ensures looks { OnlyLooks D.seen D.may_leave D.moment D.left_since disk.old disk.new }
+    ensures faults { D.faults disk.old ≤ D.faults disk.new }
+    ensures failed { IsErrOf result LogFault.Disk → Rose (D.faults disk.old) (D.faults disk.new) }
+    ensures not_full { IfErr result IsNotFull }
+{
+    let mut gate = [0];
+    disk.read(file, place, &mut gate)?;
+    if gate[0] == 1 {
+        return Err(LogFault::Damaged { place });
+    }
+    Ok(Head::Closed)
+}
+
+// The number in the four bytes behind a gate.
+fn length_in(head: &[u8]) -> u32
+    requires { length head.now ≡ 5 }
+    ensures value { result ≡ from_le_bytes w32 (length_bytes head.now) }
+    ensures spelled { to_le_bytes w32 result ≡ length_bytes head.now }
+{
+    u32::from_le_bytes([head[1], head[2], head[3], head[4]])
+}
+
+// The gate and the length at a place behind which at least four bytes stand.
+fn read_whole_head<D: Disk>(disk: &mut D, file: u8, place: u64, size: u64) -> Result<Head, LogFault>
+    requires file { file ≤ 2 }
+    requires place { place + 5 ≤ size }
+    requires size { IsTrue D.tells → size ≡ length (D.seen disk.old file) }
+    ensures head { IsTrue D.tells → HeadAt (drop place (D.seen disk.old file)) place result }
+    ensures within { IfOk result (EndsWithin place size) }
+    ensures looks { OnlyLooks D.seen D.may_leave D.moment D.left_since disk.old disk.new }
+    ensures faults { D.faults disk.old ≤ D.faults disk.new }
+    ensures failed { IsErrOf result LogFault.Disk → Rose (D.faults disk.old) (D.faults disk.new) }
+    ensures not_full { IfErr result IsNotFull }
+{
+    let mut head = [0; 5];
+    disk.read(file, place, &mut head)?;
+    if head[0] != 1 {
+        return Ok(Head::Closed);
+    }
+    let length = length_in(&head);
+    if u64::from(length) > size - place - 5 {
+        return Err(LogFault::Damaged { place });
+    }
+    Ok(Head::Open { length })
+}
+
+// The gate at a place, and the length behind an open one.
+fn read_head<D: Disk>(disk: &mut D, file: u8, place: u64, size: u64) -> Result<Head, LogFault>
+    requires file { file ≤ 2 }
+    requires place { place ≤ size }
+    requires size { IsTrue D.tells → size ≡ length (D.seen disk.old file) }
+    ensures head { IsTrue D.tells → HeadAt (drop place (D.seen disk.old file)) place result }
+    ensures within { IfOk result (EndsWithin place size) }
+    ensures looks { OnlyLooks D.seen D.may_leave D.moment D.left_since disk.old disk.new }
+    ensures faults { D.faults disk.old ≤ D.faults disk.new }
+    ensures failed { IsErrOf result LogFault.Disk → Rose (D.faults disk.old) (D.faults disk.new) }
+    ensures not_full { IfErr result IsNotFull }
+{
+    if place == size {
+        return Err(LogFault::Damaged { place });
+    }
+    if size - place < 5 {
+        return read_last_gate(disk, file, place, size);
+    }
+    read_whole_head(disk, file, place, size)
+}
+
+// So many bytes of a file.
+fn read_bytes<D: Disk>(
+    alloc: Global,
+    disk: &mut D,
+    file: u8,
+    at: u64,
+    count: usize,
+) -> Result<Vec<u8>, LogFault>
+    requires file { file ≤ 2 }
+    requires within { IsTrue D.tells → at + count ≤ length (D.seen disk.old file) }
+    ensures length { IfOk result (λ bytes. length bytes.items ≡ count) }
+    ensures bytes { IfOk result (λ bytes. IsTrue D.tells → bytes.items ≡ take count (drop at (D.seen disk.old file))) }
+    ensures cause { IfErr result (λ e. (e ≡ LogFault.Disk) ⊎ (e ≡ LogFault.NoMemory)) }
+    ensures looks { OnlyLooks D.seen D.may_leave D.moment D.left_since disk.old disk.new }
+    ensures faults { D.faults disk.old ≤ D.faults disk.new }
+    ensures failed { IsErrOf result LogFault.Disk → Rose (D.faults disk.old) (D.faults disk.new) }
+    ensures not_full { IfErr result IsNotFull }
+{
+    let mut bytes = Vec::new(alloc);
+    bytes.resize(count, 0)?;
+    disk.read(file, at, bytes.as_mut_slice())?;
+    Ok(bytes)
+}
+
+// The body of the record at a place, or nothing where its gate is closed.
+fn read_record<D: Disk>(
+    alloc: Global,
+    disk: &mut D,
+    file: u8,
+    place: u64,
+    size: u64,
+) -> Result<Option<Vec<u8>>, LogFault>
+    requires file { file ≤ 2 }
+    requires place { place ≤ size }
+    requires size { IsTrue D.tells → size ≡ length (D.seen disk.old file) }
+    ensures found { IsTrue D.tells → RecordAt (drop place (D.seen disk.old file)) place result }
+    ensures within { IfOk result (λ found. IfSome found (λ body. place + 5 + length body.items ≤ size)) }
+    ensures looks { OnlyLooks D.seen D.may_leave D.moment D.left_since disk.old disk.new }
+    ensures faults { D.faults disk.old ≤ D.faults disk.new }
+    ensures failed { IsErrOf result LogFault.Disk → Rose (D.faults disk.old) (D.faults disk.new) }
+    ensures not_full { IfErr result IsNotFull }
+{
+    match read_head(disk, file, place, size)? {
+        Head::Closed => Ok(None),
+        Head::Open { length } => {
+            let body = read_bytes(alloc, disk, file, place + 5, length as usize)?;
+            Ok(Some(body))
+        }
+    }
+}
+
+// The bodies of a file's records, and the place of the closed gate behind them.
+pub(crate) fn read_records<D: Disk>(
+    alloc: Global,
+    disk: &mut D,
+    file: u8,
+    size: u64,
+) -> Result<(Vec<Vec<u8>>, u64), LogFault>
+    requires file { file ≤ 2 }
+    requires size { IsTrue D.tells → size ≡ length (D.seen disk.old file) }
+    ensures found { IsTrue D.tells → RecordsOf (D.seen disk.old file) result }
+    ensures end { IfOk result (λ found. found.1 ≡ length (text (contents found.0.items))) }
+    ensures looks { OnlyLooks D.seen D.may_leave D.moment D.left_since disk.old disk.new }
+    ensures faults { D.faults disk.old ≤ D.faults disk.new }
+    ensures failed { IsErrOf result LogFault.Disk → Rose (D.faults disk.old) (D.faults disk.new) }
+    ensures not_full { IfErr result IsNotFull }
+{
+    let mut bodies = Vec::new(alloc);
+    let mut place = 0;
+    'records: while let Some(body) = read_record(alloc, disk, file, place, size)? {
+        place += 5 + body.len() as u64;
+        bodies.push(body)?;
+    }
+    Ok((bodies, place))
+}
