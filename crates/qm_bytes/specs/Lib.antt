@@ -1,0 +1,4 @@
+pub mod Widths
+pub mod Spelling
+pub mod Reading
+pub mod Laws

@@ -1,0 +1,111 @@
+ghost use Rattle.std.specs.Prelude.{◌≡◌, ◌+◌, ◌<◌, ◌≤◌, ◌++◌, ◌∷◌, take, drop, length, IfOk, OnOk, OnErr, IsErrOf, IfSome, IfNone, ℕ, List, IsTrue};
+ghost use Rattle.qm_kinds.specs.Text.{is_name_byte};
+ghost use Rattle.qm_bytes.specs.Spelling.{short_bytes, IsName, file_name, IsFileName};
+ghost use Rattle.qm_bytes.specs.Reading.{Gives, Splits, byte_where, name_bytes_at, name_at, optional_at, file_name_at};
+
+use crate::fault::FieldFault;
+use crate::number::byte_between;
+use qm_kinds::{FileName, Name};
+use std::alloc::AllocError;
+
+/// Appends a name: a byte of length, and its bytes.
+pub fn put_name(out: &mut Vec<u8>, name: &Name) -> Result<(), AllocError>
+    ensures ok { OnOk result (out.new.items ≡ out.old.items ++ short_bytes name.now) }
+    ensures lawful { IsName name.now }
+    ensures err { OnErr result (out.new.items ≡ out.old.items) }
+{
+    let text = name.as_bytes();
+    out.push(text.len() as u8)?;
+    if let Err(fault) = out.extend_from_slice(text) {
+        let _ = out.pop();
+        return Err(fault);
+    }
+    Ok(())
+}
+
+/// The name whose spelling stands at a place, and the place behind it. There is none exactly where no name's spelling
+/// stands there.
+pub fn take_name(bytes: &[u8], at: usize) -> Option<(Name, usize)>
+    ensures lawful { IfSome result (λ found. IsName found.0) }
+    ensures spelled { IfSome result (λ found. drop at bytes.now ≡ short_bytes found.0 ++ drop found.1 bytes.now) }
+    ensures next { IfSome result (λ found. found.1 ≡ at + 1 + length found.0) }
+    ensures within { IfSome result (λ found. found.1 ≤ length bytes.now) }
+    ensures none { IfNone result ((name rest : List ℕ) → IsName name → drop at bytes.now ≡ short_bytes name ++ rest → ⊥) }
+{
+    if bytes.len() < at {
+        return None;
+    }
+    let (_, rest) = bytes.split_at(at);
+    match name_at(rest) {
+        Ok(found) => Some((found.0, at + 1 + found.0.as_bytes().len())),
+        Err(_) => None,
+    }
+}
+
+/// Reads a name.
+pub fn read_name(bytes: &mut &[u8]) -> Result<Name, FieldFault>
+    ensures { Gives result bytes.new.now (name_at bytes.old.now) }
+{
+    match name_at(bytes) {
+        Ok((name, rest)) => {
+            *bytes = rest;
+            Ok(name)
+        }
+        Err(fault) => Err(fault),
+    }
+}
+
+// A name, and the bytes behind it.
+#[tactic(auto, using(crate::proofs::Names::read_again), unfolding(crate::specs::Reading::name_at))]
+fn name_at(bytes: &[u8]) -> Result<(Name, &[u8]), FieldFault>
+    ensures value { Splits (λ x. (x.0, x.1.now)) result (name_at bytes.now) }
+    ensures no_memory { IsErrOf result FieldFault.NoMemory → ⊥ }
+{
+    let (size, text) = byte_between(bytes, 1, 39)?;
+    let size = size as usize;
+    let rest = behind_name_bytes(text, size)?;
+    match Name::read(&text[..size]) {
+        Ok(name) => Ok((name, rest)),
+        Err(_) => unreachable!(),
+    }
+}
+
+// What stands behind so many bytes of a name.
+#[tactic(auto, using(crate::proofs::Names::no_bytes, crate::proofs::Names::first_byte))]
+fn behind_name_bytes(bytes: &[u8], count: usize) -> Result<&[u8], FieldFault>
+    ensures value { Splits (λ rest. (take count bytes.now, rest.now)) result (name_bytes_at count bytes.now) }
+    ensures within { OnOk result (count ≤ length bytes.now) }
+    ensures no_memory { IsErrOf result FieldFault.NoMemory → ⊥ }
+{
+    if count == 0 {
+        return Ok(bytes);
+    }
+    let (_, rest) = name_byte_at(bytes)?;
+    let behind = behind_name_bytes(rest, count - 1)?;
+    Ok(behind)
+}
+
+// A byte of a name.
+fn name_byte_at(bytes: &[u8]) -> Result<(u8, &[u8]), FieldFault>
+    ensures value { Splits (λ x. (x.0, x.1.now)) result (byte_where is_name_byte bytes.now) }
+    ensures split { IfOk result (λ x. bytes.now ≡ x.0 ∷ x.1.now) }
+    ensures no_memory { IsErrOf result FieldFault.NoMemory → ⊥ }
+{
+    match bytes {
+        [] => Err(FieldFault::Bad { left: 0 }),
+        [byte, rest @ ..] => {
+            if is_name_byte(*byte) {
+                Ok((*byte, rest))
+            } else {
+                Err(FieldFault::Bad { left: bytes.len() })
+            }
+        }
+    }
+}
+
+// Whether a byte may stand in a name. A small letter may not: it isn't how a name is spelled.
+fn is_name_byte(byte: u8) -> bool
+    ensures { result ≡ is_name_byte byte }
+{
+    byte.is_ascii_uppercase() || byte.is_ascii_digit() || byte == b'$' || byte == b'_'
+}
