@@ -1,0 +1,223 @@
+-- Records: what is read is spelled so, what is spelled so is read, and a fault is the first one.
+use Rattle.std.proofs.Common.{◌≡◌, ℕ, suc, ◌+◌, ◌-◌, ◌^◌, ◌<◌, ◌≤◌, Bool, true, false, cond, eqb, List, [], ◌∷◌, ◌++◌, length, take, Result, Ok, Err, refl, sym, ap, subst, ◌∙◌, append_assoc, arith, lit<}
+use Rattle.std.proofs.lemmas.List.{append-nil, take_at, length-append}
+use Rattle.std.proofs.lemmas.Bool.Decides.{nat_tests}
+use Rattle.qm_bytes.specs.Reading.{between}
+use Rattle.qm_bytes.specs.Laws.{Spells, IsReader}
+use Rattle.qm_bytes.specs.Spelling.{low_first, moment}
+use Rattle.qm_bytes.proofs.Readers.{after, last, said, byte_reader, same_value, same_rest, found}
+use Rattle.qm_bytes.proofs.Fields.{lies_between, passes_between, number_up_to_reader}
+use Rattle.qm_record.specs.declared.record.Record.{Record}
+use Rattle.qm_record.specs.declared.record.Body.{Body}
+use Rattle.qm_record.specs.declared.fault.RecordFault.{RecordFault}
+use Rattle.qm_record.specs.declared.fault.RecordFault.TheVariants.{Bad}
+use Rattle.qm_record.specs.Spelling.{number_of, body_text, record_text, HasSpelling, is_row}
+use Rattle.qm_record.specs.Reading.{record_at, is_number, last_moment, last_node, ended, whole_at}
+use Rattle.qm_record.specs.Faults.{Begins, IsFirstFault}
+use Rattle.qm_record.proofs.Bodies.{BodyFor, body_reader, number_is_known}
+
+limit_fits : (row : Bool) → cond row 0 25690901759999 < 256 ^ 8
+limit_fits true = lit< tt
+limit_fits false = lit< tt
+
+below_last : (row : Bool) (m : ℕ) → m ≤ cond row 0 25690901759999 → (m ≤ 25690901759999) × (row ≡ true → m ≡ 0)
+below_last true m le = (omega (arith, le), λ h. omega (arith, le))
+below_last false m le = (le, λ h. absurd cc)
+
+below_node : (row : Bool) (n : ℕ) → n ≤ cond row 0 255 → (n < 2 ^ 8) × (row ≡ true → n ≡ 0)
+below_node true n le = (omega (arith, le), λ h. omega (arith, le))
+below_node false n le = (omega (arith, le), λ h. absurd cc)
+
+within : (row : Bool) (m limit : ℕ) → m ≤ limit → (row ≡ true → m ≡ 0) → m ≤ cond row 0 limit
+within true m limit le zero_in_row = omega (arith, zero_in_row refl)
+within false m limit le zero_in_row = le
+
+abbrev record_of : ℕ → ℕ → Body → Record
+record_of m n b = record { moment = m; node = n; body = b }
+
+record_to : (r : Record) (version number m n : ℕ) (b : Body) (text : List ℕ) → between 1 1 version ≡ true → m ≤ last_moment number → between 0 (last_node number) n ≡ true → BodyFor number b → r ≡ record_of m n b
+    → text ≡ version ∷ number ∷ (low_first 8 m ++ n ∷ body_text b) → Spells HasSpelling record_text r text
+record_to r version number m n b text v le between_nodes fits same is =
+    let one : version ≡ 1 = omega (arith, (lies_between 1 1 version v).0, (lies_between 1 1 version v).1) in
+    let moments = below_last (is_row number) m le in
+    let nodes = below_node (is_row number) n (lies_between 0 (last_node number) n between_nodes).1 in
+    rw same (record {
+      fits = record {
+        moment_fits = moments.0;
+        node_fits = nodes.0;
+        body_fits = fits.fits;
+        row_moment = λ h. moments.1 (sym (ap is_row fits.number) ∙ h);
+        row_node = λ h. nodes.1 (sym (ap is_row fits.number) ∙ h);
+      };
+      is = rw (is, one, fits.number) refl;
+    })
+
+pub record_reader : IsReader (Spells HasSpelling record_text) record_at
+unfolding record_at
+record_reader =
+    said
+    (after (byte_reader (between 1 1) 1 refl) (λ version version_fits.
+    after (byte_reader is_number 20 refl) (λ number number_fits.
+    after (number_up_to_reader 8 (last_moment number) (limit_fits (is_row number))) (λ m m_fits.
+    after (byte_reader (between 0 (last_node number)) 0 (passes_between 0 (last_node number) 0 (omega arith) (omega arith))) (λ n n_fits. last (body_reader number number_fits))))))
+    (λ r text h. record_to r h.first h.next.first h.next.next.first h.next.next.next.first h.next.next.next.next.first text h.fits h.next.next.fits h.next.next.next.fits h.next.next.next.next.fits h.next.next.next.next.same
+    (rw (h.parts, h.next.parts, h.next.next.parts, h.next.next.next.parts, h.next.next.next.next.parts) refl))
+    (λ r text s.
+    let number = number_of r.body in
+    record {
+      first = 1;
+      fits = refl;
+      others = number ∷ (moment r.moment ++ r.node ∷ body_text r.body);
+      next = record {
+        first = number;
+        fits = number_is_known r.body s.fits.body_fits;
+        others = moment r.moment ++ r.node ∷ body_text r.body;
+        next = record {
+          first = r.moment;
+          fits = within (is_row number) r.moment 25690901759999 s.fits.moment_fits s.fits.row_moment;
+          others = r.node ∷ body_text r.body;
+          next = record {
+            first = r.node;
+            fits = passes_between 0 (last_node number) r.node (omega arith) (within (is_row number) r.node 255 (omega (arith, s.fits.node_fits)) s.fits.row_node);
+            others = body_text r.body;
+            next = record { first = r.body; fits = record { fits = s.fits.body_fits; number = refl }; same = refl; parts = refl };
+            parts = refl;
+          };
+          parts = refl;
+        };
+        parts = refl;
+      };
+      parts = s.is;
+    })
+
+-- ---- the whole
+
+data Ending (read : Result (Record × List ℕ) ℕ) (result : Result Record ℕ) : Type 0 where
+  whole : (r : Record) → read ≡ Ok (r, []) → result ≡ Ok r → Ending read result
+  trailing : (r : Record) (b : ℕ) (bs : List ℕ) → read ≡ Ok (r, b ∷ bs) → result ≡ Err (suc (length bs)) → Ending read result
+  stopped : (left : ℕ) → read ≡ Err left → result ≡ Err left → Ending read result
+
+more_than_none : (n : ℕ) → eqb (suc n) 0 ≡ false
+more_than_none n = grind (arith, nat_tests)
+
+ending : (read : Result (Record × List ℕ) ℕ) → Ending read (ended read)
+ending (Ok (r, [])) = whole r refl refl
+ending (Ok (r, b ∷ bs)) = rw (more_than_none (length bs)) (trailing r b bs refl refl)
+ending (Err left) = stopped left refl refl
+
+abbrev spelled_whole : Record → List ℕ → Type 0
+spelled_whole = Spells HasSpelling record_text
+
+abbrev done : Record → Result Record ℕ
+done r = Ok r
+
+same_record : (x r : Record) → done x ≡ done r → x ≡ r
+same_record x r e = cc
+
+abbrev failed : ℕ → Result Record ℕ
+failed left = Err left
+
+same_left : (m n : ℕ) → failed m ≡ failed n → m ≡ n
+same_left m n e = cc
+
+read_parts : (bytes : List ℕ) (r : Record) (result : Result Record ℕ) → Ending (record_at bytes) result → result ≡ Ok r → spelled_whole r bytes
+read_parts bytes r result (whole x read e) is =
+    let t = record_reader.takes bytes x [] read in
+    let same : x ≡ r = same_record x r (sym e ∙ is) in
+    let all : bytes ≡ t.0 = t.2 ∙ append-nil t.0 in
+    subst (λ (y : Record). spelled_whole y bytes) same (record { fits = t.1.fits; is = all ∙ t.1.is })
+read_parts bytes r result (trailing x b bs read e) is = let both : Err (suc (length bs)) ≡ Ok r = sym e ∙ is in cc
+read_parts bytes r result (stopped left read e) is = let both : Err left ≡ Ok r = sym e ∙ is in cc
+
+pub read_is_spelled : (bytes : List ℕ) (r : Record) → whole_at bytes ≡ Ok r → Spells HasSpelling record_text r bytes
+unfolding whole_at
+read_is_spelled bytes r e = read_parts bytes r (ended (record_at bytes)) (ending (record_at bytes)) e
+
+-- a record's spelling, whatever follows
+again : (r : Record) (rest : List ℕ) → HasSpelling r → record_at (record_text r ++ rest) ≡ Ok (r, rest)
+again r rest fits = record_reader.again r (record_text r) rest (record { fits = fits; is = refl })
+
+alone : (r : Record) → HasSpelling r → record_at (record_text r) ≡ Ok (r, [])
+alone r fits = ap record_at (sym (append-nil (record_text r))) ∙ again r [] fits
+
+pub spelled_is_read : (r : Record) → HasSpelling r → whole_at (record_text r) ≡ Ok r
+unfolding whole_at
+spelled_is_read r fits = rw (alone r fits) refl
+
+-- no spelling is a proper prefix of another
+pub no_prefix : (a b : Record) (rest : List ℕ) → HasSpelling a → HasSpelling b → record_text b ≡ record_text a ++ rest → (b ≡ a) × (rest ≡ [])
+no_prefix a b rest a_fits b_fits e =
+    let both : found b [] ≡ found a rest = sym (alone b b_fits) ∙ ap record_at e ∙ again a rest a_fits in
+    (same_value b a [] rest both, sym (same_rest b a [] rest both))
+
+-- ---- the first fault
+
+-- the bytes in front, and the next one
+one_further : (front bs : List ℕ) (b : ℕ) → take (length front + 1) (front ++ b ∷ bs) ≡ front ++ b ∷ []
+one_further front bs b =
+    ap (take (length front + 1)) (sym (append_assoc front (b ∷ []) bs)) ∙ take_at (front ++ b ∷ []) bs (length front + 1) (length-append front (b ∷ []))
+
+-- where the bytes in front begin a spelling and no spelling goes on with what stands behind
+first_of_parts : (bytes front behind : List ℕ) (place : ℕ) → bytes ≡ front ++ behind → place ≡ length front → Begins front
+    → ((b : ℕ) (bs : List ℕ) → behind ≡ b ∷ bs → Begins (front ++ b ∷ []) → ⊥) → IsFirstFault bytes place
+first_of_parts bytes front behind place parts is begins ends =
+    let len : length bytes ≡ length front + length behind = ap length parts ∙ length-append front behind in
+    record {
+      within = omega (arith, len, is);
+      begins = subst Begins (sym (rw (is, parts) (take_at front behind (length front) refl))) begins;
+      ends = not_further behind parts ends;
+    }
+  where
+    not_further : (rest : List ℕ) → bytes ≡ front ++ rest → ((b : ℕ) (bs : List ℕ) → rest ≡ b ∷ bs → Begins (front ++ b ∷ []) → ⊥) → place < length bytes → Begins (take (place + 1) bytes) → ⊥
+    not_further [] split stop lt further = omega (arith, lt, is, ap length split ∙ length-append front [])
+    not_further (b ∷ bs) split stop lt further = stop b bs refl (subst Begins (rw (is, split) (one_further front bs b)) further)
+
+fault_parts : (bytes : List ℕ) (left : ℕ) (result : Result Record ℕ) → Ending (record_at bytes) result → result ≡ Err left → (left ≤ length bytes) × IsFirstFault bytes (length bytes - left)
+fault_parts bytes left result (whole x read e) is = let both : Ok x ≡ Err left = sym e ∙ is in absurd cc
+fault_parts bytes left result (trailing x b bs read e) is =
+    let t = record_reader.takes bytes x (b ∷ bs) read in
+    let size : left ≡ suc (length bs) = same_left left (suc (length bs)) (sym is ∙ e) in
+    let len : length bytes ≡ length t.0 + suc (length bs) = ap length t.2 ∙ length-append t.0 (b ∷ bs) in (
+      omega (arith, size, len),
+      first_of_parts bytes t.0 (b ∷ bs) (length bytes - left) t.2 (omega (arith, size, len)) (record { value = x; more = []; fits = t.1.fits; is = sym t.1.is ∙ sym (append-nil t.0) })
+          (λ c cs tail further.
+          let longer : record_text further.value ≡ record_text x ++ (c ∷ further.more) = further.is ∙ append_assoc t.0 (c ∷ []) further.more ∙ ap (λ (y : List ℕ). y ++ c ∷ further.more) t.1.is in
+          let nothing = (no_prefix x further.value (c ∷ further.more) t.1.fits further.fits longer).1 in
+          let none : c ∷ further.more ≡ [] = nothing in
+          cc),
+    )
+fault_parts bytes left result (stopped other read e) is =
+    let size : left ≡ other = same_left left other (sym is ∙ e) in
+    let s = record_reader.stops bytes other read in
+    let len : length bytes ≡ length s.front + length s.behind = ap length s.parts ∙ length-append s.front s.behind in
+    let place = s.place in (
+      omega (arith, size, len, place),
+      first_of_parts bytes s.front s.behind (length bytes - left) s.parts (omega (arith, size, len, place)) (record { value = s.value; more = s.more; fits = s.begins.fits; is = sym s.begins.is })
+          (λ b bs tail further.
+          let longer : record_text further.value ≡ s.front ++ (b ∷ further.more) = further.is ∙ append_assoc s.front (b ∷ []) further.more in
+          let both : Ok (further.value, []) ≡ Err (suc (length further.more)) = sym (alone further.value further.fits) ∙ ap record_at longer ∙ s.ends b bs further.more tail in
+          cc),
+    )
+
+pub fault_is_first : (bytes : List ℕ) (left : ℕ) → whole_at bytes ≡ Err left → (left ≤ length bytes) × IsFirstFault bytes (length bytes - left)
+unfolding whole_at
+fault_is_first bytes left e = fault_parts bytes left (ended (record_at bytes)) (ending (record_at bytes)) e
+
+-- ---- what is told of the whole
+
+pub only_one : (bytes : List ℕ) (x r : Record) → whole_at bytes ≡ Ok x → HasSpelling r → bytes ≡ record_text r → x ≡ r
+only_one bytes x r read fits is = same_record x r (sym read ∙ ap whole_at is ∙ spelled_is_read r fits)
+
+pub none_spelled : (bytes : List ℕ) (left : ℕ) (r : Record) → whole_at bytes ≡ Err left → HasSpelling r → bytes ≡ record_text r → ⊥
+none_spelled bytes left r read fits is =
+    let both : Ok r ≡ Err left = sym (ap whole_at is ∙ spelled_is_read r fits) ∙ read in
+    cc
+
+abbrev pub bad : ℕ → Result Record RecordFault
+bad place = Err (Bad place)
+
+same_place : (m n : ℕ) → bad m ≡ bad n → m ≡ n
+same_place m n e = cc
+
+pub first_told : (bytes : List ℕ) (left : ℕ) → whole_at bytes ≡ Err left → (place : ℕ) → bad (length bytes - left) ≡ bad place → IsFirstFault bytes place
+first_told bytes left read place told = subst (λ n. IsFirstFault bytes n) (same_place (length bytes - left) place told) (fault_is_first bytes left read).1

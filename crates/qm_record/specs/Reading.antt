@@ -1,0 +1,188 @@
+-- Reading records.
+use Rattle.std.specs.Prelude.{◌≡◌, ℕ, Bool, ◌||◌, ◌==◌, if◌then◌else◌, List, length, Result, Ok, Err}
+use Rattle.qm_kinds.specs.declared.request.Request.TheVariants as ask
+use Rattle.qm_kinds.specs.declared.request.NameOrNumber.{NameOrNumber}
+use Rattle.qm_kinds.specs.declared.request.NameOrNumber.TheVariants.{Name, Number}
+use Rattle.qm_kinds.specs.declared.entry.JobKind.{JobKind}
+use Rattle.qm_kinds.specs.declared.entry.JobKind.TheVariants as job
+use Rattle.qm_kinds.specs.declared.entry.JobRetain.{JobRetain}
+use Rattle.qm_kinds.specs.declared.entry.JobRetain.TheVariants as retain
+use Rattle.qm_kinds.specs.declared.queue.QueueKind.{QueueKind}
+use Rattle.qm_kinds.specs.declared.queue.QueueKind.TheVariants as kind
+use Rattle.qm_kinds.specs.declared.queue.QueueState.{QueueState}
+use Rattle.qm_kinds.specs.declared.queue.QueueState.TheVariants as state
+use Rattle.qm_kinds.specs.declared.queue.QueueRetain.{QueueRetain}
+use Rattle.qm_kinds.specs.declared.queue.QueueRetain.TheVariants as keep
+use Rattle.qm_kinds.specs.declared.queue.Queue.{Queue}
+use Rattle.qm_kinds.specs.declared.form.Form.{Form}
+use Rattle.qm_kinds.specs.declared.form.Shape.{Shape}
+use Rattle.qm_kinds.specs.declared.system.Node.{Node}
+use Rattle.qm_bytes.specs.declared.fault.FieldFault.{FieldFault}
+use Rattle.qm_bytes.specs.Reading.{Fails, Reader, ◌>>=◌, pure, byte_where, between, number_at, number_up_to, truth_at, optional_at, list_at, name_at, file_name_at, long_bytes_at, set_at, moment_at}
+use Rattle.qm_record.specs.Spelling.{is_row}
+use Rattle.qm_record.specs.declared.record.Record.{Record}
+use Rattle.qm_record.specs.declared.record.Body.{Body}
+use Rattle.qm_record.specs.declared.record.Body.TheVariants as body
+
+abbrev pub byte_at : Reader ℕ
+byte_at = byte_where (between 0 255)
+
+-- ---- codes
+
+abbrev pub job_kind_of : ℕ → JobKind
+job_kind_of n = if n == 1 then job.Batch else job.Print
+
+abbrev pub queue_kind_of : ℕ → QueueKind
+queue_kind_of n = if n == 1 then kind.Batch else if n == 2 then kind.Print else if n == 3 then kind.GenericBatch else kind.GenericPrint
+
+abbrev pub queue_state_of : ℕ → QueueState
+queue_state_of n = if n == 1 then state.Stopped else if n == 2 then state.Started else if n == 3 then state.Paused else state.Stopping
+
+abbrev pub queue_retain_of : ℕ → QueueRetain
+queue_retain_of n = if n == 0 then keep.Nothing else if n == 1 then keep.Failed else keep.All
+
+abbrev pub plain_retain_of : ℕ → JobRetain
+plain_retain_of n = if n == 0 then retain.Default else if n == 1 then retain.Always else retain.Failed
+
+unfoldable pub job_kind_at : Reader JobKind
+job_kind_at = byte_where (between 1 2) >>= λ n. pure (job_kind_of n)
+
+unfoldable pub queue_kind_at : Reader QueueKind
+queue_kind_at = byte_where (between 1 4) >>= λ n. pure (queue_kind_of n)
+
+unfoldable pub queue_state_at : Reader QueueState
+queue_state_at = byte_where (between 1 4) >>= λ n. pure (queue_state_of n)
+
+unfoldable pub queue_retain_at : Reader QueueRetain
+queue_retain_at = byte_where (between 0 2) >>= λ n. pure (queue_retain_of n)
+
+-- ---- fields
+
+unfoldable pub job_retain_at : Reader JobRetain
+job_retain_at = do
+  n ← byte_where (between 0 3)
+  if n == 3 then (moment_at >>= λ m. pure (retain.Until m)) else pure (plain_retain_of n)
+
+unfoldable pub name_or_number_at : Reader NameOrNumber
+name_or_number_at = do
+  n ← byte_where (between 0 1)
+  if n == 0 then (name_at >>= λ name. pure (Name name)) else (number_at 2 >>= λ number. pure (Number number))
+
+unfoldable pub node_at : Reader Node
+node_at = do
+  name ← name_at
+  up ← truth_at
+  pure (record { name = name; up = up })
+
+unfoldable pub shape_at : Reader Shape
+shape_at = do
+  length ← byte_at
+  width ← byte_at
+  top ← byte_at
+  bottom ← byte_at
+  left ← byte_at
+  right ← byte_at
+  wrap ← truth_at
+  pure (record { length = length; width = width; top = top; bottom = bottom; left = left; right = right; wrap = wrap })
+
+unfoldable pub form_at : Reader Form
+form_at = do
+  name ← name_at
+  number ← number_at 2
+  stock ← name_at
+  shape ← shape_at
+  pure (record { name = name; number = number; stock = stock; shape = shape })
+
+unfoldable pub queue_at : Reader Queue
+queue_at = do
+  name ← name_at
+  kind ← queue_kind_at
+  state ← queue_state_at
+  node ← optional_at name_at
+  device ← optional_at name_at
+  limit ← byte_at
+  characteristics ← set_at
+  mounted ← optional_at name_at
+  lower ← number_at 4
+  upper ← number_at 4
+  by_size ← truth_at
+  retain ← queue_retain_at
+  targets ← list_at name_at
+  pure (record { name = name; kind = kind; state = state; node = node; device = device; limit = limit; characteristics = characteristics; mounted = mounted; lower = lower; upper = upper; by_size = by_size; retain = retain; targets = targets })
+
+-- ---- bodies
+
+unfoldable pub append_at : Reader Body
+append_at = do
+  file ← file_name_at
+  bytes ← long_bytes_at
+  pure (body.Ask (ask.Append file bytes))
+
+unfoldable pub submit_at : Reader Body
+submit_at = do
+  user ← name_at
+  kind ← job_kind_at
+  queue ← name_at
+  file ← file_name_at
+  name ← name_at
+  priority ← byte_at
+  after ← optional_at moment_at
+  hold ← truth_at
+  retain ← job_retain_at
+  restart ← truth_at
+  characteristics ← list_at name_or_number_at
+  form ← optional_at name_or_number_at
+  copies ← byte_at
+  flag ← truth_at
+  pure (body.Ask (ask.Submit user kind queue file name priority after hold retain restart characteristics form copies flag))
+
+unfoldable pub head_at : Reader Body
+head_at = do
+  nodes ← list_at node_at
+  may ← list_at name_at
+  next_entry ← number_at 4
+  next_run ← number_at 8
+  last ← moment_at
+  pure (body.Head nodes may next_entry next_run last)
+
+-- the numbers of records
+abbrev pub is_number : ℕ → Bool
+is_number n = n == 1 || n == 15 || n == 20 || is_row n
+
+unfoldable pub body_at : ℕ → Reader Body
+body_at n =
+    if n == 1 then append_at else
+    if n == 15 then submit_at else
+    if n == 20 then pure (body.Ask ask.Tick) else
+    if n == 33 then head_at else
+    if n == 34 then (form_at >>= λ f. pure (body.Form f)) else
+    (queue_at >>= λ q. pure (body.Queue q))
+
+-- the last moment and the last node of a record of this number
+abbrev pub last_moment : ℕ → ℕ
+last_moment n = if is_row n then 0 else 25690901759999
+
+abbrev pub last_node : ℕ → ℕ
+last_node n = if is_row n then 0 else 255
+
+unfoldable pub record_at : Reader Record
+record_at = do
+  version ← byte_where (between 1 1)
+  number ← byte_where is_number
+  moment ← number_up_to 8 (last_moment number)
+  node ← byte_where (between 0 (last_node number))
+  body ← body_at number
+  pure (record { moment = moment; node = node; body = body })
+
+-- a record and nothing behind it
+abbrev pub ended : Result (Record × List ℕ) ℕ → Result Record ℕ
+ended (Ok x) = if length x.1 == 0 then Ok x.0 else Err (length x.1)
+ended (Err left) = Err left
+
+unfoldable pub whole_at : List ℕ → Result Record ℕ
+whole_at bytes = ended (record_at bytes)
+
+-- What a function returned is what reading the whole gives, unless memory ran out.
+abbrev pub TellsWhole : Result Record FieldFault → Result Record ℕ → Type 0
+TellsWhole (Ok r) read = read ≡ Ok r
+TellsWhole (Err e) read = Fails e read

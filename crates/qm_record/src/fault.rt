@@ -1,0 +1,10 @@
+ghost use Rattle.std.specs.Prelude.{◌≡◌};
+
+/// Why bytes aren't a record.
+#[derive(Clone, Copy, Debug, PartialEq, Eq)]
+pub enum RecordFault {
+    /// The first place, counted from 0, where no record's spelling goes on.
+    Bad { place: usize },
+    /// Memory ran out.
+    NoMemory,
+}

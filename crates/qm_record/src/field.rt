@@ -1,0 +1,152 @@
+// The fields of which several records are made.
+ghost use Rattle.std.specs.Prelude.{◌≡◌, ◌++◌, OnOk};
+ghost use Rattle.qm_bytes.specs.Reading.{Gives};
+ghost use Rattle.qm_record.specs.Spelling.{job_kind_code, job_retain, name_or_number, node as node_text, shape as shape_text, RetainFits, NameOrNumberFits, NodeFits, ShapeFits};
+ghost use Rattle.qm_record.specs.Reading.{job_kind_at, job_retain_at, name_or_number_at, node_at, shape_at};
+
+use qm_bytes::{
+    FieldFault, Width, put_moment, put_name, put_number, put_truth, read_byte, read_moment,
+    read_name, read_number, read_truth,
+};
+use qm_kinds::{JobKind, JobRetain, NameOrNumber, Node, Shape};
+use std::alloc::AllocError;
+
+/// The code of a kind of job.
+pub(crate) fn job_kind_code(kind: JobKind) -> u8
+    ensures { result ≡ job_kind_code kind }
+{
+    match kind {
+        JobKind::Batch => 1,
+        JobKind::Print => 2,
+    }
+}
+
+/// Reads a kind of job.
+#[tactic(auto, unfolding(crate::specs::Reading::job_kind_at))]
+pub(crate) fn read_job_kind(bytes: &mut &[u8]) -> Result<JobKind, FieldFault>
+    ensures { Gives result bytes.new.now (job_kind_at bytes.old.now) }
+{
+    match read_byte(bytes, 1, 2)? {
+        1 => Ok(JobKind::Batch),
+        _ => Ok(JobKind::Print),
+    }
+}
+
+/// Appends how a job is kept.
+pub(crate) fn put_job_retain(out: &mut Vec<u8>, retain: &JobRetain) -> Result<(), AllocError>
+    ensures ok { OnOk result (out.new.items ≡ out.old.items ++ job_retain retain.now) }
+    ensures lawful { OnOk result (RetainFits retain.now) }
+{
+    match retain {
+        JobRetain::Default => out.push(0)?,
+        JobRetain::Always => out.push(1)?,
+        JobRetain::Failed => out.push(2)?,
+        JobRetain::Until(moment) => {
+            out.push(3)?;
+            put_moment(out, *moment)?;
+        }
+    }
+    Ok(())
+}
+
+/// Reads how a job is kept.
+#[tactic(auto, unfolding(crate::specs::Reading::job_retain_at))]
+pub(crate) fn read_job_retain(bytes: &mut &[u8]) -> Result<JobRetain, FieldFault>
+    ensures { Gives result bytes.new.now (job_retain_at bytes.old.now) }
+{
+    match read_byte(bytes, 0, 3)? {
+        0 => Ok(JobRetain::Default),
+        1 => Ok(JobRetain::Always),
+        2 => Ok(JobRetain::Failed),
+        _ => {
+            let moment = read_moment(bytes)?;
+            Ok(JobRetain::Until(moment))
+        }
+    }
+}
+
+/// Appends a name or a number.
+pub(crate) fn put_name_or_number(out: &mut Vec<u8>, wanted: &NameOrNumber) -> Result<(), AllocError>
+    ensures ok { OnOk result (out.new.items ≡ out.old.items ++ name_or_number wanted.now) }
+    ensures lawful { OnOk result (NameOrNumberFits wanted.now) }
+{
+    match wanted {
+        NameOrNumber::Name(name) => {
+            out.push(0)?;
+            put_name(out, name)
+        }
+        NameOrNumber::Number(number) => {
+            out.push(1)?;
+            put_number(out, Width::Two, u64::from(*number))
+        }
+    }
+}
+
+/// Reads a name or a number.
+#[tactic(auto, unfolding(crate::specs::Reading::name_or_number_at))]
+pub(crate) fn read_name_or_number(bytes: &mut &[u8]) -> Result<NameOrNumber, FieldFault>
+    ensures { Gives result bytes.new.now (name_or_number_at bytes.old.now) }
+{
+    if read_byte(bytes, 0, 1)? == 0 {
+        let name = read_name(bytes)?;
+        return Ok(NameOrNumber::Name(name));
+    }
+    let number = read_number(bytes, Width::Two)?;
+    Ok(NameOrNumber::Number(number as u16))
+}
+
+/// Appends a node.
+pub(crate) fn put_node(out: &mut Vec<u8>, on: &Node) -> Result<(), AllocError>
+    ensures ok { OnOk result (out.new.items ≡ out.old.items ++ node_text on.now) }
+    ensures lawful { OnOk result (NodeFits on.now) }
+{
+    put_name(out, &on.name)?;
+    put_truth(out, on.up)
+}
+
+/// Reads a node.
+#[tactic(auto, unfolding(crate::specs::Reading::node_at))]
+pub(crate) fn read_node(bytes: &mut &[u8]) -> Result<Node, FieldFault>
+    ensures { Gives result bytes.new.now (node_at bytes.old.now) }
+{
+    let name = read_name(bytes)?;
+    let up = read_truth(bytes)?;
+    Ok(Node { name, up })
+}
+
+/// Appends a shape.
+pub(crate) fn put_shape(out: &mut Vec<u8>, shape: &Shape) -> Result<(), AllocError>
+    ensures ok { OnOk result (out.new.items ≡ out.old.items ++ shape_text shape.now) }
+    ensures lawful { OnOk result (ShapeFits shape.now) }
+{
+    out.push(shape.length)?;
+    out.push(shape.width)?;
+    out.push(shape.top)?;
+    out.push(shape.bottom)?;
+    out.push(shape.left)?;
+    out.push(shape.right)?;
+    put_truth(out, shape.wrap)
+}
+
+/// Reads a shape.
+#[tactic(auto, unfolding(crate::specs::Reading::shape_at))]
+pub(crate) fn read_shape(bytes: &mut &[u8]) -> Result<Shape, FieldFault>
+    ensures { Gives result bytes.new.now (shape_at bytes.old.now) }
+{
+    let length = read_byte(bytes, 0, 255)?;
+    let width = read_byte(bytes, 0, 255)?;
+    let top = read_byte(bytes, 0, 255)?;
+    let bottom = read_byte(bytes, 0, 255)?;
+    let left = read_byte(bytes, 0, 255)?;
+    let right = read_byte(bytes, 0, 255)?;
+    let wrap = read_truth(bytes)?;
+    Ok(Shape {
+        length,
+        width,
+        top,
+        bottom,
+        left,
+        right,
+        wrap,
+    })
+}

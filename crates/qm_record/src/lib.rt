@@ -1,0 +1,18 @@
+//! The records of a queue file as bytes: each record has one spelling, which is written, and nothing else is read.
+#![tactic(auto)]
+
+mod element;
+mod fault;
+mod field;
+mod reading;
+mod record;
+mod request;
+mod row;
+#[cfg(test)]
+mod tests;
+mod writing;
+
+pub use fault::RecordFault;
+pub use reading::{no_record_begins_another, read_record};
+pub use record::{Body, Record};
+pub use writing::write_record;

@@ -1,0 +1,30 @@
+use qm_kinds::{Characteristic, Entry, File, Form, Moment, Name, Node, Queue, Request, Seq};
+
+/// A record of a queue file: a request that was accepted, or a row of an image.
+#[derive(Debug, Drop, PartialEq, Eq)]
+pub struct Record {
+    /// The moment at which the request acted. A row has the base of the system time.
+    pub moment: Moment,
+    /// The place in the cluster of the node that asked, counted from 0. A row has 0.
+    pub node: u8,
+    pub body: Body,
+}
+
+/// What a record says.
+#[derive(Debug, Drop, PartialEq, Eq)]
+pub enum Body {
+    Ask(Request),
+    /// The first row of an image: what the system has once.
+    Head {
+        nodes: Seq<Node>,
+        may: Seq<Name>,
+        next_entry: u32,
+        next_run: u64,
+        last: Moment,
+    },
+    Form(Form),
+    Characteristic(Characteristic),
+    File(File),
+    Queue(Queue),
+    Entry(Entry),
+}

@@ -1,0 +1,187 @@
+// The rows of an image.
+ghost use Rattle.std.specs.Prelude.{◌≡◌, ◌<◌, ◌^◌, ◌++◌, ℕ, List, length, OnOk};
+ghost use Rattle.qm_bytes.specs.Spelling.{fields, list, short_bytes, low_first, moment, IsList, IsName, IsMoment};
+ghost use Rattle.qm_bytes.specs.Reading.{Gives};
+ghost use Rattle.qm_record.specs.Spelling.{form as form_text, queue as queue_text, queue_kind_code, queue_state_code, queue_retain_code, FormFits, QueueFits};
+ghost use Rattle.qm_record.specs.Reading.{form_at, queue_at, queue_kind_at, queue_state_at, queue_retain_at, head_at};
+
+use crate::element::{put_list, read_list};
+use crate::field::{put_shape, read_shape};
+use crate::record::Body;
+use qm_bytes::{
+    FieldFault, Width, put_name, put_number, put_optional_name, put_set, put_truth, read_byte,
+    read_moment, read_name, read_number, read_optional_name, read_set, read_truth,
+};
+use qm_kinds::{Form, Queue, QueueKind, QueueRetain, QueueState};
+use std::alloc::{AllocError, Global};
+
+/// Reads the first row of an image.
+#[tactic(auto, unfolding(crate::specs::Reading::head_at))]
+pub(crate) fn read_head(alloc: Global, bytes: &mut &[u8]) -> Result<Body, FieldFault>
+    ensures { Gives result bytes.new.now (head_at bytes.old.now) }
+{
+    let nodes = read_list(alloc, bytes)?;
+    let may = read_list(alloc, bytes)?;
+    let next_entry = read_number(bytes, Width::Four)?;
+    let next_run = read_number(bytes, Width::Eight)?;
+    let last = read_moment(bytes)?;
+    Ok(Body::Head {
+        nodes,
+        may,
+        next_entry: next_entry as u32,
+        next_run,
+        last,
+    })
+}
+
+/// Appends a form.
+pub(crate) fn put_form(out: &mut Vec<u8>, form: &Form) -> Result<(), AllocError>
+    ensures ok { OnOk result (out.new.items ≡ out.old.items ++ form_text form.now) }
+    ensures lawful { OnOk result (FormFits form.now) }
+{
+    put_name(out, &form.name)?;
+    put_number(out, Width::Two, u64::from(form.number))?;
+    put_name(out, &form.stock)?;
+    put_shape(out, &form.shape)
+}
+
+/// Reads a form.
+#[tactic(auto, unfolding(crate::specs::Reading::form_at))]
+pub(crate) fn read_form(bytes: &mut &[u8]) -> Result<Form, FieldFault>
+    ensures { Gives result bytes.new.now (form_at bytes.old.now) }
+{
+    let name = read_name(bytes)?;
+    let number = read_number(bytes, Width::Two)?;
+    let stock = read_name(bytes)?;
+    let shape = read_shape(bytes)?;
+    Ok(Form {
+        name,
+        number: number as u16,
+        stock,
+        shape,
+    })
+}
+
+fn queue_kind_code(kind: QueueKind) -> u8
+    ensures { result ≡ queue_kind_code kind }
+{
+    match kind {
+        QueueKind::Batch => 1,
+        QueueKind::Print => 2,
+        QueueKind::GenericBatch => 3,
+        QueueKind::GenericPrint => 4,
+    }
+}
+
+#[tactic(auto, unfolding(crate::specs::Reading::queue_kind_at))]
+fn read_queue_kind(bytes: &mut &[u8]) -> Result<QueueKind, FieldFault>
+    ensures { Gives result bytes.new.now (queue_kind_at bytes.old.now) }
+{
+    match read_byte(bytes, 1, 4)? {
+        1 => Ok(QueueKind::Batch),
+        2 => Ok(QueueKind::Print),
+        3 => Ok(QueueKind::GenericBatch),
+        _ => Ok(QueueKind::GenericPrint),
+    }
+}
+
+fn queue_state_code(state: QueueState) -> u8
+    ensures { result ≡ queue_state_code state }
+{
+    match state {
+        QueueState::Stopped => 1,
+        QueueState::Started => 2,
+        QueueState::Paused => 3,
+        QueueState::Stopping => 4,
+    }
+}
+
+#[tactic(auto, unfolding(crate::specs::Reading::queue_state_at))]
+fn read_queue_state(bytes: &mut &[u8]) -> Result<QueueState, FieldFault>
+    ensures { Gives result bytes.new.now (queue_state_at bytes.old.now) }
+{
+    match read_byte(bytes, 1, 4)? {
+        1 => Ok(QueueState::Stopped),
+        2 => Ok(QueueState::Started),
+        3 => Ok(QueueState::Paused),
+        _ => Ok(QueueState::Stopping),
+    }
+}
+
+fn queue_retain_code(retain: QueueRetain) -> u8
+    ensures { result ≡ queue_retain_code retain }
+{
+    match retain {
+        QueueRetain::Nothing => 0,
+        QueueRetain::Failed => 1,
+        QueueRetain::All => 2,
+    }
+}
+
+#[tactic(auto, unfolding(crate::specs::Reading::queue_retain_at))]
+fn read_queue_retain(bytes: &mut &[u8]) -> Result<QueueRetain, FieldFault>
+    ensures { Gives result bytes.new.now (queue_retain_at bytes.old.now) }
+{
+    match read_byte(bytes, 0, 2)? {
+        0 => Ok(QueueRetain::Nothing),
+        1 => Ok(QueueRetain::Failed),
+        _ => Ok(QueueRetain::All),
+    }
+}
+
+/// Appends a queue.
+pub(crate) fn put_queue(out: &mut Vec<u8>, queue: &Queue) -> Result<(), AllocError>
+    requires { length queue.now.targets < 2 ^ 16 }
+    ensures ok { OnOk result (out.new.items ≡ out.old.items ++ queue_text queue.now) }
+    ensures lawful { OnOk result (QueueFits queue.now) }
+{
+    put_name(out, &queue.name)?;
+    out.push(queue_kind_code(queue.kind))?;
+    out.push(queue_state_code(queue.state))?;
+    put_optional_name(out, &queue.node)?;
+    put_optional_name(out, &queue.device)?;
+    out.push(queue.limit)?;
+    put_set(out, queue.characteristics)?;
+    put_optional_name(out, &queue.mounted)?;
+    put_number(out, Width::Four, u64::from(queue.lower))?;
+    put_number(out, Width::Four, u64::from(queue.upper))?;
+    put_truth(out, queue.by_size)?;
+    out.push(queue_retain_code(queue.retain))?;
+    put_list(out, &queue.targets)?;
+    Ok(())
+}
+
+/// Reads a queue.
+#[tactic(auto, unfolding(crate::specs::Reading::queue_at))]
+pub(crate) fn read_queue(alloc: Global, bytes: &mut &[u8]) -> Result<Queue, FieldFault>
+    ensures { Gives result bytes.new.now (queue_at bytes.old.now) }
+{
+    let name = read_name(bytes)?;
+    let kind = read_queue_kind(bytes)?;
+    let state = read_queue_state(bytes)?;
+    let node = read_optional_name(bytes)?;
+    let device = read_optional_name(bytes)?;
+    let limit = read_byte(bytes, 0, 255)?;
+    let characteristics = read_set(bytes)?;
+    let mounted = read_optional_name(bytes)?;
+    let lower = read_number(bytes, Width::Four)?;
+    let upper = read_number(bytes, Width::Four)?;
+    let by_size = read_truth(bytes)?;
+    let retain = read_queue_retain(bytes)?;
+    let targets = read_list(alloc, bytes)?;
+    Ok(Queue {
+        name,
+        kind,
+        state,
+        node,
+        device,
+        limit,
+        characteristics,
+        mounted,
+        lower: lower as u32,
+        upper: upper as u32,
+        by_size,
+        retain,
+        targets,
+    })
+}
