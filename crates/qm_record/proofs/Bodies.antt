@@ -15,8 +15,8 @@ use Rattle.qm_bytes.specs.Laws.{Spells, IsReader}
 use Rattle.qm_bytes.specs.Spelling.{low_first, fields, byte, truth, optional, list, short_bytes, long_bytes, file_name, moment}
 use Rattle.qm_bytes.proofs.Readers.{made, after, last, said}
 use Rattle.qm_bytes.proofs.Fields.{truth_reader, optional_reader, list_reader, name_reader, file_name_reader, long_bytes_reader, moment_reader}
-use Rattle.qm_record.specs.declared.record.Body.{Body}
-use Rattle.qm_record.specs.declared.record.Body.TheVariants as body
+use Rattle.qm_kinds.specs.declared.record.Body.{Body}
+use Rattle.qm_kinds.specs.declared.record.Body.TheVariants as body
 use Rattle.qm_record.specs.Spelling.{job_kind_code, job_retain, name_or_number, number_of_request, number_of, body_text, RequestFits, BodyFits}
 use Rattle.qm_record.specs.Reading.{append_at, submit_at, head_at, form_at, queue_at, body_at, is_number}
 use Rattle.qm_record.proofs.Codes.{job_kind_reader}

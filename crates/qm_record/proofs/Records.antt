@@ -7,8 +7,8 @@ use Rattle.qm_bytes.specs.Laws.{Spells, IsReader}
 use Rattle.qm_bytes.specs.Spelling.{low_first, moment}
 use Rattle.qm_bytes.proofs.Readers.{after, last, said, byte_reader, same_value, same_rest, found}
 use Rattle.qm_bytes.proofs.Fields.{lies_between, passes_between, number_up_to_reader}
-use Rattle.qm_record.specs.declared.record.Record.{Record}
-use Rattle.qm_record.specs.declared.record.Body.{Body}
+use Rattle.qm_kinds.specs.declared.record.Record.{Record}
+use Rattle.qm_kinds.specs.declared.record.Body.{Body}
 use Rattle.qm_record.specs.declared.fault.RecordFault.{RecordFault}
 use Rattle.qm_record.specs.declared.fault.RecordFault.TheVariants.{Bad}
 use Rattle.qm_record.specs.Spelling.{number_of, body_text, record_text, HasSpelling, is_row}

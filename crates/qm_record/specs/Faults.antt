@@ -1,6 +1,6 @@
 -- What reading a record tells.
 use Rattle.std.specs.Prelude.{◌≡◌, ℕ, ◌+◌, ◌<◌, ◌≤◌, List, ◌++◌, length, take, Result, Ok, Err}
-use Rattle.qm_record.specs.declared.record.Record.{Record}
+use Rattle.qm_kinds.specs.declared.record.Record.{Record}
 use Rattle.qm_record.specs.declared.fault.RecordFault.{RecordFault}
 use Rattle.qm_record.specs.declared.fault.RecordFault.TheVariants.{Bad, NoMemory}
 use Rattle.qm_record.specs.Spelling.{HasSpelling, record_text}

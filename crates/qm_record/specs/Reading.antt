@@ -20,9 +20,9 @@ use Rattle.qm_kinds.specs.declared.system.Node.{Node}
 use Rattle.qm_bytes.specs.declared.fault.FieldFault.{FieldFault}
 use Rattle.qm_bytes.specs.Reading.{Fails, Reader, ◌>>=◌, pure, byte_where, between, number_at, number_up_to, truth_at, optional_at, list_at, name_at, file_name_at, long_bytes_at, set_at, moment_at}
 use Rattle.qm_record.specs.Spelling.{is_row}
-use Rattle.qm_record.specs.declared.record.Record.{Record}
-use Rattle.qm_record.specs.declared.record.Body.{Body}
-use Rattle.qm_record.specs.declared.record.Body.TheVariants as body
+use Rattle.qm_kinds.specs.declared.record.Record.{Record}
+use Rattle.qm_kinds.specs.declared.record.Body.{Body}
+use Rattle.qm_kinds.specs.declared.record.Body.TheVariants as body
 
 abbrev pub byte_at : Reader ℕ
 byte_at = byte_where (between 0 255)

@@ -19,9 +19,9 @@ use Rattle.qm_kinds.specs.declared.form.Form.{Form}
 use Rattle.qm_kinds.specs.declared.form.Shape.{Shape}
 use Rattle.qm_kinds.specs.declared.system.Node.{Node}
 use Rattle.qm_bytes.specs.Spelling.{low_first, fields, byte, truth, optional, list, long_bytes, short_bytes, file_name, set, moment, IsName, IsMoment, AreLongBytes, IsFileName, IsSet, IsList, AllOf}
-use Rattle.qm_record.specs.declared.record.Record.{Record}
-use Rattle.qm_record.specs.declared.record.Body.{Body}
-use Rattle.qm_record.specs.declared.record.Body.TheVariants as body
+use Rattle.qm_kinds.specs.declared.record.Record.{Record}
+use Rattle.qm_kinds.specs.declared.record.Body.{Body}
+use Rattle.qm_kinds.specs.declared.record.Body.TheVariants as body
 
 -- ---- codes
 

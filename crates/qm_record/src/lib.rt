@@ -5,7 +5,6 @@ mod element;
 mod fault;
 mod field;
 mod reading;
-mod record;
 mod request;
 mod row;
 #[cfg(test)]
@@ -14,5 +13,4 @@ mod writing;
 
 pub use fault::RecordFault;
 pub use reading::{no_record_begins_another, read_record};
-pub use record::{Body, Record};
 pub use writing::write_record;

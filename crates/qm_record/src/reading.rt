@@ -1,17 +1,16 @@
 ghost use Rattle.std.specs.Prelude.{◌≡◌, ◌++◌, [], true, ℕ, List, IfOk, IsErrOf};
 ghost use Rattle.qm_bytes.specs.Reading.{Gives, byte_where};
 ghost use Rattle.qm_bytes.specs.Laws.{Spells};
-ghost use Rattle.qm_record.specs.declared.record.Record.{Record as AnyRecord};
+ghost use Rattle.qm_kinds.specs.declared.record.Record.{Record as AnyRecord};
 ghost use Rattle.qm_record.specs.Spelling.{is_row, record_text, HasSpelling};
 ghost use Rattle.qm_record.specs.Reading.{is_number, body_at, record_at, whole_at, TellsWhole, last_moment, last_node};
 ghost use Rattle.qm_record.specs.Faults.{IsRead, IsFirstFault};
 
 use crate::fault::RecordFault;
-use crate::record::{Body, Record};
 use crate::request::{read_append, read_submit};
 use crate::row::{read_form, read_head, read_queue};
 use qm_bytes::{FieldFault, Width, read_byte, read_number_up_to};
-use qm_kinds::{Moment, Request};
+use qm_kinds::{Body, Moment, Record, Request};
 use std::alloc::Global;
 
 // The last moment of all.

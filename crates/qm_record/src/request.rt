@@ -6,12 +6,11 @@ ghost use Rattle.qm_record.specs.Reading.{append_at, submit_at};
 
 use crate::element::{put_list, put_optional, read_list, read_optional};
 use crate::field::{job_kind_code, put_job_retain, read_job_kind, read_job_retain};
-use crate::record::Body;
 use qm_bytes::{
     FieldFault, put_file_name, put_long_bytes, put_name, put_optional_moment, put_truth, read_byte,
     read_file_name, read_long_bytes, read_name, read_optional_moment, read_truth,
 };
-use qm_kinds::Request;
+use qm_kinds::{Body, Request};
 use std::alloc::{AllocError, Global};
 
 /// Appends the fields of a request.

@@ -7,12 +7,11 @@ ghost use Rattle.qm_record.specs.Reading.{form_at, queue_at, queue_kind_at, queu
 
 use crate::element::{put_list, read_list};
 use crate::field::{put_shape, read_shape};
-use crate::record::Body;
 use qm_bytes::{
     FieldFault, Width, put_name, put_number, put_optional_name, put_set, put_truth, read_byte,
     read_moment, read_name, read_number, read_optional_name, read_set, read_truth,
 };
-use qm_kinds::{Form, Queue, QueueKind, QueueRetain, QueueState};
+use qm_kinds::{Body, Form, Queue, QueueKind, QueueRetain, QueueState};
 use std::alloc::{AllocError, Global};
 
 /// Reads the first row of an image.

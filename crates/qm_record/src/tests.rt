@@ -3,8 +3,8 @@ ghost use Rattle.qm_record.specs.Spelling.{CanBeWritten};
 
 use super::*;
 use qm_kinds::{
-    CharacteristicSet, FileName, Form, JobKind, JobRetain, Moment, Name, NameOrNumber, Node, Queue,
-    QueueKind, QueueRetain, QueueState, Request, Seq, Shape,
+    Body, CharacteristicSet, FileName, Form, JobKind, JobRetain, Moment, Name, NameOrNumber, Node,
+    Queue, QueueKind, QueueRetain, QueueState, Record, Request, Seq, Shape,
 };
 use std::alloc::Global;
 use std::process::Abort;

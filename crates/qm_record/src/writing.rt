@@ -3,11 +3,10 @@ ghost use Rattle.qm_bytes.specs.Laws.{Spells};
 ghost use Rattle.qm_record.specs.Spelling.{number_of_request, number_of, body_text, record_text, BodyFits, IsShortBody, CanBeWritten, HasSpelling};
 
 use crate::element::put_list;
-use crate::record::{Body, Record};
 use crate::request::put_request;
 use crate::row::{put_form, put_queue};
 use qm_bytes::{Width, put_moment, put_number};
-use qm_kinds::Request;
+use qm_kinds::{Body, Record, Request};
 use std::alloc::{AllocError, Global};
 
 // The number of a request.

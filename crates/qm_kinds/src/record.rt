@@ -1,7 +1,15 @@
-use qm_kinds::{Characteristic, Entry, File, Form, Moment, Name, Node, Queue, Request, Seq};
+use crate::entry::Entry;
+use crate::file::File;
+use crate::form::{Characteristic, Form};
+use crate::moment::Moment;
+use crate::name::Name;
+use crate::queue::Queue;
+use crate::request::Request;
+use crate::seq::Seq;
+use crate::system::Node;
 
 /// A record of a queue file: a request that was accepted, or a row of an image.
-#[derive(Debug, Drop, PartialEq, Eq)]
+#[derive(Debug, Drop, PartialEq, Eq, Clone)]
 pub struct Record {
     /// The moment at which the request acted. A row has the base of the system time.
     pub moment: Moment,
@@ -11,7 +19,7 @@ pub struct Record {
 }
 
 /// What a record says.
-#[derive(Debug, Drop, PartialEq, Eq)]
+#[derive(Debug, Drop, PartialEq, Eq, Clone)]
 pub enum Body {
     Ask(Request),
     /// The first row of an image: what the system has once.
