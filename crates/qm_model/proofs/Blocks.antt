@@ -7,9 +7,9 @@ use Rattle.qm_kinds.specs.declared.entry.JobKind.TheVariants.{Batch, Print}
 use Rattle.qm_kinds.specs.declared.form.Shape.{Shape}
 use Rattle.qm_model.specs.First.{first_form}
 use Rattle.qm_model.specs.Filing.{filling}
-use Rattle.qm_model.specs.Work.{Work, Place, Mark, Done, Step, Handed, Reported}
+use Rattle.qm_model.specs.Work.{Work, Place, Report, Mark, Done, Step, Handed, Reported}
 use Rattle.qm_model.specs.Pages.{page_blocks}
-use Rattle.qm_model.specs.Reports.{begin, course, reports}
+use Rattle.qm_model.specs.Reports.{begin, course, reports, next_report, blocks_before_report}
 
 -- one copy of a text on a form
 abbrev printing : Shape → List ℕ → Work
@@ -80,6 +80,100 @@ marks = refl
 
 pub behind_the_last_block : course (two_pages (codes "2")) (begin (two_pages (codes "2"))) ≡ Reported (Done 1) ∷ []
 behind_the_last_block = refl
+
+-- a mark that says so many blocks, and where the run goes on
+abbrev pub counted : List ℕ → ℕ → Report
+counted text blocks = Mark text (record { at = blocks; used = 0 })
+
+-- the rest of a print run: its steps, and its reports
+abbrev printed_from : Work → List Step
+printed_from w = course w (begin w)
+
+abbrev reported_from : Work → List Report
+reported_from w = reports w (begin w)
+
+-- 16 lines fill no page, and 72 lines fill more than one
+pub short_text_has_no_mark : reported_from (printing first_form.shape (filling 16)) ≡ Done 1 ∷ []
+short_text_has_no_mark = refl
+
+pub longer_text_has_a_mark : reported_from (printing first_form.shape (filling 72)) ≡ counted (codes "1") 1 ∷ Done 1 ∷ []
+unfolding digits
+longer_text_has_a_mark = refl
+
+-- 420 lines on the form DEFAULT, after a mark
+abbrev long : List ℕ → Work
+long mark = record (printing first_form.shape (filling 420)) { mark = mark }
+
+-- 60 lines of 63 letters x, and a form feed
+abbrev pub full_page : List ℕ
+full_page = filling 60 ++ 12 ∷ []
+
+pub seven_blocks_are_counted : reported_from (long [])
+    ≡ counted (codes "1") 1 ∷ counted (codes "2") 2 ∷ counted (codes "3") 3 ∷ counted (codes "4") 4 ∷ counted (codes "5") 5 ∷ counted (codes "6") 6 ∷ Done 1 ∷ []
+unfolding digits
+seven_blocks_are_counted = refl
+
+-- a job that restarts behind its third block hands over the other four, the last one in the step that ends the run
+pub four_blocks_are_left : printed_from (long (codes "3"))
+    ≡ Handed full_page ∷ Reported (counted (codes "4") 4)
+    ∷ Handed full_page ∷ Reported (counted (codes "5") 5)
+    ∷ Handed full_page ∷ Reported (counted (codes "6") 6)
+    ∷ Handed full_page ∷ Reported (Done 1)
+    ∷ []
+unfolding digits
+four_blocks_are_left = refl
+
+-- pages of one line each, so that each block tells which line it is
+abbrev one_line_each : List ℕ → List ℕ → Work
+one_line_each letters mark = record
+    (printing (record { length = 3; width = 8; top = 1; bottom = 1; left = 0; right = 0; wrap = false }) (flat_map (λ letter. letter ∷ 10 ∷ []) letters))
+    { mark = mark }
+
+pub fourth_to_seventh : printed_from (one_line_each (codes "ABCDEFG") (codes "3"))
+    ≡ Handed (10 ∷ codes "D" ++ 10 ∷ 12 ∷ []) ∷ Reported (counted (codes "4") 4)
+    ∷ Handed (10 ∷ codes "E" ++ 10 ∷ 12 ∷ []) ∷ Reported (counted (codes "5") 5)
+    ∷ Handed (10 ∷ codes "F" ++ 10 ∷ 12 ∷ []) ∷ Reported (counted (codes "6") 6)
+    ∷ Handed (10 ∷ codes "G" ++ 10 ∷ 12 ∷ []) ∷ Reported (Done 1)
+    ∷ []
+unfolding digits
+fourth_to_seventh = refl
+
+-- the step behind the sixth mark hands over the seventh block and ends the run
+pub last_step_hands_over : blocks_before_report (course (one_line_each (codes "ABCDEFG") []) (record { at = 6; used = 0 })) ≡ (10 ∷ codes "G" ++ 10 ∷ 12 ∷ []) ∷ []
+last_step_hands_over = refl
+
+pub last_step_ends : next_report (course (one_line_each (codes "ABCDEFG") []) (record { at = 6; used = 0 })) ≡ Done 1
+unfolding digits
+last_step_ends = refl
+
+-- a mark is a number in decimal, also of more than one digit
+pub tenth_mark : reported_from (one_line_each (codes "ABCDEFGHIJKL") (codes "9")) ≡ counted (codes "10") 10 ∷ counted (codes "11") 11 ∷ Done 1 ∷ []
+unfolding digits
+tenth_mark = refl
+
+-- two copies of 100 lines on pages of 56, with two lines free at the top
+abbrev letter : Work
+letter = record (printing (record { length = 60; width = 132; top = 2; bottom = 2; left = 0; right = 0; wrap = false }) (filling 100)) { copies = 2 }
+
+abbrev pub letter_page : ℕ → List ℕ
+letter_page lines = 10 ∷ 10 ∷ filling lines ++ 12 ∷ []
+
+pub four_blocks : printed_from letter
+    ≡ Handed (letter_page 56) ∷ Reported (counted (codes "1") 1)
+    ∷ Handed (letter_page 44) ∷ Reported (counted (codes "2") 2)
+    ∷ Handed (letter_page 56) ∷ Reported (counted (codes "3") 3)
+    ∷ Handed (letter_page 44) ∷ Reported (Done 1)
+    ∷ []
+unfolding digits
+four_blocks = refl
+
+-- the flag page is a block like others, and isn't printed again
+pub flag_page_counts : printed_from (record (one_line_each (codes "AB") (codes "1")) { flag = true })
+    ≡ Handed (10 ∷ codes "A" ++ 10 ∷ 12 ∷ []) ∷ Reported (counted (codes "2") 2)
+    ∷ Handed (10 ∷ codes "B" ++ 10 ∷ 12 ∷ []) ∷ Reported (Done 1)
+    ∷ []
+unfolding digits
+flag_page_counts = refl
 
 -- a batch job of these lines, run again with a mark or for the first time
 abbrev batch : List (List ℕ) → Bool → List ℕ → Work

@@ -97,7 +97,7 @@ pub deleted_job_keeps_its_place : answers (first_system (codes "A")) (first_asks
 deleted_job_keeps_its_place = refl
 
 -- a site of two nodes
-abbrev two_nodes : System
+abbrev pub two_nodes : System
 two_nodes = record (first_system (codes "A")) {
   nodes = record { name = codes "A"; up = true } ∷ record { name = codes "B"; up = true } ∷ [];
   may = codes "A" ∷ codes "B" ∷ [];
@@ -119,7 +119,7 @@ jobs_on_A = first_asks
     ∷ DeleteEntry 3
     ∷ [])
 
-abbrev B_takes_over : Ask
+abbrev pub B_takes_over : Ask
 B_takes_over = record { now = 0; node = 1; request = Took 2 (codes "A" ∷ []) (codes "B" ∷ []) (codes "A" ∷ codes "B" ∷ []) }
 
 -- when A is lost, the first goes on at B, the second ends, and the third is gone

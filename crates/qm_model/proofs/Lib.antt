@@ -5,6 +5,10 @@ pub mod Starts
 pub mod Ends
 pub mod Blocks
 pub mod Listings
+pub mod Queries
+pub mod Scans
+pub mod Restarts
+pub mod Duties
 pub mod SettlingLemmas
 pub mod QuietLemmas
 pub mod MovingLemmas
@@ -28,3 +32,6 @@ pub mod ReportLemmas
 pub mod Refusals
 pub mod RefusedRequests
 pub mod StandingLemmas
+pub mod ChoiceLemmas
+pub mod StartedLemmas
+pub mod MarkLemmas

@@ -33,12 +33,12 @@ label (row.Form f) = f.name
 label (row.Characteristic c) = c.name
 label (row.Manager node epoch may) = node
 
-abbrev labels : Result (List Row) Refusal → Result (List (List ℕ)) Refusal
+abbrev pub labels : Result (List Row) Refusal → Result (List (List ℕ)) Refusal
 labels (Ok rows) = Ok (map label rows)
 labels (Err refusal) = Err refusal
 
 -- all rows of a listing whose names match, or the one behind a row
-abbrev asking : Listing → List ℕ → Bool → Option After → Query
+abbrev pub asking : Listing → List ℕ → Bool → Option After → Query
 asking what pattern single last = record { listing = what; pattern = pattern; number = None; user = None; kinds = record { batch = true; print = true; generic_batch = true; generic_print = true }; queue = None; after = last; single = single }
 
 abbrev four_queues : List Request
@@ -79,7 +79,7 @@ pub jobs_need_a_queue : view with_four_queues None (asking listing.Jobs (codes "
 jobs_need_a_queue = refl
 
 -- A small site of two nodes: forms on white and yellow paper, a print queue on each node, and a generic queue.
-abbrev site : System
+abbrev pub site : System
 site = record (first_system (codes "PLUTO")) {
   nodes = record { name = codes "PLUTO"; up = true } ∷ record { name = codes "MARS"; up = true } ∷ [];
   may = codes "PLUTO" ∷ codes "MARS" ∷ [];
@@ -92,7 +92,7 @@ abbrev report_job : List ℕ → List ℕ → List NameOrNumber → ℕ → Requ
 report_job user form characteristics copies =
     Submit user job.Print (codes "SYS$PRINT") (listing_file (codes "REPORT")) (codes "REPORT") 100 None false Default true characteristics (Some (Name form)) copies false
 
-abbrev day : List Ask
+abbrev pub day : List Ask
 day = first_asks
     (DefineForm (codes "LETTER") 1 (codes "WHITE") (record { length = 60; width = 132; top = 2; bottom = 2; left = 0; right = 0; wrap = false })
     ∷ DefineForm (codes "INVOICE") 2 (codes "YELLOW") (record { length = 66; width = 80; top = 0; bottom = 6; left = 0; right = 0; wrap = true })

@@ -39,7 +39,7 @@ drop_after (suc n) (x ∷ xs) y ys h = drop_after n xs y ys h
 one_more : (n : ℕ) → suc n ≡ n + 1
 one_more n = omega arith
 
-drop_next : {X : Type 0} (n : ℕ) (xs : List X) (y : X) (ys : List X) → drop n xs ≡ y ∷ ys → drop (n + 1) xs ≡ ys
+pub drop_next : {X : Type 0} (n : ℕ) (xs : List X) (y : X) (ys : List X) → drop n xs ≡ y ∷ ys → drop (n + 1) xs ≡ ys
 drop_next n xs y ys h = subst (λ m. drop m xs ≡ ys) (one_more n) (drop_after n xs y ys h)
 
 last_count : (n m : ℕ) → m - n ≡ 1 → nat_lt (n + 1) m ≡ false
@@ -49,16 +49,16 @@ inner_count : (n m more : ℕ) → m - n ≡ suc (suc more) → nat_lt (n + 1) m
 inner_count n m more h = grind (arith, nat_tests)
 
 -- where a list is cut so that one element or more are left
-one_left : {X : Type 0} (n : ℕ) (xs : List X) (y : X) → drop n xs ≡ y ∷ [] → nat_lt (n + 1) (length xs) ≡ false
+pub one_left : {X : Type 0} (n : ℕ) (xs : List X) (y : X) → drop n xs ≡ y ∷ [] → nat_lt (n + 1) (length xs) ≡ false
 one_left n xs y h = last_count n (length xs) (sym (length-drop n xs) ∙ ap length h)
 
-more_left : {X : Type 0} (n : ℕ) (xs : List X) (y z : X) (ys : List X) → drop n xs ≡ y ∷ z ∷ ys → nat_lt (n + 1) (length xs) ≡ true
+pub more_left : {X : Type 0} (n : ℕ) (xs : List X) (y z : X) (ys : List X) → drop n xs ≡ y ∷ z ∷ ys → nat_lt (n + 1) (length xs) ≡ true
 more_left n xs y z ys h = inner_count n (length xs) (length ys) (sym (length-drop n xs) ∙ ap length h)
 
-last_report : (all used count : ℕ) → nat_lt count all ≡ false → print_report all used count ≡ Done normal_status
+pub last_report : (all used count : ℕ) → nat_lt count all ≡ false → print_report all used count ≡ Done normal_status
 last_report all used count h = ap (λ b. cond b (Mark (decimal count) (record { at = count; used = used })) (Done normal_status)) h
 
-next_mark : (all used count : ℕ) → nat_lt count all ≡ true → print_report all used count ≡ Mark (decimal count) (record { at = count; used = used })
+pub next_mark : (all used count : ℕ) → nat_lt count all ≡ true → print_report all used count ≡ Mark (decimal count) (record { at = count; used = used })
 next_mark all used count h = ap (λ b. cond b (Mark (decimal count) (record { at = count; used = used })) (Done normal_status)) h
 
 print_ends : (pages : List (List ℕ)) (used at : ℕ) (blocks : List (List ℕ)) → drop at pages ≡ blocks → EndOnce (reported (print_steps (length pages) used at blocks))

@@ -1,4 +1,7 @@
--- What a request's names and lists keep to, beside what is checked before it is accepted.
+-- What a request's names and lists keep to, beside what is checked before it is accepted. This asks only for what it takes
+-- to keep a system consistent. The other names of an accepted request were found in the system, where they keep its rules
+-- if it is consistent. What else names and lists keep to is to be judged where requests come in: that the node from which a
+-- request comes is one of the cluster, and that lists of nodes name nodes of it in the cluster's order, each once.
 -- DCL Dictionary, DEFINE/CHARACTERISTIC, DEFINE/FORM and INITIALIZE/QUEUE, on their names; OpenVMS System Manager's Manual,
 -- Managing the Queue Manager, on the nodes where it runs.
 use Rattle.std.specs.Prelude.{ℕ, ◌≡◌, ◌<◌, length, map, filter, IfSome}

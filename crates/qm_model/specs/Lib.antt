@@ -16,6 +16,8 @@ pub mod Fitting
 pub mod Before
 pub mod Free
 pub mod Settling
+pub mod Starting
+pub mod Tables
 pub mod Due
 pub mod Retaining
 pub mod Ending

@@ -84,6 +84,21 @@ GoOnAtMarks w [] = Unit {0}
 GoOnAtMarks w (Mark value next ∷ others) = (reports w next ≡ others) × GoOnAtMarks w others
 GoOnAtMarks w (Done status ∷ others) = GoOnAtMarks w others
 
+-- the work with another mark
+abbrev pub with_mark : Work → List ℕ → Work
+with_mark w value = record w { mark = value }
+
+-- a run that gets the value of a mark begins at the mark's place, and reports what stands behind the mark
+abbrev pub BeginAtMarks : Work → List Report → Type 0
+BeginAtMarks w [] = Unit {0}
+BeginAtMarks w (Mark value next ∷ others) =
+    (begin (with_mark w value) ≡ next) × (reports (with_mark w value) (begin (with_mark w value)) ≡ others) × BeginAtMarks w others
+BeginAtMarks w (Done status ∷ others) = BeginAtMarks w others
+
+-- a print job's mark behind so many blocks
+abbrev pub mark_behind : ℕ → ℕ → Report
+mark_behind used count = Mark (decimal count) (record { at = count; used = used })
+
 -- one step of a symbiont: the next report, and the blocks that are handed over before it
 abbrev pub next_report : List Step → Report
 next_report [] = Done normal_status

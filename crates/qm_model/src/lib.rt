@@ -20,7 +20,7 @@ pub use agreeing::{first_requests_agree, first_requests_leave_quiet};
 pub use listing::one_entry_is_listed;
 pub use moving::requests_move_on;
 pub use order::{fits_without_a_reason, order_is_strict_and_total};
-pub use reporting::{runs_end_once, runs_go_on_at_marks};
+pub use reporting::{print_jobs_report_each_block, runs_end_once, runs_go_on_at_marks};
 pub use settle::{
     first_jobs_are_started, requests_settle, settling_changes_entries_alone, settling_ends,
     settling_is_done_once,

@@ -1,6 +1,7 @@
 use Rattle.qm_model.specs.Settling.{settled}
-use Rattle.qm_model.proofs.SettlingLemmas.{nothing_starts, none_can_start}
+use Rattle.qm_model.proofs.SettlingLemmas.{nothing_starts}
+use Rattle.qm_model.proofs.ChoiceLemmas.{none_left}
 use Rattle.qm_model.proofs.settle.settling_ends.Goals as goal
 
 pub returns : goal.returns
-returns c s numbers = none_can_start (settled s).system (nothing_starts s) numbers
+returns c s numbers = none_left (settled s).system (nothing_starts s) numbers
