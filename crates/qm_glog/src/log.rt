@@ -63,6 +63,18 @@ impl Log {
         }
     }
 
+    /// The log with this cap for later appends.
+    pub fn with_cap(mut self, cap: u64) -> Log
+        requires { cap ≤ 268435456 }
+        ensures bodies { bodies_of result ≡ bodies_of self }
+        ensures file { file_of result ≡ file_of self }
+        ensures cap { cap_of result ≡ cap }
+        ensures spare { spare_of result ≡ spare_of self }
+    {
+        self.cap = cap;
+        self
+    }
+
     /// How many records there are.
     pub fn count(&self) -> usize
         ensures { result ≡ length (bodies_of self.now) }
