@@ -1,0 +1,5 @@
+use Rattle.qm_store.specs.Laws.{never_damaged as law}
+use Rattle.qm_store.proofs.laws.never_damaged.Goals as goal
+
+pub returns : goal.returns
+returns c = law

@@ -1,0 +1,5 @@
+use Rattle.qm_store.specs.Laws.{never_unformatted as law}
+use Rattle.qm_store.proofs.laws.never_unformatted.Goals as goal
+
+pub returns : goal.returns
+returns c = law

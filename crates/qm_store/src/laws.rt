@@ -1,0 +1,21 @@
+// Laws of what a queue file holds: what opening finds is determined by the bytes.
+ghost use Rattle.std.specs.Prelude.{◌≡◌, ℕ, List, ◌∷◌};
+ghost use Rattle.qm_disk.specs.Disk.{Image};
+ghost use Rattle.qm_store.specs.Store.{Holds};
+ghost use Rattle.qm_store.specs.Opened.{IsOpenFault};
+ghost use Rattle.qm_store.specs.declared.fault.StoreFault.TheVariants.{Unformatted, Damaged};
+
+/// A queue file has one list of records.
+pub fn one_content()
+    ensures { (image : Image) (a b : List (List ℕ)) → Holds a image → Holds b image → a ≡ b }
+{}
+
+/// A queue file with a record isn't unformatted.
+pub fn never_unformatted()
+    ensures { (image : Image) (body : List ℕ) (bodies : List (List ℕ)) (byte : ℕ) → Holds (body ∷ bodies) image → IsOpenFault (image 1) (Unformatted byte) → ⊥ }
+{}
+
+/// A queue file with records, or with none, isn't damaged.
+pub fn never_damaged()
+    ensures { (image : Image) (bodies : List (List ℕ)) (file place : ℕ) → Holds bodies image → IsOpenFault (image 1) (Damaged file place) → ⊥ }
+{}

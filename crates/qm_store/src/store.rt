@@ -1,0 +1,140 @@
+// A store and its calls on records.
+ghost use Rattle.std.specs.Prelude.{◌≡◌};
+ghost use Rattle.qm_glog.specs.Log.{file_of};
+
+use crate::StoreFault;
+use qm_disk::Disk;
+use qm_glog::Log;
+use qm_kinds::Record;
+use qm_record::{RecordFault, read_record};
+use std::alloc::{AllocError, Global};
+
+/// The file of a device that holds the queues' records.
+pub const QUEUE_FILE: u8 = 1;
+
+/// The greatest size of the queue file, in bytes.
+pub const QUEUE_CAP: u64 = 134_217_728;
+
+/// An open queue file of a device, which it owns.
+#[derive(Drop)]
+pub struct Open<D> {
+    alloc: Global,
+    disk: D,
+    log: Log,
+    ghost in_queue_file: { file_of log ≡ 1 },
+}
+
+impl<D: Disk> Open<D> {
+    ghost use Rattle.std.specs.Prelude.{◌≡◌, ◌⊎◌, ◌+◌, ◌<◌, ◌≤◌, ◌↔◌, ℕ, List, [], ◌∷◌, ◌++◌, IsTrue, length, IfOk, IfErr, OnOk, OnErr, IsErrOf, slice_get, Some};
+    ghost use Rattle.qm_disk.specs.Disk.{KeepsOthers, LeavesOnly, Rose};
+    ghost use Rattle.qm_glog.specs.Log.{file_of, need_of, bodies_of as bodies_in, cap_of as cap_in, spare_of as spare_in};
+    ghost use Rattle.qm_bytes.specs.Laws.{Spells};
+    ghost use Rattle.qm_kinds.specs.declared.record.Record.{Record as AnyRecord};
+    ghost use Rattle.qm_record.specs.Spelling.{record_text, HasSpelling};
+    ghost use Rattle.qm_record.specs.Faults.{IsRead, IsFirstFault};
+    ghost use Rattle.qm_store.specs.Store.{disk_of, bodies_of, cap_of, spare_of, place_of, IsAtRest, Appended};
+
+    // The store of this log of a device.
+    pub(crate) fn of(alloc: Global, disk: D, log: Log) -> Self
+        requires { file_of log ≡ 1 }
+        ensures disk { disk_of result ≡ disk }
+        ensures bodies { bodies_of result ≡ bodies_in log }
+        ensures cap { cap_of result ≡ cap_in log }
+        ensures spare { spare_of result ≡ spare_in log }
+    {
+        Open { alloc, disk, log }
+    }
+
+    /// How many records there are.
+    pub fn count(&self) -> usize
+        ensures { result ≡ length (bodies_of self.now) }
+    {
+        self.log.count()
+    }
+
+    /// A record; the first has index 0.
+    pub fn record(&self, index: usize) -> Result<Record, RecordFault>
+        requires { index < length (bodies_of self.now) }
+        // What is read is spelled so.
+        ensures found { (body : List ℕ) → slice_get (bodies_of self.now) index ≡ Some body → IfOk result (λ r. Spells HasSpelling record_text r body) }
+        // What is spelled so is read, unless memory runs out.
+        ensures only { (body : List ℕ) (r : AnyRecord) → slice_get (bodies_of self.now) index ≡ Some body → HasSpelling r → body ≡ record_text r → IsRead r result }
+        // A fault is the first one.
+        ensures first { (body : List ℕ) (place : ℕ) → slice_get (bodies_of self.now) index ≡ Some body → IsErrOf result (RecordFault.Bad place) → IsFirstFault body place }
+    {
+        read_record(self.alloc, self.log.record(index))
+    }
+
+    /// The body of a record; the first has index 0.
+    pub fn body(&self, index: usize) -> &[u8]
+        requires { index < length (bodies_of self.now) }
+        ensures { slice_get (bodies_of self.now) index ≡ Some result.now }
+    {
+        self.log.record(index)
+    }
+
+    /// The place of a record's gate in the queue file, in bytes. For the count it is the place where the records end.
+    pub fn place(&self, index: usize) -> u64
+        requires { index ≤ length (bodies_of self.now) }
+        ensures { result ≡ place_of (bodies_of self.now) index }
+    {
+        let end = self.log.end();
+        if index == self.log.count() {
+            return end;
+        }
+        let mut place = 0;
+        for before in 0..index {
+            place += 5 + self.log.record(before).len() as u64;
+        }
+        place
+    }
+
+    /// Makes so many bytes spare for the body of one record. An `Err` leaves what was spare.
+    pub fn reserve(&mut self, bytes: usize) -> Result<(), AllocError>
+        ensures ok { OnOk result (bytes < spare_of self.new) }
+        ensures no_less { spare_of self.old ≤ spare_of self.new }
+        ensures disk { disk_of self.new ≡ disk_of self.old }
+        ensures bodies { bodies_of self.new ≡ bodies_of self.old }
+        ensures cap { cap_of self.new ≡ cap_of self.old }
+    {
+        self.log.reserve(bytes)
+    }
+
+    /// Adds a record. At `Ok` it is acknowledged: from then on each crash leaves it. At `Full` nothing has changed.
+    /// After `Disk` the store has to be opened again.
+    pub fn append(&mut self, body: &[u8]) -> Result<(), StoreFault>
+        requires room { length body.now < spare_of self.old }
+        // No call of this store answered `Disk`.
+        requires at_rest { IsTrue D.tells → IsAtRest D.seen D.may_leave (bodies_of self.old) (disk_of self.old) }
+
+        ensures ok { OnOk result (bodies_of self.new ≡ bodies_of self.old ++ body.now ∷ []) }
+        ensures acknowledged { OnOk result (IsTrue D.tells → IsAtRest D.seen D.may_leave (bodies_of self.new) (disk_of self.new)) }
+        ensures err { OnErr result (bodies_of self.new ≡ bodies_of self.old) }
+
+        // A crash at any moment of the call leaves the old records, or these and the new one.
+        ensures any_moment { IsTrue D.tells → LeavesOnly D.moment D.left_since (disk_of self.old) (disk_of self.new)
+            (Appended (D.may_leave (disk_of self.old)) (bodies_of self.old) body.now) }
+        ensures others { KeepsOthers D.seen D.may_leave 1 (disk_of self.old) (disk_of self.new) }
+
+        ensures full { IsErrOf result (StoreFault.Full (need_of (bodies_of self.old) body.now) (cap_of self.old))
+            ↔ (cap_of self.old < need_of (bodies_of self.old) body.now) }
+        ensures unchanged { cap_of self.old < need_of (bodies_of self.old) body.now → self.new ≡ self.old }
+        ensures faults { D.faults (disk_of self.old) ≤ D.faults (disk_of self.new) }
+        ensures failed { IsErrOf result StoreFault.Disk → Rose (D.faults (disk_of self.old)) (D.faults (disk_of self.new)) }
+        ensures no_other { IfErr result (λ e. (e ≡ StoreFault.Disk) ⊎ (e ≡ StoreFault.Full (need_of (bodies_of self.old) body.now) (cap_of self.old))) }
+
+        ensures spare { OnOk result (spare_of self.new ≡ 0) }
+        ensures cap { cap_of self.new ≡ cap_of self.old }
+    {
+        self.log.append(&mut self.disk, body)?;
+        Ok(())
+    }
+
+    /// The device.
+    pub fn give_back(self) -> D
+        ensures { result ≡ disk_of self }
+    {
+        let Open { disk, .. } = self;
+        disk
+    }
+}
