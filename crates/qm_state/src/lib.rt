@@ -7,6 +7,7 @@ mod commit;
 mod image;
 mod job;
 mod listed;
+mod looks;
 mod prepare;
 mod prepared;
 mod refused;
