@@ -1,0 +1,170 @@
+-- A queue file that goes on, record by record.
+use Rattle.std.proofs.Common.{◌≡◌, ℕ, ◌+◌, ◌<◌, ◌≤◌, List, [], ◌∷◌, ◌++◌, length, map, take, drop, Some, None, sym, ap, subst, ◌∙◌, arith, append_assoc}
+use Rattle.std.specs.List.{AllByRecursion, slice_get}
+use Rattle.std.specs.Option.{option_and_then}
+use Rattle.std.proofs.lemmas.List.{take_more, take_all, map-append, append-nil}
+use Rattle.std.proofs.lemmas.Option.{slice_get_within, get_or_from_slice_get, option_and_then_some}
+use Rattle.qm_kinds.specs.declared.record.Record.{Record}
+use Rattle.qm_kinds.specs.declared.system.System.{System}
+use Rattle.qm_model.specs.First.{first_system}
+use Rattle.qm_bytes.specs.Laws.{Spells}
+use Rattle.qm_record.specs.Spelling.{HasSpelling, record_text}
+use Rattle.qm_manager.specs.QueueFile.{first_rows, after_record, replayed, IsQueueFile, IsFirstUnlawful}
+use Rattle.qm_manager.specs.Restoring.{BeginsWithRows, Judges, Leaves, LeavesNothing, IsRefused}
+use Rattle.qm_manager.specs.declared.restoring.RestoreEnd.{RestoreEnd}
+use Rattle.qm_manager.specs.declared.restoring.RestoreEnd.TheVariants.{Unlawful, NoMemory}
+use Rattle.qm_manager.proofs.Beginning.{new_site_file}
+
+-- records with which a system goes on to another, by their bodies
+pub record GoesOn (s : System) (more : List (List ℕ)) (t : System) : Type 0 where
+  pub records : List Record
+  pub fit : AllByRecursion HasSpelling records
+  pub spelled : more ≡ map record_text records
+  pub leave : replayed s records ≡ Some t
+
+-- These records are a queue file of this system, and each queue file that begins with them goes on from it.
+pub record Stands (front : List (List ℕ)) (s : System) : Type 0 where
+  pub lawful : IsQueueFile front s
+  pub goes_on : (more : List (List ℕ)) (t : System) → IsQueueFile (front ++ more) t → GoesOn s more t
+
+-- ---- replaying
+
+same_system : (s t : System) → Some s ≡ Some t → s ≡ t
+same_system s t h = cc
+
+replayed_more : (s : System) (rs : List Record) (r : Record) (t u : System) → replayed s rs ≡ Some t → after_record t r ≡ Some u → replayed s (rs ++ r ∷ []) ≡ Some u
+replayed_more s [] r t u first next =
+    let same : s ≡ t = same_system s t first in
+    ap (option_and_then (λ (v : System). replayed v [])) (ap (λ (v : System). after_record v r) same ∙ next)
+replayed_more s (q ∷ rs) r t u first next =
+    option_and_then_some (λ (v : System). replayed v rs) (after_record s q) t first (λ v leaves others.
+    ap (option_and_then (λ (w : System). replayed w (rs ++ r ∷ []))) leaves ∙ replayed_more v rs r t u others next)
+
+-- the first of the records leaves a system, from which the others go on
+first_leaves : (s t : System) (r : Record) (rs : List Record) (u : System) → after_record s r ≡ Some t → replayed s (r ∷ rs) ≡ Some u → replayed t rs ≡ Some u
+first_leaves s t r rs u leaves whole = sym (ap (option_and_then (λ (v : System). replayed v rs)) leaves) ∙ whole
+
+first_leaves_nothing : (s : System) (r : Record) (rs : List Record) (u : System) → after_record s r ≡ None → replayed s (r ∷ rs) ≡ Some u → ⊥
+first_leaves_nothing s r rs u leaves whole =
+    let none : None ≡ Some u = sym (ap (option_and_then (λ (v : System). replayed v rs)) leaves) ∙ whole in
+    cc
+
+fit_more : (rs : List Record) (r : Record) → AllByRecursion HasSpelling rs → HasSpelling r → AllByRecursion HasSpelling (rs ++ r ∷ [])
+fit_more [] r all fits = (fits, tt)
+fit_more (q ∷ rs) r all fits = (all.0, fit_more rs r all.1 fits)
+
+-- ---- the rows
+
+pub rows_stand : (bodies : List (List ℕ)) (node : List ℕ) → BeginsWithRows bodies node → Stands (take 3 bodies) (first_system node)
+rows_stand bodies node b =
+    let front : take 3 bodies ≡ map record_text (first_rows node) = ap (λ (l : List (List ℕ)). take 3 l) b.rows in
+    subst (λ (l : List (List ℕ)). Stands l (first_system node)) (sym front) (record {
+      lawful = new_site_file node b.short b.fit;
+      goes_on = λ more t f. record {
+        records = f.requests;
+        fit = f.fit.1.1.1;
+        spelled = ap (λ (l : List (List ℕ)). drop 3 l) f.spelled;
+        leave = ap (λ (n : List ℕ). replayed (first_system n) f.requests) (sym (b.only more t f)) ∙ f.leave;
+      };
+    })
+
+pub rows_are_there : (bodies : List (List ℕ)) (node : List ℕ) → BeginsWithRows bodies node → 3 ≤ length bodies
+rows_are_there bodies node b = omega (arith, ap (λ (l : List (List ℕ)). length l) b.rows)
+
+-- ---- one more record
+
+lawful_more : (front : List (List ℕ)) (s : System) (body : List ℕ) (t : System) → IsQueueFile front s → Leaves body s t → IsQueueFile (front ++ body ∷ []) t
+lawful_more front s body t f l = record {
+  node = f.node;
+  requests = f.requests ++ l.value ∷ [];
+  short = f.short;
+  fit = fit_more (first_rows f.node ++ f.requests) l.value f.fit l.spells.fits;
+  spelled = ap (λ (b : List ℕ). front ++ b ∷ []) l.spells.is ∙ ap (λ (x : List (List ℕ)). x ++ record_text l.value ∷ []) f.spelled
+      ∙ sym (map-append record_text (first_rows f.node ++ f.requests) (l.value ∷ []));
+  leave = replayed_more (first_system f.node) f.requests l.value s t f.leave l.leaves;
+}
+
+same_first : (a b : List ℕ) (xs ys : List (List ℕ)) → a ∷ xs ≡ b ∷ ys → a ≡ b
+same_first a b xs ys h = cc
+
+same_others : (a b : List ℕ) (xs ys : List (List ℕ)) → a ∷ xs ≡ b ∷ ys → xs ≡ ys
+same_others a b xs ys h = cc
+
+not_empty : (a : List ℕ) (xs : List (List ℕ)) → a ∷ xs ≡ [] → ⊥
+not_empty a xs h = cc
+
+from_records : (s : System) (body : List ℕ) (more : List (List ℕ)) (t u : System) → Leaves body s t → (rs : List Record) → AllByRecursion HasSpelling rs
+    → body ∷ more ≡ map record_text rs → replayed s rs ≡ Some u → GoesOn t more u
+from_records s body more t u l [] fit spelled leave = absurd (not_empty body more spelled)
+from_records s body more t u l (r ∷ rs) fit spelled leave =
+    let is : body ≡ record_text r = same_first body (record_text r) more (map record_text rs) spelled in
+    let leaves : after_record s r ≡ Some t = ap (after_record s) (l.only r fit.0 is) ∙ l.leaves in
+    record {
+      records = rs;
+      fit = fit.1;
+      spelled = same_others body (record_text r) more (map record_text rs) spelled;
+      leave = first_leaves s t r rs u leaves leave;
+    }
+
+-- what goes on with a body goes on with a record of it
+goes_on_from : (s : System) (body : List ℕ) (more : List (List ℕ)) (t u : System) → Leaves body s t → GoesOn s (body ∷ more) u → GoesOn t more u
+goes_on_from s body more t u l g = from_records s body more t u l g.records g.fit g.spelled g.leave
+
+none_from : (s : System) (body : List ℕ) (more : List (List ℕ)) (u : System) → LeavesNothing body s → (rs : List Record) → AllByRecursion HasSpelling rs
+    → body ∷ more ≡ map record_text rs → replayed s rs ≡ Some u → ⊥
+none_from s body more u none [] fit spelled leave = not_empty body more spelled
+none_from s body more u none (r ∷ rs) fit spelled leave =
+    first_leaves_nothing s r rs u (none r fit.0 (same_first body (record_text r) more (map record_text rs) spelled)) leave
+
+nothing_goes_on : (s : System) (body : List ℕ) (more : List (List ℕ)) (u : System) → LeavesNothing body s → GoesOn s (body ∷ more) u → ⊥
+nothing_goes_on s body more u none g = none_from s body more u none g.records g.fit g.spelled g.leave
+
+stand_more : (front : List (List ℕ)) (s : System) (body : List ℕ) (t : System) → Stands front s → Leaves body s t → Stands (front ++ body ∷ []) t
+stand_more front s body t stands l = record {
+  lawful = lawful_more front s body t stands.lawful l;
+  goes_on = λ more u f. goes_on_from s body more t u l (stands.goes_on (body ∷ more) u (subst (λ (x : List (List ℕ)). IsQueueFile x u) (append_assoc front (body ∷ []) more) f));
+}
+
+take_next : (bodies : List (List ℕ)) (index : ℕ) (body : List ℕ) → slice_get bodies index ≡ Some body → take (index + 1) bodies ≡ take index bodies ++ body ∷ []
+take_next bodies index body is =
+    take_more bodies index [] (slice_get_within bodies index body is) ∙ ap (λ (b : List ℕ). take index bodies ++ b ∷ []) (get_or_from_slice_get bodies index body [] is)
+
+pub next_stands : (bodies : List (List ℕ)) (index : ℕ) (body : List ℕ) (s t : System) → slice_get bodies index ≡ Some body
+    → Stands (take index bodies) s → Leaves body s t → Stands (take (index + 1) bodies) t
+next_stands bodies index body s t is stands l =
+    subst (λ (x : List (List ℕ)). Stands x t) (sym (take_next bodies index body is)) (stand_more (take index bodies) s body t stands l)
+
+-- a record that leaves nothing is the first unlawful one
+unlawful_next : (bodies : List (List ℕ)) (index : ℕ) (body : List ℕ) (s : System) → slice_get bodies index ≡ Some body
+    → Stands (take index bodies) s → LeavesNothing body s → IsFirstUnlawful bodies index
+unlawful_next bodies index body s is stands none =
+    let inside : index < length bodies = slice_get_within bodies index body is in
+    record {
+      within = omega (arith, inside);
+      begins = record { more = []; system = s; is = subst (λ (x : List (List ℕ)). IsQueueFile x s) (sym (append-nil (take index bodies))) stands.lawful };
+      ends = λ _ g. nothing_goes_on s body g.more g.system none (stands.goes_on (body ∷ g.more) g.system
+          (subst (λ (x : List (List ℕ)). IsQueueFile x g.system) (ap (λ (x : List (List ℕ)). x ++ g.more) (take_next bodies index body is) ∙ append_assoc (take index bodies) (body ∷ []) g.more) g.is));
+      unfinished = λ end u f. absurd (omega (arith, inside, end));
+    }
+
+pub next_is_judged : (bodies : List (List ℕ)) (index : ℕ) (body : List ℕ) (s : System) (end : RestoreEnd) → slice_get bodies index ≡ Some body
+    → Stands (take index bodies) s → IsRefused index body s end → Judges bodies end
+next_is_judged bodies index body s (Unlawful i) is stands refused = subst (IsFirstUnlawful bodies) (sym refused.0) (unlawful_next bodies index body s is stands refused.1)
+next_is_judged bodies index body s NoMemory is stands refused = tt
+
+pub all_stand : (bodies : List (List ℕ)) (index : ℕ) (s : System) → length bodies ≤ index → Stands (take index bodies) s → IsQueueFile bodies s
+all_stand bodies index s end stands = subst (λ (x : List (List ℕ)). IsQueueFile x s) (take_all index bodies end) stands.lawful
+
+-- ---- one record of the file
+
+pub read_leaves : (body : List ℕ) (r : Record) (s t : System) → Spells HasSpelling record_text r body
+    → ((other : Record) → HasSpelling other → body ≡ record_text other → r ≡ other) → after_record s r ≡ Some t → Leaves body s t
+read_leaves body r s t spells only leaves = record {
+  value = r;
+  spells = spells;
+  leaves = leaves;
+  only = λ other fits is. sym (only other fits is);
+}
+
+pub read_leaves_nothing : (body : List ℕ) (r : Record) (s : System) → ((other : Record) → HasSpelling other → body ≡ record_text other → r ≡ other) → after_record s r ≡ None → LeavesNothing body s
+read_leaves_nothing body r s only leaves other fits is = ap (after_record s) (sym (only other fits is)) ∙ leaves

@@ -1,0 +1,6 @@
+pub mod Rows
+pub mod Beginning
+pub mod Going
+pub mod Replaying
+pub mod FirstFile
+pub mod Asked

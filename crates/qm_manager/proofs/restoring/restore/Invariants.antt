@@ -1,0 +1,13 @@
+use Rattle.std.proofs.Common.{take}
+use Rattle.qm_state.specs.Image.{system_of}
+use Rattle.qm_store.specs.Store.{bodies_of}
+use Rattle.qm_manager.specs.Restoring.{HasNode}
+use Rattle.qm_manager.proofs.Going.{Stands}
+use Rattle.qm_manager.proofs.restoring.restore.Given as goal
+
+-- the records so far are a queue file of the image, which each longer one goes on from
+abbrev pub invariant-loop-index : goal.invariant-loop-index
+invariant-loop-index g l = record {
+  stands : Stands (take l.index (bodies_of l.store)) (system_of l.image);
+  node : HasNode l.node (system_of l.image);
+}

@@ -1,0 +1,5 @@
+pub mod QueueFile
+pub mod Asking
+pub mod Manager
+pub mod Opened
+pub mod Restoring

@@ -1,0 +1,18 @@
+//! The queue manager over one queue file: a request that it accepts is on the disk before it is answered, and whoever
+//! opens the file again, after a stop or a crash at any moment, goes on from what was answered.
+#![tactic(auto)]
+
+#[cfg(test)]
+mod ask_tests;
+mod asking;
+mod fault;
+mod manager;
+mod opening;
+mod restoring;
+mod site;
+#[cfg(test)]
+mod tests;
+
+pub use fault::{AskFault, OpenFault};
+pub use manager::Manager;
+pub use opening::init;

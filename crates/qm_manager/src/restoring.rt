@@ -1,0 +1,192 @@
+// How the records of a queue file become the image of a system.
+ghost use Rattle.std.specs.Prelude.{◌≡◌, ◌↔◌, ◌≤◌, ◌<◌, ◌&&◌, ℕ, List, nat_le, nat_lt, if◌then◌else◌, length, slice_get, Some, None, true, false, IfSome, IfOk, IfErr, OnOk};
+ghost use Rattle.qm_kinds.specs.declared.record.Record.{Record as AnyRecord};
+ghost use Rattle.qm_bytes.specs.Laws.{Spells};
+ghost use Rattle.qm_bytes.specs.Spelling.{IsName};
+ghost use Rattle.qm_record.specs.Spelling.{record_text, CanBeWritten, HasSpelling};
+ghost use Rattle.qm_state.specs.Image.{system_of};
+ghost use Rattle.qm_store.specs.Store.{bodies_of};
+ghost use Rattle.qm_manager.specs.declared.restoring.RestoreEnd.TheVariants.{NoMemory};
+ghost use Rattle.qm_manager.specs.QueueFile.{first_rows, is_kept, after_record, IsQueueFile};
+ghost use Rattle.qm_manager.specs.Restoring.{named_by, IsOf, BeginsWithRows, Judges, Leaves, IsRead, IsRefused, IsAt, HasNode};
+
+use crate::site::{first_rows, first_system};
+use qm_disk::Disk;
+use qm_kinds::{Body, Moment, Name, Record, Request};
+use qm_model::first_system_is_consistent;
+use qm_record::{RecordFault, write_record};
+use qm_state::{Image, Refused};
+use qm_store::Open;
+use std::alloc::{AllocError, AllocFailed, Global};
+
+/// Why the records aren't those of a queue file.
+#[derive(Clone, Copy, Debug, PartialEq, Eq)]
+pub(crate) enum RestoreEnd {
+    /// The record of this index can't stand there, or the records end there, too early.
+    Unlawful { index: usize },
+    NoMemory,
+}
+
+impl From<AllocError> for RestoreEnd {
+    ghost from_gives = { λ _ end. end ≡ NoMemory };
+
+    fn from(_: AllocError) -> RestoreEnd {
+        RestoreEnd::NoMemory
+    }
+}
+
+impl<T: Drop> From<AllocFailed<T>> for RestoreEnd {
+    ghost from_gives = { λ _ end. end ≡ NoMemory };
+
+    fn from(_: AllocFailed<T>) -> RestoreEnd {
+        RestoreEnd::NoMemory
+    }
+}
+
+/// The most bytes of a node's name.
+const NODE_NAME_BYTES: usize = 6;
+
+// The node that the first row names.
+fn named_by(body: &Body) -> Option<Name>
+    ensures name { result ≡ named_by body.now }
+    ensures short { IfSome result (λ node. length node ≤ 6) }
+    ensures lawful { IfSome result IsName }
+{
+    let Body::Head { nodes, .. } = body else {
+        return None;
+    };
+    match nodes.as_slice() {
+        [node] if node.name.as_bytes().len() <= NODE_NAME_BYTES => Some(node.name),
+        _ => None,
+    }
+}
+
+// The record of this index, if its body spells one.
+fn read_at<D: Disk>(store: &Open<D>, index: usize) -> Result<Record, RestoreEnd>
+    requires { index < length (bodies_of store.now) }
+    ensures found { (body : List ℕ) → slice_get (bodies_of store.now) index ≡ Some body → IfOk result (λ r. Spells HasSpelling record_text r body) }
+    ensures only { (body : List ℕ) (r : AnyRecord) → slice_get (bodies_of store.now) index ≡ Some body → HasSpelling r → body ≡ record_text r → IsRead r result }
+    ensures place { IfErr result (IsAt index) }
+{
+    match store.record(index) {
+        Ok(record) => Ok(record),
+        Err(RecordFault::Bad { .. }) => Err(RestoreEnd::Unlawful { index }),
+        Err(RecordFault::NoMemory) => Err(RestoreEnd::NoMemory),
+    }
+}
+
+// The node of the site, as the first record has it.
+fn read_node<D: Disk>(store: &Open<D>) -> Result<Name, RestoreEnd>
+    ensures node { IfOk result (IsOf (bodies_of store.now)) }
+    ensures lawful { IfOk result IsName }
+    ensures judged { IfErr result (Judges (bodies_of store.now)) }
+{
+    if store.count() == 0 {
+        return Err(RestoreEnd::Unlawful { index: 0 });
+    }
+    let record = read_at(store, 0)?;
+    match named_by(&record.body) {
+        Some(node) => Ok(node),
+        None => Err(RestoreEnd::Unlawful { index: 0 }),
+    }
+}
+
+// Whether the record of this index is this one.
+fn is_row<D: Disk>(
+    alloc: Global,
+    store: &Open<D>,
+    index: usize,
+    row: &Record,
+) -> Result<bool, AllocError>
+    requires { CanBeWritten row.now }
+    ensures { IfOk result (λ is. is ≡ true ↔ (slice_get (bodies_of store.now) index ≡ Some (record_text row.now))) }
+{
+    let text = write_record(alloc, row)?;
+    Ok(index < store.count() && store.body(index) == text.as_slice())
+}
+
+// The node of the site, told by the rows with which its queue file begins.
+fn read_rows<D: Disk>(alloc: Global, store: &Open<D>) -> Result<Name, RestoreEnd>
+    ensures rows { IfOk result (BeginsWithRows (bodies_of store.now)) }
+    ensures judged { IfErr result (Judges (bodies_of store.now)) }
+{
+    let node = read_node(store)?;
+    let rows = first_rows(alloc, node)?;
+    for index in 0..rows.len() {
+        if !is_row(alloc, store, index, &rows[index])? {
+            return Err(RestoreEnd::Unlawful { index });
+        }
+    }
+    Ok(node)
+}
+
+// Whether a queue file keeps such requests.
+fn is_kept(request: &Request) -> bool
+    ensures { result ≡ is_kept request.now }
+{
+    match request {
+        Request::Append { .. } => true,
+        Request::Submit { after, .. } => after.is_none(),
+        _ => false,
+    }
+}
+
+// Whether a request can act: its moment doesn't go back, its node is there, and a queue file keeps it.
+fn can_act(image: &Image, moment: Moment, node: u8, request: &Request) -> bool
+    ensures { result ≡ (nat_le (system_of image.now).last moment && nat_lt node (length (system_of image.now).nodes) && is_kept request.now) }
+{
+    image.last() <= moment && usize::from(node) < image.nodes().len() && is_kept(request)
+}
+
+// Does what a record says, if it can stand there.
+fn replay(image: &mut Image, what: &Record) -> Result<bool, AllocError>
+    ensures { IfOk result (λ done. after_record (system_of image.old) what.now ≡ (if done then Some (system_of image.new) else None)) }
+{
+    let Body::Ask(request) = &what.body else {
+        return Ok(false);
+    };
+    if !can_act(image, what.moment, what.node, request) {
+        return Ok(false);
+    }
+    match image.prepare(what.moment, what.node, request) {
+        Ok(prepared) => {
+            image.commit(prepared);
+            Ok(true)
+        }
+        Err(Refused::By(_)) => Ok(false),
+        Err(Refused::NoMemory) => Err(AllocError),
+    }
+}
+
+// Does what the record of this index says.
+fn restore_record<D: Disk>(
+    store: &Open<D>,
+    index: usize,
+    image: &mut Image,
+) -> Result<(), RestoreEnd>
+    requires { index < length (bodies_of store.now) }
+    ensures leaves { OnOk result ((body : List ℕ) → slice_get (bodies_of store.now) index ≡ Some body → Leaves body (system_of image.old) (system_of image.new)) }
+    ensures refused { IfErr result (λ end. (body : List ℕ) → slice_get (bodies_of store.now) index ≡ Some body → IsRefused index body (system_of image.old) end) }
+{
+    let record = read_at(store, index)?;
+    if replay(image, &record)? {
+        Ok(())
+    } else {
+        Err(RestoreEnd::Unlawful { index })
+    }
+}
+
+/// The one node and the image of the system for which the records stand; or the first record that can't stand there.
+pub(crate) fn restore<D: Disk>(alloc: Global, store: &Open<D>) -> Result<(Name, Image), RestoreEnd>
+    ensures lawful { IfOk result (λ site. IsQueueFile (bodies_of store.now) (system_of site.1)) }
+    ensures node { IfOk result (λ site. HasNode site.0 (system_of site.1)) }
+    ensures judged { IfErr result (Judges (bodies_of store.now)) }
+{
+    let node = read_rows(alloc, store)?;
+    first_system_is_consistent();
+    let mut image = Image::from_rows(alloc, &first_system(alloc, node)?)?;
+    for index in 3..store.count() {
+        restore_record(store, index, &mut image)?;
+    }
+    Ok((node, image))
+}
