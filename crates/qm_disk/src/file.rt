@@ -61,24 +61,14 @@ impl<R: Files> Named<R> {
         }
     }
 
+    // Opens the file, made empty where it isn't there, and makes its name in the folder durable: whoever made it may have died
+    // before that. Until it has held, a crash may lose the file.
     fn open(&mut self, rt: &R) -> io::Result<R::File> {
-        let found = OpenOptions::new()
-            .read(true)
-            .write(true)
-            .open(rt, self.name.as_str());
-        match found {
-            Err(e) if e.kind() == io::ErrorKind::NotFound => self.make(rt),
-            other => other,
-        }
-    }
-
-    // Makes the file, and its name in the folder durable. Until both have held, a crash may lose the file.
-    fn make(&mut self, rt: &R) -> io::Result<R::File> {
         let name = self.name.as_str();
         let file = OpenOptions::new()
             .read(true)
             .write(true)
-            .create_new(true)
+            .create(true)
             .open(rt, name)?;
         self.is_lost = true;
         sync_folder(rt, name)?;
@@ -86,8 +76,9 @@ impl<R: Files> Named<R> {
         Ok(file)
     }
 
+    // What is needed to read the bytes again: they, and the length where it grew. The times of the file can wait.
     fn sync(&mut self, rt: &R) -> io::Result<()> {
-        let outcome = self.opened(rt)?.sync_all();
+        let outcome = self.opened(rt)?.sync_data();
         self.is_lost = outcome.is_err();
         outcome
     }
