@@ -196,24 +196,28 @@ module _ (site : Site) (r : Request) (what : Record) (is : what ≡ record_of si
   pub is_done : need_of bodies body ≤ queue_cap → IsDone (asked site r)
   is_done fits = subst IsDone (sym (done_there fits)) tt
 
+  -- the site once it is done
+  abbrev pub site_done : Site
+  site_done = record { system = a.system; bodies = site.bodies ++ record_text (record_of site.system r) ∷ [] }
+
   -- the record may be there while it is written
-  may_be_there : (may_leave : ℕ → List ℕ → Type 0) → need_of bodies body ≤ queue_cap → (image : Image) → Appended may_leave bodies body image → WithOrWithout may_leave site (asked site r) image
-  may_be_there may_leave fits image left = record {
+  may_be_there : (may_leave : ℕ → List ℕ → Type 0) → IsLawful site_done → need_of bodies body ≤ queue_cap → (image : Image) → Appended may_leave bodies body image → WithOrWithout may_leave site (asked site r) image
+  may_be_there may_leave lawful fits image left = record {
     records = ⊎_elim (λ old. inl (subst (λ (bs : List (List ℕ)). Holds bs image) same old))
         (λ new. inr (subst (λ (x : Asked). HoldsDone x image) (sym (done_there fits))
-        (subst (λ (t : List ℕ). Holds (site.bodies ++ t ∷ []) image) text_is (subst (λ (bs : List (List ℕ)). Holds (bs ++ body ∷ []) image) same new)))) left.records;
+        (subst (λ (t : List ℕ). Holds (site.bodies ++ t ∷ []) image) text_is (subst (λ (bs : List (List ℕ)). Holds (bs ++ body ∷ []) image) same new), lawful))) left.records;
     others = left.others;
   }
 
   module _ {D : Type 0} (seen : D → ℕ → List ℕ) (may_leave : D → ℕ → List ℕ → Type 0) (moment : D → ℕ) (left_since : D → ℕ → Image → Type 0) (old new : D) where
     -- what a crash leaves while the record is written, or isn't since there is no room
-    pub leaves_either : IsAtRest seen may_leave site.bodies old → ((image : Image) → left_since old (moment old) image → IsLeft (may_leave old) image)
+    pub leaves_either : IsLawful site_done → IsAtRest seen may_leave site.bodies old → ((image : Image) → left_since old (moment old) image → IsLeft (may_leave old) image)
         → (queue_cap < need_of bodies body → new ≡ old) → LeavesOnly moment left_since old new (Appended (may_leave old) bodies body)
         → LeavesOnly moment left_since old new (WithOrWithout (may_leave old) site (asked site r))
-    leaves_either rest only_now unchanged run = elim (cases_lt queue_cap (need_of bodies body)) [
+    leaves_either lawful rest only_now unchanged run = elim (cases_lt queue_cap (need_of bodies body)) [
       | inl over ↦ subst (λ (x : D). LeavesOnly moment left_since old x (WithOrWithout (may_leave old) site (asked site r))) (sym (unchanged over))
           (leaves_before seen may_leave moment left_since site (asked site r) old rest only_now)
-      | inr fits ↦ weaker moment left_since old new (Appended (may_leave old) bodies body) (WithOrWithout (may_leave old) site (asked site r)) run (may_be_there (may_leave old) fits)
+      | inr fits ↦ weaker moment left_since old new (Appended (may_leave old) bodies body) (WithOrWithout (may_leave old) site (asked site r)) run (may_be_there (may_leave old) lawful fits)
     ]
 
   -- the records are still those of a queue file
@@ -223,3 +227,7 @@ module _ (site : Site) (r : Request) (what : Record) (is : what ≡ record_of si
       let file : IsQueueFile (site.bodies ++ record_text what ∷ []) a.system = file_goes_on site.bodies site.system a.system what lawful fits leaves in
       let same_after : site.bodies ++ record_text what ∷ [] ≡ after_ = sym (appended_ ∙ ap (λ (bs : List (List ℕ)). bs ++ body ∷ []) same ∙ ap (λ (t : List ℕ). site.bodies ++ t ∷ []) spelled) in
       subst (λ (x : System). IsQueueFile after_ x) system_is (subst (λ (bs : List (List ℕ)). IsQueueFile bs a.system) same_after file)
+
+  pub lawful_done : IsLawful site → (node : List ℕ) → HasNode node site.system → is_kept r ≡ true → HasSpelling what → IsLawful site_done
+  lawful_done lawful node has kept_is fits =
+      lawful_after lawful node has kept_is fits site_done.bodies (ap (λ (t : List ℕ). site.bodies ++ t ∷ []) (sym text_is) ∙ ap (λ (bs : List (List ℕ)). bs ++ body ∷ []) (sym same)) a.system refl

@@ -4,3 +4,4 @@ pub mod Going
 pub mod Replaying
 pub mod FirstFile
 pub mod Asked
+pub mod OneSite

@@ -72,9 +72,9 @@ Answers asked old new (Err (fault.Full need cap)) = (asked ≡ Full need cap) ×
 Answers asked old new (Err fault.Disk) = IsDone asked × (new ≡ old)
 Answers asked old new (Err fault.NoMemory) = new ≡ old
 
--- the queue file has the records that it has once this is done
+-- the queue file has the records that it has once this is done, and they stand for the system after it
 abbrev pub HoldsDone : Asked → Image → Type 0
-HoldsDone (Done site reply) image = Holds site.bodies image
+HoldsDone (Done site reply) image = Holds site.bodies image × IsLawful site
 HoldsDone (Refused refusal) image = ⊥
 HoldsDone (Full need cap) image = ⊥
 

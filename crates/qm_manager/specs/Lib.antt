@@ -3,3 +3,4 @@ pub mod Asking
 pub mod Manager
 pub mod Opened
 pub mod Restoring
+pub mod Sites

@@ -1,5 +1,5 @@
 // How a request is done: decided, written down, and only then made and answered.
-ghost use Rattle.std.specs.Prelude.{◌≡◌, ◌≤◌, IsTrue, IsErrOf};
+ghost use Rattle.std.specs.Prelude.{◌≡◌, ◌≤◌, IsTrue, IfErr, IsErrOf};
 ghost use Rattle.qm_disk.specs.Disk.{KeepsOthers, LeavesOnly, Rose};
 ghost use Rattle.qm_store.specs.Store.{IsAtRest};
 ghost use Rattle.qm_manager.specs.Asking.{asked, record_of, Answers, IsAskable, IsLawful, WithOrWithout};
@@ -38,6 +38,7 @@ impl<D: Disk> Manager<D> {
             (WithOrWithout (D.may_leave (disk_of self.old)) (site_of self.old) (asked (site_of self.old) request)) }
         ensures others { KeepsOthers D.seen D.may_leave 1 (disk_of self.old) (disk_of self.new) }
 
+        ensures untouched { IfErr result (λ fault. (fault ≡ AskFault.Disk → ⊥) → disk_of self.new ≡ disk_of self.old) }
         ensures faults { D.faults (disk_of self.old) ≤ D.faults (disk_of self.new) }
         ensures failed { IsErrOf result AskFault.Disk → Rose (D.faults (disk_of self.old)) (D.faults (disk_of self.new)) }
     {
@@ -71,6 +72,7 @@ impl<D: Disk> Manager<D> {
             (WithOrWithout (D.may_leave (disk_of self.old)) (site_of self.old) (asked (site_of self.old) request.now)) }
         ensures others { KeepsOthers D.seen D.may_leave 1 (disk_of self.old) (disk_of self.new) }
 
+        ensures untouched { IfErr result (λ fault. (fault ≡ AskFault.Disk → ⊥) → disk_of self.new ≡ disk_of self.old) }
         ensures faults { D.faults (disk_of self.old) ≤ D.faults (disk_of self.new) }
         ensures failed { IsErrOf result AskFault.Disk → Rose (D.faults (disk_of self.old)) (D.faults (disk_of self.new)) }
     {

@@ -6,6 +6,7 @@
 mod ask_tests;
 mod asking;
 mod fault;
+mod laws;
 mod manager;
 mod opening;
 mod restoring;
@@ -14,5 +15,6 @@ mod site;
 mod tests;
 
 pub use fault::{AskFault, OpenFault};
+pub use laws::a_queue_file_is_of_one_site;
 pub use manager::Manager;
 pub use opening::init;

@@ -1,12 +1,13 @@
 // How a queue file is made and opened.
-ghost use Rattle.std.specs.Prelude.{◌≡◌, ◌⊎◌, ◌≤◌, IsTrue, length, map, IfOk, IfErr, IsErrOf};
+ghost use Rattle.std.specs.Prelude.{◌≡◌, ◌⊎◌, ◌≤◌, IsTrue, length, map, IfOk, IfErr, IsErrOf, OnOk};
 ghost use Rattle.qm_disk.specs.Disk.{OthersLeft, KeepsOthers, LeavesOnly, Rose};
 ghost use Rattle.qm_glog.specs.Moments.{OnlyLooks};
+ghost use Rattle.qm_model.specs.First.{first_system};
 ghost use Rattle.qm_record.specs.Spelling.{record_text};
 ghost use Rattle.qm_store.specs.Causes.{IsNotFull};
 ghost use Rattle.qm_store.specs.Store.{bodies_of, disk_of as store_disk, IsAtRest};
 ghost use Rattle.qm_manager.specs.Asking.{IsLawful};
-ghost use Rattle.qm_manager.specs.QueueFile.{first_rows};
+ghost use Rattle.qm_manager.specs.QueueFile.{first_rows, IsQueueFile};
 ghost use Rattle.qm_manager.specs.Manager.{site_of, node_of, disk_of};
 ghost use Rattle.qm_manager.specs.Opened.{Opens, IsSameFault, TellsOf, disk_after, disk_made};
 ghost use Rattle.qm_manager.specs.Restoring.{Judges, HasNode};
@@ -40,6 +41,7 @@ pub fn init<D: Disk>(alloc: Global, disk: D, node: Name) -> Result<D, (D, OpenFa
     requires { length node ≤ 6 }
 
     ensures made { IfOk result (λ new. IsTrue D.tells → IsAtRest D.seen D.may_leave (map record_text (first_rows node)) new) }
+    ensures lawful { OnOk result (IsQueueFile (map record_text (first_rows node)) (first_system node)) }
     ensures others { KeepsOthers D.seen D.may_leave 1 disk (disk_made result) }
     ensures any_moment { IsTrue D.tells → LeavesOnly D.moment D.left_since disk (disk_made result) (OthersLeft (D.may_leave disk) 1) }
     ensures faults { D.faults disk ≤ D.faults (disk_made result) }

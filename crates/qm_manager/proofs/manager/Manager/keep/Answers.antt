@@ -5,7 +5,7 @@ use Rattle.qm_state.specs.Preparing.{made}
 use Rattle.qm_store.specs.Store as store
 use Rattle.qm_manager.specs.Asking.{asked}
 use Rattle.qm_manager.specs.Manager.{site_of, disk_of}
-use Rattle.qm_manager.proofs.Asked.{leaves_before, leaves_either, lawful_after, nodes_stay, askable_is_kept}
+use Rattle.qm_manager.proofs.Asked.{leaves_before, leaves_either, lawful_after, lawful_done, nodes_stay, askable_is_kept}
 use Rattle.qm_manager.proofs.manager.Manager.keep.Goals as goal
 
 pub returns-in-Err-By-clause-any_moment : goal.returns-in-Err-By-clause-any_moment
@@ -56,7 +56,10 @@ returns-in-Ok-append-clause-any_moment g c = λ told.
     let old = disk_of c.args.self.now in
     leaves_either (site_of c.args.self.now) c.args.request.now c.args.what.now c.requires.is (made c.in-Ok.prepared s) c.in-Ok.ensures.accepted
     (store.bodies_of c.reserve.new.self) c.reserve.ensures.bodies c.deref.result.now (c.deref.ensures.value ∙ c.in_ok-body.ensures.is)
-    d.seen d.may_leave d.moment d.left_since old (store.disk_of c.append.new.self) (c.requires.rest told) (g.met.D.Disk.only_now old)
+    d.seen d.may_leave d.moment d.left_since old (store.disk_of c.append.new.self)
+    (lawful_done (site_of c.args.self.now) c.args.request.now c.args.what.now c.requires.is (made c.in-Ok.prepared s) c.in-Ok.ensures.accepted
+    (store.bodies_of c.reserve.new.self) c.reserve.ensures.bodies c.deref.result.now (c.deref.ensures.value ∙ c.in_ok-body.ensures.is)
+    c.requires.lawful c.args.self.now.node c.args.self.now.named (askable_is_kept c.args.request.now c.requires.asked) c.in_ok-body.ensures.fits) (c.requires.rest told) (g.met.D.Disk.only_now old)
     (λ over. ap store.disk_of (c.append.ensures.unchanged (rw (c.reserve.ensures.cap, c.args.self.now.capped) over)) ∙ c.reserve.ensures.disk)
     (rw c.reserve.ensures.disk at (c.append.ensures.any_moment told))
 
@@ -67,7 +70,10 @@ returns-in-Err-Full-clause-any_moment g c = λ told.
     let old = disk_of c.args.self.now in
     leaves_either (site_of c.args.self.now) c.args.request.now c.args.what.now c.requires.is (made c.in-Ok.prepared s) c.in-Ok.ensures.accepted
     (store.bodies_of c.reserve.new.self) c.reserve.ensures.bodies c.deref.result.now (c.deref.ensures.value ∙ c.in_ok-body.ensures.is)
-    d.seen d.may_leave d.moment d.left_since old (store.disk_of c.append.new.self) (c.requires.rest told) (g.met.D.Disk.only_now old)
+    d.seen d.may_leave d.moment d.left_since old (store.disk_of c.append.new.self)
+    (lawful_done (site_of c.args.self.now) c.args.request.now c.args.what.now c.requires.is (made c.in-Ok.prepared s) c.in-Ok.ensures.accepted
+    (store.bodies_of c.reserve.new.self) c.reserve.ensures.bodies c.deref.result.now (c.deref.ensures.value ∙ c.in_ok-body.ensures.is)
+    c.requires.lawful c.args.self.now.node c.args.self.now.named (askable_is_kept c.args.request.now c.requires.asked) c.in_ok-body.ensures.fits) (c.requires.rest told) (g.met.D.Disk.only_now old)
     (λ over. ap store.disk_of (c.append.ensures.unchanged (rw (c.reserve.ensures.cap, c.args.self.now.capped) over)) ∙ c.reserve.ensures.disk)
     (rw c.reserve.ensures.disk at (c.append.ensures.any_moment told))
 
@@ -78,6 +84,9 @@ returns-clause-any_moment g c = λ told.
     let old = disk_of c.args.self.now in
     leaves_either (site_of c.args.self.now) c.args.request.now c.args.what.now c.requires.is (made c.in-Ok.prepared s) c.in-Ok.ensures.accepted
     (store.bodies_of c.reserve.new.self) c.reserve.ensures.bodies c.deref.result.now (c.deref.ensures.value ∙ c.in_ok-body.ensures.is)
-    d.seen d.may_leave d.moment d.left_since old (store.disk_of c.append.new.self) (c.requires.rest told) (g.met.D.Disk.only_now old)
+    d.seen d.may_leave d.moment d.left_since old (store.disk_of c.append.new.self)
+    (lawful_done (site_of c.args.self.now) c.args.request.now c.args.what.now c.requires.is (made c.in-Ok.prepared s) c.in-Ok.ensures.accepted
+    (store.bodies_of c.reserve.new.self) c.reserve.ensures.bodies c.deref.result.now (c.deref.ensures.value ∙ c.in_ok-body.ensures.is)
+    c.requires.lawful c.args.self.now.node c.args.self.now.named (askable_is_kept c.args.request.now c.requires.asked) c.in_ok-body.ensures.fits) (c.requires.rest told) (g.met.D.Disk.only_now old)
     (λ over. ap store.disk_of (c.append.ensures.unchanged (rw (c.reserve.ensures.cap, c.args.self.now.capped) over)) ∙ c.reserve.ensures.disk)
     (rw c.reserve.ensures.disk at (c.append.ensures.any_moment told))
