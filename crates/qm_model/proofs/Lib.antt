@@ -1,5 +1,4 @@
 pub mod First
-pub mod FirstJob
 pub mod Site
 pub mod Starts
 pub mod Ends

@@ -1,7 +1,6 @@
 -- Each refusal that can come so far, on literals.
 use Rattle.std.proofs.Common.{◌≡◌, [], ◌∷◌, ◌++◌, true, false, Some, None, Err, refl, replicate}
 use Rattle.std.specs.Prelude.{codes}
-use Rattle.std.specs.Fmt.{digits}
 use Rattle.qm_kinds.specs.declared.entry.JobKind.TheVariants.{Batch, Print}
 use Rattle.qm_kinds.specs.declared.entry.JobRetain.TheVariants.{Default}
 use Rattle.qm_kinds.specs.declared.file.FileName.{FileName}
@@ -16,8 +15,6 @@ use Rattle.qm_model.specs.Appending.{append_refusal, is_spool_full}
 use Rattle.qm_model.specs.Submitting.{Job, submit_refusal, entry_of}
 use Rattle.qm_model.specs.Script.{script_of}
 use Rattle.qm_model.specs.First.{first_system}
-use Rattle.qm_model.specs.Transcript.{transcript}
-use Rattle.qm_model.proofs.FirstJob.{lines_of}
 
 abbrev pub night_file : FileName
 night_file = record { name = codes "NIGHT"; extension = Some (codes "COM") }
@@ -87,30 +84,8 @@ file_long_enough = refl
 pub a_file_too_many : append_refusal (record site { files = replicate 4096 (record { name = night_file; bytes = [] }) }) (record { name = codes "X"; extension = None }) [] ≡ Some refused.SpoolFull
 a_file_too_many = refl
 
--- refusals as they are printed, and the run goes on
-pub printed : transcript (codes "A") (lines_of
-    (codes "A $ SUBMIT JOB"
-    ∷ codes "A $ SHOW ENTRY 7"
-    ∷ codes "A $ PRINT JOB"
-    ∷ codes "A ! LINE JOB.COM"
-    ∷ codes "A ! LINE JOB.COM x"
-    ∷ codes "A $ SUBMIT JOB"
-    ∷ codes "A ! LINE JOB.COM x"
-    ∷ []))
-    ≡ lines_of
-    (codes "A 1: %QMAN-E-NOSUCHFILE"
-    ∷ codes "A 2: %QMAN-E-NOSUCHENT, 7"
-    ∷ codes "A 3: %QMAN-E-PARSE, byte 0: notbuilt"
-    ∷ codes "A 4: %QMAN-E-PARSE, byte 0: form"
-    ∷ codes "A 5: file JOB.COM, 2 bytes"
-    ∷ codes "A 6: Job JOB (queue SYS$BATCH, entry 1) pending"
-    ∷ codes "A 7: %QMAN-E-REFERENCED, 1"
-    ∷ [])
-unfolding digits
-printed = refl
-
-pub no_line_feed : script_of (codes "A") (codes "A $ SUBMIT JOB") ≡ Err Form
+pub no_line_feed : script_of (codes "A $ SUBMIT JOB") ≡ Err Form
 no_line_feed = refl
 
-pub another_node : script_of (codes "A") (codes "B $ SUBMIT JOB" ++ 10 ∷ []) ≡ Err Form
-another_node = refl
+pub long_node : script_of (codes "SATURNX $ SUBMIT JOB" ++ 10 ∷ []) ≡ Err Form
+long_node = refl

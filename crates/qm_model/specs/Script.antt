@@ -1,5 +1,5 @@
 -- A script: lines for the nodes of a site.
-use Rattle.std.specs.Prelude.{ℕ, nat_eq, ◌==◌, ◌+◌, nat_lt, nat_le, Bool, false, ◌&&◌, not, if◌then◌else◌, List, [], ◌∷◌, ◌++◌, length, Option, None, Some, Result, Err, codes, ok_or}
+use Rattle.std.specs.Prelude.{ℕ, nat_eq, ◌==◌, ◌+◌, nat_lt, nat_le, Bool, ◌&&◌, not, if◌then◌else◌, List, [], ◌∷◌, ◌++◌, length, Option, None, Some, Result, Err, codes, ok_or}
 use Rattle.std.specs.List.{list_all, slice_split, ends_with}
 use Rattle.std.specs.Option.{option_map, option_and_then}
 use Rattle.std.specs.Str.{bytes_eq}
@@ -19,9 +19,10 @@ pub data Sort : Type 0 where
   Command : Sort
   Site : Sort
 
--- a line of a script: its number, counted from 1, its sort, and what stands behind the sort
+-- a line of a script: its number, counted from 1, its node, its sort, and what stands behind the sort
 pub record ScriptLine : Type 0 where
   pub number : ℕ
+  pub node : List ℕ
   pub sort : Sort
   pub text : List ℕ
 
@@ -29,38 +30,41 @@ abbrev pub is_line_byte : ℕ → Bool
 is_line_byte b = nat_le 32 b && nat_le b 126
 
 -- `$`, a blank and a command that doesn't end in `-`; or `!`, a blank and an act
-abbrev pub sorted : ℕ → List ℕ → Option ScriptLine
-sorted number [] = None
-sorted number (mark ∷ []) = None
-sorted number (mark ∷ blank ∷ text) =
+abbrev pub sorted : ℕ → List ℕ → List ℕ → Option ScriptLine
+sorted number node [] = None
+sorted number node (mark ∷ []) = None
+sorted number node (mark ∷ blank ∷ text) =
     if not (blank == 32) then None else
-    if mark == 33 then Some (record { number = number; sort = Site; text = text }) else
-    if mark == 36 && not (ends_with nat_eq text (45 ∷ [])) then Some (record { number = number; sort = Command; text = text }) else None
+    if mark == 33 then Some (record { number = number; node = node; sort = Site; text = text }) else
+    if mark == 36 && not (ends_with nat_eq text (45 ∷ [])) then Some (record { number = number; node = node; sort = Command; text = text }) else None
 
--- the name is the node's
-abbrev pub is_node : List ℕ → Option (List ℕ) → Bool
-is_node node None = false
-is_node node (Some name) = bytes_eq name node
+-- a name of a node has at most six bytes
+abbrev pub node_name_of : List ℕ → Option (List ℕ)
+node_name_of text = option_and_then (λ name. if nat_le (length name) 6 then Some name else None) (name_of text)
 
 -- the node, a blank, and the rest
-abbrev pub line_of : List ℕ → ℕ → List ℕ → Option ScriptLine
-line_of node number text =
+abbrev pub line_of : ℕ → List ℕ → Option ScriptLine
+line_of number text =
     if not (list_all is_line_byte text) then None else
-    option_and_then (λ parts. if is_node node (name_of parts.0) then sorted number parts.1 else None) (cut_at_blank text)
+    option_and_then (λ parts. option_and_then (λ node. sorted number node parts.1) (node_name_of parts.0)) (cut_at_blank text)
 
 -- the lines that aren't empty, of the parts between line feeds, of which the last has to be empty
-abbrev pub lines_from : List ℕ → ℕ → List (List ℕ) → Option (List ScriptLine)
-lines_from node number [] = Some []
-lines_from node number (part ∷ []) = if length part == 0 then Some [] else None
-lines_from node number (part ∷ next ∷ parts) =
-    if length part == 0 then lines_from node (number + 1) (next ∷ parts) else
-    option_and_then (λ line. option_map (λ lines. line ∷ lines) (lines_from node (number + 1) (next ∷ parts))) (line_of node number part)
+abbrev pub lines_from : ℕ → List (List ℕ) → Option (List ScriptLine)
+lines_from number [] = Some []
+lines_from number (part ∷ []) = if length part == 0 then Some [] else None
+lines_from number (part ∷ next ∷ parts) =
+    if length part == 0 then lines_from (number + 1) (next ∷ parts) else
+    option_and_then (λ line. option_map (λ lines. line ∷ lines) (lines_from (number + 1) (next ∷ parts))) (line_of number part)
 
 -- the lines of a script, or what is wrong with it
-abbrev pub script_of : List ℕ → List ℕ → Result (List ScriptLine) ScriptKind
-script_of node bytes =
+abbrev pub script_of : List ℕ → Result (List ScriptLine) ScriptKind
+script_of bytes =
     if nat_lt 16777216 (length bytes) then Err Long else
-    ok_or (lines_from node 1 (slice_split (λ b. b == 10) bytes)) Form
+    ok_or (lines_from 1 (slice_split (λ b. b == 10) bytes)) Form
+
+-- every line is of this node
+abbrev pub are_of_node : List ℕ → List ScriptLine → Bool
+are_of_node node lines = list_all (λ line. bytes_eq line.node node) lines
 
 -- the text and a line feed go to the end of the file
 abbrev pub append_to : Option FileName → List ℕ → Input

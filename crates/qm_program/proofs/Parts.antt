@@ -44,22 +44,22 @@ some_part text = named (slice_split (λ b. b == 10) text) (length-slice_split (�
     named [] e = absurd (omega (arith, e))
     named (part ∷ others) e = (part, others, refl)
 
-module _ (node : List ℕ) (number : ℕ) (rest text more : List ℕ) (front : List ScriptLine) (whole : Option (List ScriptLine))
+module _ (number : ℕ) (rest text more : List ℕ) (front : List ScriptLine) (whole : Option (List ScriptLine))
     (cut : slice_split (λ b. b == 10) rest ≡ text ∷ slice_split (λ b. b == 10) more)
-    (so_far : with_lines front (lines_from node number (slice_split (λ b. b == 10) rest)) ≡ whole) where
-  here : with_lines front (lines_from node number (text ∷ slice_split (λ b. b == 10) more)) ≡ whole
+    (so_far : with_lines front (lines_from number (slice_split (λ b. b == 10) rest)) ≡ whole) where
+  here : with_lines front (lines_from number (text ∷ slice_split (λ b. b == 10) more)) ≡ whole
   here = rw cut at so_far
 
   -- an empty line is skipped
-  pub line_skipped : (length text == 0) ≡ true → with_lines front (lines_from node (number + 1) (slice_split (λ b. b == 10) more)) ≡ whole
+  pub line_skipped : (length text == 0) ≡ true → with_lines front (lines_from (number + 1) (slice_split (λ b. b == 10) more)) ≡ whole
   line_skipped empty =
       let parts = some_part more in
-      let step : lines_from node number (text ∷ slice_split (λ b. b == 10) more) ≡ lines_from node (number + 1) (slice_split (λ b. b == 10) more) = rw (parts.2, empty) refl in
+      let step : lines_from number (text ∷ slice_split (λ b. b == 10) more) ≡ lines_from (number + 1) (slice_split (λ b. b == 10) more) = rw (parts.2, empty) refl in
       ap (with_lines front) (sym step) ∙ here
 
   -- another line is the next of those that are read
-  pub line_taken : (line : ScriptLine) → (length text == 0) ≡ false → Some line ≡ line_of node number text → with_lines (front ++ line ∷ []) (lines_from node (number + 1) (slice_split (λ b. b == 10) more)) ≡ whole
+  pub line_taken : (line : ScriptLine) → (length text == 0) ≡ false → Some line ≡ line_of number text → with_lines (front ++ line ∷ []) (lines_from (number + 1) (slice_split (λ b. b == 10) more)) ≡ whole
   line_taken line full is =
       let parts = some_part more in
-      let step : lines_from node number (text ∷ slice_split (λ b. b == 10) more) ≡ with_lines (line ∷ []) (lines_from node (number + 1) (slice_split (λ b. b == 10) more)) = rw (parts.2, full, ← is) refl in
-      with_more_lines front (line ∷ []) (lines_from node (number + 1) (slice_split (λ b. b == 10) more)) ∙ ap (with_lines front) (sym step) ∙ here
+      let step : lines_from number (text ∷ slice_split (λ b. b == 10) more) ≡ with_lines (line ∷ []) (lines_from (number + 1) (slice_split (λ b. b == 10) more)) = rw (parts.2, full, ← is) refl in
+      with_more_lines front (line ∷ []) (lines_from (number + 1) (slice_split (λ b. b == 10) more)) ∙ ap (with_lines front) (sym step) ∙ here

@@ -1,5 +1,6 @@
 pub mod Lines
 pub mod Ends
+pub mod Transcript
 pub mod Serving
 pub mod Taking
 pub mod Running

@@ -1,9 +1,8 @@
-//! The top call: what the program does between its words and its status, over any source of bytes and any sink. What it
-//! writes is the transcript of the script that it reads.
+//! The top call: what the program does between its words and its status, over any source of bytes, any sink and any device
+//! with the queue file. What it writes is the transcript of the script that it reads, over the site that the file keeps.
 #![tactic(auto)]
 
 mod act;
-mod first;
 mod input;
 mod outcome;
 mod print;

@@ -1,23 +1,31 @@
 ghost use Rattle.std.specs.Prelude.{◌≡◌, Some};
 ghost use Rattle.qm_program.specs.Ends.{status_of, end_text};
 
+use qm_disk::Disk;
 use qm_kinds::ScriptKind;
 use std::fmt;
 
 /// How the program ended.
 #[derive(Clone, Copy, Debug, PartialEq, Eq)]
 pub enum End {
-    /// The script was read to its end, and every line was answered.
+    /// The script was read to its end, and every line was answered; or the files were made.
     Ok,
     /// The words aren't those of the program.
     Usage,
-    /// What was read is no script. The line is 0 where no line is named.
+    /// What was read is no script, or not one for this site. The line is 0 where no line is named.
     Script { line: u32, kind: ScriptKind },
     /// The source failed.
     Read,
-    /// The sink failed. It took a front of the transcript.
+    /// The sink failed. It took the transcript up to a line, and a front of what that line was answered.
     Write,
-    /// There was no memory. The sink took a front of the transcript.
+    /// The disk failed. The sink took the transcript up to the line at which it did, and the line that says so; nothing where
+    /// the queue file couldn't be made or opened.
+    Journal,
+    /// The queue file begins with this byte, which isn't 1. An empty one counts as a byte 0.
+    Unformatted { byte: u8 },
+    /// At this place, in bytes from 0, the file is no queue file.
+    Damaged { file: u8, place: u64 },
+    /// There was no memory. The sink took the transcript up to a line, or nothing.
     NoMemory,
 }
 
@@ -32,6 +40,9 @@ impl End {
             End::Script { .. } => 3,
             End::Read => 4,
             End::Write => 5,
+            End::Journal => 6,
+            End::Unformatted { .. } => 7,
+            End::Damaged { .. } => 8,
             End::NoMemory => 10,
         }
     }
@@ -48,27 +59,33 @@ impl fmt::Display for End {
             End::Script { line, kind } => write!(f, "script line {line}: {kind}"),
             End::Read => f.write_str("read failed"),
             End::Write => f.write_str("write failed"),
+            End::Journal => f.write_str("journal failed"),
+            End::Unformatted { byte } => write!(f, "unformatted, byte {byte}"),
+            End::Damaged { file, place } => write!(f, "damaged, file {file}, byte {place}"),
             End::NoMemory => f.write_str("no memory"),
         }
     }
 }
 
-/// How the program ended, and its status.
-#[derive(Clone, Copy, Debug, PartialEq, Eq)]
-pub struct Outcome {
+/// How the program ended, its status, and the device with the queue file.
+#[derive(Drop)]
+pub struct Outcome<D: Disk> {
     pub status: u8,
     pub end: End,
+    pub disk: D,
 }
 
-impl Outcome {
+impl<D: Disk> Outcome<D> {
     /// The outcome with this end.
-    pub fn of(end: End) -> Outcome
+    pub fn of(end: End, disk: D) -> Outcome<D>
         ensures end { result.end ≡ end }
         ensures status { result.status ≡ status_of end }
+        ensures disk { result.disk ≡ disk }
     {
         Outcome {
             status: end.status(),
             end,
+            disk,
         }
     }
 }

@@ -4,6 +4,7 @@ ghost use Rattle.std.specs.List.{AllByRecursion};
 ghost use Rattle.std.specs.String.{string_bytes};
 ghost use Rattle.qm_model.specs.Words.{at_left, at_right, HasText, HasActText, HasRowText, HasRefusalText, status_text, entry_text, job_text, act_text, start_text, row_text, wanted_text, holder_text, no_more_text, refusal_text, refusal_line};
 ghost use Rattle.qm_model.specs.Transcript.{line_text, reply_lines, row_lines};
+ghost use Rattle.qm_program.specs.Transcript.{full_line, journal_line};
 
 use qm_kinds::{
     Act, Entry, EntryState, FileName, Holder, Listing, Name, NameOrNumber, ParseKind, Refusal,
@@ -248,6 +249,26 @@ pub(crate) fn refusal_lines(alloc: Global, refusal: &Refusal) -> Result<Vec<Stri
 {
     let words = refusal_words(alloc, refusal)?;
     Ok(vec![in alloc; format!(in alloc; "%QMAN-E-{words}")?]?)
+}
+
+fn full_line(alloc: Global, need: u64, cap: u64) -> Result<String, AllocError>
+    ensures { IfOk result (λ text. string_bytes text ≡ full_line need cap) }
+{
+    format!(in alloc; "%QMAN-E-FULL, need {need}, cap {cap}")
+}
+
+/// The line that says that the queue file has no room.
+pub(crate) fn full_lines(alloc: Global, need: u64, cap: u64) -> Result<Vec<String>, AllocError>
+    ensures { IfOk result (λ lines. map string_bytes lines.items ≡ full_line need cap ∷ []) }
+{
+    Ok(vec![in alloc; full_line(alloc, need, cap)?]?)
+}
+
+/// The line that says that the disk failed.
+pub(crate) fn journal_lines(alloc: Global) -> Result<Vec<String>, AllocError>
+    ensures { IfOk result (λ lines. map string_bytes lines.items ≡ journal_line ∷ []) }
+{
+    Ok(vec![in alloc; format!(in alloc; "%QMAN-F-JOURNAL")?]?)
 }
 
 // Appends the line of a transcript with this text.

@@ -1,12 +1,12 @@
-// A script: lines for the node of a site, each ended by a line feed.
+// A script: lines for the nodes of a site, each ended by a line feed.
 ghost use Rattle.std.specs.Prelude.{◌≡◌, ◌==◌, ◌+◌, ◌<◌, ◌≤◌, ◌∷◌, [], not, nat_lt, map, length, position, Ok, Err, IsOk, IfOk, IfSome, MatchOption, MatchResult};
 ghost use Rattle.std.specs.List.{list_all, slice_split};
 ghost use Rattle.std.specs.Option.{option_map, option_copied};
-ghost use Rattle.qm_kinds.specs.Files.{name_of};
+ghost use Rattle.std.specs.Str.{bytes_eq};
 ghost use Rattle.qm_kinds.specs.declared.script.ScriptKind.TheVariants.{Form};
 ghost use Rattle.qm_model.specs.Command.{cut_at_blank};
-ghost use Rattle.qm_model.specs.Script.{is_line_byte, is_node, sorted, line_of, script_of};
-ghost use Rattle.qm_program.specs.Lines.{line_view, lines_view, parts_view, CutsFirstLine, ReadsScript};
+ghost use Rattle.qm_model.specs.Script.{is_line_byte, node_name_of, sorted, line_of, script_of, are_of_node};
+ghost use Rattle.qm_program.specs.Lines.{node_in, line_view, lines_view, parts_view, CutsFirstLine, ReadsScript};
 ghost use Rattle.qm_program.specs.declared.script.ScriptEnd.TheVariants.{NoMemory};
 
 use qm_kinds::{Name, ScriptKind};
@@ -14,6 +14,9 @@ use std::alloc::{AllocError, AllocFailed, Global};
 
 /// The most bytes that a script may have.
 pub(crate) const SCRIPT_BYTES: usize = 16_777_216;
+
+/// The most bytes of a node's name.
+const NODE_NAME_BYTES: usize = 6;
 
 #[derive(Clone, Copy, Debug, PartialEq, Eq)]
 pub(crate) enum Sort {
@@ -28,6 +31,8 @@ pub(crate) enum Sort {
 pub(crate) struct Line<'a> {
     /// Lines of the text are counted from 1, empty ones too.
     pub(crate) number: u32,
+    /// The name of the line's node, as it stands there.
+    pub(crate) who: &'a [u8],
     pub(crate) sort: Sort,
     /// What stands behind the sort and a blank.
     pub(crate) text: &'a [u8],
@@ -89,17 +94,19 @@ fn is_of_line(text: &[u8]) -> bool
 }
 
 // A command that doesn't end in `-`, or an act.
-fn read_sorted(number: u32, text: &[u8]) -> Option<Line<'_>>
-    ensures { option_map line_view result ≡ sorted number text.now }
+fn read_sorted<'a>(number: u32, who: &'a [u8], text: &'a [u8]) -> Option<Line<'a>>
+    ensures { option_map line_view result ≡ sorted number (node_in who.now) text.now }
 {
     match text {
         [b'!', b' ', text @ ..] => Some(Line {
             number,
+            who,
             sort: Sort::Site,
             text,
         }),
         [b'$', b' ', text @ ..] if !text.ends_with(b"-") => Some(Line {
             number,
+            who,
             sort: Sort::Command,
             text,
         }),
@@ -107,45 +114,61 @@ fn read_sorted(number: u32, text: &[u8]) -> Option<Line<'_>>
     }
 }
 
-fn is_node(node: &Name, text: &[u8]) -> bool
-    ensures { result ≡ is_node node.now (name_of text.now) }
+/// The name of a node, which has at most six bytes.
+pub(crate) fn read_node_name(text: &[u8]) -> Option<Name>
+    ensures { result ≡ node_name_of text.now }
 {
     match Name::read(text) {
-        Ok(name) => name == *node,
-        Err(_) => false,
+        Ok(name) if name.as_str().len() <= NODE_NAME_BYTES => Some(name),
+        _ => None,
     }
 }
 
-// The line of this node, if that is what the text is.
-fn read_line<'a>(node: &Name, number: u32, text: &'a [u8]) -> Option<Line<'a>>
-    ensures { option_map line_view result ≡ line_of node.now number text.now }
+// A line of a node, if that is what the text is.
+fn read_line(number: u32, text: &[u8]) -> Option<Line<'_>>
+    ensures { option_map line_view result ≡ line_of number text.now }
 {
     if !is_of_line(text) {
         return None;
     }
     let (who, rest) = cut_at_blank(text)?;
-    if is_node(node, who) {
-        read_sorted(number, rest)
-    } else {
-        None
+    read_node_name(who)?;
+    read_sorted(number, who, rest)
+}
+
+// Whether a line is of this node.
+fn is_of_node(node: Name, line: &Line<'_>) -> bool
+    ensures { result ≡ bytes_eq (line_view line.now).node node }
+{
+    match read_node_name(line.who) {
+        Some(name) => name == node,
+        None => false,
     }
 }
 
+/// Whether every line is of this node.
+pub(crate) fn are_of_node(node: &Name, lines: &[Line<'_>]) -> bool
+    ensures { result ≡ are_of_node node.now (lines_view lines.now) }
+{
+    for line in lines {
+        if !is_of_node(*node, line) {
+            return false;
+        }
+    }
+    true
+}
+
 /// The lines of a script that aren't empty.
-pub(crate) fn read_script<'a>(
-    alloc: Global,
-    node: &Name,
-    script: &'a [u8],
-) -> Result<Vec<Line<'a>>, ScriptEnd>
+pub(crate) fn read_script<'a>(alloc: Global, script: &'a [u8]) -> Result<Vec<Line<'a>>, ScriptEnd>
     requires { length script.now ≤ SCRIPT_BYTES }
-    ensures { ReadsScript (λ lines. lines_view lines.items) (script_of node.now script.now) result }
+    ensures { ReadsScript (λ lines. lines_view lines.items) (script_of script.now) result }
 {
     let mut lines = Vec::new(alloc);
     let mut rest = script;
     let mut number = 1;
     while let Some((text, more)) = cut_at_line_feed(rest) {
         if !text.is_empty() {
-            let Some(line) = read_line(node, number, text) else {
+            let Some(line) = read_line(number, text) else {
                 return Err(ScriptEnd::Fault(ScriptKind::Form));
             };
             lines.push(line)?;

@@ -10,11 +10,11 @@ loop-text-preserved c = record {
   lines = elim c.if-not-is_empty.branch [
     | then-not-is_empty+in-Some-read_line+in_ok-push w ↦
         rw (w.lines-is, w.in_ok-push.ensures.items, map-append)
-        (line_taken c.args.node.now c.loop-text.number c.loop-text.rest.now c.in-Some.text.now c.in-Some.more.now (lines_view c.loop-text.lines.items) _ c.in-Some.ensures.0 c.loop-text.invariant.lines
+        (line_taken c.loop-text.number c.loop-text.rest.now c.in-Some.text.now c.in-Some.more.now (lines_view c.loop-text.lines.items) _ c.in-Some.ensures.0 c.loop-text.invariant.lines
         (line_view w.in-Some-read_line.line) (sym c.is_empty.ensures ∙ w.if-not-is_empty.true) w.in-Some-read_line.ensures)
     | else-not-is_empty w ↦
         rw w.lines-is
-        (line_skipped c.args.node.now c.loop-text.number c.loop-text.rest.now c.in-Some.text.now c.in-Some.more.now (lines_view c.loop-text.lines.items) _ c.in-Some.ensures.0 c.loop-text.invariant.lines
+        (line_skipped c.loop-text.number c.loop-text.rest.now c.in-Some.text.now c.in-Some.more.now (lines_view c.loop-text.lines.items) _ c.in-Some.ensures.0 c.loop-text.invariant.lines
         (sym c.is_empty.ensures ∙ w.if-not-is_empty.false))
   ];
   number = omega (arith, c.in-Some.ensures.1);

@@ -8,7 +8,7 @@ use Rattle.qm_program.proofs.script.read_script.Given as goal
 -- the lines so far and those of the rest are those of the whole, and each line took a byte at least
 abbrev pub invariant-loop-text : goal.invariant-loop-text
 invariant-loop-text l = record {
-  lines : with_lines (lines_view l.lines.items) (lines_from l.node l.number (slice_split (λ b. b == 10) l.rest)) ≡ lines_from l.node 1 (slice_split (λ b. b == 10) l.script);
+  lines : with_lines (lines_view l.lines.items) (lines_from l.number (slice_split (λ b. b == 10) l.rest)) ≡ lines_from 1 (slice_split (λ b. b == 10) l.script);
   number : l.number + length l.rest ≤ length l.script + 1;
 }
 

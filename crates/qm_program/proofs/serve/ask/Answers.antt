@@ -1,16 +1,13 @@
-use Rattle.std.proofs.Common.{sym, ◌∙◌, ap, subst}
-use Rattle.qm_model.specs.Outcome.{Accepted}
-use Rattle.qm_model.specs.Words.{HasActText}
-use Rattle.qm_state.specs.Image.{system_of}
-use Rattle.qm_state.specs.Preparing.{made}
-use Rattle.qm_program.proofs.Served.{request_serves, request_refused}
+use Rattle.qm_manager.specs.Manager.{site_of}
+use Rattle.qm_program.proofs.Served.{queue_file_printable, done_serves, refusal_was}
 use Rattle.qm_program.proofs.serve.ask.Goals as goal
 
 pub reply_lines-requires : goal.reply_lines-requires
-reply_lines-requires c =
-    subst (λ (a : Accepted). HasActText a.reply.act)
-    (ap (made c.in-Ok.prepared) (sym c.prepare.ensures.rows) ∙ c.commit.ensures)
-    (request_serves (system_of c.args.image.now) c.args.request.now (made c.in-Ok.prepared (system_of c.args.image.now)) c.requires.served c.requires.asked c.in-Ok.ensures.accepted).1
+reply_lines-requires g c =
+    let site = site_of c.args.manager.now in
+    (done_serves site c.args.request (queue_file_printable site.bodies site.system c.requires.lawful) c.requires.asked (site_of c.ask.new.self) c.in-Ok.reply c.in-Ok.ensures.answer).1
 
 pub refusal_lines-requires : goal.refusal_lines-requires
-refusal_lines-requires c = request_refused (system_of c.args.image.now) c.args.request.now c.in-Err-By.refusal c.requires.asked (rw c.in-Err-By.field-0-is at c.in-Err-By.ensures.refused)
+refusal_lines-requires g c =
+    let site = site_of c.args.manager.now in
+    refusal_was site c.args.request (queue_file_printable site.bodies site.system c.requires.lawful) c.requires.asked c.in-Err-Refused.refusal (rw c.in-Err-Refused.field-0-is at c.in-Err-Refused.ensures.answer).0

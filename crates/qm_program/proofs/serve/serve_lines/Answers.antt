@@ -1,39 +1,131 @@
-use Rattle.std.proofs.Common.{◌+◌, sym, ◌∙◌, subst, arith, drop, get_or}
-use Rattle.std.specs.Io.KnownBytes.{Appends}
-use Rattle.qm_io.specs.Bytes.{TakesPrefix}
-use Rattle.qm_model.specs.Script.{input_of}
-use Rattle.qm_model.specs.Transcript.{served}
-use Rattle.qm_state.specs.Image.{system_of}
+use Rattle.std.proofs.Common.{◌+◌, sym, ◌∙◌, subst, arith, drop, get_or, refl}
+use Rattle.qm_disk.specs.Moments.{started, goes_further, holds_now}
+use Rattle.qm_disk.specs.Moments.{keeps_on}
+use Rattle.qm_manager.specs.Manager.{site_of, node_of, disk_of}
 use Rattle.qm_program.specs.Lines.{lines_view, line_view}
-use Rattle.qm_program.specs.Serving.{IsServed}
-use Rattle.qm_program.proofs.Served.{input_is_asked, turn_serves}
-use Rattle.qm_program.proofs.Going.{Goes, goes_on, goes_within, no_line, first_line, at_any_error}
+use Rattle.qm_program.specs.Serving.{Reaches}
+use Rattle.qm_program.specs.Ends.{end_of}
+use Rattle.qm_program.proofs.Going.{Goes, goes_first, goes_on, goes_within, goes_to_end, ends_there, goes_reaching, reaches_first, no_line, first_line, rest_is_nothing, node_at}
 use Rattle.qm_program.proofs.serve.serve_lines.Goals as goal
 
-pub returns-in_err-write_whole-clause-front : goal.returns-in_err-write_whole-clause-front
-returns-in_err-write_whole-clause-front g c =
+pub loop-line-init : goal.loop-line-init
+loop-line-init g c =
+    let d = g.D.Disk in
+    let site = site_of c.args.manager.now in
+    let old = disk_of c.args.manager.now in
+    record {
+      goes = goes_first site (lines_view c.args.lines.now) (g.O.Sink.taken c.args.sink.now);
+      lawful = c.requires.lawful;
+      node = refl;
+      rest = c.requires.rest;
+      so_far = λ told. started d.moment d.left_since old (Reaches (d.may_leave old) site (lines_view c.args.lines.now)) (λ image left.
+          reaches_first d.seen d.may_leave site (lines_view c.args.lines.now) old image c.requires.lawful (c.requires.rest told) (g.met.D.Disk.only_now old image left));
+      others = record { reads = λ f le other. refl; no_more = λ f x le other left. left; no_fewer = λ f x le other left. left };
+      disk_faults = omega arith;
+      faults = omega arith;
+    }
+
+pub serve-requires-clause-node : goal.serve-requires-clause-node
+serve-requires-clause-node g c =
+    node_at (node_of c.args.manager.now) c.args.lines.now c.loop-line.line-index c.loop-line-test.true c.requires.node ∙ sym c.loop-line.invariant.node
+
+pub serve-requires-clause-lawful : goal.serve-requires-clause-lawful
+serve-requires-clause-lawful g c = c.loop-line.invariant.lawful
+
+pub serve-requires-clause-rest : goal.serve-requires-clause-rest
+serve-requires-clause-rest g c = c.loop-line.invariant.rest
+
+pub returns-in-Err-clause-stops : goal.returns-in-Err-clause-stops
+returns-in-Err-clause-stops g c =
+    let d = g.D.Disk in
     let taken = g.O.Sink.taken in
+    let site = site_of c.args.manager.now in
+    let lines = lines_view c.args.lines.now in
     let line = line_view (get_or c.args.lines.now c.loop-line.line-index no_line) in
-    let whole = served c.args.node.now (system_of c.args.image.now) (lines_view c.args.lines.now) in
-    let here = subst (λ rest. Goes c.args.node.now whole (system_of c.loop-line.image) rest (taken c.args.sink.now) (taken c.loop-line.sink))
+    let behind = lines_view (drop (c.loop-line.line-index + 1) c.args.lines.now) in
+    let here = subst (λ rest. Goes site lines (site_of c.loop-line.manager) rest (taken c.args.sink.now) (taken c.loop-line.sink))
     (first_line c.args.lines.now c.loop-line.line-index c.loop-line-test.true) c.loop-line.invariant.goes in
-    at_any_error _ _ (goes_within c.args.node.now whole (system_of c.loop-line.image) (taken c.args.sink.now) (taken c.loop-line.sink) line
-    (lines_view (drop (c.loop-line.line-index + 1) c.args.lines.now)) here (taken c.write_whole.new.sink)
-    (subst (TakesPrefix (taken c.loop-line.sink) (taken c.write_whole.new.sink)) (c.as_bytes.ensures.value ∙ c.in_ok-text.ensures.text) c.in_err-write_whole.ensures.prefix))
+    goes_within site lines (site_of c.loop-line.manager) (taken c.args.sink.now) (taken c.loop-line.sink) line behind here d.tells (d.may_leave (disk_of c.serve.new.manager)) (taken c.serve.new.sink) (end_of c.in-Err.end)
+    c.in-Err.ensures.stops
+    (λ told image left. (holds_now d.seen d.may_leave d.moment d.left_since (disk_of c.loop-line.manager) (disk_of c.serve.new.manager) _ (c.serve.ensures.any_moment told) (g.met.D.Disk.counts_now (disk_of c.serve.new.manager)) image left).site)
+
+pub returns-in-Err-clause-any_moment : goal.returns-in-Err-clause-any_moment
+returns-in-Err-clause-any_moment g c = λ told.
+    let d = g.D.Disk in
+    let taken = g.O.Sink.taken in
+    let site = site_of c.args.manager.now in
+    let lines = lines_view c.args.lines.now in
+    let line = line_view (get_or c.args.lines.now c.loop-line.line-index no_line) in
+    let behind = lines_view (drop (c.loop-line.line-index + 1) c.args.lines.now) in
+    let here = subst (λ rest. Goes site lines (site_of c.loop-line.manager) rest (taken c.args.sink.now) (taken c.loop-line.sink))
+    (first_line c.args.lines.now c.loop-line.line-index c.loop-line-test.true) c.loop-line.invariant.goes in
+    goes_further d.moment d.left_since (disk_of c.args.manager.now) (disk_of c.loop-line.manager) (disk_of c.serve.new.manager) _ _ (c.loop-line.invariant.so_far told) (c.serve.ensures.any_moment told)
+    (goes_reaching site lines (site_of c.loop-line.manager) (taken c.args.sink.now) (taken c.loop-line.sink) line behind here (d.may_leave (disk_of c.args.manager.now)) (d.may_leave (disk_of c.loop-line.manager))
+    (λ f x le other left. c.loop-line.invariant.others.no_more f x le other left))
+
+pub returns-in-Err-clause-others : goal.returns-in-Err-clause-others
+returns-in-Err-clause-others g c =
+    keeps_on g.D.Disk.seen g.D.Disk.may_leave 1 (disk_of c.args.manager.now) (disk_of c.loop-line.manager) (disk_of c.serve.new.manager) c.loop-line.invariant.others c.serve.ensures.others
+
+pub returns-in-Err-clause-disk_faults : goal.returns-in-Err-clause-disk_faults
+returns-in-Err-clause-disk_faults g c = omega (arith, c.loop-line.invariant.disk_faults, c.serve.ensures.disk_faults)
+
+pub returns-in-Err-clause-never_falls : goal.returns-in-Err-clause-never_falls
+returns-in-Err-clause-never_falls g c = omega (arith, c.loop-line.invariant.faults, c.serve.ensures.never_falls)
 
 pub loop-line-preserved : goal.loop-line-preserved
 loop-line-preserved g c =
+    let d = g.D.Disk in
     let taken = g.O.Sink.taken in
+    let site = site_of c.args.manager.now in
+    let lines = lines_view c.args.lines.now in
     let line = line_view (get_or c.args.lines.now c.loop-line.line-index no_line) in
-    let whole = served c.args.node.now (system_of c.args.image.now) (lines_view c.args.lines.now) in
-    let here = subst (λ rest. Goes c.args.node.now whole (system_of c.loop-line.image) rest (taken c.args.sink.now) (taken c.loop-line.sink))
+    let behind = lines_view (drop (c.loop-line.line-index + 1) c.args.lines.now) in
+    let here = subst (λ rest. Goes site lines (site_of c.loop-line.manager) rest (taken c.args.sink.now) (taken c.loop-line.sink))
     (first_line c.args.lines.now c.loop-line.line-index c.loop-line-test.true) c.loop-line.invariant.goes in
     record {
-      goes = goes_on c.args.node.now whole (system_of c.loop-line.image) (taken c.args.sink.now) (taken c.loop-line.sink) line
-          (lines_view (drop (c.loop-line.line-index + 1) c.args.lines.now)) here (taken c.write_whole.new.sink)
-          (system_of c.serve_line.new.image) c.in_ok-text.ensures.system
-          (subst (Appends (taken c.loop-line.sink) (taken c.write_whole.new.sink)) (c.as_bytes.ensures.value ∙ c.in_ok-text.ensures.text) c.in_ok-write_whole.ensures.all);
-      served = subst IsServed (sym c.in_ok-text.ensures.system)
-          (turn_serves (system_of c.loop-line.image) (input_of line.sort line.text) c.loop-line.invariant.served (input_is_asked line.sort line.text));
-      faults = omega (arith, c.loop-line.invariant.faults, c.write_whole.ensures.never_falls);
+      goes = goes_on site lines (site_of c.loop-line.manager) (taken c.args.sink.now) (taken c.loop-line.sink) line behind here (site_of c.serve.new.manager) (taken c.serve.new.sink) c.in-Ok.ensures.site c.in-Ok.ensures.ok;
+      lawful = c.serve.ensures.lawful;
+      node = c.serve.ensures.node ∙ c.loop-line.invariant.node;
+      rest = c.in-Ok.ensures.rest;
+      so_far = λ told. goes_further d.moment d.left_since (disk_of c.args.manager.now) (disk_of c.loop-line.manager) (disk_of c.serve.new.manager) _ _ (c.loop-line.invariant.so_far told) (c.serve.ensures.any_moment told)
+          (goes_reaching site lines (site_of c.loop-line.manager) (taken c.args.sink.now) (taken c.loop-line.sink) line behind here (d.may_leave (disk_of c.args.manager.now)) (d.may_leave (disk_of c.loop-line.manager))
+          (λ f x le other left. c.loop-line.invariant.others.no_more f x le other left));
+      others = keeps_on d.seen d.may_leave 1 (disk_of c.args.manager.now) (disk_of c.loop-line.manager) (disk_of c.serve.new.manager) c.loop-line.invariant.others c.serve.ensures.others;
+      disk_faults = omega (arith, c.loop-line.invariant.disk_faults, c.serve.ensures.disk_faults);
+      faults = omega (arith, c.loop-line.invariant.faults, c.serve.ensures.never_falls);
     }
+
+pub returns-clause-ok : goal.returns-clause-ok
+returns-clause-ok g c =
+    let site = site_of c.args.manager.now in
+    let lines = lines_view c.args.lines.now in
+    let old = g.O.Sink.taken c.args.sink.now in
+    goes_to_end site lines (site_of c.loop-line.manager) old (g.O.Sink.taken c.loop-line.sink)
+    (subst (λ rest. Goes site lines (site_of c.loop-line.manager) rest old (g.O.Sink.taken c.loop-line.sink)) (rest_is_nothing c.args.lines.now c.loop-line.line-index c.loop-line-test.false) c.loop-line.invariant.goes)
+
+pub returns-clause-site : goal.returns-clause-site
+returns-clause-site g c =
+    let site = site_of c.args.manager.now in
+    let lines = lines_view c.args.lines.now in
+    let old = g.O.Sink.taken c.args.sink.now in
+    ends_there site lines (site_of c.loop-line.manager) old (g.O.Sink.taken c.loop-line.sink)
+    (subst (λ rest. Goes site lines (site_of c.loop-line.manager) rest old (g.O.Sink.taken c.loop-line.sink)) (rest_is_nothing c.args.lines.now c.loop-line.line-index c.loop-line-test.false) c.loop-line.invariant.goes)
+
+pub returns-clause-rest : goal.returns-clause-rest
+returns-clause-rest g c = c.loop-line.invariant.rest
+
+pub returns-clause-any_moment : goal.returns-clause-any_moment
+returns-clause-any_moment g c = c.loop-line.invariant.so_far
+
+pub returns-clause-others : goal.returns-clause-others
+returns-clause-others g c = c.loop-line.invariant.others
+
+pub returns-clause-disk_faults : goal.returns-clause-disk_faults
+returns-clause-disk_faults g c = c.loop-line.invariant.disk_faults
+
+pub returns-clause-never_falls : goal.returns-clause-never_falls
+returns-clause-never_falls g c = c.loop-line.invariant.faults
+
+pub returns-clause-lawful : goal.returns-clause-lawful
+returns-clause-lawful g c = c.loop-line.invariant.lawful

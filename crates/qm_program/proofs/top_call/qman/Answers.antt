@@ -1,21 +1,17 @@
-use Rattle.qm_program.specs.Running.{site_node, IsWithinServing}
-use Rattle.qm_model.specs.Transcript.{transcript}
-use Rattle.qm_program.proofs.Going.{run_front, takes_none, left_text, left_is_read, whole_is_read}
+use Rattle.std.proofs.Common.{◌≡◌, ◌∙◌, sym}
+use Rattle.std.proofs.lemmas.Option.{same_Some}
+use Rattle.qm_program.proofs.Opened.{making_opens}
 use Rattle.qm_program.proofs.top_call.qman.Goals as goal
-use Rattle.qm_program.proofs.top_call.qman.Goals.{in-Ok, in-Err-Failed, in-Err-TooLong, in-Err-NoMemory}
 
-pub returns-clause-front : goal.returns-clause-front
-returns-clause-front g c within =
-    let left = g.S.Source.remaining c.args.source.now in
-    let old = g.O.Sink.taken c.args.sink.now in
-    let stops : IsWithinServing c.match-read_whole.end = rw c.of-2.ensures.end at within in
-    elim c.match-read_whole.branch [
-      | in-Ok w ↦ rw w.sink-is (
-        w.deref.result.now,
-        whole_is_read left w.in-Ok.script.items w.deref.result.now w.in-Ok.ensures.whole w.deref.ensures.value,
-        run_front w.deref.result.now old (g.O.Sink.taken w.run_script-end.new.sink) _ _ w.run_script-end.result w.run_script-end.ensures (rw w.end-is at stops),
-      )
-      | in-Err-Failed w ↦ absurd (rw w.end-is at stops)
-      | in-Err-TooLong w ↦ absurd (rw w.script_end-end.ensures at (rw w.end-is at stops))
-      | in-Err-NoMemory w ↦ rw w.sink-is (left_text left, left_is_read left, takes_none old (transcript site_node (left_text left)))
-    ]
+pub returns-in-Some-clause-made : goal.returns-in-Some-clause-made
+returns-in-Some-clause-made g c node is ok =
+    let same : c.in-Some.node ≡ node = same_Some c.in-Some.node node (c.in-Some.ensures ∙ is) in
+    rw (sym same) (c.make.ensures.ok ok)
+
+pub returns-in-Some-clause-untouched : goal.returns-in-Some-clause-untouched
+returns-in-Some-clause-untouched g c before = absurd (making_opens c.make.result.end c.make.ensures.ends before)
+
+pub returns-in-Some-clause-untold : goal.returns-in-Some-clause-untold
+returns-in-Some-clause-untold g c node is write told =
+    let same : c.in-Some.node ≡ node = same_Some c.in-Some.node node (c.in-Some.ensures ∙ is) in
+    rw (sym same) (c.make.ensures.untold write told)
