@@ -5,7 +5,7 @@ use std::test::Fail;
 #[test]
 fn what_is_not_there_is_refused(rt: HostRuntime) -> Result<(), Fail> {
     let ran = run(
-        rt.alloc(),
+        &rt,
         b"A $ SUBMIT JOB
 A $ SHOW ENTRY 1
 A $ SHOW ENTRY 0
@@ -31,7 +31,7 @@ A 6: %QMAN-E-NOSUCHFILE
 #[test]
 fn a_file_that_an_entry_names_stays_as_it_is(rt: HostRuntime) -> Result<(), Fail> {
     let ran = run(
-        rt.alloc(),
+        &rt,
         b"A ! LINE JOB.COM $ EXIT 1
 A $ SUBMIT JOB
 A $ SUBMIT JOB
@@ -60,7 +60,7 @@ A 7:      3 JOB              SYSTEM              1 pending
 #[test]
 fn what_is_not_built_is_said_and_the_run_goes_on(rt: HostRuntime) -> Result<(), Fail> {
     let ran = run(
-        rt.alloc(),
+        &rt,
         b"A $ PRINT JOB
 A $ SUBMIT/QUEUE=LP JOB
 A $ SUBMIT JOB ! comment
@@ -116,7 +116,7 @@ fn a_file_past_its_limit_is_refused(rt: HostRuntime) -> Result<(), Fail> {
         script.push(b'x')?;
     }
     script.extend_from_slice(b"\nA ! LINE BIGGER.LIS x\n")?;
-    let ran = run(alloc, &script)?;
+    let ran = run(&rt, &script)?;
     assert_eq!(rt;
         ran.transcript.as_slice(),
         b"A 1: file BIG.LIS, 1048576 bytes
@@ -137,7 +137,7 @@ fn a_file_too_many_is_refused(rt: HostRuntime) -> Result<(), Fail> {
         script.extend_from_slice(format!(in alloc; "A ! LINE F{number} x\n")?.as_bytes())?;
     }
     script.extend_from_slice(b"A ! LINE F0 x\n")?;
-    let ran = run(alloc, &script)?;
+    let ran = run(&rt, &script)?;
     assert!(rt;
         ran.transcript.ends_with(
             b"A 4096: file F4095, 2 bytes
@@ -158,7 +158,7 @@ fn an_entry_too_many_is_refused(rt: HostRuntime) -> Result<(), Fail> {
         script.extend_from_slice(b"A $ SUBMIT J\n")?;
     }
     script.extend_from_slice(b"A $ SHOW ENTRY 65536\n")?;
-    let ran = run(alloc, &script)?;
+    let ran = run(&rt, &script)?;
     assert!(rt;
         ran.transcript.ends_with(
             b"A 65537: Job J (queue SYS$BATCH, entry 65536) pending

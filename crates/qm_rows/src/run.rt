@@ -1,23 +1,53 @@
-// A run of the program over memory.
+// Runs of the program over memory.
+use qm_disk::MemoryDisk;
 use qm_io::{MemorySink, MemorySource};
-use qm_program::{Outcome, qman};
+use qm_program::{End, Outcome, qman};
 use std::alloc::{AllocError, Global};
+use std::process::Abort;
+use std::test::Fail;
 
-/// How a run ended, and what it printed.
+/// How a run ended, what it printed, and the device that it handed back.
 #[derive(Drop)]
 pub(crate) struct Ran {
-    pub(crate) outcome: Outcome,
+    pub(crate) end: End,
+    pub(crate) status: u8,
     pub(crate) transcript: Vec<u8>,
+    pub(crate) disk: MemoryDisk,
 }
 
-/// Runs the program with these words over a text. The source and the sink fail at the calls that are listed, counted
-/// from 1.
+impl Ran {
+    /// A further run, over the device that this one handed back.
+    pub(crate) fn then(self, alloc: Global, script: &[u8]) -> Result<Ran, AllocError> {
+        let Ran { disk, .. } = self;
+        serve(alloc, script, disk)
+    }
+}
+
+/// A device whose queue file holds these bytes, and whose other files are empty. It fails at the calls that are listed,
+/// counted from 1.
+pub(crate) fn device(
+    alloc: Global,
+    queue_file: &[u8],
+    calls_that_fail: &[u64],
+) -> Result<MemoryDisk, AllocError> {
+    Ok(MemoryDisk::new(
+        alloc,
+        Vec::new(alloc),
+        queue_file.to_vec(alloc)?,
+        Vec::new(alloc),
+        calls_that_fail.to_vec(alloc)?,
+    ))
+}
+
+/// Runs the program with these words over a text and a device. The source and the sink fail at the calls that are listed,
+/// counted from 1.
 pub(crate) fn run_with(
     alloc: Global,
     words: &[&str],
     script: &[u8],
     reads_that_fail: &[u64],
     writes_that_fail: &[u64],
+    disk: MemoryDisk,
 ) -> Result<Ran, AllocError> {
     let mut owned = Vec::new(alloc);
     for word in words {
@@ -25,14 +55,36 @@ pub(crate) fn run_with(
     }
     let mut source = MemorySource::new(script.to_vec(alloc)?, reads_that_fail.to_vec(alloc)?);
     let mut sink = MemorySink::new(alloc, writes_that_fail.to_vec(alloc)?);
-    let outcome = qman(alloc, &owned, &mut source, &mut sink);
+    let Outcome { status, end, disk } = qman(alloc, &owned, &mut source, &mut sink, disk);
     Ok(Ran {
-        outcome,
+        end,
+        status,
         transcript: sink.held().to_vec(alloc)?,
+        disk,
     })
 }
 
-/// Runs a script over an outside that doesn't fail.
-pub(crate) fn run(alloc: Global, script: &[u8]) -> Result<Ran, AllocError> {
-    run_with(alloc, &["run"], script, &[], &[])
+/// Makes the queue file of a device, with an outside that doesn't fail beside it.
+pub(crate) fn init(alloc: Global, node: &str, disk: MemoryDisk) -> Result<Ran, AllocError> {
+    run_with(alloc, &["init", node], b"", &[], &[], disk)
+}
+
+/// Serves a script over a device, with an outside that doesn't fail beside it.
+pub(crate) fn serve(alloc: Global, script: &[u8], disk: MemoryDisk) -> Result<Ran, AllocError> {
+    run_with(alloc, &["run"], script, &[], &[], disk)
+}
+
+/// The device with a new site of the node A.
+pub(crate) fn site<R: Abort + AllocGlobal>(rt: &R) -> Result<MemoryDisk, Fail> {
+    let alloc = rt.alloc();
+    let made = init(alloc, "A", device(alloc, &[], &[])?)?;
+    assert_eq!(rt; made.end, End::Ok);
+    assert_eq!(rt; made.transcript.as_slice(), b"initialized\n".as_slice());
+    let Ran { disk, .. } = made;
+    Ok(disk)
+}
+
+/// Serves a script over a new site of the node A.
+pub(crate) fn run<R: Abort + AllocGlobal>(rt: &R, script: &[u8]) -> Result<Ran, Fail> {
+    Ok(serve(rt.alloc(), script, site(rt)?)?)
 }

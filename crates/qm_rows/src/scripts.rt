@@ -6,14 +6,14 @@ use std::test::Fail;
 #[test]
 fn a_job_is_pending_in_the_stopped_queue(rt: HostRuntime) -> Result<(), Fail> {
     let ran = run(
-        rt.alloc(),
+        &rt,
         b"A ! LINE JOB.COM $ EXIT 1
 A $ SUBMIT JOB
 A $ SHOW ENTRY 1
 ",
     )?;
-    assert_eq!(rt; ran.outcome.end, End::Ok);
-    assert_eq!(rt; ran.outcome.status, 0);
+    assert_eq!(rt; ran.end, End::Ok);
+    assert_eq!(rt; ran.status, 0);
     assert_eq!(rt;
         ran.transcript.as_slice(),
         b"A 1: file JOB.COM, 9 bytes
@@ -28,8 +28,8 @@ A 3:      1 JOB              SYSTEM              1 pending
 
 #[test]
 fn the_empty_script_prints_nothing(rt: HostRuntime) -> Result<(), Fail> {
-    let ran = run(rt.alloc(), b"")?;
-    assert_eq!(rt; ran.outcome.end, End::Ok);
+    let ran = run(&rt, b"")?;
+    assert_eq!(rt; ran.end, End::Ok);
     assert_eq!(rt; ran.transcript.as_slice(), b"".as_slice());
     Ok(())
 }
@@ -37,7 +37,7 @@ fn the_empty_script_prints_nothing(rt: HostRuntime) -> Result<(), Fail> {
 #[test]
 fn empty_lines_count_and_are_skipped(rt: HostRuntime) -> Result<(), Fail> {
     let ran = run(
-        rt.alloc(),
+        &rt,
         b"
 
 A ! LINE NIGHT.LIS 
@@ -74,7 +74,7 @@ A $ SHOW ENTRY 1
 A $ SHOW ENTRY 0002
 ",
     )?;
-    let ran = run(alloc, &script)?;
+    let ran = run(&rt, &script)?;
     assert_eq!(rt;
         ran.transcript.as_slice(),
         b"A 1: file ONE.COM, 512 bytes
@@ -94,7 +94,7 @@ A 6:      2 TWO              SYSTEM              2 pending
 #[test]
 fn long_names_are_not_cut(rt: HostRuntime) -> Result<(), Fail> {
     let ran = run(
-        rt.alloc(),
+        &rt,
         b"A ! LINE ABCDEFGHIJKLMNOPQRSTUVWXYZ0123456789$_A.COM x
 A $ SUBMIT ABCDEFGHIJKLMNOPQRSTUVWXYZ0123456789$_A
 A $ SHOW ENTRY 1
