@@ -1,12 +1,20 @@
 -- What a crash leaves at each moment of an append.
-use Rattle.std.proofs.Common.{◌≡◌, inl, sym, ◌∙◌, ap, subst, ℕ, ◌+◌, ◌^◌, ◌<◌, List, [], ◌∷◌, ◌++◌, length, drop}
+use Rattle.std.proofs.Common.{◌≡◌, inl, sym, ◌∙◌, ap, subst, ℕ, ◌+◌, ◌^◌, ◌<◌, ◌≤◌, List, [], ◌∷◌, ◌++◌, length, drop, arith}
 use Rattle.qm_disk.specs.Disk.{Image, spliced, Torn, KeepsOthers}
-use Rattle.qm_glog.specs.Records.{text, IsLog}
+use Rattle.qm_glog.specs.Records.{text, size_of, IsLog}
+use Rattle.qm_glog.specs.Reading.{length-text}
 use Rattle.qm_glog.specs.Moments.{Written, Appended}
-use Rattle.qm_glog.proofs.Adding.{tail, staged, torn_behind, written_behind, torn_gate, written_gate, after_gate}
+use Rattle.qm_glog.proofs.Adding.{tail, staged, room, length-staged, torn_behind, written_behind, torn_gate, written_gate, after_gate}
 
 module _ {D : Type 0} (seen : D → ℕ → List ℕ) (may_leave : D → ℕ → List ℕ → Type 0) (file : ℕ) (old : D) (bodies : List (List ℕ)) (log : IsLog (seen old file) bodies)
-    (end : ℕ) (is : end ≡ length (text bodies)) (body : List ℕ) (small : length body < 2 ^ 32) where
+    (end : ℕ) (at_end : end ≡ size_of bodies) (body : List ℕ) (small : length body < 2 ^ 32) where
+  is : end ≡ length (text bodies)
+  is = at_end ∙ sym (length-text bodies)
+
+  -- there is a gate behind them
+  pub gate_stands : end + 1 ≤ length (seen old file)
+  gate_stands = room bodies log.fit end is body small (seen old file) log.gate log.rest log.shut log.whole
+
   -- the first write leaves the old records
   pub first_leaves : (n : ℕ) (image : Image) → Written (may_leave old) file (end + 1) n (seen old file) image → Appended (may_leave old) file bodies body image
   first_leaves n image written = record {
@@ -25,6 +33,10 @@ module _ {D : Type 0} (seen : D → ℕ → List ℕ) (may_leave : D → ℕ →
     is_staged =
         wrote ∙ ap (λ (l : List ℕ). spliced (end + 1) l (seen old file)) spelled
         ∙ written_behind bodies log.fit end is body small (seen old file) log.gate log.rest log.shut log.whole
+
+    -- the gate is still there
+    pub gate_still_stands : end ≤ length (seen mid file)
+    gate_still_stands = omega (arith, ap (λ (l : List ℕ). length l) is_staged, length-staged bodies log.fit end is body small log.gate behind)
 
     -- the second leaves them with the new one or without
     pub second_leaves : KeepsOthers seen may_leave file old mid → (image : Image) → Written (may_leave mid) file end 1 (seen mid file) image → Appended (may_leave old) file bodies body image

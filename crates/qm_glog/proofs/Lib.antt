@@ -1,5 +1,6 @@
 pub mod Added
 pub mod Adding
+pub mod Cut
 pub mod Heads
 pub mod OneWrite
 pub mod Walk

@@ -1,9 +1,9 @@
 -- What reading finds at a place of a file.
-use Rattle.std.specs.Prelude.{◌≡◌, ◌≢◌, ℕ, ◌^◌, ◌<◌, ◌≤◌, ◌+◌, List, [], ◌∷◌, ◌++◌, length, slice_index, Option, Some, None, Result, Ok, Err, Vec}
+use Rattle.std.specs.Prelude.{◌≡◌, ◌≢◌, ℕ, ◌^◌, ◌<◌, ◌≤◌, ◌+◌, List, [], ◌∷◌, ◌++◌, slice_index, Result, Ok, Err}
 use Rattle.std.specs.Int.{w32, to_le_bytes}
-use Rattle.std.specs.declared.alloc.Global.{Global}
-use Rattle.qm_glog.specs.Records.{behind_gate, IsLog, IsBroken, IsDamaged}
-use Rattle.qm_glog.specs.Bodies.{contents}
+use Rattle.qm_glog.specs.Records.{IsLog, IsBroken, IsDamaged}
+use Rattle.qm_glog.specs.Bodies.{list_of}
+use Rattle.qm_glog.specs.declared.bodies.Bodies.{Bodies}
 use Rattle.qm_glog.specs.declared.fault.LogFault.{LogFault}
 use Rattle.qm_glog.specs.declared.fault.LogFault.TheVariants.{Disk, Unformatted, Damaged, Full, NoMemory}
 use Rattle.qm_glog.specs.declared.reading.Head.{Head}
@@ -36,12 +36,6 @@ abbrev pub EndsWithin : ℕ → ℕ → Head → Type 0
 EndsWithin place size Closed = Unit {0}
 EndsWithin place size (Open n) = place + 5 + n ≤ size
 
--- a closed gate, or a record with this body
-abbrev pub RecordAt : List ℕ → ℕ → Result (Option (Vec ℕ Global)) LogFault → Type 0
-RecordAt rest place (Ok None) = IsClosed rest
-RecordAt rest place (Ok (Some body)) = (length body.items < 2 ^ 32) × (more : List ℕ) × (rest ≡ 1 ∷ (behind_gate body.items ++ more))
-RecordAt rest place (Err e) = IsCause rest place e
-
 -- neither an empty file nor a full one
 abbrev pub IsReadFault : List ℕ → LogFault → Type 0
 IsReadFault file Disk = Unit {0}
@@ -51,8 +45,8 @@ IsReadFault file (Unformatted byte) = ⊥
 IsReadFault file (Full need cap) = ⊥
 
 -- the records of a file, or why it has none
-abbrev pub RecordsOf : List ℕ → Result (Vec (Vec ℕ Global) Global × ℕ) LogFault → Type 0
-RecordsOf file (Ok found) = IsLog file (contents found.0.items)
+abbrev pub RecordsOf : List ℕ → Result (Bodies × ℕ) LogFault → Type 0
+RecordsOf file (Ok found) = IsLog file (list_of found.0)
 RecordsOf file (Err e) = IsReadFault file e
 
 -- such a fault says nothing of a cap

@@ -1,13 +1,13 @@
 -- What a log shows.
 use Rattle.std.specs.Prelude.{ℕ, ◌+◌, ◌-◌, ◌^◌, min, List, length}
 use Rattle.qm_disk.specs.Disk.{Only}
-use Rattle.qm_glog.specs.Records.{text, IsLog}
-use Rattle.qm_glog.specs.Bodies.{contents}
+use Rattle.qm_glog.specs.Records.{size_of, IsLog}
+use Rattle.qm_glog.specs.Bodies.{list_of}
 use Rattle.qm_glog.specs.declared.log.Log.{Log}
 
 -- the bodies of its records, the first one first
 abbrev pub bodies_of : Log → List (List ℕ)
-bodies_of log = contents log.bodies.items
+bodies_of log = list_of log.bodies
 
 -- the file of the disk in which it stands
 abbrev pub file_of : Log → ℕ
@@ -23,7 +23,7 @@ spare_of log = log.spare
 
 -- how many bytes the file takes with this record and the closed gate behind it, a number that stands at the end of its type
 abbrev pub need_of : List (List ℕ) → List ℕ → ℕ
-need_of bodies body = min (length (text bodies) + length body + 6) (2 ^ 64 - 1)
+need_of bodies body = min (size_of bodies + length body + 6) (2 ^ 64 - 1)
 
 -- the file is as the last call of this log left it: it holds the log's records, all on the disk
 pub record IsAsLeft {D : Type 0} (seen : D → ℕ → List ℕ) (may_leave : D → ℕ → List ℕ → Type 0) (log : Log) (disk : D) : Type 0 where

@@ -4,7 +4,7 @@ use Rattle.std.specs.Int.{w32, to_le_bytes, from_le_bytes}
 use Rattle.std.proofs.Common.{inl, inr, refl, sym, ◌∙◌, ap, subst, arith, length-append, append_assoc}
 use Rattle.std.proofs.lemmas.List.{append-nil, take_at, drop_at}
 use Rattle.std.proofs.lemmas.Nat.{from_le_bytes-to_le_bytes_4}
-use Rattle.qm_glog.specs.Records.{behind_gate, text, Fit, IsLog, IsBroken, IsDamaged}
+use Rattle.qm_glog.specs.Records.{behind_gate, text, size_of, Fit, IsLog, IsBroken, IsDamaged}
 
 pub length-behind_gate : (body : List ℕ) → length (behind_gate body) ≡ 4 + length body
 unfolding behind_gate
@@ -18,10 +18,14 @@ text-push (b ∷ bodies) body rest =
     ∙ ap (λ (l : List ℕ). (1 ∷ behind_gate b) ++ l) (text-push bodies body rest)
     ∙ sym (append_assoc (1 ∷ behind_gate b) (text bodies) (1 ∷ (behind_gate body ++ rest)))
 
-pub length-text-push : (bodies : List (List ℕ)) (body : List ℕ) → length (text (bodies ++ body ∷ [])) ≡ length (text bodies) + 5 + length body
-length-text-push bodies body =
-    let pushed : length (text (bodies ++ body ∷ []) ++ []) ≡ length (text bodies ++ 1 ∷ (behind_gate body ++ [])) = ap (λ (l : List ℕ). length l) (text-push bodies body []) in
-    omega (arith, pushed, length-append (text (bodies ++ body ∷ [])) [], length-append (text bodies) (1 ∷ (behind_gate body ++ [])), length-append (behind_gate body) [], length-behind_gate body)
+-- records take as many bytes as their size says
+pub length-text : (bodies : List (List ℕ)) → length (text bodies) ≡ size_of bodies
+length-text [] = refl
+length-text (body ∷ bodies) = omega (arith, length-append (behind_gate body) (text bodies), length-behind_gate body, length-text bodies)
+
+pub size_of-push : (bodies : List (List ℕ)) (body : List ℕ) → size_of (bodies ++ body ∷ []) ≡ size_of bodies + 5 + length body
+size_of-push [] body = omega arith
+size_of-push (b ∷ bodies) body = omega (arith, size_of-push bodies body)
 
 pub Fit-push : (bodies : List (List ℕ)) (body : List ℕ) → Fit bodies → length body < 2 ^ 32 → Fit (bodies ++ body ∷ [])
 Fit-push [] body fit small = (small, tt)
@@ -94,4 +98,4 @@ sound_if_log file a place log damaged =
 pub one_place : (file : List ℕ) (p q : ℕ) → IsDamaged file p → IsDamaged file q → p ≡ q
 one_place file p q left right =
     let same = one_split left.bodies right.bodies left.rest right.rest left.fit right.fit (broken_ends left.rest left.broken) (broken_ends right.rest right.broken) (sym left.whole ∙ right.whole) in
-    left.place_is ∙ ap (λ (l : List (List ℕ)). length (text l)) same.0 ∙ sym right.place_is
+    left.place_is ∙ ap size_of same.0 ∙ sym right.place_is

@@ -14,6 +14,11 @@ abbrev pub text : List (List ℕ) → List ℕ
 text [] = []
 text (body ∷ bodies) = 1 ∷ behind_gate body ++ text bodies
 
+-- how many bytes they take: five and the body's for each
+abbrev pub size_of : List (List ℕ) → ℕ
+size_of [] = 0
+size_of (body ∷ bodies) = 5 + length body + size_of bodies
+
 -- what the length of a record can say
 abbrev pub Fit : List (List ℕ) → Type 0
 Fit [] = Unit {0}
@@ -38,7 +43,7 @@ pub record IsDamaged (file : List ℕ) (place : ℕ) : Type 0 where
   pub rest : List ℕ
   pub whole : file ≡ text bodies ++ rest
   pub fit : Fit bodies
-  pub place_is : place ≡ length (text bodies)
+  pub place_is : place ≡ size_of bodies
   pub broken : IsBroken rest
 
 -- the file is a log of these bodies, or of these and one more

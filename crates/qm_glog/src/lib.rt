@@ -3,6 +3,7 @@
 //! What a file holds is `IsLog` of `specs/Records.antt`.
 #![tactic(auto)]
 
+mod bodies;
 mod fault;
 mod laws;
 mod log;

@@ -1,11 +1,12 @@
 // The log and its calls on records.
-ghost use Rattle.std.specs.Prelude.{◌≡◌, ◌⊎◌, ◌+◌, ◌<◌, ◌≤◌, ◌↔◌, [], ◌∷◌, ◌++◌, IsTrue, length, vec_len, vec_capacity, IfErr, OnOk, OnErr, IsErrOf, slice_get, Some};
+ghost use Rattle.std.specs.Prelude.{◌≡◌, ◌⊎◌, ◌+◌, ◌<◌, ◌≤◌, ◌↔◌, [], ◌∷◌, ◌++◌, IsTrue, length, vec_capacity, IfErr, OnOk, OnErr, IsErrOf, slice_get, Some};
 ghost use Rattle.qm_disk.specs.Disk.{KeepsOthers, LeavesOnly, Rose};
-ghost use Rattle.qm_glog.specs.Records.{text};
-ghost use Rattle.qm_glog.specs.Bodies.{contents};
+ghost use Rattle.qm_glog.specs.Records.{size_of};
+ghost use Rattle.qm_glog.specs.Bodies.{list_of, free_bytes, free_ends};
 
 use crate::LogFault;
-use crate::spare::{keep, spell};
+use crate::bodies::Bodies;
+use crate::spare::spell;
 use crate::through::write_through;
 use qm_disk::Disk;
 use std::alloc::{AllocError, Global};
@@ -16,24 +17,20 @@ pub const GREATEST_CAP: u64 = 268_435_456;
 /// The records of one file of a disk, which it doesn't own.
 #[derive(Drop)]
 pub struct Log {
-    alloc: Global,
     file: u8,
     cap: u64,
     /// The place of the closed gate.
     end: u64,
-    bodies: Vec<Vec<u8>>,
+    bodies: Bodies,
     /// One more than the bytes of the longest body for which there is memory, or 0.
     spare: usize,
-    /// Memory for the next body.
-    next: Vec<u8>,
     /// Memory for the next record as it is written.
     buffer: Vec<u8>,
     ghost in_disk: { file ≤ 2 },
     ghost capped: { cap ≤ 268435456 },
-    ghost at_end: { end ≡ length (text (contents bodies.items)) },
-    ghost empty: { next.items ≡ [] },
-    ghost has_room: { 0 < spare → vec_len bodies < vec_capacity bodies },
-    ghost has_next: { 0 < spare → spare ≤ vec_capacity next + 1 },
+    ghost at_end: { end ≡ size_of (list_of bodies) },
+    ghost has_end: { 0 < spare → 0 < free_ends bodies },
+    ghost has_bytes: { 0 < spare → spare ≤ free_bytes bodies + 1 },
     ghost has_buffer: { 0 < spare → spare + 4 ≤ vec_capacity buffer },
 }
 
@@ -42,23 +39,21 @@ impl Log {
     ghost use Rattle.qm_glog.specs.Log.{bodies_of, file_of, cap_of, spare_of, need_of, IsAsLeft};
 
     // The log with these bodies and this end, with nothing spare.
-    pub(crate) fn of(alloc: Global, file: u8, cap: u64, bodies: Vec<Vec<u8>>, end: u64) -> Self
+    pub(crate) fn of(alloc: Global, file: u8, cap: u64, bodies: Bodies, end: u64) -> Self
         requires file { file ≤ 2 }
         requires cap { cap ≤ 268435456 }
-        requires end { end ≡ length (text (contents bodies.items)) }
-        ensures bodies { bodies_of result ≡ contents bodies.items }
+        requires end { end ≡ size_of (list_of bodies) }
+        ensures bodies { bodies_of result ≡ list_of bodies }
         ensures file { file_of result ≡ file }
         ensures cap { cap_of result ≡ cap }
         ensures spare { spare_of result ≡ 0 }
     {
         Log {
-            alloc,
             file,
             cap,
             end,
             bodies,
             spare: 0,
-            next: Vec::new(alloc),
             buffer: Vec::new(alloc),
         }
     }
@@ -87,12 +82,12 @@ impl Log {
         requires { index < length (bodies_of self.now) }
         ensures { slice_get (bodies_of self.now) index ≡ Some result.now }
     {
-        &self.bodies[index]
+        self.bodies.get(index)
     }
 
     /// The place of the closed gate behind the last record, in bytes.
     pub fn end(&self) -> u64
-        ensures { result ≡ length (text (bodies_of self.now)) }
+        ensures { result ≡ size_of (bodies_of self.now) }
     {
         self.end
     }
@@ -106,8 +101,7 @@ impl Log {
         ensures cap { cap_of self.new ≡ cap_of self.old }
     {
         let record = bytes.checked_add(5).ok_or(AllocError)?;
-        self.bodies.reserve(1)?;
-        self.next.reserve(bytes)?;
+        self.bodies.reserve(bytes)?;
         self.buffer.clear();
         self.buffer.reserve(record)?;
         self.spare = self.spare.max(bytes + 1);
@@ -152,7 +146,7 @@ impl Log {
         // The record has to be on the disk before its gate opens.
         write_through(disk, self.file, self.end + 1, &self.buffer)?;
         write_through(disk, self.file, self.end, &[1])?;
-        keep(self.alloc, &mut self.bodies, &mut self.next, body);
+        self.bodies.push_reserved(body);
         self.end += 5 + body.len() as u64;
         self.spare = 0;
         Ok(())

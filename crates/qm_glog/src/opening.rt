@@ -7,6 +7,7 @@ ghost use Rattle.qm_glog.specs.Opened.{Opens};
 ghost use Rattle.qm_glog.specs.Found.{IsNotFull};
 
 use crate::LogFault;
+use crate::bodies::Bodies;
 use crate::log::{GREATEST_CAP, Log};
 use crate::reading::read_records;
 use qm_disk::{Disk, DiskFault};
@@ -33,7 +34,7 @@ pub fn format<D: Disk>(alloc: Global, disk: &mut D, file: u8) -> Result<Log, Log
     disk.cut(file, 0)?;
     disk.write(file, 0, &[0])?;
     disk.sync(file)?;
-    Ok(Log::of(alloc, file, GREATEST_CAP, Vec::new(alloc), 0))
+    Ok(Log::of(alloc, file, GREATEST_CAP, Bodies::new(alloc), 0))
 }
 
 // Syncs a file, and tells its size.
@@ -50,7 +51,8 @@ fn synced_size<D: Disk>(disk: &mut D, file: u8) -> Result<u64, DiskFault>
 
 /// Reads the records of a file up to the first gate that isn't open, and keeps them. It begins with a sync, so
 /// that what it has read is on the disk: else a crash could take a record away that a caller acted on. It reads
-/// each byte of a record once, and has no more in memory than the records. Nothing is changed.
+/// each byte of a record once. In memory it has the bodies and eight bytes for each; where the file is larger than
+/// the cap, memory is moved as it grows. Nothing is changed.
 pub fn open<D: Disk>(alloc: Global, disk: &mut D, file: u8, cap: u64) -> Result<Log, LogFault>
     requires file { file ≤ 2 }
     requires cap { cap ≤ 268435456 }
@@ -72,6 +74,6 @@ pub fn open<D: Disk>(alloc: Global, disk: &mut D, file: u8, cap: u64) -> Result<
     if size == 0 {
         return Err(LogFault::Unformatted { byte: 0 });
     }
-    let (bodies, end) = read_records(alloc, disk, file, size)?;
+    let (bodies, end) = read_records(alloc, disk, file, size, cap)?;
     Ok(Log::of(alloc, file, cap, bodies, end))
 }

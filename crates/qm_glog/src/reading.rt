@@ -1,14 +1,15 @@
 // How a log is read, record by record.
-ghost use Rattle.std.specs.Prelude.{◌≡◌, ◌⊎◌, ◌+◌, ◌<◌, ◌≤◌, IsTrue, length, take, drop, IfOk, IfErr, IfSome, IsErrOf};
+ghost use Rattle.std.specs.Prelude.{◌≡◌, ◌+◌, ◌<◌, ◌≤◌, IsTrue, length, drop, IfOk, IfErr, IsErrOf};
 ghost use Rattle.std.specs.Int.{w32, to_le_bytes, from_le_bytes};
 ghost use Rattle.qm_disk.specs.Disk.{Rose};
-ghost use Rattle.qm_glog.specs.Records.{text};
-ghost use Rattle.qm_glog.specs.Bodies.{contents};
+ghost use Rattle.qm_glog.specs.Records.{size_of};
+ghost use Rattle.qm_glog.specs.Bodies.{list_of};
 ghost use Rattle.qm_glog.specs.Moments.{OnlyLooks};
-ghost use Rattle.qm_glog.specs.Found.{length_bytes, HeadAt, EndsWithin, RecordAt, RecordsOf, IsNotFull};
+ghost use Rattle.qm_glog.specs.Found.{length_bytes, HeadAt, EndsWithin, RecordsOf, IsNotFull};
 ghost use Rattle.qm_glog.specs.declared.reading.Head.TheVariants.{Closed, Open};
 
 use crate::LogFault;
+use crate::bodies::Bodies;
 use qm_disk::Disk;
 use std::alloc::Global;
 
@@ -94,78 +95,30 @@ fn read_head<D: Disk>(disk: &mut D, file: u8, place: u64, size: u64) -> Result<H
     read_whole_head(disk, file, place, size)
 }
 
-// So many bytes of a file.
-fn read_bytes<D: Disk>(
-    alloc: Global,
-    disk: &mut D,
-    file: u8,
-    at: u64,
-    count: usize,
-) -> Result<Vec<u8>, LogFault>
-    requires file { file ≤ 2 }
-    requires within { IsTrue D.tells → at + count ≤ length (D.seen disk.old file) }
-    ensures length { IfOk result (λ bytes. length bytes.items ≡ count) }
-    ensures bytes { IfOk result (λ bytes. IsTrue D.tells → bytes.items ≡ take count (drop at (D.seen disk.old file))) }
-    ensures cause { IfErr result (λ e. (e ≡ LogFault.Disk) ⊎ (e ≡ LogFault.NoMemory)) }
-    ensures looks { OnlyLooks D.seen D.may_leave D.moment D.left_since disk.old disk.new }
-    ensures faults { D.faults disk.old ≤ D.faults disk.new }
-    ensures failed { IsErrOf result LogFault.Disk → Rose (D.faults disk.old) (D.faults disk.new) }
-    ensures not_full { IfErr result IsNotFull }
-{
-    let mut bytes = Vec::new(alloc);
-    bytes.resize(count, 0)?;
-    disk.read(file, at, bytes.as_mut_slice())?;
-    Ok(bytes)
-}
-
-// The body of the record at a place, or nothing where its gate is closed.
-fn read_record<D: Disk>(
-    alloc: Global,
-    disk: &mut D,
-    file: u8,
-    place: u64,
-    size: u64,
-) -> Result<Option<Vec<u8>>, LogFault>
-    requires file { file ≤ 2 }
-    requires place { place ≤ size }
-    requires size { IsTrue D.tells → size ≡ length (D.seen disk.old file) }
-    ensures found { IsTrue D.tells → RecordAt (drop place (D.seen disk.old file)) place result }
-    ensures within { IfOk result (λ found. IfSome found (λ body. place + 5 + length body.items ≤ size)) }
-    ensures looks { OnlyLooks D.seen D.may_leave D.moment D.left_since disk.old disk.new }
-    ensures faults { D.faults disk.old ≤ D.faults disk.new }
-    ensures failed { IsErrOf result LogFault.Disk → Rose (D.faults disk.old) (D.faults disk.new) }
-    ensures not_full { IfErr result IsNotFull }
-{
-    match read_head(disk, file, place, size)? {
-        Head::Closed => Ok(None),
-        Head::Open { length } => {
-            let body = read_bytes(alloc, disk, file, place + 5, length as usize)?;
-            Ok(Some(body))
-        }
-    }
-}
-
-// The bodies of a file's records, and the place of the closed gate behind them.
+// The bodies of a file's records, and the place of the closed gate behind them. Within the cap the memory for
+// their bytes is taken at once.
 pub(crate) fn read_records<D: Disk>(
     alloc: Global,
     disk: &mut D,
     file: u8,
     size: u64,
-) -> Result<(Vec<Vec<u8>>, u64), LogFault>
+    cap: u64,
+) -> Result<(Bodies, u64), LogFault>
     requires file { file ≤ 2 }
     requires size { IsTrue D.tells → size ≡ length (D.seen disk.old file) }
     ensures found { IsTrue D.tells → RecordsOf (D.seen disk.old file) result }
-    ensures end { IfOk result (λ found. found.1 ≡ length (text (contents found.0.items))) }
+    ensures end { IfOk result (λ found. found.1 ≡ size_of (list_of found.0)) }
     ensures looks { OnlyLooks D.seen D.may_leave D.moment D.left_since disk.old disk.new }
     ensures faults { D.faults disk.old ≤ D.faults disk.new }
     ensures failed { IsErrOf result LogFault.Disk → Rose (D.faults disk.old) (D.faults disk.new) }
     ensures not_full { IfErr result IsNotFull }
 {
-    let mut bodies = Vec::new(alloc);
+    let mut bodies = Bodies::new(alloc);
+    bodies.reserve(size.min(cap) as usize)?;
     let mut place = 0;
-    'records: while let Some(body) = read_record(alloc, disk, file, place, size)? {
-        place += 5 + body.len() as u64;
-        bodies.push(body)?;
+    'records: while let Head::Open { length } = read_head(disk, file, place, size)? {
+        bodies.read(disk, file, place + 5, length as usize)?;
+        place += 5 + u64::from(length);
     }
     Ok((bodies, place))
 }

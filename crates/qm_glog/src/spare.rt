@@ -1,10 +1,6 @@
 // What an append does with memory that was reserved for it.
-ghost use Rattle.std.specs.Prelude.{◌≡◌, ◌+◌, ◌<◌, ◌≤◌, ◌^◌, [], ◌∷◌, ◌++◌, length, vec_len, vec_capacity};
+ghost use Rattle.std.specs.Prelude.{◌≡◌, ◌+◌, ◌<◌, ◌≤◌, ◌^◌, [], ◌∷◌, ◌++◌, length, vec_capacity};
 ghost use Rattle.qm_glog.specs.Records.{behind_gate};
-ghost use Rattle.qm_glog.specs.Bodies.{contents};
-
-use std::alloc::Global;
-use std::mem;
 
 // Spells a record behind its gate, and a closed gate behind it.
 #[tactic(auto, unfolding(crate::specs::Records::behind_gate))]
@@ -19,16 +15,4 @@ pub(crate) fn spell(buffer: &mut Vec<u8>, body: &[u8])
     buffer.extend_from_slice(&length.to_le_bytes()).unwrap();
     buffer.extend_from_slice(body).unwrap();
     buffer.push_reserved(0);
-}
-
-// Keeps a body.
-pub(crate) fn keep(alloc: Global, bodies: &mut Vec<Vec<u8>>, next: &mut Vec<u8>, body: &[u8])
-    requires empty { next.old.items ≡ [] }
-    requires room { vec_len bodies.old < vec_capacity bodies.old }
-    requires next_room { length body.now ≤ vec_capacity next.old }
-    ensures kept { contents bodies.new.items ≡ contents bodies.old.items ++ body.now ∷ [] }
-    ensures empty { next.new.items ≡ [] }
-{
-    next.extend_from_slice(body).unwrap();
-    bodies.push_reserved(mem::replace(next, Vec::new(alloc)));
 }

@@ -1,7 +1,7 @@
 -- What a store holds, and what its queue file, which is file 1 of the device, holds.
-use Rattle.std.specs.Prelude.{◌⊎◌, ℕ, ◌+◌, ◌-◌, ◌^◌, min, List, [], ◌∷◌, ◌++◌, length, take, map}
+use Rattle.std.specs.Prelude.{◌⊎◌, ℕ, ◌+◌, ◌-◌, ◌^◌, min, List, [], ◌∷◌, ◌++◌, take, map}
 use Rattle.qm_disk.specs.Disk.{Image, Only, OthersLeft}
-use Rattle.qm_glog.specs.Records.{text, IsLog}
+use Rattle.qm_glog.specs.Records.{size_of, IsLog}
 use Rattle.qm_glog.specs.Log as log
 use Rattle.qm_kinds.specs.declared.record.Record.{Record}
 use Rattle.qm_record.specs.Spelling.{record_text}
@@ -43,7 +43,7 @@ pub record IsAtRest {D : Type 0} (seen : D → ℕ → List ℕ) (may_leave : D 
 
 -- the place of a record's gate in the queue file, in bytes; behind the last record, the place where the records end
 abbrev pub place_of : List (List ℕ) → ℕ → ℕ
-place_of bodies index = length (text (take index bodies))
+place_of bodies index = size_of (take index bodies)
 
 -- the spellings of records, in their order
 abbrev pub bodies_for : List Record → List (List ℕ)
@@ -51,4 +51,4 @@ bodies_for rows = map record_text rows
 
 -- how many bytes a queue file of these records takes, a number that stands at the end of its type
 abbrev pub need_for : List (List ℕ) → ℕ
-need_for bodies = min (length (text bodies) + 1) (2 ^ 64 - 1)
+need_for bodies = min (size_of bodies + 1) (2 ^ 64 - 1)

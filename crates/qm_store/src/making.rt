@@ -1,7 +1,7 @@
 // How a store is made.
 ghost use Rattle.std.specs.Prelude.{◌≡◌, ◌⊎◌, ◌+◌, ◌<◌, ◌≤◌, [], ◌∷◌, ◌++◌, IsTrue, length, All, IfOk, IfErr, OnOk, IsErrOf, IsErrAnd};
 ghost use Rattle.qm_disk.specs.Disk.{OthersLeft, KeepsOthers, LeavesOnly, Rose};
-ghost use Rattle.qm_glog.specs.Records.{text};
+ghost use Rattle.qm_glog.specs.Records.{size_of};
 ghost use Rattle.qm_glog.specs.Bodies.{contents};
 ghost use Rattle.qm_glog.specs.Log.{bodies_of as bodies_in, file_of, cap_of as cap_in, IsAsLeft};
 ghost use Rattle.qm_record.specs.Spelling.{CanBeWritten, HasSpelling};
@@ -43,7 +43,7 @@ fn needed(bodies: &[Vec<u8>]) -> u64
 
 // Appends one record, for which there is room in the file.
 fn append<D: Disk>(disk: &mut D, log: &mut Log, body: &[u8]) -> Result<(), LogFault>
-    requires room { length (text (bodies_in log.old)) + length body.now + 6 ≤ cap_in log.old }
+    requires room { size_of (bodies_in log.old) + length body.now + 6 ≤ cap_in log.old }
     requires left { IsTrue D.tells → IsAsLeft D.seen D.may_leave log.old disk.old }
     ensures bodies { OnOk result (bodies_in log.new ≡ bodies_in log.old ++ body.now ∷ []) }
     ensures left { OnOk result (IsTrue D.tells → IsAsLeft D.seen D.may_leave log.new disk.new) }
@@ -61,7 +61,7 @@ fn append<D: Disk>(disk: &mut D, log: &mut Log, body: &[u8]) -> Result<(), LogFa
 
 // Appends records, for which there is room in the file.
 fn append_all<D: Disk>(disk: &mut D, log: &mut Log, rows: &[Vec<u8>]) -> Result<(), LogFault>
-    requires room { length (text (bodies_in log.old ++ contents rows.now)) + 1 ≤ cap_in log.old }
+    requires room { size_of (bodies_in log.old ++ contents rows.now) + 1 ≤ cap_in log.old }
     requires left { IsTrue D.tells → IsAsLeft D.seen D.may_leave log.old disk.old }
     ensures bodies { OnOk result (bodies_in log.new ≡ bodies_in log.old ++ contents rows.now) }
     ensures left { OnOk result (IsTrue D.tells → IsAsLeft D.seen D.may_leave log.new disk.new) }
@@ -81,7 +81,7 @@ fn append_all<D: Disk>(disk: &mut D, log: &mut Log, rows: &[Vec<u8>]) -> Result<
 
 // Makes the queue file of these records, for which there is room.
 fn write_rows<D: Disk>(alloc: Global, disk: &mut D, rows: &[Vec<u8>]) -> Result<Log, LogFault>
-    requires room { length (text (contents rows.now)) + 1 ≤ 134217728 }
+    requires room { size_of (contents rows.now) + 1 ≤ 134217728 }
     ensures bodies { IfOk result (λ log. bodies_in log ≡ contents rows.now) }
     ensures file { IfOk result (λ log. file_of log ≡ 1) }
     ensures cap { IfOk result (λ log. cap_in log ≡ 134217728) }

@@ -1,33 +1,37 @@
-use Rattle.std.proofs.Common.{rules, ◌≡◌, ◌+◌, ◌≤◌, ◌∙◌, sym, ap, subst, drop, length, ◌++◌, Ok, Some, IfSome, Option, Vec, List, ℕ, IsTrue, arith}
-use Rattle.std.specs.declared.alloc.Global.{Global}
+use Rattle.std.proofs.Common.{◌≡◌, ◌+◌, ◌∙◌, ap, subst, drop, take, ◌++◌, ◌∷◌, [], Ok, List, ℕ, IsTrue, arith}
 use Rattle.qm_glog.specs.Records.{text, Fit}
-use Rattle.qm_glog.specs.Bodies.{contents}
+use Rattle.qm_glog.specs.Bodies.{list_of}
 use Rattle.qm_glog.specs.Moments.{looks_on}
-use Rattle.qm_glog.specs.Found.{RecordAt}
-use Rattle.qm_glog.proofs.Walk.{place_on, split_on, fit_on}
+use Rattle.qm_glog.specs.Found.{HeadAt, EndsWithin}
+use Rattle.qm_glog.specs.declared.reading.Head.{Head}
+use Rattle.qm_glog.proofs.Walk.{record_on}
 use Rattle.qm_glog.proofs.reading.read_records.Goals as goal
 
 pub records-preserved : goal.records-preserved
 records-preserved g c =
     let d = g.D.Disk in
     let was = c.records.invariant in
-    let body = c.in-Some.body in
-    let bodies : List (Vec ℕ Global) = c.records.bodies.items in
-    let place : ℕ = c.records.place in
-    let long : c.len.result ≡ length body.items = search rules in
-    let pushed = c.in_ok-push.ensures.items in
+    let place = c.records.place in
+    let n = c.in-Open.length in
+    let old = c.args.disk.now in
+    let file = c.args.file in
     let same = was.looks.reads c.args.file c.requires.file in
-    let at : IsTrue g.D.Disk.tells → RecordAt (drop c.records.place (g.D.Disk.seen c.args.disk.now c.args.file)) c.records.place (Ok (Some c.in-Some.body)) = λ told.
-    subst (λ (s : List ℕ). RecordAt (drop c.records.place s) c.records.place (Ok (Some c.in-Some.body))) same
-    (subst (λ (o : Option (Vec ℕ Global)). RecordAt (drop c.records.place (g.D.Disk.seen c.records.disk c.args.file)) c.records.place (Ok o)) c.in-Some.is (c.in_ok-body.ensures.found told)) in
-    let ends = subst (λ (o : Option (Vec ℕ Global)). IfSome o (λ b. c.records.place + 5 + length b.items ≤ c.args.size)) c.in-Some.is c.in_ok-body.ensures.within in
+    let kept = c.read_head.ensures.looks.reads c.args.file c.requires.file in
+    let ends = subst (EndsWithin c.records.place c.args.size) c.in-Open.is c.in_ok-length.ensures.within in
+    let long = c.from.ensures in
+    let on : IsTrue g.D.Disk.tells → (g.D.Disk.seen c.args.disk.now c.args.file ≡ text (list_of c.read.new.self) ++ drop (c.records.place + (5 + c.from.result)) (g.D.Disk.seen c.args.disk.now c.args.file)) × Fit (list_of c.read.new.self) = λ told.
+    let head = subst (λ (h : Head). HeadAt (drop c.records.place (g.D.Disk.seen c.args.disk.now c.args.file)) c.records.place (Ok h)) c.in-Open.is
+    (subst (λ (s : List ℕ). HeadAt (drop c.records.place s) c.records.place (Ok c.in_ok-length.field-0)) same (c.in_ok-length.ensures.head told)) in
+    record_on (d.seen old file) (list_of c.records.bodies) (list_of c.read.new.self) place (place + (5 + c.from.result)) n was.place (was.split told) (was.fit told)
+    head (omega (arith, ends, c.requires.size told))
+    (c.in_ok-read.ensures.added told ∙ ap (λ (s : List ℕ). list_of c.records.bodies ++ take n (drop (place + 5) s) ∷ []) (kept ∙ same))
+    (omega (arith, long)) in
     record {
-      place = ap (λ (n : ℕ). place + (5 + n)) long ∙ place_on (d.seen c.args.disk.now c.args.file) bodies place was.place body ∙ ap (λ (l : List (Vec ℕ Global)). length (text (contents l))) (sym pushed);
+      place = omega (arith, was.place, long, c.in_ok-read.ensures.size);
       within = omega (arith, long, ends);
-      split = λ told. split_on (d.seen c.args.disk.now c.args.file) bodies place was.place (was.split told) body (at told)
-          ∙ ap (λ (l : List (Vec ℕ Global)). text (contents l) ++ drop (place + (5 + length body.items)) (d.seen c.args.disk.now c.args.file)) (sym pushed)
-          ∙ ap (λ (n : ℕ). text (contents c.push.new.self.items) ++ drop (place + (5 + n)) (d.seen c.args.disk.now c.args.file)) (sym long);
-      fit = λ told. subst (λ (l : List (Vec ℕ Global)). Fit (contents l)) (sym pushed) (fit_on (d.seen c.args.disk.now c.args.file) bodies place was.place (was.split told) body (at told) (was.fit told));
-      looks = looks_on d.seen d.may_leave d.moment d.left_since c.args.disk.now c.records.disk c.read_record.new.disk was.looks c.read_record.ensures.looks;
-      faults = omega (arith, was.faults, c.read_record.ensures.faults);
+      split = λ told. (on told).0;
+      fit = λ told. (on told).1;
+      looks = looks_on d.seen d.may_leave d.moment d.left_since old c.read_head.new.disk c.read.new.disk
+          (looks_on d.seen d.may_leave d.moment d.left_since old c.records.disk c.read_head.new.disk was.looks c.read_head.ensures.looks) c.read.ensures.looks;
+      faults = omega (arith, was.faults, c.read_head.ensures.faults, c.read.ensures.faults);
     }

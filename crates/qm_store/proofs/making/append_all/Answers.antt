@@ -1,7 +1,7 @@
 use Rattle.std.proofs.Common.{◌∙◌, sym, ap, subst, arith, length, List, ℕ}
 use Rattle.qm_disk.specs.Disk.{OthersLeft, KeepsOthers, LeavesOnly}
 use Rattle.qm_disk.specs.Moments.{goes_further, keeps_on}
-use Rattle.qm_glog.specs.Records.{text}
+use Rattle.qm_glog.specs.Records.{size_of}
 use Rattle.qm_glog.specs.Log.{bodies_of, file_of}
 use Rattle.qm_store.proofs.Rows.{row_within, row_more}
 use Rattle.qm_store.proofs.making.append_all.Goals as goal
@@ -9,7 +9,7 @@ use Rattle.qm_store.proofs.making.append_all.Goals as goal
 pub append-requires-clause-room : goal.append-requires-clause-room
 append-requires-clause-room g c =
     let within = row_within (bodies_of c.args.log.now) c.args.rows.now c.loop-row.row-index c.row-item.result (omega arith) (sym c.row-item.is) in
-    let so_far = ap (λ (l : List (List ℕ)). length (text l)) c.loop-row.invariant.bodies in
+    let so_far = ap size_of c.loop-row.invariant.bodies in
     let body = ap (λ (l : List ℕ). length l) c.deref.ensures.value in
     omega (arith, within, so_far, body, c.requires.room, c.loop-row.invariant.cap)
 

@@ -1,7 +1,7 @@
-use Rattle.std.proofs.Common.{◌∙◌, ap, sym, arith, length, take, List, ℕ}
-use Rattle.qm_glog.specs.Records.{text}
+use Rattle.std.proofs.Common.{◌∙◌, ap, sym, arith, take}
+use Rattle.qm_glog.specs.Records.{size_of}
 use Rattle.qm_glog.specs.Bodies.{contents}
-use Rattle.qm_glog.specs.Reading.{length-text-push}
+use Rattle.qm_glog.specs.Reading.{size_of-push}
 use Rattle.qm_store.proofs.Rows.{contents_more}
 use Rattle.qm_store.proofs.making.needed.Goals as goal
 
@@ -11,5 +11,5 @@ loop-body-preserved c =
     let rows = c.args.bodies.now in
     let row = c.body-item.result in
     let more = contents_more rows i row (omega arith) (sym c.body-item.is) in
-    let grown = ap (λ (l : List (List ℕ)). length (text l)) more ∙ length-text-push (contents (take c.loop-body.body-index c.args.bodies.now)) row.items in
+    let grown = ap size_of more ∙ size_of-push (contents (take c.loop-body.body-index c.args.bodies.now)) row.items in
     omega (arith, grown)
