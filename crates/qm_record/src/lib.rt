@@ -4,6 +4,7 @@
 mod element;
 mod fault;
 mod field;
+mod laws;
 mod reading;
 mod request;
 mod row;
@@ -12,5 +13,6 @@ mod tests;
 mod writing;
 
 pub use fault::RecordFault;
+pub use laws::rows_are_short;
 pub use reading::{no_record_begins_another, read_record};
 pub use writing::write_record;

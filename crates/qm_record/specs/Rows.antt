@@ -1,0 +1,78 @@
+-- The rows of an image, and how long their spellings may be.
+use Rattle.std.specs.Prelude.{ℕ, ◌+◌, ◌*◌, ◌≤◌, Bool, true, false, List, [], ◌∷◌, length, Option, Some, None}
+use Rattle.std.specs.List.{AllByRecursion}
+use Rattle.std.proofs.Common.{arith, length-append}
+use Rattle.qm_bytes.specs.Spelling.{truth, optional, each, list, short_bytes, IsName, IsList, AllOf}
+use Rattle.qm_kinds.specs.declared.form.Form.{Form}
+use Rattle.qm_kinds.specs.declared.queue.Queue.{Queue}
+use Rattle.qm_kinds.specs.declared.system.Node.{Node}
+use Rattle.qm_kinds.specs.declared.record.Record.{Record}
+use Rattle.qm_kinds.specs.declared.record.Body.{Body}
+use Rattle.qm_kinds.specs.declared.record.Body.TheVariants as body
+use Rattle.qm_record.specs.Spelling.{node, form, queue, body_text, record_text, NodeFits, FormFits, QueueFits, BodyFits, HasSpelling}
+
+-- the body is a row of an image, and no request
+abbrev pub IsRow : Body → Type 0
+IsRow (body.Ask request) = ⊥
+IsRow row = Unit {0}
+
+-- ---- fields
+
+length-truth : (b : Bool) → length (truth b) ≤ 1
+length-truth false = omega arith
+length-truth true = omega arith
+
+length-name : (name : List ℕ) → IsName name → length (short_bytes name) ≤ 40
+length-name name fits = omega (arith, fits.few)
+
+length-optional_name : (name : Option (List ℕ)) → AllOf IsName name → length (optional short_bytes name) ≤ 41
+length-optional_name None fits = omega arith
+length-optional_name (Some name) fits = omega (arith, fits.few)
+
+length-node : (n : Node) → NodeFits n → length (node n) ≤ 41
+length-node n fits = omega (arith, length-append (short_bytes n.name) (truth n.up), length-truth n.up, fits.few)
+
+-- elements of at most so many bytes
+module _ {A : Type 0} (spelling : A → List ℕ) (Fits : A → Type 0) (most : ℕ) (short : (x : A) → Fits x → length (spelling x) ≤ most) where
+  length-each : (xs : List A) → AllByRecursion Fits xs → length (each spelling xs) ≤ most * length xs
+  length-each [] fits = omega arith
+  length-each (x ∷ xs) fits = omega (arith, length-append (spelling x) (each spelling xs), short x fits.0, length-each xs fits.1)
+
+  length-list : (xs : List A) → IsList Fits xs → length (list spelling xs) ≤ 2 + most * length xs
+  length-list xs fits = omega (arith, length-each xs fits.each)
+
+length-nodes : (nodes : List Node) → IsList NodeFits nodes → length (list node nodes) ≤ 2686937
+length-nodes nodes fits = omega (arith, fits.few, length-list node NodeFits 41 length-node nodes fits)
+
+length-names : (names : List (List ℕ)) → IsList IsName names → length (list short_bytes names) ≤ 2621402
+length-names names fits = omega (arith, fits.few, length-list short_bytes IsName 40 length-name names fits)
+
+-- ---- rows
+
+length-form : (f : Form) → FormFits f → length (form f) ≤ 89
+length-form f fits = simp length-append (omega (arith, fits.name_fits.few, fits.stock_fits.few, length-truth f.shape.wrap))
+
+length-queue : (q : Queue) → QueueFits q → length (queue q) ≤ 2621594
+length-queue q fits =
+    simp length-append (omega (
+      arith,
+      fits.name_fits.few,
+      length-optional_name q.node fits.node_fits,
+      length-optional_name q.device fits.device_fits,
+      length-optional_name q.mounted fits.mounted_fits,
+      length-truth q.by_size,
+      length-names q.targets fits.targets_fit,
+    ))
+
+length-body : (b : Body) → BodyFits b → IsRow b → length (body_text b) ≤ 5308359
+length-body (body.Head nodes may next_entry next_run last) fits row = simp length-append (omega (arith, length-nodes nodes fits.0, length-names may fits.1))
+length-body (body.Form f) fits row = omega (arith, length-form f fits)
+length-body (body.Queue q) fits row = omega (arith, length-queue q fits)
+length-body (body.Ask request) fits row = absurd row
+length-body (body.Characteristic c) fits row = absurd fits
+length-body (body.File f) fits row = absurd fits
+length-body (body.Entry e) fits row = absurd fits
+
+-- The longest is a head, with 65,535 nodes that are or may be, each with a name of 39 bytes.
+pub rows_are_short : (r : Record) → HasSpelling r → IsRow r.body → length (record_text r) ≤ 5308370
+rows_are_short r fits row = omega (arith, length-body r.body fits.body_fits row)
