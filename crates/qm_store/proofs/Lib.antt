@@ -1,2 +1,3 @@
 pub mod FirstByte
 pub mod Rows
+pub mod FewRows

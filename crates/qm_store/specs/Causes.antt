@@ -1,5 +1,7 @@
 -- When a call on a store fails.
-use Rattle.std.specs.Prelude.{◌≡◌, ℕ, List}
+use Rattle.std.specs.Prelude.{◌≡◌, ℕ, ◌≤◌, List, length, All}
+use Rattle.qm_kinds.specs.declared.record.Record.{Record}
+use Rattle.qm_record.specs.Rows.{IsRow}
 use Rattle.qm_store.specs.Store.{need_for}
 use Rattle.qm_store.specs.declared.fault.StoreFault.{StoreFault}
 use Rattle.qm_store.specs.declared.fault.StoreFault.TheVariants.{Disk, Unformatted, Damaged, Full, NoMemory}
@@ -27,3 +29,8 @@ IsFullFor bodies (Full need cap) = (need ≡ need_for bodies) × (cap ≡ 134217
 IsFullFor bodies Disk = ⊥
 IsFullFor bodies (Unformatted byte) = ⊥
 IsFullFor bodies (Damaged file place) = ⊥
+
+-- so few rows of an image that they fit under the cap, however long they are
+pub record AreFewRows (image : List Record) : Type 0 where
+  pub few : length image ≤ 25
+  pub rows : All (λ (row : Record). IsRow row.body) image

@@ -7,7 +7,7 @@ ghost use Rattle.qm_glog.specs.Log.{bodies_of as bodies_in, file_of, cap_of as c
 ghost use Rattle.qm_record.specs.Spelling.{CanBeWritten, HasSpelling};
 ghost use Rattle.qm_store.specs.Store.{disk_of, bodies_of, cap_of, bodies_for, need_for, IsAtRest};
 ghost use Rattle.qm_store.specs.Opened.{disk_after};
-ghost use Rattle.qm_store.specs.Causes.{IsCauseOfMaking, IsFullFor};
+ghost use Rattle.qm_store.specs.Causes.{AreFewRows, IsCauseOfMaking, IsFullFor};
 
 use crate::StoreFault;
 use crate::store::{Open, QUEUE_CAP, QUEUE_FILE};
@@ -108,6 +108,7 @@ fn make<D: Disk>(alloc: Global, disk: &mut D, image: &[Record]) -> Result<Log, S
     ensures any_moment { IsTrue D.tells → LeavesOnly D.moment D.left_since disk.old disk.new (OthersLeft (D.may_leave disk.old) 1) }
     ensures others { KeepsOthers D.seen D.may_leave 1 disk.old disk.new }
     ensures fits { need_for (bodies_for image.now) ≤ 134217728 → IfErr result IsCauseOfMaking }
+    ensures few { AreFewRows image.now → IfErr result IsCauseOfMaking }
     ensures full { 134217728 < need_for (bodies_for image.now) → IsErrAnd result (IsFullFor (bodies_for image.now)) }
     ensures unchanged { 134217728 < need_for (bodies_for image.now) → disk.new ≡ disk.old }
     ensures faults { D.faults disk.old ≤ D.faults disk.new }
@@ -144,6 +145,8 @@ pub fn init<D: Disk>(alloc: Global, disk: D, image: &[Record]) -> Result<Open<D>
     ensures fits { need_for (bodies_for image.now) ≤ 134217728 → IfErr result (λ failed. IsCauseOfMaking failed.1) }
     ensures full { 134217728 < need_for (bodies_for image.now) → IsErrAnd result (λ failed. IsFullFor (bodies_for image.now) failed.1) }
     ensures unchanged { 134217728 < need_for (bodies_for image.now) → disk_after result ≡ disk }
+    // A few rows always fit.
+    ensures few { AreFewRows image.now → IfErr result (λ failed. IsCauseOfMaking failed.1) }
     ensures faults { D.faults disk ≤ D.faults (disk_after result) }
     ensures failed { IfErr result (λ failed. failed.1 ≡ StoreFault.Disk → Rose (D.faults disk) (D.faults failed.0)) }
 {
