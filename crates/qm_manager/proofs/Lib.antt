@@ -2,6 +2,5 @@ pub mod Rows
 pub mod Beginning
 pub mod Going
 pub mod Replaying
-pub mod FirstFile
 pub mod Asked
 pub mod OneSite

@@ -1,17 +1,16 @@
--- The rows of a new site: they can be written, they have spellings, and these are short.
-use Rattle.std.proofs.Common.{◌≡◌, ℕ, ◌+◌, ◌≤◌, List, [], ◌∷◌, length, map, refl, arith, lit<, length-append}
+-- The rows of a new site: they can be written, they have spellings, and they are few.
+use Rattle.std.proofs.Common.{◌≡◌, ℕ, List, refl, sym, subst, arith, lit<}
 use Rattle.std.specs.List.{All, AllByRecursion}
 use Rattle.std.proofs.lemmas.List.Elements.{All-from_recursion, All-same}
 use Rattle.qm_kinds.specs.Text.{IsText, is_name_byte}
 use Rattle.qm_bytes.specs.Spelling.{IsName}
 use Rattle.qm_model.specs.Names.{default_form, batch_queue}
-use Rattle.qm_model.specs.First.{first_form, first_queue, first_system}
-use Rattle.qm_glog.specs.Records.{text, behind_gate}
-use Rattle.qm_glog.specs.Reading.{length-behind_gate}
-use Rattle.qm_record.specs.Spelling.{HasSpelling, CanBeWritten, FormFits, QueueFits, record_text}
-use Rattle.qm_manager.specs.QueueFile.{row, head_of, first_rows}
+use Rattle.qm_model.specs.First.{first_form, first_queue}
+use Rattle.qm_record.specs.Rows.{IsRow}
+use Rattle.qm_record.specs.Spelling.{HasSpelling, CanBeWritten, FormFits, QueueFits}
+use Rattle.qm_store.specs.Causes.{AreFewRows}
+use Rattle.qm_manager.specs.QueueFile.{first_rows}
 use Rattle.qm_kinds.specs.declared.record.Record.{Record}
-use Rattle.qm_kinds.specs.declared.record.Body.TheVariants.{Form, Queue}
 
 pub rows_can_be_written : (node : List ℕ) → All CanBeWritten (first_rows node)
 rows_can_be_written node = All-from_recursion CanBeWritten (first_rows node) (
@@ -73,34 +72,8 @@ rows_fit node name = (
   ),
 )
 
-three_records : (a b c : List ℕ) → length (text (a ∷ b ∷ c ∷ [])) ≡ 15 + length a + length b + length c
-three_records a b c =
-    omega (
-      arith,
-      length-append (behind_gate a) (text (b ∷ c ∷ [])),
-      length-append (behind_gate b) (text (c ∷ [])),
-      length-append (behind_gate c) [],
-      length-behind_gate a,
-      length-behind_gate b,
-      length-behind_gate c,
-    )
-
-head_is_short : (node : List ℕ) → length node ≤ 6 → length (record_text (row (head_of (first_system node)))) ≤ 100
-head_is_short node short = simp length-append (omega arith)
-
-form_is_short : length (record_text (row (Form first_form))) ≤ 100
-form_is_short = omega arith
-
-queue_is_short : (node : List ℕ) → length node ≤ 6 → length (record_text (row (Queue (first_queue node)))) ≤ 200
-queue_is_short node short = simp length-append (omega arith)
-
--- the queue file of a new site has fewer than 1000 bytes
-pub rows_are_few : (node : List ℕ) → length node ≤ 6 → length (text (map record_text (first_rows node))) + 1 ≤ 1000
-rows_are_few node short =
-    omega (
-      arith,
-      three_records (record_text (row (head_of (first_system node)))) (record_text (row (Form first_form))) (record_text (row (Queue (first_queue node)))),
-      head_is_short node short,
-      form_is_short,
-      queue_is_short node short,
-    )
+-- three rows are few
+pub rows_are_few : (rows : List Record) (node : List ℕ) → rows ≡ first_rows node → AreFewRows rows
+rows_are_few rows node same =
+    let IsRowOf : Record → Type 0 = λ row. IsRow row.body in
+    subst AreFewRows (sym same) (record { few = omega arith; rows = All-from_recursion IsRowOf (first_rows node) (tt, (tt, (tt, tt))) })
