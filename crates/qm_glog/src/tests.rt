@@ -74,6 +74,24 @@ fn a_record_needs_its_room(rt: HostRuntime) -> Result<(), Fail> {
 }
 
 #[test]
+fn bodies_stand_one_behind_another(rt: HostRuntime) -> Result<(), Fail> {
+    let alloc = rt.alloc();
+    let file = [1, 2, 0, 0, 0, 7, 8, 1, 0, 0, 0, 0, 1, 1, 0, 0, 0, 9, 0];
+    let mut disk = disk_of(alloc, &file, &[])?;
+    let mut log = open(alloc, &mut disk, 1, GREATEST_CAP)?;
+    log.reserve(11)?;
+    assert_eq!(rt; log.append(&mut disk, &BODY), Ok(()));
+    let bodies: [&[u8]; 4] = [&[7, 8], &[], &[9], &BODY];
+    assert_eq!(rt; log.count(), bodies.len());
+    for (index, body) in bodies.iter().enumerate() {
+        if index < log.count() {
+            assert_eq!(rt; log.record(index), *body, "record {index}");
+        }
+    }
+    Ok(())
+}
+
+#[test]
 fn files_are_judged_at_their_gates(rt: HostRuntime) -> Result<(), Fail> {
     let alloc = rt.alloc();
     let files: [(&[u8], Result<usize, LogFault>); 9] = [
