@@ -6,7 +6,6 @@ use Rattle.std.specs.Fmt.{digits}
 use Rattle.qm_kinds.specs.declared.script.ScriptKind.{ScriptKind}
 use Rattle.qm_model.specs.First.{first_system}
 use Rattle.qm_model.specs.Script.{ScriptLine, script_of}
-use Rattle.qm_glog.specs.Records.{behind_gate}
 use Rattle.qm_record.specs.Spelling.{record_text}
 use Rattle.qm_manager.specs.Asking.{Site}
 use Rattle.qm_manager.specs.QueueFile.{first_rows}
@@ -35,7 +34,7 @@ pub first_job : printed_by (script_of (lines_of
     ∷ codes "A 3: rows: 1"
     ∷ codes "A 3:      1 JOB              SYSTEM              1 pending"
     ∷ [])
-unfolding digits behind_gate
+unfolding digits
 first_job = refl
 
 pub empty_script : printed_by (script_of []) ≡ []
@@ -60,5 +59,5 @@ pub refusals : printed_by (script_of (lines_of
     ∷ codes "A 6: Job JOB (queue SYS$BATCH, entry 1) pending"
     ∷ codes "A 7: %QMAN-E-REFERENCED, 1"
     ∷ [])
-unfolding digits behind_gate
+unfolding digits
 refusals = refl

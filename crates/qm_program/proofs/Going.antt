@@ -1,11 +1,12 @@
 -- How far serving has come with a script.
-use Rattle.std.proofs.Common.{◌≡◌, ◌<◌, ◌≤◌, inl, inr, ⊎_elim, ℕ, zero, suc, Bool, true, false, ◌&&◌, List, [], ◌∷◌, ◌++◌, length, take, drop, Option, None, Some, refl, sym, ◌∙◌, ap, subst, append_assoc, ◌+◌, get_or, drop-cons, add-one, arith, IsTrue}
+use Rattle.std.proofs.Common.{◌≡◌, ◌⊎◌, ◌<◌, ◌≤◌, inl, inr, ⊎_elim, ℕ, zero, suc, Bool, true, false, ◌&&◌, List, [], ◌∷◌, ◌++◌, length, take, drop, Option, None, Some, refl, sym, ◌∙◌, ap, subst, append_assoc, ◌+◌, get_or, drop-cons, add-one, arith, length-drop, IsTrue, Err}
 use Rattle.std.proofs.lemmas.List.{append-nil, take-append-drop, drop_all}
 use Rattle.std.specs.Io.KnownBytes.{Appends}
 use Rattle.std.proofs.KnownBytes.{Appends-trans}
-use Rattle.qm_disk.specs.Disk.{Image, IsLeft, OthersLeft, LeavesOnly}
+use Rattle.qm_disk.specs.Disk.{Image, IsLeft, OthersLeft, LeavesOnly, Rose}
 use Rattle.qm_disk.specs.Moments.{started, weaker}
 use Rattle.std.specs.Str.{bytes_eq}
+use Rattle.std.specs.Result.{IsErrOf}
 use Rattle.std.proofs.lemmas.Slice.Eq.{bytes_eq-Decides}
 use Rattle.qm_model.specs.Script.{ScriptLine, are_of_node}
 use Rattle.qm_store.specs.Store.{IsAtRest}
@@ -16,10 +17,14 @@ use Rattle.qm_manager.specs.Sites.{site_is}
 use Rattle.qm_program.specs.Lines.{lines_view, line_view}
 use Rattle.qm_program.specs.Transcript.{told, turn, after, transcript, answer_text}
 use Rattle.qm_io.specs.Bytes.{TakesPrefix}
-use Rattle.qm_program.specs.Serving.{BeforeOrAfter, LeavesEither, LeavesSite, IsFront, journal_text, Stops, StopsWithFailure, StopsWithin, Reaches}
-use Rattle.qm_program.specs.Running.{IsSiteOf}
+use Rattle.qm_program.specs.Serving.{BeforeOrAfter, LeavesEither, LeavesSite, IsFront, IsPart, journal_text, Stops, StopsWithFailure, StopsWithin, Reaches}
+use Rattle.qm_program.specs.Running.{IsSiteOf, IsWithoutFault}
+use Rattle.qm_program.specs.Course.{ServesLine, ServesLines, StopsAtLine}
 use Rattle.qm_program.specs.declared.outcome.End.TheVariants.{Journal, NoMemory}
 use Rattle.qm_program.specs.declared.outcome.End.{End}
+use Rattle.qm_program.specs.declared.serve.ServeEnd.{ServeEnd}
+use Rattle.qm_program.specs.declared.serve.ServeEnd.TheVariants as serve
+use Rattle.qm_program.specs.Ends.{end_of}
 use Rattle.qm_program.specs.declared.script.Line.{Line}
 use Rattle.qm_program.specs.declared.script.Sort.TheVariants as code
 
@@ -44,38 +49,70 @@ pub nothing : (old : Option (List ℕ)) → Appends old old []
 nothing None = tt
 nothing (Some xs) = sym (append-nil xs)
 
-pub goes_first : (site : Site) (lines : List ScriptLine) (old : Option (List ℕ)) → Goes site lines site lines old old
+abbrev pub goes_first : (site : Site) (lines : List ScriptLine) (old : Option (List ℕ)) → Goes site lines site lines old old
 goes_first site lines old = record { answered = []; are = refl; here = refl; taken = nothing old }
 
-module _ (first : Site) (lines : List ScriptLine) (site : Site) (old now : Option (List ℕ)) where
+-- each image of a device at rest has the queue file of its site
+pub leaves_at_rest : {D : Type 0} (seen : D → ℕ → List ℕ) (may_leave : D → ℕ → List ℕ → Type 0) (site : Site) (disk : D) → IsLawful site → IsAtRest seen may_leave site.bodies disk → LeavesSite (may_leave disk) site
+leaves_at_rest seen may_leave site disk lawful rest image left = site_is site image lawful (left_at_rest seen may_leave site.bodies disk image rest left)
+
+-- a device at rest has the queue file of its site
+pub site_at_rest : {D : Type 0} (seen : D → ℕ → List ℕ) (may_leave : D → ℕ → List ℕ → Type 0) (site : Site) (disk : D) → IsLawful site → IsAtRest seen may_leave site.bodies disk → IsSiteOf seen may_leave site disk
+site_at_rest seen may_leave site disk lawful rest = record { reads = site_is site (seen disk) lawful rest.records; crash = leaves_at_rest seen may_leave site disk lawful rest }
+
+-- ---- the course of the lines
+
+module _ {D : Type 0} (seen : D → ℕ → List ℕ) (may_leave : D → ℕ → List ℕ → Type 0) (moment : D → ℕ) (left_since : D → ℕ → Image → Type 0) where
+  -- one line more
+  one_line_more : (site : Site) (lines : List ScriptLine) (line : ScriptLine) (old mid new : D) (before taken now : Option (List ℕ))
+      → ServesLines seen may_leave moment left_since site lines old mid before taken → ServesLine seen may_leave moment left_since (after site lines) line mid new taken now
+      → ServesLines seen may_leave moment left_since site (lines ++ line ∷ []) old new before now
+  one_line_more site [] line old mid new before taken now so_far step = (
+    new,
+    (
+      now,
+      (
+        subst (λ (d : D). ServesLine seen may_leave moment left_since site line d new before now) so_far.0
+            (subst (λ (t : Option (List ℕ)). ServesLine seen may_leave moment left_since site line mid new t now) so_far.1 step),
+        (refl, refl),
+      ),
+    ),
+  )
+  one_line_more site (first ∷ lines) line old mid new before taken now so_far step =
+      (so_far.0, (so_far.1.0, (so_far.1.1.0, one_line_more (turn site first).site lines line so_far.0 mid new so_far.1.0 taken now so_far.1.1.1 step)))
+
+module _ (first : Site) (lines : List ScriptLine) (site : Site) (rest : List ScriptLine) (old now : Option (List ℕ)) (g : Goes first lines site rest old now) where
   -- no line is left
-  all_answered : (g : Goes first lines site [] old now) → g.answered ≡ lines
-  all_answered g = sym (append-nil g.answered) ∙ sym g.are
+  pub all_answered : rest ≡ [] → g.answered ≡ lines
+  all_answered none = sym (append-nil g.answered) ∙ ap (λ (r : List ScriptLine). g.answered ++ r) (sym none) ∙ sym g.are
 
-  pub goes_to_end : Goes first lines site [] old now → Appends old now (transcript first lines)
-  goes_to_end g = subst (λ (done : List ScriptLine). Appends old now (transcript first done)) (all_answered g) g.taken
+  pub goes_to_end : rest ≡ [] → Appends old now (transcript first lines)
+  goes_to_end none = subst (λ (done : List ScriptLine). Appends old now (transcript first done)) (all_answered none) g.taken
 
-  pub ends_there : Goes first lines site [] old now → site ≡ after first lines
-  ends_there g = g.here ∙ ap (after first) (all_answered g)
+  pub ends_there : rest ≡ [] → site ≡ after first lines
+  ends_there none = g.here ∙ ap (after first) (all_answered none)
 
-  module _ (line : ScriptLine) (rest : List ScriptLine) (g : Goes first lines site (line ∷ rest) old now) where
-    one_more : lines ≡ (g.answered ++ line ∷ []) ++ rest
-    one_more = g.are ∙ sym (append_assoc g.answered (line ∷ []) rest)
+  module _ (line : ScriptLine) (behind : List ScriptLine) (is : rest ≡ line ∷ behind) where
+    pub are_before : lines ≡ g.answered ++ line ∷ behind
+    are_before = g.are ∙ ap (λ (r : List ScriptLine). g.answered ++ r) is
 
-    after_more : (turn site line).site ≡ after first (g.answered ++ line ∷ [])
+    pub one_more : lines ≡ (g.answered ++ line ∷ []) ++ behind
+    one_more = are_before ∙ sym (append_assoc g.answered (line ∷ []) behind)
+
+    pub after_more : (turn site line).site ≡ after first (g.answered ++ line ∷ [])
     after_more = ap (λ (s : Site). (turn s line).site) g.here ∙ sym (after-append first g.answered (line ∷ []))
 
-    text_more : transcript first (g.answered ++ line ∷ []) ≡ transcript first g.answered ++ answer_text line (turn site line).answer
+    pub text_more : transcript first (g.answered ++ line ∷ []) ≡ transcript first g.answered ++ answer_text line (turn site line).answer
     text_more = transcript-append first g.answered (line ∷ [])
         ∙ ap (λ text. transcript first g.answered ++ text) (append-nil (answer_text line (turn (after first g.answered) line).answer)
         ∙ ap (λ (s : Site). answer_text line (turn s line).answer) (sym g.here))
 
     -- the line was answered
-    pub goes_on : (next : Site) (new : Option (List ℕ)) → next ≡ (turn site line).site → Appends now new (answer_text line (turn site line).answer) → Goes first lines next rest old new
-    goes_on next new is h = record {
+    abbrev pub goes_on : (next : Site) (new : Option (List ℕ)) → next ≡ (turn site line).site → Appends now new (answer_text line (turn site line).answer) → Goes first lines next behind old new
+    goes_on next new same h = record {
       answered = g.answered ++ line ∷ [];
       are = one_more;
-      here = is ∙ after_more;
+      here = same ∙ after_more;
       taken = subst (Appends old new) (sym text_more) (Appends-trans _ _ _ _ _ g.taken h);
     }
 
@@ -85,8 +122,8 @@ module _ (first : Site) (lines : List ScriptLine) (site : Site) (old now : Optio
     goes_within tells may_leave new end stops leaves = record {
       answered = g.answered;
       line = line;
-      behind = rest;
-      are = g.are;
+      behind = behind;
+      are = are_before;
       middle = now;
       taken = g.taken;
       stops = subst (λ (s : Site). Stops tells may_leave s line now new end) g.here stops;
@@ -99,14 +136,14 @@ module _ (first : Site) (lines : List ScriptLine) (site : Site) (old now : Optio
     goes_reaching may_leave_first may_leave kept image left = elim left.site [
       | inl before ↦ record {
         answered = g.answered;
-        behind = line ∷ rest;
-        are = g.are;
+        behind = line ∷ behind;
+        are = are_before;
         left = subst (IsSite (image 1)) g.here before;
         others = others;
       }
       | inr then_ ↦ record {
         answered = g.answered ++ line ∷ [];
-        behind = rest;
+        behind = behind;
         are = one_more;
         left = subst (IsSite (image 1)) after_more then_;
         others = others;
@@ -116,13 +153,36 @@ module _ (first : Site) (lines : List ScriptLine) (site : Site) (old now : Optio
         others : OthersLeft may_leave_first 1 image
         others f le other = kept f (image f) le other (left.others f le other)
 
--- each image of a device at rest has the queue file of its site
-pub leaves_at_rest : {D : Type 0} (seen : D → ℕ → List ℕ) (may_leave : D → ℕ → List ℕ → Type 0) (site : Site) (disk : D) → IsLawful site → IsAtRest seen may_leave site.bodies disk → LeavesSite (may_leave disk) site
-leaves_at_rest seen may_leave site disk lawful rest image left = site_is site image lawful (left_at_rest seen may_leave site.bodies disk image rest left)
+    module _ {D : Type 0} (seen : D → ℕ → List ℕ) (may_leave : D → ℕ → List ℕ → Type 0) (moment : D → ℕ) (left_since : D → ℕ → Image → Type 0) (begun mid new : D)
+        (so_far : ServesLines seen may_leave moment left_since first g.answered begun mid old now)
+        (run : LeavesOnly moment left_since mid new (BeforeOrAfter (may_leave mid) site (turn site line).site)) where
+      -- the lines were served, this one too
+      pub serves_on : (next : Site) (taken : Option (List ℕ)) → IsLawful next → next ≡ (turn site line).site → IsAtRest seen may_leave next.bodies new
+          → Appends now taken (answer_text line (turn site line).answer) → ServesLines seen may_leave moment left_since first (g.answered ++ line ∷ []) begun new old taken
+      serves_on next taken lawful same at_rest answered = one_line_more seen may_leave moment left_since first g.answered line begun mid new old now taken so_far
+          (subst (λ (s : Site). ServesLine seen may_leave moment left_since s line mid new now taken) g.here (record {
+            any_moment = run;
+            durable = subst (λ (s : Site). IsSiteOf seen may_leave s new) same (site_at_rest seen may_leave next new lawful at_rest);
+            answered = answered;
+          }))
 
--- a device at rest has the queue file of its site
-pub site_at_rest : {D : Type 0} (seen : D → ℕ → List ℕ) (may_leave : D → ℕ → List ℕ → Type 0) (site : Site) (disk : D) → IsLawful site → IsAtRest seen may_leave site.bodies disk → IsSiteOf seen may_leave site disk
-site_at_rest seen may_leave site disk lawful rest = record { reads = site_is site (seen disk) lawful rest.records; crash = leaves_at_rest seen may_leave site disk lawful rest }
+      -- this one is in work
+      pub stops_at : (faults : D → ℕ) (tells : Bool) (taken : Option (List ℕ)) (end : End) → Stops tells (may_leave new) site line now taken end
+          → (IsWithoutFault (faults mid) (faults new) → IsSiteOf seen may_leave site new ⊎ IsSiteOf seen may_leave (turn site line).site new)
+          → (end ≡ Journal → Rose (faults mid) (faults new)) → StopsAtLine seen may_leave moment left_since faults tells first lines begun new old taken end
+      stops_at faults tells taken end stops settled cause = record {
+        answered = g.answered;
+        line = line;
+        behind = behind;
+        are = are_before;
+        next = mid;
+        middle = now;
+        served = so_far;
+        any_moment = subst (λ (s : Site). LeavesOnly moment left_since mid new (BeforeOrAfter (may_leave mid) s (turn s line).site)) g.here run;
+        stops = subst (λ (s : Site). Stops tells (may_leave new) s line now taken end) g.here stops;
+        settled = subst (λ (s : Site). IsWithoutFault (faults mid) (faults new) → IsSiteOf seen may_leave s new ⊎ IsSiteOf seen may_leave (turn s line).site new) g.here settled;
+        cause = cause;
+      }
 
 -- ---- what a crash leaves while a request is done
 
@@ -197,6 +257,9 @@ no_front text = record { rest = text; whole = refl }
 pub some_front : (count : ℕ) (text : List ℕ) → IsFront (take count text) text
 some_front count text = record { rest = drop count text; whole = take-append-drop count text }
 
+pub some_part : (count : ℕ) (text : List ℕ) → count < length text → IsPart (take count text) text
+some_part count text less = record { rest = drop count text; whole = take-append-drop count text; more = omega (arith, length-drop count text) }
+
 module _ (tells : Bool) (may_leave : ℕ → List ℕ → Type 0) (site : Site) (line : ScriptLine) (old new : Option (List ℕ)) (end : End) where
   -- first bytes of the answer were taken
   pub stops_within : (text : List ℕ) → text ≡ answer_text line (turn site line).answer → TakesPrefix old new text → (end ≡ Journal → ⊥) → (end ≡ NoMemory → ⊥)
@@ -204,7 +267,7 @@ module _ (tells : Bool) (may_leave : ℕ → List ℕ → Type 0) (site : Site) 
   stops_within text is h not not_memory kept = record {
     front = take h.0 text;
     taken = h.2;
-    begins = inr (subst (IsFront (take h.0 text)) is (some_front h.0 text), kept);
+    begins = inr (subst (IsPart (take h.0 text)) is (some_part h.0 text h.1), kept);
     journal = λ journal. absurd (not journal);
     memory = λ memory. absurd (not_memory memory);
   }
@@ -225,3 +288,22 @@ failed_within line old new end text is h not not_memory = record {
   journal = λ journal. absurd (not journal);
   memory = λ memory. absurd (not_memory memory);
 }
+
+-- ---- what a line leaves where the device doesn't fail
+
+module _ {D : Type 0} (seen : D → ℕ → List ℕ) (may_leave : D → ℕ → List ℕ → Type 0) (before after_ next : Site) (new : D) where
+  -- the manager went on with one of the two sites
+  pub settles : IsLawful next → (next ≡ before) ⊎ (next ≡ after_) → IsAtRest seen may_leave next.bodies new → IsSiteOf seen may_leave before new ⊎ IsSiteOf seen may_leave after_ new
+  settles lawful either rest =
+      let is = site_at_rest seen may_leave next new lawful rest in
+      ⊎_elim (λ same. inl (subst (λ (s : Site). IsSiteOf seen may_leave s new) same is)) (λ same. inr (subst (λ (s : Site). IsSiteOf seen may_leave s new) same is)) either
+
+-- a device whose count stands failed nowhere
+pub quiet : (old mid now : ℕ) → Rose old mid → mid ≤ now → IsWithoutFault old now → ⊥
+quiet old mid now rose no_fewer without = omega (arith, rose without.1, no_fewer, without.0)
+
+-- the end of a run at a failed disk has that of its line as its cause
+pub failed_disk : (end : ServeEnd) (P : Type 0) → (IsErrOf {T = Unit {0}} (Err end) serve.Journal → P) → end_of end ≡ Journal → P
+failed_disk serve.Journal P cause is = cause refl
+failed_disk serve.Write P cause is = cc
+failed_disk serve.NoMemory P cause is = cc

@@ -1,9 +1,9 @@
 -- What opening and serving a queue file leave.
-use Rattle.std.proofs.Common.{◌≡◌, ◌<◌, ◌^◌, ◌-◌, ◌⊎◌, inl, inr, ℕ, List, [], take, drop, refl, sym, ◌∙◌, arith, Option, None, Some, Ok, IfSome}
+use Rattle.std.proofs.Common.{◌≡◌, ◌<◌, ◌^◌, ◌-◌, ◌⊎◌, inl, inr, ⊎_elim, Bool, ℕ, List, [], take, drop, refl, sym, ◌∙◌, arith, Option, None, Some, Ok, IfSome}
 use Rattle.std.proofs.lemmas.List.{append-nil, take-append-drop}
-use Rattle.std.specs.Io.KnownBytes.{Appends}
+use Rattle.std.specs.Io.KnownBytes.{Appends, Keeps}
 use Rattle.qm_disk.specs.Disk.{Image, IsLeft, LeavesOnly, Rose}
-use Rattle.qm_disk.specs.Moments.{weaker, goes_further}
+use Rattle.qm_disk.specs.Moments.{started, weaker, goes_further}
 use Rattle.qm_glog.specs.Moments.{OnlyLooks}
 use Rattle.qm_io.specs.Bytes.{TakesPrefix}
 use Rattle.qm_model.specs.Script.{ScriptLine, script_of}
@@ -16,8 +16,9 @@ use Rattle.qm_kinds.specs.declared.script.ScriptKind.{ScriptKind}
 use Rattle.qm_kinds.specs.declared.script.ScriptKind.TheVariants.{Node}
 use Rattle.qm_manager.specs.Sites.{site_not_damaged}
 use Rattle.qm_program.specs.declared.outcome.End.{End}
-use Rattle.qm_program.specs.Running.{IsBeforeOpening, IsEndOfServing, IsEndOfMaking, open_end, Survives, SurvivesRun, IsRead}
+use Rattle.qm_program.specs.Running.{IsBeforeOpening, IsEndOfServing, IsEndOfMaking, IsWithinServing, open_end, Survives, SurvivesRun, IsRead}
 use Rattle.qm_program.specs.Serving.{Reaches}
+use Rattle.qm_program.specs.Course.{ServesNothing, Serves, ServesOrNot, ServesRun}
 use Rattle.qm_program.specs.declared.outcome.End.TheVariants as ends
 use Rattle.qm_program.specs.declared.serve.ServeEnd.{ServeEnd}
 use Rattle.qm_program.specs.declared.serve.ServeEnd.TheVariants as serve
@@ -101,3 +102,39 @@ pub survives_run : (left : Option (List ℕ)) (may_leave : ℕ → List ℕ → 
     → (image : Image) → Survives may_leave file lines image → SurvivesRun left may_leave file image
 survives_run left may_leave file text lines read script image (inl before) = inl before
 survives_run left may_leave file text lines read script image (inr (site, is, reached)) = inr (record { text = text; lines = lines; read = read; script = script; so = (site, is, reached) })
+
+-- ---- the course of a run
+
+keeps_same : (taken : Option (List ℕ)) → Keeps taken taken
+keeps_same None = tt
+keeps_same (Some bytes) = refl
+
+-- no fault of opening ends a run well
+pub open_never_ok : (f : OpenFault) → open_end f ≡ ends.Ok → ⊥
+open_never_ok fault.Disk is = cc
+open_never_ok (fault.Unformatted byte) is = cc
+open_never_ok (fault.Damaged file place) is = cc
+open_never_ok fault.NoMemory is = cc
+
+-- what ends serving at a line ends the run within it
+pub within_serving : (end : ServeEnd) → IsWithinServing (end_of end)
+within_serving serve.Journal = tt
+within_serving serve.Write = tt
+within_serving serve.NoMemory = tt
+
+module _ {D : Type 0} (seen : D → ℕ → List ℕ) (may_leave : D → ℕ → List ℕ → Type 0) (moment : D → ℕ) (left_since : D → ℕ → Image → Type 0) (faults : D → ℕ) where
+  -- the device was only looked at
+  pub looked_at : (old new : D) (taken : Option (List ℕ)) (end : End) → OnlyLooks seen may_leave moment left_since old new → (end ≡ ends.Ok → ⊥)
+      → ServesNothing seen may_leave moment left_since faults old new taken taken end
+  looked_at old new taken end looks not = record { any_moment = looks.any_moment; taken = keeps_same taken; not_ok = not }
+
+  -- it wasn't even that
+  pub left_alone : (disk : D) (taken : Option (List ℕ)) (end : End) → ((image : Image) → left_since disk (moment disk) image → IsLeft (may_leave disk) image) → (end ≡ ends.Ok → ⊥)
+      → ServesNothing seen may_leave moment left_since faults disk disk taken taken end
+  left_alone disk taken end only_now not = record { any_moment = started moment left_since disk (IsLeft (may_leave disk)) only_now; taken = keeps_same taken; not_ok = not }
+
+  -- a run over these lines is one of their script
+  pub serves_run : (tells : Bool) (left : Option (List ℕ)) (text : List ℕ) (lines : List ScriptLine) (old new : D) (before now : Option (List ℕ)) (end : End) → IsRead left text → script_of text ≡ Ok lines
+      → ServesOrNot seen may_leave moment left_since faults tells lines old new before now end → ServesRun seen may_leave moment left_since faults tells left old new before now end
+  serves_run tells left text lines old new before now end read script h =
+      ⊎_elim (λ nothing. inl nothing) (λ served. inr (record { text = text; lines = lines; read = read; script = script; so = served })) h

@@ -4,3 +4,4 @@ pub mod Transcript
 pub mod Serving
 pub mod Taking
 pub mod Running
+pub mod Course

@@ -1,5 +1,5 @@
 -- What holds while a script is served.
-use Rattle.std.specs.Prelude.{◌≡◌, ◌⊎◌, ℕ, Bool, IsTrue, List, [], ◌∷◌, ◌++◌, Option}
+use Rattle.std.specs.Prelude.{◌≡◌, ◌⊎◌, ◌<◌, ℕ, Bool, IsTrue, List, [], ◌∷◌, ◌++◌, length, Option}
 use Rattle.std.specs.List.{AllByRecursion}
 use Rattle.std.specs.Io.KnownBytes.{Appends}
 use Rattle.qm_disk.specs.Disk.{Image, IsLeft, OthersLeft}
@@ -37,6 +37,12 @@ pub record IsFront (front text : List ℕ) : Type 0 where
   pub rest : List ℕ
   pub whole : front ++ rest ≡ text
 
+-- first bytes of a text: none or some, but not all
+pub record IsPart (front text : List ℕ) : Type 0 where
+  pub rest : List ℕ
+  pub whole : front ++ rest ≡ text
+  pub more : 0 < length rest
+
 -- what the transcript has of a line at which the disk failed
 abbrev pub journal_text : ScriptLine → List ℕ
 journal_text line = answer_text line (journal_line ∷ [])
@@ -46,12 +52,12 @@ abbrev pub LeavesSite : (ℕ → List ℕ → Type 0) → Site → Type 0
 LeavesSite may_leave site = (image : Image) → IsLeft may_leave image → IsSite (image 1) site
 
 -- How a line ends that isn't answered whole. The sink took a front of the line that says that the disk failed, and, where
--- nothing else failed, all of that; or it took a front of the answer, and then no crash can take away what the line changed.
+-- nothing else failed, all of that; or it took a part of the answer, and then no crash can take away what the line changed.
 -- Where memory ran out it took nothing of the line.
 pub record Stops (tells : Bool) (may_leave : ℕ → List ℕ → Type 0) (site : Site) (line : ScriptLine) (old new : Option (List ℕ)) (end : End) : Type 0 where
   pub front : List ℕ
   pub taken : Appends old new front
-  pub begins : IsFront front (journal_text line) ⊎ (IsFront front (answer_text line (turn site line).answer) × (IsTrue tells → LeavesSite may_leave (turn site line).site))
+  pub begins : IsFront front (journal_text line) ⊎ (IsPart front (answer_text line (turn site line).answer) × (IsTrue tells → LeavesSite may_leave (turn site line).site))
   pub journal : end ≡ Journal → front ≡ journal_text line
   pub memory : end ≡ NoMemory → front ≡ []
 

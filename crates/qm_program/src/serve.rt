@@ -1,5 +1,5 @@
 // Serving a script's lines over a manager.
-ghost use Rattle.std.specs.Prelude.{◌≡◌, ◌≤◌, ◌∷◌, [], true, map, flat_map, IsTrue, IfOk, IfErr, IsErrOf, OnOk};
+ghost use Rattle.std.specs.Prelude.{◌≡◌, ◌⊎◌, ◌≤◌, ◌∷◌, [], true, map, flat_map, IsTrue, IfOk, IfErr, IsErrOf, OnOk};
 ghost use Rattle.std.specs.Io.KnownBytes.{Appends};
 ghost use Rattle.std.specs.String.{string_bytes};
 ghost use Rattle.qm_io.specs.Faults.{Rose};
@@ -13,6 +13,8 @@ ghost use Rattle.qm_manager.specs.Manager.{site_of, node_of, disk_of};
 ghost use Rattle.qm_program.specs.Lines.{sort_view, line_view, lines_view};
 ghost use Rattle.qm_program.specs.Transcript.{turn_of, turn, full_line, journal_line, answer_text, after, transcript};
 ghost use Rattle.qm_program.specs.Serving.{IsAsked, BeforeOrAfter, Stops, StopsWithFailure, StopsWithin, Reaches};
+ghost use Rattle.qm_program.specs.Course.{ServesLines, StopsAtLine};
+ghost use Rattle.qm_program.specs.Running.{IsSiteOf, IsWithoutFault};
 ghost use Rattle.qm_program.specs.Ends.{end_of};
 ghost use Rattle.qm_program.specs.declared.serve.ServeEnd.TheVariants.{Journal, Write, NoMemory};
 
@@ -64,7 +66,8 @@ fn ask<D: Disk>(
 
     ensures answer { IfOk result (λ lines. map string_bytes lines.items ≡ (turn_of (site_of manager.old) (Input.Ask request)).answer) }
     ensures site { OnOk result (site_of manager.new ≡ (turn_of (site_of manager.old) (Input.Ask request)).site) }
-    ensures rest { OnOk result (IsTrue D.tells → IsAtRest D.seen D.may_leave (site_of manager.new).bodies (disk_of manager.new)) }
+    ensures either { (site_of manager.new ≡ site_of manager.old) ⊎ (site_of manager.new ≡ (turn_of (site_of manager.old) (Input.Ask request)).site) }
+    ensures rest { (IsErrOf result ServeEnd.Journal → ⊥) → IsTrue D.tells → IsAtRest D.seen D.may_leave (site_of manager.new).bodies (disk_of manager.new) }
     ensures any_moment { IsTrue D.tells → LeavesOnly D.moment D.left_since (disk_of manager.old) (disk_of manager.new)
         (BeforeOrAfter (D.may_leave (disk_of manager.old)) (site_of manager.old) (turn_of (site_of manager.old) (Input.Ask request)).site) }
     ensures others { KeepsOthers D.seen D.may_leave 1 (disk_of manager.old) (disk_of manager.new) }
@@ -112,7 +115,8 @@ fn answer<D: Disk>(
 
     ensures answer { IfOk result (λ lines. map string_bytes lines.items ≡ (turn_of (site_of manager.old) input).answer) }
     ensures site { OnOk result (site_of manager.new ≡ (turn_of (site_of manager.old) input).site) }
-    ensures rest { OnOk result (IsTrue D.tells → IsAtRest D.seen D.may_leave (site_of manager.new).bodies (disk_of manager.new)) }
+    ensures either { (site_of manager.new ≡ site_of manager.old) ⊎ (site_of manager.new ≡ (turn_of (site_of manager.old) input).site) }
+    ensures rest { (IsErrOf result ServeEnd.Journal → ⊥) → IsTrue D.tells → IsAtRest D.seen D.may_leave (site_of manager.new).bodies (disk_of manager.new) }
     ensures any_moment { IsTrue D.tells → LeavesOnly D.moment D.left_since (disk_of manager.old) (disk_of manager.new)
         (BeforeOrAfter (D.may_leave (disk_of manager.old)) (site_of manager.old) (turn_of (site_of manager.old) input).site) }
     ensures others { KeepsOthers D.seen D.may_leave 1 (disk_of manager.old) (disk_of manager.new) }
@@ -144,7 +148,8 @@ fn serve_line<D: Disk>(
 
     ensures text { IfOk result (λ text. string_bytes text ≡ answer_text (line_view line.now) (turn (site_of manager.old) (line_view line.now)).answer) }
     ensures site { OnOk result (site_of manager.new ≡ (turn (site_of manager.old) (line_view line.now)).site) }
-    ensures rest { OnOk result (IsTrue D.tells → IsAtRest D.seen D.may_leave (site_of manager.new).bodies (disk_of manager.new)) }
+    ensures either { (site_of manager.new ≡ site_of manager.old) ⊎ (site_of manager.new ≡ (turn (site_of manager.old) (line_view line.now)).site) }
+    ensures rest { (IsErrOf result ServeEnd.Journal → ⊥) → IsTrue D.tells → IsAtRest D.seen D.may_leave (site_of manager.new).bodies (disk_of manager.new) }
     ensures any_moment { IsTrue D.tells → LeavesOnly D.moment D.left_since (disk_of manager.old) (disk_of manager.new)
         (BeforeOrAfter (D.may_leave (disk_of manager.old)) (site_of manager.old) (turn (site_of manager.old) (line_view line.now)).site) }
     ensures others { KeepsOthers D.seen D.may_leave 1 (disk_of manager.old) (disk_of manager.new) }
@@ -198,6 +203,10 @@ fn serve<O: Sink, D: Disk>(
     ensures stops { IfErr result (λ end. Stops D.tells (D.may_leave (disk_of manager.new)) (site_of manager.old) (line_view line.now) (O.taken sink.old) (O.taken sink.new) (end_of end)) }
     ensures site { OnOk result (site_of manager.new ≡ (turn (site_of manager.old) (line_view line.now)).site) }
     ensures rest { OnOk result (IsTrue D.tells → IsAtRest D.seen D.may_leave (site_of manager.new).bodies (disk_of manager.new)) }
+    // Where the device didn't fail, its queue file is that of the site before the line or after it, also after a crash.
+    ensures settled { IsTrue D.tells → IsWithoutFault (D.faults (disk_of manager.old)) (D.faults (disk_of manager.new))
+        → IsSiteOf D.seen D.may_leave (site_of manager.old) (disk_of manager.new)
+        ⊎ IsSiteOf D.seen D.may_leave (turn (site_of manager.old) (line_view line.now)).site (disk_of manager.new) }
     ensures any_moment { IsTrue D.tells → LeavesOnly D.moment D.left_since (disk_of manager.old) (disk_of manager.new)
         (BeforeOrAfter (D.may_leave (disk_of manager.old)) (site_of manager.old) (turn (site_of manager.old) (line_view line.now)).site) }
     ensures others { KeepsOthers D.seen D.may_leave 1 (disk_of manager.old) (disk_of manager.new) }
@@ -240,6 +249,12 @@ pub(crate) fn serve_lines<O: Sink, D: Disk>(
     // A crash at any moment leaves the records after some of the lines.
     ensures any_moment { IsTrue D.tells → LeavesOnly D.moment D.left_since (disk_of manager.old) (disk_of manager.new)
         (Reaches (D.may_leave (disk_of manager.old)) (site_of manager.old) (lines_view lines.now)) }
+
+    // The lines are served one by one, and behind each a crash leaves just the site after it.
+    ensures all { OnOk result (IsTrue D.tells → ServesLines D.seen D.may_leave D.moment D.left_since (site_of manager.old) (lines_view lines.now)
+        (disk_of manager.old) (disk_of manager.new) (O.taken sink.old) (O.taken sink.new)) }
+    ensures some { IfErr result (λ end. IsTrue D.tells → StopsAtLine D.seen D.may_leave D.moment D.left_since D.faults D.tells (site_of manager.old) (lines_view lines.now)
+        (disk_of manager.old) (disk_of manager.new) (O.taken sink.old) (O.taken sink.new) (end_of end)) }
     ensures others { KeepsOthers D.seen D.may_leave 1 (disk_of manager.old) (disk_of manager.new) }
 
     ensures disk_faults { D.faults (disk_of manager.old) ≤ D.faults (disk_of manager.new) }

@@ -11,6 +11,7 @@ ghost use Rattle.qm_manager.specs.Opened.{IsDamagedFile};
 ghost use Rattle.qm_program.specs.Ends.{status_of, end_of};
 ghost use Rattle.qm_program.specs.Lines.{lines_view};
 ghost use Rattle.qm_program.specs.Taking.{TakesFront};
+ghost use Rattle.qm_program.specs.Course.{ServesOrNot, ServesRun};
 ghost use Rattle.qm_program.specs.Running.{are_run_words, node_to_make, open_end, initialized, OthersStay, IsServed, IsStopped, IsForAnother, IsFaulty, IsSound, OfScript, HasSoundScript, IsSiteOf, new_site, IsUnserved, Survives, SurvivesRun, IsBeforeOpening, IsAfterScript, HasScript, IsBeforeServing, IsWithinServing, IsUnmade, IsEndOfMaking, IsEndOfServing, IsWithoutFault};
 
 use crate::outcome::{End, Outcome};
@@ -121,6 +122,8 @@ fn serve_site<O: Sink, D: Disk>(
 
     ensures any_moment { IsTrue D.tells → LeavesOnly D.moment D.left_since disk result.disk
         (Survives (D.may_leave disk) (D.seen disk 1) (lines_view lines.now)) }
+    ensures line_by_line { IsTrue D.tells → ServesOrNot D.seen D.may_leave D.moment D.left_since D.faults D.tells (lines_view lines.now) disk result.disk
+        (O.taken sink.old) (O.taken sink.new) result.end }
     ensures others { OthersStay D.seen D.may_leave disk result.disk }
     ensures disk_faults { D.faults disk ≤ D.faults result.disk }
     ensures never_falls { O.faults sink.old ≤ O.faults sink.new }
@@ -172,6 +175,8 @@ fn run<S: Source, O: Sink, D: Disk>(
 
     ensures any_moment { IsTrue D.tells → LeavesOnly D.moment D.left_since disk result.disk
         (SurvivesRun (S.remaining source.old) (D.may_leave disk) (D.seen disk 1)) }
+    ensures line_by_line { IsTrue D.tells → ServesRun D.seen D.may_leave D.moment D.left_since D.faults D.tells (S.remaining source.old) disk result.disk
+        (O.taken sink.old) (O.taken sink.new) result.end }
     ensures others { OthersStay D.seen D.may_leave disk result.disk }
     ensures disk_faults { D.faults disk ≤ D.faults result.disk }
 
@@ -237,13 +242,20 @@ pub fn qman<S: Source, O: Sink, D: Disk>(
     ensures nothing { IsBeforeServing result.end → IsUnserved D.seen D.may_leave (O.taken sink.old) (O.taken sink.new) disk result.disk }
     ensures unread { are_run_words (map string_bytes words.now) ≡ false → source.new ≡ source.old }
 
-    // The device isn't looked at before what was read is known to be a script.
+    // Ends that come before the queue file is opened leave the device as it was. The others, but want of memory, come only
+    // where what was read is a script.
     ensures untouched { IsBeforeOpening result.end → result.disk ≡ disk }
     ensures script_first { are_run_words (map string_bytes words.now) ≡ true → IsAfterScript result.end → HasScript (S.remaining source.old) }
 
     // A crash at any moment of a run leaves what it might leave before, or the queue file of the site after some of the lines.
     ensures any_moment { are_run_words (map string_bytes words.now) ≡ true → IsTrue D.tells → LeavesOnly D.moment D.left_since disk result.disk
         (SurvivesRun (S.remaining source.old) (D.may_leave disk) (D.seen disk 1)) }
+
+    // Until the queue file is open a crash leaves what it might leave before. Then at each moment it leaves the site after the
+    // lines that were served so far, or after the line in work too.
+    ensures line_by_line { are_run_words (map string_bytes words.now) ≡ true → IsTrue D.tells
+        → ServesRun D.seen D.may_leave D.moment D.left_since D.faults D.tells (S.remaining source.old) disk result.disk
+        (O.taken sink.old) (O.taken sink.new) result.end }
     ensures others { OthersStay D.seen D.may_leave disk result.disk }
 
     // The making of a queue file.

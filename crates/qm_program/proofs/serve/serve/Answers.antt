@@ -13,4 +13,4 @@ returns-in-Ok-clause-stops g c =
     stops_within d.tells (d.may_leave disk) (site_of c.args.manager.now) (line_view c.args.line.now) (g.O.Sink.taken c.args.sink.now) (g.O.Sink.taken c.write_whole.new.sink) Write c.as_bytes.result.now
     (c.as_bytes.ensures.value ∙ c.in-Ok.ensures.text) c.in-Err.ensures.prefix (λ is. cc) (λ is. cc)
     (λ told. subst (LeavesSite (d.may_leave disk)) c.in-Ok.ensures.site
-    (leaves_at_rest d.seen d.may_leave (site_of c.serve_line.new.manager) disk c.serve_line.ensures.lawful (c.in-Ok.ensures.rest told)))
+    (leaves_at_rest d.seen d.may_leave (site_of c.serve_line.new.manager) disk c.serve_line.ensures.lawful (c.in-Ok.ensures.rest (λ is. cc) told)))

@@ -5,6 +5,7 @@ use Rattle.qm_manager.specs.Asking.{IsLawful}
 use Rattle.qm_manager.specs.Manager.{site_of, node_of, disk_of}
 use Rattle.qm_program.specs.Lines.{lines_view}
 use Rattle.qm_program.specs.Serving.{Reaches}
+use Rattle.qm_program.specs.Course.{ServesLines}
 use Rattle.qm_program.proofs.Going.{Goes}
 use Rattle.qm_program.proofs.serve.serve_lines.Given as goal
 
@@ -12,6 +13,7 @@ use Rattle.qm_program.proofs.serve.serve_lines.Given as goal
 abbrev pub invariant-loop-line : goal.invariant-loop-line
 invariant-loop-line g l = record {
   goes : Goes (site_of l.fn.manager) (lines_view l.fn.lines) (site_of l.manager) (lines_view (drop l.line-index l.fn.lines)) (g.O.Sink.taken l.fn.sink) (g.O.Sink.taken l.sink);
+  served : IsTrue g.D.Disk.tells → ServesLines g.D.Disk.seen g.D.Disk.may_leave g.D.Disk.moment g.D.Disk.left_since (site_of l.fn.manager) goes.answered (disk_of l.fn.manager) (disk_of l.manager) (g.O.Sink.taken l.fn.sink) (g.O.Sink.taken l.sink);
   lawful : IsLawful (site_of l.manager);
   node : node_of l.manager ≡ node_of l.fn.manager;
   rest : IsTrue g.D.Disk.tells → IsAtRest g.D.Disk.seen g.D.Disk.may_leave (site_of l.manager).bodies (disk_of l.manager);

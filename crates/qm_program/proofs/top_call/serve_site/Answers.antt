@@ -1,9 +1,9 @@
-use Rattle.std.proofs.Common.{◌∙◌, sym, inr, subst}
+use Rattle.std.proofs.Common.{◌∙◌, sym, inl, inr, subst}
 use Rattle.qm_program.specs.Running.{IsSiteOf}
 use Rattle.qm_manager.specs.Asking.{Site}
 use Rattle.qm_manager.specs.Manager.{site_of, node_of, disk_of}
 use Rattle.qm_program.specs.Lines.{lines_view}
-use Rattle.qm_program.proofs.Opened.{opens_sound, no_rise, never_ok, survives}
+use Rattle.qm_program.proofs.Opened.{opens_sound, no_rise, never_ok, open_never_ok, within_serving, looked_at, survives}
 use Rattle.qm_program.proofs.Going.{site_at_rest}
 use Rattle.qm_program.proofs.top_call.serve_site.Goals as goal
 use Rattle.qm_program.proofs.top_call.serve_site.Goals.{in-Ok-serve_lines, in-Err-serve_lines}
@@ -69,3 +69,29 @@ returns-clause-any_moment g c told =
     let d = g.D.Disk in
     rw (c.of-2.ensures.disk, c.give_back-2.ensures) (survives d.seen d.may_leave d.moment d.left_since c.args.disk (disk_of c.in-Ok.manager) (disk_of c.serve_lines.new.manager)
     (lines_view c.args.lines.now) (site_of c.in-Ok.manager) c.in-Ok.ensures.looks (c.in-Ok.ensures.found told) (c.serve_lines.ensures.any_moment told))
+
+pub returns-in-Err-clause-line_by_line : goal.returns-in-Err-clause-line_by_line
+returns-in-Err-clause-line_by_line g c told =
+    let d = g.D.Disk in
+    rw (c.of.ensures.disk, c.of.ensures.end, c.open_end.ensures) (inl (looked_at d.seen d.may_leave d.moment d.left_since d.faults c.args.disk c.in-Err.disk (g.O.Sink.taken c.args.sink.now) _ c.in-Err.ensures.looks (open_never_ok c.in-Err.fault)))
+
+pub returns-then-not-are_of_node-clause-line_by_line : goal.returns-then-not-are_of_node-clause-line_by_line
+returns-then-not-are_of_node-clause-line_by_line g c told =
+    let d = g.D.Disk in
+    rw (c.of-then-not-are_of_node.ensures.disk, c.give_back.ensures, c.of-then-not-are_of_node.ensures.end, c.script_end.ensures)
+    (inl (looked_at d.seen d.may_leave d.moment d.left_since d.faults c.args.disk (disk_of c.in-Ok.manager) (g.O.Sink.taken c.args.sink.now) _ c.in-Ok.ensures.looks (λ is. cc)))
+
+pub returns-clause-line_by_line : goal.returns-clause-line_by_line
+returns-clause-line_by_line g c told =
+    let d = g.D.Disk in
+    rw (c.of-2.ensures.disk, c.give_back-2.ensures) (inr (record {
+      site = site_of c.in-Ok.manager;
+      is_site = c.in-Ok.ensures.found told;
+      opened = disk_of c.in-Ok.manager;
+      opening = c.in-Ok.ensures.looks.any_moment;
+      at_rest = site_at_rest d.seen d.may_leave (site_of c.in-Ok.manager) (disk_of c.in-Ok.manager) c.in-Ok.ensures.lawful (c.in-Ok.ensures.rest told);
+      serving = elim c.match-serve_lines.branch [
+        | in-Ok-serve_lines w ↦ inl (c.of-2.ensures.end ∙ w.end-is, w.in-Ok-serve_lines.ensures.all told)
+        | in-Err-serve_lines w ↦ inr (rw (c.of-2.ensures.end, w.end-is, w.serve_end-end.ensures) (within_serving w.in-Err-serve_lines.end, w.in-Err-serve_lines.ensures.some told))
+      ];
+    }))
