@@ -1,4 +1,3 @@
 pub mod Ascii
 pub mod Reading
-pub mod Clones
 pub mod MatchTable

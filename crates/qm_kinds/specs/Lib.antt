@@ -1,5 +1,6 @@
 pub mod Padding
 pub mod Text
+pub mod Names
 pub mod Wildcards
 pub mod Sizes
 pub mod Files

@@ -67,7 +67,7 @@ impl fmt::Display for FileName {
 }
 
 /// A file that jobs can name, with its bytes.
-#[derive(Debug, Drop, PartialEq, Eq, Clone)]
+#[derive(Debug, Drop)]
 pub struct File {
     pub name: FileName,
     pub bytes: Seq<u8>,

@@ -13,6 +13,12 @@ use std::cmp::Ordering;
 use std::fmt;
 use std::marker::Model;
 
+/// The most bytes of a name of a node.
+pub const NODE_NAME_BYTES: usize = 6;
+
+/// The most bytes of a name of a queue, a form, a characteristic, a stock or a device.
+pub const SHORT_NAME_BYTES: usize = 31;
+
 /// A name of a node, a queue, a form, a job or the like: 1 to 39 bytes of `A` to `Z`, digits, `$` and `_`.
 /// What a name stands for may ask for fewer bytes.
 #[derive(Clone, Copy)]
@@ -67,8 +73,8 @@ fn first_bad(text: &[u8]) -> Option<usize>
         .position(|b| !is_name_byte(b.to_ascii_uppercase()))
 }
 
-/// Whether a byte may stand in a name.
-pub(crate) fn is_name_byte(byte: u8) -> bool
+/// Whether a byte may stand in a name: a capital letter, a digit, `$` or `_`.
+pub fn is_name_byte(byte: u8) -> bool
     ensures { result ≡ is_name_byte byte }
 {
     byte.is_ascii_uppercase() || byte.is_ascii_digit() || byte == b'$' || byte == b'_'

@@ -53,7 +53,7 @@ pub struct Query {
 }
 
 /// A row of a listing.
-#[derive(Debug, Drop, PartialEq, Eq, Clone)]
+#[derive(Debug, Drop)]
 pub enum Row {
     Queue(Queue),
     Entry(Entry),

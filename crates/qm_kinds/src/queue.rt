@@ -5,7 +5,6 @@ use crate::form::CharacteristicSet;
 use crate::name::Name;
 use crate::request::NameOrNumber;
 use crate::seq::Seq;
-use std::alloc::AllocError;
 use std::fmt;
 
 /// What a queue is for. The first two are execution queues, which stand on one node. The others are generic:
@@ -62,7 +61,7 @@ pub enum QueueRetain {
 }
 
 /// A queue and its settings. An execution queue has a node and a device, a generic one neither.
-#[derive(Debug, Drop, PartialEq, Eq, Clone)]
+#[derive(Debug, Drop, Clone)]
 pub struct Queue {
     pub name: Name,
     pub kind: QueueKind,
@@ -85,7 +84,7 @@ pub struct Queue {
 }
 
 /// Settings of a queue that a request gives.
-#[derive(Debug, Drop, PartialEq, Eq)]
+#[derive(Debug, Drop)]
 pub struct QueueChange {
     pub limit: Option<u8>,
     pub characteristics: Option<Seq<NameOrNumber>>,
@@ -96,21 +95,17 @@ pub struct QueueChange {
     pub retain: Option<QueueRetain>,
 }
 
-impl Clone for QueueChange {
-    ghost is_clone = { λ change copy. copy ≡ change };
-
-    fn clone(&self) -> Result<QueueChange, AllocError> {
-        let characteristics = match &self.characteristics {
-            None => None,
-            Some(wanted) => Some(wanted.clone()?),
-        };
-        Ok(QueueChange {
-            limit: self.limit,
-            characteristics,
-            form: self.form,
-            blocks: self.blocks,
-            by_size: self.by_size,
-            retain: self.retain,
-        })
-    }
+/// A queue that is made, and the settings that are given for it. What is none has its default.
+#[derive(Debug, Drop)]
+pub struct NewQueue {
+    pub name: Name,
+    pub kind: QueueKind,
+    /// The node of an execution queue: by default the one from which the request comes.
+    pub node: Option<Name>,
+    /// The device of an execution queue: by default it has the queue's name.
+    pub device: Option<Name>,
+    pub targets: Seq<Name>,
+    pub change: QueueChange,
+    /// Whether the queue is started.
+    pub start: bool,
 }

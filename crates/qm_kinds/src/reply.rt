@@ -93,7 +93,7 @@ pub enum Act {
 }
 
 /// What an accepted request did, and the jobs that were started then, in order.
-#[derive(Debug, Drop, PartialEq, Eq, Clone)]
+#[derive(Debug, Drop)]
 pub struct Reply {
     pub act: Act,
     pub started: Seq<Start>,

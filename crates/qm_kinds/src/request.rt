@@ -1,10 +1,10 @@
 use crate::entry::{JobKind, JobRetain};
 use crate::file::FileName;
-use crate::form::Shape;
+use crate::form::{Characteristic, Form};
 use crate::mark::Mark;
 use crate::moment::Moment;
 use crate::name::Name;
-use crate::queue::{QueueChange, QueueKind};
+use crate::queue::{NewQueue, QueueChange};
 use crate::seq::Seq;
 
 /// A form or a characteristic, by its name or by its number.
@@ -25,8 +25,50 @@ pub enum StopMode {
     Reset,
 }
 
+/// What a user asks for who submits a job.
+#[derive(Debug, Drop)]
+pub struct Job {
+    pub user: Name,
+    pub kind: JobKind,
+    pub queue: Name,
+    pub file: FileName,
+    pub name: Name,
+    /// 0 to 255, the greater first.
+    pub priority: u8,
+    /// The moment before which the job doesn't start.
+    pub after: Option<Moment>,
+    pub hold: bool,
+    pub retain: JobRetain,
+    /// Whether the job may start again after its run was cut short.
+    pub restart: bool,
+    pub characteristics: Seq<NameOrNumber>,
+    /// The form of a print job. One that names none has the form DEFAULT.
+    pub form: Option<NameOrNumber>,
+    /// At least 1.
+    pub copies: u8,
+    /// Whether a page that names the job stands before its text.
+    pub flag: bool,
+}
+
+/// What is changed of an entry. What is none stays as it is.
+#[derive(Debug, Drop)]
+pub struct EntryChange {
+    /// Whether it waits no longer, neither held nor for a moment.
+    pub release: bool,
+    pub hold: bool,
+    /// Some of none takes the moment away.
+    pub after: Option<Option<Moment>>,
+    pub priority: Option<u8>,
+    pub name: Option<Name>,
+    pub characteristics: Option<Seq<NameOrNumber>>,
+    pub form: Option<NameOrNumber>,
+    pub queue: Option<Name>,
+    pub restart: Option<bool>,
+    pub retain: Option<JobRetain>,
+}
+
 /// What can be asked of the queue manager that changes the system.
-#[derive(Debug, Drop, PartialEq, Eq, Clone)]
+#[derive(Debug, Drop)]
 pub enum Request {
     Append {
         file: FileName,
@@ -39,31 +81,15 @@ pub enum Request {
     Drop {
         file: FileName,
     },
-    DefineForm {
-        name: Name,
-        number: u16,
-        stock: Name,
-        shape: Shape,
-    },
+    DefineForm(Form),
     DeleteForm {
         name: Name,
     },
-    DefineCharacteristic {
-        name: Name,
-        number: u8,
-    },
+    DefineCharacteristic(Characteristic),
     DeleteCharacteristic {
         name: Name,
     },
-    InitializeQueue {
-        name: Name,
-        kind: QueueKind,
-        node: Option<Name>,
-        device: Option<Name>,
-        targets: Seq<Name>,
-        change: QueueChange,
-        start: bool,
-    },
+    InitializeQueue(NewQueue),
     SetQueue {
         name: Name,
         change: QueueChange,
@@ -88,35 +114,10 @@ pub enum Request {
         to: Name,
         from: Name,
     },
-    Submit {
-        user: Name,
-        kind: JobKind,
-        queue: Name,
-        file: FileName,
-        name: Name,
-        priority: u8,
-        after: Option<Moment>,
-        hold: bool,
-        retain: JobRetain,
-        restart: bool,
-        characteristics: Seq<NameOrNumber>,
-        form: Option<NameOrNumber>,
-        copies: u8,
-        flag: bool,
-    },
+    Submit(Job),
     SetEntry {
         entry: u32,
-        release: bool,
-        hold: bool,
-        /// Some of none takes the moment away.
-        after: Option<Option<Moment>>,
-        priority: Option<u8>,
-        name: Option<Name>,
-        characteristics: Option<Seq<NameOrNumber>>,
-        form: Option<NameOrNumber>,
-        queue: Option<Name>,
-        restart: Option<bool>,
-        retain: Option<JobRetain>,
+        change: EntryChange,
     },
     DeleteEntry {
         entry: u32,

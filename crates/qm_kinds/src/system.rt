@@ -14,7 +14,7 @@ pub struct Node {
 }
 
 /// All that the queue manager keeps.
-#[derive(Debug, Drop, PartialEq, Eq, Clone)]
+#[derive(Debug, Drop)]
 pub struct System {
     pub nodes: Seq<Node>,
     /// The nodes on which the queue manager may run.
