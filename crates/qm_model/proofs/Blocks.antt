@@ -7,9 +7,12 @@ use Rattle.qm_kinds.specs.declared.entry.JobKind.TheVariants.{Batch, Print}
 use Rattle.qm_kinds.specs.declared.form.Shape.{Shape}
 use Rattle.qm_model.specs.First.{first_form}
 use Rattle.qm_model.specs.Filing.{filling}
-use Rattle.qm_model.specs.Work.{Work, Place, Report, Mark, Done, Step, Handed, Reported}
+use Rattle.qm_kinds.specs.declared.work.Work.{Work}
+use Rattle.qm_kinds.specs.declared.work.Place.{Place}
+use Rattle.qm_kinds.specs.declared.work.Report.{Report}
+use Rattle.qm_kinds.specs.declared.work.Report.TheVariants.{Mark, Done}
+use Rattle.qm_model.specs.Reports.{Step, Handed, Reported, begin, course, reports, next_report, blocks_before_report}
 use Rattle.qm_model.specs.Pages.{page_blocks}
-use Rattle.qm_model.specs.Reports.{begin, course, reports, next_report, blocks_before_report}
 
 -- one copy of a text on a form
 abbrev printing : Shape → List ℕ → Work

@@ -16,8 +16,10 @@ use Rattle.qm_kinds.specs.declared.queue.QueueState.TheVariants.{Stopped, Starte
 use Rattle.qm_kinds.specs.declared.system.Node.{Node}
 use Rattle.qm_kinds.specs.declared.system.System.{System}
 use Rattle.qm_model.specs.Find.{name_cmp}
-use Rattle.qm_model.specs.Consistent.{IsConsistent, IsInOrder, IsShort, AreNodes, AreForms, AreCharacteristics, AreFiles, AreDefined, IsEntry, IsQueue, AreEntries, IsExecutionQueue, IsPlaced, IsMounted, run_of, runs_in, runs_on, is_generic, job_kind, execution_kind}
-use Rattle.qm_model.specs.Standing.{is_run_in, with_entry}
+use Rattle.qm_model.specs.Consistent.{IsConsistent, IsInOrder, IsShort, AreNodes, AreForms, AreCharacteristics, AreFiles, AreDefined, IsEntry, IsQueue, AreEntries, IsExecutionQueue, IsPlaced, IsMounted}
+use Rattle.qm_model.specs.JobStates.{run_of, runs_in, runs_on}
+use Rattle.qm_model.specs.Kinds.{is_generic, job_kind, execution_kind}
+use Rattle.qm_model.specs.Standing.{occupies, with_entry}
 use Rattle.qm_model.specs.States.{state_when_idle, stopped_when_idle}
 use Rattle.qm_model.proofs.ListLemmas.{pairs_of, all_pairs_of, Becomes, none, gone, turned, becomes_all, becomes_pairs, becomes_shorter}
 use Rattle.qm_model.proofs.SoundLemmas.{AreApart}
@@ -103,7 +105,6 @@ module _ (s : System) (es : List Entry) where
     home = h.home;
     file = h.file;
     form = h.form;
-    copies = h.copies;
     characteristics = h.characteristics;
     queue = if_some_at (IsExecutionQueue x.kind s.queues) (runs_in x.state) (runs_in state) (queue_calms x.state state calms) h.queue;
     node = if_some_at (Contains (map (λ (n : Node). n.name) s.nodes)) (runs_on x.state) (runs_on state) (node_calms x.state state calms) h.node;
@@ -215,7 +216,6 @@ module _ (s : System) (f : Node → Node) (keeps : (n : Node) → (f n).name ≡
     home = h.home;
     file = h.file;
     form = h.form;
-    copies = h.copies;
     characteristics = h.characteristics;
     queue = h.queue;
     node = subst (λ names. IfSome (runs_on x.state) (Contains names)) (sym same_names) h.node;
@@ -302,7 +302,6 @@ module _ (s : System) (f : Queue → QueueState) where
     home = there f (λ q. job_kind q.kind ≡ x.kind) (λ q k. k) x.home s.queues h.home;
     file = h.file;
     form = h.form;
-    copies = h.copies;
     characteristics = h.characteristics;
     queue = executes_if f x.kind s.queues (runs_in x.state) h.queue;
     node = h.node;
@@ -349,7 +348,7 @@ stopping_has_run false Stopping h = cc
 
 pub idle_is_consistent : (s : System) → IsSound s → IsConsistent (stopped_when_idle s)
 idle_is_consistent s h =
-    let state : Queue → QueueState = λ q. state_when_idle (list_any (is_run_in q.name) s.entries) q.state in
+    let state : Queue → QueueState = λ q. state_when_idle (list_any (occupies q.name) s.entries) q.state in
     let k : IsSound (of_queues s state) = states_change s state h in
     record {
       nodes = k.nodes;
@@ -368,7 +367,7 @@ idle_is_consistent s h =
               characteristics = r.characteristics;
               limit = r.limit;
               sizes = r.sizes;
-              stopping = λ stopping. stopping_has_run (list_any (is_run_in q.name) s.entries) q.state stopping;
+              stopping = λ stopping. stopping_has_run (list_any (occupies q.name) s.entries) q.state stopping;
             })
             s.queues h.queues);
         order = k.order;

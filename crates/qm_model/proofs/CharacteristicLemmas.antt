@@ -17,7 +17,7 @@ use Rattle.qm_kinds.specs.declared.refusal.Refusal.TheVariants.{BadValue, Duplic
 use Rattle.qm_kinds.specs.declared.request.NameOrNumber.TheVariants.{Name, Number}
 use Rattle.qm_kinds.specs.declared.system.System.{System}
 use Rattle.qm_model.specs.Find.{is_characteristic, characteristic_wanted}
-use Rattle.qm_model.specs.Consistent.{IsLabel, AreCharacteristics, AreDefined, IsEntry}
+use Rattle.qm_model.specs.Consistent.{IsDefinable, AreCharacteristics, AreDefined, IsEntry}
 use Rattle.qm_model.specs.Outcome.{refused_where}
 use Rattle.qm_model.specs.Inserting.{with_characteristic_defined}
 use Rattle.qm_model.specs.Referring.{refused_by_queue, refused_by_entry}
@@ -47,7 +47,7 @@ module _ (s : System) (cs : List Characteristic) where
     order = h.order;
     entries = record {
       few = h.entries.few;
-      each = λ i d within. let k = h.entries.each i d within in record { number = k.number; home = k.home; file = k.file; form = k.form; copies = k.copies; characteristics = of_entries i d within; queue = k.queue; node = k.node; run = k.run };
+      each = λ i d within. let k = h.entries.each i d within in record { number = k.number; home = k.home; file = k.file; form = k.form; characteristics = of_entries i d within; queue = k.queue; node = k.node; run = k.run };
       order = h.entries.order;
       runs = h.entries.runs;
     };
@@ -94,14 +94,14 @@ Lower a b = nat_cmp a.number b.number ≡ Less
 Other : Characteristic → Characteristic → Type 0
 Other a b = a.name ≢ b.name
 
-defined_characteristics : (c : Characteristic) (cs : List Characteristic) → AreCharacteristics cs → IsLabel c.name → c.number ≤ 127 → is_characteristic_taken cs c ≡ false → AreCharacteristics (with_characteristic_defined c cs)
+defined_characteristics : (c : Characteristic) (cs : List Characteristic) → AreCharacteristics cs → IsDefinable c.name → c.number ≤ 127 → is_characteristic_taken cs c ≡ false → AreCharacteristics (with_characteristic_defined c cs)
 unfolding Lower Other
 defined_characteristics c cs h label few free =
     let by_name = not_found (is_characteristic (Name c.name)) cs (nothing_there _ (or_false_left (is_some (characteristic_wanted (Name c.name) cs)) (is_some (characteristic_wanted (Number c.number) cs)) free)) in
     let by_number = not_found (is_characteristic (Number c.number)) cs (nothing_there _ (or_false_right (is_some (characteristic_wanted (Name c.name) cs)) (is_some (characteristic_wanted (Number c.number) cs)) free)) in
     record {
       numbers = all_inserted in_front c (λ (d : Characteristic). d.number ≤ 127) cs few h.numbers;
-      names = all_inserted in_front c (λ (d : Characteristic). IsLabel d.name) cs label h.names;
+      names = all_inserted in_front c (λ (d : Characteristic). IsDefinable d.name) cs label h.names;
       order = all_pairs_of Lower (with_characteristic_defined c cs)
           (order_inserted in_front c Lower (λ a b d p q. numbers_trans a.number b.number d.number p q) cs
           (All-weaker (λ (d : Characteristic). (d.number == c.number) ≡ false) (λ (d : Characteristic). (nat_lt c.number d.number ≡ true → Lower c d) × (nat_lt c.number d.number ≡ false → Lower d c))
@@ -114,7 +114,7 @@ defined_characteristics c cs h label few free =
           (pairs_of Other cs h.distinct));
     }
 
-pub characteristic_defined_sound : (before s : System) (c : Characteristic) → IsSound s → s.characteristics ≡ before.characteristics → IsLabel c.name → define_characteristic_refusal before c ≡ None → IsSound (characteristic_defined s c).system
+pub characteristic_defined_sound : (before s : System) (c : Characteristic) → IsSound s → s.characteristics ≡ before.characteristics → IsDefinable c.name → define_characteristic_refusal before c ≡ None → IsSound (characteristic_defined s c).system
 characteristic_defined_sound before s c h same label clear =
     let bad : Option Refusal = refused_where (nat_lt 127 c.number) BadValue in
     let taken : Option Refusal = refused_where (is_characteristic_taken before.characteristics c) DuplicateCharacteristic in
@@ -185,7 +185,7 @@ characteristic_deleted_sound before s name h same also clear keeps =
     characteristics_change s (filter (other_than name) cs) h
     (record {
       numbers = All-filter (other_than name) (λ (c : Characteristic). c.number ≤ 127) cs h.characteristics.numbers;
-      names = All-filter (other_than name) (λ (c : Characteristic). IsLabel c.name) cs h.characteristics.names;
+      names = All-filter (other_than name) (λ (c : Characteristic). IsDefinable c.name) cs h.characteristics.names;
       order = AllPairs-filter (λ (a b : Characteristic). nat_cmp a.number b.number ≡ Less) (other_than name) cs h.characteristics.order;
       distinct = AllPairs-filter (λ (a b : Characteristic). a.name ≢ b.name) (other_than name) cs h.characteristics.distinct;
     })

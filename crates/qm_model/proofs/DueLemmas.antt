@@ -8,7 +8,8 @@ use Rattle.qm_kinds.specs.declared.entry.EntryState.{EntryState}
 use Rattle.qm_kinds.specs.declared.entry.EntryState.TheVariants.{Pending, Holding, Timed, Running, Aborting, Retained}
 use Rattle.qm_kinds.specs.declared.system.Node.{Node}
 use Rattle.qm_kinds.specs.declared.system.System.{System}
-use Rattle.qm_model.specs.Consistent.{IsConsistent, IsEntry, IsExecutionQueue, run_of, runs_in, runs_on}
+use Rattle.qm_model.specs.Consistent.{IsConsistent, IsEntry, IsExecutionQueue}
+use Rattle.qm_model.specs.JobStates.{run_of, runs_in, runs_on}
 use Rattle.qm_model.specs.Due.{state_at, is_over, entry_at, due}
 use Rattle.qm_model.proofs.ListLemmas.{Becomes, none, gone, turned, becomes_shorter, becomes_all}
 use Rattle.qm_model.proofs.SoundLemmas.{still_consistent, apart_at}
@@ -67,7 +68,6 @@ module _ (s : System) (now : ℕ) (sound : IsConsistent s) where
     home = h.home;
     file = h.file;
     form = h.form;
-    copies = h.copies;
     characteristics = h.characteristics;
     queue = subst (λ (o : Option (List ℕ)). IfSome o (IsExecutionQueue x.kind s.queues)) (sym (same_queue now x.state)) h.queue;
     node = subst (λ (o : Option (List ℕ)). IfSome o (Contains (map (λ (n : Node). n.name) s.nodes))) (sym (same_node now x.state)) h.node;

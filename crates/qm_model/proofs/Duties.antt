@@ -10,9 +10,10 @@ use Rattle.qm_kinds.specs.declared.request.Request.TheVariants as request
 use Rattle.qm_kinds.specs.declared.request.StopMode.TheVariants.{Pause}
 use Rattle.qm_kinds.specs.declared.system.System.{System}
 use Rattle.qm_model.specs.First.{first_system}
-use Rattle.qm_model.specs.Work.{Work, Duty}
+use Rattle.qm_kinds.specs.declared.work.Work.{Work}
+use Rattle.qm_kinds.specs.declared.work.Duty.{Duty}
 use Rattle.qm_model.specs.Duties.{duties}
-use Rattle.qm_model.proofs.Site.{after, first_asks, file, listing_file, no_change, print_queue, print_job, batch_job}
+use Rattle.qm_model.proofs.Site.{after, first_asks, file, listing_file, no_change, print_queue, print_job, batch_job, a_print_job}
 
 abbrev letter : Shape
 letter = record { length = 60; width = 80; top = 2; bottom = 2; left = 4; right = 3; wrap = true }
@@ -23,12 +24,12 @@ abbrev four_runs : System
 four_runs = after (first_system (codes "A")) (first_asks
     (request.Append (listing_file (codes "F")) (codes "one" ++ 10 ∷ codes "two")
     ∷ request.Append (file (codes "J") (codes "COM")) (codes "$ EXIT 3")
-    ∷ request.DefineForm (codes "LETTER") 1 (codes "DEFAULT") letter
-    ∷ request.InitializeQueue (codes "LP") queue.Print None (Some (codes "LPA0")) [] no_change true
+    ∷ request.DefineForm (record { name = codes "LETTER"; number = 1; stock = codes "DEFAULT"; shape = letter })
+    ∷ request.InitializeQueue (record { name = codes "LP"; kind = queue.Print; node = None; device = Some (codes "LPA0"); targets = []; change = no_change; start = true })
     ∷ print_queue (codes "LQ") true no_change
     ∷ print_queue (codes "LR") true no_change
     ∷ request.StartQueue (codes "SYS$BATCH") no_change
-    ∷ request.Submit (codes "SMITH") job.Print (codes "LP") (listing_file (codes "F")) (codes "REPORT") 100 None false Default true [] (Some (Name (codes "LETTER"))) 2 true
+    ∷ request.Submit (record (a_print_job (codes "LP") (codes "REPORT")) { user = codes "SMITH"; file = listing_file (codes "F"); form = Some (Name (codes "LETTER")); copies = 2; flag = true })
     ∷ batch_job (codes "SYS$BATCH") (codes "J") None Default
     ∷ print_job (codes "LQ") (codes "F")
     ∷ print_job (codes "LR") (codes "F")

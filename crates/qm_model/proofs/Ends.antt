@@ -5,7 +5,6 @@ use Rattle.qm_kinds.specs.declared.entry.Entry.{Entry}
 use Rattle.qm_kinds.specs.declared.entry.EntryState.{EntryState}
 use Rattle.qm_kinds.specs.declared.entry.EntryState.TheVariants as state
 use Rattle.qm_kinds.specs.declared.entry.Fate.TheVariants as fate
-use Rattle.qm_kinds.specs.declared.entry.JobKind.TheVariants as job
 use Rattle.qm_kinds.specs.declared.entry.JobRetain.{JobRetain}
 use Rattle.qm_kinds.specs.declared.entry.JobRetain.TheVariants as retain
 use Rattle.qm_kinds.specs.declared.queue.QueueRetain.{QueueRetain}
@@ -19,7 +18,7 @@ use Rattle.qm_kinds.specs.declared.request.Request.TheVariants.{Append, Fill, St
 use Rattle.qm_kinds.specs.declared.system.System.{System}
 use Rattle.qm_model.specs.First.{first_system}
 use Rattle.qm_model.specs.Retaining.{is_retained}
-use Rattle.qm_model.proofs.Site.{Ask, answers, after, starts, states, first_asks, file, listing_file, no_change, print_queue, print_queue_on, generic_queue, print_job, batch_job}
+use Rattle.qm_model.proofs.Site.{Ask, answers, after, starts, states, first_asks, file, listing_file, no_change, print_queue, print_queue_on, generic_queue, print_job, batch_job, a_print_job}
 
 -- what a queue with a setting does with a job whose setting is given, after a success and after a failure
 abbrev row_of : JobRetain → QueueRetain → Bool × Bool
@@ -113,7 +112,7 @@ jobs_on_A = first_asks
     ∷ print_queue_on (codes "A") (codes "LPC")
     ∷ print_queue_on (codes "A") (codes "LPD")
     ∷ print_job (codes "GP") (codes "F")
-    ∷ Submit (codes "SYSTEM") job.Print (codes "LPC") (listing_file (codes "F")) (codes "F") 100 None false retain.Failed false [] None 1 false
+    ∷ Submit (record (a_print_job (codes "LPC") (codes "F")) { retain = retain.Failed; restart = false })
     ∷ print_job (codes "LPD") (codes "F")
     ∷ Mark 1 (codes "3")
     ∷ DeleteEntry 3

@@ -201,7 +201,7 @@ module _ (s : System) (fs : List File) (stays : (n : FileName) → IsSome (file_
     order = h.order;
     entries = record {
       few = h.entries.few;
-      each = All-weaker (IsEntry s) (IsEntry of_files) (λ x k. record { number = k.number; home = k.home; file = stays x.file k.file; form = k.form; copies = k.copies; characteristics = k.characteristics; queue = k.queue; node = k.node; run = k.run }) s.entries h.entries.each;
+      each = All-weaker (IsEntry s) (IsEntry of_files) (λ x k. record { number = k.number; home = k.home; file = stays x.file k.file; form = k.form; characteristics = k.characteristics; queue = k.queue; node = k.node; run = k.run }) s.entries h.entries.each;
       order = h.entries.order;
       runs = h.entries.runs;
     };

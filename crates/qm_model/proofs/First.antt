@@ -5,7 +5,7 @@ use Rattle.std.specs.Int.Bits.{and_zero_l}
 use Rattle.std.proofs.lemmas.List.Elements.{All-from_recursion}
 use Rattle.std.proofs.lemmas.Slice.Eq.{bytes_eq-Decides}
 use Rattle.qm_kinds.specs.declared.system.Node.{Node}
-use Rattle.qm_model.specs.Consistent.{IsConsistent, AreNodes, IsForm, IsQueue, AreDefined}
+use Rattle.qm_model.specs.Consistent.{IsConsistent, AreNodes, IsProperForm, IsQueue, AreDefined}
 use Rattle.qm_model.specs.First.{first_system, first_form, first_queue}
 
 all_of_none : {X : Type 0} (P : X → Type 0) → All P []
@@ -28,7 +28,7 @@ nodes node short = record {
   distinct = λ i j d below within. absurd (never i j 1 (lit≤ tt) below within);
 }
 
-form : IsForm first_form
+form : IsProperForm first_form
 form = record {
   number = lit≤ tt;
   name = (lit≤ tt, refl);
@@ -55,7 +55,7 @@ first_is_consistent node short = record {
   nodes = nodes node short;
   may = rw (itself node) refl;
   forms = record {
-    each = all_of_one IsForm first_form form;
+    each = all_of_one IsProperForm first_form form;
     order = λ i j d below within. absurd (never i j 1 (lit≤ tt) below within);
     distinct = λ i j d below within. absurd (never i j 1 (lit≤ tt) below within);
     default = (refl, refl);

@@ -19,9 +19,9 @@ use Rattle.qm_kinds.specs.declared.refusal.Refusal.{Refusal}
 use Rattle.qm_kinds.specs.declared.refusal.Refusal.TheVariants.{BadValue, DuplicateForm, NoSuchForm, Referenced}
 use Rattle.qm_kinds.specs.declared.request.NameOrNumber.TheVariants.{Name, Number}
 use Rattle.qm_kinds.specs.declared.system.System.{System}
-use Rattle.qm_model.specs.Names.{default_form}
+use Rattle.qm_kinds.specs.Names.{default_form}
 use Rattle.qm_model.specs.Find.{is_form, form_wanted}
-use Rattle.qm_model.specs.Consistent.{IsShort, IsLabel, HasRoom, IsForm, AreForms, IsMounted, HasForm, IsEntry}
+use Rattle.qm_model.specs.Consistent.{IsShort, IsDefinable, HasRoom, IsProperForm, AreForms, IsMounted, HasForm, IsEntry}
 use Rattle.qm_model.specs.Outcome.{refused_where}
 use Rattle.qm_model.specs.Inserting.{with_form}
 use Rattle.qm_model.specs.Referring.{refused_by_queue, refused_by_entry}
@@ -50,7 +50,7 @@ module _ (s : System) (fs : List Form) where
     order = h.order;
     entries = record {
       few = h.entries.few;
-      each = λ i d within. let k = h.entries.each i d within in record { number = k.number; home = k.home; file = k.file; form = of_entries i d within; copies = k.copies; characteristics = k.characteristics; queue = k.queue; node = k.node; run = k.run };
+      each = λ i d within. let k = h.entries.each i d within in record { number = k.number; home = k.home; file = k.file; form = of_entries i d within; characteristics = k.characteristics; queue = k.queue; node = k.node; run = k.run };
       order = h.entries.order;
       runs = h.entries.runs;
     };
@@ -104,7 +104,7 @@ has_room f fine =
       at_most 999 f.number (or_false_right (lines || columns) (nat_lt 999 f.number) fine),
     )
 
-defined_forms : (f : Form) (fs : List Form) → AreForms fs → IsForm f → is_form_taken fs f ≡ false → AreForms (with_form f fs)
+defined_forms : (f : Form) (fs : List Form) → AreForms fs → IsProperForm f → is_form_taken fs f ≡ false → AreForms (with_form f fs)
 unfolding Lower Other
 defined_forms f fs h new free =
     let missing : form_wanted (Name f.name) fs ≡ None = nothing_there _ (or_false_left (is_some (form_wanted (Name f.name) fs)) (is_some (form_wanted (Number f.number) fs)) free) in
@@ -112,7 +112,7 @@ defined_forms f fs h new free =
     let by_number = not_found (is_form (Number f.number)) fs (nothing_there _ (or_false_right (is_some (form_wanted (Name f.name) fs)) (is_some (form_wanted (Number f.number) fs)) free)) in
     let same : form_wanted (Name default_form) (with_form f fs) ≡ form_wanted (Name default_form) fs = missed in_front f (is_form (Name default_form)) fs (missing_differs f.name default_form fs missing h.default.1) in
     record {
-      each = all_inserted in_front f IsForm fs new h.each;
+      each = all_inserted in_front f IsProperForm fs new h.each;
       order = all_pairs_of Lower (with_form f fs)
           (order_inserted in_front f Lower (λ a b d p q. numbers_trans a.number b.number d.number p q) fs
           (All-weaker (λ (g : Form). (g.number == f.number) ≡ false) (λ (g : Form). (nat_lt f.number g.number ≡ true → Lower f g) × (nat_lt f.number g.number ≡ false → Lower g f))
@@ -126,7 +126,7 @@ defined_forms f fs h new free =
       default = subst (λ (o : Option Form). IfSome o (λ g. g.number ≡ 0) × IsSome o) (sym same) h.default;
     }
 
-pub form_defined_sound : (before s : System) (f : Form) → IsSound s → s.forms ≡ before.forms → IsLabel f.name → IsShort f.stock → define_form_refusal before f ≡ None → IsSound (form_defined s f).system
+pub form_defined_sound : (before s : System) (f : Form) → IsSound s → s.forms ≡ before.forms → IsDefinable f.name → IsShort f.stock → define_form_refusal before f ≡ None → IsSound (form_defined s f).system
 form_defined_sound before s f h same label stock clear =
     let bad : Option Refusal = refused_where (is_bad_form f) BadValue in
     let taken : Option Refusal = refused_where (is_form_taken before.forms f) DuplicateForm in
@@ -179,7 +179,7 @@ form_deleted_sound before s name h same clear keeps =
     let default = still_found name default_form s.forms (not_refused (bytes_eq name default_form) (Referenced Always) r2.0) in
     forms_change s fs h
     (record {
-      each = All-filter (other_than name) IsForm s.forms h.forms.each;
+      each = All-filter (other_than name) IsProperForm s.forms h.forms.each;
       order = AllPairs-filter (λ (a b : Form). nat_cmp a.number b.number ≡ Less) (other_than name) s.forms h.forms.order;
       distinct = AllPairs-filter (λ (a b : Form). a.name ≢ b.name) (other_than name) s.forms h.forms.distinct;
       default = subst (λ (o : Option Form). IfSome o (λ g. g.number ≡ 0) × IsSome o) (sym default) h.forms.default;

@@ -23,15 +23,17 @@ use Rattle.qm_kinds.specs.declared.refusal.Refusal.{Refusal}
 use Rattle.qm_kinds.specs.declared.refusal.Refusal.TheVariants.{BadValue, DuplicateQueue, QueuesFull, NoSuchNode, GenericTarget}
 use Rattle.qm_kinds.specs.declared.system.Node.{Node}
 use Rattle.qm_kinds.specs.declared.system.System.{System}
-use Rattle.qm_model.specs.Names.{default_form}
+use Rattle.qm_kinds.specs.Names.{default_form}
 use Rattle.qm_model.specs.Find.{name_cmp, queue_named}
-use Rattle.qm_model.specs.Consistent.{IsShort, AreForms, IsEntry, IsExecutionQueue, IsPlaced, IsMounted, runs_in, is_generic, job_kind, execution_kind}
+use Rattle.qm_model.specs.Consistent.{IsShort, AreForms, IsEntry, IsExecutionQueue, IsPlaced, IsMounted}
+use Rattle.qm_model.specs.JobStates.{runs_in}
+use Rattle.qm_model.specs.Kinds.{is_generic, job_kind, execution_kind, is_same_kind, is_print_queue, is_same_queue_kind}
 use Rattle.qm_model.specs.Outcome.{refused_where}
-use Rattle.qm_model.specs.Submitting.{is_same_kind}
 use Rattle.qm_model.specs.Standing.{node_at}
 use Rattle.qm_model.specs.Inserting.{with_new_queue}
-use Rattle.qm_model.specs.Settings.{is_bad_change, is_print_queue, change_refusal, with_change}
-use Rattle.qm_model.specs.Queues.{NewQueue, has_repeats, is_misplaced, is_same_queue_kind, refused_unless_stopped, refused_node, is_target, refused_targets, initialize_refusal, plain_queue, without_queue, initialized}
+use Rattle.qm_model.specs.Settings.{is_bad_change, change_refusal, with_change}
+use Rattle.qm_kinds.specs.declared.queue.NewQueue.{NewQueue}
+use Rattle.qm_model.specs.Queues.{has_repeats, is_misplaced, refused_unless_stopped, refused_node, is_target, refused_targets, initialize_refusal, plain_queue, without_queue, initialized}
 use Rattle.qm_model.proofs.SettlingLemmas.{IsIn}
 use Rattle.qm_model.proofs.ListLemmas.{Pairs, pairs_of, all_pairs_of, contains_in}
 use Rattle.qm_model.proofs.InsertLemmas.{all_inserted, longer, order_inserted, missed, hit, not_found, none_left, all_kept, fewer, one_goes, none_any}

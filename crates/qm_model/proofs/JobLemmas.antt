@@ -1,5 +1,5 @@
 -- Each lawful request leaves a consistent system.
-use Rattle.std.proofs.Common.{◌≡◌, ℕ, ◌&&◌, Bool, true, false, cond, List, refl, sym, ◌∙◌, subst, inl, inr, Option, None, Some, All, filter, map, Ok}
+use Rattle.std.proofs.Common.{◌≡◌, ℕ, ◌&&◌, Bool, true, false, cond, List, refl, sym, ◌∙◌, ap, subst, inl, inr, Option, None, Some, All, filter, map, Ok}
 use Rattle.std.specs.Prelude.{IfSome, filter_map}
 use Rattle.std.specs.Option.{option_map_or}
 use Rattle.std.proofs.lemmas.List.Elements.{All-weaker}
@@ -14,29 +14,29 @@ use Rattle.qm_kinds.specs.declared.request.Request.TheVariants as request
 use Rattle.qm_kinds.specs.declared.system.Node.{Node}
 use Rattle.qm_kinds.specs.declared.system.System.{System}
 use Rattle.qm_kinds.specs.Sizes.{is_success}
-use Rattle.qm_model.specs.Find.{entry_numbered, same_file_name}
+use Rattle.qm_model.specs.Find.{entry_numbered, same_file_name, is_among}
 use Rattle.qm_model.specs.Consistent.{IsConsistent, IsEntry, IsQueue}
 use Rattle.qm_model.specs.Outcome.{Accepted}
-use Rattle.qm_model.specs.Apply.{at_moment}
-use Rattle.qm_model.specs.Standing.{with_entry, node_at, is_executing}
+use Rattle.qm_model.specs.Applied.{at_moment, refusal_of, asks_for_numbers, are_numbers_spent, first_refusal_of, change_of, completed, applied}
+use Rattle.qm_model.specs.JobStates.{fate_of}
+use Rattle.qm_model.specs.Replying.{replied}
+use Rattle.qm_model.specs.Standing.{with_entry, node_at, is_executing, has_run, is_run_on}
 use Rattle.qm_model.specs.Due.{entry_at, due}
 use Rattle.qm_model.specs.Filing.{filling}
-use Rattle.qm_model.specs.Entries.{EntryChange}
 use Rattle.qm_model.specs.Retaining.{is_retained, retained_until}
 use Rattle.qm_model.specs.Ending.{queue_retain, aborted_status, node_lost_status, ended, requeued, fated}
-use Rattle.qm_model.specs.Losing.{is_among, interrupted, after_loss, without_node, without_nodes}
+use Rattle.qm_model.specs.Losing.{interrupted, after_loss, without_node, without_nodes}
 use Rattle.qm_model.specs.States.{state_on_start, stopped_when_idle}
 use Rattle.qm_model.specs.Stopping.{state_with_fate, with_fate, reset_fate, entry_aborting}
-use Rattle.qm_model.specs.Runs.{RunReport, Checkpoint, End, on_report, after_report, entry_of_run, reported_of, reported}
+use Rattle.qm_model.specs.Runs.{RunReport, MarkReport, EndReport, after_report, report_act, entry_of_run, reported_of, run_reported}
 use Rattle.qm_model.specs.Nodes.{as_up, up_exactly, with_manager}
-use Rattle.qm_model.specs.Applied.{refusal_of, asks_for_numbers, are_numbers_spent, first_refusal_of, change_of, completed, applied}
 use Rattle.qm_model.specs.Forms.{is_named}
 use Rattle.qm_model.specs.Characteristics.{has_named}
 use Rattle.qm_model.specs.Queues.{runs_for}
 use Rattle.qm_model.specs.Lawful.{IsLawful}
-use Rattle.qm_model.proofs.SettlingLemmas.{accepted_is}
+use Rattle.qm_model.proofs.SettlingLemmas.{IsIn, accepted_is}
 use Rattle.qm_model.proofs.ListLemmas.{Pairs, pairs_of}
-use Rattle.qm_model.proofs.SoundLemmas.{AreApart, settled_is_consistent}
+use Rattle.qm_model.proofs.SoundLemmas.{AreApart, find_in, unique, one_outcome, settled_is_consistent}
 use Rattle.qm_model.proofs.FileLemmas.{appended_sound}
 use Rattle.qm_model.proofs.MoveLemmas.{dropped_sound, merged_sound, stopped_sound}
 use Rattle.qm_model.proofs.SetEntryLemmas.{CanChange, may_change, still_may, entry_set_sound}
@@ -68,17 +68,11 @@ fated_calms qs now Requeue x = requeued_calms x
 fated_calms qs now Finish x = ended_calms qs now aborted_status x
 fated_calms qs now Remove x = tt
 
-on_report_calms : (qs : List Queue) (now : ℕ) (report : RunReport) (x : Entry) → IfSome (on_report qs now report x) (Calmer x)
-on_report_calms qs now (Checkpoint value) x = record { same = refl; calms = inl (refl, refl, refl) }
-on_report_calms qs now (End status) x = ended_calms qs now status x
-
-report_calms : (qs : List Queue) (now : ℕ) (report : RunReport) (state : EntryState) (x : Entry) → IfSome (after_report qs now report state x) (Calmer x)
-report_calms qs now report Pending x = itself x
-report_calms qs now report Holding x = itself x
-report_calms qs now report (Timed at) x = itself x
-report_calms qs now report (Running queue node run) x = on_report_calms qs now report x
-report_calms qs now report (Aborting queue node run fate) x = fated_calms qs now fate x
-report_calms qs now report (Retained status until) x = itself x
+report_calms : (qs : List Queue) (now : ℕ) (report : RunReport) (fate : Option Fate) (x : Entry) → IfSome (after_report qs now report fate x) (Calmer x)
+report_calms qs now (MarkReport value) None x = record { same = refl; calms = inl (refl, refl, refl) }
+report_calms qs now (EndReport status) None x = ended_calms qs now status x
+report_calms qs now (MarkReport value) (Some fate) x = fated_calms qs now fate x
+report_calms qs now (EndReport status) (Some fate) x = fated_calms qs now fate x
 
 either_calms : (b : Bool) (o p : Option Entry) (x : Entry) → IfSome o (Calmer x) → IfSome p (Calmer x) → IfSome (cond b o p) (Calmer x)
 either_calms true o p x h k = h
@@ -112,17 +106,21 @@ abort_sound : (s : System) (fate : Fate) (number : ℕ) → IsSound s → IsSoun
 abort_sound s fate number h =
     entries_calm s (with_entry number (λ e. Some (with_fate fate e)) s.entries) h (one_calms number (λ e. Some (with_fate fate e)) (λ x. with_fate_calms fate x) s.entries)
 
-report_sound_of : (s : System) (now run : ℕ) (report : RunReport) (e : Entry) → IsSound s → IsSound (reported_of s now run report e).system
-report_sound_of s now run report e h =
-    entries_calm s (with_entry e.number (λ x. after_report s.queues now report x.state x) s.entries) h
-    (one_calms e.number (λ x. after_report s.queues now report x.state x) (λ x. report_calms s.queues now report x.state x) s.entries)
+report_sound_of : (s : System) (now run : ℕ) (report : RunReport) (e : Entry) → IsSound s → IsIn e s.entries → IsSound (reported_of s now run report e).system
+report_sound_of s now run report e h among =
+    let left : Entry → Option Entry = λ x. after_report s.queues now report (fate_of x.state) x in
+    let apart = pairs_of AreApart s.entries (λ i j d below within. (h.entries.order i j d below within, h.entries.runs i j d below within)) in
+    let is : All (λ (x : Entry). x.number ≡ e.number → left x ≡ left e) s.entries =
+    All-weaker (λ (x : Entry). x.number ≡ e.number → x ≡ e) (λ (x : Entry). x.number ≡ e.number → left x ≡ left e) (λ x k number. ap left (k number)) s.entries (unique e s.entries apart among) in
+    subst (λ (es : List Entry). IsSound (record s { entries = es })) (one_outcome e.number left (left e) s.entries is)
+    (entries_calm s (with_entry e.number left s.entries) h (one_calms e.number left (λ x. report_calms s.queues now report (fate_of x.state) x) s.entries))
 
-of_option : (f : Entry → Accepted) (o : Option Entry) (d : Accepted) → ((e : Entry) → IsSound (f e).system) → IsSound d.system → IsSound (option_map_or f o d).system
-of_option f None d h k = k
-of_option f (Some e) d h k = h e
-
-report_sound : (s : System) (now : ℕ) (node : List ℕ) (run : ℕ) (report : RunReport) → IsSound s → IsSound (reported s now node run report).system
-report_sound s now node run report h = of_option (reported_of s now run report) (entry_of_run s node run) _ (λ e. report_sound_of s now run report e h) h
+report_sound : (s : System) (now : ℕ) (node : List ℕ) (run : ℕ) (report : RunReport) → IsSound s → IsSound (run_reported s now node run report).system
+report_sound s now node run report h = report_sound_at (entry_of_run s node run) refl
+  where
+    report_sound_at : (o : Option Entry) → entry_of_run s node run ≡ o → IsSound (option_map_or (reported_of s now run report) o (replied s (report_act run report None None))).system
+    report_sound_at None found = h
+    report_sound_at (Some e) found = report_sound_of s now run report e h (find_in (λ x. has_run run x && is_run_on node x) e s.entries found)
 
 either_sound : (b : Bool) (x y : Accepted) → IsSound x.system → IsSound y.system → IsSound (cond b x y).system
 either_sound true x y h k = h
@@ -151,7 +149,7 @@ may_changes s may is h =
       order = h.order;
       entries = record {
         few = h.entries.few;
-        each = All-weaker (IsEntry s) (IsEntry t) (λ x k. record { number = k.number; home = k.home; file = k.file; form = k.form; copies = k.copies; characteristics = k.characteristics; queue = k.queue; node = k.node; run = k.run }) s.entries h.entries.each;
+        each = All-weaker (IsEntry s) (IsEntry t) (λ x k. record { number = k.number; home = k.home; file = k.file; form = k.form; characteristics = k.characteristics; queue = k.queue; node = k.node; run = k.run }) s.entries h.entries.each;
         order = h.entries.order;
         runs = h.entries.runs;
       };
@@ -182,7 +180,7 @@ at_moment_sound s now h =
       };
       entries = record {
         few = h.entries.few;
-        each = All-weaker (IsEntry s) (IsEntry t) (λ x k. record { number = k.number; home = k.home; file = k.file; form = k.form; copies = k.copies; characteristics = k.characteristics; queue = k.queue; node = k.node; run = k.run }) s.entries h.entries.each;
+        each = All-weaker (IsEntry s) (IsEntry t) (λ x k. record { number = k.number; home = k.home; file = k.file; form = k.form; characteristics = k.characteristics; queue = k.queue; node = k.node; run = k.run }) s.entries h.entries.each;
         order = h.entries.order;
         runs = h.entries.runs;
       };
@@ -209,16 +207,16 @@ module _ (before : System) (now : ℕ) (at : IsConsistent (at_moment now before)
   change_sound (request.Fill file lines) of clear = appended_sound before (found_at before now) file (filling lines) h refl clear
   change_sound (request.Drop file) of clear =
       dropped_sound before (found_at before now) file h clear (through (λ (x : Entry). same_file_name x.file file ≡ false) (λ x k. k))
-  change_sound (request.DefineForm name number stock shape) of clear =
-      form_defined_sound before (found_at before now) (record { name = name; number = number; stock = stock; shape = shape }) h refl of.0 of.1 clear
+  change_sound (request.DefineForm form) of clear =
+      form_defined_sound before (found_at before now) form h refl of.0 of.1 clear
   change_sound (request.DeleteForm name) of clear =
       form_deleted_sound before (found_at before now) name h refl clear (through (λ (x : Entry). is_named name x.form ≡ false) (λ x k. k))
-  change_sound (request.DefineCharacteristic name number) of clear =
-      characteristic_defined_sound before (found_at before now) (record { name = name; number = number }) h refl of clear
+  change_sound (request.DefineCharacteristic characteristic) of clear =
+      characteristic_defined_sound before (found_at before now) characteristic h refl of clear
   change_sound (request.DeleteCharacteristic name) of clear =
       characteristic_deleted_sound before (found_at before now) name h refl refl clear (through (λ (x : Entry). has_named before.characteristics name x.characteristics.0 ≡ false) (λ x k. k))
-  change_sound (request.InitializeQueue name kind on device targets change start) of clear =
-      initialized_sound (found_at before now) node (record { name = name; kind = kind; node = on; device = device; targets = targets; change = change; start = start }) h (node_there place before.nodes of.2) of.0 of.1 clear
+  change_sound (request.InitializeQueue new) of clear =
+      initialized_sound (found_at before now) node new h (node_there place before.nodes of.2) of.0 of.1 clear
   change_sound (request.SetQueue name change) of clear = set_sound (found_at before now) change (λ (q : Queue). q.state) name h clear
   change_sound (request.StartQueue name change) of clear = set_sound (found_at before now) change (λ (q : Queue). state_on_start q.state) name h clear
   change_sound (request.StopQueue name how) of clear = stopped_sound (found_at before now) name how h (λ x. with_fate_calms (reset_fate x) x)
@@ -226,16 +224,15 @@ module _ (before : System) (now : ℕ) (at : IsConsistent (at_moment now before)
   change_sound (request.DeleteQueue name) of clear =
       queue_deleted_sound before (found_at before now) name h refl clear (through (λ (x : Entry). runs_for name x ≡ false) (runs_for_at name now))
   change_sound (request.Merge to from) of clear = merged_sound before (found_at before now) to from h refl clear
-  change_sound (request.Submit user kind queue file name priority after hold retain restart characteristics form copies flag) of clear =
-      submitted_sound before (found_at before now) now (record { user = user; kind = kind; queue = queue; file = file; name = name; priority = priority; after = after; hold = hold; retain = retain; restart = restart; characteristics = characteristics; form = form; copies = copies; flag = flag }) h refl refl refl (due_shorter (at_moment now before) now at) clear
-  change_sound (request.SetEntry entry release hold after priority name characteristics form queue restart retain) of clear =
-      let change : EntryChange = record { release = release; hold = hold; after = after; priority = priority; name = name; characteristics = characteristics; form = form; queue = queue; restart = restart; retain = retain } in
+  change_sound (request.Submit job) of clear =
+      submitted_sound before (found_at before now) now job h refl refl refl (due_shorter (at_moment now before) now at) clear
+  change_sound (request.SetEntry entry change) of clear =
       entry_set_sound (found_at before now) now entry change h
       (through (λ (x : Entry). x.number ≡ entry → CanChange before.queues before.forms change x) (λ x k. still_may before.queues before.forms entry now change x k) (may_change before entry change apart clear))
   change_sound (request.DeleteEntry entry) of clear =
       either_sound (option_map_or is_executing (entry_numbered entry (found_at before now).entries) false) _ _ (abort_sound (found_at before now) Remove entry h) (removed_sound (found_at before now) entry h)
-  change_sound (request.Mark run value) of clear = report_sound (found_at before now) now node run (Checkpoint value) h
-  change_sound (request.Done run status) of clear = report_sound (found_at before now) now node run (End status) h
+  change_sound (request.Mark run value) of clear = report_sound (found_at before now) now node run (MarkReport value) h
+  change_sound (request.Done run status) of clear = report_sound (found_at before now) now node run (EndReport status) h
   change_sound request.Tick of clear = h
   change_sound request.NodeUp of clear = nodes_keep (found_at before now) (as_up node) (λ n. refl) h
   change_sound (request.NodeLost nodes) of clear = lost_sound (found_at before now) now nodes h

@@ -9,7 +9,7 @@ pub mod Scans
 pub mod Restarts
 pub mod Duties
 pub mod SettlingLemmas
-pub mod QuietLemmas
+pub mod IdleLemmas
 pub mod MovingLemmas
 pub mod ListLemmas
 pub mod InsertLemmas
@@ -34,3 +34,8 @@ pub mod StandingLemmas
 pub mod ChoiceLemmas
 pub mod StartedLemmas
 pub mod MarkLemmas
+pub mod Moments
+pub mod Texts
+pub mod TwoRefusals
+pub mod Limits
+pub mod Waiting

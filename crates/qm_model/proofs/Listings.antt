@@ -1,8 +1,6 @@
 -- What is listed, and in which order.
 use Rattle.std.proofs.Common.{◌≡◌, ℕ, Bool, true, false, List, [], ◌∷◌, ◌++◌, refl, map, Option, None, Some}
 use Rattle.std.specs.Prelude.{codes, Result, Ok, Err}
-use Rattle.qm_kinds.specs.declared.entry.JobKind.TheVariants as job
-use Rattle.qm_kinds.specs.declared.entry.JobRetain.TheVariants.{Default}
 use Rattle.qm_kinds.specs.declared.query.After.{After}
 use Rattle.qm_kinds.specs.declared.query.After.TheVariants as after
 use Rattle.qm_kinds.specs.declared.query.Listing.{Listing}
@@ -22,8 +20,8 @@ use Rattle.qm_kinds.specs.declared.system.System.{System}
 use Rattle.qm_model.specs.First.{first_system}
 use Rattle.qm_model.specs.Rows.{view}
 use Rattle.qm_model.specs.Duties.{duties}
-use Rattle.qm_model.specs.Work.{Duty}
-use Rattle.qm_model.proofs.Site.{Ask, after as system_after_all, starts, first_asks, file, listing_file, no_change, print_queue}
+use Rattle.qm_kinds.specs.declared.work.Duty.{Duty}
+use Rattle.qm_model.proofs.Site.{Ask, after as system_after_all, starts, first_asks, file, listing_file, no_change, print_queue, a_print_job, a_batch_job}
 
 -- what names a row
 abbrev label : Row → List ℕ
@@ -90,23 +88,23 @@ mounted form characteristics = record { limit = None; characteristics = characte
 
 abbrev report_job : List ℕ → List ℕ → List NameOrNumber → ℕ → Request
 report_job user form characteristics copies =
-    Submit user job.Print (codes "SYS$PRINT") (listing_file (codes "REPORT")) (codes "REPORT") 100 None false Default true characteristics (Some (Name form)) copies false
+    Submit (record (a_print_job (codes "SYS$PRINT") (codes "REPORT")) { user = user; characteristics = characteristics; form = Some (Name form); copies = copies })
 
 abbrev pub day : List Ask
 day = first_asks
-    (DefineForm (codes "LETTER") 1 (codes "WHITE") (record { length = 60; width = 132; top = 2; bottom = 2; left = 0; right = 0; wrap = false })
-    ∷ DefineForm (codes "INVOICE") 2 (codes "YELLOW") (record { length = 66; width = 80; top = 0; bottom = 6; left = 0; right = 0; wrap = true })
-    ∷ DefineCharacteristic (codes "DUPLEX") 7
-    ∷ InitializeQueue (codes "SYS$BATCH") queue.Batch (Some (codes "PLUTO")) None [] (record { limit = Some 2; characteristics = None; form = None; blocks = None; by_size = None; retain = None }) true
-    ∷ InitializeQueue (codes "PLUTO_LP") queue.Print (Some (codes "PLUTO")) (Some (codes "LPA0")) [] (mounted (codes "LETTER") (Some (Name (codes "DUPLEX") ∷ []))) true
-    ∷ InitializeQueue (codes "MARS_LP") queue.Print (Some (codes "MARS")) (Some (codes "LPA0")) [] (mounted (codes "LETTER") None) true
-    ∷ InitializeQueue (codes "SYS$PRINT") queue.GenericPrint None None (codes "PLUTO_LP" ∷ codes "MARS_LP" ∷ []) no_change true
+    (DefineForm (record { name = codes "LETTER"; number = 1; stock = codes "WHITE"; shape = record { length = 60; width = 132; top = 2; bottom = 2; left = 0; right = 0; wrap = false } })
+    ∷ DefineForm (record { name = codes "INVOICE"; number = 2; stock = codes "YELLOW"; shape = record { length = 66; width = 80; top = 0; bottom = 6; left = 0; right = 0; wrap = true } })
+    ∷ DefineCharacteristic (record { name = codes "DUPLEX"; number = 7 })
+    ∷ InitializeQueue (record { name = codes "SYS$BATCH"; kind = queue.Batch; node = Some (codes "PLUTO"); device = None; targets = []; change = record { limit = Some 2; characteristics = None; form = None; blocks = None; by_size = None; retain = None }; start = true })
+    ∷ InitializeQueue (record { name = codes "PLUTO_LP"; kind = queue.Print; node = Some (codes "PLUTO"); device = Some (codes "LPA0"); targets = []; change = mounted (codes "LETTER") (Some (Name (codes "DUPLEX") ∷ [])); start = true })
+    ∷ InitializeQueue (record { name = codes "MARS_LP"; kind = queue.Print; node = Some (codes "MARS"); device = Some (codes "LPA0"); targets = []; change = mounted (codes "LETTER") None; start = true })
+    ∷ InitializeQueue (record { name = codes "SYS$PRINT"; kind = queue.GenericPrint; node = None; device = None; targets = codes "PLUTO_LP" ∷ codes "MARS_LP" ∷ []; change = no_change; start = true })
     ∷ Fill (listing_file (codes "REPORT")) 100
     ∷ Append (file (codes "NIGHT") (codes "COM")) (codes "$ WRITE SYS$OUTPUT " ++ 34 ∷ codes "done" ++ 34 ∷ 10 ∷ [])
     ∷ report_job (codes "SMITH") (codes "LETTER") (Name (codes "DUPLEX") ∷ []) 1
     ∷ report_job (codes "JONES") (codes "LETTER") [] 2
     ∷ report_job (codes "JONES") (codes "INVOICE") [] 1
-    ∷ Submit (codes "SMITH") job.Batch (codes "SYS$BATCH") (file (codes "NIGHT") (codes "COM")) (codes "NIGHT") 100 None false Default true [] None 1 false
+    ∷ Submit (record (a_batch_job (codes "SYS$BATCH") (codes "NIGHT")) { user = codes "SMITH"; restart = true })
     ∷ []) ++ (let lost : Ask = record { now = 0; node = 1; request = NodeLost (codes "MARS" ∷ []) } in lost)
     ∷ first_asks (SetQueue (codes "MARS_LP") (mounted (codes "INVOICE") None) ∷ [])
 

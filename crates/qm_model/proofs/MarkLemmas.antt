@@ -10,10 +10,13 @@ use Rattle.std.proofs.lemmas.List.FromFn.{length-map-range_with_len}
 use Rattle.std.proofs.lemmas.Str.Parse.{IsDigitsTest, IsNumeralModel, numerals_by_fold}
 use Rattle.qm_kinds.specs.declared.entry.JobKind.TheVariants.{Print}
 use Rattle.qm_model.specs.Command.{value_of}
-use Rattle.qm_model.specs.Work.{Work, Place, Report, Done, Step}
+use Rattle.qm_kinds.specs.declared.work.Work.{Work}
+use Rattle.qm_kinds.specs.declared.work.Place.{Place}
+use Rattle.qm_kinds.specs.declared.work.Report.{Report}
+use Rattle.qm_kinds.specs.declared.work.Report.TheVariants.{Done}
+use Rattle.qm_model.specs.Reports.{Step, printed, begin_at, begin, print_steps, course_of, course, report_of, reports, with_mark, mark_behind, BeginAtMarks, blocks_before_report}
 use Rattle.qm_model.specs.Pages.{page_blocks}
 use Rattle.qm_model.specs.Batch.{normal_status}
-use Rattle.qm_model.specs.Reports.{printed, begin_at, begin, print_steps, course_of, course, report_of, reports, with_mark, mark_behind, BeginAtMarks, blocks_before_report}
 use Rattle.qm_model.proofs.SettlingLemmas.{and_left, and_right}
 use Rattle.qm_model.proofs.ReportLemmas.{drop_next, one_left, more_left, last_report, next_mark}
 

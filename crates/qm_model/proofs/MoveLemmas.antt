@@ -21,15 +21,16 @@ use Rattle.qm_kinds.specs.declared.request.StopMode.{StopMode}
 use Rattle.qm_kinds.specs.declared.request.StopMode.TheVariants.{Pause, Next, Reset}
 use Rattle.qm_kinds.specs.declared.system.System.{System}
 use Rattle.qm_model.specs.Find.{same_file_name, file_named, file_name_cmp, queue_named}
-use Rattle.qm_model.specs.Consistent.{IsEntry, run_of, job_kind}
+use Rattle.qm_model.specs.Consistent.{IsEntry}
+use Rattle.qm_model.specs.JobStates.{run_of, is_waiting}
+use Rattle.qm_model.specs.Kinds.{job_kind, is_same_kind, is_other_kind}
 use Rattle.qm_model.specs.Outcome.{refused_where}
-use Rattle.qm_model.specs.Submitting.{is_same_kind, is_other_kind}
 use Rattle.qm_model.specs.Appending.{refused_as_named}
 use Rattle.qm_model.specs.Filing.{drop_refusal, dropped}
 use Rattle.qm_model.specs.Standing.{with_queue}
 use Rattle.qm_model.specs.States.{state_on_stop}
 use Rattle.qm_model.specs.Stopping.{is_running_in, reset_fate, with_fate, reset_in, entries_on_stop, stopped_queue, queue_stopped}
-use Rattle.qm_model.specs.Merging.{is_waiting, waits_in, are_of_two_kinds, merge_refusal, moved_to, merged}
+use Rattle.qm_model.specs.Merging.{waits_in, are_of_two_kinds, merge_refusal, moved_to, merged}
 use Rattle.qm_model.proofs.SettlingLemmas.{and_right}
 use Rattle.qm_model.proofs.ListLemmas.{Becomes, none, turned, pairs_of, all_pairs_of, becomes_all, becomes_pairs, becomes_shorter}
 use Rattle.qm_model.proofs.SoundLemmas.{AreApart, apart_at}
@@ -93,7 +94,7 @@ dropped_sound before s name h clear keeps =
       order = h.order;
       entries = record {
         few = h.entries.few;
-        each = λ i d within. let k = h.entries.each i d within in record { number = k.number; home = k.home; file = kept_file _ name s.files (unnamed i d within) k.file; form = k.form; copies = k.copies; characteristics = k.characteristics; queue = k.queue; node = k.node; run = k.run };
+        each = λ i d within. let k = h.entries.each i d within in record { number = k.number; home = k.home; file = kept_file _ name s.files (unnamed i d within) k.file; form = k.form; characteristics = k.characteristics; queue = k.queue; node = k.node; run = k.run };
         order = h.entries.order;
         runs = h.entries.runs;
       };
@@ -166,13 +167,12 @@ module _ (s : System) (to from : List ℕ) (to_there : IsSome (queue_named to s.
     );
     file = h.file;
     form = h.form;
-    copies = h.copies;
     characteristics = h.characteristics;
     queue = h.queue;
     node = h.node;
     run = h.run;
   }
-  moved_at x false is h = record { number = h.number; home = h.home; file = h.file; form = h.form; copies = h.copies; characteristics = h.characteristics; queue = h.queue; node = h.node; run = h.run }
+  moved_at x false is h = record { number = h.number; home = h.home; file = h.file; form = h.form; characteristics = h.characteristics; queue = h.queue; node = h.node; run = h.run }
 
   Moved : Entry → Entry → Type 0
   Moved x y = y ≡ moved_to to from x

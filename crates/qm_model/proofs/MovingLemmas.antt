@@ -1,19 +1,27 @@
 -- No change touches the moment or the numbers of runs, and entries' numbers only rise.
-use Rattle.std.proofs.Common.{◌≡◌, ℕ, ◌+◌, ◌≤◌, Bool, true, false, cond, List, length, refl, sym, ◌∙◌, ap, subst, arith, Option, None, Some, Ok}
+use Rattle.std.proofs.Common.{◌≡◌, ℕ, ◌+◌, ◌≤◌, Bool, true, false, cond, List, length, map, refl, sym, ◌∙◌, ap, subst, arith, Option, None, Some, Ok}
 use Rattle.std.specs.Option.{option_map_or}
 use Rattle.qm_kinds.specs.declared.entry.Entry.{Entry}
 use Rattle.qm_kinds.specs.declared.request.Request.{Request}
-use Rattle.qm_kinds.specs.declared.request.Request.TheVariants.{Submit, DeleteEntry, Mark, Done}
+use Rattle.qm_kinds.specs.declared.request.Request.TheVariants.{Append, Submit, SetEntry, DeleteEntry, Mark, Done, NodeUp, NodeLost, Took}
+use Rattle.qm_kinds.specs.declared.system.Node.{Node}
 use Rattle.qm_kinds.specs.declared.system.System.{System}
+use Rattle.qm_kinds.specs.declared.entry.EntryState.TheVariants.{Pending}
+use Rattle.qm_kinds.specs.declared.reply.Act.TheVariants.{EntryIs}
+use Rattle.qm_model.specs.Entries.{changed_entry, entry_set_to}
 use Rattle.qm_model.specs.Outcome.{Accepted}
-use Rattle.qm_model.specs.Apply.{at_moment}
+use Rattle.qm_model.specs.Replying.{replied}
+use Rattle.qm_model.specs.Applied.{at_moment, first_refusal_of, change_of, completed, applied}
 use Rattle.qm_model.specs.Due.{due}
 use Rattle.qm_model.specs.Standing.{node_at, is_executing}
 use Rattle.qm_model.specs.Find.{entry_numbered}
 use Rattle.qm_model.specs.States.{stopped_when_idle}
 use Rattle.qm_model.specs.Settling.{settled}
-use Rattle.qm_model.specs.Runs.{RunReport, Checkpoint, End, entry_of_run, reported, reported_of}
-use Rattle.qm_model.specs.Applied.{first_refusal_of, change_of, completed, applied}
+use Rattle.qm_model.specs.Built.{is_built}
+use Rattle.qm_model.specs.Losing.{without_node}
+use Rattle.qm_model.specs.Nodes.{as_up, up_exactly}
+use Rattle.qm_model.specs.Runs.{RunReport, MarkReport, EndReport, entry_of_run, run_reported, reported_of}
+use Rattle.qm_model.proofs.ChangeLemmas.{names_stay}
 use Rattle.qm_model.proofs.SettlingLemmas.{rest_stays, numbers_taken, accepted_is}
 
 pub record Moves (s t : System) : Type 0 where
@@ -32,17 +40,19 @@ of_option : (s : System) (f : Entry → Accepted) (o : Option Entry) (d : Accept
 of_option s f None d h k = k
 of_option s f (Some e) d h k = h e
 
-report_moves : (s : System) (now : ℕ) (node : List ℕ) (run : ℕ) (report : RunReport) → Moves s (reported s now node run report).system
+report_moves : (s : System) (now : ℕ) (node : List ℕ) (run : ℕ) (report : RunReport) → Moves s (run_reported s now node run report).system
 report_moves s now node run report =
     of_option s (reported_of s now run report) (entry_of_run s node run) _ (λ e. as_it_was _ _ refl refl refl) (as_it_was _ _ refl refl refl)
 
 change_moves : (s : System) (now : ℕ) (node : List ℕ) (request : Request) → Moves s (change_of s now node request).system
-change_moves s now node (Submit user kind queue file name priority after hold retain restart characteristics form copies flag) =
+change_moves s now node (Submit job) =
     record { last = refl; runs = refl; entries = omega arith }
+change_moves s now node (SetEntry entry change) =
+    of_option s (λ e. entry_set_to s entry (changed_entry s now change e)) (entry_numbered entry s.entries) (replied s (EntryIs entry Pending)) (λ e. as_it_was _ _ refl refl refl) (as_it_was _ _ refl refl refl)
 change_moves s now node (DeleteEntry entry) =
     either s (option_map_or is_executing (entry_numbered entry s.entries) false) _ _ (as_it_was _ _ refl refl refl) (as_it_was _ _ refl refl refl)
-change_moves s now node (Mark run value) = report_moves s now node run (Checkpoint value)
-change_moves s now node (Done run status) = report_moves s now node run (End status)
+change_moves s now node (Mark run value) = report_moves s now node run (MarkReport value)
+change_moves s now node (Done run status) = report_moves s now node run (EndReport status)
 change_moves s now node _ = as_it_was _ _ refl refl refl
 
 module _ (s : System) (now node : ℕ) (request : Request) (a : Accepted) (is : applied s now node request ≡ Ok a) where
@@ -74,3 +84,49 @@ module _ (s : System) (now node : ℕ) (request : Request) (a : Accepted) (is : 
   entries_rise =
       subst (λ (b : Accepted). s.next_entry ≤ b.system.next_entry) same
       (subst (λ (n : ℕ). s.next_entry ≤ n) (ap (λ (t : System). t.next_entry) (sym (rest_stays idle))) moves.entries)
+
+-- ---- nodes keep their names
+
+abbrev names : System → List (List ℕ)
+names s = map (λ (n : Node). n.name) s.nodes
+
+either_names : (s : System) (b : Bool) (x y : Accepted) → names x.system ≡ names s → names y.system ≡ names s → names (cond b x y).system ≡ names s
+either_names s true x y h k = h
+either_names s false x y h k = k
+
+option_names : (s : System) (f : Entry → Accepted) (o : Option Entry) (d : Accepted) → ((e : Entry) → names (f e).system ≡ names s) → names d.system ≡ names s → names (option_map_or f o d).system ≡ names s
+option_names s f None d h k = k
+option_names s f (Some e) d h k = h e
+
+change_names : (s : System) (now : ℕ) (node : List ℕ) (request : Request) → names (change_of s now node request).system ≡ names s
+change_names s now node (SetEntry entry change) =
+    option_names s (λ e. entry_set_to s entry (changed_entry s now change e)) (entry_numbered entry s.entries) (replied s (EntryIs entry Pending)) (λ e. refl) refl
+change_names s now node (DeleteEntry entry) = either_names s (option_map_or is_executing (entry_numbered entry s.entries) false) _ _ refl refl
+change_names s now node (Mark run value) = option_names s (reported_of s now run (MarkReport value)) (entry_of_run s node run) _ (λ e. refl) refl
+change_names s now node (Done run status) = option_names s (reported_of s now run (EndReport status)) (entry_of_run s node run) _ (λ e. refl) refl
+change_names s now node NodeUp = names_stay (as_up node) (λ n. refl) s.nodes
+change_names s now node (NodeLost lost) = names_stay (without_node lost) (λ n. refl) s.nodes
+change_names s now node (Took epoch gone up may) =
+    names_stay (up_exactly up) (λ n. refl) (map (without_node gone) s.nodes) ∙ names_stay (without_node gone) (λ n. refl) s.nodes
+change_names s now node _ = refl
+
+pub names_are_kept : (s : System) (now node : ℕ) (request : Request) (a : Accepted) → applied s now node request ≡ Ok a → names a.system ≡ names s
+names_are_kept s now node request a is =
+    let name = node_at node s.nodes in
+    let found = due now (at_moment now s) in
+    let change = change_of found now name request in
+    let same : completed change ≡ a = accepted_is (first_refusal_of s name request) (completed change) a is in
+    ap (λ (b : Accepted). names b.system) (sym same) ∙ ap names (rest_stays (stopped_when_idle change.system)) ∙ change_names found now name request
+
+built_nodes : (s : System) (now : ℕ) (node : List ℕ) (request : Request) → is_built request ≡ true → (change_of s now node request).system.nodes ≡ s.nodes
+built_nodes s now node (Append file bytes) built = refl
+built_nodes s now node (Submit job) built = refl
+built_nodes s now node _ built = cc
+
+pub nodes_are_kept : (s : System) (now node : ℕ) (request : Request) (a : Accepted) → is_built request ≡ true → applied s now node request ≡ Ok a → a.system.nodes ≡ s.nodes
+nodes_are_kept s now node request a built is =
+    let name = node_at node s.nodes in
+    let found = due now (at_moment now s) in
+    let change = change_of found now name request in
+    let same : completed change ≡ a = accepted_is (first_refusal_of s name request) (completed change) a is in
+    ap (λ (b : Accepted). b.system.nodes) (sym same) ∙ ap (λ (t : System). t.nodes) (rest_stays (stopped_when_idle change.system)) ∙ built_nodes found now name request built

@@ -132,7 +132,7 @@ abbrev four_kinds : System
 four_kinds = after (first_system (codes "A")) (first_asks
     (print_queue (codes "LP") true no_change
     ∷ generic_queue (codes "GP") (codes "LP" ∷ [])
-    ∷ InitializeQueue (codes "NIGHT") queue.GenericBatch None None (codes "SYS$BATCH" ∷ []) no_change true
+    ∷ InitializeQueue (record { name = codes "NIGHT"; kind = queue.GenericBatch; node = None; device = None; targets = codes "SYS$BATCH" ∷ []; change = no_change; start = true })
     ∷ []))
 
 -- SHOW QUEUE with /BATCH, with /DEVICE and with /GENERIC
@@ -167,11 +167,11 @@ jobs_of_device_queues = refl
 -- forms and characteristics that are defined in another order than that of their numbers
 abbrev pub with_stationery : System
 with_stationery = after (first_system (codes "A")) (first_asks
-    (DefineForm (codes "INVOICE") 20 (codes "YELLOW") (record { length = 66; width = 80; top = 0; bottom = 6; left = 0; right = 0; wrap = true })
-    ∷ DefineForm (codes "LETTER") 3 (codes "WHITE") (record { length = 60; width = 132; top = 2; bottom = 2; left = 0; right = 0; wrap = false })
-    ∷ DefineCharacteristic (codes "COLOUR") 127
-    ∷ DefineCharacteristic (codes "DUPLEX") 7
-    ∷ DefineCharacteristic (codes "STAPLE") 30
+    (DefineForm (record { name = codes "INVOICE"; number = 20; stock = codes "YELLOW"; shape = record { length = 66; width = 80; top = 0; bottom = 6; left = 0; right = 0; wrap = true } })
+    ∷ DefineForm (record { name = codes "LETTER"; number = 3; stock = codes "WHITE"; shape = record { length = 60; width = 132; top = 2; bottom = 2; left = 0; right = 0; wrap = false } })
+    ∷ DefineCharacteristic (record { name = codes "COLOUR"; number = 127 })
+    ∷ DefineCharacteristic (record { name = codes "DUPLEX"; number = 7 })
+    ∷ DefineCharacteristic (record { name = codes "STAPLE"; number = 30 })
     ∷ []))
 
 abbrev pub default_form : Form

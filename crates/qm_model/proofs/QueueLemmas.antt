@@ -24,13 +24,15 @@ use Rattle.qm_kinds.specs.declared.request.NameOrNumber.{NameOrNumber}
 use Rattle.qm_kinds.specs.declared.system.Node.{Node}
 use Rattle.qm_kinds.specs.declared.system.System.{System}
 use Rattle.qm_model.specs.Find.{name_cmp, queue_named, form_wanted}
-use Rattle.qm_model.specs.Consistent.{IsEntry, IsExecutionQueue, IsPlaced, IsMounted, AreDefined, run_of, runs_in, is_generic, job_kind, execution_kind}
+use Rattle.qm_model.specs.Consistent.{IsEntry, IsExecutionQueue, IsPlaced, IsMounted, AreDefined}
+use Rattle.qm_model.specs.JobStates.{run_of, runs_in}
+use Rattle.qm_model.specs.Kinds.{is_generic, job_kind, execution_kind, is_batch_queue, is_print_queue}
 use Rattle.qm_model.specs.Outcome.{refused_where}
-use Rattle.qm_model.specs.Submitting.{refused_form, refused_characteristics}
+use Rattle.qm_model.specs.Wanted.{refused_form, refused_characteristics, form_named}
 use Rattle.qm_model.specs.Standing.{with_queue}
 use Rattle.qm_model.specs.Due.{entry_at, state_at}
 use Rattle.qm_model.specs.Referring.{refused_by_queue, refused_by_entry}
-use Rattle.qm_model.specs.Settings.{are_bad_sizes, is_bad_change, is_batch_queue, is_print_queue, is_change_of_other_kind, change_refusal, form_named, with_change}
+use Rattle.qm_model.specs.Settings.{are_bad_sizes, is_bad_change, is_change_of_other_kind, change_refusal, with_change}
 use Rattle.qm_model.specs.Queues.{refused_unless_stopped, without_queue, runs_for, delete_queue_refusal, queue_deleted, set_queue_refusal}
 use Rattle.qm_model.proofs.ListLemmas.{Becomes, none, gone, turned, Pairs, pairs_of, all_pairs_of}
 use Rattle.qm_model.proofs.InsertLemmas.{found_kept, found_only, all_in, all_kept, fewer, none_any}
@@ -65,7 +67,7 @@ module _ (s : System) (qs : List Queue) where
     order = order;
     entries = record {
       few = h.entries.few;
-      each = λ i d within. let k = h.entries.each i d within in let m = has i d within in record { number = k.number; home = m.0; file = k.file; form = k.form; copies = k.copies; characteristics = k.characteristics; queue = m.1; node = k.node; run = k.run };
+      each = λ i d within. let k = h.entries.each i d within in let m = has i d within in record { number = k.number; home = m.0; file = k.file; form = k.form; characteristics = k.characteristics; queue = m.1; node = k.node; run = k.run };
       order = h.entries.order;
       runs = h.entries.runs;
     };

@@ -9,9 +9,8 @@ use Rattle.qm_kinds.specs.declared.entry.JobKind.TheVariants.{Batch, Print}
 use Rattle.qm_kinds.specs.declared.queue.Queue.{Queue}
 use Rattle.qm_kinds.specs.declared.refusal.Refusal.{Refusal}
 use Rattle.qm_kinds.specs.declared.refusal.Refusal.TheVariants.{NumbersSpent}
-use Rattle.qm_model.specs.Consistent.{job_kind}
+use Rattle.qm_model.specs.Kinds.{job_kind, is_same_kind, is_other_kind}
 use Rattle.qm_model.specs.Outcome.{Accepted, refused_where, first_refusal, unless_refused}
-use Rattle.qm_model.specs.Submitting.{is_same_kind, is_other_kind}
 use Rattle.qm_model.specs.Referring.{refused_by_queue, refused_by_entry}
 use Rattle.qm_model.proofs.InsertLemmas.{not_found}
 

@@ -10,9 +10,10 @@ use Rattle.qm_kinds.specs.declared.request.NameOrNumber.TheVariants.{Number}
 use Rattle.qm_kinds.specs.declared.request.Request.TheVariants.{Append}
 use Rattle.qm_kinds.specs.declared.script.ScriptKind.TheVariants.{Form}
 use Rattle.qm_kinds.specs.declared.system.System.{System}
-use Rattle.qm_model.specs.Apply.{apply}
+use Rattle.qm_model.specs.Applied.{applied}
 use Rattle.qm_model.specs.Appending.{append_refusal, is_spool_full}
-use Rattle.qm_model.specs.Submitting.{Job, submit_refusal, entry_of}
+use Rattle.qm_kinds.specs.declared.request.Job.{Job}
+use Rattle.qm_model.specs.Submitting.{submit_refusal, entry_of}
 use Rattle.qm_model.specs.Script.{script_of}
 use Rattle.qm_model.specs.First.{first_system}
 
@@ -69,7 +70,7 @@ entries_full = refl
 pub numbers_spent : submit_refusal (record site { next_entry = 4294967295 }) night_job ≡ Some refused.NumbersSpent
 numbers_spent = refl
 
-pub runs_spent : apply (record site { next_run = 4611686018427387904 }) 0 (Append night_file []) ≡ Err refused.NumbersSpent
+pub runs_spent : applied (record site { next_run = 4611686018427387904 }) 0 0 (Append night_file []) ≡ Err refused.NumbersSpent
 runs_spent = refl
 
 pub referenced : append_refusal (record site { entries = entry_of site 0 night_job ∷ [] }) night_file [] ≡ Some (refused.Referenced (holder.Entry 1))

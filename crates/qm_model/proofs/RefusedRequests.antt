@@ -34,7 +34,7 @@ abbrev asked : Request → List (Result Told Refusal)
 asked request = answers site (first_asks (request ∷ []))
 
 abbrev shape : Bool → ℕ → Request
-shape wrap length = DefineForm (codes "X") 1 (codes "X") (record { length = length; width = 132; top = 3; bottom = 6; left = 0; right = 0; wrap = wrap })
+shape wrap length = DefineForm (record { name = codes "X"; number = 1; stock = codes "X"; shape = record { length = length; width = 132; top = 3; bottom = 6; left = 0; right = 0; wrap = wrap } })
 
 pub file_is_named : asked (Drop (listing_file (codes "F"))) ≡ Err (refused.Referenced (holder.Entry 1)) ∷ []
 file_is_named = refl
@@ -48,7 +48,7 @@ no_line_is_left = refl
 pub one_line_is_left : asked (shape false 10) ≡ Ok (record { act = act.FormDefined (codes "X"); started = [] }) ∷ []
 one_line_is_left = refl
 
-pub form_number_is_taken : asked (DefineForm (codes "X") 0 (codes "X") first_form.shape) ≡ Err refused.DuplicateForm ∷ []
+pub form_number_is_taken : asked (DefineForm (record { name = codes "X"; number = 0; stock = codes "X"; shape = first_form.shape })) ≡ Err refused.DuplicateForm ∷ []
 form_number_is_taken = refl
 
 pub default_form_stays : asked (DeleteForm (codes "DEFAULT")) ≡ Err (refused.Referenced holder.Always) ∷ []
@@ -58,13 +58,13 @@ pub no_such_form : asked (DeleteForm (codes "X")) ≡ Err (refused.NoSuchForm (N
 no_such_form = refl
 
 -- a queue of another kind, a queue that isn't stopped, a node that isn't there, a target that is generic, and limits that fit no queue of the kind
-pub kind_stays : asked (InitializeQueue (codes "SYS$BATCH") queue.Print None None [] no_change false) ≡ Err refused.DuplicateQueue ∷ []
+pub kind_stays : asked (InitializeQueue (record { name = codes "SYS$BATCH"; kind = queue.Print; node = None; device = None; targets = []; change = no_change; start = false })) ≡ Err refused.DuplicateQueue ∷ []
 kind_stays = refl
 
 pub queue_is_started : asked (print_queue (codes "LP") false no_change) ≡ Err (refused.QueueNotStopped Started) ∷ []
 queue_is_started = refl
 
-pub no_such_node : asked (InitializeQueue (codes "Q") queue.Print (Some (codes "Z")) None [] no_change false) ≡ Err (refused.NoSuchNode (codes "Z")) ∷ []
+pub no_such_node : asked (InitializeQueue (record { name = codes "Q"; kind = queue.Print; node = Some (codes "Z"); device = None; targets = []; change = no_change; start = false })) ≡ Err (refused.NoSuchNode (codes "Z")) ∷ []
 no_such_node = refl
 
 pub target_is_generic : asked (generic_queue (codes "Q") (codes "LP" ∷ codes "GP" ∷ [])) ≡ Err (refused.GenericTarget (codes "GP")) ∷ []
@@ -123,7 +123,7 @@ pub merged_into_itself : asked (Merge (codes "GP") (codes "GP")) ≡ Ok (record 
 merged_into_itself = refl
 
 abbrev set : ℕ → Bool → Bool → Option (Option ℕ) → Request
-set entry release hold moment = SetEntry entry release hold moment None None None None None None None
+set entry release hold moment = SetEntry entry (record { release = release; hold = hold; after = moment; priority = None; name = None; characteristics = None; form = None; queue = None; restart = None; retain = None })
 
 pub running_job_is_busy : asked (set 1 false true None) ≡ Err (refused.EntryBusy (state.Running (codes "LP") (codes "A") 1)) ∷ []
 running_job_is_busy = refl

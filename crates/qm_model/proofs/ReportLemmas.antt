@@ -4,10 +4,13 @@ use Rattle.std.specs.Prelude.{nat_lt, filter_map, decimal}
 use Rattle.std.proofs.lemmas.Bool.Decides.{nat_tests}
 use Rattle.qm_kinds.specs.declared.entry.JobKind.{JobKind}
 use Rattle.qm_kinds.specs.declared.entry.JobKind.TheVariants.{Batch, Print}
-use Rattle.qm_model.specs.Work.{Work, Place, Report, Mark, Done, Step}
+use Rattle.qm_kinds.specs.declared.work.Work.{Work}
+use Rattle.qm_kinds.specs.declared.work.Place.{Place}
+use Rattle.qm_kinds.specs.declared.work.Report.{Report}
+use Rattle.qm_kinds.specs.declared.work.Report.TheVariants.{Mark, Done}
+use Rattle.qm_model.specs.Reports.{Step, print_report, print_steps, line_limit, steps_of, batch_steps, course_of, report_of, reports, EndOnce, GoOnAtMarks}
 use Rattle.qm_model.specs.Pages.{page_blocks, lines}
-use Rattle.qm_model.specs.Batch.{BatchMove, Continue, Output, Checkpoint, End, move_at, normal_status}
-use Rattle.qm_model.specs.Reports.{print_report, print_steps, line_limit, steps_of, batch_steps, course_of, report_of, reports, EndOnce, GoOnAtMarks}
+use Rattle.qm_model.specs.Batch.{BatchMove, GoOn, Output, SaveMark, EndRun, move_at, normal_status}
 
 -- the reports of some steps
 reported : List Step → List Report
@@ -17,10 +20,10 @@ reported steps = filter_map report_of steps
 
 move_ends : (m : BatchMove) (used : ℕ) (onward : ℕ → List Step) → ((at : ℕ) → EndOnce (reported (onward at))) → EndOnce (reported (steps_of m used onward))
 unfolding reported
-move_ends (Continue at) used onward h = h at
+move_ends (GoOn at) used onward h = h at
 move_ends (Output block at) used onward h = h at
-move_ends (Checkpoint text at) used onward h = h at
-move_ends (End status) used onward h = refl
+move_ends (SaveMark text at) used onward h = h at
+move_ends (EndRun status) used onward h = refl
 
 batch_ends : (room : ℕ) (all : List (List ℕ)) (again : Bool) (mark : List ℕ) (at : ℕ) → EndOnce (reported (batch_steps room all again mark at))
 unfolding reported
@@ -97,10 +100,10 @@ at_most limit used = omega arith
 move_goes_on : (w : Work) (m : BatchMove) (used : ℕ) (onward : ℕ → List Step) → ((at : ℕ) → GoOnAtMarks w (reported (onward at)))
     → ((at : ℕ) → reports w (record { at = at + 1; used = used }) ≡ reported (onward at)) → GoOnAtMarks w (reported (steps_of m used onward))
 unfolding reported
-move_goes_on w (Continue at) used onward h anew = h at
+move_goes_on w (GoOn at) used onward h anew = h at
 move_goes_on w (Output block at) used onward h anew = h at
-move_goes_on w (Checkpoint text at) used onward h anew = (anew at, h at)
-move_goes_on w (End status) used onward h anew = tt
+move_goes_on w (SaveMark text at) used onward h anew = (anew at, h at)
+move_goes_on w (EndRun status) used onward h anew = tt
 
 batch_anew : (w : Work) (room at : ℕ) → w.kind ≡ Batch → room ≤ line_limit
     → reports w (record { at = at + 1; used = line_limit - room }) ≡ reported (batch_steps room (lines w.text) w.again w.mark at)

@@ -1,17 +1,17 @@
 -- Runs that stop with their node, and go on at another one behind their marks.
-use Rattle.std.proofs.Common.{◌≡◌, ℕ, false, List, [], ◌∷◌, ◌++◌, refl, map, None}
+use Rattle.std.proofs.Common.{◌≡◌, ℕ, false, List, [], ◌∷◌, ◌++◌, refl, map}
 use Rattle.std.specs.Prelude.{codes}
 use Rattle.std.specs.Option.{option_map_or}
 use Rattle.std.specs.Fmt.{digits}
-use Rattle.qm_kinds.specs.declared.entry.JobKind.TheVariants as job
 use Rattle.qm_kinds.specs.declared.entry.JobRetain.TheVariants.{Failed}
 use Rattle.qm_kinds.specs.declared.request.Request.TheVariants as request
 use Rattle.qm_kinds.specs.declared.system.System.{System}
-use Rattle.qm_model.specs.Work.{Duty, Done, Step, Handed, Reported}
+use Rattle.qm_kinds.specs.declared.work.Duty.{Duty}
+use Rattle.qm_kinds.specs.declared.work.Report.TheVariants.{Done}
+use Rattle.qm_model.specs.Reports.{Step, Handed, Reported, begin, course}
 use Rattle.qm_model.specs.Duties.{duties}
-use Rattle.qm_model.specs.Reports.{begin, course}
 use Rattle.qm_model.specs.Words.{entry_text}
-use Rattle.qm_model.proofs.Site.{Ask, after, first_asks, listing_file, print_queue_on, generic_queue, print_job}
+use Rattle.qm_model.proofs.Site.{Ask, after, first_asks, listing_file, print_queue_on, generic_queue, print_job, a_print_job}
 use Rattle.qm_model.proofs.Ends.{two_nodes, B_takes_over}
 use Rattle.qm_model.proofs.Blocks.{counted, full_page, letter_page}
 use Rattle.qm_model.proofs.Listings.{site, day}
@@ -29,7 +29,7 @@ three_blocks_each = first_asks
     ∷ generic_queue (codes "GP") (codes "LPA" ∷ codes "LPB" ∷ [])
     ∷ print_queue_on (codes "A") (codes "LPC")
     ∷ print_job (codes "GP") (codes "F")
-    ∷ request.Submit (codes "SYSTEM") job.Print (codes "LPC") (listing_file (codes "F")) (codes "F") 100 None false Failed false [] None 1 false
+    ∷ request.Submit (record (a_print_job (codes "LPC") (codes "F")) { retain = Failed; restart = false })
     ∷ request.Mark 1 (codes "1")
     ∷ request.Mark 2 (codes "1")
     ∷ request.Mark 1 (codes "2")

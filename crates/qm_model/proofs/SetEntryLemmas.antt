@@ -1,7 +1,7 @@
 -- A changed entry leaves a sound system.
 use Rattle.std.proofs.Common.{◌≡◌, ℕ, ◌⊎◌, inl, inr, Bool, true, false, cond, not, ◌||◌, ◌&&◌, List, [], ◌∷◌, ◌++◌, refl, sym, ◌∙◌, ap, subst, arith, Option, None, Some, All, find}
 use Rattle.std.specs.Prelude.{◌==◌, nat_le, is_some, is_none, IfSome, IsSome, unwrap_or}
-use Rattle.std.specs.Option.{option_map_or, option_and_then, option_or, option_to_list}
+use Rattle.std.specs.Option.{option_map, option_map_or, option_and_then, option_or, option_to_list}
 use Rattle.std.specs.Ordering.{nat_cmp}
 use Rattle.std.specs.declared.cmp.Ordering.TheVariants.{Less}
 use Rattle.std.proofs.lemmas.Bool.Decides.{nat_tests, Decides-eqb}
@@ -16,21 +16,23 @@ use Rattle.qm_kinds.specs.declared.form.Form.{Form}
 use Rattle.qm_kinds.specs.declared.queue.Queue.{Queue}
 use Rattle.qm_kinds.specs.declared.refusal.Refusal.{Refusal}
 use Rattle.qm_kinds.specs.declared.refusal.Refusal.TheVariants.{NoSuchEntry, EntryBusy, NotHeld, NoSuchQueue, NoSuchForm, WrongKind}
+use Rattle.qm_kinds.specs.declared.reply.Act.TheVariants.{EntryIs}
 use Rattle.qm_kinds.specs.declared.request.NameOrNumber.{NameOrNumber}
 use Rattle.qm_kinds.specs.declared.request.NameOrNumber.TheVariants.{Name}
 use Rattle.qm_kinds.specs.declared.system.System.{System}
 use Rattle.qm_model.specs.Find.{queue_named, entry_numbered, form_wanted}
-use Rattle.qm_model.specs.Consistent.{IsEntry, HasForm, AreDefined, run_of, job_kind}
+use Rattle.qm_model.specs.Consistent.{IsEntry, HasForm, AreDefined}
+use Rattle.qm_model.specs.JobStates.{run_of, is_pending, is_waiting}
+use Rattle.qm_model.specs.Kinds.{job_kind, is_print, is_other_kind}
 use Rattle.qm_model.specs.Outcome.{refused_where}
-use Rattle.qm_model.specs.Submitting.{is_print, is_other_kind, refused_form, refused_characteristics}
-use Rattle.qm_model.specs.Fitting.{is_pending}
-use Rattle.qm_model.specs.Settings.{form_named, characteristics_of}
-use Rattle.qm_model.specs.Merging.{is_waiting}
-use Rattle.qm_model.specs.Entries.{EntryChange, refused_queue, is_entry_of_other_kind, entry_change_refusal, set_entry_refusal, with_fields, changed_entry, entry_set}
+use Rattle.qm_model.specs.Wanted.{refused_form, refused_characteristics, form_named, characteristics_of}
+use Rattle.qm_kinds.specs.declared.request.EntryChange.{EntryChange}
+use Rattle.qm_model.specs.Entries.{refused_queue, is_entry_of_other_kind, entry_change_refusal, set_entry_refusal, with_fields, changed_entry, entry_set_to, entry_set}
+use Rattle.qm_model.specs.Replying.{replied}
 use Rattle.qm_model.specs.Standing.{with_entry}
 use Rattle.qm_model.specs.Due.{state_at, entry_at}
-use Rattle.qm_model.proofs.ListLemmas.{Becomes, none, turned, Pairs}
-use Rattle.qm_model.proofs.SoundLemmas.{AreApart}
+use Rattle.qm_model.proofs.ListLemmas.{Becomes, none, turned, Pairs, pairs_of}
+use Rattle.qm_model.proofs.SoundLemmas.{AreApart, one_outcome}
 use Rattle.qm_model.proofs.ChangeLemmas.{IsSound, of_entries}
 use Rattle.qm_model.proofs.RefusalLemmas.{not_false, none_first, not_refused, is_there, of_kind, or_false_left, or_false_right}
 use Rattle.qm_model.proofs.SubmitLemmas.{no_run, no_queue, no_node, if_none, found_form, set_is_defined}
@@ -127,8 +129,7 @@ or_found fs (Some name) form h = h
 
 new_form : (fs : List Form) (kind : JobKind) (form : Option (List ℕ)) (o : Option NameOrNumber) → (not (is_print kind) && is_some o) ≡ false
     → option_and_then (λ wanted. refused_where (is_none (form_wanted wanted fs)) (NoSuchForm wanted)) o ≡ None → HasForm fs kind form → HasForm fs kind (option_or (option_and_then (form_named fs) o) form)
-new_form fs job.Batch form None free there h = h
-new_form fs job.Batch form (Some wanted) free there h = cc
+new_form fs job.Batch form o free there h = tt
 new_form fs job.Print form None free there h = h
 new_form fs job.Print form (Some wanted) free there h =
     or_found fs (form_named fs wanted) form (found_form fs wanted (form_wanted wanted fs) refl (is_there (form_wanted wanted fs) (not_refused (is_none (form_wanted wanted fs)) (NoSuchForm wanted) there)))
@@ -157,6 +158,9 @@ module _ (s : System) (now number : ℕ) (change : EntryChange) where
       let P : Entry → Type 0 = λ x. x.number ≡ number → CanChange s.queues s.forms change x in
       one_changed_at x xs _ (x.number == number) refl (All-head P x xs can) (one_changed xs (All-tail P x xs can))
 
+  abbrev with_entries : System → List Entry → System
+  with_entries t es = record t { entries = es }
+
   state_is_new : (x : Entry) → CanChange s.queues s.forms change x → run_of (changed_entry s now change x).state ≡ run_of x.state
   state_is_new x can = no_run (with_fields s change x).held (with_fields s change x).after now ∙ sym (waiting_has_no_run x.state can.0)
 
@@ -175,7 +179,6 @@ module _ (s : System) (now number : ℕ) (change : EntryChange) where
         home = new_home s.queues x.kind x.home change.queue can.1 queue_part h.home;
         file = h.file;
         form = new_form s.forms x.kind x.form change.form form_part can.3 h.form;
-        copies = h.copies;
         characteristics = new_set s x.characteristics change.characteristics h.characteristics;
         queue = if_none _ _ (no_queue f.held f.after now);
         node = if_none _ _ (no_node f.held f.after now);
@@ -183,14 +186,30 @@ module _ (s : System) (now number : ℕ) (change : EntryChange) where
       }
 
   old_is_entry : (es : List Entry) (x : Entry) → IsEntry s x → IsEntry (of_entries s es) x
-  old_is_entry es x h = record { number = h.number; home = h.home; file = h.file; form = h.form; copies = h.copies; characteristics = h.characteristics; queue = h.queue; node = h.node; run = h.run }
+  old_is_entry es x h = record { number = h.number; home = h.home; file = h.file; form = h.form; characteristics = h.characteristics; queue = h.queue; node = h.node; run = h.run }
 
   each : (es : List Entry) (x y : Entry) → Changed x y → IsEntry s x → IsEntry (of_entries s es) y
   unfolding Changed
   each es x y (inl is) h = subst (λ z. IsEntry (of_entries s es) z) (sym is) (old_is_entry es x h)
   each es x y (inr p) h = subst (λ z. IsEntry (of_entries s es) z) (sym p.1) (changed_is_entry es x p.0 h)
 
+  apart : IsSound s → Pairs AreApart s.entries
+  apart h = pairs_of AreApart s.entries (λ i j d below within. (h.entries.order i j d below within, h.entries.runs i j d below within))
+
+  each_set : IsSound s → All (λ (x : Entry). x.number ≡ number → CanChange s.queues s.forms change x) s.entries → IsSound (with_entries s (with_entry number (λ e. Some (changed_entry s now change e)) s.entries))
+  each_set h can = entries_turn s (with_entry number (λ e. Some (changed_entry s now change e)) s.entries) Changed h same (each (with_entry number (λ e. Some (changed_entry s now change e)) s.entries)) (one_changed s.entries can)
+
+  -- the entry that is found is the one of its number
+  found_is : (e : Entry) → IsSound s → find (numbered number) s.entries ≡ Some e → All (λ (x : Entry). x.number ≡ number → Some (changed_entry s now change x) ≡ Some (changed_entry s now change e)) s.entries
+  found_is e h found =
+      All-weaker (λ (x : Entry). x.number ≡ number → find (numbered number) s.entries ≡ Some x) (λ (x : Entry). x.number ≡ number → Some (changed_entry s now change x) ≡ Some (changed_entry s now change e))
+      (λ x k is. let same : ◌≡◌ {A = Option Entry} (Some x) (Some e) = sym (k is) ∙ found in ap (option_map (changed_entry s now change)) same) s.entries (found_first number s.entries (apart h))
+
+  set_found : (o : Option Entry) → find (numbered number) s.entries ≡ o → IsSound s → All (λ (x : Entry). x.number ≡ number → CanChange s.queues s.forms change x) s.entries
+      → IsSound (option_map_or (λ e. entry_set_to s number (changed_entry s now change e)) o (replied s (EntryIs number Pending))).system
+  set_found None found h can = h
+  set_found (Some e) found h can =
+      subst (λ (es : List Entry). IsSound (with_entries s es)) (one_outcome number (λ x. Some (changed_entry s now change x)) (Some (changed_entry s now change e)) s.entries (found_is e h found)) (each_set h can)
+
   pub entry_set_sound : IsSound s → All (λ (x : Entry). x.number ≡ number → CanChange s.queues s.forms change x) s.entries → IsSound (entry_set s now number change).system
-  entry_set_sound h can =
-      let es = with_entry number (λ e. Some (changed_entry s now change e)) s.entries in
-      entries_turn s es Changed h same (each es) (one_changed s.entries can)
+  entry_set_sound h can = set_found (entry_numbered number s.entries) refl h can

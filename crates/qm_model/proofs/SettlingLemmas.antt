@@ -11,10 +11,11 @@ use Rattle.qm_kinds.specs.declared.run.Start.{Start}
 use Rattle.qm_kinds.specs.declared.system.System.{System}
 use Rattle.qm_model.specs.Outcome.{Accepted, unless_refused}
 use Rattle.qm_model.specs.Standing.{with_entry}
-use Rattle.qm_model.specs.Fitting.{fits, is_pending}
+use Rattle.qm_model.specs.Fitting.{fits}
+use Rattle.qm_model.specs.JobStates.{is_pending}
 use Rattle.qm_model.specs.Before.{before, first_of}
 use Rattle.qm_model.specs.Free.{is_free}
-use Rattle.qm_model.specs.Settling.{Choice, Settled, can_start, next_queue, next_job, next_choice, has_run_numbers, run_in, after_start, start_of, preceded_by, settled_within, settled, is_among_started}
+use Rattle.qm_model.specs.Settling.{Choice, Settled, can_start, next_queue, next_job, next_choice, has_run_numbers, made_running, after_start, start_of, preceded_by, settled_within, settled, is_among_started}
 
 pub and_left : (a b : Bool) → (a && b) ≡ true → a ≡ true
 and_left true b h = refl
@@ -105,10 +106,10 @@ few_pending [] = lit≤ tt
 few_pending (e ∷ es) = omega (arith, few_pending es, one_or_none (is_pending e.state))
 
 abbrev running : ℕ → ℕ → Queue → List Entry → List Entry
-running n run q es = with_entry n (λ e. Some (run_in run q e)) es
+running n run q es = with_entry n (λ e. Some (made_running run q e)) es
 
 not_more_at : (b : Bool) (run : ℕ) (q : Queue) (e : Entry) (es : List Entry)
-    → pending_in (cond b (option_to_list (Some (run_in run q e))) (e ∷ []) ++ es) ≤ one_if (is_pending e.state) + pending_in es
+    → pending_in (cond b (option_to_list (Some (made_running run q e))) (e ∷ []) ++ es) ≤ one_if (is_pending e.state) + pending_in es
 not_more_at true run q e es = omega arith
 not_more_at false run q e es = omega arith
 
@@ -117,7 +118,7 @@ not_more n run q [] = lit≤ tt
 not_more n run q (e ∷ es) = omega (arith, not_more_at (e.number == n) run q e (running n run q es), not_more n run q es)
 
 one_less_at : (b : Bool) (run : ℕ) (q : Queue) (e : Entry) (es : List Entry) → b ≡ true → is_pending e.state ≡ true
-    → pending_in (cond b (option_to_list (Some (run_in run q e))) (e ∷ []) ++ es) + 1 ≤ one_if (is_pending e.state) + pending_in es
+    → pending_in (cond b (option_to_list (Some (made_running run q e))) (e ∷ []) ++ es) + 1 ≤ one_if (is_pending e.state) + pending_in es
 one_less_at true run q e es h pending = rw pending (omega arith)
 one_less_at false run q e es h pending = cc
 
@@ -239,9 +240,9 @@ neither : {X : Type 0} (a b : X → Bool) (xs : List X) → filter (λ x. not (a
 neither a b [] = refl
 neither a b (x ∷ xs) = neither_at a x (filter (λ y. not (a y || b y)) xs) (filter (λ y. not (b y)) xs) (a x) (b x) refl (neither a b xs)
 
-both_dropped_at : (p : Entry → Bool) (run : ℕ) (q : Queue) (e : Entry) (es rest : List Entry) (b : Bool) → (b ≡ true → p e ≡ false) → (b ≡ true → p (run_in run q e) ≡ false)
-    → filter p rest ≡ filter p es → filter p (cond b (option_to_list (Some (run_in run q e))) (e ∷ []) ++ rest) ≡ filter p (e ∷ es)
-both_dropped_at p run q e es rest true before_it after_it same = without p (run_in run q e) rest (after_it refl) ∙ same ∙ sym (without p e es (before_it refl))
+both_dropped_at : (p : Entry → Bool) (run : ℕ) (q : Queue) (e : Entry) (es rest : List Entry) (b : Bool) → (b ≡ true → p e ≡ false) → (b ≡ true → p (made_running run q e) ≡ false)
+    → filter p rest ≡ filter p es → filter p (cond b (option_to_list (Some (made_running run q e))) (e ∷ []) ++ rest) ≡ filter p (e ∷ es)
+both_dropped_at p run q e es rest true before_it after_it same = without p (made_running run q e) rest (after_it refl) ∙ same ∙ sym (without p e es (before_it refl))
 both_dropped_at p run q e es rest false before_it after_it same = ap (λ l. cond (p e) (e ∷ l) l) same
 
 swapped : (m n : ℕ) → (m == n) ≡ true → (n == m) ≡ true
@@ -257,7 +258,7 @@ both_dropped : (n : ℕ) (later : List Start) (run : ℕ) (q : Queue) (es : List
     → filter (neither_that_nor n later) (running n run q es) ≡ filter (neither_that_nor n later) es
 both_dropped n later run q [] = refl
 both_dropped n later run q (e ∷ es) =
-    both_dropped_at (neither_that_nor n later) run q e es (running n run q es) (e.number == n) (dropped n later e) (dropped n later (run_in run q e))
+    both_dropped_at (neither_that_nor n later) run q e es (running n run q es) (e.number == n) (dropped n later e) (dropped n later (made_running run q e))
     (both_dropped n later run q es)
 
 abbrev others_of : List Start → List Entry → List Entry

@@ -12,6 +12,7 @@ use Rattle.qm_kinds.specs.declared.queue.QueueChange.{QueueChange}
 use Rattle.qm_kinds.specs.declared.queue.QueueKind.TheVariants as queue
 use Rattle.qm_kinds.specs.declared.refusal.Refusal.{Refusal}
 use Rattle.qm_kinds.specs.declared.reply.Act.{Act}
+use Rattle.qm_kinds.specs.declared.request.Job.{Job}
 use Rattle.qm_kinds.specs.declared.request.Request.{Request}
 use Rattle.qm_kinds.specs.declared.request.Request.TheVariants.{InitializeQueue, Submit}
 use Rattle.qm_kinds.specs.declared.run.Start.{Start}
@@ -75,17 +76,38 @@ no_change = record { limit = None; characteristics = None; form = None; blocks =
 
 -- a print queue on the calling node, started or not
 abbrev pub print_queue : List ℕ → Bool → QueueChange → Request
-print_queue name start change = InitializeQueue name queue.Print None None [] change start
+print_queue name start change = InitializeQueue (record { name = name; kind = queue.Print; node = None; device = None; targets = []; change = change; start = start })
 
 abbrev pub print_queue_on : List ℕ → List ℕ → Request
-print_queue_on node name = InitializeQueue name queue.Print (Some node) None [] no_change true
+print_queue_on node name = InitializeQueue (record { name = name; kind = queue.Print; node = Some node; device = None; targets = []; change = no_change; start = true })
 
 abbrev pub generic_queue : List ℕ → List (List ℕ) → Request
-generic_queue name targets = InitializeQueue name queue.GenericPrint None None targets no_change true
+generic_queue name targets = InitializeQueue (record { name = name; kind = queue.GenericPrint; node = None; device = None; targets = targets; change = no_change; start = true })
 
--- a print job with the settings that a job has by default
+-- jobs with the settings that a job has by default
+abbrev pub a_print_job : List ℕ → List ℕ → Job
+a_print_job queue name = record {
+  user = codes "SYSTEM";
+  kind = job.Print;
+  queue = queue;
+  file = listing_file name;
+  name = name;
+  priority = 100;
+  after = None;
+  hold = false;
+  retain = Default;
+  restart = true;
+  characteristics = [];
+  form = None;
+  copies = 1;
+  flag = false;
+}
+
+abbrev pub a_batch_job : List ℕ → List ℕ → Job
+a_batch_job queue name = record (a_print_job queue name) { kind = job.Batch; file = file name (codes "COM"); restart = false }
+
 abbrev pub print_job : List ℕ → List ℕ → Request
-print_job queue name = Submit (codes "SYSTEM") job.Print queue (listing_file name) name 100 None false Default true [] None 1 false
+print_job queue name = Submit (a_print_job queue name)
 
 abbrev pub batch_job : List ℕ → List ℕ → Option ℕ → JobRetain → Request
-batch_job queue name after retain = Submit (codes "SYSTEM") job.Batch queue (file name (codes "COM")) name 100 after false retain false [] None 1 false
+batch_job queue name after retain = Submit (record (a_batch_job queue name) { after = after; retain = retain })

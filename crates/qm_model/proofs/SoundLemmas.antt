@@ -21,11 +21,12 @@ use Rattle.qm_kinds.specs.declared.queue.QueueKind.TheVariants.{Batch, Print, Ge
 use Rattle.qm_kinds.specs.declared.system.Node.{Node}
 use Rattle.qm_kinds.specs.declared.system.System.{System}
 use Rattle.qm_model.specs.Find.{name_cmp}
-use Rattle.qm_model.specs.Consistent.{IsConsistent, IsEntry, IsQueue, IsExecutionQueue, run_of, runs_in, is_generic, job_kind, execution_kind}
-use Rattle.qm_model.specs.Submitting.{is_same_kind}
+use Rattle.qm_model.specs.Consistent.{IsConsistent, IsEntry, IsQueue, IsExecutionQueue}
+use Rattle.qm_model.specs.JobStates.{run_of, runs_in, is_pending}
+use Rattle.qm_model.specs.Kinds.{is_generic, job_kind, execution_kind, is_same_kind}
 use Rattle.qm_model.specs.Standing.{with_entry}
-use Rattle.qm_model.specs.Fitting.{fits, is_pending, is_of_kind, is_open, is_started, is_up}
-use Rattle.qm_model.specs.Settling.{Choice, can_start, next_queue, next_job, next_choice, has_run_numbers, run_in, after_start, settled_within, settled}
+use Rattle.qm_model.specs.Fitting.{fits, is_of_kind, is_open, is_started, is_up}
+use Rattle.qm_model.specs.Settling.{Choice, can_start, next_queue, next_job, next_choice, has_run_numbers, made_running, after_start, settled_within, settled}
 use Rattle.qm_model.proofs.SettlingLemmas.{IsIn, and_left, and_right, first_in, in_filter, fits_pending, job_of_choice, with_queue_of, settled_by}
 use Rattle.qm_model.proofs.ListLemmas.{Pairs, pairs_of, all_pairs_of, Becomes, none, turned, in_all, becomes_all, becomes_pairs, becomes_shorter, becomes_any, contains_in}
 
@@ -188,13 +189,25 @@ later_differs : (x u : Entry) → AreApart x u → u.number ≡ x.number → ⊥
 later_differs x u apart number = not_below x.number u.number (sym number) apart.0
 
 -- only the entry that is started has its number
-unique : (e : Entry) (xs : List Entry) → Pairs AreApart xs → IsIn e xs → All (λ x. x.number ≡ e.number → x ≡ e) xs
+pub unique : (e : Entry) (xs : List Entry) → Pairs AreApart xs → IsIn e xs → All (λ x. x.number ≡ e.number → x ≡ e) xs
 unique e [] apart among = absurd among
 unique e (x ∷ xs) apart (inl same) =
     All-cons (λ y. y.number ≡ e.number → y ≡ e) x xs (λ number. sym same)
     (All-weaker (λ u. AreApart x u) (λ y. y.number ≡ e.number → y ≡ e) (λ u h number. absurd (later_differs x u h (number ∙ ap (λ (z : Entry). z.number) same))) xs apart.0)
 unique e (x ∷ xs) apart (inr among) =
     All-cons (λ y. y.number ≡ e.number → y ≡ e) x xs (unique_at e x xs apart.0 (inr among)) (unique e xs apart.1 among)
+
+one_outcome_at : (g : Entry → Option Entry) (o : Option Entry) (x : Entry) (xs ys : List Entry) (b : Bool) → xs ≡ ys → (b ≡ true → g x ≡ o)
+    → cond b (option_to_list (g x)) (x ∷ []) ++ xs ≡ cond b (option_to_list o) (x ∷ []) ++ ys
+one_outcome_at g o x xs ys true same is = ap (λ (p : Option Entry). option_to_list p ++ xs) (is refl) ∙ ap (λ (zs : List Entry). option_to_list o ++ zs) same
+one_outcome_at g o x xs ys false same is = ap (λ (zs : List Entry). x ∷ zs) same
+
+-- where all of the number come to the same
+pub one_outcome : (n : ℕ) (g : Entry → Option Entry) (o : Option Entry) (xs : List Entry) → All (λ (x : Entry). x.number ≡ n → g x ≡ o) xs → with_entry n g xs ≡ with_entry n (λ x. o) xs
+one_outcome n g o [] h = refl
+one_outcome n g o (x ∷ xs) h =
+    one_outcome_at g o x (with_entry n g xs) (with_entry n (λ x. o) xs) (x.number == n) (one_outcome n g o xs (All-tail (λ (x : Entry). x.number ≡ n → g x ≡ o) x xs h))
+    (λ is. All-head (λ (x : Entry). x.number ≡ n → g x ≡ o) x xs h ((Decides-eqb x.number n).0 is))
 
 weaker_run : (o : Option ℕ) (n : ℕ) → IfSome o (λ run. (0 < run) × (run < n)) → IfSome o (λ run. (0 < run) × (run < n + 1))
 weaker_run None n h = tt
@@ -230,19 +243,19 @@ module _ (s : System) (c : Choice) (sound : IsConsistent s) (choice : IsChoice s
   Stays x y = IsEntry s x × (y ≡ x)
 
   abbrev Starts : Entry → Entry → Type 0
-  Starts x y = IsEntry s x × (x ≡ c.entry) × (y ≡ run_in s.next_run c.queue x)
+  Starts x y = IsEntry s x × (x ≡ c.entry) × (y ≡ made_running s.next_run c.queue x)
 
   -- an entry stays, or it is the job that starts
   abbrev Step : Entry → Entry → Type 0
   Step x y = Stays x y ⊎ Starts x y
 
   started_at : (x : Entry) (xs ys : List Entry) (b : Bool) → (x.number == c.entry.number) ≡ b → IsEntry s x → (x.number ≡ c.entry.number → x ≡ c.entry) → Becomes Never Step xs ys
-      → Becomes Never Step (x ∷ xs) (cond b (option_to_list (Some (run_in s.next_run c.queue x))) (x ∷ []) ++ ys)
+      → Becomes Never Step (x ∷ xs) (cond b (option_to_list (Some (made_running s.next_run c.queue x))) (x ∷ []) ++ ys)
   started_at x xs ys true is h only later = turned (inr (h, only ((Decides-eqb x.number c.entry.number).0 is), refl)) later
   started_at x xs ys false is h only later = turned (inl (h, refl)) later
 
   started : (xs : List Entry) → All (IsEntry s) xs → All (λ x. x.number ≡ c.entry.number → x ≡ c.entry) xs
-      → Becomes Never Step xs (with_entry c.entry.number (λ e. Some (run_in s.next_run c.queue e)) xs)
+      → Becomes Never Step xs (with_entry c.entry.number (λ e. Some (made_running s.next_run c.queue e)) xs)
   started [] each only = none
   started (x ∷ xs) each only =
       started_at x xs _ (x.number == c.entry.number) refl (All-head (IsEntry s) x xs each) (All-head (λ x. x.number ≡ c.entry.number → x ≡ c.entry) x xs only)
@@ -272,20 +285,18 @@ module _ (s : System) (c : Choice) (sound : IsConsistent s) (choice : IsChoice s
     home = h.home;
     file = h.file;
     form = h.form;
-    copies = h.copies;
     characteristics = h.characteristics;
     queue = h.queue;
     node = h.node;
     run = weaker_run (run_of x.state) s.next_run h.run;
   }
 
-  entry_runs : (x : Entry) → IsEntry s x → x ≡ c.entry → IsEntry (after_start s c) (run_in s.next_run c.queue x)
+  entry_runs : (x : Entry) → IsEntry s x → x ≡ c.entry → IsEntry (after_start s c) (made_running s.next_run c.queue x)
   entry_runs x h is = record {
     number = h.number;
     home = h.home;
     file = h.file;
     form = h.form;
-    copies = h.copies;
     characteristics = h.characteristics;
     queue = subst (λ (z : Entry). IsExecutionQueue z.kind s.queues c.queue.name) (sym is) runs_there;
     node = runs_on_node;

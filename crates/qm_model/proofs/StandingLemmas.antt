@@ -11,7 +11,8 @@ use Rattle.qm_kinds.specs.declared.entry.JobKind.{JobKind}
 use Rattle.qm_kinds.specs.declared.queue.Queue.{Queue}
 use Rattle.qm_kinds.specs.declared.system.System.{System}
 use Rattle.qm_model.specs.Find.{name_cmp, queue_named}
-use Rattle.qm_model.specs.Consistent.{IsConsistent, IsEntry, IsExecutionQueue, runs_in}
+use Rattle.qm_model.specs.Consistent.{IsConsistent, IsEntry, IsExecutionQueue}
+use Rattle.qm_model.specs.JobStates.{runs_in}
 use Rattle.qm_model.specs.Standing.{stands_in}
 use Rattle.qm_model.proofs.ListLemmas.{Pairs, pairs_of}
 use Rattle.qm_model.proofs.SoundLemmas.{name_not_below}

@@ -13,19 +13,20 @@ use Rattle.qm_kinds.specs.declared.run.Start.{Start}
 use Rattle.qm_kinds.specs.declared.system.Node.{Node}
 use Rattle.qm_kinds.specs.declared.system.System.{System}
 use Rattle.qm_model.specs.Standing.{with_entry}
-use Rattle.qm_model.specs.Fitting.{fits, is_pending, is_open, is_started, is_up}
-use Rattle.qm_model.specs.Settling.{Choice, Settled, next_choice, run_in, after_start, start_of, settled_within, settled}
-use Rattle.qm_model.specs.Starting.{as_pending, IsStarted}
+use Rattle.qm_model.specs.Fitting.{fits, is_open, is_started, is_up}
+use Rattle.qm_model.specs.JobStates.{is_pending}
+use Rattle.qm_model.specs.Settling.{Choice, Settled, next_choice, made_running, after_start, start_of, settled_within, settled}
+use Rattle.qm_model.specs.Starting.{as_pending, WasStarted}
 use Rattle.qm_model.proofs.SettlingLemmas.{IsIn, and_left, and_right, fits_pending, settled_by}
 use Rattle.qm_model.proofs.ListLemmas.{in_all, contains_in}
 use Rattle.qm_model.proofs.SoundLemmas.{IsChoice, choice_is}
 
 abbrev started_in : ℕ → ℕ → Queue → List Entry → List Entry
-started_in n run q es = with_entry n (λ e. Some (run_in run q e)) es
+started_in n run q es = with_entry n (λ e. Some (made_running run q e)) es
 
 -- one entry, where it is the one that starts and where it isn't
 abbrev one_started : Bool → ℕ → Queue → Entry → List Entry
-one_started b run q e = cond b (option_to_list (Some (run_in run q e))) (e ∷ [])
+one_started b run q e = cond b (option_to_list (Some (made_running run q e))) (e ∷ [])
 
 -- ---- all but the states stays
 
@@ -97,21 +98,21 @@ module _ (n run : ℕ) (q : Queue) where
   was_in e [] pending among = absurd among
   was_in e (x ∷ es) pending among = was_at (x.number == n) e x es (started_in n run q es) pending among (was_in e es pending)
 
-  runs_at : (b : Bool) (e x : Entry) (es fs : List Entry) → (x.number == n) ≡ b → e.number ≡ n → IsIn e (x ∷ es) → (IsIn e es → IsIn (run_in run q e) fs)
-      → IsIn (run_in run q e) (one_started b run q x ++ fs)
-  runs_at true e x es fs is number (inl same) later = inl (ap (run_in run q) same)
+  runs_at : (b : Bool) (e x : Entry) (es fs : List Entry) → (x.number == n) ≡ b → e.number ≡ n → IsIn e (x ∷ es) → (IsIn e es → IsIn (made_running run q e) fs)
+      → IsIn (made_running run q e) (one_started b run q x ++ fs)
+  runs_at true e x es fs is number (inl same) later = inl (ap (made_running run q) same)
   runs_at true e x es fs is number (inr among) later = inr (later among)
   runs_at false e x es fs is number (inl same) later =
       let equal : (x.number == n) ≡ true = (Decides-eqb x.number n).1 (ap (λ (z : Entry). z.number) (sym same) ∙ number) in cc
   runs_at false e x es fs is number (inr among) later = inr (later among)
 
   -- the entry that starts runs afterwards
-  runs_in_list : (e : Entry) (es : List Entry) → e.number ≡ n → IsIn e es → IsIn (run_in run q e) (started_in n run q es)
+  runs_in_list : (e : Entry) (es : List Entry) → e.number ≡ n → IsIn e es → IsIn (made_running run q e) (started_in n run q es)
   runs_in_list e [] number among = absurd among
   runs_in_list e (x ∷ es) number among = runs_at (x.number == n) e x es (started_in n run q es) refl number among (runs_in_list e es number)
 
   all_started_at : (b : Bool) (x : Entry) (fs : List Entry) → (x.number == n) ≡ b → All (HasStarted n) fs → All (HasStarted n) (one_started b run q x ++ fs)
-  all_started_at true x fs is later = All-cons (HasStarted n) (run_in run q x) fs (λ number. refl) later
+  all_started_at true x fs is later = All-cons (HasStarted n) (made_running run q x) fs (λ number. refl) later
   all_started_at false x fs is later =
       All-cons (HasStarted n) x fs (λ number. let equal : (x.number == n) ≡ true = (Decides-eqb x.number n).1 number in cc) later
 
@@ -121,7 +122,7 @@ module _ (n run : ℕ) (q : Queue) where
   all_started (x ∷ es) = all_started_at (x.number == n) x (started_in n run q es) refl (all_started es)
 
   still_started_at : (m : ℕ) (b : Bool) (x : Entry) (es fs : List Entry) → All (HasStarted m) (x ∷ es) → All (HasStarted m) fs → All (HasStarted m) (one_started b run q x ++ fs)
-  still_started_at m true x es fs h later = All-cons (HasStarted m) (run_in run q x) fs (λ number. refl) later
+  still_started_at m true x es fs h later = All-cons (HasStarted m) (made_running run q x) fs (λ number. refl) later
   still_started_at m false x es fs h later = All-cons (HasStarted m) x fs (All-head (HasStarted m) x es h) later
 
   -- and none is from then on
@@ -182,7 +183,7 @@ queues_stay zero s = refl
 queues_stay (suc n) s = queues_by n s (next_choice s) (λ c. queues_stay n (after_start s c))
 
 module _ (s : System) (c : Choice) where
-  first_started : (n : ℕ) → next_choice s ≡ Some c → IsStarted s (settled_within n (after_start s c)).system (start_of s c)
+  first_started : (n : ℕ) → next_choice s ≡ Some c → WasStarted s (settled_within n (after_start s c)).system (start_of s c)
   first_started n is =
       let choice = choice_is s c is in
       let up = and_right (is_started c.queue.state) (is_up s.nodes c.queue.node) (fits_open s c.entry c.queue choice.fit) in
@@ -200,12 +201,12 @@ module _ (s : System) (c : Choice) where
         queue_there = subst (λ (qs : List Queue). Contains qs c.queue) (sym (queues_stay n (after_start s c))) (contains_in c.queue s.queues choice.queue);
         queue_name = refl;
         queue_node = has_node s.nodes c.queue.node up;
-        runs = contains_in (run_in s.next_run c.queue c.entry) (settled_within n (after_start s c)).system.entries
-            (kept_within n (after_start s c) (run_in s.next_run c.queue c.entry) started there);
+        runs = contains_in (made_running s.next_run c.queue c.entry) (settled_within n (after_start s c)).system.entries
+            (kept_within n (after_start s c) (made_running s.next_run c.queue c.entry) started there);
       }
 
   -- a job that is started later was there before too
-  later_started : (end : System) (start : Start) → IsStarted (after_start s c) end start → IsStarted s end start
+  later_started : (end : System) (start : Start) → WasStarted (after_start s c) end start → WasStarted s end start
   later_started end start h = record {
     entry = h.entry;
     queue = h.queue;
@@ -223,16 +224,16 @@ module _ (s : System) (c : Choice) where
   }
 
 each_by : (n : ℕ) (s : System) (o : Option Choice) → next_choice s ≡ o
-    → ((t : System) → All (IsStarted t (settled_within n t).system) (settled_within n t).started) → All (IsStarted s (settled_by n s o).system) (settled_by n s o).started
-each_by n s None is later = All-nil (IsStarted s s)
+    → ((t : System) → All (WasStarted t (settled_within n t).system) (settled_within n t).started) → All (WasStarted s (settled_by n s o).system) (settled_by n s o).started
+each_by n s None is later = All-nil (WasStarted s s)
 each_by n s (Some c) is later =
     let end : Settled = settled_within n (after_start s c) in
-    All-cons (IsStarted s end.system) (start_of s c) end.started (first_started s c n is)
-    (All-weaker (IsStarted (after_start s c) end.system) (IsStarted s end.system) (later_started s c end.system) end.started (later (after_start s c)))
+    All-cons (WasStarted s end.system) (start_of s c) end.started (first_started s c n is)
+    (All-weaker (WasStarted (after_start s c) end.system) (WasStarted s end.system) (later_started s c end.system) end.started (later (after_start s c)))
 
-each_within : (n : ℕ) (s : System) → All (IsStarted s (settled_within n s).system) (settled_within n s).started
-each_within zero s = All-nil (IsStarted s s)
+each_within : (n : ℕ) (s : System) → All (WasStarted s (settled_within n s).system) (settled_within n s).started
+each_within zero s = All-nil (WasStarted s s)
 each_within (suc n) s = each_by n s (next_choice s) refl (each_within n)
 
-pub each_is_started : (s : System) → All (IsStarted s (settled s).system) (settled s).started
+pub each_is_started : (s : System) → All (WasStarted s (settled s).system) (settled s).started
 each_is_started s = each_within (length s.entries) s

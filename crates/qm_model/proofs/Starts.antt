@@ -2,7 +2,6 @@
 use Rattle.std.proofs.Common.{◌≡◌, ℕ, ◌-◌, true, false, List, [], ◌∷◌, ◌++◌, refl, None, Some}
 use Rattle.std.specs.Prelude.{codes, Ok}
 use Rattle.qm_kinds.specs.declared.entry.EntryState.TheVariants as state
-use Rattle.qm_kinds.specs.declared.entry.JobKind.TheVariants as job
 use Rattle.qm_kinds.specs.declared.entry.JobRetain.TheVariants.{Default}
 use Rattle.qm_kinds.specs.declared.queue.QueueChange.{QueueChange}
 use Rattle.qm_kinds.specs.declared.queue.QueueState.TheVariants.{Started}
@@ -12,7 +11,7 @@ use Rattle.qm_kinds.specs.declared.request.NameOrNumber.TheVariants.{Name, Numbe
 use Rattle.qm_kinds.specs.declared.request.Request.{Request}
 use Rattle.qm_kinds.specs.declared.request.Request.TheVariants.{Append, Fill, SetQueue, StartQueue, DefineForm, DefineCharacteristic, Submit, Done, Tick}
 use Rattle.qm_model.specs.First.{first_system, first_form}
-use Rattle.qm_model.proofs.Site.{Ask, answers, after, starts, states, first_asks, file, listing_file, no_change, print_queue, generic_queue, print_job, batch_job}
+use Rattle.qm_model.proofs.Site.{Ask, answers, after, starts, states, first_asks, file, listing_file, no_change, print_queue, generic_queue, print_job, batch_job, a_print_job}
 
 -- the first site's queue is stopped, so its job waits
 pub stopped_queue_keeps_its_job : answers (first_system (codes "A")) (first_asks
@@ -30,7 +29,7 @@ three_jobs change priority = first_asks
     (Fill (listing_file (codes "X")) 72
     ∷ Fill (listing_file (codes "Y")) 16
     ∷ print_queue (codes "LP") false change
-    ∷ Submit (codes "SYSTEM") job.Print (codes "LP") (listing_file (codes "X")) (codes "X") priority None false Default true [] None 1 false
+    ∷ Submit (record (a_print_job (codes "LP") (codes "X")) { priority = priority })
     ∷ print_job (codes "LP") (codes "Y")
     ∷ print_job (codes "LP") (codes "Y")
     ∷ StartQueue (codes "LP") no_change
@@ -54,10 +53,10 @@ characteristics_change wanted = record { limit = None; characteristics = Some wa
 -- a job waits until its queue has each characteristic that it asks for
 pub job_waits_for_characteristics : answers (first_system (codes "A")) (first_asks
     (Fill (listing_file (codes "Y")) 16
-    ∷ DefineCharacteristic (codes "DUPLEX") 3
-    ∷ DefineCharacteristic (codes "COLOUR") 127
+    ∷ DefineCharacteristic (record { name = codes "DUPLEX"; number = 3 })
+    ∷ DefineCharacteristic (record { name = codes "COLOUR"; number = 127 })
     ∷ print_queue (codes "LP") true (characteristics_change (Name (codes "DUPLEX") ∷ []))
-    ∷ Submit (codes "SYSTEM") job.Print (codes "LP") (listing_file (codes "Y")) (codes "Y") 100 None false Default true (Number 3 ∷ Number 127 ∷ []) None 1 false
+    ∷ Submit (record (a_print_job (codes "LP") (codes "Y")) { characteristics = Number 3 ∷ Number 127 ∷ [] })
     ∷ SetQueue (codes "LP") (characteristics_change (Number 3 ∷ Number 127 ∷ []))
     ∷ []))
     ≡ (Ok (record { act = act.Filed (listing_file (codes "Y")) 1024; started = [] })
@@ -70,14 +69,14 @@ pub job_waits_for_characteristics : answers (first_system (codes "A")) (first_as
 job_waits_for_characteristics = refl
 
 abbrev job_on_form : List ℕ → Request
-job_on_form form = Submit (codes "SYSTEM") job.Print (codes "LP") (listing_file (codes "Y")) (codes "Y") 100 None false Default true [] (Some (Name form)) 1 false
+job_on_form form = Submit (record (a_print_job (codes "LP") (codes "Y")) { form = Some (Name form) })
 
 -- a job on another form of the mounted form's stock starts, and one on a form of another stock never does
 pub stock_decides : starts (first_system (codes "A")) (first_asks
     (Fill (listing_file (codes "Y")) 16
-    ∷ DefineForm (codes "WIDE") 1 (codes "PAPER") (record { length = 66; width = 200; top = 0; bottom = 6; left = 0; right = 0; wrap = false })
-    ∷ DefineForm (codes "NARROW") 2 (codes "PAPER") first_form.shape
-    ∷ DefineForm (codes "BLUE") 3 (codes "BLUE") first_form.shape
+    ∷ DefineForm (record { name = codes "WIDE"; number = 1; stock = codes "PAPER"; shape = record { length = 66; width = 200; top = 0; bottom = 6; left = 0; right = 0; wrap = false } })
+    ∷ DefineForm (record { name = codes "NARROW"; number = 2; stock = codes "PAPER"; shape = first_form.shape })
+    ∷ DefineForm (record { name = codes "BLUE"; number = 3; stock = codes "BLUE"; shape = first_form.shape })
     ∷ print_queue (codes "LP") true (record { limit = None; characteristics = None; form = Some (Name (codes "WIDE")); blocks = None; by_size = None; retain = None })
     ∷ job_on_form (codes "BLUE")
     ∷ job_on_form (codes "NARROW")

@@ -21,19 +21,23 @@ use Rattle.qm_kinds.specs.declared.form.Form.{Form}
 use Rattle.qm_kinds.specs.declared.file.File.{File}
 use Rattle.qm_kinds.specs.declared.queue.Queue.{Queue}
 use Rattle.qm_kinds.specs.declared.refusal.Refusal.{Refusal}
-use Rattle.qm_kinds.specs.declared.refusal.Refusal.TheVariants.{NoSuchForm, EntriesFull, NumbersSpent}
+use Rattle.qm_kinds.specs.declared.refusal.Refusal.TheVariants.{BadValue, NoSuchForm, EntriesFull, NumbersSpent}
 use Rattle.qm_kinds.specs.declared.request.NameOrNumber.{NameOrNumber}
 use Rattle.qm_kinds.specs.declared.request.NameOrNumber.TheVariants.{Name}
 use Rattle.qm_kinds.specs.declared.system.System.{System}
 use Rattle.qm_model.specs.Find.{file_named, queue_named, is_form, form_wanted, is_characteristic, characteristic_wanted}
-use Rattle.qm_model.specs.Consistent.{AreDefined, AreForms, HasForm, IsEntry, run_of, runs_in, runs_on, job_kind}
+use Rattle.qm_model.specs.Consistent.{AreDefined, AreForms, HasForm, IsEntry}
+use Rattle.qm_model.specs.JobStates.{run_of, runs_in, runs_on}
+use Rattle.qm_model.specs.Kinds.{job_kind}
 use Rattle.qm_model.specs.Outcome.{refused_where}
-use Rattle.qm_model.specs.Submitting.{Job, refused_form, refused_characteristics, submit_refusal, state_of, form_of, with_characteristic, set_of, entry_of, submitted}
+use Rattle.qm_kinds.specs.declared.request.Job.{Job}
+use Rattle.qm_model.specs.Wanted.{refused_form, refused_characteristics, with_characteristic, set_of}
+use Rattle.qm_model.specs.Submitting.{has_bad_value, submit_refusal, state_of, form_of, entry_of, submitted}
 use Rattle.qm_model.proofs.SettlingLemmas.{IsIn}
 use Rattle.qm_model.proofs.ListLemmas.{contains_in}
 use Rattle.qm_model.proofs.SoundLemmas.{find_in}
 use Rattle.qm_model.proofs.ChangeLemmas.{IsSound, IsSoundQueue}
-use Rattle.qm_model.proofs.RefusalLemmas.{none_first, not_refused, is_there, or_false_left, of_kind, not_zero, not_at_least}
+use Rattle.qm_model.proofs.RefusalLemmas.{none_first, not_refused, is_there, of_kind, not_at_least}
 
 -- ---- characteristics that are defined
 
@@ -91,7 +95,7 @@ found_form forms wanted None found there = cc
 found_form forms wanted (Some f) found there = (refl, by_its_name f forms (find_in (is_form wanted) f forms found))
 
 has_form : (s : System) (kind : JobKind) (wanted : Option NameOrNumber) → AreForms s.forms → option_and_then (refused_form s) wanted ≡ None → HasForm s.forms kind (form_of s kind wanted)
-has_form s job.Batch wanted h none = refl
+has_form s job.Batch wanted h none = tt
 has_form s job.Print None h none = (refl, h.default.1)
 has_form s job.Print (Some wanted) h none = found_form s.forms wanted (form_wanted wanted s.forms) refl (is_there (form_wanted wanted s.forms) (not_refused _ _ none))
 
@@ -137,7 +141,6 @@ module _ (s : System) (e : Entry) where
     home = h.home;
     file = h.file;
     form = h.form;
-    copies = h.copies;
     characteristics = h.characteristics;
     queue = h.queue;
     node = h.node;
@@ -179,16 +182,18 @@ submitted_sound s t now j h queues files forms shorter none =
     let r1 = none_first _ _ none in
     let r2 = none_first _ _ r1.1 in
     let r3 = none_first _ _ r2.1 in
-    let r4 = none_first _ _ r3.1 in
-    let r5 = none_first _ _ r4.1 in
+    let bad : Option Refusal = refused_where (has_bad_value j) BadValue in
     let full : Option Refusal = refused_where (nat_le 65536 (length s.entries)) EntriesFull in
     let spent : Option Refusal = refused_where (s.next_entry == 4294967295) NumbersSpent in
+    let no_form : Option Refusal = option_and_then (refused_form s) j.form in
+    let no_characteristic : Option Refusal = refused_characteristics s.characteristics j.characteristics in
+    let r4 = none_first bad (no_form ∷ no_characteristic ∷ full ∷ spent ∷ []) r3.1 in
+    let r5 = none_first no_form (no_characteristic ∷ full ∷ spent ∷ []) r4.1 in
     let r6 = none_first (refused_characteristics s.characteristics j.characteristics) (full ∷ spent ∷ []) r5.1 in
     let r7 = none_first full (spent ∷ []) r6.1 in
     let queue_there : IsSome (queue_named j.queue s.queues) = is_there (queue_named j.queue s.queues) (not_refused _ _ r1.0) in
     let home = of_kind j.kind (queue_named j.queue s.queues) queue_there (not_refused _ _ r2.0) in
     let file_there : IsSome (file_named j.file s.files) = is_there (file_named j.file s.files) (not_refused _ _ r3.0) in
-    let copies : 0 < j.copies = not_zero j.copies (or_false_left _ _ (not_refused _ _ r4.0)) in
     let form : option_and_then (λ wanted. refused_where (is_none (form_wanted wanted t.forms)) (NoSuchForm wanted)) j.form ≡ None =
     subst (λ (fs : List Form). option_and_then (λ wanted. refused_where (is_none (form_wanted wanted fs)) (NoSuchForm wanted)) j.form ≡ None) (sym forms) r5.0 in
     let room : length s.entries < 65536 = not_at_least 65536 (length s.entries) (not_refused (nat_le 65536 (length s.entries)) EntriesFull r7.0) in
@@ -199,7 +204,6 @@ submitted_sound s t now j h queues files forms shorter none =
       home = subst (λ (qs : List Queue). IsSome (queue_named j.queue qs) × IfSome (queue_named j.queue qs) (λ q. job_kind q.kind ≡ j.kind)) (sym queues) (queue_there, home);
       file = subst (λ (fs : List File). IsSome (file_named j.file fs)) (sym files) file_there;
       form = has_form t j.kind j.form h.forms form;
-      copies = copies;
       characteristics = set_is_defined t.characteristics j.characteristics;
       queue = if_none _ _ (no_queue j.hold j.after now);
       node = if_none _ _ (no_node j.hold j.after now);

@@ -1,15 +1,17 @@
 -- Bytes are added to a file, which is made where it isn't there.
+-- OpenVMS System Services Reference Manual, $SNDJBC, on the files of a job.
+-- This site's own: the files that jobs name are kept by the queue manager, and their limits.
 use Rattle.std.specs.Prelude.{ℕ, ◌+◌, nat_lt, Bool, ◌&&◌, ◌||◌, List, [], ◌∷◌, ◌++◌, length, find, Option, is_none}
 use Rattle.std.specs.Option.{option_map, option_map_or}
 use Rattle.std.specs.Ordering.{match_ordering}
 use Rattle.qm_kinds.specs.declared.file.FileName.{FileName}
 use Rattle.qm_kinds.specs.declared.file.File.{File}
 use Rattle.qm_kinds.specs.declared.entry.Entry.{Entry}
-use Rattle.qm_kinds.specs.declared.refusal.Holder.TheVariants as holder
 use Rattle.qm_kinds.specs.declared.refusal.Refusal.{Refusal}
 use Rattle.qm_kinds.specs.declared.refusal.Refusal.TheVariants.{Referenced, SpoolFull}
 use Rattle.qm_kinds.specs.declared.reply.Act.TheVariants.{Filed}
 use Rattle.qm_kinds.specs.declared.system.System.{System}
+use Rattle.qm_kinds.specs.declared.refusal.Holder.TheVariants as holder
 use Rattle.qm_model.specs.Find.{file_name_cmp, same_file_name, file_named}
 use Rattle.qm_model.specs.Consistent.{spooled}
 use Rattle.qm_model.specs.Outcome.{Accepted, refused_where, first_refusal}
@@ -33,12 +35,14 @@ is_spool_full name more files =
     nat_lt 1048576 (length (bytes_of name files) + more) || nat_lt 67108864 (spooled files + more)
     || (is_none (file_named name files) && nat_lt 4095 (length files))
 
+-- why bytes can't be added to a file
 abbrev pub append_refusal : System → FileName → List ℕ → Option Refusal
 append_refusal s name more = first_refusal
     (refused_as_named name s.entries
     ∷ refused_where (is_spool_full name (length more) s.files) SpoolFull
     ∷ [])
 
+-- the bytes stand behind those that the file has
 abbrev pub appended : System → FileName → List ℕ → Accepted
 appended s name more =
     let bytes = bytes_of name s.files ++ more in

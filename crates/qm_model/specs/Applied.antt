@@ -4,10 +4,9 @@ use Rattle.std.specs.Prelude.{ℕ, ◌^◌, nat_le, Bool, true, false, ◌&&◌,
 use Rattle.qm_kinds.specs.declared.refusal.Refusal.{Refusal}
 use Rattle.qm_kinds.specs.declared.refusal.Refusal.TheVariants.{NumbersSpent}
 use Rattle.qm_kinds.specs.declared.request.Request.{Request}
-use Rattle.qm_kinds.specs.declared.request.Request.TheVariants as request
 use Rattle.qm_kinds.specs.declared.system.System.{System}
+use Rattle.qm_kinds.specs.declared.request.Request.TheVariants as request
 use Rattle.qm_model.specs.Outcome.{Accepted, unless_refused}
-use Rattle.qm_model.specs.Apply.{at_moment}
 use Rattle.qm_model.specs.Appending.{append_refusal, appended}
 use Rattle.qm_model.specs.Submitting.{submit_refusal, submitted}
 use Rattle.qm_model.specs.Standing.{node_at}
@@ -21,7 +20,7 @@ use Rattle.qm_model.specs.Queues.{initialize_refusal, initialized, set_queue_ref
 use Rattle.qm_model.specs.Stopping.{stop_refusal, queue_stopped, abort_refusal, job_aborted}
 use Rattle.qm_model.specs.Merging.{merge_refusal, merged}
 use Rattle.qm_model.specs.Entries.{set_entry_refusal, entry_set, delete_entry_refusal, entry_deleted}
-use Rattle.qm_model.specs.Runs.{Checkpoint, End, report_refusal, reported}
+use Rattle.qm_model.specs.Runs.{MarkReport, EndReport, report_refusal, run_reported}
 use Rattle.qm_model.specs.Nodes.{ticked, node_up, nodes_lost, taken_over}
 
 -- the first refusal of a request that holds of the system before it, but for spent numbers of runs
@@ -29,22 +28,19 @@ abbrev pub refusal_of : System → List ℕ → Request → Option Refusal
 refusal_of s node (request.Append file bytes) = append_refusal s file bytes
 refusal_of s node (request.Fill file lines) = fill_refusal s file lines
 refusal_of s node (request.Drop file) = drop_refusal s file
-refusal_of s node (request.DefineForm name number stock shape) = define_form_refusal s (record { name = name; number = number; stock = stock; shape = shape })
+refusal_of s node (request.DefineForm form) = define_form_refusal s form
 refusal_of s node (request.DeleteForm name) = delete_form_refusal s name
-refusal_of s node (request.DefineCharacteristic name number) = define_characteristic_refusal s (record { name = name; number = number })
+refusal_of s node (request.DefineCharacteristic characteristic) = define_characteristic_refusal s characteristic
 refusal_of s node (request.DeleteCharacteristic name) = delete_characteristic_refusal s name
-refusal_of s node (request.InitializeQueue name kind on device targets change start) =
-    initialize_refusal s (record { name = name; kind = kind; node = on; device = device; targets = targets; change = change; start = start })
+refusal_of s node (request.InitializeQueue new) = initialize_refusal s new
 refusal_of s node (request.SetQueue name change) = set_queue_refusal s name change
 refusal_of s node (request.StartQueue name change) = set_queue_refusal s name change
 refusal_of s node (request.StopQueue name how) = stop_refusal s name
 refusal_of s node (request.AbortJob queue entry requeue) = abort_refusal s queue entry requeue
 refusal_of s node (request.DeleteQueue name) = delete_queue_refusal s name
 refusal_of s node (request.Merge to from) = merge_refusal s to from
-refusal_of s node (request.Submit user kind queue file name priority after hold retain restart characteristics form copies flag) =
-    submit_refusal s (record { user = user; kind = kind; queue = queue; file = file; name = name; priority = priority; after = after; hold = hold; retain = retain; restart = restart; characteristics = characteristics; form = form; copies = copies; flag = flag })
-refusal_of s node (request.SetEntry entry release hold after priority name characteristics form queue restart retain) =
-    set_entry_refusal s entry (record { release = release; hold = hold; after = after; priority = priority; name = name; characteristics = characteristics; form = form; queue = queue; restart = restart; retain = retain })
+refusal_of s node (request.Submit job) = submit_refusal s job
+refusal_of s node (request.SetEntry entry change) = set_entry_refusal s entry change
 refusal_of s node (request.DeleteEntry entry) = delete_entry_refusal s entry
 refusal_of s node (request.Mark run value) = report_refusal s node run
 refusal_of s node (request.Done run status) = report_refusal s node run
@@ -58,25 +54,22 @@ abbrev pub change_of : System → ℕ → List ℕ → Request → Accepted
 change_of s now node (request.Append file bytes) = appended s file bytes
 change_of s now node (request.Fill file lines) = filled s file lines
 change_of s now node (request.Drop file) = dropped s file
-change_of s now node (request.DefineForm name number stock shape) = form_defined s (record { name = name; number = number; stock = stock; shape = shape })
+change_of s now node (request.DefineForm form) = form_defined s form
 change_of s now node (request.DeleteForm name) = form_deleted s name
-change_of s now node (request.DefineCharacteristic name number) = characteristic_defined s (record { name = name; number = number })
+change_of s now node (request.DefineCharacteristic characteristic) = characteristic_defined s characteristic
 change_of s now node (request.DeleteCharacteristic name) = characteristic_deleted s name
-change_of s now node (request.InitializeQueue name kind on device targets change start) =
-    initialized s node (record { name = name; kind = kind; node = on; device = device; targets = targets; change = change; start = start })
+change_of s now node (request.InitializeQueue new) = initialized s node new
 change_of s now node (request.SetQueue name change) = queue_set s name change
 change_of s now node (request.StartQueue name change) = queue_started s name change
 change_of s now node (request.StopQueue name how) = queue_stopped s name how
 change_of s now node (request.AbortJob queue entry requeue) = job_aborted s queue entry requeue
 change_of s now node (request.DeleteQueue name) = queue_deleted s name
 change_of s now node (request.Merge to from) = merged s to from
-change_of s now node (request.Submit user kind queue file name priority after hold retain restart characteristics form copies flag) =
-    submitted s now (record { user = user; kind = kind; queue = queue; file = file; name = name; priority = priority; after = after; hold = hold; retain = retain; restart = restart; characteristics = characteristics; form = form; copies = copies; flag = flag })
-change_of s now node (request.SetEntry entry release hold after priority name characteristics form queue restart retain) =
-    entry_set s now entry (record { release = release; hold = hold; after = after; priority = priority; name = name; characteristics = characteristics; form = form; queue = queue; restart = restart; retain = retain })
+change_of s now node (request.Submit job) = submitted s now job
+change_of s now node (request.SetEntry entry change) = entry_set s now entry change
 change_of s now node (request.DeleteEntry entry) = entry_deleted s entry
-change_of s now node (request.Mark run value) = reported s now node run (Checkpoint value)
-change_of s now node (request.Done run status) = reported s now node run (End status)
+change_of s now node (request.Mark run value) = run_reported s now node run (MarkReport value)
+change_of s now node (request.Done run status) = run_reported s now node run (EndReport status)
 change_of s now node request.Tick = ticked s
 change_of s now node request.NodeUp = node_up s node
 change_of s now node (request.NodeLost nodes) = nodes_lost s now node nodes
@@ -102,6 +95,10 @@ abbrev pub completed : Accepted → Accepted
 completed a =
     let after = settled (stopped_when_idle a.system) in
     record { system = after.system; reply = record { act = a.reply.act; started = after.started } }
+
+-- the system as the acting moment finds it, but for what is due
+abbrev pub at_moment : ℕ → System → System
+at_moment now s = record s { last = now }
 
 -- An accepted request acts on what the moment finds; a refused one changes nothing. The node is named by its place.
 abbrev pub applied : System → ℕ → ℕ → Request → Result Accepted Refusal

@@ -42,6 +42,7 @@ is_number text = nat_lt 0 (length text) && list_all is_ascii_digit text && (leng
 abbrev pub is_status : List ℕ → Bool
 is_status text = is_number text && nat_le (value_of text) 4294967295
 
+-- a mark has 1 to 255 bytes
 abbrev pub is_mark : List ℕ → Bool
 is_mark text = nat_lt 0 (length text) && nat_le (length text) 255
 
@@ -63,6 +64,7 @@ restart_value_line line = option_map (λ text. SetRestart text) (option_and_then
 abbrev pub label_of : List ℕ → Option (List ℕ)
 label_of line = option_and_then (only_if is_label) (option_and_then (ahead_of (codes ":")) (behind (codes "$ ") line))
 
+-- a label asks for nothing
 abbrev pub label_line : List ℕ → Option BatchLine
 label_line line = option_map (λ label. Nothing) (label_of line)
 
@@ -88,6 +90,7 @@ first_form_of [] = Bad
 first_form_of (None ∷ others) = first_form_of others
 first_form_of (Some line ∷ others) = line
 
+-- what the line asks for; a line of no form is a bad one
 abbrev pub batch_line : List ℕ → BatchLine
 batch_line line = first_form_of
     (comment_line line
@@ -110,38 +113,42 @@ place_of_label label lines = position (is_label_line label) lines
 -- What comes of a line: a block may go to the device, and the run goes on at a line, after a checkpoint or without
 -- one, or ends with a status.
 pub data BatchMove : Type 0 where
-  Continue : ℕ → BatchMove
+  GoOn : ℕ → BatchMove
   Output : List ℕ → ℕ → BatchMove
-  Checkpoint : List ℕ → ℕ → BatchMove
-  End : ℕ → BatchMove
+  SaveMark : List ℕ → ℕ → BatchMove
+  EndRun : ℕ → BatchMove
 
--- the statuses of a run that goes to its end, uses too many lines, misses a label, or meets a line of no form
+-- the status of a run that goes to its end
 abbrev pub normal_status : ℕ
 normal_status = 1
 
+-- the status of a run that reads too many lines
 abbrev pub line_limit_status : ℕ
 line_limit_status = 1036
 
+-- the status of a run that is to go on at a label that isn't there
 abbrev pub no_label_status : ℕ
 no_label_status = 1044
 
+-- the status of a run that meets a line of no form
 abbrev pub bad_line_status : ℕ
 bad_line_status = 1052
 
+-- the run goes on at a place, or there is no such label
 abbrev pub move_to : Option ℕ → BatchMove
-move_to None = End no_label_status
-move_to (Some at) = Continue at
+move_to None = EndRun no_label_status
+move_to (Some at) = GoOn at
 
 -- what a line at this place comes to, in a run that began with this mark and may be a second one
 abbrev pub move_of : List (List ℕ) → Bool → List ℕ → ℕ → BatchLine → BatchMove
-move_of all again mark at Nothing = Continue (at + 1)
+move_of all again mark at Nothing = GoOn (at + 1)
 move_of all again mark at (Write text) = Output (text ++ 10 ∷ []) (at + 1)
-move_of all again mark at (SetRestart text) = Checkpoint text (at + 1)
+move_of all again mark at (SetRestart text) = SaveMark text (at + 1)
 move_of all again mark at (GoTo label) = move_to (place_of_label label all)
-move_of all again mark at GoToRestart = if again && nat_lt 0 (length mark) then move_to (place_of_label mark all) else Continue (at + 1)
-move_of all again mark at (Exit status) = End status
-move_of all again mark at Bad = End bad_line_status
+move_of all again mark at GoToRestart = if again && nat_lt 0 (length mark) then move_to (place_of_label mark all) else GoOn (at + 1)
+move_of all again mark at (Exit status) = EndRun status
+move_of all again mark at Bad = EndRun bad_line_status
 
 -- behind the last line a run ends well
 abbrev pub move_at : List (List ℕ) → Bool → List ℕ → ℕ → BatchMove
-move_at all again mark at = option_map_or (λ line. move_of all again mark at (batch_line line)) (slice_get all at) (End normal_status)
+move_at all again mark at = option_map_or (λ line. move_of all again mark at (batch_line line)) (slice_get all at) (EndRun normal_status)

@@ -5,12 +5,11 @@ use Rattle.std.specs.Prelude.{ℕ, ◌==◌, nat_lt, Bool, ◌&&◌, ◌||◌, i
 use Rattle.std.specs.List.{reduce}
 use Rattle.qm_kinds.specs.declared.entry.Entry.{Entry}
 use Rattle.qm_kinds.specs.declared.queue.Queue.{Queue}
-use Rattle.qm_model.specs.Consistent.{job_kind}
-use Rattle.qm_model.specs.Submitting.{is_print}
+use Rattle.qm_model.specs.Kinds.{is_print_queue}
 
 -- what counts of a job's size: nothing, but in a print queue that goes by size
 abbrev pub size_that_counts : Queue → Entry → ℕ
-size_that_counts q e = if q.by_size && is_print (job_kind q.kind) then e.size else 0
+size_that_counts q e = if q.by_size && is_print_queue q.kind then e.size else 0
 
 -- The greater priority comes first, then the smaller size, where size counts, then the smaller number.
 abbrev pub before : Queue → Entry → Entry → Bool

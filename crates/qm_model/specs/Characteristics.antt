@@ -16,15 +16,18 @@ use Rattle.qm_model.specs.Referring.{refused_by_queue, refused_by_entry}
 use Rattle.qm_model.specs.Inserting.{with_characteristic_defined}
 use Rattle.qm_model.specs.Replying.{replied}
 
+-- a characteristic has the name or the number
 abbrev pub is_characteristic_taken : List Characteristic → Characteristic → Bool
 is_characteristic_taken defined c = is_some (characteristic_wanted (Name c.name) defined) || is_some (characteristic_wanted (Number c.number) defined)
 
+-- why a characteristic can't be defined
 abbrev pub define_characteristic_refusal : System → Characteristic → Option Refusal
 define_characteristic_refusal s characteristic = first_refusal
     (refused_where (nat_lt 127 characteristic.number) BadValue
     ∷ refused_where (is_characteristic_taken s.characteristics characteristic) DuplicateCharacteristic
     ∷ [])
 
+-- one more characteristic
 abbrev pub characteristic_defined : System → Characteristic → Accepted
 characteristic_defined s characteristic =
     replied (record s { characteristics = with_characteristic_defined characteristic s.characteristics }) (CharacteristicDefined characteristic.name)
@@ -45,6 +48,7 @@ delete_characteristic_refusal s name = first_refusal
     ∷ refused_by_entry (λ e. has_named s.characteristics name e.characteristics.0) s.entries
     ∷ [])
 
+-- the characteristic of the name goes
 abbrev pub characteristic_deleted : System → List ℕ → Accepted
 characteristic_deleted s name =
     replied (record s { characteristics = filter (λ c. not (bytes_eq c.name name)) s.characteristics }) (CharacteristicDeleted name)

@@ -1,4 +1,6 @@
 -- What a line asks for: a command, or an act at the site.
+-- DCL Dictionary, SUBMIT and SHOW ENTRY; OpenVMS User's Manual, on entering commands.
+-- This site's own: acts at the site, which no command asks for.
 use Rattle.std.specs.Prelude.{ℕ, ◌==◌, ◌+◌, ◌*◌, ◌-◌, nat_lt, nat_le, Bool, true, false, ◌&&◌, if◌then◌else◌, List, [], ◌∷◌, length, map, filter, fold, take, drop, position, Option, None, Some, codes}
 use Rattle.std.specs.List.{list_all, slice_split}
 use Rattle.std.specs.Option.{option_map}
@@ -14,7 +16,7 @@ use Rattle.qm_kinds.specs.declared.query.Query.{Query}
 use Rattle.qm_kinds.specs.declared.query.Listing.TheVariants.{Entries}
 use Rattle.qm_kinds.specs.declared.request.Request.{Request}
 use Rattle.qm_kinds.specs.declared.request.Request.TheVariants.{Submit}
-use Rattle.qm_model.specs.Names.{batch_queue, command_type}
+use Rattle.qm_kinds.specs.Names.{batch_queue, command_type}
 
 -- the words of a text, parted by blanks
 abbrev pub words_of : List ℕ → List (List ℕ)
@@ -41,7 +43,22 @@ with_type file (Some extension) = file
 -- SUBMIT file, for a user: into the batch queue, under the file's name, with the settings that a job has by default
 abbrev pub submit_of : List ℕ → FileName → Request
 submit_of user file =
-    Submit user Batch batch_queue (with_type file file.extension) file.name 100 None false Default false [] None 1 false
+    Submit (record {
+      user = user;
+      kind = Batch;
+      queue = batch_queue;
+      file = with_type file file.extension;
+      name = file.name;
+      priority = 100;
+      after = None;
+      hold = false;
+      retain = Default;
+      restart = false;
+      characteristics = [];
+      form = None;
+      copies = 1;
+      flag = false;
+    })
 
 -- SHOW ENTRY number
 abbrev pub query_of : ℕ → Query
@@ -66,6 +83,7 @@ command_from user (verb ∷ what ∷ number ∷ []) =
     if is_word (codes "SHOW") verb && is_word (codes "ENTRY") what then option_map (λ n. Show (query_of n)) (entry_number number) else None
 command_from user (verb ∷ what ∷ number ∷ more ∷ others) = None
 
+-- what the text of a command asks for, if it is one that is built
 abbrev pub command_of : List ℕ → List ℕ → Option Input
 command_of user text = command_from user (words_of text)
 
@@ -74,5 +92,6 @@ abbrev pub cut_at : Option ℕ → List ℕ → Option (List ℕ × List ℕ)
 cut_at None text = None
 cut_at (Some place) text = Some (take place text, drop (place + 1) text)
 
+-- the two parts that the first blank makes of a text
 abbrev pub cut_at_blank : List ℕ → Option (List ℕ × List ℕ)
 cut_at_blank text = cut_at (position (λ b. b == 32) text) text

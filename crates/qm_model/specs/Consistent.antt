@@ -1,7 +1,9 @@
 -- What makes a system consistent.
-use Rattle.std.specs.Prelude.{◌≡◌, ◌≢◌, ◌<◌, ◌≤◌, ◌+◌, ◌^◌, ℕ, Bool, true, false, List, [], length, map, filter, sum_by, find, Option, None, Some, IfSome, IsSome, IsNone, IsTrue, All, AllPairs, Contains}
+-- OpenVMS System Manager's Manual, Setting Up and Maintaining Queues, on queues, forms and characteristics; Managing the Queue Manager
+-- and Queue Database, on what the queue database holds.
+-- This site's own: the limits in number and size, the files, and the numbers of runs.
+use Rattle.std.specs.Prelude.{◌≡◌, ◌≢◌, ◌<◌, ◌≤◌, ◌+◌, ◌^◌, ℕ, Bool, true, false, List, [], length, map, filter, sum_by, find, Option, Some, IfSome, IsSome, IsNone, IsTrue, All, AllPairs, Contains, IsBitSet}
 use Rattle.std.specs.List.{list_any, list_all}
-use Rattle.std.specs.Prelude.{IsBitSet}
 use Rattle.std.specs.Ordering.{nat_cmp}
 use Rattle.std.specs.Char.{is_ascii_digit}
 use Rattle.std.specs.Option.{option_map_or}
@@ -17,55 +19,38 @@ use Rattle.qm_kinds.specs.declared.queue.QueueKind.{QueueKind}
 use Rattle.qm_kinds.specs.declared.queue.QueueKind.TheVariants.{Batch, Print, GenericBatch, GenericPrint}
 use Rattle.qm_kinds.specs.declared.queue.QueueState.TheVariants.{Stopping}
 use Rattle.qm_kinds.specs.declared.entry.Entry.{Entry}
-use Rattle.qm_kinds.specs.declared.entry.EntryState.{EntryState}
-use Rattle.qm_kinds.specs.declared.entry.EntryState.TheVariants.{Pending, Holding, Timed, Running, Aborting, Retained}
 use Rattle.qm_kinds.specs.declared.entry.JobKind.{JobKind}
-use Rattle.qm_kinds.specs.declared.entry.JobKind.TheVariants as job
+use Rattle.qm_kinds.specs.declared.name.TheConstants.{NODE_NAME_BYTES, SHORT_NAME_BYTES}
 use Rattle.qm_kinds.specs.declared.request.NameOrNumber.TheVariants.{Name}
 use Rattle.qm_kinds.specs.declared.system.Node.{Node}
 use Rattle.qm_kinds.specs.declared.system.System.{System}
-use Rattle.qm_model.specs.Names.{default_form}
+use Rattle.qm_kinds.specs.Names.{default_form}
+use Rattle.qm_kinds.specs.declared.entry.JobKind.TheVariants as job
 use Rattle.qm_model.specs.Find.{name_cmp, file_name_cmp, file_named, queue_named, form_wanted}
+use Rattle.qm_model.specs.Kinds.{execution_kind, is_generic, job_kind}
+use Rattle.qm_model.specs.JobStates.{run_of, runs_in, runs_on}
 
 -- each stands before the later ones
 abbrev pub IsInOrder : {X K : Type 0} → (K → K → Ordering) → (X → K) → List X → Type 0
 IsInOrder cmp key xs = AllPairs (λ a b. cmp (key a) (key b) ≡ Less) xs
 
+-- no name stands twice
 abbrev pub AreDistinct : {X : Type 0} → (X → List ℕ) → List X → Type 0
 AreDistinct name xs = AllPairs (λ a b. name a ≢ name b) xs
 
--- at most 31 bytes
+-- a name of a queue, a form, a characteristic, a stock or a device
 abbrev pub IsShort : List ℕ → Type 0
-IsShort name = length name ≤ 31
+IsShort name = length name ≤ SHORT_NAME_BYTES
 
 -- a name of a form or a characteristic: short, and not of digits alone
-abbrev pub IsLabel : List ℕ → Type 0
-IsLabel name = IsShort name × (list_all is_ascii_digit name ≡ false)
+abbrev pub IsDefinable : List ℕ → Type 0
+IsDefinable name = IsShort name × (list_all is_ascii_digit name ≡ false)
 
--- execution queues stand on a node, generic ones don't
-abbrev pub is_generic : QueueKind → Bool
-is_generic Batch = false
-is_generic Print = false
-is_generic GenericBatch = true
-is_generic GenericPrint = true
-
--- the kind of job that a queue takes
-abbrev pub job_kind : QueueKind → JobKind
-job_kind Batch = job.Batch
-job_kind Print = job.Print
-job_kind GenericBatch = job.Batch
-job_kind GenericPrint = job.Print
-
--- the kind of execution queue that runs jobs of a kind
-abbrev pub execution_kind : JobKind → QueueKind
-execution_kind job.Batch = Batch
-execution_kind job.Print = Print
-
--- one to eight nodes, each once, with names of at most 6 bytes
+-- one to eight nodes, each once, with names that a node can have
 pub record AreNodes (nodes : List Node) : Type 0 where
   pub some : 0 < length nodes
   pub few : length nodes ≤ 8
-  pub short : All (λ n. length n.name ≤ 6) nodes
+  pub short : All (λ n. length n.name ≤ NODE_NAME_BYTES) nodes
   pub distinct : AreDistinct (λ n. n.name) nodes
 
 -- there is room for text between the margins
@@ -73,22 +58,24 @@ pub record HasRoom (shape : Shape) : Type 0 where
   pub lines : shape.top + shape.bottom < shape.length
   pub columns : shape.left + shape.right < shape.width
 
-pub record IsForm (form : Form) : Type 0 where
+-- a number up to 999, a name, a stock, and room for text
+pub record IsProperForm (form : Form) : Type 0 where
   pub number : form.number ≤ 999
-  pub name : IsLabel form.name
+  pub name : IsDefinable form.name
   pub stock : IsShort form.stock
   pub shape : HasRoom form.shape
 
 -- by number, under names of their own, and DEFAULT has number 0
 pub record AreForms (forms : List Form) : Type 0 where
-  pub each : All IsForm forms
+  pub each : All IsProperForm forms
   pub order : IsInOrder nat_cmp (λ f. f.number) forms
   pub distinct : AreDistinct (λ f. f.name) forms
   pub default : IfSome (form_wanted (Name default_form) forms) (λ f. f.number ≡ 0) × IsSome (form_wanted (Name default_form) forms)
 
+-- by number, up to 127, under names of their own
 pub record AreCharacteristics (characteristics : List Characteristic) : Type 0 where
   pub numbers : All (λ c. c.number ≤ 127) characteristics
-  pub names : All (λ c. IsLabel c.name) characteristics
+  pub names : All (λ c. IsDefinable c.name) characteristics
   pub order : IsInOrder nat_cmp (λ c. c.number) characteristics
   pub distinct : AreDistinct (λ c. c.name) characteristics
 
@@ -96,6 +83,7 @@ pub record AreCharacteristics (characteristics : List Characteristic) : Type 0 w
 abbrev pub spooled : List File → ℕ
 spooled files = sum_by (λ f. length f.bytes) files
 
+-- at most 4,096 files of at most 1,048,576 bytes each and 67,108,864 together, by name
 pub record AreFiles (files : List File) : Type 0 where
   pub few : length files ≤ 4096
   pub each : All (λ f. length f.bytes ≤ 1048576) files
@@ -105,32 +93,6 @@ pub record AreFiles (files : List File) : Type 0 where
 -- each characteristic of the set is defined
 abbrev pub AreDefined : ℕ → List Characteristic → Type 0
 AreDefined set characteristics = (n : ℕ) → IsBitSet set n → Contains (map (λ c. c.number) characteristics) n
-
--- the run of an entry, if it has one
-abbrev pub run_of : EntryState → Option ℕ
-run_of Pending = None
-run_of Holding = None
-run_of (Timed at) = None
-run_of (Running queue node run) = Some run
-run_of (Aborting queue node run fate) = Some run
-run_of (Retained status until) = None
-
--- the queue where an entry runs, if it does
-abbrev pub runs_in : EntryState → Option (List ℕ)
-runs_in Pending = None
-runs_in Holding = None
-runs_in (Timed at) = None
-runs_in (Running queue node run) = Some queue
-runs_in (Aborting queue node run fate) = Some queue
-runs_in (Retained status until) = None
-
-abbrev pub runs_on : EntryState → Option (List ℕ)
-runs_on Pending = None
-runs_on Holding = None
-runs_on (Timed at) = None
-runs_on (Running queue node run) = Some node
-runs_on (Aborting queue node run fate) = Some node
-runs_on (Retained status until) = None
 
 -- the name is that of an execution queue for this kind of job
 abbrev pub IsExecutionQueue : JobKind → List Queue → List ℕ → Type 0
@@ -153,6 +115,8 @@ IsMounted forms Batch mounted = IsNone mounted
 IsMounted forms GenericBatch mounted = IsNone mounted
 IsMounted forms GenericPrint mounted = IsNone mounted
 
+-- The queue stands where it can, what it names is defined, it has a limit and sizes that jobs can keep, and while it is stopping it
+-- has a run.
 pub record IsQueue (s : System) (q : Queue) : Type 0 where
   pub name : IsShort q.name
   pub placed : IsPlaced s.nodes s.queues q (is_generic q.kind)
@@ -163,33 +127,38 @@ pub record IsQueue (s : System) (q : Queue) : Type 0 where
   -- a queue that is stopping still has a run
   pub stopping : q.state ≡ Stopping → IsTrue (list_any (λ e. option_map_or (λ name. bytes_eq name q.name) (runs_in e.state) false) s.entries)
 
+-- at most 256 queues, by name
 pub record AreQueues (s : System) : Type 0 where
   pub few : length s.queues ≤ 256
   pub each : All (IsQueue s) s.queues
   pub order : IsInOrder name_cmp (λ q. q.name) s.queues
 
--- a print job's form is defined, and a batch job has none
+-- a print job's form is defined
 abbrev pub HasForm : List Form → JobKind → Option (List ℕ) → Type 0
 HasForm forms job.Print form = IsSome form × IfSome form (λ name. IsSome (form_wanted (Name name) forms))
-HasForm forms job.Batch form = IsNone form
+HasForm forms job.Batch form = Unit {0}
 
+-- The entry has a number that was given, its home is a queue for its kind of job, its file is there, its form and
+-- characteristics are defined, and its run, if it has one, is in an execution queue of its kind, on a node, under a number
+-- that was given.
 pub record IsEntry (s : System) (e : Entry) : Type 0 where
   pub number : (0 < e.number) × (e.number < s.next_entry)
   pub home : IsSome (queue_named e.home s.queues) × IfSome (queue_named e.home s.queues) (λ q. job_kind q.kind ≡ e.kind)
   pub file : IsSome (file_named e.file s.files)
   pub form : HasForm s.forms e.kind e.form
-  pub copies : 0 < e.copies
   pub characteristics : AreDefined e.characteristics.0 s.characteristics
   pub queue : IfSome (runs_in e.state) (IsExecutionQueue e.kind s.queues)
   pub node : IfSome (runs_on e.state) (Contains (map (λ n. n.name) s.nodes))
   pub run : IfSome (run_of e.state) (λ run. (0 < run) × (run < s.next_run))
 
+-- at most 65,536 entries, by number, each run under a number of its own
 pub record AreEntries (s : System) : Type 0 where
   pub few : length s.entries ≤ 65536
   pub each : All (IsEntry s) s.entries
   pub order : IsInOrder nat_cmp (λ e. e.number) s.entries
   pub runs : AllPairs (λ a b. IfSome (run_of a.state) (λ run. run_of b.state ≢ Some run)) s.entries
 
+-- All parts keep their rules, and the next numbers of entries and runs lie above 0.
 pub record IsConsistent (s : System) : Type 0 where
   pub nodes : AreNodes s.nodes
   -- some of the nodes or none, in their order

@@ -25,6 +25,7 @@ is_over now (Aborting queue node run fate) = false
 is_over now (Retained status None) = false
 is_over now (Retained status (Some until)) = nat_le until now
 
+-- the entry as the moment finds it, if it doesn't go
 abbrev pub entry_at : ℕ → Entry → Entry
 entry_at now e = record e { state = state_at now e.state }
 

@@ -4,31 +4,25 @@ use Rattle.std.specs.Prelude.{ℕ, ◌==◌, nat_lt, Bool, true, false, if◌the
 use Rattle.std.specs.List.{list_any}
 use Rattle.std.specs.Option.{option_map_or, option_and_then}
 use Rattle.qm_kinds.specs.declared.entry.Entry.{Entry}
-use Rattle.qm_kinds.specs.declared.entry.EntryState.{EntryState}
-use Rattle.qm_kinds.specs.declared.entry.EntryState.TheVariants.{Pending, Holding, Timed, Running, Aborting, Retained}
 use Rattle.qm_kinds.specs.declared.form.Shape.{Shape}
 use Rattle.qm_kinds.specs.declared.queue.Queue.{Queue}
 use Rattle.qm_kinds.specs.declared.queue.QueueState.{QueueState}
 use Rattle.qm_kinds.specs.declared.queue.QueueState.TheVariants.{Stopped, Started, Paused, Stopping}
 use Rattle.qm_kinds.specs.declared.request.NameOrNumber.TheVariants.{Name}
 use Rattle.qm_kinds.specs.declared.system.System.{System}
-use Rattle.qm_model.specs.Names.{default_form}
+use Rattle.qm_kinds.specs.Names.{default_form}
+use Rattle.qm_kinds.specs.declared.work.Work.{Work}
+use Rattle.qm_kinds.specs.declared.work.Duty.{Duty}
+use Rattle.qm_kinds.specs.declared.entry.JobKind.{JobKind}
+use Rattle.qm_kinds.specs.declared.entry.JobKind.TheVariants.{Batch, Print}
 use Rattle.qm_model.specs.Find.{queue_named, form_wanted}
-use Rattle.qm_model.specs.Consistent.{run_of, runs_in}
+use Rattle.qm_model.specs.JobStates.{run_of, runs_in, is_aborting}
 use Rattle.qm_model.specs.First.{first_form}
 use Rattle.qm_model.specs.Appending.{bytes_of}
 use Rattle.qm_model.specs.Standing.{is_run_on}
 use Rattle.qm_model.specs.Inserting.{inserted}
-use Rattle.qm_model.specs.Work.{Work, Duty}
 
-abbrev pub is_aborting : EntryState → Bool
-is_aborting Pending = false
-is_aborting Holding = false
-is_aborting (Timed at) = false
-is_aborting (Running queue node run) = false
-is_aborting (Aborting queue node run fate) = true
-is_aborting (Retained status until) = false
-
+-- the runs of the queue wait
 abbrev pub is_paused : QueueState → Bool
 is_paused Stopped = false
 is_paused Started = false
@@ -43,10 +37,16 @@ run_number e = unwrap_or (run_of e.state) 0
 abbrev pub queue_of_run : System → Entry → Option Queue
 queue_of_run s e = option_and_then (λ name. queue_named name s.queues) (runs_in e.state)
 
--- the shape of a print job's form, and of DEFAULT for a batch job
-abbrev pub shape_of : System → Entry → Shape
-shape_of s e = option_map_or (λ f. f.shape) (form_wanted (Name (unwrap_or e.form default_form)) s.forms) first_form.shape
+-- the form that shapes a job's pages: that of a print job, and DEFAULT for a batch job
+abbrev pub form_that_shapes : JobKind → Option (List ℕ) → List ℕ
+form_that_shapes Batch form = default_form
+form_that_shapes Print form = unwrap_or form default_form
 
+-- how the pages of a job are set
+abbrev pub shape_of : System → Entry → Shape
+shape_of s e = option_map_or (λ f. f.shape) (form_wanted (Name (form_that_shapes e.kind e.form)) s.forms) first_form.shape
+
+-- what a symbiont needs for a run
 abbrev pub work_of : System → Entry → Work
 work_of s e = record {
   run = run_number e;
@@ -63,6 +63,7 @@ work_of s e = record {
   mark = e.mark;
 }
 
+-- what a node that knows the work of some runs has to do for one run
 abbrev pub duty_of : System → List ℕ → Entry → Duty
 duty_of s known e = record {
   run = run_number e;

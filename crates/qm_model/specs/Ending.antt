@@ -14,13 +14,14 @@ use Rattle.qm_kinds.specs.declared.queue.QueueRetain.TheVariants.{Nothing}
 use Rattle.qm_kinds.specs.declared.reply.Act.{Act}
 use Rattle.qm_kinds.specs.declared.reply.Act.TheVariants.{RunCompleted, RunRetained, RunRequeued, RunRemoved}
 use Rattle.qm_model.specs.Find.{queue_named}
-use Rattle.qm_model.specs.Consistent.{runs_in}
+use Rattle.qm_model.specs.JobStates.{runs_in}
 use Rattle.qm_model.specs.Retaining.{is_retained, retained_until}
 
--- the status of a job that was aborted, and of one whose node was lost
+-- the status of a job that was aborted
 abbrev pub aborted_status : ℕ
 aborted_status = 44
 
+-- the status of a job whose node was lost
 abbrev pub node_lost_status : ℕ
 node_lost_status = 1020
 
@@ -48,6 +49,7 @@ abbrev pub end_act : ℕ → ℕ → Option Entry → Act
 end_act run status None = RunCompleted run status
 end_act run status (Some retained) = RunRetained run status
 
+-- what is replied to the end of a run that was cut short
 abbrev pub fate_act : ℕ → Fate → Option Entry → Act
 fate_act run Requeue outcome = RunRequeued run
 fate_act run Finish outcome = end_act run aborted_status outcome

@@ -5,35 +5,22 @@ use Rattle.std.specs.Option.{option_map_or, option_and_then, option_or}
 use Rattle.qm_kinds.specs.declared.entry.Entry.{Entry}
 use Rattle.qm_kinds.specs.declared.entry.EntryState.TheVariants.{Pending}
 use Rattle.qm_kinds.specs.declared.entry.Fate.TheVariants.{Remove}
-use Rattle.qm_kinds.specs.declared.entry.JobRetain.{JobRetain}
 use Rattle.qm_kinds.specs.declared.refusal.Refusal.{Refusal}
 use Rattle.qm_kinds.specs.declared.refusal.Refusal.TheVariants.{NoSuchEntry, EntryBusy, NotHeld, NoSuchQueue, WrongKind}
 use Rattle.qm_kinds.specs.declared.reply.Act.TheVariants.{EntryIs, EntryDeleted}
-use Rattle.qm_kinds.specs.declared.request.NameOrNumber.{NameOrNumber}
+use Rattle.qm_kinds.specs.declared.request.EntryChange.{EntryChange}
 use Rattle.qm_kinds.specs.declared.system.System.{System}
 use Rattle.qm_model.specs.Find.{queue_named, entry_numbered}
 use Rattle.qm_model.specs.Outcome.{Accepted, refused_where, first_refusal}
-use Rattle.qm_model.specs.Submitting.{is_print, is_other_kind, refused_form, refused_characteristics, state_of}
+use Rattle.qm_model.specs.Kinds.{is_print, is_other_kind}
+use Rattle.qm_model.specs.Wanted.{refused_form, refused_characteristics, form_named, characteristics_of}
+use Rattle.qm_model.specs.Submitting.{state_of}
 use Rattle.qm_model.specs.Standing.{is_executing, with_entry}
-use Rattle.qm_model.specs.Fitting.{is_pending}
-use Rattle.qm_model.specs.Settings.{form_named, characteristics_of}
-use Rattle.qm_model.specs.Merging.{is_waiting}
+use Rattle.qm_model.specs.JobStates.{is_pending, is_waiting}
 use Rattle.qm_model.specs.Stopping.{entry_aborting}
 use Rattle.qm_model.specs.Replying.{replied}
 
--- what SET ENTRY changes
-pub record EntryChange : Type 0 where
-  pub release : Bool
-  pub hold : Bool
-  pub after : Option (Option ℕ)
-  pub priority : Option ℕ
-  pub name : Option (List ℕ)
-  pub characteristics : Option (List NameOrNumber)
-  pub form : Option NameOrNumber
-  pub queue : Option (List ℕ)
-  pub restart : Option Bool
-  pub retain : Option JobRetain
-
+-- there is no queue of the name
 abbrev pub refused_queue : System → List ℕ → Option Refusal
 refused_queue s name = refused_where (is_none (queue_named name s.queues)) (NoSuchQueue name)
 
@@ -54,6 +41,7 @@ entry_change_refusal s change e = first_refusal
     ∷ option_and_then (refused_characteristics s.characteristics) change.characteristics
     ∷ [])
 
+-- why the entry of a number can't be changed so
 abbrev pub set_entry_refusal : System → ℕ → EntryChange → Option Refusal
 set_entry_refusal s number change = first_refusal
     (refused_where (is_none (entry_numbered number s.entries)) (NoSuchEntry number)
@@ -78,14 +66,20 @@ with_fields s change e = record e {
 abbrev pub in_new_state : ℕ → Entry → Entry
 in_new_state now e = record e { state = state_of e.held e.after now }
 
+-- the entry as it is after the change
 abbrev pub changed_entry : System → ℕ → EntryChange → Entry → Entry
 changed_entry s now change e = in_new_state now (with_fields s change e)
 
-abbrev pub entry_set : System → ℕ → ℕ → EntryChange → Accepted
-entry_set s now number change = replied
-    (record s { entries = with_entry number (λ e. Some (changed_entry s now change e)) s.entries })
-    (EntryIs number (option_map_or (λ e. (changed_entry s now change e).state) (entry_numbered number s.entries) Pending))
+-- the entry as it is now, in its place
+abbrev pub entry_set_to : System → ℕ → Entry → Accepted
+entry_set_to s number new = replied (record s { entries = with_entry number (λ e. Some new) s.entries }) (EntryIs number new.state)
 
+-- the entry of the number is changed, unless it has just gone
+abbrev pub entry_set : System → ℕ → ℕ → EntryChange → Accepted
+entry_set s now number change =
+    option_map_or (λ e. entry_set_to s number (changed_entry s now change e)) (entry_numbered number s.entries) (replied s (EntryIs number Pending))
+
+-- an entry is deleted that is there
 abbrev pub delete_entry_refusal : System → ℕ → Option Refusal
 delete_entry_refusal s number = refused_where (is_none (entry_numbered number s.entries)) (NoSuchEntry number)
 

@@ -16,9 +16,11 @@ use Rattle.qm_model.specs.Replying.{replied}
 abbrev pub filling : ℕ → List ℕ
 filling lines = repeat lines (replicate 63 120 ++ 10 ∷ [])
 
+-- why a file can't be filled: as for other bytes
 abbrev pub fill_refusal : System → FileName → ℕ → Option Refusal
 fill_refusal s name lines = append_refusal s name (filling lines)
 
+-- the lines stand behind the bytes that the file has
 abbrev pub filled : System → FileName → ℕ → Accepted
 filled s name lines = appended s name (filling lines)
 
@@ -29,5 +31,6 @@ drop_refusal s name = first_refusal
     ∷ refused_as_named name s.entries
     ∷ [])
 
+-- the file of the name goes
 abbrev pub dropped : System → FileName → Accepted
 dropped s name = replied (record s { files = filter (λ f. not (same_file_name f.name name)) s.files }) (Dropped name)

@@ -1,4 +1,6 @@
 -- The system of a new site of one node.
+-- OpenVMS System Manager's Manual, Managing the Queue Manager and Queue Database, on creating a queue database; Setting Up and
+-- Maintaining Queues, on the form DEFAULT and the queue SYS$BATCH.
 use Rattle.std.specs.Prelude.{ℕ, true, false, List, [], ◌∷◌, None, Some}
 use Rattle.qm_kinds.specs.declared.queue.Queue.{Queue}
 use Rattle.qm_kinds.specs.declared.queue.QueueKind.TheVariants.{Batch}
@@ -6,7 +8,7 @@ use Rattle.qm_kinds.specs.declared.queue.QueueState.TheVariants.{Stopped}
 use Rattle.qm_kinds.specs.declared.queue.QueueRetain.TheVariants.{Nothing}
 use Rattle.qm_kinds.specs.declared.form.Form.{Form}
 use Rattle.qm_kinds.specs.declared.system.System.{System}
-use Rattle.qm_model.specs.Names.{default_form, batch_queue}
+use Rattle.qm_kinds.specs.Names.{default_form, batch_queue}
 
 -- the form that is always there: 66 lines of 132 columns, six lines at the bottom left free, and what is longer is cut
 abbrev pub first_form : Form

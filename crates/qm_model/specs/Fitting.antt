@@ -10,14 +10,12 @@ use Rattle.qm_kinds.specs.declared.queue.Queue.{Queue}
 use Rattle.qm_kinds.specs.declared.queue.QueueState.{QueueState}
 use Rattle.qm_kinds.specs.declared.queue.QueueState.TheVariants.{Stopped, Started, Paused, Stopping}
 use Rattle.qm_kinds.specs.declared.entry.Entry.{Entry}
-use Rattle.qm_kinds.specs.declared.entry.EntryState.{EntryState}
-use Rattle.qm_kinds.specs.declared.entry.EntryState.TheVariants as entry
 use Rattle.qm_kinds.specs.declared.request.NameOrNumber.TheVariants.{Name}
 use Rattle.qm_kinds.specs.declared.system.Node.{Node}
 use Rattle.qm_kinds.specs.declared.system.System.{System}
 use Rattle.qm_model.specs.Find.{form_wanted, queue_named}
-use Rattle.qm_model.specs.Consistent.{is_generic, job_kind}
-use Rattle.qm_model.specs.Submitting.{is_print, is_same_kind}
+use Rattle.qm_model.specs.Kinds.{is_generic, job_kind, is_print, is_same_kind}
+use Rattle.qm_model.specs.JobStates.{is_pending}
 
 -- why a queue can't start a job
 pub data Misfit : Type 0 where
@@ -29,14 +27,7 @@ pub data Misfit : Type 0 where
   OtherStock : Misfit
   OutsideSizes : Misfit
 
-abbrev pub is_pending : EntryState → Bool
-is_pending entry.Pending = true
-is_pending entry.Holding = false
-is_pending (entry.Timed at) = false
-is_pending (entry.Running queue node run) = false
-is_pending (entry.Aborting queue node run fate) = false
-is_pending (entry.Retained status until) = false
-
+-- the queue starts jobs
 abbrev pub is_started : QueueState → Bool
 is_started Stopped = false
 is_started Started = true
@@ -72,6 +63,7 @@ has_characteristics e q = bit_and e.characteristics.0 q.characteristics.0 == e.c
 abbrev pub stock_of : List Form → Option (List ℕ) → Option (List ℕ)
 stock_of forms form = option_and_then (λ name. option_map (λ f. f.stock) (form_wanted (Name name) forms)) form
 
+-- both stocks are there and the same
 abbrev pub is_same_stock : Option (List ℕ) → Option (List ℕ) → Bool
 is_same_stock None b = false
 is_same_stock (Some a) None = false

@@ -11,7 +11,7 @@ use Rattle.qm_kinds.specs.declared.refusal.Refusal.TheVariants.{BadValue, Duplic
 use Rattle.qm_kinds.specs.declared.reply.Act.TheVariants.{FormDefined, FormDeleted}
 use Rattle.qm_kinds.specs.declared.request.NameOrNumber.TheVariants.{Name, Number}
 use Rattle.qm_kinds.specs.declared.system.System.{System}
-use Rattle.qm_model.specs.Names.{default_form}
+use Rattle.qm_kinds.specs.Names.{default_form}
 use Rattle.qm_model.specs.Find.{form_wanted}
 use Rattle.qm_model.specs.Outcome.{Accepted, refused_where, first_refusal}
 use Rattle.qm_model.specs.Referring.{refused_by_queue, refused_by_entry}
@@ -23,18 +23,22 @@ abbrev pub is_bad_form : Form → Bool
 is_bad_form f =
     nat_le f.shape.length (f.shape.top + f.shape.bottom) || nat_le f.shape.width (f.shape.left + f.shape.right) || nat_lt 999 f.number
 
+-- a form has the name or the number
 abbrev pub is_form_taken : List Form → Form → Bool
 is_form_taken forms f = is_some (form_wanted (Name f.name) forms) || is_some (form_wanted (Number f.number) forms)
 
+-- why a form can't be defined
 abbrev pub define_form_refusal : System → Form → Option Refusal
 define_form_refusal s form = first_refusal
     (refused_where (is_bad_form form) BadValue
     ∷ refused_where (is_form_taken s.forms form) DuplicateForm
     ∷ [])
 
+-- one more form
 abbrev pub form_defined : System → Form → Accepted
 form_defined s form = replied (record s { forms = with_form form s.forms }) (FormDefined form.name)
 
+-- the form is the one of the name
 abbrev pub is_named : List ℕ → Option (List ℕ) → Bool
 is_named name form = option_map_or (bytes_eq name) form false
 
@@ -47,5 +51,6 @@ delete_form_refusal s name = first_refusal
     ∷ refused_by_entry (λ e. is_named name e.form) s.entries
     ∷ [])
 
+-- the form of the name goes
 abbrev pub form_deleted : System → List ℕ → Accepted
 form_deleted s name = replied (record s { forms = filter (λ f. not (bytes_eq f.name name)) s.forms }) (FormDeleted name)

@@ -8,8 +8,8 @@ use Rattle.std.specs.Prelude.{ℕ, ◌≡◌, ◌<◌, length, map, filter, IfSo
 use Rattle.qm_kinds.specs.declared.request.Request.{Request}
 use Rattle.qm_kinds.specs.declared.request.Request.TheVariants.{Append, Fill, Drop, DefineForm, DeleteForm, DefineCharacteristic, DeleteCharacteristic, InitializeQueue, SetQueue, StartQueue, StopQueue, AbortJob, DeleteQueue, Merge, Submit, SetEntry, DeleteEntry, Mark, Done, Tick, NodeUp, NodeLost, Took}
 use Rattle.qm_kinds.specs.declared.system.System.{System}
-use Rattle.qm_model.specs.Consistent.{IsShort, IsLabel}
-use Rattle.qm_model.specs.Losing.{is_among}
+use Rattle.qm_model.specs.Consistent.{IsShort, IsDefinable}
+use Rattle.qm_model.specs.Find.{is_among}
 
 -- Whatever is new has a name that can stand, a queue comes from a node of the cluster, and the nodes that may be manager
 -- stand in the cluster's order.
@@ -17,19 +17,19 @@ abbrev pub IsLawful : System → ℕ → Request → Type 0
 IsLawful s node (Append file bytes) = Unit {0}
 IsLawful s node (Fill file lines) = Unit {0}
 IsLawful s node (Drop file) = Unit {0}
-IsLawful s node (DefineForm name number stock shape) = IsLabel name × IsShort stock
+IsLawful s node (DefineForm form) = IsDefinable form.name × IsShort form.stock
 IsLawful s node (DeleteForm name) = Unit {0}
-IsLawful s node (DefineCharacteristic name number) = IsLabel name
+IsLawful s node (DefineCharacteristic characteristic) = IsDefinable characteristic.name
 IsLawful s node (DeleteCharacteristic name) = Unit {0}
-IsLawful s node (InitializeQueue name kind on device targets change start) = IsShort name × IfSome device IsShort × (node < length s.nodes)
+IsLawful s node (InitializeQueue new) = IsShort new.name × IfSome new.device IsShort × (node < length s.nodes)
 IsLawful s node (SetQueue name change) = Unit {0}
 IsLawful s node (StartQueue name change) = Unit {0}
 IsLawful s node (StopQueue name how) = Unit {0}
 IsLawful s node (AbortJob queue entry requeue) = Unit {0}
 IsLawful s node (DeleteQueue name) = Unit {0}
 IsLawful s node (Merge to from) = Unit {0}
-IsLawful s node (Submit user kind queue file name priority after hold retain restart characteristics form copies flag) = Unit {0}
-IsLawful s node (SetEntry entry release hold after priority name characteristics form queue restart retain) = Unit {0}
+IsLawful s node (Submit job) = Unit {0}
+IsLawful s node (SetEntry entry change) = Unit {0}
 IsLawful s node (DeleteEntry entry) = Unit {0}
 IsLawful s node (Mark run value) = Unit {0}
 IsLawful s node (Done run status) = Unit {0}

@@ -1,9 +1,7 @@
 -- What the loss of nodes does to the jobs that run there.
 -- OpenVMS System Manager's Manual, Setting Up and Maintaining Queues, on jobs that restart; DCL Dictionary, SUBMIT and PRINT, /RESTART.
 -- This site's own: that a queue keeps its state when its node is lost.
-use Rattle.std.specs.Prelude.{ℕ, Bool, not, ◌&&◌, if◌then◌else◌, List, map, filter_map, Option, Some}
-use Rattle.std.specs.List.{list_any}
-use Rattle.std.specs.Str.{bytes_eq}
+use Rattle.std.specs.Prelude.{ℕ, not, ◌&&◌, if◌then◌else◌, List, map, filter_map, Option, Some}
 use Rattle.qm_kinds.specs.declared.entry.Entry.{Entry}
 use Rattle.qm_kinds.specs.declared.entry.EntryState.{EntryState}
 use Rattle.qm_kinds.specs.declared.entry.EntryState.TheVariants.{Pending, Holding, Timed, Running, Aborting, Retained}
@@ -11,9 +9,7 @@ use Rattle.qm_kinds.specs.declared.queue.Queue.{Queue}
 use Rattle.qm_kinds.specs.declared.system.Node.{Node}
 use Rattle.qm_kinds.specs.declared.system.System.{System}
 use Rattle.qm_model.specs.Ending.{node_lost_status, ended, requeued, fated}
-
-abbrev pub is_among : List (List ℕ) → List ℕ → Bool
-is_among names name = list_any (bytes_eq name) names
+use Rattle.qm_model.specs.Find.{is_among}
 
 -- a job that may restart goes back into its queue, and another one ends
 abbrev pub interrupted : List Queue → ℕ → Entry → Option Entry
@@ -28,6 +24,7 @@ after_loss queues now lost (Running queue node run) e = if is_among lost node th
 after_loss queues now lost (Aborting queue node run fate) e = if is_among lost node then fated queues now fate e else Some e
 after_loss queues now lost (Retained status until) e = Some e
 
+-- the node is down, if it is one of these
 abbrev pub without_node : List (List ℕ) → Node → Node
 without_node lost n = record n { up = n.up && not (is_among lost n.name) }
 

@@ -1,4 +1,6 @@
 -- What comes of a request: a refusal, or a system and a reply.
+-- OpenVMS System Services Reference Manual, $SNDJBC, on condition values and on what a request returns.
+-- This site's own: a refused request changes nothing, and of several refusals that hold the first is told.
 use Rattle.std.specs.Prelude.{Bool, if◌then◌else◌, List, [], ◌∷◌, Option, None, Some, Result, Ok, Err}
 use Rattle.qm_kinds.specs.declared.refusal.Refusal.{Refusal}
 use Rattle.qm_kinds.specs.declared.reply.Reply.{Reply}

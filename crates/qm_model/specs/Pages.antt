@@ -3,7 +3,7 @@
 use Rattle.std.specs.Prelude.{ℕ, ◌+◌, ◌-◌, ◌*◌, ◌/◌, ◌==◌, if◌then◌else◌, List, [], ◌∷◌, ◌++◌, length, map, flat_map, take, drop, replicate, codes, decimal}
 use Rattle.std.specs.List.{slice_split, range_with_len, repeat}
 use Rattle.qm_kinds.specs.declared.form.Shape.{Shape}
-use Rattle.qm_model.specs.Work.{Work}
+use Rattle.qm_kinds.specs.declared.work.Work.{Work}
 
 -- without the last part, where that is empty
 abbrev pub without_empty_end : List (List ℕ) → List (List ℕ)
@@ -16,24 +16,27 @@ without_empty_end (part ∷ next ∷ parts) = part ∷ without_empty_end (next �
 abbrev pub parts_ended_by : ℕ → List ℕ → List (List ℕ)
 parts_ended_by ender text = without_empty_end (slice_split (λ b. b == ender) text)
 
--- a form feed ends a section, and a line feed a line
+-- the sections of a text, each without its form feed
 abbrev pub sections : List ℕ → List (List ℕ)
 sections text = parts_ended_by 12 text
 
+-- the lines of a section, each without its line feed
 abbrev pub lines : List ℕ → List (List ℕ)
 lines section = parts_ended_by 10 section
 
--- pieces of so many elements each, of which the last may be shorter
+-- one of the pieces of so many elements each, of which the last may be shorter
 abbrev pub piece : {X : Type 0} → ℕ → List X → ℕ → List X
 piece size xs i = take size (drop (i * size) xs)
 
+-- the pieces of a list, one after the other
 abbrev pub pieces : {X : Type 0} → ℕ → List X → List (List X)
 pieces size xs = map (piece size xs) (range_with_len 0 ((length xs + size - 1) / size))
 
--- the columns between the margins, and the lines between them
+-- the columns between the margins
 abbrev pub columns : Shape → ℕ
 columns shape = shape.width - shape.left - shape.right
 
+-- the lines between the margins
 abbrev pub rows : Shape → ℕ
 rows shape = shape.length - shape.top - shape.bottom
 
@@ -67,6 +70,7 @@ text_blocks shape text = map (page_block shape) (flat_map (section_pages shape) 
 abbrev pub flag_block : Work → List ℕ
 flag_block w = codes "ENTRY " ++ decimal w.entry ++ codes " JOB " ++ w.name ++ codes " USER " ++ w.user ++ 10 ∷ 12 ∷ []
 
+-- the flag page, where the job asks for one
 abbrev pub flag_blocks : Work → List (List ℕ)
 flag_blocks w = if w.flag then flag_block w ∷ [] else []
 

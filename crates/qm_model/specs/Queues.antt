@@ -14,29 +14,20 @@ use Rattle.qm_kinds.specs.declared.queue.QueueRetain.TheVariants.{Nothing}
 use Rattle.qm_kinds.specs.declared.refusal.Refusal.{Refusal}
 use Rattle.qm_kinds.specs.declared.refusal.Refusal.TheVariants.{NoSuchQueue, BadValue, DuplicateQueue, QueueNotStopped, QueuesFull, NoSuchNode, GenericTarget}
 use Rattle.qm_kinds.specs.declared.reply.Act.TheVariants.{QueueDeleted}
+use Rattle.qm_kinds.specs.declared.queue.NewQueue.{NewQueue}
 use Rattle.qm_kinds.specs.declared.system.System.{System}
-use Rattle.qm_model.specs.Names.{default_form}
+use Rattle.qm_kinds.specs.Names.{default_form}
 use Rattle.qm_model.specs.Find.{queue_named}
-use Rattle.qm_model.specs.Consistent.{is_generic, job_kind}
+use Rattle.qm_model.specs.Kinds.{is_generic, job_kind, is_same_kind, is_print_queue, is_same_queue_kind}
 use Rattle.qm_model.specs.Outcome.{Accepted, refused_where, first_refusal}
-use Rattle.qm_model.specs.Submitting.{is_same_kind}
-use Rattle.qm_model.specs.Standing.{is_executing, is_run_in, with_queue}
+use Rattle.qm_model.specs.Standing.{is_executing, occupies, with_queue}
 use Rattle.qm_model.specs.States.{state_on_start, is_stopped}
 use Rattle.qm_model.specs.Referring.{refused_by_queue, refused_by_entry}
 use Rattle.qm_model.specs.Inserting.{with_new_queue}
-use Rattle.qm_model.specs.Settings.{is_bad_change, is_print_queue, change_refusal, with_change}
+use Rattle.qm_model.specs.Settings.{is_bad_change, change_refusal, with_change}
 use Rattle.qm_model.specs.Replying.{replied, replied_with_queue}
 
--- a queue as INITIALIZE/QUEUE describes it
-pub record NewQueue : Type 0 where
-  pub name : List ℕ
-  pub kind : QueueKind
-  pub node : Option (List ℕ)
-  pub device : Option (List ℕ)
-  pub targets : List (List ℕ)
-  pub change : QueueChange
-  pub start : Bool
-
+-- a name stands twice
 abbrev pub has_repeats : List (List ℕ) → Bool
 has_repeats [] = false
 has_repeats (name ∷ names) = list_any (bytes_eq name) names || has_repeats names
@@ -48,9 +39,7 @@ is_misplaced new =
     then nat_lt (length new.targets) 1 || has_repeats new.targets || nat_lt 32 (length new.targets) || is_some new.node || is_some new.device
     else nat_lt 0 (length new.targets)
 
-abbrev pub is_same_queue_kind : QueueKind → QueueKind → Bool
-is_same_queue_kind a b = is_same_kind (job_kind a) (job_kind b) && (if is_generic a then is_generic b else not (is_generic b))
-
+-- the queue isn't stopped
 abbrev pub refused_unless_stopped : Queue → Option Refusal
 refused_unless_stopped q = refused_where (not (is_stopped q.state)) (QueueNotStopped q.state)
 
@@ -67,6 +56,7 @@ is_target s kind name =
 abbrev pub refused_targets : System → NewQueue → Option Refusal
 refused_targets s new = option_map (λ name. GenericTarget name) (find (λ name. not (is_target s new.kind name)) new.targets)
 
+-- why a queue can't be initialized so
 abbrev pub initialize_refusal : System → NewQueue → Option Refusal
 initialize_refusal s new =
     let old = queue_named new.name s.queues in
@@ -99,6 +89,7 @@ plain_queue node new = record {
   targets = new.targets;
 }
 
+-- the queue of the name goes
 abbrev pub without_queue : List ℕ → List Queue → List Queue
 without_queue name queues = filter (λ q. not (bytes_eq q.name name)) queues
 
@@ -116,20 +107,24 @@ set_queue_refusal s name change = first_refusal
     ∷ option_and_then (λ q. change_refusal s q.kind change) (queue_named name s.queues)
     ∷ [])
 
+-- the settings that are given are set
 abbrev pub queue_set : System → List ℕ → QueueChange → Accepted
 queue_set s name change = replied_with_queue (record s { queues = with_queue name (with_change s change) s.queues }) name
 
+-- the queue after START/QUEUE
 abbrev pub started_queue : Queue → Queue
 started_queue q = record q { state = state_on_start q.state }
 
+-- the settings that are given are set, and the queue is started
 abbrev pub queue_started : System → List ℕ → QueueChange → Accepted
 queue_started s name change =
     replied_with_queue (record s { queues = with_queue name (λ q. started_queue (with_change s change q)) s.queues }) name
 
 -- the entry has a run, and runs in the queue or has it as its home
 abbrev pub runs_for : List ℕ → Entry → Bool
-runs_for name e = is_executing e && (is_run_in name e || bytes_eq e.home name)
+runs_for name e = is_executing e && (occupies name e || bytes_eq e.home name)
 
+-- why a queue can't be deleted
 abbrev pub delete_queue_refusal : System → List ℕ → Option Refusal
 delete_queue_refusal s name = first_refusal
     (refused_where (is_none (queue_named name s.queues)) (NoSuchQueue name)

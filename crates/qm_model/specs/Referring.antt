@@ -5,9 +5,9 @@ use Rattle.std.specs.Prelude.{Bool, List, find, Option}
 use Rattle.std.specs.Option.{option_map}
 use Rattle.qm_kinds.specs.declared.entry.Entry.{Entry}
 use Rattle.qm_kinds.specs.declared.queue.Queue.{Queue}
-use Rattle.qm_kinds.specs.declared.refusal.Holder.TheVariants as holder
 use Rattle.qm_kinds.specs.declared.refusal.Refusal.{Refusal}
 use Rattle.qm_kinds.specs.declared.refusal.Refusal.TheVariants.{Referenced}
+use Rattle.qm_kinds.specs.declared.refusal.Holder.TheVariants as holder
 
 -- the first queue by name that names it
 abbrev pub refused_by_queue : (Queue → Bool) → List Queue → Option Refusal

@@ -11,9 +11,11 @@ use Rattle.qm_model.specs.Find.{queue_named}
 use Rattle.qm_model.specs.Outcome.{Accepted}
 use Rattle.qm_model.specs.States.{stopped_when_idle}
 
+-- the system, with this reply and no job started
 abbrev pub replied : System → Act → Accepted
 replied s act = record { system = s; reply = record { act = act; started = [] } }
 
+-- the state of the queue of a name
 abbrev pub state_of_queue : List ℕ → System → QueueState
 state_of_queue name s = option_map_or (λ q. q.state) (queue_named name s.queues) Stopped
 

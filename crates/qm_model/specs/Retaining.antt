@@ -3,9 +3,9 @@
 -- This site's own: the table of retention.
 use Rattle.std.specs.Prelude.{ℕ, nat_lt, Bool, true, false, not, Option, None, Some}
 use Rattle.qm_kinds.specs.declared.entry.JobRetain.{JobRetain}
-use Rattle.qm_kinds.specs.declared.entry.JobRetain.TheVariants as job
 use Rattle.qm_kinds.specs.declared.queue.QueueRetain.{QueueRetain}
 use Rattle.qm_kinds.specs.declared.queue.QueueRetain.TheVariants.{Nothing, Failed, All}
+use Rattle.qm_kinds.specs.declared.entry.JobRetain.TheVariants as job
 
 -- the job's own setting, the setting of the queue where it ran, whether it went well, and the moment
 abbrev pub is_retained : JobRetain → QueueRetain → Bool → ℕ → Bool

@@ -10,16 +10,16 @@ use Rattle.qm_kinds.specs.declared.queue.Queue.{Queue}
 use Rattle.qm_kinds.specs.declared.queue.QueueKind.{QueueKind}
 use Rattle.qm_kinds.specs.declared.queue.QueueKind.TheVariants.{Batch, Print, GenericBatch, GenericPrint}
 use Rattle.qm_kinds.specs.declared.query.After.{After}
-use Rattle.qm_kinds.specs.declared.query.After.TheVariants as after
 use Rattle.qm_kinds.specs.declared.query.Kinds.{Kinds}
 use Rattle.qm_kinds.specs.declared.query.Listing.{Listing}
 use Rattle.qm_kinds.specs.declared.query.Listing.TheVariants.{Queues, Jobs, Entries, Forms, Characteristics, Manager, Cancel}
 use Rattle.qm_kinds.specs.declared.query.Query.{Query}
 use Rattle.qm_kinds.specs.declared.query.Row.{Row}
-use Rattle.qm_kinds.specs.declared.query.Row.TheVariants as row
 use Rattle.qm_kinds.specs.declared.refusal.Refusal.{Refusal}
 use Rattle.qm_kinds.specs.declared.refusal.Refusal.TheVariants.{NoContext, NoMore}
 use Rattle.qm_kinds.specs.declared.system.System.{System}
+use Rattle.qm_kinds.specs.declared.query.After.TheVariants as after
+use Rattle.qm_kinds.specs.declared.query.Row.TheVariants as row
 use Rattle.qm_model.specs.Find.{name_cmp, entry_numbered}
 use Rattle.qm_model.specs.Listing.{entry_row}
 use Rattle.qm_model.specs.Standing.{stands_in}
@@ -29,6 +29,7 @@ pub record ManagerRole : Type 0 where
   pub node : List ℕ
   pub epoch : ℕ
 
+-- queues of the kind are listed
 abbrev pub is_kind_listed : Kinds → QueueKind → Bool
 is_kind_listed kinds Batch = kinds.batch
 is_kind_listed kinds Print = kinds.print
@@ -39,6 +40,7 @@ is_kind_listed kinds GenericPrint = kinds.generic_print
 abbrev pub is_of_user : Option (List ℕ) → Entry → Bool
 is_of_user user e = option_map_or (bytes_eq e.user) user true
 
+-- the entry stands in the queue
 abbrev pub stands_there : List ℕ → Entry → Bool
 stands_there queue e = bytes_eq (stands_in e) queue
 
@@ -96,6 +98,7 @@ is_past (after.Number number) (row.Manager node epoch may) = false
 abbrev pub next_row : Option After → List Row → Option Row
 next_row last rows = find (λ r. option_map_or (λ a. is_past a r) last true) rows
 
+-- the row, or the end of the listing
 abbrev pub one_row : Listing → Option Row → Result (List Row) Refusal
 one_row listing None = Err (NoMore listing)
 one_row listing (Some r) = Ok (r ∷ [])
@@ -114,9 +117,11 @@ abbrev pub rows_of_entries : System → Query → Option ℕ → Result (List Ro
 rows_of_entries s q None = rows_listed s q
 rows_of_entries s q (Some number) = entry_row number (entry_numbered number s.entries)
 
+-- the row of the queue manager
 abbrev pub manager_row : System → ManagerRole → Row
 manager_row s m = row.Manager m.node m.epoch s.may
 
+-- the rows of a listing of a kind
 abbrev pub rows_in : System → Option ManagerRole → Query → Listing → Result (List Row) Refusal
 rows_in s manager q Queues = rows_listed s q
 rows_in s manager q Jobs = rows_of_jobs s q q.queue

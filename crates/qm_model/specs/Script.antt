@@ -1,4 +1,5 @@
 -- A script: lines for the nodes of a site.
+-- This site's own: the form of a script. OpenVMS User's Manual, on command procedures, for the `$` in front of a command.
 use Rattle.std.specs.Prelude.{ℕ, nat_eq, ◌==◌, ◌+◌, nat_lt, nat_le, Bool, ◌&&◌, not, if◌then◌else◌, List, [], ◌∷◌, ◌++◌, length, Option, None, Some, Result, Err, codes, ok_or}
 use Rattle.std.specs.List.{list_all, slice_split, ends_with}
 use Rattle.std.specs.Option.{option_map, option_and_then}
@@ -7,11 +8,12 @@ use Rattle.qm_kinds.specs.Files.{name_of, file_name_of}
 use Rattle.qm_kinds.specs.declared.file.FileName.{FileName}
 use Rattle.qm_kinds.specs.declared.input.Input.{Input}
 use Rattle.qm_kinds.specs.declared.input.Input.TheVariants.{Ask, Fault}
-use Rattle.qm_kinds.specs.declared.refusal.ParseKind.TheVariants as parse
 use Rattle.qm_kinds.specs.declared.request.Request.TheVariants.{Append}
+use Rattle.qm_kinds.specs.declared.name.TheConstants.{NODE_NAME_BYTES}
 use Rattle.qm_kinds.specs.declared.script.ScriptKind.{ScriptKind}
 use Rattle.qm_kinds.specs.declared.script.ScriptKind.TheVariants.{Form, Long}
-use Rattle.qm_model.specs.Names.{system_user}
+use Rattle.qm_kinds.specs.Names.{system_user}
+use Rattle.qm_kinds.specs.declared.refusal.ParseKind.TheVariants as parse
 use Rattle.qm_model.specs.Command.{command_of, cut_at_blank}
 
 -- a command, or an act at the site
@@ -26,6 +28,7 @@ pub record ScriptLine : Type 0 where
   pub sort : Sort
   pub text : List ℕ
 
+-- a byte that can be printed, or a blank
 abbrev pub is_line_byte : ℕ → Bool
 is_line_byte b = nat_le 32 b && nat_le b 126
 
@@ -38,9 +41,9 @@ sorted number node (mark ∷ blank ∷ text) =
     if mark == 33 then Some (record { number = number; node = node; sort = Site; text = text }) else
     if mark == 36 && not (ends_with nat_eq text (45 ∷ [])) then Some (record { number = number; node = node; sort = Command; text = text }) else None
 
--- a name of a node has at most six bytes
+-- a name that a node can have
 abbrev pub node_name_of : List ℕ → Option (List ℕ)
-node_name_of text = option_and_then (λ name. if nat_le (length name) 6 then Some name else None) (name_of text)
+node_name_of text = option_and_then (λ name. if nat_le (length name) NODE_NAME_BYTES then Some name else None) (name_of text)
 
 -- the node, a blank, and the rest
 abbrev pub line_of : ℕ → List ℕ → Option ScriptLine
@@ -81,6 +84,7 @@ abbrev pub act_from : List ℕ → Option (List ℕ × List ℕ) → Input
 act_from text None = if bytes_eq text (codes "LINE") then Fault 0 parse.Form else Fault 0 parse.NotBuilt
 act_from text (Some parts) = if bytes_eq parts.0 (codes "LINE") then line_act (cut_at_blank parts.1) else Fault 0 parse.NotBuilt
 
+-- what the text of an act asks for
 abbrev pub act_of : List ℕ → Input
 act_of text = act_from text (cut_at_blank text)
 

@@ -1,21 +1,16 @@
 -- The settings of a queue, and which can be given to which kind of queue.
 -- DCL Dictionary, INITIALIZE/QUEUE, SET QUEUE and START/QUEUE, on their qualifiers.
-use Rattle.std.specs.Prelude.{ℕ, ◌==◌, nat_lt, Bool, true, false, not, ◌&&◌, ◌||◌, is_some, List, [], ◌∷◌, unwrap_or, Option}
-use Rattle.std.specs.Option.{option_map, option_map_or, option_and_then, option_or}
-use Rattle.qm_kinds.specs.declared.form.Form.{Form}
-use Rattle.qm_kinds.specs.declared.form.CharacteristicSet.{CharacteristicSet}
+use Rattle.std.specs.Prelude.{ℕ, ◌==◌, nat_lt, Bool, false, not, ◌&&◌, ◌||◌, is_some, [], ◌∷◌, unwrap_or, Option}
+use Rattle.std.specs.Option.{option_map_or, option_and_then, option_or}
 use Rattle.qm_kinds.specs.declared.queue.Queue.{Queue}
 use Rattle.qm_kinds.specs.declared.queue.QueueChange.{QueueChange}
 use Rattle.qm_kinds.specs.declared.queue.QueueKind.{QueueKind}
-use Rattle.qm_kinds.specs.declared.queue.QueueKind.TheVariants.{Batch, Print, GenericBatch, GenericPrint}
 use Rattle.qm_kinds.specs.declared.refusal.Refusal.{Refusal}
 use Rattle.qm_kinds.specs.declared.refusal.Refusal.TheVariants.{WrongKind}
-use Rattle.qm_kinds.specs.declared.request.NameOrNumber.{NameOrNumber}
 use Rattle.qm_kinds.specs.declared.system.System.{System}
-use Rattle.qm_model.specs.Find.{form_wanted}
-use Rattle.qm_model.specs.Consistent.{is_generic}
+use Rattle.qm_model.specs.Kinds.{is_generic, is_batch_queue, is_print_queue}
 use Rattle.qm_model.specs.Outcome.{refused_where, first_refusal}
-use Rattle.qm_model.specs.Submitting.{refused_form, refused_characteristics, set_of}
+use Rattle.qm_model.specs.Wanted.{refused_form, refused_characteristics, characteristics_of, form_named}
 
 -- the least size is 0 or above the greatest
 abbrev pub are_bad_sizes : ℕ × ℕ → Bool
@@ -24,18 +19,6 @@ are_bad_sizes sizes = sizes.0 == 0 || nat_lt sizes.1 sizes.0
 -- no job may run, or the sizes are bad
 abbrev pub is_bad_change : QueueChange → Bool
 is_bad_change change = option_map_or (λ limit. limit == 0) change.limit false || option_map_or are_bad_sizes change.blocks false
-
-abbrev pub is_batch_queue : QueueKind → Bool
-is_batch_queue Batch = true
-is_batch_queue Print = false
-is_batch_queue GenericBatch = false
-is_batch_queue GenericPrint = false
-
-abbrev pub is_print_queue : QueueKind → Bool
-is_print_queue Batch = false
-is_print_queue Print = true
-is_print_queue GenericBatch = false
-is_print_queue GenericPrint = false
 
 -- Only a batch queue has a job limit, only a print queue has a form, sizes and an order by size, and no generic queue has characteristics.
 abbrev pub is_change_of_other_kind : QueueKind → QueueChange → Bool
@@ -51,13 +34,6 @@ change_refusal s kind change = first_refusal
     ∷ option_and_then (refused_form s) change.form
     ∷ option_and_then (refused_characteristics s.characteristics) change.characteristics
     ∷ [])
-
--- the name of the form, if it is defined
-abbrev pub form_named : List Form → NameOrNumber → Option (List ℕ)
-form_named forms wanted = option_map (λ f. f.name) (form_wanted wanted forms)
-
-abbrev pub characteristics_of : System → List NameOrNumber → CharacteristicSet
-characteristics_of s wanted = record { 0 = set_of s.characteristics wanted }
 
 -- what is given is set, and the rest stays
 abbrev pub with_change : System → QueueChange → Queue → Queue

@@ -45,15 +45,17 @@ next_choice s =
     if has_run_numbers s then option_and_then (λ q. option_map (λ e. record { entry = e; queue = q }) (next_job s q)) (next_queue s) else None
 
 -- the job runs, in the queue and on its node, under the next run number
-abbrev pub run_in : ℕ → Queue → Entry → Entry
-run_in run q e = record e { state = Running q.name (unwrap_or q.node []) run }
+abbrev pub made_running : ℕ → Queue → Entry → Entry
+made_running run q e = record e { state = Running q.name (unwrap_or q.node []) run }
 
+-- the system after the start: the job runs, and its run number is taken
 abbrev pub after_start : System → Choice → System
 after_start s c = record s {
-  entries = with_entry c.entry.number (λ e. Some (run_in s.next_run c.queue e)) s.entries;
+  entries = with_entry c.entry.number (λ e. Some (made_running s.next_run c.queue e)) s.entries;
   next_run = s.next_run + 1;
 }
 
+-- what is told of the start
 abbrev pub start_of : System → Choice → Start
 start_of s c = record { entry = c.entry.number; name = c.entry.name; home = c.entry.home; queue = c.queue.name; run = s.next_run }
 

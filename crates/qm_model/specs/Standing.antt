@@ -7,15 +7,15 @@ use Rattle.std.specs.Str.{bytes_eq}
 use Rattle.qm_kinds.specs.declared.entry.Entry.{Entry}
 use Rattle.qm_kinds.specs.declared.queue.Queue.{Queue}
 use Rattle.qm_kinds.specs.declared.system.Node.{Node}
-use Rattle.qm_model.specs.Consistent.{runs_in, runs_on, run_of}
+use Rattle.qm_model.specs.JobStates.{runs_in, runs_on, run_of}
 
 -- the queue where an entry runs, while its run lasts, and else its home
 abbrev pub stands_in : Entry → List ℕ
 stands_in e = unwrap_or (runs_in e.state) e.home
 
 -- the entry has a run in this queue, be it aborting or not
-abbrev pub is_run_in : List ℕ → Entry → Bool
-is_run_in queue e = option_map_or (λ name. bytes_eq name queue) (runs_in e.state) false
+abbrev pub occupies : List ℕ → Entry → Bool
+occupies queue e = option_map_or (λ name. bytes_eq name queue) (runs_in e.state) false
 
 -- the entry has a run on this node, be it aborting or not
 abbrev pub is_run_on : List ℕ → Entry → Bool

@@ -1,4 +1,5 @@
 -- What the laws say of the jobs that are started, and of those that aren't.
+-- OpenVMS System Manager's Manual, Setting Up and Maintaining Queues, on how the queue manager starts jobs in execution queues.
 use Rattle.std.specs.Prelude.{◌≡◌, true, false, ℕ, List, ◌∷◌, ◌++◌, Some, All, Contains}
 use Rattle.qm_kinds.specs.declared.entry.Entry.{Entry}
 use Rattle.qm_kinds.specs.declared.entry.EntryState.TheVariants.{Pending, Running}
@@ -25,7 +26,7 @@ as_pending e = record e { state = Pending }
 
 -- a start that leads from one system to another: the job was pending, and is the same afterwards but that it runs, in the
 -- queue of the start, on that queue's node, under the run of the start
-pub record IsStarted (old new : System) (start : Start) : Type 0 where
+pub record WasStarted (old new : System) (start : Start) : Type 0 where
   pub entry : Entry
   pub queue : Queue
   pub node : List ℕ

@@ -10,7 +10,7 @@ use Rattle.qm_kinds.specs.declared.queue.QueueState.TheVariants.{Stopped, Starte
 use Rattle.qm_kinds.specs.declared.request.StopMode.{StopMode}
 use Rattle.qm_kinds.specs.declared.request.StopMode.TheVariants.{Pause, Next, Reset}
 use Rattle.qm_kinds.specs.declared.system.System.{System}
-use Rattle.qm_model.specs.Standing.{is_run_in}
+use Rattle.qm_model.specs.Standing.{occupies}
 
 -- START/QUEUE
 abbrev pub state_on_start : QueueState → QueueState
@@ -31,6 +31,7 @@ state_on_stop Reset Started = Stopped
 state_on_stop Reset Paused = Stopped
 state_on_stop Reset Stopping = Stopped
 
+-- the queue is stopped
 abbrev pub is_stopped : QueueState → Bool
 is_stopped Stopped = true
 is_stopped Started = false
@@ -44,8 +45,10 @@ state_when_idle has_run Started = Started
 state_when_idle has_run Paused = Paused
 state_when_idle has_run Stopping = if has_run then Stopping else Stopped
 
+-- the queue after a request: stopped if it was stopping and has no run
 abbrev pub when_idle : List Entry → Queue → Queue
-when_idle entries q = record q { state = state_when_idle (list_any (is_run_in q.name) entries) q.state }
+when_idle entries q = record q { state = state_when_idle (list_any (occupies q.name) entries) q.state }
 
+-- each queue after a request
 abbrev pub stopped_when_idle : System → System
 stopped_when_idle s = record s { queues = map (when_idle s.entries) s.queues }

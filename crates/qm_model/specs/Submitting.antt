@@ -1,71 +1,32 @@
 -- A job is put into a queue.
-use Rattle.std.specs.Prelude.{ℕ, ◌+◌, ◌==◌, ◌^◌, nat_lt, nat_le, Bool, true, false, not, ◌&&◌, ◌||◌, if◌then◌else◌, List, [], ◌∷◌, ◌++◌, length, fold, Option, None, Some, is_some, is_none, bit_or}
+-- DCL Dictionary, SUBMIT and PRINT; OpenVMS System Services Reference Manual, $SNDJBC, on entering a job.
+-- This site's own: refusals come in this order.
+use Rattle.std.specs.Prelude.{ℕ, ◌+◌, ◌==◌, nat_lt, nat_le, Bool, true, false, not, ◌&&◌, ◌||◌, if◌then◌else◌, List, [], ◌∷◌, ◌++◌, length, Option, None, Some, is_some, is_none}
 use Rattle.std.specs.Option.{option_map, option_map_or, option_and_then}
 use Rattle.qm_kinds.specs.Sizes.{blocks_of}
-use Rattle.qm_kinds.specs.declared.form.Characteristic.{Characteristic}
 use Rattle.qm_kinds.specs.declared.entry.Entry.{Entry}
 use Rattle.qm_kinds.specs.declared.entry.EntryState.{EntryState}
 use Rattle.qm_kinds.specs.declared.entry.EntryState.TheVariants.{Pending, Holding, Timed}
 use Rattle.qm_kinds.specs.declared.entry.JobKind.{JobKind}
 use Rattle.qm_kinds.specs.declared.entry.JobKind.TheVariants.{Batch, Print}
-use Rattle.qm_kinds.specs.declared.entry.JobRetain.{JobRetain}
-use Rattle.qm_kinds.specs.declared.file.FileName.{FileName}
-use Rattle.qm_kinds.specs.declared.queue.Queue.{Queue}
 use Rattle.qm_kinds.specs.declared.refusal.Refusal.{Refusal}
-use Rattle.qm_kinds.specs.declared.refusal.Refusal.TheVariants.{NoSuchQueue, WrongKind, NoSuchFile, BadValue, NoSuchForm, NoSuchCharacteristic, EntriesFull, NumbersSpent}
+use Rattle.qm_kinds.specs.declared.refusal.Refusal.TheVariants.{NoSuchQueue, WrongKind, NoSuchFile, BadValue, EntriesFull, NumbersSpent}
 use Rattle.qm_kinds.specs.declared.reply.Act.TheVariants.{Submitted}
 use Rattle.qm_kinds.specs.declared.request.NameOrNumber.{NameOrNumber}
+use Rattle.qm_kinds.specs.declared.request.Job.{Job}
 use Rattle.qm_kinds.specs.declared.system.System.{System}
-use Rattle.qm_model.specs.Names.{default_form}
-use Rattle.qm_model.specs.Find.{file_named, queue_named, form_wanted, characteristic_wanted}
-use Rattle.qm_model.specs.Consistent.{job_kind}
+use Rattle.qm_kinds.specs.Names.{default_form}
+use Rattle.qm_model.specs.Find.{file_named, queue_named, form_wanted}
 use Rattle.qm_model.specs.Outcome.{Accepted, refused_where, first_refusal}
 use Rattle.qm_model.specs.Appending.{bytes_of}
-
--- what a user asks for
-pub record Job : Type 0 where
-  pub user : List ℕ
-  pub kind : JobKind
-  pub queue : List ℕ
-  pub file : FileName
-  pub name : List ℕ
-  pub priority : ℕ
-  pub after : Option ℕ
-  pub hold : Bool
-  pub retain : JobRetain
-  pub restart : Bool
-  pub characteristics : List NameOrNumber
-  pub form : Option NameOrNumber
-  pub copies : ℕ
-  pub flag : Bool
-
-abbrev pub is_print : JobKind → Bool
-is_print Batch = false
-is_print Print = true
-
-abbrev pub is_same_kind : JobKind → JobKind → Bool
-is_same_kind Batch Batch = true
-is_same_kind Batch Print = false
-is_same_kind Print Batch = false
-is_same_kind Print Print = true
-
--- the queue takes jobs of the other kind
-abbrev pub is_other_kind : JobKind → Queue → Bool
-is_other_kind kind q = not (is_same_kind kind (job_kind q.kind))
+use Rattle.qm_model.specs.Kinds.{is_other_kind, is_print}
+use Rattle.qm_model.specs.Wanted.{refused_characteristics, refused_form, set_of}
 
 -- there is no copy, or a batch job asks for what only print jobs have
 abbrev pub has_bad_value : Job → Bool
 has_bad_value j = j.copies == 0 || (not (is_print j.kind) && (is_some j.form || j.flag || not (j.copies == 1)))
 
-abbrev pub refused_form : System → NameOrNumber → Option Refusal
-refused_form s wanted = refused_where (is_none (form_wanted wanted s.forms)) (NoSuchForm wanted)
-
--- the first characteristic that isn't defined
-abbrev pub refused_characteristics : List Characteristic → List NameOrNumber → Option Refusal
-refused_characteristics defined [] = None
-refused_characteristics defined (wanted ∷ others) =
-    if is_some (characteristic_wanted wanted defined) then refused_characteristics defined others else Some (NoSuchCharacteristic wanted)
-
+-- why a job can't be put into its queue
 abbrev pub submit_refusal : System → Job → Option Refusal
 submit_refusal s j = first_refusal
     (refused_where (is_none (queue_named j.queue s.queues)) (NoSuchQueue j.queue)
@@ -90,14 +51,7 @@ form_of s Batch wanted = None
 form_of s Print None = Some default_form
 form_of s Print (Some wanted) = option_map (λ f. f.name) (form_wanted wanted s.forms)
 
--- the set with one more characteristic
-abbrev pub with_characteristic : ℕ → Option Characteristic → ℕ
-with_characteristic set None = set
-with_characteristic set (Some c) = bit_or set (2 ^ c.number)
-
-abbrev pub set_of : List Characteristic → List NameOrNumber → ℕ
-set_of defined wanted = fold (λ set w. with_characteristic set (characteristic_wanted w defined)) 0 wanted
-
+-- the entry of a job: as it is asked for, under the next number
 abbrev pub entry_of : System → ℕ → Job → Entry
 entry_of s now j = record {
   number = s.next_entry;
@@ -121,6 +75,7 @@ entry_of s now j = record {
   state = state_of j.hold j.after now;
 }
 
+-- one more entry, and the next number rises
 abbrev pub submitted : System → ℕ → Job → Accepted
 submitted s now j =
     let entry = entry_of s now j in

@@ -1,4 +1,6 @@
 -- The rows of the tables of queue states and of retention, as the laws compare them.
+-- DCL Dictionary, START/QUEUE and STOP/QUEUE; PRINT and INITIALIZE/QUEUE, /RETAIN.
+-- This site's own: the tables.
 use Rattle.std.specs.Prelude.{ℕ, Bool, true, false, List, [], ◌∷◌}
 use Rattle.qm_kinds.specs.declared.entry.JobRetain.{JobRetain}
 use Rattle.qm_kinds.specs.declared.queue.QueueRetain.{QueueRetain}

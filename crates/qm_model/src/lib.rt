@@ -3,10 +3,11 @@
 #![tactic(auto)]
 
 ghost use Rattle.std.specs.Prelude.{◌≤◌, ℕ, List, length};
+ghost use Rattle.qm_kinds.specs.declared.name.TheConstants.{NODE_NAME_BYTES};
 ghost use Rattle.qm_model.specs.Consistent.{IsConsistent};
 ghost use Rattle.qm_model.specs.First.{first_system};
 
-mod agreeing;
+mod idle;
 mod listing;
 mod moving;
 mod order;
@@ -16,9 +17,12 @@ mod sound;
 mod standing;
 mod tables;
 
-pub use agreeing::{first_requests_agree, first_requests_leave_quiet};
-pub use listing::one_entry_is_listed;
-pub use moving::requests_move_on;
+pub use idle::{
+    idle_entries_stay_in_place, idle_requests_start_nothing, idle_systems_stay_idle,
+    what_is_not_due_stays,
+};
+pub use listing::{listings_end_by_name, one_entry_is_listed};
+pub use moving::{nodes_keep_their_names, requests_move_on};
 pub use order::{fits_without_a_reason, order_is_strict_and_total};
 pub use reporting::{print_jobs_report_each_block, runs_end_once, runs_go_on_at_marks};
 pub use settle::{
@@ -26,7 +30,7 @@ pub use settle::{
     settling_is_done_once,
 };
 pub use sound::{
-    due_keeps_consistent, first_requests_keep_consistent, requests_keep_consistent,
+    built_requests_keep_consistent, due_keeps_consistent, requests_keep_consistent,
     settling_keeps_consistent,
 };
 pub use standing::entries_stand_in_one_queue;
@@ -34,5 +38,5 @@ pub use tables::{job_retention, queue_states};
 
 /// The system of a new site is consistent, whatever its node is called.
 pub fn first_system_is_consistent()
-    ensures { (node : List ℕ) → length node ≤ 6 → IsConsistent (first_system node) }
+    ensures { (node : List ℕ) → length node ≤ NODE_NAME_BYTES → IsConsistent (first_system node) }
 {}

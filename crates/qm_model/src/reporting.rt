@@ -2,7 +2,9 @@
 ghost use Rattle.std.specs.Prelude.{◌≡◌, ◌+◌, ◌-◌, ◌<◌, ◌^◌, ◌++◌, ◌∷◌, [], length, map, take, drop, max};
 ghost use Rattle.std.specs.List.{range_with_len};
 ghost use Rattle.qm_kinds.specs.declared.entry.JobKind.TheVariants.{Print};
-ghost use Rattle.qm_model.specs.Work.{Work, Place, Done};
+ghost use Rattle.qm_kinds.specs.declared.work.Work.{Work};
+ghost use Rattle.qm_kinds.specs.declared.work.Place.{Place};
+ghost use Rattle.qm_kinds.specs.declared.work.Report.TheVariants.{Done};
 ghost use Rattle.qm_model.specs.Pages.{page_blocks};
 ghost use Rattle.qm_model.specs.Reports.{begin, course, reports, EndOnce, GoOnAtMarks, BeginAtMarks, mark_behind, blocks_before_report};
 

@@ -11,7 +11,7 @@ ghost use Rattle.qm_model.specs.Fitting.{fits};
 ghost use Rattle.qm_model.specs.Before.{before};
 ghost use Rattle.qm_model.specs.Free.{is_free};
 ghost use Rattle.qm_model.specs.Settling.{Choice, AreStarts, next_choice, settled, is_among_started};
-ghost use Rattle.qm_model.specs.Starting.{HasNoneToStart, IsFirstToStart, IsStarted, as_pending};
+ghost use Rattle.qm_model.specs.Starting.{HasNoneToStart, IsFirstToStart, WasStarted, as_pending};
 ghost use Rattle.qm_model.specs.Applied.{applied};
 
 /// In a settled system no queue that has a place has a job that fits it, unless the numbers of runs are spent.
@@ -28,7 +28,7 @@ pub fn settling_changes_entries_alone()
     ensures runs { (s : System) → map (λ start. start.run) (settled s).started ≡ range_with_len s.next_run (length (settled s).started) }
     ensures others { (s : System) → filter (λ e. not (is_among_started (settled s).started e)) (settled s).system.entries ≡ filter (λ e. not (is_among_started (settled s).started e)) s.entries }
     ensures states_alone { (s : System) → map as_pending (settled s).system.entries ≡ map as_pending s.entries }
-    ensures each_runs { (s : System) → All (IsStarted s (settled s).system) (settled s).started }
+    ensures each_runs { (s : System) → All (WasStarted s (settled s).system) (settled s).started }
 {}
 
 /// A system that is settled stays as it is when it is settled again.

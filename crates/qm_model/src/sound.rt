@@ -1,13 +1,12 @@
 // Laws about what keeps a system consistent.
-ghost use Rattle.std.specs.Prelude.{◌≡◌, ℕ, Ok};
+ghost use Rattle.std.specs.Prelude.{◌≡◌, ℕ, true, Ok};
 ghost use Rattle.qm_kinds.specs.declared.request.Request.{Request};
 ghost use Rattle.qm_kinds.specs.declared.system.System.{System};
 ghost use Rattle.qm_model.specs.Consistent.{IsConsistent};
 ghost use Rattle.qm_model.specs.Applied.{applied};
-ghost use Rattle.qm_model.specs.Apply.{apply, IsBuilt};
+ghost use Rattle.qm_model.specs.Built.{is_built};
 ghost use Rattle.qm_model.specs.Due.{due};
 ghost use Rattle.qm_model.specs.Outcome.{Accepted};
-ghost use Rattle.qm_model.specs.Quiet.{IsQuiet};
 ghost use Rattle.qm_model.specs.Lawful.{IsLawful};
 ghost use Rattle.qm_model.specs.Settling.{settled};
 
@@ -26,8 +25,7 @@ pub fn requests_keep_consistent()
     ensures { (s : System) (now node : ℕ) (request : Request) (a : Accepted) → IsConsistent s → IsLawful s node request → applied s now node request ≡ Ok a → IsConsistent a.system }
 {}
 
-/// Where every queue is stopped and no job waits for a moment, adding to a file and submitting a job keep a system
-/// consistent.
-pub fn first_requests_keep_consistent()
-    ensures { (s : System) (now : ℕ) (request : Request) (a : Accepted) → IsConsistent s → IsQuiet s → IsBuilt request → apply s now request ≡ Ok a → IsConsistent a.system }
+/// A consistent system stays so at every accepted request that is built.
+pub fn built_requests_keep_consistent()
+    ensures { (s : System) (now node : ℕ) (request : Request) (a : Accepted) → IsConsistent s → is_built request ≡ true → applied s now node request ≡ Ok a → IsConsistent a.system }
 {}

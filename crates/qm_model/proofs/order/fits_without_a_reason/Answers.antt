@@ -1,5 +1,6 @@
 use Rattle.std.proofs.Common.{◌≡◌, Bool, true, false, ◌&&◌, [], ◌∷◌, refl, is_none}
-use Rattle.qm_model.specs.Fitting.{NotPending, OtherKind, NotStarted, NotPassedOn, LacksCharacteristics, OtherStock, OutsideSizes, first_misfit, is_pending, is_of_kind, is_open, is_reached, has_characteristics, has_stock, has_size}
+use Rattle.qm_model.specs.Fitting.{NotPending, OtherKind, NotStarted, NotPassedOn, LacksCharacteristics, OtherStock, OutsideSizes, first_misfit, is_of_kind, is_open, is_reached, has_characteristics, has_stock, has_size}
+use Rattle.qm_model.specs.JobStates.{is_pending}
 use Rattle.qm_model.proofs.order.fits_without_a_reason.Goals as goal
 
 no_reason : (a b c d e f g : Bool) → (a && b && c && d && e && f && g)

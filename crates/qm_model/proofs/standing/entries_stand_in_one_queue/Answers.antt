@@ -3,7 +3,7 @@ use Rattle.std.specs.Prelude.{unwrap_or}
 use Rattle.qm_kinds.specs.declared.entry.EntryState.{EntryState}
 use Rattle.qm_kinds.specs.declared.entry.EntryState.TheVariants.{Pending, Holding, Timed, Running, Aborting, Retained}
 use Rattle.qm_kinds.specs.declared.entry.Fate.{Fate}
-use Rattle.qm_model.specs.Consistent.{runs_in}
+use Rattle.qm_model.specs.JobStates.{runs_in}
 use Rattle.qm_model.proofs.StandingLemmas.{stand_in_one_queue}
 use Rattle.qm_model.proofs.standing.entries_stand_in_one_queue.Goals as goal
 
