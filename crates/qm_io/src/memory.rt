@@ -1,5 +1,5 @@
 // A source and a sink in memory, which fail at the calls that a list names.
-ghost use Rattle.std.specs.Prelude.{◌≡◌, ◌≤◌, [], ◌++◌, length, min, take, drop, Contains, IfOk, OnOk, OnErr, Some};
+ghost use Rattle.std.specs.Prelude.{◌≡◌, ◌≤◌, [], ◌++◌, length, min, take, drop, Contains, IfOk, OnOk, OnErr, Ok, Some};
 ghost use Rattle.qm_io.specs.Faults.{Rose, counted};
 
 use crate::failed::count_fault;
@@ -122,6 +122,7 @@ impl Source for MemorySource {
           calls = counted self.old.calls;
           faults = counted self.old.faults;
         }) }
+        ensures quiet { OnOk result (self.new.faults ≡ self.old.faults) }
         ensures cause { OnErr result (Rose self.old.faults self.new.faults) }
         ensures never_falls { self.old.faults ≤ self.new.faults }
     {
@@ -182,6 +183,7 @@ impl Sink for MemorySink {
         ensures unlisted { OnOk result (¬ Contains self.old.fail (counted self.old.calls)) }
 
         ensures count { IfOk result (λ count. count ≡ length piece.now) }
+        ensures some { result ≡ Ok 0 → length piece.now ≡ 0 }
         ensures ok { OnOk result (self.new ≡ record self.old {
           taken = self.old.taken ++ piece.now;
           calls = counted self.old.calls;
@@ -191,6 +193,7 @@ impl Sink for MemorySink {
           calls = counted self.old.calls;
           faults = counted self.old.faults;
         }) }
+        ensures quiet { OnOk result (self.new.faults ≡ self.old.faults) }
         ensures cause { OnErr result (Rose self.old.faults self.new.faults) }
         ensures never_falls { self.old.faults ≤ self.new.faults }
     {

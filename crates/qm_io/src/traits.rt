@@ -1,5 +1,5 @@
 // What reading and writing owe, whatever lies behind them.
-ghost use Rattle.std.specs.Prelude.{◌≡◌, ◌<◌, ◌≤◌, ℕ, List, Option, length, take, is_some, IfOk, OnErr, Ok};
+ghost use Rattle.std.specs.Prelude.{◌≡◌, ◌<◌, ◌≤◌, ℕ, List, Option, length, take, is_some, IfOk, OnErr, OnOk, Ok};
 ghost use Rattle.std.specs.Io.KnownBytes.{Appends, Consumes, IsAtEnd, Keeps};
 ghost use Rattle.qm_io.specs.Faults.{Rose};
 
@@ -16,7 +16,7 @@ pub trait Source {
     /// Puts the next bytes at the front of `into` and answers how many: 0 into a place that isn't
     /// empty is the end of the input. What stands behind them in `into` is left open.
     ///
-    /// After `Failed` no byte is lost, and the source may be read again.
+    /// After `Failed` no byte is lost. Each call that fails is counted, and no other is.
     fn read(&mut self, into: &mut [u8]) -> Result<usize, Failed>
         ensures room { IfOk result (λ count. count ≤ length into.new) }
         ensures next { IfOk result (λ count.
@@ -26,6 +26,7 @@ pub trait Source {
         ensures failed { OnErr result (Keeps (remaining self.old) (remaining self.new)) }
         ensures told { is_some (remaining self.new) ≡ is_some (remaining self.old) }
 
+        ensures quiet { OnOk result (faults self.new ≡ faults self.old) }
         ensures cause { OnErr result (Rose (faults self.old) (faults self.new)) }
         ensures never_falls { faults self.old ≤ faults self.new };
 }
@@ -38,19 +39,20 @@ pub trait Sink {
     /// How often the sink has failed.
     ghost faults: { Self → ℕ };
 
-    /// Takes the first bytes of `piece` and answers how many. It takes none of a piece that isn't
-    /// empty only with a fault.
+    /// Takes the first bytes of `piece` and answers how many: one at least of a piece that isn't
+    /// empty.
     ///
-    /// After `Failed` none of the piece counts as taken.
+    /// After `Failed` none of the piece counts as taken. Each call that fails is counted, and no
+    /// other is.
     fn write(&mut self, piece: &[u8]) -> Result<usize, Failed>
         ensures room { IfOk result (λ count. count ≤ length piece.now) }
+        ensures some { result ≡ Ok 0 → length piece.now ≡ 0 }
         ensures appended { IfOk result (λ count.
             Appends (taken self.old) (taken self.new) (take count piece.now)) }
         ensures failed { OnErr result (Keeps (taken self.old) (taken self.new)) }
         ensures told { is_some (taken self.new) ≡ is_some (taken self.old) }
 
+        ensures quiet { OnOk result (faults self.new ≡ faults self.old) }
         ensures cause { OnErr result (Rose (faults self.old) (faults self.new)) }
-        ensures none_taken { result ≡ Ok 0 → 0 < length piece.now →
-            Rose (faults self.old) (faults self.new) }
         ensures never_falls { faults self.old ≤ faults self.new };
 }

@@ -1,7 +1,7 @@
 // Reading all that a source has, up to a limit, and writing all of a text.
 ghost use Rattle.std.specs.Prelude.{◌≡◌, ◌+◌, ◌<◌, ◌≤◌, ◌++◌, length, vec_len, is_some, IfOk, IfSome, IsErrOf, OnErr, OnOk};
 ghost use Rattle.std.specs.Io.KnownBytes.{Appends, Consumes, IsAtEnd};
-ghost use Rattle.qm_io.specs.Bytes.{LosesAtMost, TakesPrefix};
+ghost use Rattle.qm_io.specs.Bytes.{LosesAtMost, LosesSome, TakesPrefix};
 ghost use Rattle.qm_io.specs.Faults.{Rose};
 ghost use Rattle.qm_io.specs.declared.whole.ReadEnd.TheVariants as ends;
 
@@ -71,9 +71,10 @@ impl<T: Drop> From<AllocFailed<T>> for ReadEnd {
 /// most `limit` bytes and one piece of 4 KiB. Each read but the last gives a byte at least, so it
 /// ends at any source, also at one that never ends.
 ///
-/// `Failed` comes only where the source failed in this call, `TooLong` exactly where it had more
+/// `Failed` comes exactly where the source failed in this call, `TooLong` exactly where it had more
 /// than `limit` bytes and nothing failed before they were read, and `NoMemory` only where an
-/// allocation failed. After each of them the source has lost the bytes read so far.
+/// allocation failed, for one of the first `limit` bytes. After each of them the source has lost the
+/// bytes read so far, and it isn't asked again.
 pub fn read_whole<S: Source>(
     alloc: Global,
     source: &mut S,
@@ -86,12 +87,17 @@ pub fn read_whole<S: Source>(
 
     ensures too_long { IsErrOf result ReadEnd.TooLong
         → IfSome (S.remaining source.old) (λ left. limit < length left) }
+    ensures no_memory { IsErrOf result ReadEnd.NoMemory
+        → LosesSome limit (S.remaining source.old) (S.remaining source.new) }
+
+    ensures quiet { (IsErrOf result ReadEnd.Failed → ⊥)
+        → S.faults source.new ≡ S.faults source.old }
     ensures cause { IsErrOf result ReadEnd.Failed
         → Rose (S.faults source.old) (S.faults source.new) }
+    ensures never_falls { S.faults source.old ≤ S.faults source.new }
 
     ensures lost { LosesAtMost (limit + 1) (S.remaining source.old) (S.remaining source.new) }
     ensures told { is_some (S.remaining source.new) ≡ is_some (S.remaining source.old) }
-    ensures never_falls { S.faults source.old ≤ S.faults source.new }
 {
     let mut bytes = Vec::new(alloc);
     let mut piece = [0; PIECE];
@@ -126,23 +132,22 @@ fn append_within(bytes: &mut Vec<u8>, piece: &[u8], limit: usize) -> Result<(), 
 
 /// Writes all of these bytes.
 ///
-/// `Failed` comes only where the sink failed in this call, or took none of the piece that it was
-/// given, which counts as a fault. It has then taken first bytes of these, and not all.
+/// `Failed` comes exactly where the sink failed in this call, which is then the last on it. It has
+/// taken first bytes of these, and not all.
 pub fn write_whole<O: Sink>(sink: &mut O, bytes: &[u8]) -> Result<(), Failed>
     ensures all { OnOk result (Appends (O.taken sink.old) (O.taken sink.new) bytes.now) }
     ensures prefix { OnErr result
         (TakesPrefix (O.taken sink.old) (O.taken sink.new) bytes.now) }
 
-    ensures cause { OnErr result (Rose (O.faults sink.old) (O.faults sink.new)) }
     ensures told { is_some (O.taken sink.new) ≡ is_some (O.taken sink.old) }
+
+    ensures quiet { OnOk result (O.faults sink.new ≡ O.faults sink.old) }
+    ensures cause { OnErr result (Rose (O.faults sink.old) (O.faults sink.new)) }
     ensures never_falls { O.faults sink.old ≤ O.faults sink.new }
 {
     let mut at = 0;
     while at < bytes.len() {
         let count = sink.write(&bytes[at..])?;
-        if count == 0 {
-            return Err(Failed);
-        }
         at += count;
     }
     Ok(())

@@ -7,7 +7,7 @@ abbrev pub invariant-loop-bytes : goal.invariant-loop-bytes
 invariant-loop-bytes g l =
     let remaining = g.S.Source.remaining in
     let faults = g.S.Source.faults in
-    (vec_len l.bytes ≤ l.limit) × Consumes (remaining l.initial.source) (remaining l.source) l.bytes.items × (is_some (remaining l.source) ≡ is_some (remaining l.initial.source)) × (faults l.initial.source ≤ faults l.source)
+    (vec_len l.bytes ≤ l.limit) × Consumes (remaining l.initial.source) (remaining l.source) l.bytes.items × (is_some (remaining l.source) ≡ is_some (remaining l.initial.source)) × (faults l.source ≡ faults l.initial.source)
 
 abbrev pub decreases-loop-bytes : goal.decreases-loop-bytes
 decreases-loop-bytes g l = l.limit - vec_len l.bytes
