@@ -1,9 +1,24 @@
 -- What the calls of a disk do to its three files, and what a crash may make of them.
-use Rattle.std.specs.Prelude.{◌≡◌, ◌≢◌, ◌⊎◌, ℕ, ◌+◌, ◌-◌, ◌^◌, ◌<◌, ◌≤◌, min, max, List, ◌++◌, length, take, drop, Result, IsErr}
+use Rattle.std.specs.Prelude.{◌≡◌, ◌≢◌, ◌⊎◌, ℕ, ◌+◌, ◌-◌, ◌^◌, ◌≤◌, min, max, Bool, List, ◌++◌, length, take, drop}
 
 -- a content for each of the files 0, 1 and 2
 abbrev pub Image : Type 0
 Image = ℕ → List ℕ
+
+-- What disks of one type mean: all that the contract of their calls speaks of.
+pub record Meaning (D : Type 0) : Type 1 where
+  -- whether they tell their contents; where they don't, `seen` says nothing
+  pub tells : Bool
+  -- what each file reads
+  pub seen : D → ℕ → List ℕ
+  -- what a crash at this moment may leave of each file; an image has one of these of each
+  pub may_leave : D → ℕ → List ℕ → Type 0
+  -- the moment, one number for all three files, which doesn't fall and which calls raise
+  pub moment : D → ℕ
+  -- the images that a crash at some moment since that one may have left, during a call or between two
+  pub left_since : D → ℕ → Image → Type 0
+  -- how many calls failed
+  pub faults : D → ℕ
 
 -- the file with these bytes at this place
 abbrev pub spliced : ℕ → List ℕ → List ℕ → List ℕ
@@ -37,36 +52,52 @@ IsLeft may_leave image = (f : ℕ) → f ≤ 2 → may_leave f (image f)
 abbrev pub OthersLeft : (ℕ → List ℕ → Type 0) → ℕ → Image → Type 0
 OthersLeft may_leave file image = (f : ℕ) → f ≤ 2 → f ≢ file → may_leave f (image f)
 
--- the files other than this one read as before, and a crash may leave of them what it might before
-pub record KeepsOthers {D : Type 0} (seen : D → ℕ → List ℕ) (may_leave : D → ℕ → List ℕ → Type 0) (file : ℕ) (old new : D) : Type 0 where
-  pub reads : (f : ℕ) → f ≤ 2 → f ≢ file → seen new f ≡ seen old f
-  pub no_more : (f : ℕ) (c : List ℕ) → f ≤ 2 → f ≢ file → may_leave new f c → may_leave old f c
-  pub no_fewer : (f : ℕ) (c : List ℕ) → f ≤ 2 → f ≢ file → may_leave old f c → may_leave new f c
+module _ {D : Type 0} (m : Meaning D) where
+  -- the files other than this one read as before, and a crash may leave of them what it might before
+  pub record KeepsOthers (file : ℕ) (old new : D) : Type 0 where
+    pub reads : (f : ℕ) → f ≤ 2 → f ≢ file → m.seen new f ≡ m.seen old f
+    pub no_more : (f : ℕ) (c : List ℕ) → f ≤ 2 → f ≢ file → m.may_leave new f c → m.may_leave old f c
+    pub no_fewer : (f : ℕ) (c : List ℕ) → f ≤ 2 → f ≢ file → m.may_leave old f c → m.may_leave new f c
 
--- all three do
-pub record KeepsAll {D : Type 0} (seen : D → ℕ → List ℕ) (may_leave : D → ℕ → List ℕ → Type 0) (old new : D) : Type 0 where
-  pub reads : (f : ℕ) → f ≤ 2 → seen new f ≡ seen old f
-  pub no_more : (f : ℕ) (c : List ℕ) → f ≤ 2 → may_leave new f c → may_leave old f c
-  pub no_fewer : (f : ℕ) (c : List ℕ) → f ≤ 2 → may_leave old f c → may_leave new f c
+  -- all three do
+  pub record KeepsAll (old new : D) : Type 0 where
+    pub reads : (f : ℕ) → f ≤ 2 → m.seen new f ≡ m.seen old f
+    pub no_more : (f : ℕ) (c : List ℕ) → f ≤ 2 → m.may_leave new f c → m.may_leave old f c
+    pub no_fewer : (f : ℕ) (c : List ℕ) → f ≤ 2 → m.may_leave old f c → m.may_leave new f c
 
--- Time goes on: a crash since t might have left what it might before the call, or what it may leave now.
-pub record Elapses {D : Type 0} (moment : D → ℕ) (left_since : D → ℕ → Image → Type 0) (may_leave : D → ℕ → List ℕ → Type 0) (old new : D) : Type 0 where
-  pub later : moment old ≤ moment new
-  pub nothing_else : (t : ℕ) (image : Image) → t ≤ moment old → left_since new t image → left_since old t image ⊎ IsLeft (may_leave new) image
-  pub keeps : (t : ℕ) (image : Image) → t ≤ moment old → left_since old t image → left_since new t image
+  -- Time goes on: a crash since t might have left what it might before the call, or what it may leave now.
+  pub record Elapses (old new : D) : Type 0 where
+    pub later : m.moment old ≤ m.moment new
+    pub nothing_else : (t : ℕ) (image : Image) → t ≤ m.moment old → m.left_since new t image → m.left_since old t image ⊎ IsLeft (m.may_leave new) image
+    pub keeps : (t : ℕ) (image : Image) → t ≤ m.moment old → m.left_since old t image → m.left_since new t image
 
--- A crash at any moment since old leaves an image that has P.
-pub record LeavesOnly {D : Type 0} (moment : D → ℕ) (left_since : D → ℕ → Image → Type 0) (old new : D) (P : Image → Type 0) : Type 0 where
-  pub later : moment old ≤ moment new
-  pub each : (image : Image) → left_since new (moment old) image → P image
-  -- for a run that began earlier
-  pub before : (t : ℕ) (image : Image) → t ≤ moment old → left_since new t image → left_since old t image ⊎ P image
+  -- A crash at any moment since old leaves an image that has P.
+  pub record LeavesOnly (old new : D) (P : Image → Type 0) : Type 0 where
+    pub later : m.moment old ≤ m.moment new
+    pub each : (image : Image) → m.left_since new (m.moment old) image → P image
+    -- for a run that began earlier
+    pub before : (t : ℕ) (image : Image) → t ≤ m.moment old → m.left_since new t image → m.left_since old t image ⊎ P image
 
--- the count of faults rose, or stands at the end of its type
-abbrev pub Rose : ℕ → ℕ → Type 0
-Rose old new = old < 2 ^ 64 - 1 → old < new
+  -- Calls that change nothing: the files read as before, and a crash at any moment leaves what it might before.
+  pub record OnlyLooks (old new : D) : Type 0 where
+    pub reads : (f : ℕ) → f ≤ 2 → m.seen new f ≡ m.seen old f
+    pub no_more : (f : ℕ) (c : List ℕ) → f ≤ 2 → m.may_leave new f c → m.may_leave old f c
+    pub any_moment : LeavesOnly old new (IsLeft (m.may_leave old))
 
--- the count never falls, and it rose where the call answers a fault
-pub record CountsFaults {T E : Type 0} (old new : ℕ) (result : Result T E) : Type 0 where
-  pub no_fewer : old ≤ new
-  pub fault : IsErr result → Rose old new
+  -- Calls that change one file: the others stay as they are, whatever a crash at any moment makes of this one.
+  pub record ChangesOnly (file : ℕ) (old new : D) : Type 0 where
+    pub others : KeepsOthers file old new
+    pub any_moment : LeavesOnly old new (OthersLeft (m.may_leave old) file)
+
+  -- one call failed: the count of faults is one more, or stands at the end of its type
+  abbrev pub Rose : D → D → Type 0
+  Rose old new = m.faults new ≡ min (m.faults old + 1) (2 ^ 64 - 1)
+
+  -- no call failed
+  abbrev pub IsQuiet : D → D → Type 0
+  IsQuiet old new = m.faults new ≡ m.faults old
+
+  -- Where a fault is told one call failed, and where none is told none did: no fault is hidden or tried again.
+  pub record TellsFaults (old new : D) (told : Type 0) : Type 0 where
+    pub fault : told → Rose old new
+    pub quiet : (told → ⊥) → IsQuiet old new

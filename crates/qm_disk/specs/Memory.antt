@@ -1,6 +1,6 @@
 -- What a disk in memory shows.
-use Rattle.std.specs.Prelude.{◌≡◌, ◌+◌, ◌-◌, ◌^◌, ℕ, List, length, min, Contains, Result, IsErr}
-use Rattle.qm_disk.specs.Disk.{Image}
+use Rattle.std.specs.Prelude.{◌≡◌, ◌+◌, ◌-◌, ◌^◌, ℕ, true, List, length, min, Contains, Result, IsErr}
+use Rattle.qm_disk.specs.Disk.{Meaning}
 use Rattle.qm_disk.specs.Calls.{reading_of, first_of, crashed, LeftOf, LeftSince}
 use Rattle.qm_disk.specs.declared.memory.MemoryDisk.{MemoryDisk}
 
@@ -12,16 +12,16 @@ held_of disk f = reading_of disk.first disk.changed f
 abbrev pub left_of : MemoryDisk → ℕ → List ℕ → Type 0
 left_of disk f = LeftOf disk.first disk.calls.items f
 
--- how many calls are on record
-abbrev pub moment_of : MemoryDisk → ℕ
-moment_of disk = length disk.calls.items
-
--- the images that a crash at some moment since that one may have left
-abbrev pub left_since_of : MemoryDisk → ℕ → Image → Type 0
-left_since_of disk = LeftSince disk.first disk.calls.items
-
-abbrev pub faults_of : MemoryDisk → ℕ
-faults_of disk = disk.faults
+-- How many calls are on record is the moment.
+abbrev pub in_memory : Meaning MemoryDisk
+in_memory = record {
+  tells = true;
+  seen = held_of;
+  may_leave = left_of;
+  moment = λ disk. length disk.calls.items;
+  left_since = λ disk. LeftSince disk.first disk.calls.items;
+  faults = λ disk. disk.faults;
+}
 
 -- how many calls were made, a number that stands at the end of its type
 abbrev pub made_of : MemoryDisk → ℕ

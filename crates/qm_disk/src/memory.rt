@@ -1,6 +1,6 @@
 // A disk in memory. It keeps a record of its calls, so that a crash may leave of it all that the contract allows.
 ghost use Rattle.std.specs.Prelude.{◌≡◌, ◌⊎◌, ◌+◌, ◌-◌, ◌^◌, ◌≤◌, min, Contains, List, drop, IsErr, ◌++◌, ◌∷◌, [], ℕ, true, false, if◌then◌else◌, is_ok, length, take, IfOk, OnOk, OnErr};
-ghost use Rattle.qm_disk.specs.Disk.{spliced, Only, IsLeft, Follows, Torn, Cut, KeepsAll, KeepsOthers, Elapses, CountsFaults};
+ghost use Rattle.qm_disk.specs.Disk.{spliced, Only, IsLeft, Follows, Torn, Cut, KeepsAll, KeepsOthers, Elapses, TellsFaults};
 ghost use Rattle.qm_disk.specs.Calls.{reading, reading_of, first_of, replayed, LeftOf, LeftSince, IsWrite, IsTruncate, Notes, Syncs, ReadsOthers, padded, part, crash_changed, crashed, changed as after_change};
 ghost use Rattle.qm_disk.specs.declared.calls.Change.TheVariants.{Look};
 ghost use Rattle.qm_disk.specs.Crash.{left_now, left_only_now, reads_left};
@@ -29,7 +29,7 @@ pub struct MemoryDisk {
 }
 
 impl MemoryDisk {
-    ghost use Rattle.qm_disk.specs.Memory.{held_of, left_of, made_of, fail_of, crash_of};
+    ghost use Rattle.qm_disk.specs.Memory.{held_of, left_of, in_memory, made_of, fail_of, crash_of};
 
     /// A disk whose files hold these bytes, all of them on the disk. Calls are numbered from 1 over all three
     /// files, and those whose number stands in `fail` fail. Another call fails where memory runs out. Each of
@@ -40,6 +40,7 @@ impl MemoryDisk {
         ensures two { held_of result 2 ≡ two.items }
         ensures durable { (f : ℕ) → f ≤ 2 → Only (held_of result f) (left_of result f) }
         ensures made { made_of result ≡ 0 }
+        ensures faults { in_memory.faults result ≡ 0 }
         ensures listed { fail_of result ≡ fail.items }
     {
         MemoryDisk {
@@ -63,6 +64,7 @@ impl MemoryDisk {
         ensures allowed { IfOk result (λ disk. IsLeft (left_of self.now) (held_of disk)) }
         ensures durable { IfOk result (λ disk. (f : ℕ) → f ≤ 2 → Only (held_of disk f) (left_of disk f)) }
         ensures unlisted { IfOk result (λ disk. fail_of disk ≡ []) }
+        ensures faults { IfOk result (λ disk. in_memory.faults disk ≡ 0) }
     {
         let master = self.crash_file(0, pick)?;
         let one = self.crash_file(1, pick)?;
@@ -360,19 +362,9 @@ fn note_look(calls: &mut Vec<Call>, file: u8, held: bool) -> Result<(), AllocErr
 }
 
 impl Disk for MemoryDisk {
-    ghost use Rattle.qm_disk.specs.Memory.{held_of, left_of, moment_of, left_since_of, faults_of, TakesNumber};
+    ghost use Rattle.qm_disk.specs.Memory.{held_of, left_of, in_memory, TakesNumber};
 
-    ghost tells = { true };
-
-    ghost seen = { λ m. reading_of m.first m.changed };
-
-    ghost may_leave = { λ m. LeftOf m.first m.calls.items };
-
-    ghost moment = { λ m. length m.calls.items };
-
-    ghost left_since = { λ m. LeftSince m.first m.calls.items };
-
-    ghost faults = { λ m. m.faults };
+    ghost meaning = { in_memory };
 
     ghost reads_an_image = { λ m f told le. reads_left m.first m.changed m.calls.items f (m.replays f le) };
 
@@ -383,9 +375,9 @@ impl Disk for MemoryDisk {
     fn size(&mut self, file: u8) -> Result<u64, DiskFault>
         requires { file ≤ 2 }
         ensures size { IfOk result (λ size. size ≡ length (held_of self.old file)) }
-        ensures kept { KeepsAll held_of left_of self.old self.new }
-        ensures time { Elapses moment_of left_since_of left_of self.old self.new }
-        ensures cause { CountsFaults (faults_of self.old) (faults_of self.new) result }
+        ensures kept { KeepsAll in_memory self.old self.new }
+        ensures time { Elapses in_memory self.old self.new }
+        ensures faults { TellsFaults in_memory self.old self.new (IsErr result) }
         ensures number { TakesNumber self.old self.new result }
     {
         let may = next_call(&mut self.made, self.fail.as_slice());
@@ -397,9 +389,9 @@ impl Disk for MemoryDisk {
         requires file { file ≤ 2 }
         requires within { at + length into.old ≤ length (held_of self.old file) }
         ensures bytes { OnOk result (into.new ≡ take (length into.old) (drop at (held_of self.old file))) }
-        ensures kept { KeepsAll held_of left_of self.old self.new }
-        ensures time { Elapses moment_of left_since_of left_of self.old self.new }
-        ensures cause { CountsFaults (faults_of self.old) (faults_of self.new) result }
+        ensures kept { KeepsAll in_memory self.old self.new }
+        ensures time { Elapses in_memory self.old self.new }
+        ensures faults { TellsFaults in_memory self.old self.new (IsErr result) }
         ensures number { TakesNumber self.old self.new result }
     {
         let may = next_call(&mut self.made, self.fail.as_slice());
@@ -414,9 +406,9 @@ impl Disk for MemoryDisk {
         requires place { at ≤ length (held_of self.old file) }
         ensures written { OnOk result (held_of self.new file ≡ spliced at bytes.now (held_of self.old file)) }
         ensures crash { Follows (Torn at (length bytes.now)) (left_of self.old file) (left_of self.new file) }
-        ensures others { KeepsOthers held_of left_of file self.old self.new }
-        ensures time { Elapses moment_of left_since_of left_of self.old self.new }
-        ensures cause { CountsFaults (faults_of self.old) (faults_of self.new) result }
+        ensures others { KeepsOthers in_memory file self.old self.new }
+        ensures time { Elapses in_memory self.old self.new }
+        ensures faults { TellsFaults in_memory self.old self.new (IsErr result) }
         ensures number { TakesNumber self.old self.new result }
     {
         let may = next_call(&mut self.made, self.fail.as_slice());
@@ -438,9 +430,9 @@ impl Disk for MemoryDisk {
         requires size { size ≤ length (held_of self.old file) }
         ensures cut { OnOk result (held_of self.new file ≡ take size (held_of self.old file)) }
         ensures crash { Follows (Cut size) (left_of self.old file) (left_of self.new file) }
-        ensures others { KeepsOthers held_of left_of file self.old self.new }
-        ensures time { Elapses moment_of left_since_of left_of self.old self.new }
-        ensures cause { CountsFaults (faults_of self.old) (faults_of self.new) result }
+        ensures others { KeepsOthers in_memory file self.old self.new }
+        ensures time { Elapses in_memory self.old self.new }
+        ensures faults { TellsFaults in_memory self.old self.new (IsErr result) }
         ensures number { TakesNumber self.old self.new result }
     {
         let may = next_call(&mut self.made, self.fail.as_slice());
@@ -461,9 +453,9 @@ impl Disk for MemoryDisk {
         ensures durable { OnOk result (Only (held_of self.new file) (left_of self.new file)) }
         ensures reads { held_of self.new file ≡ held_of self.old file }
         ensures crash { (c : List ℕ) → left_of self.new file c → left_of self.old file c }
-        ensures others { KeepsOthers held_of left_of file self.old self.new }
-        ensures time { Elapses moment_of left_since_of left_of self.old self.new }
-        ensures cause { CountsFaults (faults_of self.old) (faults_of self.new) result }
+        ensures others { KeepsOthers in_memory file self.old self.new }
+        ensures time { Elapses in_memory self.old self.new }
+        ensures faults { TellsFaults in_memory self.old self.new (IsErr result) }
         ensures number { TakesNumber self.old self.new result }
     {
         let may = next_call(&mut self.made, self.fail.as_slice());
