@@ -1,0 +1,227 @@
+// Three files of the system as one disk. It tells nothing of their contents: that they behave as a disk is a premise.
+ghost use Rattle.std.specs.Prelude.{◌≡◌, ◌+◌, ◌-◌, ◌^◌, ◌≤◌, min, false, [], is_ok, IsErr};
+ghost use Rattle.std.proofs.Common.{lit≤};
+ghost use Rattle.qm_disk.specs.Crash.{untold};
+ghost use Rattle.qm_files.specs.Faults.{file_faults};
+
+use crate::SiteFile;
+use crate::folder::{Folder, LastRun};
+use crate::named::Named;
+use qm_disk::{Disk, DiskFault};
+use std::fs::Files;
+use std::io;
+use std::io::ErrorKind;
+
+/// Three files of a folder, and a fourth that is its lock.
+///
+/// At the first call the lock is taken, without waiting, and held until the disk is dropped: so no other process has the
+/// files meanwhile. Where another has it, each call is a fault. Where the last run in the folder didn't end with every
+/// call having succeeded, that first call makes durable what the files read: a sync that failed then may have left
+/// bytes in the system's cache that no disk holds.
+///
+/// Each file is opened at the first call on it, and made empty where it isn't there. Behind a call that failed nothing
+/// more is asked of the files, and each call is a fault.
+#[derive(Drop)]
+pub struct FileDisk<R: Files> {
+    site: Site<R>,
+    faults: u64,
+}
+
+// What stopped the disk.
+#[derive(Clone, Copy, Debug, PartialEq, Eq)]
+enum Trouble {
+    // Another process has the lock, or one of the files locked.
+    InUse,
+    Failed,
+}
+
+#[derive(Drop)]
+struct Site<R: Files> {
+    rt: R,
+    lock: String,
+    folder: Option<Folder<R>>,
+    files: [Named<R>; 3],
+    trouble: Option<Trouble>,
+}
+
+impl<R: Files> FileDisk<R>
+where
+    R::File: SiteFile,
+{
+    /// The disk over the files of these names: the lock, and file 0, file 1 and file 2. It opens none yet.
+    pub fn new(rt: R, lock: String, master: String, one: String, two: String) -> Self
+        ensures { file_faults result ≡ 0 }
+    {
+        FileDisk {
+            site: Site {
+                rt,
+                lock,
+                folder: None,
+                files: [Named::new(master), Named::new(one), Named::new(two)],
+                trouble: None,
+            },
+            faults: 0,
+        }
+    }
+
+    /// Whether a call failed since another process has the folder or one of its files.
+    pub fn is_in_use(&self) -> bool {
+        self.site.trouble == Some(Trouble::InUse)
+    }
+
+    /// Lets the folder go. Where every call succeeded, and all that was written was synced, the next run finds the mark
+    /// of that, and else makes what it reads durable anew; so nothing is lost where no mark can be made.
+    pub fn close(self)
+    where
+        R: Drop,
+    {
+        let _ = self.site.end();
+    }
+}
+
+impl<R: Files> Site<R>
+where
+    R::File: SiteFile,
+{
+    fn end(&self) -> io::Result<()> {
+        let [master, one, two] = &self.files;
+        let is_synced = master.is_synced() && one.is_synced() && two.is_synced();
+        match &self.folder {
+            Some(folder) if is_synced && self.trouble.is_none() => folder.end(),
+            _ => Ok(()),
+        }
+    }
+
+    // Takes the folder at the first call.
+    fn begin(&mut self) -> io::Result<()> {
+        if self.trouble.is_some() {
+            return Err(ErrorKind::Other.into());
+        }
+        if self.folder.is_some() {
+            return Ok(());
+        }
+        let (folder, last) = Folder::hold(&self.rt, self.lock.as_str())?;
+        self.folder = Some(folder);
+        if last == LastRun::Broken {
+            renew_all(&self.rt, &mut self.files)?;
+        }
+        Ok(())
+    }
+
+    // Keeps in mind that a call failed.
+    fn noted<T: Drop>(&mut self, answer: io::Result<T>) -> io::Result<T> {
+        if let Err(error) = &answer
+            && self.trouble.is_none()
+        {
+            self.trouble = Some(match error.kind() {
+                ErrorKind::WouldBlock => Trouble::InUse,
+                _ => Trouble::Failed,
+            });
+        }
+        answer
+    }
+
+    fn size(&mut self, file: u8) -> io::Result<u64>
+        requires { file ≤ 2 }
+    {
+        self.begin()?;
+        self.files[file as usize].size(&self.rt)
+    }
+
+    fn read(&mut self, file: u8, at: u64, into: &mut [u8]) -> io::Result<()>
+        requires { file ≤ 2 }
+    {
+        self.begin()?;
+        self.files[file as usize].read(&self.rt, at, into)
+    }
+
+    fn write(&mut self, file: u8, at: u64, bytes: &[u8]) -> io::Result<()>
+        requires { file ≤ 2 }
+    {
+        self.begin()?;
+        self.files[file as usize].write(&self.rt, at, bytes)
+    }
+
+    fn cut(&mut self, file: u8, size: u64) -> io::Result<()>
+        requires { file ≤ 2 }
+    {
+        self.begin()?;
+        self.files[file as usize].cut(&self.rt, size)
+    }
+
+    fn sync(&mut self, file: u8) -> io::Result<()>
+        requires { file ≤ 2 }
+    {
+        self.begin()?;
+        self.files[file as usize].sync(&self.rt)
+    }
+}
+
+fn renew_all<R: Files>(rt: &R, files: &mut [Named<R>; 3]) -> io::Result<()>
+where
+    R::File: SiteFile,
+{
+    files[0].renew(rt)?;
+    files[1].renew(rt)?;
+    files[2].renew(rt)
+}
+
+// What a call answers, counted as a fault where it failed.
+fn counted<T: Drop>(answer: io::Result<T>, faults: &mut u64) -> Result<T, DiskFault>
+    ensures variant { is_ok result ≡ is_ok answer }
+    ensures fault { IsErr result → faults.new ≡ min (faults.old + 1) (2 ^ 64 - 1) }
+    ensures quiet { (IsErr result → ⊥) → faults.new ≡ faults.old }
+{
+    match answer {
+        Ok(value) => Ok(value),
+        Err(_) => {
+            *faults = faults.saturating_add(1);
+            Err(DiskFault)
+        }
+    }
+}
+
+impl<R: Files> Disk for FileDisk<R>
+where
+    R::File: SiteFile,
+{
+    ghost meaning = { record {
+      tells = false;
+      seen = λ disk f. [];
+      may_leave = λ disk f c. ⊥;
+      moment = λ disk. 0;
+      left_since = λ disk t image. ⊥;
+      faults = λ disk. disk.faults;
+    } };
+
+    ghost reads_an_image = { λ disk f told le. untold told };
+
+    ghost counts_now = { λ disk t image le left. left 0 (lit≤ tt) };
+
+    ghost only_now = { λ disk image left. absurd left };
+
+    fn size(&mut self, file: u8) -> Result<u64, DiskFault> {
+        let answer = self.site.size(file);
+        counted(self.site.noted(answer), &mut self.faults)
+    }
+
+    fn read(&mut self, file: u8, at: u64, into: &mut [u8]) -> Result<(), DiskFault> {
+        let answer = self.site.read(file, at, into);
+        counted(self.site.noted(answer), &mut self.faults)
+    }
+
+    fn write(&mut self, file: u8, at: u64, bytes: &[u8]) -> Result<(), DiskFault> {
+        let answer = self.site.write(file, at, bytes);
+        counted(self.site.noted(answer), &mut self.faults)
+    }
+
+    fn cut(&mut self, file: u8, size: u64) -> Result<(), DiskFault> {
+        let answer = self.site.cut(file, size);
+        counted(self.site.noted(answer), &mut self.faults)
+    }
+
+    fn sync(&mut self, file: u8) -> Result<(), DiskFault> {
+        let answer = self.site.sync(file);
+        counted(self.site.noted(answer), &mut self.faults)
+    }
+}

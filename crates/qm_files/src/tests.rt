@@ -1,0 +1,410 @@
+// What the contracts leave open: what is asked of the system's files, in which order, and what is made of its answers.
+use crate::{FileDisk, SiteFile};
+use qm_disk::Disk;
+use std::alloc::{AllocError, Allocator};
+use std::cell::RefCell;
+use std::fs::{File, Files, Metadata, OpenFile, OpenOptions};
+use std::io::{ErrorKind, Read, Seek, SeekFrom, Write};
+use std::os::unix::fs::FileExt;
+use std::test::Fail;
+use std::{fs, io};
+
+// The calls on the files of a folder, a line each, and which of them fails. Calls of a kind in a row have one line.
+#[derive(Drop)]
+struct Calls {
+    lines: String,
+    made: usize,
+    failing: usize,
+    // The number that the next file gets.
+    number: i32,
+}
+
+impl Calls {
+    fn new(rt: &HostRuntime, failing: usize, number: i32) -> RefCell<Calls> {
+        RefCell::new(Calls {
+            lines: String::new(rt.alloc()),
+            made: 0,
+            failing,
+            number,
+        })
+    }
+}
+
+// Writes a call down. It fails where it is the one that fails.
+fn note(calls: &RefCell<Calls>, what: &str, name: &str) -> io::Result<()> {
+    let Ok(mut calls) = calls.try_borrow_mut() else {
+        return Err(ErrorKind::Other.into());
+    };
+    let calls = &mut *calls;
+    calls.made = calls.made.wrapping_add(1);
+    if calls.made == calls.failing {
+        return Err(ErrorKind::Other.into());
+    }
+    let mut line = calls.lines.clone()?;
+    line.clear();
+    for part in [what, " ", name, "\n"] {
+        line.push_str(part)?;
+    }
+    if !calls.lines.as_str().ends_with(line.as_str()) {
+        calls.lines.push_str(line.as_str())?;
+    }
+    Ok(())
+}
+
+// Whether this call is interrupted: every second one is.
+fn is_interrupted(calls: &RefCell<Calls>) -> bool {
+    match calls.try_borrow() {
+        Ok(calls) => calls.made % 2 == 0,
+        Err(_) => false,
+    }
+}
+
+fn next_number(calls: &RefCell<Calls>) -> i32 {
+    match calls.try_borrow_mut() {
+        Ok(mut calls) => {
+            let number = calls.number;
+            calls.number = number.wrapping_add(1);
+            number
+        }
+        Err(_) => -1,
+    }
+}
+
+// The system's files, whose calls are written down.
+#[derive(Drop)]
+struct Watched<'a> {
+    rt: HostRuntime,
+    calls: &'a RefCell<Calls>,
+}
+
+#[derive(Drop)]
+struct WatchedFile<'a> {
+    file: File,
+    name: String,
+    number: i32,
+    calls: &'a RefCell<Calls>,
+}
+
+impl WatchedFile<'_> {
+    fn note(&self, what: &str) -> io::Result<()> {
+        note(self.calls, what, self.name.as_str())
+    }
+}
+
+impl<'a> Files for Watched<'a> {
+    type File = WatchedFile<'a>;
+
+    type Dir = io::Empty;
+
+    fn open_file(&self, how: &OpenOptions, path: &str) -> io::Result<WatchedFile<'a>> {
+        note(self.calls, "open", path)?;
+        Ok(WatchedFile {
+            file: self.rt.open_file(how, path)?,
+            name: String::from_str(self.rt.alloc(), path)?,
+            number: next_number(self.calls),
+            calls: self.calls,
+        })
+    }
+
+    fn copy(&self, from: &str, to: &str) -> io::Result<u64> {
+        note(self.calls, "copy", from)?;
+        self.rt.copy(from, to)
+    }
+
+    fn rename(&self, from: &str, to: &str) -> io::Result<()> {
+        note(self.calls, "rename", from)?;
+        self.rt.rename(from, to)
+    }
+
+    fn open_dir(&self, _path: &str) -> io::Result<io::Empty> {
+        Err(ErrorKind::Unsupported.into())
+    }
+
+    fn metadata(&self, _path: &str) -> io::Result<Metadata> {
+        Err(ErrorKind::Unsupported.into())
+    }
+
+    fn symlink_metadata(&self, _path: &str) -> io::Result<Metadata> {
+        Err(ErrorKind::Unsupported.into())
+    }
+
+    fn remove_file(&self, _path: &str) -> io::Result<()> {
+        Err(ErrorKind::Unsupported.into())
+    }
+
+    fn create_dir(&self, _path: &str) -> io::Result<()> {
+        Err(ErrorKind::Unsupported.into())
+    }
+
+    fn remove_dir(&self, _path: &str) -> io::Result<()> {
+        Err(ErrorKind::Unsupported.into())
+    }
+
+    fn remove_dir_all<B: Allocator>(&self, _alloc: B, _path: &str) -> io::Result<()> {
+        Err(ErrorKind::Unsupported.into())
+    }
+}
+
+impl Read for WatchedFile<'_> {
+    fn read(&mut self, _into: &mut [u8]) -> io::Result<usize> {
+        Err(ErrorKind::Unsupported.into())
+    }
+}
+
+impl Write for WatchedFile<'_> {
+    fn write(&mut self, _piece: &[u8]) -> io::Result<usize> {
+        Err(ErrorKind::Unsupported.into())
+    }
+
+    fn flush(&mut self) -> io::Result<()> {
+        Err(ErrorKind::Unsupported.into())
+    }
+}
+
+impl Seek for WatchedFile<'_> {
+    fn seek(&mut self, _to: SeekFrom) -> io::Result<u64> {
+        Err(ErrorKind::Unsupported.into())
+    }
+}
+
+impl OpenFile for WatchedFile<'_> {
+    fn metadata(&self) -> io::Result<Metadata> {
+        self.note("size")?;
+        self.file.metadata()
+    }
+
+    fn set_len(&self, size: u64) -> io::Result<()> {
+        self.note("cut")?;
+        self.file.set_len(size)
+    }
+
+    fn sync_all(&self) -> io::Result<()> {
+        self.note("sync all")?;
+        self.file.sync_all()
+    }
+
+    fn sync_data(&self) -> io::Result<()> {
+        self.note("sync")?;
+        self.file.sync_data()
+    }
+}
+
+// Reads and writes are of two bytes at most, and some are interrupted.
+impl FileExt for WatchedFile<'_> {
+    fn read_at(&self, into: &mut [u8], at: u64) -> io::Result<usize> {
+        self.note("read")?;
+        if is_interrupted(self.calls) {
+            return Err(ErrorKind::Interrupted.into());
+        }
+        let most = into.len().min(2);
+        self.file.read_at(&mut into[..most], at)
+    }
+
+    fn write_at(&self, bytes: &[u8], at: u64) -> io::Result<usize> {
+        self.note("write")?;
+        if is_interrupted(self.calls) {
+            return Err(ErrorKind::Interrupted.into());
+        }
+        let most = bytes.len().min(2);
+        self.file.write_at(&bytes[..most], at)
+    }
+}
+
+impl SiteFile for WatchedFile<'_> {
+    fn number(&self) -> i32 {
+        self.number
+    }
+
+    fn lock_now(&self) -> io::Result<()> {
+        self.note("lock")?;
+        self.file.lock_now()
+    }
+}
+
+// The disk over the files of a folder that is made for this.
+fn disk_over<R: Files>(rt: &HostRuntime, files: R) -> Result<FileDisk<R>, AllocError>
+where
+    R::File: SiteFile,
+    R: Drop,
+{
+    let alloc = rt.alloc();
+    Ok(FileDisk::new(
+        files,
+        String::from_str(alloc, "qm_files_test/lock")?,
+        String::from_str(alloc, "qm_files_test/master")?,
+        String::from_str(alloc, "qm_files_test/one")?,
+        String::from_str(alloc, "qm_files_test/two")?,
+    ))
+}
+
+fn disk_watched<'a>(
+    rt: &HostRuntime,
+    calls: &'a RefCell<Calls>,
+) -> Result<FileDisk<Watched<'a>>, AllocError> {
+    let files = Watched {
+        rt: rt.clone()?,
+        calls,
+    };
+    disk_over(rt, files)
+}
+
+fn new_folder(rt: &HostRuntime) -> io::Result<()> {
+    let _ = fs::remove_dir_all(rt, "qm_files_test");
+    fs::create_dir(rt, "qm_files_test")
+}
+
+// One call of each kind on file 1, which is then empty, and whether it held.
+fn each_call<R: Files>(disk: &mut FileDisk<R>) -> [bool; 5]
+where
+    R::File: SiteFile,
+{
+    [
+        disk.write(1, 0, b"abc").is_ok(),
+        disk.size(1) == Ok(3),
+        disk.read(1, 1, &mut [0, 0]).is_ok(),
+        disk.cut(1, 1).is_ok(),
+        disk.sync(1).is_ok(),
+    ]
+}
+
+const LOOKED: &str = "open qm_files_test
+open qm_files_test/lock
+lock qm_files_test/lock
+size qm_files_test/lock
+";
+
+const MARKED: &str = "cut qm_files_test/lock
+write qm_files_test/lock
+sync qm_files_test/lock
+";
+
+const NOTHING_RENEWED: &str = "open qm_files_test/master
+open qm_files_test/one
+open qm_files_test/two
+";
+
+const RENEWED: &str = "open qm_files_test/master
+open qm_files_test/one
+lock qm_files_test/one
+copy qm_files_test/one
+open qm_files_test/one.NEW
+lock qm_files_test/one.NEW
+sync all qm_files_test/one.NEW
+rename qm_files_test/one.NEW
+open qm_files_test
+sync all qm_files_test
+open qm_files_test/two
+";
+
+const OPENED: &str = "open qm_files_test/one
+lock qm_files_test/one
+open qm_files_test
+sync all qm_files_test
+";
+
+const CALLED: &str = "write qm_files_test/one
+size qm_files_test/one
+read qm_files_test/one
+cut qm_files_test/one
+sync qm_files_test/one
+";
+
+// The same behind the renewal, whose file keeps here the name that it was opened by.
+const CALLED_ANEW: &str = "write qm_files_test/one.NEW
+size qm_files_test/one.NEW
+read qm_files_test/one.NEW
+cut qm_files_test/one.NEW
+sync qm_files_test/one.NEW
+";
+
+// How the disk is let go.
+#[derive(Clone, Copy, PartialEq, Eq)]
+enum Leaving {
+    Closed,
+    Dropped,
+}
+
+#[test]
+fn the_system_is_asked_in_this_order(rt: HostRuntime) -> Result<(), Fail> {
+    new_folder(&rt)?;
+    // Runs one behind the other: what each asks for.
+    let read = "read qm_files_test/lock\n";
+    let runs: [(Leaving, [&str; 6]); 4] = [
+        (
+            Leaving::Closed,
+            [LOOKED, MARKED, NOTHING_RENEWED, OPENED, CALLED, MARKED],
+        ),
+        (Leaving::Dropped, [LOOKED, read, MARKED, OPENED, CALLED, ""]),
+        (
+            Leaving::Closed,
+            [LOOKED, read, MARKED, RENEWED, CALLED_ANEW, MARKED],
+        ),
+        (
+            Leaving::Closed,
+            [LOOKED, read, MARKED, OPENED, CALLED, MARKED],
+        ),
+    ];
+    for (leaving, asked) in runs {
+        let calls = Calls::new(&rt, 0, 3);
+        let mut disk = disk_watched(&rt, &calls)?;
+        assert_eq!(rt; each_call(&mut disk), [true; 5]);
+        match leaving {
+            Leaving::Closed => disk.close(),
+            Leaving::Dropped => drop(disk),
+        }
+        let mut wanted = String::new(rt.alloc());
+        for part in asked {
+            wanted.push_str(part)?;
+        }
+        let calls = calls.into_inner();
+        assert_eq!(rt; calls.lines.as_str(), wanted.as_str());
+        assert_eq!(rt;
+            fs::read(&rt, "qm_files_test/one")?.as_slice(),
+            b"a".as_slice()
+        );
+    }
+    Ok(())
+}
+
+#[test]
+fn behind_a_call_that_failed_each_is_a_fault(rt: HostRuntime) -> Result<(), Fail> {
+    for failing in 1..60 {
+        new_folder(&rt)?;
+        let calls = Calls::new(&rt, failing, 1);
+        let mut disk = disk_watched(&rt, &calls)?;
+        let held = each_call(&mut disk);
+        let mut failed = false;
+        for holds in held {
+            assert!(rt; !failed || !holds, "call {failing}");
+            failed = !holds;
+        }
+        assert!(rt;
+            !failed || each_call(&mut disk) == [false; 5],
+            "call {failing}"
+        );
+        assert!(rt; !disk.is_in_use());
+        disk.close();
+        let ended = match fs::read(&rt, "qm_files_test/lock") {
+            Ok(mark) => mark.as_slice() == b"ended\n".as_slice(),
+            Err(_) => false,
+        };
+        assert!(rt; !failed || !ended, "call {failing}");
+    }
+    Ok(())
+}
+
+#[test]
+fn two_disks_over_one_folder_keep_apart(rt: HostRuntime) -> Result<(), Fail> {
+    new_folder(&rt)?;
+    let mut first = disk_over(&rt, rt.clone()?)?;
+    assert_eq!(rt; each_call(&mut first), [true; 5]);
+    let mut second = disk_over(&rt, rt.clone()?)?;
+    assert_eq!(rt; each_call(&mut second), [false; 5]);
+    assert!(rt; second.is_in_use());
+    second.close();
+    assert_eq!(rt; each_call(&mut first), [true; 5]);
+    first.close();
+    let mut third = disk_over(&rt, rt.clone()?)?;
+    assert_eq!(rt; each_call(&mut third), [true; 5]);
+    Ok(())
+}
