@@ -1,53 +1,53 @@
 -- What a crash leaves at each moment of an append.
 use Rattle.std.proofs.Common.{◌≡◌, inl, sym, ◌∙◌, ap, subst, ℕ, ◌+◌, ◌^◌, ◌<◌, ◌≤◌, List, [], ◌∷◌, ◌++◌, length, drop, arith}
-use Rattle.qm_disk.specs.Disk.{Image, spliced, Torn, KeepsOthers}
+use Rattle.qm_disk.specs.Disk.{Meaning, Image, spliced, Torn, KeepsOthers}
 use Rattle.qm_glog.specs.Records.{text, size_of, IsLog}
 use Rattle.qm_glog.specs.Reading.{length-text}
 use Rattle.qm_glog.specs.Moments.{Written, Appended}
 use Rattle.qm_glog.proofs.Adding.{tail, staged, room, length-staged, torn_behind, written_behind, torn_gate, written_gate, after_gate}
 
-module _ {D : Type 0} (seen : D → ℕ → List ℕ) (may_leave : D → ℕ → List ℕ → Type 0) (file : ℕ) (old : D) (bodies : List (List ℕ)) (log : IsLog (seen old file) bodies)
+module _ {D : Type 0} (m : Meaning D) (file : ℕ) (old : D) (bodies : List (List ℕ)) (log : IsLog (m.seen old file) bodies)
     (end : ℕ) (at_end : end ≡ size_of bodies) (body : List ℕ) (small : length body < 2 ^ 32) where
   is : end ≡ length (text bodies)
   is = at_end ∙ sym (length-text bodies)
 
   -- there is a gate behind them
-  pub gate_stands : end + 1 ≤ length (seen old file)
-  gate_stands = room bodies log.fit end is body small (seen old file) log.gate log.rest log.shut log.whole
+  pub gate_stands : end + 1 ≤ length (m.seen old file)
+  gate_stands = room bodies log.fit end is body small (m.seen old file) log.gate log.rest log.shut log.whole
 
   -- the first write leaves the old records
-  pub first_leaves : (n : ℕ) (image : Image) → Written (may_leave old) file (end + 1) n (seen old file) image → Appended (may_leave old) file bodies body image
+  pub first_leaves : (n : ℕ) (image : Image) → Written (m.may_leave old) file (end + 1) n (m.seen old file) image → Appended (m.may_leave old) file bodies body image
   first_leaves n image written = record {
-    records = inl (torn_behind bodies log.fit end is body small (seen old file) log.gate log.rest log.shut log.whole n (image file) written.torn);
+    records = inl (torn_behind bodies log.fit end is body small (m.seen old file) log.gate log.rest log.shut log.whole n (image file) written.torn);
     others = written.others;
   }
 
   rest : ℕ → List ℕ
-  rest n = drop n (seen old file)
+  rest n = drop n (m.seen old file)
 
-  module _ (mid : D) (bytes : List ℕ) (spelled : bytes ≡ tail body) (wrote : seen mid file ≡ spliced (end + 1) bytes (seen old file)) where
+  module _ (mid : D) (bytes : List ℕ) (spelled : bytes ≡ tail body) (wrote : m.seen mid file ≡ spliced (end + 1) bytes (m.seen old file)) where
     abbrev behind : List ℕ
-    behind = drop (end + 1 + length (tail body)) (seen old file)
+    behind = drop (end + 1 + length (tail body)) (m.seen old file)
 
-    is_staged : seen mid file ≡ staged bodies body log.gate behind
+    is_staged : m.seen mid file ≡ staged bodies body log.gate behind
     is_staged =
-        wrote ∙ ap (λ (l : List ℕ). spliced (end + 1) l (seen old file)) spelled
-        ∙ written_behind bodies log.fit end is body small (seen old file) log.gate log.rest log.shut log.whole
+        wrote ∙ ap (λ (l : List ℕ). spliced (end + 1) l (m.seen old file)) spelled
+        ∙ written_behind bodies log.fit end is body small (m.seen old file) log.gate log.rest log.shut log.whole
 
     -- the gate is still there
-    pub gate_still_stands : end ≤ length (seen mid file)
+    pub gate_still_stands : end ≤ length (m.seen mid file)
     gate_still_stands = omega (arith, ap (λ (l : List ℕ). length l) is_staged, length-staged bodies log.fit end is body small log.gate behind)
 
     -- the second leaves them with the new one or without
-    pub second_leaves : KeepsOthers seen may_leave file old mid → (image : Image) → Written (may_leave mid) file end 1 (seen mid file) image → Appended (may_leave old) file bodies body image
+    pub second_leaves : KeepsOthers m file old mid → (image : Image) → Written (m.may_leave mid) file end 1 (m.seen mid file) image → Appended (m.may_leave old) file bodies body image
     second_leaves others image written = record {
       records = torn_gate bodies log.fit end is body small log.gate behind (image file) (subst (λ (l : List ℕ). Torn end 1 l (image file)) is_staged written.torn);
       others = λ f le other. others.no_more f (image f) le other (written.others f le other);
     }
 
     -- and then the file has it
-    pub has_both : (new : D) → seen new file ≡ spliced end (1 ∷ []) (seen mid file) → IsLog (seen new file) (bodies ++ body ∷ [])
+    pub has_both : (new : D) → m.seen new file ≡ spliced end (1 ∷ []) (m.seen mid file) → IsLog (m.seen new file) (bodies ++ body ∷ [])
     has_both new opened =
-        let whole : seen new file ≡ staged bodies body 1 behind =
+        let whole : m.seen new file ≡ staged bodies body 1 behind =
         opened ∙ ap (λ (l : List ℕ). spliced end (1 ∷ []) l) is_staged ∙ written_gate bodies log.fit end is body small log.gate behind in
         subst (λ (l : List ℕ). IsLog l (bodies ++ body ∷ [])) (sym whole) (after_gate bodies log.fit end is body small behind)

@@ -1,11 +1,11 @@
 -- What reading finds at a place of a file.
 use Rattle.std.specs.Prelude.{◌≡◌, ◌≢◌, ℕ, ◌^◌, ◌<◌, ◌≤◌, ◌+◌, List, [], ◌∷◌, ◌++◌, slice_index, Result, Ok, Err}
 use Rattle.std.specs.Int.{w32, to_le_bytes}
-use Rattle.qm_glog.specs.Records.{IsLog, IsBroken, IsDamaged}
+use Rattle.qm_glog.specs.Records.{BeginsWithRecord, IsLog, IsBroken, IsDamaged}
 use Rattle.qm_glog.specs.Bodies.{list_of}
 use Rattle.qm_glog.specs.declared.bodies.Bodies.{Bodies}
-use Rattle.qm_glog.specs.declared.fault.LogFault.{LogFault}
-use Rattle.qm_glog.specs.declared.fault.LogFault.TheVariants.{Disk, Unformatted, Damaged, Full, NoMemory}
+use Rattle.qm_glog.specs.declared.fault.OpenFault.{OpenFault}
+use Rattle.qm_glog.specs.declared.fault.OpenFault.TheVariants.{Disk, Unformatted, Damaged, NoMemory}
 use Rattle.qm_glog.specs.declared.reading.Head.{Head}
 use Rattle.qm_glog.specs.declared.reading.Head.TheVariants.{Closed, Open}
 
@@ -17,42 +17,32 @@ length_bytes head = slice_index head 1 ∷ slice_index head 2 ∷ slice_index he
 abbrev pub IsClosed : List ℕ → Type 0
 IsClosed rest = (gate : ℕ) × (more : List ℕ) × (rest ≡ gate ∷ more) × (gate ≢ 1)
 
--- the fault is of the disk or of memory, or it is damage at this place, where this is broken
-abbrev pub IsCause : List ℕ → ℕ → LogFault → Type 0
-IsCause rest place Disk = Unit {0}
-IsCause rest place NoMemory = Unit {0}
-IsCause rest place (Damaged at) = (at ≡ place) × IsBroken rest
-IsCause rest place (Unformatted byte) = ⊥
-IsCause rest place (Full need cap) = ⊥
+-- the disk failed, or this file is damaged at this place, where this is broken
+abbrev pub IsHeadFault : ℕ → List ℕ → ℕ → OpenFault → Type 0
+IsHeadFault number rest place Disk = Unit {0}
+IsHeadFault number rest place (Damaged n at) = (n ≡ number) × (at ≡ place) × IsBroken rest
+IsHeadFault number rest place (Unformatted byte) = ⊥
+IsHeadFault number rest place NoMemory = ⊥
 
 -- a closed gate, or an open one and the length of a body
-abbrev pub HeadAt : List ℕ → ℕ → Result Head LogFault → Type 0
-HeadAt rest place (Ok Closed) = IsClosed rest
-HeadAt rest place (Ok (Open n)) = (n < 2 ^ 32) × (more : List ℕ) × (rest ≡ 1 ∷ (to_le_bytes w32 n ++ more))
-HeadAt rest place (Err e) = IsCause rest place e
+abbrev pub HeadAt : ℕ → List ℕ → ℕ → Result Head OpenFault → Type 0
+HeadAt number rest place (Ok Closed) = IsClosed rest
+HeadAt number rest place (Ok (Open n)) = (n < 2 ^ 32) × (more : List ℕ) × (rest ≡ 1 ∷ (to_le_bytes w32 n ++ more))
+HeadAt number rest place (Err e) = IsHeadFault number rest place e
 
 -- an open record ends within so many bytes
 abbrev pub EndsWithin : ℕ → ℕ → Head → Type 0
 EndsWithin place size Closed = Unit {0}
 EndsWithin place size (Open n) = place + 5 + n ≤ size
 
--- neither an empty file nor a full one
-abbrev pub IsReadFault : List ℕ → LogFault → Type 0
-IsReadFault file Disk = Unit {0}
-IsReadFault file NoMemory = Unit {0}
-IsReadFault file (Damaged place) = IsDamaged file place
-IsReadFault file (Unformatted byte) = ⊥
-IsReadFault file (Full need cap) = ⊥
+-- not that the file is empty
+abbrev pub IsReadFault : ℕ → List ℕ → OpenFault → Type 0
+IsReadFault number file Disk = Unit {0}
+IsReadFault number file NoMemory = BeginsWithRecord file
+IsReadFault number file (Damaged n place) = (n ≡ number) × IsDamaged file place
+IsReadFault number file (Unformatted byte) = ⊥
 
 -- the records of a file, or why it has none
-abbrev pub RecordsOf : List ℕ → Result (Bodies × ℕ) LogFault → Type 0
-RecordsOf file (Ok found) = IsLog file (list_of found.0)
-RecordsOf file (Err e) = IsReadFault file e
-
--- such a fault says nothing of a cap
-abbrev pub IsNotFull : LogFault → Type 0
-IsNotFull Disk = Unit {0}
-IsNotFull NoMemory = Unit {0}
-IsNotFull (Unformatted byte) = Unit {0}
-IsNotFull (Damaged place) = Unit {0}
-IsNotFull (Full need cap) = ⊥
+abbrev pub RecordsOf : ℕ → List ℕ → Result (Bodies × ℕ) OpenFault → Type 0
+RecordsOf number file (Ok found) = IsLog file (list_of found.0)
+RecordsOf number file (Err e) = IsReadFault number file e

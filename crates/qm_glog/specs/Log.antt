@@ -1,9 +1,11 @@
 -- What a log shows.
-use Rattle.std.specs.Prelude.{ℕ, ◌+◌, ◌-◌, ◌^◌, min, List, length}
-use Rattle.qm_disk.specs.Disk.{Only}
+use Rattle.std.specs.Prelude.{◌≡◌, ℕ, ◌+◌, ◌-◌, ◌^◌, ◌<◌, ◌≤◌, min, List, length, Result, Ok, Err}
+use Rattle.qm_disk.specs.Disk.{Meaning, Only}
 use Rattle.qm_glog.specs.Records.{size_of, IsLog}
 use Rattle.qm_glog.specs.Bodies.{list_of}
 use Rattle.qm_glog.specs.declared.log.Log.{Log}
+use Rattle.qm_glog.specs.declared.fault.AppendFault.{AppendFault}
+use Rattle.qm_glog.specs.declared.fault.AppendFault.TheVariants.{Disk, Full}
 
 -- the bodies of its records, the first one first
 abbrev pub bodies_of : Log → List (List ℕ)
@@ -25,7 +27,18 @@ spare_of log = log.spare
 abbrev pub need_of : List (List ℕ) → List ℕ → ℕ
 need_of bodies body = min (size_of bodies + length body + 6) (2 ^ 64 - 1)
 
+-- the log stands in this file, under this cap
+pub record StandsIn (file cap : ℕ) (log : Log) : Type 0 where
+  pub file_is : log.file ≡ file
+  pub cap_is : log.cap ≡ cap
+
+-- An append of a record that needs more than the cap is full. No other one is: it holds, or the disk fails.
+abbrev pub FitsOrIsFull : {T : Type 0} → ℕ → ℕ → Result T AppendFault → Type 0
+FitsOrIsFull need cap (Ok done) = need ≤ cap
+FitsOrIsFull need cap (Err Disk) = need ≤ cap
+FitsOrIsFull need cap (Err (Full n c)) = (cap < need) × (n ≡ need) × (c ≡ cap)
+
 -- the file is as the last call of this log left it: it holds the log's records, all on the disk
-pub record IsAsLeft {D : Type 0} (seen : D → ℕ → List ℕ) (may_leave : D → ℕ → List ℕ → Type 0) (log : Log) (disk : D) : Type 0 where
-  pub records : IsLog (seen disk log.file) (bodies_of log)
-  pub durable : Only (seen disk log.file) (may_leave disk log.file)
+pub record IsAsLeft {D : Type 0} (m : Meaning D) (log : Log) (disk : D) : Type 0 where
+  pub records : IsLog (m.seen disk log.file) (bodies_of log)
+  pub durable : Only (m.seen disk log.file) (m.may_leave disk log.file)

@@ -1,20 +1,20 @@
 -- What opening a file answers.
 use Rattle.std.specs.Prelude.{◌≡◌, ◌≢◌, ℕ, List, [], Result, Ok, Err}
-use Rattle.qm_glog.specs.Records.{IsLog, IsDamaged}
+use Rattle.qm_glog.specs.Records.{BeginsWithRecord, IsLog, IsDamaged}
 use Rattle.qm_glog.specs.Log.{bodies_of}
 use Rattle.qm_glog.specs.declared.log.Log.{Log}
-use Rattle.qm_glog.specs.declared.fault.LogFault.{LogFault}
-use Rattle.qm_glog.specs.declared.fault.LogFault.TheVariants.{Disk, Unformatted, Damaged, Full, NoMemory}
+use Rattle.qm_glog.specs.declared.fault.OpenFault.{OpenFault}
+use Rattle.qm_glog.specs.declared.fault.OpenFault.TheVariants.{Disk, Unformatted, Damaged, NoMemory}
 
--- the file is empty, or damaged at this place; or the disk or memory failed
-abbrev pub IsOpenFault : List ℕ → LogFault → Type 0
-IsOpenFault file Disk = Unit {0}
-IsOpenFault file NoMemory = Unit {0}
-IsOpenFault file (Unformatted byte) = (byte ≡ 0) × (file ≡ [])
-IsOpenFault file (Damaged place) = (file ≢ []) × IsDamaged file place
-IsOpenFault file (Full need cap) = ⊥
+-- The file of this number is empty, or damaged at this place; or the disk failed; or memory ran out, behind a record
+-- that can be read.
+abbrev pub IsOpenFault : ℕ → List ℕ → OpenFault → Type 0
+IsOpenFault number file Disk = Unit {0}
+IsOpenFault number file NoMemory = BeginsWithRecord file
+IsOpenFault number file (Unformatted byte) = (byte ≡ 0) × (file ≡ [])
+IsOpenFault number file (Damaged n place) = (n ≡ number) × (file ≢ []) × IsDamaged file place
 
 -- the file's records, or why it has none
-abbrev pub Opens : List ℕ → Result Log LogFault → Type 0
-Opens file (Ok log) = IsLog file (bodies_of log)
-Opens file (Err e) = IsOpenFault file e
+abbrev pub Opens : ℕ → List ℕ → Result Log OpenFault → Type 0
+Opens number file (Ok log) = IsLog file (bodies_of log)
+Opens number file (Err e) = IsOpenFault number file e

@@ -27,6 +27,16 @@ pub size_of-push : (bodies : List (List ℕ)) (body : List ℕ) → size_of (bod
 size_of-push [] body = omega arith
 size_of-push (b ∷ bodies) body = omega (arith, size_of-push bodies body)
 
+-- short records are fit
+pub Fit-short : (bodies : List (List ℕ)) → size_of bodies < 2 ^ 32 → Fit bodies
+Fit-short [] short = tt
+Fit-short (body ∷ bodies) short = (omega (arith, short), Fit-short bodies (omega (arith, short)))
+
+-- records behind others
+pub size_of-append : (a b : List (List ℕ)) → size_of (a ++ b) ≡ size_of a + size_of b
+size_of-append [] b = omega arith
+size_of-append (body ∷ a) b = omega (arith, size_of-append a b)
+
 pub Fit-push : (bodies : List (List ℕ)) (body : List ℕ) → Fit bodies → length body < 2 ^ 32 → Fit (bodies ++ body ∷ [])
 Fit-push [] body fit small = (small, tt)
 Fit-push (b ∷ bodies) body fit small = (fit.0, Fit-push bodies body fit.1 small)

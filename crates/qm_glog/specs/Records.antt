@@ -32,6 +32,10 @@ pub record IsLog (file : List ℕ) (bodies : List (List ℕ)) : Type 0 where
   pub shut : gate ≢ 1
   pub fit : Fit bodies
 
+-- the file begins with a whole record
+abbrev pub BeginsWithRecord : List ℕ → Type 0
+BeginsWithRecord file = (body : List ℕ) × (rest : List ℕ) × (length body < 2 ^ 32) × (file ≡ 1 ∷ (behind_gate body ++ rest))
+
 -- no record and no closed gate: the file ends, or an open record runs past its end
 abbrev pub IsBroken : List ℕ → Type 0
 IsBroken [] = Unit {0}

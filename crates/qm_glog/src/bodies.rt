@@ -1,12 +1,10 @@
 // The bodies of records, one behind another.
-ghost use Rattle.std.specs.Prelude.{◌≡◌, ◌⊎◌, ◌+◌, ◌<◌, ◌≤◌, [], ◌∷◌, ◌++◌, IsTrue, length, take, drop, vec_len, IfErr, OnOk, OnErr, IsErrOf, slice_get, slice_index, Some};
-ghost use Rattle.qm_disk.specs.Disk.{Rose};
+ghost use Rattle.std.specs.Prelude.{◌≡◌, ◌+◌, ◌<◌, ◌≤◌, [], ◌∷◌, ◌++◌, IsTrue, IsErr, length, take, drop, vec_len, vec_capacity, OnOk, OnErr, slice_get, slice_index, Some};
+ghost use Rattle.qm_disk.specs.Disk.{OnlyLooks, TellsFaults};
 ghost use Rattle.qm_glog.specs.Records.{size_of};
-ghost use Rattle.qm_glog.specs.Moments.{OnlyLooks};
 ghost use Rattle.qm_glog.specs.Cut.{AreEnds, AreEnds-prop};
 
-use crate::LogFault;
-use qm_disk::Disk;
+use qm_disk::{Disk, DiskFault};
 use std::alloc::{AllocError, Global};
 
 /// The bodies of records, one behind another in one piece of memory. Beside its bytes a body takes the eight bytes
@@ -91,57 +89,62 @@ impl Bodies {
         self.ends.push_reserved(self.bytes.len());
     }
 
-    // Adds a body that stands in a file. An `Err` leaves the bodies.
+    // Adds a body.
+    pub(crate) fn push(&mut self, body: &[u8]) -> Result<(), AllocError>
+        ensures { OnOk result (list_of self.new ≡ list_of self.old ++ body.now ∷ []) }
+    {
+        self.reserve(body.len())?;
+        self.push_reserved(body);
+        Ok(())
+    }
+
+    // Adds a body that stands in a file, for which there is memory.
     pub(crate) fn read<D: Disk>(
         &mut self,
         disk: &mut D,
         file: u8,
         at: u64,
         count: usize,
-    ) -> Result<(), LogFault>
+    ) -> Result<(), DiskFault>
         requires file { file ≤ 2 }
-        requires within { IsTrue D.tells → at + count ≤ length (D.seen disk.old file) }
-        ensures added { OnOk result (IsTrue D.tells → list_of self.new ≡ list_of self.old ++ take count (drop at (D.seen disk.old file)) ∷ []) }
+        requires within { IsTrue D.meaning.tells → at + count ≤ length (D.meaning.seen disk.old file) }
+        requires bytes { count ≤ free_bytes self.old }
+        requires end { 0 < free_ends self.old }
+        ensures added { OnOk result (IsTrue D.meaning.tells → list_of self.new ≡ list_of self.old ++ take count (drop at (D.meaning.seen disk.old file)) ∷ []) }
         ensures size { OnOk result (size_of (list_of self.new) ≡ size_of (list_of self.old) + 5 + count) }
-        ensures err { OnErr result (list_of self.new ≡ list_of self.old) }
-        ensures cause { IfErr result (λ e. (e ≡ LogFault.Disk) ⊎ (e ≡ LogFault.NoMemory)) }
-        ensures looks { OnlyLooks D.seen D.may_leave D.moment D.left_since disk.old disk.new }
-        ensures faults { D.faults disk.old ≤ D.faults disk.new }
-        ensures failed { IsErrOf result LogFault.Disk → Rose (D.faults disk.old) (D.faults disk.new) }
+        ensures looks { OnlyLooks D.meaning disk.old disk.new }
+        ensures faults { TellsFaults D.meaning disk.old disk.new (IsErr result) }
     {
-        self.ends.reserve(1)?;
         read_onto(disk, file, at, count, &mut self.bytes)?;
         self.ends.push_reserved(self.bytes.len());
         Ok(())
     }
 }
 
-// Reads so many bytes of a file to the end of others. An `Err` leaves these.
+// Reads so many bytes of a file to the end of others, for which there is memory. An `Err` leaves these.
 fn read_onto<D: Disk>(
     disk: &mut D,
     file: u8,
     at: u64,
     count: usize,
     bytes: &mut Vec<u8>,
-) -> Result<(), LogFault>
+) -> Result<(), DiskFault>
     requires file { file ≤ 2 }
-    requires within { IsTrue D.tells → at + count ≤ length (D.seen disk.old file) }
+    requires within { IsTrue D.meaning.tells → at + count ≤ length (D.meaning.seen disk.old file) }
+    requires room { vec_len bytes.old + count ≤ vec_capacity bytes.old }
     ensures before { take (vec_len bytes.old) bytes.new.items ≡ bytes.old.items }
     ensures len { OnOk result (vec_len bytes.new ≡ vec_len bytes.old + count) }
-    ensures read { OnOk result (IsTrue D.tells → drop (vec_len bytes.old) bytes.new.items ≡ take count (drop at (D.seen disk.old file))) }
+    ensures read { OnOk result (IsTrue D.meaning.tells → drop (vec_len bytes.old) bytes.new.items ≡ take count (drop at (D.meaning.seen disk.old file))) }
     ensures err { OnErr result (bytes.new.items ≡ bytes.old.items) }
-    ensures cause { IfErr result (λ e. (e ≡ LogFault.Disk) ⊎ (e ≡ LogFault.NoMemory)) }
-    ensures looks { OnlyLooks D.seen D.may_leave D.moment D.left_since disk.old disk.new }
-    ensures faults { D.faults disk.old ≤ D.faults disk.new }
-    ensures failed { IsErrOf result LogFault.Disk → Rose (D.faults disk.old) (D.faults disk.new) }
+    ensures looks { OnlyLooks D.meaning disk.old disk.new }
+    ensures faults { TellsFaults D.meaning disk.old disk.new (IsErr result) }
 {
     let start = bytes.len();
-    let end = start.checked_add(count).ok_or(AllocError)?;
-    bytes.resize(end, 0)?;
+    bytes.resize(start + count, 0).unwrap();
     let read = disk.read(file, at, &mut bytes[start..]);
     if let Err(fault) = read {
         bytes.truncate(start);
-        return Err(fault.into());
+        return Err(fault);
     }
     Ok(())
 }

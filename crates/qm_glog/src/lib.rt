@@ -7,14 +7,14 @@ mod bodies;
 mod fault;
 mod laws;
 mod log;
+mod making;
 mod opening;
 mod reading;
 mod spare;
-#[cfg(test)]
-mod tests;
 mod through;
 
-pub use fault::LogFault;
+pub use fault::{AppendFault, MakeFault, OpenFault};
 pub use laws::{one_list, one_place, sound_if_log};
 pub use log::{GREATEST_CAP, Log};
-pub use opening::{format, open};
+pub use making::{create, format};
+pub use opening::open;

@@ -1,10 +1,11 @@
 // The log and its calls on records.
-ghost use Rattle.std.specs.Prelude.{◌≡◌, ◌⊎◌, ◌+◌, ◌<◌, ◌≤◌, ◌↔◌, [], ◌∷◌, ◌++◌, IsTrue, length, vec_capacity, IfErr, OnOk, OnErr, IsErrOf, slice_get, Some};
-ghost use Rattle.qm_disk.specs.Disk.{KeepsOthers, LeavesOnly, Rose};
+ghost use Rattle.std.specs.Prelude.{◌≡◌, ◌+◌, ◌<◌, ◌≤◌, [], ◌∷◌, ◌++◌, IsTrue, length, vec_capacity, OnOk, OnErr, IsErrOf, slice_get, Some};
+ghost use Rattle.qm_disk.specs.Disk.{KeepsOthers, LeavesOnly, TellsFaults};
 ghost use Rattle.qm_glog.specs.Records.{size_of};
 ghost use Rattle.qm_glog.specs.Bodies.{list_of, free_bytes, free_ends};
+ghost use Rattle.qm_glog.specs.declared.log.TheConstants.{GREATEST_CAP};
 
-use crate::LogFault;
+use crate::AppendFault;
 use crate::bodies::Bodies;
 use crate::spare::spell;
 use crate::through::write_through;
@@ -27,7 +28,7 @@ pub struct Log {
     /// Memory for the next record as it is written.
     buffer: Vec<u8>,
     ghost in_disk: { file ≤ 2 },
-    ghost capped: { cap ≤ 268435456 },
+    ghost capped: { cap ≤ GREATEST_CAP },
     ghost at_end: { end ≡ size_of (list_of bodies) },
     ghost has_end: { 0 < spare → 0 < free_ends bodies },
     ghost has_bytes: { 0 < spare → spare ≤ free_bytes bodies + 1 },
@@ -36,17 +37,15 @@ pub struct Log {
 
 impl Log {
     ghost use Rattle.qm_glog.specs.Moments.{Appended};
-    ghost use Rattle.qm_glog.specs.Log.{bodies_of, file_of, cap_of, spare_of, need_of, IsAsLeft};
+    ghost use Rattle.qm_glog.specs.Log.{bodies_of, file_of, cap_of, spare_of, need_of, StandsIn, FitsOrIsFull, IsAsLeft};
 
     // The log with these bodies and this end, with nothing spare.
     pub(crate) fn of(alloc: Global, file: u8, cap: u64, bodies: Bodies, end: u64) -> Self
         requires file { file ≤ 2 }
-        requires cap { cap ≤ 268435456 }
+        requires cap { cap ≤ GREATEST_CAP }
         requires end { end ≡ size_of (list_of bodies) }
         ensures bodies { bodies_of result ≡ list_of bodies }
-        ensures file { file_of result ≡ file }
-        ensures cap { cap_of result ≡ cap }
-        ensures spare { spare_of result ≡ 0 }
+        ensures place { StandsIn file cap result }
     {
         Log {
             file,
@@ -56,18 +55,6 @@ impl Log {
             spare: 0,
             buffer: Vec::new(alloc),
         }
-    }
-
-    /// The log with this cap for later appends.
-    pub fn with_cap(mut self, cap: u64) -> Log
-        requires { cap ≤ 268435456 }
-        ensures bodies { bodies_of result ≡ bodies_of self }
-        ensures file { file_of result ≡ file_of self }
-        ensures cap { cap_of result ≡ cap }
-        ensures spare { spare_of result ≡ spare_of self }
-    {
-        self.cap = cap;
-        self
     }
 
     /// How many records there are.
@@ -97,8 +84,7 @@ impl Log {
         ensures ok { OnOk result (bytes < spare_of self.new) }
         ensures no_less { spare_of self.old ≤ spare_of self.new }
         ensures bodies { bodies_of self.new ≡ bodies_of self.old }
-        ensures file { file_of self.new ≡ file_of self.old }
-        ensures cap { cap_of self.new ≡ cap_of self.old }
+        ensures place { StandsIn (file_of self.old) (cap_of self.old) self.new }
     {
         let record = bytes.checked_add(5).ok_or(AllocError)?;
         self.bodies.reserve(bytes)?;
@@ -110,34 +96,30 @@ impl Log {
 
     /// Adds a record, by four calls on the disk, two of them syncs. At `Ok` it is acknowledged: from then on each
     /// crash leaves it. At `Full` nothing has changed. After `Disk` the file has to be opened again as a new log.
-    pub fn append<D: Disk>(&mut self, disk: &mut D, body: &[u8]) -> Result<(), LogFault>
+    pub fn append<D: Disk>(&mut self, disk: &mut D, body: &[u8]) -> Result<(), AppendFault>
         requires room { length body.now < spare_of self.old }
         // The file is as this log's last call left it, and no call of this log answered `Disk`.
-        requires left { IsTrue D.tells → IsAsLeft D.seen D.may_leave self.old disk.old }
+        requires left { IsTrue D.meaning.tells → IsAsLeft D.meaning self.old disk.old }
 
         ensures ok { OnOk result (bodies_of self.new ≡ bodies_of self.old ++ body.now ∷ []) }
-        ensures acknowledged { OnOk result (IsTrue D.tells → IsAsLeft D.seen D.may_leave self.new disk.new) }
         ensures err { OnErr result (bodies_of self.new ≡ bodies_of self.old) }
+        ensures acknowledged { OnOk result (IsTrue D.meaning.tells → IsAsLeft D.meaning self.new disk.new) }
 
         // A crash at any moment of the call leaves the old records, or these and the new one.
-        ensures any_moment { IsTrue D.tells → LeavesOnly D.moment D.left_since disk.old disk.new
-            (Appended (D.may_leave disk.old) (file_of self.old) (bodies_of self.old) body.now) }
-        ensures others { KeepsOthers D.seen D.may_leave (file_of self.old) disk.old disk.new }
+        ensures any_moment { IsTrue D.meaning.tells → LeavesOnly D.meaning disk.old disk.new
+            (Appended (D.meaning.may_leave disk.old) (file_of self.old) (bodies_of self.old) body.now) }
+        ensures others { KeepsOthers D.meaning (file_of self.old) disk.old disk.new }
 
-        ensures full { IsErrOf result (LogFault.Full (need_of (bodies_of self.old) body.now) (cap_of self.old))
-            ↔ (cap_of self.old < need_of (bodies_of self.old) body.now) }
+        ensures full { FitsOrIsFull (need_of (bodies_of self.old) body.now) (cap_of self.old) result }
         ensures unchanged { cap_of self.old < need_of (bodies_of self.old) body.now → (self.new ≡ self.old) × (disk.new ≡ disk.old) }
-        ensures faults { D.faults disk.old ≤ D.faults disk.new }
-        ensures failed { IsErrOf result LogFault.Disk → Rose (D.faults disk.old) (D.faults disk.new) }
-        ensures no_other { IfErr result (λ e. (e ≡ LogFault.Disk) ⊎ (e ≡ LogFault.Full (need_of (bodies_of self.old) body.now) (cap_of self.old))) }
+        ensures faults { TellsFaults D.meaning disk.old disk.new (IsErrOf result AppendFault.Disk) }
 
         ensures spare { OnOk result (spare_of self.new ≡ 0) }
-        ensures file { file_of self.new ≡ file_of self.old }
-        ensures cap { cap_of self.new ≡ cap_of self.old }
+        ensures place { StandsIn (file_of self.old) (cap_of self.old) self.new }
     {
         let need = self.end.saturating_add(body.len() as u64).saturating_add(6);
         if need > self.cap {
-            return Err(LogFault::Full {
+            return Err(AppendFault::Full {
                 need,
                 cap: self.cap,
             });

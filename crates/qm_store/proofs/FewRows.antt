@@ -1,13 +1,14 @@
 -- A few rows fit under the cap, however long they are.
-use Rattle.std.proofs.Common.{◌*◌, ◌≤◌, List, [], ◌∷◌, length, arith}
+use Rattle.std.proofs.Common.{◌+◌, ◌*◌, ◌≤◌, List, [], ◌∷◌, length, arith}
 use Rattle.std.specs.List.{All, AllByRecursion}
 use Rattle.std.proofs.lemmas.List.Elements.{recursion_from_All}
 use Rattle.qm_kinds.specs.declared.record.Record.{Record}
 use Rattle.qm_glog.specs.Records.{size_of}
 use Rattle.qm_record.specs.Rows.{IsRow, rows_are_short}
 use Rattle.qm_record.specs.Spelling.{HasSpelling}
-use Rattle.qm_store.specs.Causes.{AreFewRows}
-use Rattle.qm_store.specs.Store.{bodies_for, need_for}
+use Rattle.qm_store.specs.Rows.{AreFewRows}
+use Rattle.qm_store.specs.Store.{bodies_for}
+use Rattle.qm_store.specs.declared.store.TheConstants.{QUEUE_CAP}
 
 -- the record is a row of an image
 abbrev IsRowOf : Record → Type 0
@@ -17,6 +18,6 @@ size_of-rows : (image : List Record) → AllByRecursion HasSpelling image → Al
 size_of-rows [] fit are = omega arith
 size_of-rows (row ∷ rows) fit are = omega (arith, rows_are_short row fit.0 are.0, size_of-rows rows fit.1 are.1)
 
-pub few_rows_fit : (image : List Record) → AreFewRows image → All HasSpelling image → need_for (bodies_for image) ≤ 134217728
+pub few_rows_fit : (image : List Record) → AreFewRows image → All HasSpelling image → size_of (bodies_for image) + 1 ≤ QUEUE_CAP
 few_rows_fit image are fit =
     omega (arith, are.few, size_of-rows image (recursion_from_All HasSpelling image fit) (recursion_from_All IsRowOf image are.rows))

@@ -1,28 +1,25 @@
 -- What the log of a file tells of its first byte.
-use Rattle.std.proofs.Common.{◌≡◌, ◌≢◌, refl, sym, ◌∙◌, ap, arith, ℕ, ◌<◌, List, [], ◌∷◌, ◌++◌, length, subst, Result, Ok, Err, IsErrAnd}
+use Rattle.std.proofs.Common.{◌≡◌, ◌≢◌, sym, ◌∙◌, ap, arith, ℕ, ◌<◌, List, [], ◌∷◌, ◌++◌, length, subst, Result, Ok, Err, IsErrAnd}
 use Rattle.qm_glog.specs.Records.{text, IsLog, IsBroken}
 use Rattle.qm_glog.specs.Opened.{IsOpenFault as IsLogFault}
 use Rattle.qm_glog.specs.declared.log.Log.{Log}
-use Rattle.qm_glog.specs.declared.fault.LogFault.{LogFault}
-use Rattle.qm_glog.specs.declared.fault.LogFault.TheVariants.{Disk, Unformatted, Damaged, Full, NoMemory}
-use Rattle.qm_store.specs.Fault.{store_fault}
+use Rattle.qm_glog.specs.declared.fault.OpenFault.{OpenFault}
+use Rattle.qm_glog.specs.declared.fault.OpenFault.TheVariants.{Disk, Unformatted, Damaged, NoMemory}
 use Rattle.qm_store.specs.Opened.{first_byte, IsOpenFault, IsFormatted, OpensLog}
-use Rattle.qm_store.specs.declared.fault.StoreFault.{StoreFault}
 
 broken_begins : (file rest : List ℕ) (bodies : List (List ℕ)) → file ≡ text bodies ++ rest → IsBroken rest → file ≢ [] → first_byte file ≡ 1
 broken_begins file [] [] whole broken some = absurd (some whole)
 broken_begins file (gate ∷ rest) [] whole broken some = ap first_byte whole ∙ broken.0
 broken_begins file rest (body ∷ bodies) whole broken some = ap first_byte whole
 
--- the fault of the log is that of the store
-pub fault_told : (file : List ℕ) (fault : LogFault) → IsLogFault file fault → IsOpenFault file (store_fault fault)
+-- a fault of the log is one of the store
+fault_told : (file : List ℕ) (fault : OpenFault) → IsLogFault 1 file fault → IsOpenFault file fault
 fault_told file Disk told = tt
-fault_told file NoMemory told = tt
+fault_told file NoMemory told = told
 fault_told file (Unformatted byte) told = (told.0 ∙ sym (ap first_byte told.1), λ one. let no : 0 ≡ 1 = sym told.0 ∙ one in absurd (omega (arith, no)))
-fault_told file (Damaged place) told = (refl, broken_begins file told.1.rest told.1.bodies told.1.whole told.1.broken told.0, told.1)
-fault_told file (Full need cap) told = told
+fault_told file (Damaged n place) told = (told.0, broken_begins file told.2.rest told.2.bodies told.2.whole told.2.broken told.1, told.2)
 
-pub fault_handed_on : (file : List ℕ) (fault : LogFault) (result : Result Log StoreFault) → IsErrAnd result (λ e. e ≡ store_fault fault) → IsLogFault file fault → OpensLog file result
+pub fault_handed_on : (file : List ℕ) (fault : OpenFault) (result : Result Log OpenFault) → IsErrAnd result (λ e. e ≡ fault) → IsLogFault 1 file fault → OpensLog file result
 fault_handed_on file fault (Ok log) is told = absurd is
 fault_handed_on file fault (Err e) is told = subst (IsOpenFault file) (sym is) (fault_told file fault told)
 

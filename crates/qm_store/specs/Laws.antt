@@ -6,20 +6,21 @@ use Rattle.qm_glog.specs.Records.{IsLog}
 use Rattle.qm_glog.specs.Reading.{one_list, sound_if_log}
 use Rattle.qm_store.specs.Store.{Holds}
 use Rattle.qm_store.specs.Opened.{first_byte, IsOpenFault}
-use Rattle.qm_store.specs.declared.fault.StoreFault.TheVariants.{Unformatted, Damaged}
+use Rattle.qm_store.specs.declared.store.TheConstants.{QUEUE_FILE}
+use Rattle.qm_glog.specs.declared.fault.OpenFault.TheVariants.{Unformatted, Damaged}
 
 -- a queue file has one list of records
 pub one_content : (image : Image) (a b : List (List ℕ)) → Holds a image → Holds b image → a ≡ b
-one_content image a b left right = one_list (image 1) a b left right
+one_content image a b left right = one_list (image QUEUE_FILE) a b left right
 
 -- a log of a record or more begins with an open gate
 pub begins_open : (file body : List ℕ) (bodies : List (List ℕ)) → IsLog file (body ∷ bodies) → first_byte file ≡ 1
 begins_open file body bodies log = ap first_byte log.whole
 
 -- where the queue file has a record, opening never finds it unformatted
-pub never_unformatted : (image : Image) (body : List ℕ) (bodies : List (List ℕ)) (byte : ℕ) → Holds (body ∷ bodies) image → IsOpenFault (image 1) (Unformatted byte) → ⊥
-never_unformatted image body bodies byte log fault = fault.1 (fault.0 ∙ begins_open (image 1) body bodies log)
+pub never_unformatted : (image : Image) (body : List ℕ) (bodies : List (List ℕ)) (byte : ℕ) → Holds (body ∷ bodies) image → IsOpenFault (image QUEUE_FILE) (Unformatted byte) → ⊥
+never_unformatted image body bodies byte log fault = fault.1 (fault.0 ∙ begins_open (image QUEUE_FILE) body bodies log)
 
 -- nor damaged, whatever records it has
-pub never_damaged : (image : Image) (bodies : List (List ℕ)) (file place : ℕ) → Holds bodies image → IsOpenFault (image 1) (Damaged file place) → ⊥
-never_damaged image bodies file place log fault = sound_if_log (image 1) bodies place log fault.2
+pub never_damaged : (image : Image) (bodies : List (List ℕ)) (file place : ℕ) → Holds bodies image → IsOpenFault (image QUEUE_FILE) (Damaged file place) → ⊥
+never_damaged image bodies file place log fault = sound_if_log (image QUEUE_FILE) bodies place log fault.2

@@ -1,6 +1,5 @@
-pub mod Fault
 pub mod Store
 pub mod Opened
-pub mod Causes
+pub mod Rows
 pub mod Moments
 pub mod Laws

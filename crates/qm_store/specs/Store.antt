@@ -1,11 +1,12 @@
--- What a store holds, and what its queue file, which is file 1 of the device, holds.
-use Rattle.std.specs.Prelude.{◌⊎◌, ℕ, ◌+◌, ◌-◌, ◌^◌, min, List, [], ◌∷◌, ◌++◌, take, map}
-use Rattle.qm_disk.specs.Disk.{Image, Only, OthersLeft}
+-- What a store holds, and what its queue file holds.
+use Rattle.std.specs.Prelude.{◌⊎◌, ℕ, List, [], ◌∷◌, ◌++◌, take, map, IsTrue}
+use Rattle.qm_disk.specs.Disk.{Meaning, Image, Only, OthersLeft, KeepsOthers, LeavesOnly}
 use Rattle.qm_glog.specs.Records.{size_of, IsLog}
 use Rattle.qm_glog.specs.Log as log
 use Rattle.qm_kinds.specs.declared.record.Record.{Record}
 use Rattle.qm_record.specs.Spelling.{record_text}
 use Rattle.qm_store.specs.declared.store.Open.{Open}
+use Rattle.qm_store.specs.declared.store.TheConstants.{QUEUE_FILE}
 
 -- the device
 abbrev pub disk_of : {D : Type 0} → Open D → D
@@ -15,17 +16,13 @@ disk_of store = store.disk
 abbrev pub bodies_of : {D : Type 0} → Open D → List (List ℕ)
 bodies_of store = log.bodies_of store.log
 
--- the greatest size that an append may give the queue file, in bytes
-abbrev pub cap_of : {D : Type 0} → Open D → ℕ
-cap_of store = log.cap_of store.log
-
 -- one more than the bytes of the longest body for which an append has memory, or 0 where it has none
 abbrev pub spare_of : {D : Type 0} → Open D → ℕ
 spare_of store = log.spare_of store.log
 
 -- the queue file has just these records
 abbrev pub Holds : List (List ℕ) → Image → Type 0
-Holds bodies image = IsLog (image 1) bodies
+Holds bodies image = IsLog (image QUEUE_FILE) bodies
 
 -- it has just these, or these and one more
 abbrev pub HoldsOneMore : List (List ℕ) → List ℕ → Image → Type 0
@@ -34,12 +31,18 @@ HoldsOneMore bodies body image = Holds bodies image ⊎ Holds (bodies ++ body �
 -- the same, and the other files are as a crash before the call may leave them
 pub record Appended (may_leave : ℕ → List ℕ → Type 0) (bodies : List (List ℕ)) (body : List ℕ) (image : Image) : Type 0 where
   pub records : HoldsOneMore bodies body image
-  pub others : OthersLeft may_leave 1 image
+  pub others : OthersLeft may_leave QUEUE_FILE image
 
 -- the queue file has just these records, and no crash can take one away
-pub record IsAtRest {D : Type 0} (seen : D → ℕ → List ℕ) (may_leave : D → ℕ → List ℕ → Type 0) (bodies : List (List ℕ)) (disk : D) : Type 0 where
-  pub records : Holds bodies (seen disk)
-  pub durable : Only (seen disk 1) (may_leave disk 1)
+pub record IsAtRest {D : Type 0} (m : Meaning D) (bodies : List (List ℕ)) (disk : D) : Type 0 where
+  pub records : Holds bodies (m.seen disk)
+  pub durable : Only (m.seen disk QUEUE_FILE) (m.may_leave disk QUEUE_FILE)
+
+-- What an append does to the device: a crash at any moment leaves these records, with the new one or without, and the
+-- other files stay as they are.
+pub record Appends {D : Type 0} (m : Meaning D) (bodies : List (List ℕ)) (body : List ℕ) (old new : D) : Type 0 where
+  pub any_moment : IsTrue m.tells → LeavesOnly m old new (Appended (m.may_leave old) bodies body)
+  pub others : KeepsOthers m QUEUE_FILE old new
 
 -- the place of a record's gate in the queue file, in bytes; behind the last record, the place where the records end
 abbrev pub place_of : List (List ℕ) → ℕ → ℕ
@@ -48,7 +51,3 @@ place_of bodies index = size_of (take index bodies)
 -- the spellings of records, in their order
 abbrev pub bodies_for : List Record → List (List ℕ)
 bodies_for rows = map record_text rows
-
--- how many bytes a queue file of these records takes, a number that stands at the end of its type
-abbrev pub need_for : List (List ℕ) → ℕ
-need_for bodies = min (size_of bodies + 1) (2 ^ 64 - 1)

@@ -2,8 +2,10 @@
 ghost use Rattle.std.specs.Prelude.{◌≡◌, ℕ, List, ◌∷◌};
 ghost use Rattle.qm_disk.specs.Disk.{Image};
 ghost use Rattle.qm_store.specs.Store.{Holds};
+ghost use Rattle.qm_glog.specs.declared.fault.OpenFault.TheVariants.{Unformatted, Damaged};
 ghost use Rattle.qm_store.specs.Opened.{IsOpenFault};
-ghost use Rattle.qm_store.specs.declared.fault.StoreFault.TheVariants.{Unformatted, Damaged};
+
+use crate::store::QUEUE_FILE;
 
 /// A queue file has one list of records.
 pub fn one_content()
@@ -12,10 +14,10 @@ pub fn one_content()
 
 /// A queue file with a record isn't unformatted.
 pub fn never_unformatted()
-    ensures { (image : Image) (body : List ℕ) (bodies : List (List ℕ)) (byte : ℕ) → Holds (body ∷ bodies) image → IsOpenFault (image 1) (Unformatted byte) → ⊥ }
+    ensures { (image : Image) (body : List ℕ) (bodies : List (List ℕ)) (byte : ℕ) → Holds (body ∷ bodies) image → IsOpenFault (image QUEUE_FILE) (Unformatted byte) → ⊥ }
 {}
 
 /// A queue file with records, or with none, isn't damaged.
 pub fn never_damaged()
-    ensures { (image : Image) (bodies : List (List ℕ)) (file place : ℕ) → Holds bodies image → IsOpenFault (image 1) (Damaged file place) → ⊥ }
+    ensures { (image : Image) (bodies : List (List ℕ)) (file place : ℕ) → Holds bodies image → IsOpenFault (image QUEUE_FILE) (Damaged file place) → ⊥ }
 {}

@@ -3,16 +3,13 @@
 //! the file holds is `Holds` and `IsAtRest` of `specs/Store.antt`.
 #![tactic(auto)]
 
-mod fault;
 mod laws;
 mod making;
 mod opening;
 mod store;
-#[cfg(test)]
-mod tests;
 
-pub use fault::StoreFault;
 pub use laws::{never_damaged, never_unformatted, one_content};
 pub use making::init;
 pub use opening::open;
+pub use qm_glog::{AppendFault, MakeFault, OpenFault};
 pub use store::{Open, QUEUE_CAP, QUEUE_FILE};

@@ -1,8 +1,9 @@
 // A store and its calls on records.
 ghost use Rattle.std.specs.Prelude.{◌≡◌};
-ghost use Rattle.qm_glog.specs.Log.{file_of};
+ghost use Rattle.qm_glog.specs.Log.{file_of, cap_of};
+ghost use Rattle.qm_store.specs.declared.store.TheConstants.{QUEUE_FILE, QUEUE_CAP};
 
-use crate::StoreFault;
+use crate::AppendFault;
 use qm_disk::Disk;
 use qm_glog::Log;
 use qm_kinds::Record;
@@ -21,25 +22,25 @@ pub struct Open<D> {
     alloc: Global,
     disk: D,
     log: Log,
-    ghost in_queue_file: { file_of log ≡ 1 },
+    ghost in_queue_file: { file_of log ≡ QUEUE_FILE },
+    ghost capped: { cap_of log ≡ QUEUE_CAP },
 }
 
 impl<D: Disk> Open<D> {
-    ghost use Rattle.std.specs.Prelude.{◌≡◌, ◌⊎◌, ◌+◌, ◌<◌, ◌≤◌, ◌↔◌, ℕ, List, [], ◌∷◌, ◌++◌, IsTrue, length, IfOk, IfErr, OnOk, OnErr, IsErrOf, slice_get, Some};
-    ghost use Rattle.qm_disk.specs.Disk.{KeepsOthers, LeavesOnly, Rose};
-    ghost use Rattle.qm_glog.specs.Log.{file_of, need_of, bodies_of as bodies_in, cap_of as cap_in, spare_of as spare_in};
+    ghost use Rattle.std.specs.Prelude.{◌≡◌, ◌<◌, ◌≤◌, ℕ, List, [], ◌∷◌, ◌++◌, IsTrue, length, IfOk, OnOk, OnErr, IsErrOf, slice_get, Some};
+    ghost use Rattle.qm_disk.specs.Disk.{TellsFaults};
+    ghost use Rattle.qm_glog.specs.Log.{need_of, bodies_of as bodies_in, spare_of as spare_in, StandsIn, FitsOrIsFull};
     ghost use Rattle.qm_bytes.specs.Laws.{Spells};
     ghost use Rattle.qm_kinds.specs.declared.record.Record.{Record as AnyRecord};
     ghost use Rattle.qm_record.specs.Spelling.{record_text, HasSpelling};
-    ghost use Rattle.qm_record.specs.Faults.{IsRead, IsFirstFault};
-    ghost use Rattle.qm_store.specs.Store.{disk_of, bodies_of, cap_of, spare_of, place_of, IsAtRest, Appended};
+    ghost use Rattle.qm_record.specs.Faults.{IsRead, IsFirstFault, IsRecord};
+    ghost use Rattle.qm_store.specs.Store.{disk_of, bodies_of, spare_of, place_of, IsAtRest, Appends};
 
     // The store of this log of a device.
     pub(crate) fn of(alloc: Global, disk: D, log: Log) -> Self
-        requires { file_of log ≡ 1 }
+        requires { StandsIn QUEUE_FILE QUEUE_CAP log }
         ensures disk { disk_of result ≡ disk }
         ensures bodies { bodies_of result ≡ bodies_in log }
-        ensures cap { cap_of result ≡ cap_in log }
         ensures spare { spare_of result ≡ spare_in log }
     {
         Open { alloc, disk, log }
@@ -61,6 +62,8 @@ impl<D: Disk> Open<D> {
         ensures only { (body : List ℕ) (r : AnyRecord) → slice_get (bodies_of self.now) index ≡ Some body → HasSpelling r → body ≡ record_text r → IsRead r result }
         // A fault is the first one.
         ensures first { (body : List ℕ) (place : ℕ) → slice_get (bodies_of self.now) index ≡ Some body → IsErrOf result (RecordFault.Bad place) → IsFirstFault body place }
+        // Memory runs out only over a record.
+        ensures no_memory { (body : List ℕ) → slice_get (bodies_of self.now) index ≡ Some body → IsErrOf result RecordFault.NoMemory → IsRecord body }
     {
         read_record(self.alloc, self.log.record(index))
     }
@@ -95,39 +98,29 @@ impl<D: Disk> Open<D> {
         ensures no_less { spare_of self.old ≤ spare_of self.new }
         ensures disk { disk_of self.new ≡ disk_of self.old }
         ensures bodies { bodies_of self.new ≡ bodies_of self.old }
-        ensures cap { cap_of self.new ≡ cap_of self.old }
     {
         self.log.reserve(bytes)
     }
 
     /// Adds a record. At `Ok` it is acknowledged: from then on each crash leaves it. At `Full` nothing has changed.
     /// After `Disk` the store has to be opened again.
-    pub fn append(&mut self, body: &[u8]) -> Result<(), StoreFault>
+    pub fn append(&mut self, body: &[u8]) -> Result<(), AppendFault>
         requires room { length body.now < spare_of self.old }
         // No call of this store answered `Disk`.
-        requires at_rest { IsTrue D.tells → IsAtRest D.seen D.may_leave (bodies_of self.old) (disk_of self.old) }
+        requires at_rest { IsTrue D.meaning.tells → IsAtRest D.meaning (bodies_of self.old) (disk_of self.old) }
 
         ensures ok { OnOk result (bodies_of self.new ≡ bodies_of self.old ++ body.now ∷ []) }
-        ensures acknowledged { OnOk result (IsTrue D.tells → IsAtRest D.seen D.may_leave (bodies_of self.new) (disk_of self.new)) }
         ensures err { OnErr result (bodies_of self.new ≡ bodies_of self.old) }
-
+        ensures acknowledged { OnOk result (IsTrue D.meaning.tells → IsAtRest D.meaning (bodies_of self.new) (disk_of self.new)) }
         // A crash at any moment of the call leaves the old records, or these and the new one.
-        ensures any_moment { IsTrue D.tells → LeavesOnly D.moment D.left_since (disk_of self.old) (disk_of self.new)
-            (Appended (D.may_leave (disk_of self.old)) (bodies_of self.old) body.now) }
-        ensures others { KeepsOthers D.seen D.may_leave 1 (disk_of self.old) (disk_of self.new) }
+        ensures leaves { Appends D.meaning (bodies_of self.old) body.now (disk_of self.old) (disk_of self.new) }
 
-        ensures full { IsErrOf result (StoreFault.Full (need_of (bodies_of self.old) body.now) (cap_of self.old))
-            ↔ (cap_of self.old < need_of (bodies_of self.old) body.now) }
-        ensures unchanged { cap_of self.old < need_of (bodies_of self.old) body.now → self.new ≡ self.old }
-        ensures faults { D.faults (disk_of self.old) ≤ D.faults (disk_of self.new) }
-        ensures failed { IsErrOf result StoreFault.Disk → Rose (D.faults (disk_of self.old)) (D.faults (disk_of self.new)) }
-        ensures no_other { IfErr result (λ e. (e ≡ StoreFault.Disk) ⊎ (e ≡ StoreFault.Full (need_of (bodies_of self.old) body.now) (cap_of self.old))) }
-
+        ensures full { FitsOrIsFull (need_of (bodies_of self.old) body.now) QUEUE_CAP result }
+        ensures unchanged { QUEUE_CAP < need_of (bodies_of self.old) body.now → self.new ≡ self.old }
+        ensures faults { TellsFaults D.meaning (disk_of self.old) (disk_of self.new) (IsErrOf result AppendFault.Disk) }
         ensures spare { OnOk result (spare_of self.new ≡ 0) }
-        ensures cap { cap_of self.new ≡ cap_of self.old }
     {
-        self.log.append(&mut self.disk, body)?;
-        Ok(())
+        self.log.append(&mut self.disk, body)
     }
 
     /// The device.

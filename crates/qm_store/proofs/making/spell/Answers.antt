@@ -13,12 +13,12 @@ texts_more rows i row within is =
 
 pub loop-row-preserved : goal.loop-row-preserved
 loop-row-preserved c =
-    let rows : List Record = c.args.image.now in
+    let rows : List Record = c.args.rows.now in
     let i : ℕ = c.loop-row.row-index in
     let row : Record = c.row-item.result in
     let old : List (Vec ℕ Global) = c.loop-row.bodies.items in
     let text : Vec ℕ Global = c.in_ok-write_record.field-0 in
-    let within : c.loop-row.row-index < length c.args.image.now = omega arith in
+    let within : c.loop-row.row-index < length c.args.rows.now = omega arith in
     let spelled = c.in_ok-write_record.ensures in
     record {
       bodies = ap contents c.in_ok-push.ensures.items ∙ map-append (λ (v : Vec ℕ Global). v.items) old (text ∷ [])

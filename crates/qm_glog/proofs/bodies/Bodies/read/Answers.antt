@@ -10,14 +10,14 @@ invariant_of-self-2 g c =
     let long : vec_len c.args.self.now.bytes ≤ vec_len c.read_onto.new.bytes = omega (arith, c.in_ok-read_onto.ensures.len) in
     record {
       are_ends = AreEnds-on c.args.self.now.ends.items c.push_reserved.new.self.items (vec_len c.args.self.now.bytes) c.len.result c.args.self.now.are_ends
-          (c.push_reserved.ensures.items ∙ ap (λ (l : List ℕ). l ++ c.len.result ∷ []) c.reserve.ensures.items)
+          c.push_reserved.ensures.items
           (vec_len c.read_onto.new.bytes) long c.len.ensures;
     }
 
 pub returns-clause-added : goal.returns-clause-added
 returns-clause-added g c = λ told.
     list_on c.args.self.now.ends.items c.push_reserved.new.self.items (vec_len c.args.self.now.bytes) c.len.result c.args.self.now.are_ends
-    (c.push_reserved.ensures.items ∙ ap (λ (l : List ℕ). l ++ c.len.result ∷ []) c.reserve.ensures.items)
+    c.push_reserved.ensures.items
     c.args.self.now.bytes.items c.read_onto.new.bytes.items (omega arith) c.read_onto.ensures.before (omega (arith, c.len.ensures))
     ∙ ap (λ (l : List ℕ). list_of c.args.self.now ++ l ∷ []) (c.in_ok-read_onto.ensures.read told)
 
@@ -27,7 +27,7 @@ returns-clause-size g c =
     let new : List ℕ = c.read_onto.new.bytes.items in
     let last : ℕ = vec_len c.args.self.now.bytes in
     let grown = list_on c.args.self.now.ends.items c.push_reserved.new.self.items (vec_len c.args.self.now.bytes) c.len.result c.args.self.now.are_ends
-    (c.push_reserved.ensures.items ∙ ap (λ (l : List ℕ). l ++ c.len.result ∷ []) c.reserve.ensures.items)
+    c.push_reserved.ensures.items
     c.args.self.now.bytes.items c.read_onto.new.bytes.items (omega arith) c.read_onto.ensures.before (omega (arith, c.len.ensures)) in
     let size = ap size_of grown ∙ size_of-push (list_of c.args.self.now) (drop (vec_len c.args.self.now.bytes) c.read_onto.new.bytes.items) in
     omega (arith, size, length-drop (vec_len c.args.self.now.bytes) c.read_onto.new.bytes.items, c.in_ok-read_onto.ensures.len)
