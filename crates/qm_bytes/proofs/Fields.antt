@@ -6,6 +6,7 @@ use Rattle.std.proofs.Math.Nat.{pow-suc, one-le-pow}
 use Rattle.std.specs.List.{AllByRecursion, list_all}
 use Rattle.qm_kinds.specs.Text.{is_name_byte}
 use Rattle.qm_kinds.specs.declared.form.CharacteristicSet.{CharacteristicSet}
+use Rattle.qm_kinds.specs.declared.moment.TheConstants.{LAST_MOMENT}
 use Rattle.qm_bytes.specs.Reading.{Reader, ◌>>=◌, pure, byte_where, between, name_bytes_at, bytes_at, number_up_to, number_at, truth_at, optional_at, list_at, name_at, mark_at, long_bytes_at, file_name_at, set_at, moment_at}
 use Rattle.qm_bytes.specs.Laws.{Spells, IsReader}
 use Rattle.qm_bytes.specs.Spelling.{each, low_first, byte, truth, optional, list, short_bytes, long_bytes, file_name, set, moment, IsName, IsMark, AreBytes, AreLongBytes, IsMoment, IsSet, AllOf, IsList, IsFileName}
@@ -232,4 +233,4 @@ set_reader =
 
 pub moment_reader : IsReader (Spells IsMoment moment) moment_at
 unfolding moment_at
-moment_reader = number_up_to_reader 8 25690901759999 (lit< tt)
+moment_reader = number_up_to_reader 8 LAST_MOMENT (lit< tt)

@@ -6,10 +6,8 @@ use Rattle.std.proofs.lemmas.Bool.Decides.{nat_tests}
 use Rattle.std.proofs.lemmas.Bool.{le-ltb}
 use Rattle.std.proofs.lemmas.List.{drop_at, length-drop, drop-drop}
 use Rattle.qm_kinds.specs.declared.fault.NameFault.{NameFault}
-use Rattle.qm_bytes.specs.declared.fault.FieldFault.{FieldFault}
-use Rattle.qm_bytes.specs.declared.fault.FieldFault.TheVariants.{Bad, NoMemory}
 use Rattle.qm_kinds.specs.Text.{IsText, is_name_byte, text_of, text_unless}
-use Rattle.qm_bytes.specs.Reading.{◌>>=◌, onward, pure, byte_where, between, repeat_at, name_bytes_at, name_at, Fails}
+use Rattle.qm_bytes.specs.Reading.{◌>>=◌, onward, pure, byte_where, between, repeat_at, name_bytes_at, name_at}
 use Rattle.qm_bytes.specs.Spelling.{short_bytes, IsName}
 use Rattle.qm_bytes.proofs.Fields.{name_reader}
 
@@ -109,10 +107,9 @@ name_found bytes rest at name behind is within e =
     let there : behind ≡ drop (at + 1 + length name) bytes = sym last ∙ drop-drop (1 + length name) at bytes ∙ ap (λ n. drop n bytes) place in
     (sym is ∙ parts ∙ ap (λ (x : List ℕ). short_bytes name ++ x) there, omega (arith, len, long, within))
 
-fails_not : (e : FieldFault) (read : Result (List ℕ × List ℕ) ℕ) (x : List ℕ × List ℕ) → Fails e read → (e ≡ NoMemory → ⊥) → read ≡ Ok x → ⊥
-fails_not NoMemory read x fails unless is = unless refl
-fails_not (Bad left) read x fails unless is = let both : Err left ≡ Ok x = sym fails ∙ is in cc
+fails_not : (left : ℕ) (read : Result (List ℕ × List ℕ) ℕ) (x : List ℕ × List ℕ) → read ≡ Err left → read ≡ Ok x → ⊥
+fails_not left read x fails is = let both : Err left ≡ Ok x = sym fails ∙ is in cc
 
-pub none_there : (bytes rest : List ℕ) (at : ℕ) (e : FieldFault) → rest ≡ drop at bytes → Fails e (name_at rest) → (e ≡ NoMemory → ⊥) → (name more : List ℕ) → IsName name → drop at bytes ≡ short_bytes name ++ more → ⊥
-none_there bytes rest at e is fails unless name more lawful parts =
-    fails_not e (name_at rest) (name, more) fails unless (ap name_at (is ∙ parts) ∙ name_reader.again name (short_bytes name) more (record { fits = lawful; is = refl }))
+pub none_there : (bytes rest : List ℕ) (at left : ℕ) → rest ≡ drop at bytes → name_at rest ≡ Err left → (name more : List ℕ) → IsName name → drop at bytes ≡ short_bytes name ++ more → ⊥
+none_there bytes rest at left is fails name more lawful parts =
+    fails_not left (name_at rest) (name, more) fails (ap name_at (is ∙ parts) ∙ name_reader.again name (short_bytes name) more (record { fits = lawful; is = refl }))

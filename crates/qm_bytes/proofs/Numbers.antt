@@ -2,10 +2,8 @@
 use Rattle.std.proofs.Common.{◌≡◌, ℕ, zero, suc, ◌+◌, ◌-◌, ◌*◌, ◌/◌, ◌^◌, ◌<◌, ◌≤◌, min, true, false, List, [], ◌∷◌, ◌++◌, length, drop, get_or, Result, Ok, Err, refl, sym, ap, ◌∙◌, arith, length-append}
 use Rattle.std.specs.Prelude.{IsOk, is_ok}
 use Rattle.std.proofs.lemmas.List.{drop_at, length-drop, get_or-drop, drop-drop}
-use Rattle.qm_bytes.specs.declared.fault.FieldFault.{FieldFault}
-use Rattle.qm_bytes.specs.declared.fault.FieldFault.TheVariants.{Bad, NoMemory}
 use Rattle.std.proofs.Math.Nat.{pow-suc, one-le-pow}
-use Rattle.qm_bytes.specs.Reading.{◌>>=◌, onward, pure, byte_where, between, number_up_to, number_at, Fails}
+use Rattle.qm_bytes.specs.Reading.{◌>>=◌, onward, pure, byte_where, between, number_up_to, number_at}
 use Rattle.qm_bytes.specs.Spelling.{low_first}
 use Rattle.qm_bytes.proofs.Fields.{passes_between, number_reader}
 
@@ -55,13 +53,12 @@ found_at bytes rest at count n behind is within e =
     let last : behind ≡ drop (at + count) bytes = s.2 ∙ ap (drop count) is ∙ drop-drop count at bytes in
     (omega (arith, s.1, len, within), sym is ∙ s.0 ∙ ap (λ (x : List ℕ). low_first count n ++ x) last)
 
-never_fails : (e : FieldFault) (r : Result (ℕ × List ℕ) ℕ) → IsOk r → Fails e r → (e ≡ NoMemory → ⊥) → ⊥
-never_fails NoMemory r there fails h = h refl
-never_fails (Bad left) r there fails h = let no : false ≡ true = sym (ap is_ok fails) ∙ there in cc
+never_fails : (left : ℕ) (r : Result (ℕ × List ℕ) ℕ) → IsOk r → r ≡ Err left → ⊥
+never_fails left r there fails = let no : false ≡ true = sym (ap is_ok fails) ∙ there in cc
 
 -- where none is found, fewer bytes are left
-pub none_at : (bytes rest : List ℕ) (at count : ℕ) (e : FieldFault) → ((i : ℕ) → get_or bytes i 0 < 256) → rest ≡ drop at bytes → Fails e (number_at count rest) → (e ≡ NoMemory → ⊥) → at + count ≤ length bytes → ⊥
-none_at bytes rest at count e fits is fails no_memory long =
+pub none_at : (bytes rest : List ℕ) (at count left : ℕ) → ((i : ℕ) → get_or bytes i 0 < 256) → rest ≡ drop at bytes → number_at count rest ≡ Err left → at + count ≤ length bytes → ⊥
+none_at bytes rest at count left fits is fails long =
     let len : length rest ≡ length bytes - at = ap length is ∙ length-drop at bytes in
     let rest_fits : (i : ℕ) → get_or rest i 0 < 256 = λ i. rw (is, get_or-drop) (fits (at + i)) in
-    never_fails e (number_at count rest) (number_is_there count rest rest_fits (omega (arith, len, long))) fails no_memory
+    never_fails left (number_at count rest) (number_is_there count rest rest_fits (omega (arith, len, long))) fails

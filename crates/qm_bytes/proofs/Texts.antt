@@ -1,6 +1,6 @@
 -- Bytes behind their length, as the code reads them.
 use Rattle.std.proofs.Common.{◌≡◌, ℕ, zero, suc, ◌<◌, ◌≤◌, true, List, [], ◌∷◌, length, take, drop, get_or, Ok, Err, refl, arith}
-use Rattle.qm_bytes.specs.Reading.{between, repeat_at, bytes_at}
+use Rattle.qm_bytes.specs.Reading.{between, number_at, repeat_at, bytes_at, long_bytes_at}
 use Rattle.qm_bytes.proofs.Fields.{passes_between}
 
 -- so many bytes are there
@@ -20,3 +20,8 @@ bytes_short (suc count) [] fits short = refl
 bytes_short (suc count) (b ∷ bytes) fits short =
     let passes : between 0 255 b ≡ true = passes_between 0 255 b (omega arith) (omega (arith, fits 0)) in
     rw (passes, bytes_short count bytes (λ i. fits (suc i)) (omega (arith, short))) refl
+
+-- bytes behind their length
+pub long_there : (bytes text middle rest : List ℕ) (size : ℕ) → number_at 4 bytes ≡ Ok (size, middle) → bytes_at size middle ≡ Ok (text, rest) → long_bytes_at bytes ≡ Ok (text, rest)
+unfolding long_bytes_at
+long_there bytes text middle rest size first second = rw (first, second) refl

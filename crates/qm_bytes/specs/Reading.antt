@@ -3,8 +3,8 @@ use Rattle.std.specs.Prelude.{◌≡◌, ℕ, zero, suc, ◌+◌, ◌-◌, ◌*�
 use Rattle.qm_kinds.specs.Text.{is_name_byte}
 use Rattle.qm_kinds.specs.declared.file.FileName.{FileName}
 use Rattle.qm_kinds.specs.declared.form.CharacteristicSet.{CharacteristicSet}
-use Rattle.qm_bytes.specs.declared.fault.FieldFault.{FieldFault}
-use Rattle.qm_bytes.specs.declared.fault.FieldFault.TheVariants as faults
+use Rattle.qm_kinds.specs.declared.moment.TheConstants.{LAST_MOMENT}
+use Rattle.qm_bytes.specs.declared.fault.BadField.{BadField}
 
 -- A value and the bytes behind it, or how many bytes are left where no spelling goes on.
 abbrev pub Reader : Type 0 → Type 0
@@ -22,19 +22,25 @@ abbrev pub ◌>>=◌ : {A B : Type 0} → Reader A → (A → Reader B) → Read
 abbrev pub pure : {A : Type 0} → A → Reader A
 pure x bytes = Ok (x, bytes)
 
--- What a function returned, and the bytes that it left, are what reading gives, unless memory ran out.
-abbrev pub Fails : {A : Type 0} → FieldFault → Result A ℕ → Type 0
-Fails faults.NoMemory read = Unit {0}
-Fails (faults.Bad left) read = read ≡ Err left
-
-abbrev pub Gives : {A : Type 0} → Result A FieldFault → List ℕ → Result (A × List ℕ) ℕ → Type 0
+-- What a function returned, and the bytes that it left, are what reading gives.
+abbrev pub Gives : {A : Type 0} → Result A BadField → List ℕ → Result (A × List ℕ) ℕ → Type 0
 Gives (Ok x) rest read = read ≡ Ok (x, rest)
-Gives (Err e) rest read = Fails e read
+Gives (Err fault) rest read = read ≡ Err fault.left
 
 -- the same of a function that returns the rest
-abbrev pub Splits : {X A : Type 0} → (X → A) → Result X FieldFault → Result A ℕ → Type 0
+abbrev pub Splits : {X A : Type 0} → (X → A) → Result X BadField → Result A ℕ → Type 0
 Splits view (Ok x) read = read ≡ Ok (view x)
-Splits view (Err e) read = Fails e read
+Splits view (Err fault) read = read ≡ Err fault.left
+
+-- something is read, and these bytes are left
+abbrev pub IsThere : {A : Type 0} → List ℕ → Result (A × List ℕ) ℕ → Type 0
+IsThere {A} rest read = (x : A) × (read ≡ Ok (x, rest))
+
+-- The same of a value that takes memory. Where that ran out, the value's text was read all the same.
+abbrev pub GivesKept : {A E : Type 0} → Result (Result A E) BadField → List ℕ → Result (A × List ℕ) ℕ → Type 0
+GivesKept (Ok (Ok x)) rest read = read ≡ Ok (x, rest)
+GivesKept (Ok (Err no_memory)) rest read = IsThere rest read
+GivesKept (Err fault) rest read = read ≡ Err fault.left
 
 -- a byte that passes
 abbrev pub byte_where : (ℕ → Bool) → Reader ℕ
@@ -114,4 +120,4 @@ set_at = do
   pure (record { 0 = low + 2 ^ 64 * high })
 
 unfoldable pub moment_at : Reader ℕ
-moment_at = number_up_to 8 25690901759999
+moment_at = number_up_to 8 LAST_MOMENT

@@ -4,6 +4,7 @@ use Rattle.std.specs.List.{AllByRecursion}
 use Rattle.qm_kinds.specs.Text.{IsText, is_name_byte}
 use Rattle.qm_kinds.specs.declared.file.FileName.{FileName}
 use Rattle.qm_kinds.specs.declared.form.CharacteristicSet.{CharacteristicSet}
+use Rattle.qm_kinds.specs.declared.moment.TheConstants.{LAST_MOMENT}
 
 -- so many bytes of a number, the lowest first
 abbrev pub low_first : ℕ → ℕ → List ℕ
@@ -74,7 +75,7 @@ pub record AreLongBytes (bytes : List ℕ) : Type 0 where
   pub all : AreBytes bytes
 
 abbrev pub IsMoment : ℕ → Type 0
-IsMoment m = m ≤ 25690901759999
+IsMoment m = m ≤ LAST_MOMENT
 
 abbrev pub IsSet : CharacteristicSet → Type 0
 IsSet s = s.0 < 2 ^ 128

@@ -1,19 +1,17 @@
 //! Fields of bytes, each with one spelling: numbers with the lowest byte first, names, optional fields and lists.
 //! A writer appends the spelling of a value. A reader takes a value from the front, or tells the first byte with
-//! which no spelling goes on.
+//! which no spelling goes on. Where memory runs out for the value, its text was read all the same.
 #![tactic(auto)]
 
 mod fault;
 mod laws;
 mod name;
 mod number;
-#[cfg(test)]
-mod tests;
 mod text;
 mod value;
 mod width;
 
-pub use fault::FieldFault;
+pub use fault::BadField;
 pub use laws::{fields_are_read_as_spelled, numbers_are_read_as_spelled};
 pub use name::{put_name, read_name, take_name};
 pub use number::{put_number, read_byte, read_number, read_number_up_to, take_number};

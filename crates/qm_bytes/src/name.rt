@@ -3,9 +3,9 @@ ghost use Rattle.qm_kinds.specs.Text.{is_name_byte};
 ghost use Rattle.qm_bytes.specs.Spelling.{short_bytes, IsName, file_name, IsFileName};
 ghost use Rattle.qm_bytes.specs.Reading.{Gives, Splits, byte_where, name_bytes_at, name_at, optional_at, file_name_at};
 
-use crate::fault::FieldFault;
+use crate::fault::BadField;
 use crate::number::byte_between;
-use qm_kinds::{FileName, Name};
+use qm_kinds::{Name, is_name_byte};
 use std::alloc::AllocError;
 
 /// Appends a name: a byte of length, and its bytes.
@@ -43,7 +43,7 @@ pub fn take_name(bytes: &[u8], at: usize) -> Option<(Name, usize)>
 }
 
 /// Reads a name.
-pub fn read_name(bytes: &mut &[u8]) -> Result<Name, FieldFault>
+pub fn read_name(bytes: &mut &[u8]) -> Result<Name, BadField>
     ensures { Gives result bytes.new.now (name_at bytes.old.now) }
 {
     match name_at(bytes) {
@@ -57,9 +57,8 @@ pub fn read_name(bytes: &mut &[u8]) -> Result<Name, FieldFault>
 
 // A name, and the bytes behind it.
 #[tactic(auto, using(crate::proofs::Names::read_again), unfolding(crate::specs::Reading::name_at))]
-fn name_at(bytes: &[u8]) -> Result<(Name, &[u8]), FieldFault>
-    ensures value { Splits (λ x. (x.0, x.1.now)) result (name_at bytes.now) }
-    ensures no_memory { IsErrOf result FieldFault.NoMemory → ⊥ }
+fn name_at(bytes: &[u8]) -> Result<(Name, &[u8]), BadField>
+    ensures { Splits (λ x. (x.0, x.1.now)) result (name_at bytes.now) }
 {
     let (size, text) = byte_between(bytes, 1, 39)?;
     let size = size as usize;
@@ -72,10 +71,9 @@ fn name_at(bytes: &[u8]) -> Result<(Name, &[u8]), FieldFault>
 
 // What stands behind so many bytes of a name.
 #[tactic(auto, using(crate::proofs::Names::no_bytes, crate::proofs::Names::first_byte))]
-fn behind_name_bytes(bytes: &[u8], count: usize) -> Result<&[u8], FieldFault>
+fn behind_name_bytes(bytes: &[u8], count: usize) -> Result<&[u8], BadField>
     ensures value { Splits (λ rest. (take count bytes.now, rest.now)) result (name_bytes_at count bytes.now) }
     ensures within { OnOk result (count ≤ length bytes.now) }
-    ensures no_memory { IsErrOf result FieldFault.NoMemory → ⊥ }
 {
     if count == 0 {
         return Ok(bytes);
@@ -85,27 +83,19 @@ fn behind_name_bytes(bytes: &[u8], count: usize) -> Result<&[u8], FieldFault>
     Ok(behind)
 }
 
-// A byte of a name.
-fn name_byte_at(bytes: &[u8]) -> Result<(u8, &[u8]), FieldFault>
+// A byte of a name. A small letter is none: it isn't how a name is spelled.
+fn name_byte_at(bytes: &[u8]) -> Result<(u8, &[u8]), BadField>
     ensures value { Splits (λ x. (x.0, x.1.now)) result (byte_where is_name_byte bytes.now) }
     ensures split { IfOk result (λ x. bytes.now ≡ x.0 ∷ x.1.now) }
-    ensures no_memory { IsErrOf result FieldFault.NoMemory → ⊥ }
 {
     match bytes {
-        [] => Err(FieldFault::Bad { left: 0 }),
+        [] => Err(BadField { left: 0 }),
         [byte, rest @ ..] => {
             if is_name_byte(*byte) {
                 Ok((*byte, rest))
             } else {
-                Err(FieldFault::Bad { left: bytes.len() })
+                Err(BadField { left: bytes.len() })
             }
         }
     }
-}
-
-// Whether a byte may stand in a name. A small letter may not: it isn't how a name is spelled.
-fn is_name_byte(byte: u8) -> bool
-    ensures { result ≡ is_name_byte byte }
-{
-    byte.is_ascii_uppercase() || byte.is_ascii_digit() || byte == b'$' || byte == b'_'
 }

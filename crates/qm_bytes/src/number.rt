@@ -3,7 +3,7 @@ ghost use Rattle.qm_bytes.specs.Spelling.{low_first};
 ghost use Rattle.qm_bytes.specs.Widths.{bytes_of};
 ghost use Rattle.qm_bytes.specs.Reading.{Gives, Splits, byte_where, between, number_up_to, number_at};
 
-use crate::fault::FieldFault;
+use crate::fault::BadField;
 use crate::width::Width;
 use std::alloc::AllocError;
 
@@ -35,37 +35,34 @@ pub fn take_number(bytes: &[u8], at: usize, width: Width) -> Option<(u64, usize)
 }
 
 // A byte from one value to another, and the bytes behind it.
-pub(crate) fn byte_between(bytes: &[u8], low: u8, high: u8) -> Result<(u8, &[u8]), FieldFault>
-    ensures value { Splits (λ x. (x.0, x.1.now)) result (byte_where (between low high) bytes.now) }
-    ensures no_memory { IsErrOf result FieldFault.NoMemory → ⊥ }
+pub(crate) fn byte_between(bytes: &[u8], low: u8, high: u8) -> Result<(u8, &[u8]), BadField>
+    ensures { Splits (λ x. (x.0, x.1.now)) result (byte_where (between low high) bytes.now) }
 {
     match bytes {
-        [] => Err(FieldFault::Bad { left: 0 }),
+        [] => Err(BadField { left: 0 }),
         [byte, rest @ ..] => {
             if low <= *byte && *byte <= high {
                 Ok((*byte, rest))
             } else {
-                Err(FieldFault::Bad { left: bytes.len() })
+                Err(BadField { left: bytes.len() })
             }
         }
     }
 }
 
 // A number that is at most a limit.
-fn number_up_to(bytes: &[u8], width: Width, limit: u64) -> Result<(u64, &[u8]), FieldFault>
+fn number_up_to(bytes: &[u8], width: Width, limit: u64) -> Result<(u64, &[u8]), BadField>
     ensures value { Splits (λ x. (x.0, x.1.now)) result (number_up_to (bytes_of width) limit bytes.now) }
     ensures within { IfOk result (λ x. x.0 ≤ limit) }
-    ensures no_memory { IsErrOf result FieldFault.NoMemory → ⊥ }
 {
     low_bytes_up_to(bytes, width.bytes(), limit)
 }
 
 // The same of any number of bytes. The bytes behind the first are a number too, and stand for 256 times as much.
 #[tactic(auto, using(crate::proofs::Numbers::no_byte, crate::proofs::Numbers::first_byte))]
-fn low_bytes_up_to(bytes: &[u8], count: usize, limit: u64) -> Result<(u64, &[u8]), FieldFault>
+fn low_bytes_up_to(bytes: &[u8], count: usize, limit: u64) -> Result<(u64, &[u8]), BadField>
     ensures value { Splits (λ x. (x.0, x.1.now)) result (number_up_to count limit bytes.now) }
     ensures within { IfOk result (λ x. x.0 ≤ limit) }
-    ensures no_memory { IsErrOf result FieldFault.NoMemory → ⊥ }
 {
     if count == 0 {
         return Ok((0, bytes));
@@ -77,10 +74,9 @@ fn low_bytes_up_to(bytes: &[u8], count: usize, limit: u64) -> Result<(u64, &[u8]
 }
 
 // Any number.
-fn number_at(bytes: &[u8], width: Width) -> Result<(u64, &[u8]), FieldFault>
+fn number_at(bytes: &[u8], width: Width) -> Result<(u64, &[u8]), BadField>
     ensures value { Splits (λ x. (x.0, x.1.now)) result (number_at (bytes_of width) bytes.now) }
     ensures fits { IfOk result (λ x. x.0 < 256 ^ bytes_of width) }
-    ensures no_memory { IsErrOf result FieldFault.NoMemory → ⊥ }
 {
     let limit = match width {
         Width::One => 0xff,
@@ -92,7 +88,7 @@ fn number_at(bytes: &[u8], width: Width) -> Result<(u64, &[u8]), FieldFault>
 }
 
 /// Reads a byte from one value to another.
-pub fn read_byte(bytes: &mut &[u8], low: u8, high: u8) -> Result<u8, FieldFault>
+pub fn read_byte(bytes: &mut &[u8], low: u8, high: u8) -> Result<u8, BadField>
     ensures { Gives result bytes.new.now (byte_where (between low high) bytes.old.now) }
 {
     let (byte, rest) = byte_between(bytes, low, high)?;
@@ -101,7 +97,7 @@ pub fn read_byte(bytes: &mut &[u8], low: u8, high: u8) -> Result<u8, FieldFault>
 }
 
 /// Reads a number.
-pub fn read_number(bytes: &mut &[u8], width: Width) -> Result<u64, FieldFault>
+pub fn read_number(bytes: &mut &[u8], width: Width) -> Result<u64, BadField>
     ensures value { Gives result bytes.new.now (number_at (bytes_of width) bytes.old.now) }
     ensures fits { IfOk result (λ n. n < 256 ^ bytes_of width) }
 {
@@ -112,7 +108,7 @@ pub fn read_number(bytes: &mut &[u8], width: Width) -> Result<u64, FieldFault>
 
 /// Reads a number that is at most a limit. A greater one stops at the first byte that makes it greater, whatever stands
 /// behind.
-pub fn read_number_up_to(bytes: &mut &[u8], width: Width, limit: u64) -> Result<u64, FieldFault>
+pub fn read_number_up_to(bytes: &mut &[u8], width: Width, limit: u64) -> Result<u64, BadField>
     ensures value { Gives result bytes.new.now (number_up_to (bytes_of width) limit bytes.old.now) }
     ensures within { IfOk result (λ n. n ≤ limit) }
 {

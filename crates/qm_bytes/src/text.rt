@@ -1,8 +1,8 @@
 ghost use Rattle.std.specs.Prelude.{◌≡◌, ◌+◌, ◌<◌, ◌≤◌, ◌++◌, ◌^◌, length, OnOk, IfOk, IsErrOf, take, drop};
 ghost use Rattle.qm_bytes.specs.Spelling.{short_bytes, long_bytes, file_name, optional, IsFileName, IsName, IsMark, AreLongBytes, AllOf};
-ghost use Rattle.qm_bytes.specs.Reading.{Gives, Splits, bytes_at, long_bytes_at, mark_at, file_name_at, optional_at, name_at};
+ghost use Rattle.qm_bytes.specs.Reading.{Gives, GivesKept, Splits, bytes_at, long_bytes_at, mark_at, file_name_at, optional_at, name_at};
 
-use crate::fault::FieldFault;
+use crate::fault::BadField;
 use crate::name::{put_name, read_name};
 use crate::number::{put_number, read_byte, read_number};
 use crate::width::Width;
@@ -10,12 +10,12 @@ use qm_kinds::{FileName, Mark, Name, Seq};
 use std::alloc::{AllocError, Global};
 
 // So many bytes, and those behind them.
-fn split_bytes(bytes: &[u8], count: usize) -> Result<(&[u8], &[u8]), FieldFault>
+fn split_bytes(bytes: &[u8], count: usize) -> Result<(&[u8], &[u8]), BadField>
     ensures value { Splits (λ x. (x.0.now, x.1.now)) result (bytes_at count bytes.now) }
     ensures count { IfOk result (λ x. length x.0.now ≡ count) }
 {
     if bytes.len() < count {
-        return Err(FieldFault::Bad { left: 0 });
+        return Err(BadField { left: 0 });
     }
     Ok(bytes.split_at(count))
 }
@@ -30,15 +30,22 @@ pub fn put_long_bytes(out: &mut Vec<u8>, bytes: &[u8]) -> Result<(), AllocError>
     out.extend_from_slice(bytes)
 }
 
-/// Reads bytes behind their length of 32 bits.
+/// Reads bytes behind their length of 32 bits. An error in it says that memory ran out for them, behind which reading goes
+/// on.
 #[tactic(auto, unfolding(crate::specs::Reading::long_bytes_at))]
-pub fn read_long_bytes(alloc: Global, bytes: &mut &[u8]) -> Result<Seq<u8>, FieldFault>
-    ensures { Gives result bytes.new.now (long_bytes_at bytes.old.now) }
+pub fn read_long_bytes(
+    alloc: Global,
+    bytes: &mut &[u8],
+) -> Result<Result<Seq<u8>, AllocError>, BadField>
+    ensures { GivesKept result bytes.new.now (long_bytes_at bytes.old.now) }
 {
     let size = read_number(bytes, Width::Four)?;
     let (text, rest) = split_bytes(bytes, size as usize)?;
     *bytes = rest;
-    Ok(Seq::of(Vec::from_slice(alloc, text)?))
+    match Vec::from_slice(alloc, text) {
+        Ok(text) => Ok(Ok(Seq::of(text))),
+        Err(fault) => Ok(Err(fault)),
+    }
 }
 
 /// Appends a mark: a byte of length, and its bytes.
@@ -53,7 +60,7 @@ pub fn put_mark(out: &mut Vec<u8>, mark: &Mark) -> Result<(), AllocError>
 
 /// Reads a mark.
 #[tactic(auto, unfolding(crate::specs::Reading::mark_at))]
-pub fn read_mark(bytes: &mut &[u8]) -> Result<Mark, FieldFault>
+pub fn read_mark(bytes: &mut &[u8]) -> Result<Mark, BadField>
     ensures { Gives result bytes.new.now (mark_at bytes.old.now) }
 {
     let size = read_byte(bytes, 0, 255)?;
@@ -82,7 +89,7 @@ pub fn put_optional_name(out: &mut Vec<u8>, name: &Option<Name>) -> Result<(), A
 
 /// Reads a name, or none.
 #[tactic(auto, unfolding(crate::specs::Reading::optional_at))]
-pub fn read_optional_name(bytes: &mut &[u8]) -> Result<Option<Name>, FieldFault>
+pub fn read_optional_name(bytes: &mut &[u8]) -> Result<Option<Name>, BadField>
     ensures { Gives result bytes.new.now (optional_at name_at bytes.old.now) }
 {
     if read_byte(bytes, 0, 1)? == 0 {
@@ -103,7 +110,7 @@ pub fn put_file_name(out: &mut Vec<u8>, file: &FileName) -> Result<(), AllocErro
 
 /// Reads the name of a file.
 #[tactic(auto, unfolding(crate::specs::Reading::file_name_at))]
-pub fn read_file_name(bytes: &mut &[u8]) -> Result<FileName, FieldFault>
+pub fn read_file_name(bytes: &mut &[u8]) -> Result<FileName, BadField>
     ensures { Gives result bytes.new.now (file_name_at bytes.old.now) }
 {
     let name = read_name(bytes)?;

@@ -2,10 +2,10 @@ ghost use Rattle.std.specs.Prelude.{◌≡◌, ◌+◌, ◌<◌, ◌≤◌, ◌+
 ghost use Rattle.qm_bytes.specs.Spelling.{byte, truth, moment, set, optional, IsMoment, IsSet, AllOf};
 ghost use Rattle.qm_bytes.specs.Reading.{Gives, truth_at, moment_at, set_at, optional_at, number_up_to};
 
-use crate::fault::FieldFault;
+use crate::fault::BadField;
 use crate::number::{put_number, read_byte, read_number, read_number_up_to};
 use crate::width::Width;
-use qm_kinds::{CharacteristicSet, Moment};
+use qm_kinds::{CharacteristicSet, LAST_MOMENT, Moment};
 use std::alloc::AllocError;
 
 /// Appends 1 for true, 0 for false.
@@ -18,7 +18,7 @@ pub fn put_truth(out: &mut Vec<u8>, value: bool) -> Result<(), AllocError>
 
 /// Reads a truth value.
 #[tactic(auto, unfolding(crate::specs::Reading::truth_at))]
-pub fn read_truth(bytes: &mut &[u8]) -> Result<bool, FieldFault>
+pub fn read_truth(bytes: &mut &[u8]) -> Result<bool, BadField>
     ensures { Gives result bytes.new.now (truth_at bytes.old.now) }
 {
     let byte = read_byte(bytes, 0, 1)?;
@@ -35,10 +35,10 @@ pub fn put_moment(out: &mut Vec<u8>, value: Moment) -> Result<(), AllocError>
 
 /// Reads a moment.
 #[tactic(auto, unfolding(crate::specs::Reading::moment_at))]
-pub fn read_moment(bytes: &mut &[u8]) -> Result<Moment, FieldFault>
+pub fn read_moment(bytes: &mut &[u8]) -> Result<Moment, BadField>
     ensures { Gives result bytes.new.now (moment_at bytes.old.now) }
 {
-    let hundredths = read_number_up_to(bytes, Width::Eight, 25_690_901_759_999)?;
+    let hundredths = read_number_up_to(bytes, Width::Eight, LAST_MOMENT)?;
     match Moment::new(hundredths) {
         Some(moment) => Ok(moment),
         None => unreachable!(),
@@ -62,7 +62,7 @@ pub fn put_optional_moment(out: &mut Vec<u8>, value: Option<Moment>) -> Result<(
 
 /// Reads a moment, or none.
 #[tactic(auto, unfolding(crate::specs::Reading::optional_at))]
-pub fn read_optional_moment(bytes: &mut &[u8]) -> Result<Option<Moment>, FieldFault>
+pub fn read_optional_moment(bytes: &mut &[u8]) -> Result<Option<Moment>, BadField>
     ensures { Gives result bytes.new.now (optional_at moment_at bytes.old.now) }
 {
     if read_byte(bytes, 0, 1)? == 0 {
@@ -83,7 +83,7 @@ pub fn put_set(out: &mut Vec<u8>, value: CharacteristicSet) -> Result<(), AllocE
 
 /// Reads a set of characteristics.
 #[tactic(auto, unfolding(crate::specs::Reading::set_at))]
-pub fn read_set(bytes: &mut &[u8]) -> Result<CharacteristicSet, FieldFault>
+pub fn read_set(bytes: &mut &[u8]) -> Result<CharacteristicSet, BadField>
     ensures { Gives result bytes.new.now (set_at bytes.old.now) }
 {
     let low = read_number(bytes, Width::Eight)?;

@@ -1,16 +1,16 @@
 // Commands: what the words of a text ask for.
-ghost use Rattle.std.specs.Prelude.{◌≡◌, ℕ, List, [], ◌∷◌, Some, map, IfOk, IfErr};
+ghost use Rattle.std.specs.Prelude.{◌≡◌, ℕ, List, [], ◌∷◌, Some, IfOk, IfErr};
 ghost use Rattle.qm_model.specs.Command.{command_of, command_from};
 ghost use Rattle.qm_dcl.specs.Faults.{Explains};
 
 use crate::fault::DclFault;
 use crate::show::query_of;
 use crate::submit::submit;
-use crate::word::{entry_number, first_words, is_word};
+use crate::word::{entry_number, is_word, next_word};
 use qm_kinds::{FileName, Input, Name, ParseKind};
 use std::alloc::Global;
 
-const NOT_BUILT: DclFault = DclFault::At {
+const NOT_BUILT: DclFault = DclFault {
     place: 0,
     kind: ParseKind::NotBuilt,
 };
@@ -19,23 +19,26 @@ const NOT_BUILT: DclFault = DclFault::At {
 ///
 /// Built are `SUBMIT file` and `SHOW ENTRY number`, spelled in full and in any case, with blanks between, before and
 /// behind the words. A number is decimal digits, below 2 ^ 32; zeros may stand in front. Each other text is refused as
-/// not built, at byte 0. `NoMemory` comes where memory for the first four words is lacking; nothing is changed by it.
+/// not built, at byte 0. No memory is taken.
 pub fn read_command(alloc: Global, text: &[u8], user: Name) -> Result<Input, DclFault>
     ensures read { IfOk result (λ input. command_of user text.now ≡ Some input) }
     ensures refused { IfErr result (Explains (command_of user text.now)) }
 {
-    let words = first_words(alloc, text)?;
-    command_from(alloc, user, words.as_slice()).ok_or(NOT_BUILT)
+    command_of(alloc, user, text).ok_or(NOT_BUILT)
 }
 
-// The command of which these are the words.
-fn command_from(alloc: Global, user: Name, words: &[&[u8]]) -> Option<Input>
-    ensures { result ≡ command_from user (map (λ word. word.now) words.now) }
+// The command that a text is. It has two words or three.
+fn command_of(alloc: Global, user: Name, text: &[u8]) -> Option<Input>
+    ensures { result ≡ command_of user text.now }
 {
-    match words {
-        [verb, file] => command_of_two(alloc, user, verb, file),
-        [verb, what, number] => command_of_three(verb, what, number),
-        _ => None,
+    let (verb, text) = next_word(text)?;
+    let (second, text) = next_word(text)?;
+    let Some((third, text)) = next_word(text) else {
+        return command_of_two(alloc, user, verb, second);
+    };
+    match next_word(text) {
+        None => command_of_three(verb, second, third),
+        Some(_) => None,
     }
 }
 
@@ -60,6 +63,3 @@ fn command_of_three(verb: &[u8], what: &[u8], number: &[u8]) -> Option<Input>
     let number = entry_number(number)?;
     Some(Input::Show(query_of(number)))
 }
-
-#[cfg(test)]
-mod tests;

@@ -1,9 +1,9 @@
 // SUBMIT file.
 ghost use Rattle.std.specs.Prelude.{◌≡◌};
-ghost use Rattle.qm_model.specs.Names.{batch_queue, command_type};
+ghost use Rattle.qm_kinds.specs.Names.{command_type};
 ghost use Rattle.qm_model.specs.Command.{submit_of, with_type};
 
-use qm_kinds::{FileName, JobKind, JobRetain, Name, Request, Seq};
+use qm_kinds::{FileName, Job, JobKind, JobRetain, Name, Request, Seq, batch_queue};
 use std::alloc::Global;
 
 /// The request to run a file as a batch job of a user, with the settings that a job has by default.
@@ -14,7 +14,7 @@ pub(crate) fn submit(alloc: Global, user: Name, file: FileName) -> Request
     let name = file.name;
     let file = with_type(file);
     let characteristics = Seq::new(alloc);
-    Request::Submit {
+    Request::Submit(Job {
         user,
         kind: JobKind::Batch,
         queue,
@@ -29,7 +29,7 @@ pub(crate) fn submit(alloc: Global, user: Name, file: FileName) -> Request
         form: None,
         copies: 1,
         flag: false,
-    }
+    })
 }
 
 // A file that names no type is a command file.
@@ -43,12 +43,6 @@ fn with_type(file: FileName) -> FileName
             extension: Some(command_type()),
         },
     }
-}
-
-fn batch_queue() -> Name
-    ensures { result ≡ batch_queue }
-{
-    Name::read(b"SYS$BATCH").unwrap()
 }
 
 fn command_type() -> Name

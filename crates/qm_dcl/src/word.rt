@@ -1,20 +1,43 @@
 // Words of a text: which one it is, and which number it says.
-ghost use Rattle.std.specs.Prelude.{◌≡◌, ◌==◌, ◌<◌, ◌^◌, IfOk, map, take};
+ghost use Rattle.std.specs.Prelude.{◌≡◌, ◌==◌, ◌<◌, ◌^◌, [], ◌∷◌, false, ℕ, List, IfSome, IfNone, length, position};
 ghost use Rattle.std.specs.List.{AllPass, list_all};
 ghost use Rattle.std.specs.Char.{is_ascii_digit};
 ghost use Rattle.std.specs.Option.{SomeIff};
 ghost use Rattle.qm_model.specs.Command.{words_of, is_word, value_of, entry_number};
 
-use std::alloc::{AllocError, Global};
-
-/// The first words of a text, parted by blanks: all of them, but at most four. No built command has so many.
-pub(crate) fn first_words(alloc: Global, text: &[u8]) -> Result<Vec<&[u8]>, AllocError>
-    ensures { IfOk result (λ words. map (λ word. word.now) words.items ≡ take 4 (words_of text.now)) }
+/// The first word of a text in which words are parted by blanks, and the text behind it.
+pub(crate) fn next_word(text: &[u8]) -> Option<(&[u8], &[u8])>
+    ensures word { IfSome result (λ x. words_of text.now ≡ x.0.now ∷ words_of x.1.now) }
+    ensures none { IfNone result (words_of text.now ≡ []) }
 {
-    text.split(|b| *b == b' ')
-        .filter(|word| !word.is_empty())
-        .take(4)
-        .collect(alloc)
+    let text = behind_blanks(text);
+    if text.is_empty() {
+        return None;
+    }
+    match first_blank(text) {
+        Some(place) => Some((&text[..place], &text[place + 1..])),
+        None => Some((text, &[])),
+    }
+}
+
+// The text without the blanks at its beginning.
+fn behind_blanks(text: &[u8]) -> &[u8]
+    ensures words { words_of result.now ≡ words_of text.now }
+    ensures other { (b : ℕ) (bs : List ℕ) → result.now ≡ b ∷ bs → b == 32 ≡ false }
+{
+    let mut rest = text;
+    while let [b' ', behind @ ..] = rest {
+        rest = behind;
+    }
+    rest
+}
+
+// The place of the first blank.
+fn first_blank(text: &[u8]) -> Option<usize>
+    ensures value { result ≡ position (λ b. b == 32) text.now }
+    ensures within { IfSome result (λ place. place < length text.now) }
+{
+    text.iter().position(|b| *b == b' ')
 }
 
 /// Whether a word, in any case, is the one that is meant, which is in capital letters.

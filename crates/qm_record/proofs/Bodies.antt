@@ -1,199 +1,211 @@
 -- Each reader of a body reads the fields of its records.
-use Rattle.std.proofs.Common.{◌≡◌, ℕ, ◌≤◌, Bool, true, false, eqb, ◌||◌, List, [], ◌∷◌, Option, refl, sym, ap, subst, ◌∙◌, arith}
-use Rattle.std.proofs.lemmas.Bool.{eqb-true}
+use Rattle.std.proofs.Common.{◌≡◌, ℕ, true, false, List, [], ◌∷◌, Option, Some, None, refl, sym, ap, subst, ◌∙◌, arith}
 use Rattle.qm_kinds.specs.declared.request.Request.{Request}
 use Rattle.qm_kinds.specs.declared.request.Request.TheVariants as ask
-use Rattle.qm_kinds.specs.declared.request.NameOrNumber.{NameOrNumber}
-use Rattle.qm_kinds.specs.declared.entry.JobKind.{JobKind}
-use Rattle.qm_kinds.specs.declared.entry.JobRetain.{JobRetain}
+use Rattle.qm_kinds.specs.declared.request.Job.{Job}
 use Rattle.qm_kinds.specs.declared.file.FileName.{FileName}
 use Rattle.qm_kinds.specs.declared.queue.Queue.{Queue}
 use Rattle.qm_kinds.specs.declared.form.Form.{Form}
 use Rattle.qm_kinds.specs.declared.system.Node.{Node}
-use Rattle.qm_bytes.specs.Reading.{◌>>=◌, pure}
+use Rattle.qm_bytes.specs.Reading.{Reader, ◌>>=◌, pure}
 use Rattle.qm_bytes.specs.Laws.{Spells, IsReader}
 use Rattle.qm_bytes.specs.Spelling.{low_first, fields, byte, truth, optional, list, short_bytes, long_bytes, file_name, moment}
 use Rattle.qm_bytes.proofs.Readers.{made, after, last, said}
 use Rattle.qm_bytes.proofs.Fields.{truth_reader, optional_reader, list_reader, name_reader, file_name_reader, long_bytes_reader, moment_reader}
 use Rattle.qm_kinds.specs.declared.record.Body.{Body}
 use Rattle.qm_kinds.specs.declared.record.Body.TheVariants as body
-use Rattle.qm_record.specs.Spelling.{job_kind_code, job_retain, name_or_number, number_of_request, number_of, body_text, RequestFits, BodyFits}
-use Rattle.qm_record.specs.Reading.{append_at, submit_at, head_at, form_at, queue_at, body_at, is_number}
+use Rattle.qm_record.specs.declared.kind.RecordKind.{RecordKind}
+use Rattle.qm_record.specs.declared.kind.RecordKind.TheVariants as record_kind
+use Rattle.qm_record.specs.Kinds.{number_of, is_row_kind}
+use Rattle.qm_record.specs.Spelling.{job_kind_code, job_retain, name_or_number, job_text, head, form, queue, request_parts, body_parts, is_row, JobFits, FormFits, QueueFits, RequestFits, BodyFits}
+use Rattle.qm_record.specs.Reading.{append_at, job_at, head_at, body_at}
 use Rattle.qm_record.proofs.Codes.{job_kind_reader}
 use Rattle.qm_record.proofs.Fields.{one_byte_reader, u32_reader, u64_reader, name_or_number_reader, job_retain_reader, node_reader, form_reader, queue_reader}
 
--- a body of this number, and the text of its fields
-pub record BodyAt (n : ℕ) (b : Body) (text : List ℕ) : Type 0 where
+abbrev Parts : Type 0
+Parts = RecordKind × List ℕ
+
+-- a body of this kind, and the text of its fields
+pub record BodyAt (k : RecordKind) (b : Body) (text : List ℕ) : Type 0 where
   pub fits : BodyFits b
-  pub is : text ≡ body_text b
-  pub number : number_of b ≡ n
+  pub is : body_parts b ≡ Some (k, text)
 
-few_requests : (r : Request) → number_of_request r ≤ 23
-few_requests (ask.Append file bytes) = omega arith
-few_requests r = omega arith
+abbrev some : Parts → Option Parts
+some p = Some p
 
-record AppendParts (b : Body) : Type 0 where
+-- a number that tells kinds apart
+abbrev number_in : Option Parts → ℕ
+number_in None = 0
+number_in (Some p) = number_of p.0
+
+some_is : (p q : Parts) → some p ≡ some q → p ≡ q
+some_is p q e = cc
+
+same_kind : (a b : RecordKind) (x y : List ℕ) → some (a, x) ≡ some (b, y) → a ≡ b
+same_kind a b x y e = ap (λ (p : Parts). p.0) (some_is (a, x) (b, y) e)
+
+same_text : (a b : RecordKind) (x y : List ℕ) → some (a, x) ≡ some (b, y) → x ≡ y
+same_text a b x y e = ap (λ (p : Parts). p.1) (some_is (a, x) (b, y) e)
+
+-- ---- a body that is one value
+
+-- the bodies of a kind, each of a value
+pub record IsWrap {A : Type 0} (Fits : A → Type 0) (spelling : A → List ℕ) (k : RecordKind) (wrap : A → Body) : Type 0 where
+  pub fits : (x : A) → Fits x → BodyFits (wrap x)
+  pub fitted : (x : A) → BodyFits (wrap x) → Fits x
+  pub parts_are : (x : A) → body_parts (wrap x) ≡ Some (k, spelling x)
+  pub unwrap : (b : Body) (text : List ℕ) → body_parts b ≡ Some (k, text) → (x : A) × (b ≡ wrap x)
+
+wrapped : {A : Type 0} {Fits : A → Type 0} {spelling : A → List ℕ} {read : Reader A} {k : RecordKind} {wrap : A → Body} → IsReader (Spells Fits spelling) read → IsWrap Fits spelling k wrap
+    → IsReader (BodyAt k) (read >>= λ x. pure (wrap x))
+wrapped {A} {Fits} {spelling} {read} {k} {wrap} r w =
+    said (last r)
+    (λ b text h. rw h.same (record { fits = w.fits h.first h.fits; is = w.parts_are h.first ∙ ap (λ t. Some (k, t)) (sym h.parts) }))
+    (λ b text s. let u = w.unwrap b text s.is in
+    record { first = u.0; fits = w.fitted u.0 (subst BodyFits u.1 s.fits); same = u.1; parts = sym (same_text k k (spelling u.0) text (sym (w.parts_are u.0) ∙ ap body_parts (sym u.1) ∙ s.is)) })
+
+-- ---- rows and requests
+
+-- the kind of a request is no row's
+request_is_no_row : (r : Request) (k : RecordKind) (text : List ℕ) → request_parts r ≡ Some (k, text) → false ≡ is_row_kind k
+request_is_no_row (ask.Append file bytes) k text e = ap is_row_kind (same_kind _ _ _ _ e)
+request_is_no_row (ask.Submit j) k text e = ap is_row_kind (same_kind _ _ _ _ e)
+request_is_no_row ask.Tick k text e = ap is_row_kind (same_kind _ _ _ _ e)
+request_is_no_row r k text e = absurd cc
+
+no_row : (r : Request) (k : RecordKind) (text : List ℕ) → is_row_kind k ≡ true → request_parts r ≡ Some (k, text) → ⊥
+no_row r k text row e = let no : false ≡ true = request_is_no_row r k text e ∙ row in cc
+
+-- whether a body is a row is told by its kind
+pub row_by_kind : (b : Body) (k : RecordKind) (text : List ℕ) → body_parts b ≡ Some (k, text) → is_row b ≡ is_row_kind k
+row_by_kind (body.Ask r) k text e = request_is_no_row r k text e
+row_by_kind (body.Head nodes may next_entry next_run last_moment) k text e = ap is_row_kind (same_kind _ _ _ _ e)
+row_by_kind (body.Form f) k text e = ap is_row_kind (same_kind _ _ _ _ e)
+row_by_kind (body.Queue q) k text e = ap is_row_kind (same_kind _ _ _ _ e)
+row_by_kind b k text e = absurd cc
+
+-- ---- requests
+
+pub job_reader : IsReader (Spells JobFits job_text) job_at
+unfolding job_at
+job_reader =
+    said (after name_reader (λ user user_fits. after job_kind_reader (λ kind kind_fits. after name_reader (λ queue_name queue_name_fits. after file_name_reader (λ file file_fits. after name_reader (λ name name_fits. after one_byte_reader (λ priority priority_fits. after (optional_reader moment_reader) (λ after_moment after_moment_fits. after truth_reader (λ hold hold_fits. after job_retain_reader (λ retain retain_fits. after truth_reader (λ restart restart_fits. after (list_reader name_or_number_reader) (λ characteristics characteristics_fits. after (optional_reader name_or_number_reader) (λ form_wanted form_wanted_fits. after one_byte_reader (λ copies copies_fits. after truth_reader (λ flag flag_fits. made (record { user = user; kind = kind; queue = queue_name; file = file; name = name; priority = priority; after = after_moment; hold = hold; retain = retain; restart = restart; characteristics = characteristics; form = form_wanted; copies = copies; flag = flag }))))))))))))))))
+    (λ j text h. rw h.next.next.next.next.next.next.next.next.next.next.next.next.next.next.same (record { fits = record { user_fits = h.fits; queue_fits = h.next.next.fits; file_fits = h.next.next.next.fits; name_fits = h.next.next.next.next.fits; priority_fits = h.next.next.next.next.next.fits; after_fits = h.next.next.next.next.next.next.fits; retain_fits = h.next.next.next.next.next.next.next.next.fits; characteristics_fit = h.next.next.next.next.next.next.next.next.next.next.fits; form_fits = h.next.next.next.next.next.next.next.next.next.next.next.fits; copies_fits = h.next.next.next.next.next.next.next.next.next.next.next.next.fits }; is = rw (h.parts, h.next.parts, h.next.next.parts, h.next.next.next.parts, h.next.next.next.next.parts, h.next.next.next.next.next.parts, h.next.next.next.next.next.next.parts, h.next.next.next.next.next.next.next.parts, h.next.next.next.next.next.next.next.next.parts, h.next.next.next.next.next.next.next.next.next.parts, h.next.next.next.next.next.next.next.next.next.next.parts, h.next.next.next.next.next.next.next.next.next.next.next.parts, h.next.next.next.next.next.next.next.next.next.next.next.next.parts, h.next.next.next.next.next.next.next.next.next.next.next.next.next.parts, h.next.next.next.next.next.next.next.next.next.next.next.next.next.next.nothing) refl }))
+    (λ j text s. record { first = j.user; fits = s.fits.user_fits; others = fields (byte (job_kind_code j.kind) ∷ short_bytes j.queue ∷ file_name j.file ∷ short_bytes j.name ∷ byte j.priority ∷ optional moment j.after ∷ truth j.hold ∷ job_retain j.retain ∷ truth j.restart ∷ list name_or_number j.characteristics ∷ optional name_or_number j.form ∷ byte j.copies ∷ truth j.flag ∷ []); next = record { first = j.kind; fits = tt; others = fields (short_bytes j.queue ∷ file_name j.file ∷ short_bytes j.name ∷ byte j.priority ∷ optional moment j.after ∷ truth j.hold ∷ job_retain j.retain ∷ truth j.restart ∷ list name_or_number j.characteristics ∷ optional name_or_number j.form ∷ byte j.copies ∷ truth j.flag ∷ []); next = record { first = j.queue; fits = s.fits.queue_fits; others = fields (file_name j.file ∷ short_bytes j.name ∷ byte j.priority ∷ optional moment j.after ∷ truth j.hold ∷ job_retain j.retain ∷ truth j.restart ∷ list name_or_number j.characteristics ∷ optional name_or_number j.form ∷ byte j.copies ∷ truth j.flag ∷ []); next = record { first = j.file; fits = s.fits.file_fits; others = fields (short_bytes j.name ∷ byte j.priority ∷ optional moment j.after ∷ truth j.hold ∷ job_retain j.retain ∷ truth j.restart ∷ list name_or_number j.characteristics ∷ optional name_or_number j.form ∷ byte j.copies ∷ truth j.flag ∷ []); next = record { first = j.name; fits = s.fits.name_fits; others = fields (byte j.priority ∷ optional moment j.after ∷ truth j.hold ∷ job_retain j.retain ∷ truth j.restart ∷ list name_or_number j.characteristics ∷ optional name_or_number j.form ∷ byte j.copies ∷ truth j.flag ∷ []); next = record { first = j.priority; fits = s.fits.priority_fits; others = fields (optional moment j.after ∷ truth j.hold ∷ job_retain j.retain ∷ truth j.restart ∷ list name_or_number j.characteristics ∷ optional name_or_number j.form ∷ byte j.copies ∷ truth j.flag ∷ []); next = record { first = j.after; fits = s.fits.after_fits; others = fields (truth j.hold ∷ job_retain j.retain ∷ truth j.restart ∷ list name_or_number j.characteristics ∷ optional name_or_number j.form ∷ byte j.copies ∷ truth j.flag ∷ []); next = record { first = j.hold; fits = tt; others = fields (job_retain j.retain ∷ truth j.restart ∷ list name_or_number j.characteristics ∷ optional name_or_number j.form ∷ byte j.copies ∷ truth j.flag ∷ []); next = record { first = j.retain; fits = s.fits.retain_fits; others = fields (truth j.restart ∷ list name_or_number j.characteristics ∷ optional name_or_number j.form ∷ byte j.copies ∷ truth j.flag ∷ []); next = record { first = j.restart; fits = tt; others = fields (list name_or_number j.characteristics ∷ optional name_or_number j.form ∷ byte j.copies ∷ truth j.flag ∷ []); next = record { first = j.characteristics; fits = s.fits.characteristics_fit; others = fields (optional name_or_number j.form ∷ byte j.copies ∷ truth j.flag ∷ []); next = record { first = j.form; fits = s.fits.form_fits; others = fields (byte j.copies ∷ truth j.flag ∷ []); next = record { first = j.copies; fits = s.fits.copies_fits; others = fields (truth j.flag ∷ []); next = record { first = j.flag; fits = tt; others = []; next = record { same = refl; nothing = refl }; parts = refl }; parts = refl }; parts = refl }; parts = refl }; parts = refl }; parts = refl }; parts = refl }; parts = refl }; parts = refl }; parts = refl }; parts = refl }; parts = refl }; parts = refl }; parts = s.is })
+
+job_wraps : IsWrap JobFits job_text record_kind.Submit (λ j. body.Ask (ask.Submit j))
+job_wraps = record { fits = λ j fits. fits; fitted = λ j fits. fits; parts_are = λ j. refl; unwrap = unwrap } where
+  unwrap : (b : Body) (text : List ℕ) → body_parts b ≡ Some (record_kind.Submit, text) → (j : Job) × (b ≡ body.Ask (ask.Submit j))
+  unwrap (body.Ask (ask.Submit j)) text e = (j, refl)
+  unwrap b text e = absurd (omega (arith, ap number_in e))
+
+record AppendParts (b : Body) (text : List ℕ) : Type 0 where
   file : FileName
   bytes : List ℕ
   same : b ≡ body.Ask (ask.Append file bytes)
+  text_is : text ≡ fields (file_name file ∷ long_bytes bytes ∷ [])
 
-append_parts : (b : Body) → number_of b ≡ 1 → AppendParts b
-append_parts (body.Ask (ask.Append file bytes)) e = record { file = file; bytes = bytes; same = refl }
-append_parts b e = absurd (omega (arith, e))
+append_parts : (b : Body) (text : List ℕ) → body_parts b ≡ Some (record_kind.Append, text) → AppendParts b text
+append_parts (body.Ask (ask.Append file bytes)) text e = record { file = file; bytes = bytes; same = refl; text_is = sym (same_text _ _ _ _ e) }
+append_parts b text e = absurd (omega (arith, ap number_in e))
 
-append_reader : IsReader (BodyAt 1) append_at
+append_reader : IsReader (BodyAt record_kind.Append) append_at
 unfolding append_at
 append_reader =
     said (after file_name_reader (λ file file_fits. after long_bytes_reader (λ bytes bytes_fits. made (body.Ask (ask.Append file bytes)))))
-    (λ b text h. rw h.next.next.same (record { fits = (h.fits, h.next.fits); is = rw (h.parts, h.next.parts, h.next.next.nothing) refl; number = refl }))
-    (λ b text s. let p = append_parts b s.number in let fits : BodyFits (body.Ask (ask.Append p.file p.bytes)) = subst BodyFits p.same s.fits in
-    record { first = p.file; fits = fits.0; others = fields (long_bytes p.bytes ∷ []); next = record { first = p.bytes; fits = fits.1; others = []; next = record { same = p.same; nothing = refl }; parts = refl }; parts = s.is ∙ ap body_text p.same })
+    (λ b text h. rw h.next.next.same (record { fits = (h.fits, h.next.fits); is = rw (h.parts, h.next.parts, h.next.next.nothing) refl }))
+    (λ b text s. let p = append_parts b text s.is in let fits : BodyFits (body.Ask (ask.Append p.file p.bytes)) = subst BodyFits p.same s.fits in
+    record { first = p.file; fits = fits.0; others = fields (long_bytes p.bytes ∷ []); next = record { first = p.bytes; fits = fits.1; others = []; next = record { same = p.same; nothing = refl }; parts = refl }; parts = p.text_is })
 
-record SubmitParts (b : Body) : Type 0 where
-  user : List ℕ
-  kind : JobKind
-  queue_name : List ℕ
-  file : FileName
-  name : List ℕ
-  priority : ℕ
-  after_moment : Option ℕ
-  hold : Bool
-  retain : JobRetain
-  restart : Bool
-  characteristics : List NameOrNumber
-  form_wanted : Option NameOrNumber
-  copies : ℕ
-  flag : Bool
-  same : b ≡ body.Ask (ask.Submit user kind queue_name file name priority after_moment hold retain restart characteristics form_wanted copies flag)
+record TickParts (b : Body) (text : List ℕ) : Type 0 where
+  same : b ≡ body.Ask ask.Tick
+  text_is : text ≡ []
 
-submit_parts : (b : Body) → number_of b ≡ 15 → SubmitParts b
-submit_parts (body.Ask (ask.Submit user kind queue_name file name priority after_moment hold retain restart characteristics form_wanted copies flag)) e = record { user = user; kind = kind; queue_name = queue_name; file = file; name = name; priority = priority; after_moment = after_moment; hold = hold; retain = retain; restart = restart; characteristics = characteristics; form_wanted = form_wanted; copies = copies; flag = flag; same = refl }
-submit_parts b e = absurd (omega (arith, e))
+tick_parts : (b : Body) (text : List ℕ) → body_parts b ≡ Some (record_kind.Tick, text) → TickParts b text
+tick_parts (body.Ask ask.Tick) text e = record { same = refl; text_is = sym (same_text _ _ _ _ e) }
+tick_parts b text e = absurd (omega (arith, ap number_in e))
 
-submit_reader : IsReader (BodyAt 15) submit_at
-unfolding submit_at
-submit_reader =
-    said (after name_reader (λ user user_fits. after job_kind_reader (λ kind kind_fits. after name_reader (λ queue_name queue_name_fits. after file_name_reader (λ file file_fits. after name_reader (λ name name_fits. after one_byte_reader (λ priority priority_fits. after (optional_reader moment_reader) (λ after_moment after_moment_fits. after truth_reader (λ hold hold_fits. after job_retain_reader (λ retain retain_fits. after truth_reader (λ restart restart_fits. after (list_reader name_or_number_reader) (λ characteristics characteristics_fits. after (optional_reader name_or_number_reader) (λ form_wanted form_wanted_fits. after one_byte_reader (λ copies copies_fits. after truth_reader (λ flag flag_fits. made (body.Ask (ask.Submit user kind queue_name file name priority after_moment hold retain restart characteristics form_wanted copies flag)))))))))))))))))
-    (λ b text h. rw h.next.next.next.next.next.next.next.next.next.next.next.next.next.next.same (record { fits = (h.fits, h.next.next.fits, h.next.next.next.fits, h.next.next.next.next.fits, h.next.next.next.next.next.fits, h.next.next.next.next.next.next.fits, h.next.next.next.next.next.next.next.next.fits, h.next.next.next.next.next.next.next.next.next.next.fits, h.next.next.next.next.next.next.next.next.next.next.next.fits, h.next.next.next.next.next.next.next.next.next.next.next.next.fits); is = rw (h.parts, h.next.parts, h.next.next.parts, h.next.next.next.parts, h.next.next.next.next.parts, h.next.next.next.next.next.parts, h.next.next.next.next.next.next.parts, h.next.next.next.next.next.next.next.parts, h.next.next.next.next.next.next.next.next.parts, h.next.next.next.next.next.next.next.next.next.parts, h.next.next.next.next.next.next.next.next.next.next.parts, h.next.next.next.next.next.next.next.next.next.next.next.parts, h.next.next.next.next.next.next.next.next.next.next.next.next.parts, h.next.next.next.next.next.next.next.next.next.next.next.next.next.parts, h.next.next.next.next.next.next.next.next.next.next.next.next.next.next.nothing) refl; number = refl }))
-    (λ b text s. let p = submit_parts b s.number in let fits : BodyFits (body.Ask (ask.Submit p.user p.kind p.queue_name p.file p.name p.priority p.after_moment p.hold p.retain p.restart p.characteristics p.form_wanted p.copies p.flag)) = subst BodyFits p.same s.fits in
-    record { first = p.user; fits = fits.0; others = fields (byte (job_kind_code p.kind) ∷ short_bytes p.queue_name ∷ file_name p.file ∷ short_bytes p.name ∷ byte p.priority ∷ optional moment p.after_moment ∷ truth p.hold ∷ job_retain p.retain ∷ truth p.restart ∷ list name_or_number p.characteristics ∷ optional name_or_number p.form_wanted ∷ byte p.copies ∷ truth p.flag ∷ []); next = record { first = p.kind; fits = tt; others = fields (short_bytes p.queue_name ∷ file_name p.file ∷ short_bytes p.name ∷ byte p.priority ∷ optional moment p.after_moment ∷ truth p.hold ∷ job_retain p.retain ∷ truth p.restart ∷ list name_or_number p.characteristics ∷ optional name_or_number p.form_wanted ∷ byte p.copies ∷ truth p.flag ∷ []); next = record { first = p.queue_name; fits = fits.1; others = fields (file_name p.file ∷ short_bytes p.name ∷ byte p.priority ∷ optional moment p.after_moment ∷ truth p.hold ∷ job_retain p.retain ∷ truth p.restart ∷ list name_or_number p.characteristics ∷ optional name_or_number p.form_wanted ∷ byte p.copies ∷ truth p.flag ∷ []); next = record { first = p.file; fits = fits.2; others = fields (short_bytes p.name ∷ byte p.priority ∷ optional moment p.after_moment ∷ truth p.hold ∷ job_retain p.retain ∷ truth p.restart ∷ list name_or_number p.characteristics ∷ optional name_or_number p.form_wanted ∷ byte p.copies ∷ truth p.flag ∷ []); next = record { first = p.name; fits = fits.3; others = fields (byte p.priority ∷ optional moment p.after_moment ∷ truth p.hold ∷ job_retain p.retain ∷ truth p.restart ∷ list name_or_number p.characteristics ∷ optional name_or_number p.form_wanted ∷ byte p.copies ∷ truth p.flag ∷ []); next = record { first = p.priority; fits = fits.4; others = fields (optional moment p.after_moment ∷ truth p.hold ∷ job_retain p.retain ∷ truth p.restart ∷ list name_or_number p.characteristics ∷ optional name_or_number p.form_wanted ∷ byte p.copies ∷ truth p.flag ∷ []); next = record { first = p.after_moment; fits = fits.5; others = fields (truth p.hold ∷ job_retain p.retain ∷ truth p.restart ∷ list name_or_number p.characteristics ∷ optional name_or_number p.form_wanted ∷ byte p.copies ∷ truth p.flag ∷ []); next = record { first = p.hold; fits = tt; others = fields (job_retain p.retain ∷ truth p.restart ∷ list name_or_number p.characteristics ∷ optional name_or_number p.form_wanted ∷ byte p.copies ∷ truth p.flag ∷ []); next = record { first = p.retain; fits = fits.6; others = fields (truth p.restart ∷ list name_or_number p.characteristics ∷ optional name_or_number p.form_wanted ∷ byte p.copies ∷ truth p.flag ∷ []); next = record { first = p.restart; fits = tt; others = fields (list name_or_number p.characteristics ∷ optional name_or_number p.form_wanted ∷ byte p.copies ∷ truth p.flag ∷ []); next = record { first = p.characteristics; fits = fits.7; others = fields (optional name_or_number p.form_wanted ∷ byte p.copies ∷ truth p.flag ∷ []); next = record { first = p.form_wanted; fits = fits.8; others = fields (byte p.copies ∷ truth p.flag ∷ []); next = record { first = p.copies; fits = fits.9; others = fields (truth p.flag ∷ []); next = record { first = p.flag; fits = tt; others = []; next = record { same = p.same; nothing = refl }; parts = refl }; parts = refl }; parts = refl }; parts = refl }; parts = refl }; parts = refl }; parts = refl }; parts = refl }; parts = refl }; parts = refl }; parts = refl }; parts = refl }; parts = refl }; parts = s.is ∙ ap body_text p.same })
+tick_reader : IsReader (BodyAt record_kind.Tick) (pure (body.Ask ask.Tick))
+tick_reader =
+    said (made (body.Ask ask.Tick))
+    (λ b text h. rw h.same (record { fits = tt; is = rw h.nothing refl }))
+    (λ b text s. let p = tick_parts b text s.is in record { same = p.same; nothing = p.text_is })
 
-record HeadParts (b : Body) : Type 0 where
+-- ---- rows
+
+record HeadParts (b : Body) (text : List ℕ) : Type 0 where
   nodes : List Node
   may : List (List ℕ)
   next_entry : ℕ
   next_run : ℕ
   last_moment : ℕ
   same : b ≡ body.Head nodes may next_entry next_run last_moment
+  text_is : text ≡ head nodes may next_entry next_run last_moment
 
-head_parts : (b : Body) → number_of b ≡ 33 → HeadParts b
-head_parts (body.Head nodes may next_entry next_run last_moment) e = record { nodes = nodes; may = may; next_entry = next_entry; next_run = next_run; last_moment = last_moment; same = refl }
-head_parts (body.Ask r) e = absurd (omega (arith, e, few_requests r))
-head_parts b e = absurd (omega (arith, e))
+head_parts : (b : Body) (text : List ℕ) → body_parts b ≡ Some (record_kind.Head, text) → HeadParts b text
+head_parts (body.Head nodes may next_entry next_run last_moment) text e = record { nodes = nodes; may = may; next_entry = next_entry; next_run = next_run; last_moment = last_moment; same = refl; text_is = sym (same_text _ _ _ _ e) }
+head_parts (body.Ask r) text e = absurd (no_row r record_kind.Head text refl e)
+head_parts b text e = absurd (omega (arith, ap number_in e))
 
-head_reader : IsReader (BodyAt 33) head_at
+head_reader : IsReader (BodyAt record_kind.Head) head_at
 unfolding head_at
 head_reader =
     said (after (list_reader node_reader) (λ nodes nodes_fits. after (list_reader name_reader) (λ may may_fits. after u32_reader (λ next_entry next_entry_fits. after u64_reader (λ next_run next_run_fits. after moment_reader (λ last_moment last_moment_fits. made (body.Head nodes may next_entry next_run last_moment)))))))
-    (λ b text h. rw h.next.next.next.next.next.same (record { fits = (h.fits, h.next.fits, h.next.next.fits, h.next.next.next.fits, h.next.next.next.next.fits); is = rw (h.parts, h.next.parts, h.next.next.parts, h.next.next.next.parts, h.next.next.next.next.parts, h.next.next.next.next.next.nothing) refl; number = refl }))
-    (λ b text s. let p = head_parts b s.number in let fits : BodyFits (body.Head p.nodes p.may p.next_entry p.next_run p.last_moment) = subst BodyFits p.same s.fits in
-    record { first = p.nodes; fits = fits.0; others = fields (list short_bytes p.may ∷ low_first 4 p.next_entry ∷ low_first 8 p.next_run ∷ moment p.last_moment ∷ []); next = record { first = p.may; fits = fits.1; others = fields (low_first 4 p.next_entry ∷ low_first 8 p.next_run ∷ moment p.last_moment ∷ []); next = record { first = p.next_entry; fits = fits.2; others = fields (low_first 8 p.next_run ∷ moment p.last_moment ∷ []); next = record { first = p.next_run; fits = fits.3; others = fields (moment p.last_moment ∷ []); next = record { first = p.last_moment; fits = fits.4; others = []; next = record { same = p.same; nothing = refl }; parts = refl }; parts = refl }; parts = refl }; parts = refl }; parts = s.is ∙ ap body_text p.same })
+    (λ b text h. rw h.next.next.next.next.next.same (record { fits = (h.fits, h.next.fits, h.next.next.fits, h.next.next.next.fits, h.next.next.next.next.fits); is = rw (h.parts, h.next.parts, h.next.next.parts, h.next.next.next.parts, h.next.next.next.next.parts, h.next.next.next.next.next.nothing) refl }))
+    (λ b text s. let p = head_parts b text s.is in let fits : BodyFits (body.Head p.nodes p.may p.next_entry p.next_run p.last_moment) = subst BodyFits p.same s.fits in
+    record { first = p.nodes; fits = fits.0; others = fields (list short_bytes p.may ∷ low_first 4 p.next_entry ∷ low_first 8 p.next_run ∷ moment p.last_moment ∷ []); next = record { first = p.may; fits = fits.1; others = fields (low_first 4 p.next_entry ∷ low_first 8 p.next_run ∷ moment p.last_moment ∷ []); next = record { first = p.next_entry; fits = fits.2; others = fields (low_first 8 p.next_run ∷ moment p.last_moment ∷ []); next = record { first = p.next_run; fits = fits.3; others = fields (moment p.last_moment ∷ []); next = record { first = p.last_moment; fits = fits.4; others = []; next = record { same = p.same; nothing = refl }; parts = refl }; parts = refl }; parts = refl }; parts = refl }; parts = p.text_is })
 
-tick_is : (b : Body) → number_of b ≡ 20 → b ≡ body.Ask ask.Tick
-tick_is (body.Ask ask.Tick) e = refl
-tick_is b e = absurd (omega (arith, e))
+form_wraps : IsWrap FormFits form record_kind.Form (λ f. body.Form f)
+form_wraps = record { fits = λ f fits. fits; fitted = λ f fits. fits; parts_are = λ f. refl; unwrap = unwrap } where
+  unwrap : (b : Body) (text : List ℕ) → body_parts b ≡ Some (record_kind.Form, text) → (f : Form) × (b ≡ body.Form f)
+  unwrap (body.Form f) text e = (f, refl)
+  unwrap (body.Ask r) text e = absurd (no_row r record_kind.Form text refl e)
+  unwrap b text e = absurd (omega (arith, ap number_in e))
 
-tick_reader : IsReader (BodyAt 20) (pure (body.Ask ask.Tick))
-tick_reader =
-    said (made (body.Ask ask.Tick))
-    (λ b text h. rw h.same (record { fits = tt; is = h.nothing; number = refl }))
-    (λ b text s. let same = tick_is b s.number in record { same = same; nothing = s.is ∙ ap body_text same })
+queue_wraps : IsWrap QueueFits queue record_kind.Queue (λ q. body.Queue q)
+queue_wraps = record { fits = λ q fits. fits; fitted = λ q fits. fits; parts_are = λ q. refl; unwrap = unwrap } where
+  unwrap : (b : Body) (text : List ℕ) → body_parts b ≡ Some (record_kind.Queue, text) → (q : Queue) × (b ≡ body.Queue q)
+  unwrap (body.Queue q) text e = (q, refl)
+  unwrap (body.Ask r) text e = absurd (no_row r record_kind.Queue text refl e)
+  unwrap b text e = absurd (omega (arith, ap number_in e))
 
-record FormParts (b : Body) : Type 0 where
-  form_row : Form
-  same : b ≡ body.Form form_row
+-- ---- the body of each kind
 
-form_parts : (b : Body) → number_of b ≡ 34 → FormParts b
-form_parts (body.Form f) e = record { form_row = f; same = refl }
-form_parts (body.Ask r) e = absurd (omega (arith, e, few_requests r))
-form_parts b e = absurd (omega (arith, e))
-
-form_row_reader : IsReader (BodyAt 34) (form_at >>= λ f. pure (body.Form f))
-form_row_reader =
-    said (last form_reader)
-    (λ b text h. rw h.same (record { fits = h.fits; is = h.parts; number = refl }))
-    (λ b text s. let p = form_parts b s.number in record { first = p.form_row; fits = subst BodyFits p.same s.fits; same = p.same; parts = s.is ∙ ap body_text p.same })
-
-record QueueParts (b : Body) : Type 0 where
-  queue_row : Queue
-  same : b ≡ body.Queue queue_row
-
-queue_parts : (b : Body) → number_of b ≡ 37 → QueueParts b
-queue_parts (body.Queue q) e = record { queue_row = q; same = refl }
-queue_parts (body.Ask r) e = absurd (omega (arith, e, few_requests r))
-queue_parts b e = absurd (omega (arith, e))
-
-queue_row_reader : IsReader (BodyAt 37) (queue_at >>= λ q. pure (body.Queue q))
-queue_row_reader =
-    said (last queue_reader)
-    (λ b text h. rw h.same (record { fits = h.fits; is = h.parts; number = refl }))
-    (λ b text s. let p = queue_parts b s.number in record { first = p.queue_row; fits = subst BodyFits p.same s.fits; same = p.same; parts = s.is ∙ ap body_text p.same })
-
--- ---- the body of each record
-
-data Known (n : ℕ) : Type 0 where
-  append : n ≡ 1 → Known n
-  submit : n ≡ 15 → Known n
-  tick : n ≡ 20 → Known n
-  head : n ≡ 33 → Known n
-  form_row : n ≡ 34 → Known n
-  queue_row : n ≡ 37 → Known n
-
-known_by : (n : ℕ) (a b c d e f : Bool) → eqb n 1 ≡ a → eqb n 15 ≡ b → eqb n 20 ≡ c → eqb n 33 ≡ d → eqb n 34 ≡ e → eqb n 37 ≡ f → a || b || c || (d || e || f) ≡ true → Known n
-known_by n true b c d e f ha hb hc hd he hf h = append (eqb-true n 1 ha)
-known_by n false true c d e f ha hb hc hd he hf h = submit (eqb-true n 15 hb)
-known_by n false false true d e f ha hb hc hd he hf h = tick (eqb-true n 20 hc)
-known_by n false false false true e f ha hb hc hd he hf h = head (eqb-true n 33 hd)
-known_by n false false false false true f ha hb hc hd he hf h = form_row (eqb-true n 34 he)
-known_by n false false false false false true ha hb hc hd he hf h = queue_row (eqb-true n 37 hf)
-known_by n false false false false false false ha hb hc hd he hf h = absurd cc
-
-known : (n : ℕ) → is_number n ≡ true → Known n
-known n h = known_by n (eqb n 1) (eqb n 15) (eqb n 20) (eqb n 33) (eqb n 34) (eqb n 37) refl refl refl refl refl refl h
-
-abbrev IsBodyReader : ℕ → Type 0
-IsBodyReader n = IsReader (BodyAt n) (body_at n)
-
-body_reader_of : (n : ℕ) → Known n → IsReader (BodyAt n) (body_at n)
+reader_of : (k : RecordKind) → IsReader (BodyAt k) (body_at k)
 unfolding body_at
-body_reader_of n (append e) = subst IsBodyReader (sym e) append_reader
-body_reader_of n (submit e) = subst IsBodyReader (sym e) submit_reader
-body_reader_of n (tick e) = subst IsBodyReader (sym e) tick_reader
-body_reader_of n (head e) = subst IsBodyReader (sym e) head_reader
-body_reader_of n (form_row e) = subst IsBodyReader (sym e) form_row_reader
-body_reader_of n (queue_row e) = subst IsBodyReader (sym e) queue_row_reader
+reader_of record_kind.Append = append_reader
+reader_of record_kind.Submit = wrapped job_reader job_wraps
+reader_of record_kind.Tick = tick_reader
+reader_of record_kind.Head = head_reader
+reader_of record_kind.Form = wrapped form_reader form_wraps
+reader_of record_kind.Queue = wrapped queue_reader queue_wraps
 
--- a body of this number
-pub record BodyFor (n : ℕ) (b : Body) : Type 0 where
+-- the text of the fields
+abbrev pub fields_in : Option Parts → List ℕ
+fields_in None = []
+fields_in (Some x) = x.1
+
+-- a body of this kind
+pub record BodyFor (k : RecordKind) (b : Body) : Type 0 where
   pub fits : BodyFits b
-  pub number : number_of b ≡ n
+  pub is : body_parts b ≡ Some (k, fields_in (body_parts b))
 
-pub body_reader : (n : ℕ) → is_number n ≡ true → IsReader (Spells (BodyFor n) body_text) (body_at n)
-body_reader n h =
-    said (body_reader_of n (known n h))
-    (λ b text s. record { fits = record { fits = s.fits; number = s.number }; is = s.is })
-    (λ b text s. record { fits = s.fits.fits; is = s.is; number = s.fits.number })
+pub body_reader : (k : RecordKind) → IsReader (Spells (BodyFor k) (λ b. fields_in (body_parts b))) (body_at k)
+body_reader k =
+    said (reader_of k)
+    (λ b text s. record { fits = record { fits = s.fits; is = s.is ∙ ap (λ t. Some (k, t)) (sym (ap fields_in s.is)) }; is = sym (ap fields_in s.is) })
+    (λ b text s. record { fits = s.fits.fits; is = s.fits.is ∙ ap (λ t. Some (k, t)) (sym s.is) })
 
--- a body that has a spelling has a number
-ask_is_known : (r : Request) → RequestFits r → is_number (number_of_request r) ≡ true
-ask_is_known (ask.Append file bytes) fits = refl
-ask_is_known (ask.Submit user kind queue_name file name priority after_moment hold retain restart characteristics form_wanted copies flag) fits = refl
-ask_is_known ask.Tick fits = refl
-ask_is_known r fits = absurd fits
+-- a body that has a spelling has parts
+request_has_parts : (r : Request) → RequestFits r → (x : Parts) × (request_parts r ≡ Some x)
+request_has_parts (ask.Append file bytes) fits = (_, refl)
+request_has_parts (ask.Submit j) fits = (_, refl)
+request_has_parts ask.Tick fits = (_, refl)
+request_has_parts r fits = absurd fits
 
-pub number_is_known : (b : Body) → BodyFits b → is_number (number_of b) ≡ true
-number_is_known (body.Ask r) fits = ask_is_known r fits
-number_is_known (body.Head nodes may next_entry next_run last_moment) fits = refl
-number_is_known (body.Form f) fits = refl
-number_is_known (body.Queue q) fits = refl
-number_is_known b fits = absurd fits
+pub has_parts : (b : Body) → BodyFits b → (x : Parts) × (body_parts b ≡ Some x)
+has_parts (body.Ask r) fits = request_has_parts r fits
+has_parts (body.Head nodes may next_entry next_run last_moment) fits = (_, refl)
+has_parts (body.Form f) fits = (_, refl)
+has_parts (body.Queue q) fits = (_, refl)
+has_parts b fits = absurd fits

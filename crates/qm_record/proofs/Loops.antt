@@ -2,9 +2,7 @@
 use Rattle.std.proofs.Common.{◌≡◌, ℕ, suc, ◌-◌, ◌+◌, ◌≤◌, ◌<◌, List, [], ◌∷◌, ◌++◌, length, take, get_or, Result, Ok, Err, refl, sym, ap, ◌∙◌, append_assoc, arith}
 use Rattle.std.specs.List.{AllByRecursion}
 use Rattle.std.proofs.lemmas.List.{append-nil, take_more}
-use Rattle.qm_bytes.specs.declared.fault.FieldFault.{FieldFault}
-use Rattle.qm_bytes.specs.declared.fault.FieldFault.TheVariants as faults
-use Rattle.qm_bytes.specs.Reading.{Reader, onward, pure, repeat_at, Fails}
+use Rattle.qm_bytes.specs.Reading.{Reader, onward, pure, repeat_at, IsThere, GivesKept}
 use Rattle.qm_bytes.specs.Spelling.{each}
 
 -- what was read before, and what is still read
@@ -27,11 +25,10 @@ goes_on read front count i bytes x after total lt h so_far =
     let one : with_front front (repeat_at read (count - i) bytes) ≡ with_front (front ++ x ∷ []) (repeat_at read (count - (i + 1)) after) = rw (k, h) (regroup front x (repeat_at read (count - (i + 1)) after)) in
     sym one ∙ so_far
 
-pub ends : {A : Type 0} (e : FieldFault) (read : Reader A) (front : List A) (count i : ℕ) (bytes : List ℕ) (total : Result (List A × List ℕ) ℕ) → i < count → Fails e (read bytes)
-    → with_front front (repeat_at read (count - i) bytes) ≡ total → Fails e total
+pub ends : {A : Type 0} (left : ℕ) (read : Reader A) (front : List A) (count i : ℕ) (bytes : List ℕ) (total : Result (List A × List ℕ) ℕ) → i < count → read bytes ≡ Err left
+    → with_front front (repeat_at read (count - i) bytes) ≡ total → total ≡ Err left
 unfolding repeat_at
-ends faults.NoMemory read front count i bytes total lt h so_far = tt
-ends (faults.Bad left) read front count i bytes total lt h so_far =
+ends left read front count i bytes total lt h so_far =
     let k : count - i ≡ suc (count - (i + 1)) = omega (arith, lt) in
     let one : with_front front (repeat_at read (count - i) bytes) ≡ Err left = rw (k, h) refl in
     sym so_far ∙ one
@@ -42,6 +39,29 @@ is_done {A} read front count i bytes total le so_far =
     let k : count - i ≡ 0 = omega (arith, le) in
     let one : with_front front (repeat_at read (count - i) bytes) ≡ Ok (front, bytes) = rw k (ap (λ (xs : List A). Ok (xs, bytes)) (append-nil front)) in
     sym so_far ∙ one
+
+-- elements that are passed over
+
+pub ends_later : {A : Type 0} (left : ℕ) (front : List A) (read total : Result (List A × List ℕ) ℕ) → read ≡ Err left → with_front front read ≡ total → total ≡ Err left
+ends_later left front read total h so_far = sym so_far ∙ ap (with_front front) h
+
+pub is_there : {A : Type 0} (front : List A) (read total : Result (List A × List ℕ) ℕ) (rest : List ℕ) → IsThere rest read → with_front front read ≡ total → IsThere rest total
+is_there front read total rest there so_far = (front ++ there.0, sym so_far ∙ ap (with_front front) there.1)
+
+-- the elements up to here, whichever they are, and those that are still read
+pub record Passed {A : Type 0} (read : Reader A) (count i : ℕ) (bytes : List ℕ) (total : Result (List A × List ℕ) ℕ) : Type 0 where
+  pub front : List A
+  pub so_far : with_front front (repeat_at read (count - i) bytes) ≡ total
+
+pub passed_none : {A : Type 0} (read : Reader A) (count : ℕ) (bytes : List ℕ) → Passed read count 0 bytes (repeat_at read count bytes)
+passed_none read count bytes =
+    let whole : count - 0 ≡ count = omega arith in
+    record { front = []; so_far = ap (λ n. with_front [] (repeat_at read n bytes)) whole ∙ starts (repeat_at read count bytes) }
+
+-- what was kept or not
+pub kept_is_there : {A E : Type 0} (kept : Result A E) (rest : List ℕ) (read : Result (A × List ℕ) ℕ) → GivesKept (Ok kept) rest read → IsThere rest read
+kept_is_there (Ok x) rest read h = (x, h)
+kept_is_there (Err e) rest read h = h
 
 -- ---- writing
 

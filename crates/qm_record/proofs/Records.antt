@@ -1,7 +1,8 @@
 -- Records: what is read is spelled so, what is spelled so is read, and a fault is the first one.
-use Rattle.std.proofs.Common.{◌≡◌, ℕ, suc, ◌+◌, ◌-◌, ◌^◌, ◌<◌, ◌≤◌, Bool, true, false, cond, eqb, List, [], ◌∷◌, ◌++◌, length, take, Result, Ok, Err, refl, sym, ap, subst, ◌∙◌, append_assoc, arith, lit<}
+use Rattle.std.proofs.Common.{◌≡◌, ℕ, suc, ◌+◌, ◌-◌, ◌^◌, ◌<◌, ◌≤◌, Bool, true, false, cond, eqb, List, [], ◌∷◌, ◌++◌, length, take, Option, None, Some, Result, Ok, Err, refl, sym, ap, subst, ◌∙◌, append_assoc, arith, lit<}
 use Rattle.std.proofs.lemmas.List.{append-nil, take_at, length-append}
 use Rattle.std.proofs.lemmas.Bool.Decides.{nat_tests}
+use Rattle.qm_kinds.specs.declared.moment.TheConstants.{LAST_MOMENT}
 use Rattle.qm_bytes.specs.Reading.{between}
 use Rattle.qm_bytes.specs.Laws.{Spells, IsReader}
 use Rattle.qm_bytes.specs.Spelling.{low_first, moment}
@@ -11,16 +12,20 @@ use Rattle.qm_kinds.specs.declared.record.Record.{Record}
 use Rattle.qm_kinds.specs.declared.record.Body.{Body}
 use Rattle.qm_record.specs.declared.fault.RecordFault.{RecordFault}
 use Rattle.qm_record.specs.declared.fault.RecordFault.TheVariants.{Bad}
-use Rattle.qm_record.specs.Spelling.{number_of, body_text, record_text, HasSpelling, is_row}
-use Rattle.qm_record.specs.Reading.{record_at, is_number, last_moment, last_node, ended, whole_at}
-use Rattle.qm_record.specs.Faults.{Begins, IsFirstFault}
-use Rattle.qm_record.proofs.Bodies.{BodyFor, body_reader, number_is_known}
+use Rattle.qm_record.specs.declared.kind.RecordKind.{RecordKind}
+use Rattle.qm_record.specs.declared.kind.RecordKind.TheVariants.{Tick}
+use Rattle.qm_record.specs.Kinds.{number_of, is_row_kind}
+use Rattle.qm_record.specs.Spelling.{body_parts, text_of, record_text, HasSpelling}
+use Rattle.qm_record.specs.Reading.{record_at, last_moment, last_node, ended, whole_at, TellsWhole}
+use Rattle.qm_record.specs.Faults.{Begins, IsFirstFault, IsRecord}
+use Rattle.qm_record.proofs.Bodies.{BodyFor, fields_in, body_reader, has_parts, row_by_kind}
+use Rattle.qm_record.proofs.Numbers.{kind_reader}
 
-limit_fits : (row : Bool) → cond row 0 25690901759999 < 256 ^ 8
+limit_fits : (row : Bool) → cond row 0 LAST_MOMENT < 256 ^ 8
 limit_fits true = lit< tt
 limit_fits false = lit< tt
 
-below_last : (row : Bool) (m : ℕ) → m ≤ cond row 0 25690901759999 → (m ≤ 25690901759999) × (row ≡ true → m ≡ 0)
+below_last : (row : Bool) (m : ℕ) → m ≤ cond row 0 LAST_MOMENT → (m ≤ LAST_MOMENT) × (row ≡ true → m ≡ 0)
 below_last true m le = (omega (arith, le), λ h. omega (arith, le))
 below_last false m le = (le, λ h. absurd cc)
 
@@ -35,21 +40,32 @@ within false m limit le zero_in_row = le
 abbrev record_of : ℕ → ℕ → Body → Record
 record_of m n b = record { moment = m; node = n; body = b }
 
-record_to : (r : Record) (version number m n : ℕ) (b : Body) (text : List ℕ) → between 1 1 version ≡ true → m ≤ last_moment number → between 0 (last_node number) n ≡ true → BodyFor number b → r ≡ record_of m n b
-    → text ≡ version ∷ number ∷ (low_first 8 m ++ n ∷ body_text b) → Spells HasSpelling record_text r text
-record_to r version number m n b text v le between_nodes fits same is =
+kind_in : Option (RecordKind × List ℕ) → RecordKind
+kind_in None = Tick
+kind_in (Some x) = x.0
+
+-- the text of a body of a kind
+whole_text : (m n : ℕ) (k : RecordKind) (o : Option (RecordKind × List ℕ)) → o ≡ Some (k, fields_in o) → 1 ∷ number_of k ∷ (low_first 8 m ++ n ∷ fields_in o) ≡ text_of m n o
+unfolding kind_in
+whole_text m n k None e = absurd cc
+whole_text m n k (Some (other, text)) e = let same : other ≡ k = ap kind_in e in rw same refl
+
+record_to : (r : Record) (version : ℕ) (k : RecordKind) (m n : ℕ) (b : Body) (text : List ℕ) → between 1 1 version ≡ true → m ≤ last_moment k → between 0 (last_node k) n ≡ true → BodyFor k b → r ≡ record_of m n b
+    → text ≡ version ∷ number_of k ∷ (low_first 8 m ++ n ∷ fields_in (body_parts b)) → Spells HasSpelling record_text r text
+record_to r version k m n b text v le between_nodes fits same is =
     let one : version ≡ 1 = omega (arith, (lies_between 1 1 version v).0, (lies_between 1 1 version v).1) in
-    let moments = below_last (is_row number) m le in
-    let nodes = below_node (is_row number) n (lies_between 0 (last_node number) n between_nodes).1 in
+    let moments = below_last (is_row_kind k) m le in
+    let nodes = below_node (is_row_kind k) n (lies_between 0 (last_node k) n between_nodes).1 in
+    let row = row_by_kind b k _ fits.is in
     rw same (record {
       fits = record {
         moment_fits = moments.0;
         node_fits = nodes.0;
         body_fits = fits.fits;
-        row_moment = λ h. moments.1 (sym (ap is_row fits.number) ∙ h);
-        row_node = λ h. nodes.1 (sym (ap is_row fits.number) ∙ h);
+        row_moment = λ h. moments.1 (sym row ∙ h);
+        row_node = λ h. nodes.1 (sym row ∙ h);
       };
-      is = rw (is, one, fits.number) refl;
+      is = is ∙ rw one (whole_text m n k (body_parts b) fits.is);
     })
 
 pub record_reader : IsReader (Spells HasSpelling record_text) record_at
@@ -57,37 +73,39 @@ unfolding record_at
 record_reader =
     said
     (after (byte_reader (between 1 1) 1 refl) (λ version version_fits.
-    after (byte_reader is_number 20 refl) (λ number number_fits.
-    after (number_up_to_reader 8 (last_moment number) (limit_fits (is_row number))) (λ m m_fits.
-    after (byte_reader (between 0 (last_node number)) 0 (passes_between 0 (last_node number) 0 (omega arith) (omega arith))) (λ n n_fits. last (body_reader number number_fits))))))
+    after kind_reader (λ k k_fits.
+    after (number_up_to_reader 8 (last_moment k) (limit_fits (is_row_kind k))) (λ m m_fits.
+    after (byte_reader (between 0 (last_node k)) 0 (passes_between 0 (last_node k) 0 (omega arith) (omega arith))) (λ n n_fits. last (body_reader k))))))
     (λ r text h. record_to r h.first h.next.first h.next.next.first h.next.next.next.first h.next.next.next.next.first text h.fits h.next.next.fits h.next.next.next.fits h.next.next.next.next.fits h.next.next.next.next.same
     (rw (h.parts, h.next.parts, h.next.next.parts, h.next.next.next.parts, h.next.next.next.next.parts) refl))
     (λ r text s.
-    let number = number_of r.body in
+    let x = has_parts r.body s.fits.body_fits in
+    let k = x.0.0 in
+    let row = row_by_kind r.body k x.0.1 x.1 in
     record {
       first = 1;
       fits = refl;
-      others = number ∷ (moment r.moment ++ r.node ∷ body_text r.body);
+      others = number_of k ∷ (moment r.moment ++ r.node ∷ x.0.1);
       next = record {
-        first = number;
-        fits = number_is_known r.body s.fits.body_fits;
-        others = moment r.moment ++ r.node ∷ body_text r.body;
+        first = k;
+        fits = tt;
+        others = moment r.moment ++ r.node ∷ x.0.1;
         next = record {
           first = r.moment;
-          fits = within (is_row number) r.moment 25690901759999 s.fits.moment_fits s.fits.row_moment;
-          others = r.node ∷ body_text r.body;
+          fits = within (is_row_kind k) r.moment LAST_MOMENT s.fits.moment_fits (λ h. s.fits.row_moment (row ∙ h));
+          others = r.node ∷ x.0.1;
           next = record {
             first = r.node;
-            fits = passes_between 0 (last_node number) r.node (omega arith) (within (is_row number) r.node 255 (omega (arith, s.fits.node_fits)) s.fits.row_node);
-            others = body_text r.body;
-            next = record { first = r.body; fits = record { fits = s.fits.body_fits; number = refl }; same = refl; parts = refl };
+            fits = passes_between 0 (last_node k) r.node (omega arith) (within (is_row_kind k) r.node 255 (omega (arith, s.fits.node_fits)) (λ h. s.fits.row_node (row ∙ h)));
+            others = x.0.1;
+            next = record { first = r.body; fits = record { fits = s.fits.body_fits; is = x.1 ∙ ap (λ t. Some (k, t)) (sym (ap fields_in x.1)) }; same = refl; parts = sym (ap fields_in x.1) };
             parts = refl;
           };
           parts = refl;
         };
         parts = refl;
       };
-      parts = s.is;
+      parts = s.is ∙ rw x.1 refl;
     })
 
 -- ---- the whole
@@ -221,3 +239,13 @@ same_place m n e = cc
 
 pub first_told : (bytes : List ℕ) (left : ℕ) → whole_at bytes ≡ Err left → (place : ℕ) → bad (length bytes - left) ≡ bad place → IsFirstFault bytes place
 first_told bytes left read place told = subst (λ n. IsFirstFault bytes n) (same_place (length bytes - left) place told) (fault_is_first bytes left read).1
+
+-- what is told where the whole was read, and kept or not
+
+pub told_read : {E : Type 0} (whole : Result Record E) (r : Record) (read : Result Record ℕ) → whole ≡ Ok r → TellsWhole (Ok whole) read → read ≡ Ok r
+told_read (Ok other) r read is told = let same : other ≡ r = cc in told ∙ ap done same
+told_read (Err e) r read is told = absurd cc
+
+pub told_there : {E : Type 0} (whole : Result Record E) (e : E) (bytes : List ℕ) → whole ≡ Err e → TellsWhole (Ok whole) (whole_at bytes) → IsRecord bytes
+told_there (Ok other) e bytes is told = absurd cc
+told_there (Err other) e bytes is told = record { value = told.0; spells = read_is_spelled bytes told.0 told.1 }

@@ -1,5 +1,6 @@
 -- What reading a record tells.
 use Rattle.std.specs.Prelude.{◌≡◌, ℕ, ◌+◌, ◌<◌, ◌≤◌, List, ◌++◌, length, take, Result, Ok, Err}
+use Rattle.qm_bytes.specs.Laws.{Spells}
 use Rattle.qm_kinds.specs.declared.record.Record.{Record}
 use Rattle.qm_record.specs.declared.fault.RecordFault.{RecordFault}
 use Rattle.qm_record.specs.declared.fault.RecordFault.TheVariants.{Bad, NoMemory}
@@ -10,6 +11,11 @@ abbrev pub IsRead : Record → Result Record RecordFault → Type 0
 IsRead r (Ok x) = x ≡ r
 IsRead r (Err NoMemory) = Unit {0}
 IsRead r (Err (Bad place)) = ⊥
+
+-- the bytes are a record's
+pub record IsRecord (bytes : List ℕ) : Type 0 where
+  pub value : Record
+  pub spells : Spells HasSpelling record_text value bytes
 
 -- some record's spelling begins with these bytes
 pub record Begins (front : List ℕ) : Type 0 where

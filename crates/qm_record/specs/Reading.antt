@@ -1,6 +1,7 @@
 -- Reading records.
-use Rattle.std.specs.Prelude.{◌≡◌, ℕ, Bool, ◌||◌, ◌==◌, if◌then◌else◌, List, length, Result, Ok, Err}
+use Rattle.std.specs.Prelude.{◌≡◌, ℕ, suc, ◌==◌, if◌then◌else◌, List, [], ◌∷◌, length, Option, None, Some, Result, Ok, Err}
 use Rattle.qm_kinds.specs.declared.request.Request.TheVariants as ask
+use Rattle.qm_kinds.specs.declared.request.Job.{Job}
 use Rattle.qm_kinds.specs.declared.request.NameOrNumber.{NameOrNumber}
 use Rattle.qm_kinds.specs.declared.request.NameOrNumber.TheVariants.{Name, Number}
 use Rattle.qm_kinds.specs.declared.entry.JobKind.{JobKind}
@@ -17,15 +18,23 @@ use Rattle.qm_kinds.specs.declared.queue.Queue.{Queue}
 use Rattle.qm_kinds.specs.declared.form.Form.{Form}
 use Rattle.qm_kinds.specs.declared.form.Shape.{Shape}
 use Rattle.qm_kinds.specs.declared.system.Node.{Node}
-use Rattle.qm_bytes.specs.declared.fault.FieldFault.{FieldFault}
-use Rattle.qm_bytes.specs.Reading.{Fails, Reader, ◌>>=◌, pure, byte_where, between, number_at, number_up_to, truth_at, optional_at, list_at, name_at, file_name_at, long_bytes_at, set_at, moment_at}
-use Rattle.qm_record.specs.Spelling.{is_row}
+use Rattle.qm_kinds.specs.declared.moment.TheConstants.{LAST_MOMENT}
+use Rattle.qm_bytes.specs.declared.fault.BadField.{BadField}
+use Rattle.qm_bytes.specs.Reading.{Reader, IsThere, ◌>>=◌, pure, byte_where, between, number_at, number_up_to, truth_at, optional_at, list_at, name_at, file_name_at, long_bytes_at, set_at, moment_at}
 use Rattle.qm_kinds.specs.declared.record.Record.{Record}
 use Rattle.qm_kinds.specs.declared.record.Body.{Body}
 use Rattle.qm_kinds.specs.declared.record.Body.TheVariants as body
+use Rattle.qm_record.specs.declared.kind.RecordKind.{RecordKind}
+use Rattle.qm_record.specs.declared.kind.RecordKind.TheVariants as record_kind
+use Rattle.qm_record.specs.Kinds.{kind_of, is_row_kind}
 
 abbrev pub byte_at : Reader ℕ
 byte_at = byte_where (between 0 255)
+
+-- what a function says that reads without keeping
+abbrev pub Passes : {X A : Type 0} → Result X BadField → List ℕ → Result (A × List ℕ) ℕ → Type 0
+Passes (Ok x) rest read = IsThere rest read
+Passes (Err fault) rest read = read ≡ Err fault.left
 
 -- ---- codes
 
@@ -110,7 +119,16 @@ queue_at = do
   targets ← list_at name_at
   pure (record { name = name; kind = kind; state = state; node = node; device = device; limit = limit; characteristics = characteristics; mounted = mounted; lower = lower; upper = upper; by_size = by_size; retain = retain; targets = targets })
 
--- ---- bodies
+-- ---- records
+
+-- a kind, by its number
+abbrev pub told : Option RecordKind → List ℕ → Result (RecordKind × List ℕ) ℕ
+told None bytes = Err (suc (length bytes))
+told (Some kind) bytes = Ok (kind, bytes)
+
+unfoldable pub record_kind_at : Reader RecordKind
+record_kind_at [] = Err 0
+record_kind_at (n ∷ bytes) = told (kind_of n) bytes
 
 unfoldable pub append_at : Reader Body
 append_at = do
@@ -118,8 +136,8 @@ append_at = do
   bytes ← long_bytes_at
   pure (body.Ask (ask.Append file bytes))
 
-unfoldable pub submit_at : Reader Body
-submit_at = do
+unfoldable pub job_at : Reader Job
+job_at = do
   user ← name_at
   kind ← job_kind_at
   queue ← name_at
@@ -134,7 +152,7 @@ submit_at = do
   form ← optional_at name_or_number_at
   copies ← byte_at
   flag ← truth_at
-  pure (body.Ask (ask.Submit user kind queue file name priority after hold retain restart characteristics form copies flag))
+  pure (record { user = user; kind = kind; queue = queue; file = file; name = name; priority = priority; after = after; hold = hold; retain = retain; restart = restart; characteristics = characteristics; form = form; copies = copies; flag = flag })
 
 unfoldable pub head_at : Reader Body
 head_at = do
@@ -145,33 +163,29 @@ head_at = do
   last ← moment_at
   pure (body.Head nodes may next_entry next_run last)
 
--- the numbers of records
-abbrev pub is_number : ℕ → Bool
-is_number n = n == 1 || n == 15 || n == 20 || is_row n
+-- the fields of a record of each kind
+unfoldable pub body_at : RecordKind → Reader Body
+body_at record_kind.Append = append_at
+body_at record_kind.Submit = job_at >>= λ j. pure (body.Ask (ask.Submit j))
+body_at record_kind.Tick = pure (body.Ask ask.Tick)
+body_at record_kind.Head = head_at
+body_at record_kind.Form = form_at >>= λ f. pure (body.Form f)
+body_at record_kind.Queue = queue_at >>= λ q. pure (body.Queue q)
 
-unfoldable pub body_at : ℕ → Reader Body
-body_at n =
-    if n == 1 then append_at else
-    if n == 15 then submit_at else
-    if n == 20 then pure (body.Ask ask.Tick) else
-    if n == 33 then head_at else
-    if n == 34 then (form_at >>= λ f. pure (body.Form f)) else
-    (queue_at >>= λ q. pure (body.Queue q))
+-- the last moment and the last node of a record of a kind
+abbrev pub last_moment : RecordKind → ℕ
+last_moment kind = if is_row_kind kind then 0 else LAST_MOMENT
 
--- the last moment and the last node of a record of this number
-abbrev pub last_moment : ℕ → ℕ
-last_moment n = if is_row n then 0 else 25690901759999
-
-abbrev pub last_node : ℕ → ℕ
-last_node n = if is_row n then 0 else 255
+abbrev pub last_node : RecordKind → ℕ
+last_node kind = if is_row_kind kind then 0 else 255
 
 unfoldable pub record_at : Reader Record
 record_at = do
   version ← byte_where (between 1 1)
-  number ← byte_where is_number
-  moment ← number_up_to 8 (last_moment number)
-  node ← byte_where (between 0 (last_node number))
-  body ← body_at number
+  kind ← record_kind_at
+  moment ← number_up_to 8 (last_moment kind)
+  node ← byte_where (between 0 (last_node kind))
+  body ← body_at kind
   pure (record { moment = moment; node = node; body = body })
 
 -- a record and nothing behind it
@@ -182,7 +196,8 @@ ended (Err left) = Err left
 unfoldable pub whole_at : List ℕ → Result Record ℕ
 whole_at bytes = ended (record_at bytes)
 
--- What a function returned is what reading the whole gives, unless memory ran out.
-abbrev pub TellsWhole : Result Record FieldFault → Result Record ℕ → Type 0
-TellsWhole (Ok r) read = read ≡ Ok r
-TellsWhole (Err e) read = Fails e read
+-- What a function returned is what reading the whole gives. Where memory ran out there is a record.
+abbrev pub TellsWhole : {E : Type 0} → Result (Result Record E) BadField → Result Record ℕ → Type 0
+TellsWhole (Ok (Ok r)) read = read ≡ Ok r
+TellsWhole (Ok (Err no_memory)) read = (r : Record) × (read ≡ Ok r)
+TellsWhole (Err fault) read = read ≡ Err fault.left

@@ -9,7 +9,7 @@ use Rattle.qm_kinds.specs.declared.system.Node.{Node}
 use Rattle.qm_kinds.specs.declared.record.Record.{Record}
 use Rattle.qm_kinds.specs.declared.record.Body.{Body}
 use Rattle.qm_kinds.specs.declared.record.Body.TheVariants as body
-use Rattle.qm_record.specs.Spelling.{node, form, queue, body_text, record_text, NodeFits, FormFits, QueueFits, BodyFits, HasSpelling}
+use Rattle.qm_record.specs.Spelling.{node, head, form, queue, body_parts, text_of, record_text, NodeFits, FormFits, QueueFits, BodyFits, HasSpelling}
 
 -- the body is a row of an image, and no request
 abbrev pub IsRow : Body → Type 0
@@ -64,15 +64,18 @@ length-queue q fits =
       length-names q.targets fits.targets_fit,
     ))
 
-length-body : (b : Body) → BodyFits b → IsRow b → length (body_text b) ≤ 5308359
-length-body (body.Head nodes may next_entry next_run last) fits row = simp length-append (omega (arith, length-nodes nodes fits.0, length-names may fits.1))
-length-body (body.Form f) fits row = omega (arith, length-form f fits)
-length-body (body.Queue q) fits row = omega (arith, length-queue q fits)
-length-body (body.Ask request) fits row = absurd row
-length-body (body.Characteristic c) fits row = absurd fits
-length-body (body.File f) fits row = absurd fits
-length-body (body.Entry e) fits row = absurd fits
+length-head : (nodes : List Node) (may : List (List ℕ)) (next_entry next_run last : ℕ) → IsList NodeFits nodes → IsList IsName may → length (head nodes may next_entry next_run last) ≤ 5308359
+length-head nodes may next_entry next_run last nodes_fit may_fit = simp length-append (omega (arith, length-nodes nodes nodes_fit, length-names may may_fit))
+
+length-text : (m n : ℕ) (b : Body) → BodyFits b → IsRow b → length (text_of m n (body_parts b)) ≤ 5308370
+length-text m n (body.Head nodes may next_entry next_run last) fits row = omega (arith, length-head nodes may next_entry next_run last fits.0 fits.1)
+length-text m n (body.Form f) fits row = omega (arith, length-form f fits)
+length-text m n (body.Queue q) fits row = omega (arith, length-queue q fits)
+length-text m n (body.Ask request) fits row = absurd row
+length-text m n (body.Characteristic c) fits row = absurd fits
+length-text m n (body.File f) fits row = absurd fits
+length-text m n (body.Entry e) fits row = absurd fits
 
 -- The longest is a head, with 65,535 nodes that are or may be, each with a name of 39 bytes.
 pub rows_are_short : (r : Record) → HasSpelling r → IsRow r.body → length (record_text r) ≤ 5308370
-rows_are_short r fits row = omega (arith, length-body r.body fits.body_fits row)
+rows_are_short r fits row = length-text r.moment r.node r.body fits.body_fits row

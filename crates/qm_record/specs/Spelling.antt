@@ -1,7 +1,8 @@
 -- The one spelling of each record.
-use Rattle.std.specs.Prelude.{◌≡◌, ℕ, ◌<◌, ◌^◌, Bool, true, ◌||◌, ◌==◌, List, [], ◌∷◌, ◌++◌, length}
+use Rattle.std.specs.Prelude.{◌≡◌, ℕ, ◌<◌, ◌^◌, Bool, true, false, List, [], ◌∷◌, ◌++◌, length, Option, None, Some}
 use Rattle.qm_kinds.specs.declared.request.Request.{Request}
 use Rattle.qm_kinds.specs.declared.request.Request.TheVariants as ask
+use Rattle.qm_kinds.specs.declared.request.Job.{Job}
 use Rattle.qm_kinds.specs.declared.request.NameOrNumber.{NameOrNumber}
 use Rattle.qm_kinds.specs.declared.request.NameOrNumber.TheVariants.{Name, Number}
 use Rattle.qm_kinds.specs.declared.entry.JobKind.{JobKind}
@@ -22,6 +23,10 @@ use Rattle.qm_bytes.specs.Spelling.{low_first, fields, byte, truth, optional, li
 use Rattle.qm_kinds.specs.declared.record.Record.{Record}
 use Rattle.qm_kinds.specs.declared.record.Body.{Body}
 use Rattle.qm_kinds.specs.declared.record.Body.TheVariants as body
+use Rattle.qm_model.specs.Built.{has_record}
+use Rattle.qm_record.specs.declared.kind.RecordKind.{RecordKind}
+use Rattle.qm_record.specs.declared.kind.RecordKind.TheVariants as record_kind
+use Rattle.qm_record.specs.Kinds.{number_of}
 
 -- ---- codes
 
@@ -77,61 +82,69 @@ queue q = fields (
 
 -- ---- records
 
--- the numbers of requests, and of the rows of an image from 33 on
-abbrev pub number_of_request : Request → ℕ
-number_of_request (ask.Append file bytes) = 1
-number_of_request (ask.Fill file lines) = 2
-number_of_request (ask.Drop file) = 3
-number_of_request (ask.DefineForm name number stock shape) = 4
-number_of_request (ask.DeleteForm name) = 5
-number_of_request (ask.DefineCharacteristic name number) = 6
-number_of_request (ask.DeleteCharacteristic name) = 7
-number_of_request (ask.InitializeQueue name kind on device targets change start) = 8
-number_of_request (ask.SetQueue name change) = 9
-number_of_request (ask.StartQueue name change) = 10
-number_of_request (ask.StopQueue name how) = 11
-number_of_request (ask.AbortJob queue entry requeue) = 12
-number_of_request (ask.DeleteQueue name) = 13
-number_of_request (ask.Merge to from) = 14
-number_of_request (ask.Submit user kind queue file name priority after hold retain restart characteristics form copies flag) = 15
-number_of_request (ask.SetEntry entry release hold after priority name characteristics form queue restart retain) = 16
-number_of_request (ask.DeleteEntry entry) = 17
-number_of_request (ask.Mark run value) = 18
-number_of_request (ask.Done run status) = 19
-number_of_request ask.Tick = 20
-number_of_request ask.NodeUp = 21
-number_of_request (ask.NodeLost nodes) = 22
-number_of_request (ask.Took epoch gone up may) = 23
+-- the fields of a job, in their order
+abbrev pub job_text : Job → List ℕ
+job_text j = fields (
+    short_bytes j.user ∷ byte (job_kind_code j.kind) ∷ short_bytes j.queue ∷ file_name j.file ∷ short_bytes j.name ∷ byte j.priority ∷
+    optional moment j.after ∷ truth j.hold ∷ job_retain j.retain ∷ truth j.restart ∷ list name_or_number j.characteristics ∷
+    optional name_or_number j.form ∷ byte j.copies ∷ truth j.flag ∷ [])
 
-abbrev pub number_of : Body → ℕ
-number_of (body.Ask request) = number_of_request request
-number_of (body.Head nodes may next_entry next_run last) = 33
-number_of (body.Form f) = 34
-number_of (body.Characteristic c) = 35
-number_of (body.File f) = 36
-number_of (body.Queue q) = 37
-number_of (body.Entry e) = 38
-
--- the fields of a request, in their order
-abbrev pub request : Request → List ℕ
-request (ask.Append file bytes) = fields (file_name file ∷ long_bytes bytes ∷ [])
-request (ask.Submit user kind queue file name priority after hold retain restart characteristics form copies flag) = fields (
-    short_bytes user ∷ byte (job_kind_code kind) ∷ short_bytes queue ∷ file_name file ∷ short_bytes name ∷ byte priority ∷
-    optional moment after ∷ truth hold ∷ job_retain retain ∷ truth restart ∷ list name_or_number characteristics ∷
-    optional name_or_number form ∷ byte copies ∷ truth flag ∷ [])
-request other = []
-
-abbrev pub body_text : Body → List ℕ
-body_text (body.Ask r) = request r
-body_text (body.Head nodes may next_entry next_run last) = fields (
+-- what a system has once
+abbrev pub head : List Node → List (List ℕ) → ℕ → ℕ → ℕ → List ℕ
+head nodes may next_entry next_run last = fields (
     list node nodes ∷ list short_bytes may ∷ low_first 4 next_entry ∷ low_first 8 next_run ∷ moment last ∷ [])
-body_text (body.Form f) = form f
-body_text (body.Queue q) = queue q
-body_text other = []
 
--- the version, the number, the moment, the node and the fields
+-- The kind and the fields of a request that is spelled so far.
+abbrev pub request_parts : Request → Option (RecordKind × List ℕ)
+request_parts (ask.Append file bytes) = Some (record_kind.Append, fields (file_name file ∷ long_bytes bytes ∷ []))
+request_parts (ask.Fill file lines) = None
+request_parts (ask.Drop file) = None
+request_parts (ask.DefineForm f) = None
+request_parts (ask.DeleteForm name) = None
+request_parts (ask.DefineCharacteristic c) = None
+request_parts (ask.DeleteCharacteristic name) = None
+request_parts (ask.InitializeQueue new) = None
+request_parts (ask.SetQueue name change) = None
+request_parts (ask.StartQueue name change) = None
+request_parts (ask.StopQueue name how) = None
+request_parts (ask.AbortJob queue_name entry requeue) = None
+request_parts (ask.DeleteQueue name) = None
+request_parts (ask.Merge to from) = None
+request_parts (ask.Submit j) = Some (record_kind.Submit, job_text j)
+request_parts (ask.SetEntry entry change) = None
+request_parts (ask.DeleteEntry entry) = None
+request_parts (ask.Mark run value) = None
+request_parts (ask.Done run status) = None
+request_parts ask.Tick = Some (record_kind.Tick, [])
+request_parts ask.NodeUp = None
+request_parts (ask.NodeLost nodes) = None
+request_parts (ask.Took epoch gone up may) = None
+
+-- the same of each record
+abbrev pub body_parts : Body → Option (RecordKind × List ℕ)
+body_parts (body.Ask r) = request_parts r
+body_parts (body.Head nodes may next_entry next_run last) = Some (record_kind.Head, head nodes may next_entry next_run last)
+body_parts (body.Form f) = Some (record_kind.Form, form f)
+body_parts (body.Characteristic c) = None
+body_parts (body.File f) = None
+body_parts (body.Queue q) = Some (record_kind.Queue, queue q)
+body_parts (body.Entry e) = None
+
+-- the version, the number, the moment and the node
+abbrev pub front : RecordKind → ℕ → ℕ → List ℕ
+front kind m n = 1 ∷ number_of kind ∷ (moment m ++ byte n)
+
+-- these, and the fields behind them; nothing for what isn't spelled so far
+abbrev pub text_of : ℕ → ℕ → Option (RecordKind × List ℕ) → List ℕ
+text_of m n None = []
+text_of m n (Some parts) = front parts.0 m n ++ parts.1
+
 abbrev pub record_text : Record → List ℕ
-record_text r = 1 ∷ number_of r.body ∷ (moment r.moment ++ r.node ∷ body_text r.body)
+record_text r = text_of r.moment r.node (body_parts r.body)
+
+-- the record of a request
+abbrev pub request_record : ℕ → ℕ → Request → Record
+request_record m n r = record { moment = m; node = n; body = body.Ask r }
 
 -- ---- what has a spelling
 
@@ -176,12 +189,21 @@ pub record QueueFits (q : Queue) : Type 0 where
   pub upper_fits : q.upper < 2 ^ 32
   pub targets_fit : IsList IsName q.targets
 
--- the fields of a request
+pub record JobFits (j : Job) : Type 0 where
+  pub user_fits : IsName j.user
+  pub queue_fits : IsName j.queue
+  pub file_fits : IsFileName j.file
+  pub name_fits : IsName j.name
+  pub priority_fits : IsByte j.priority
+  pub after_fits : AllOf IsMoment j.after
+  pub retain_fits : RetainFits j.retain
+  pub characteristics_fit : IsList NameOrNumberFits j.characteristics
+  pub form_fits : AllOf NameOrNumberFits j.form
+  pub copies_fits : IsByte j.copies
+
 abbrev pub RequestFits : Request → Type 0
 RequestFits (ask.Append file bytes) = IsFileName file × AreLongBytes bytes
-RequestFits (ask.Submit user kind queue file name priority after hold retain restart characteristics form copies flag) =
-    IsName user × IsName queue × IsFileName file × IsName name × IsByte priority × AllOf IsMoment after × RetainFits retain
-    × IsList NameOrNumberFits characteristics × AllOf NameOrNumberFits form × IsByte copies
+RequestFits (ask.Submit j) = JobFits j
 RequestFits ask.Tick = Unit {0}
 RequestFits other = ⊥
 
@@ -193,28 +215,39 @@ BodyFits (body.Form f) = FormFits f
 BodyFits (body.Queue q) = QueueFits q
 BodyFits other = ⊥
 
--- a row of an image has moment and node 0
-abbrev pub is_row : ℕ → Bool
-is_row number = number == 33 || number == 34 || number == 37
+-- a row of an image, which has the first moment and the first node, and no request
+abbrev pub is_row : Body → Bool
+is_row (body.Ask r) = false
+is_row (body.Head nodes may next_entry next_run last) = true
+is_row (body.Form f) = true
+is_row (body.Characteristic c) = true
+is_row (body.File f) = true
+is_row (body.Queue q) = true
+is_row (body.Entry e) = true
 
 pub record HasSpelling (r : Record) : Type 0 where
   pub moment_fits : IsMoment r.moment
   pub node_fits : IsByte r.node
   pub body_fits : BodyFits r.body
-  pub row_moment : is_row (number_of r.body) ≡ true → r.moment ≡ 0
-  pub row_node : is_row (number_of r.body) ≡ true → r.node ≡ 0
+  pub row_moment : is_row r.body ≡ true → r.moment ≡ 0
+  pub row_node : is_row r.body ≡ true → r.node ≡ 0
 
 -- ---- what a value's type doesn't say of it
 
-abbrev pub IsShortRequest : Request → Type 0
-IsShortRequest (ask.Append file bytes) = length bytes < 2 ^ 32
-IsShortRequest (ask.Submit user kind queue file name priority after hold retain restart characteristics form copies flag) = length characteristics < 2 ^ 16
-IsShortRequest ask.Tick = Unit {0}
-IsShortRequest other = ⊥
+-- the lists of a request fit their counts
+abbrev pub AreListsShort : Request → Type 0
+AreListsShort (ask.Append file bytes) = length bytes < 2 ^ 32
+AreListsShort (ask.Submit j) = length j.characteristics < 2 ^ 16
+AreListsShort other = Unit {0}
+
+-- What is asked of a request whose record is written.
+pub record CanBeRecorded (r : Request) : Type 0 where
+  pub known : has_record r ≡ true
+  pub short : AreListsShort r
 
 -- the lists are short enough, and the body is of a kind that has a spelling
 abbrev pub IsShortBody : Body → Type 0
-IsShortBody (body.Ask r) = IsShortRequest r
+IsShortBody (body.Ask r) = CanBeRecorded r
 IsShortBody (body.Head nodes may next_entry next_run last) = (length nodes < 2 ^ 16) × (length may < 2 ^ 16)
 IsShortBody (body.Form f) = Unit {0}
 IsShortBody (body.Queue q) = length q.targets < 2 ^ 16
@@ -223,5 +256,5 @@ IsShortBody other = ⊥
 -- What is asked of a record that is written. The rest of HasSpelling holds of each record by the types of its fields.
 pub record CanBeWritten (r : Record) : Type 0 where
   pub short : IsShortBody r.body
-  pub row_moment : is_row (number_of r.body) ≡ true → r.moment ≡ 0
-  pub row_node : is_row (number_of r.body) ≡ true → r.node ≡ 0
+  pub row_moment : is_row r.body ≡ true → r.moment ≡ 0
+  pub row_node : is_row r.body ≡ true → r.node ≡ 0

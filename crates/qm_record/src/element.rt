@@ -2,12 +2,12 @@
 ghost use Rattle.std.specs.Prelude.{◌≡◌, ◌<◌, ◌^◌, ◌++◌, ℕ, List, length, OnOk, IfOk};
 ghost use Rattle.std.specs.List.{AllByRecursion};
 ghost use Rattle.qm_bytes.specs.Spelling.{short_bytes, each, list, optional, IsName, IsList, AllOf};
-ghost use Rattle.qm_bytes.specs.Reading.{Reader, Gives, name_at, list_at, optional_at, repeat_at};
+ghost use Rattle.qm_bytes.specs.Reading.{Reader, Gives, GivesKept, name_at, list_at, optional_at, repeat_at};
 ghost use Rattle.qm_record.specs.Spelling.{node, name_or_number, NodeFits, NameOrNumberFits};
-ghost use Rattle.qm_record.specs.Reading.{node_at, name_or_number_at};
+ghost use Rattle.qm_record.specs.Reading.{Passes, node_at, name_or_number_at};
 
 use crate::field::{put_name_or_number, put_node, read_name_or_number, read_node};
-use qm_bytes::{FieldFault, Width, put_name, put_number, read_byte, read_name, read_number};
+use qm_bytes::{BadField, Width, put_name, put_number, read_byte, read_name, read_number};
 use qm_kinds::{Name, NameOrNumber, Node, Seq};
 use std::alloc::{AllocError, Global};
 
@@ -19,7 +19,7 @@ pub(crate) trait Element: Drop {
 
     ghost reading: { Reader Self };
 
-    fn read(bytes: &mut &[u8]) -> Result<Self, FieldFault>
+    fn read(bytes: &mut &[u8]) -> Result<Self, BadField>
     where
         Self: Sized,
         ensures { Gives result bytes.new.now (reading bytes.old.now) };
@@ -36,7 +36,7 @@ impl Element for Name {
 
     ghost reading = { name_at };
 
-    fn read(bytes: &mut &[u8]) -> Result<Name, FieldFault> {
+    fn read(bytes: &mut &[u8]) -> Result<Name, BadField> {
         read_name(bytes)
     }
 
@@ -52,7 +52,7 @@ impl Element for Node {
 
     ghost reading = { node_at };
 
-    fn read(bytes: &mut &[u8]) -> Result<Node, FieldFault> {
+    fn read(bytes: &mut &[u8]) -> Result<Node, BadField> {
         read_node(bytes)
     }
 
@@ -68,7 +68,7 @@ impl Element for NameOrNumber {
 
     ghost reading = { name_or_number_at };
 
-    fn read(bytes: &mut &[u8]) -> Result<NameOrNumber, FieldFault> {
+    fn read(bytes: &mut &[u8]) -> Result<NameOrNumber, BadField> {
         read_name_or_number(bytes)
     }
 
@@ -97,10 +97,13 @@ fn put_each<T: Element>(out: &mut Vec<u8>, items: &[T]) -> Result<(), AllocError
     Ok(())
 }
 
-/// Reads a list.
+/// Reads a list. An error in it says that memory ran out for it, behind which reading goes on.
 #[tactic(auto, unfolding(qm_bytes::specs::Reading::list_at))]
-pub(crate) fn read_list<T: Element>(alloc: Global, bytes: &mut &[u8]) -> Result<Seq<T>, FieldFault>
-    ensures { Gives result bytes.new.now (list_at T.reading bytes.old.now) }
+pub(crate) fn read_list<T: Element>(
+    alloc: Global,
+    bytes: &mut &[u8],
+) -> Result<Result<Seq<T>, AllocError>, BadField>
+    ensures { GivesKept result bytes.new.now (list_at T.reading bytes.old.now) }
 {
     let count = read_number(bytes, Width::Two)?;
     read_several(alloc, bytes, count)
@@ -110,15 +113,31 @@ fn read_several<T: Element>(
     alloc: Global,
     bytes: &mut &[u8],
     count: u64,
-) -> Result<Seq<T>, FieldFault>
-    ensures { Gives result bytes.new.now (repeat_at T.reading count bytes.old.now) }
+) -> Result<Result<Seq<T>, AllocError>, BadField>
+    ensures { GivesKept result bytes.new.now (repeat_at T.reading count bytes.old.now) }
 {
     let mut items = Vec::new(alloc);
-    for _ in 0..count {
+    for place in 0..count {
         let item = T::read(bytes)?;
-        items.push(item)?;
+        match items.push(item) {
+            Ok(()) => {}
+            Err(_) => {
+                pass_several::<T>(bytes, count - (place + 1))?;
+                return Ok(Err(AllocError));
+            }
+        }
     }
-    Ok(Seq::of(items))
+    Ok(Ok(Seq::of(items)))
+}
+
+// Reads so many elements, and keeps none.
+fn pass_several<T: Element>(bytes: &mut &[u8], count: u64) -> Result<(), BadField>
+    ensures { Passes result bytes.new.now (repeat_at T.reading count bytes.old.now) }
+{
+    for _ in 0..count {
+        T::read(bytes)?;
+    }
+    Ok(())
 }
 
 /// Appends a value where there is one.
@@ -141,7 +160,7 @@ pub(crate) fn put_optional<T: Element>(
 
 /// Reads a value, or none.
 #[tactic(auto, unfolding(qm_bytes::specs::Reading::optional_at))]
-pub(crate) fn read_optional<T: Element>(bytes: &mut &[u8]) -> Result<Option<T>, FieldFault>
+pub(crate) fn read_optional<T: Element>(bytes: &mut &[u8]) -> Result<Option<T>, BadField>
     ensures { Gives result bytes.new.now (optional_at T.reading bytes.old.now) }
 {
     if read_byte(bytes, 0, 1)? == 0 {

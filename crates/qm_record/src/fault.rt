@@ -5,6 +5,6 @@ ghost use Rattle.std.specs.Prelude.{◌≡◌};
 pub enum RecordFault {
     /// The first place, counted from 0, where no record's spelling goes on.
     Bad { place: usize },
-    /// Memory ran out.
+    /// Memory ran out for what is a record.
     NoMemory,
 }

@@ -5,7 +5,7 @@ ghost use Rattle.qm_record.specs.Spelling.{job_kind_code, job_retain, name_or_nu
 ghost use Rattle.qm_record.specs.Reading.{job_kind_at, job_retain_at, name_or_number_at, node_at, shape_at};
 
 use qm_bytes::{
-    FieldFault, Width, put_moment, put_name, put_number, put_truth, read_byte, read_moment,
+    BadField, Width, put_moment, put_name, put_number, put_truth, read_byte, read_moment,
     read_name, read_number, read_truth,
 };
 use qm_kinds::{JobKind, JobRetain, NameOrNumber, Node, Shape};
@@ -23,7 +23,7 @@ pub(crate) fn job_kind_code(kind: JobKind) -> u8
 
 /// Reads a kind of job.
 #[tactic(auto, unfolding(crate::specs::Reading::job_kind_at))]
-pub(crate) fn read_job_kind(bytes: &mut &[u8]) -> Result<JobKind, FieldFault>
+pub(crate) fn read_job_kind(bytes: &mut &[u8]) -> Result<JobKind, BadField>
     ensures { Gives result bytes.new.now (job_kind_at bytes.old.now) }
 {
     match read_byte(bytes, 1, 2)? {
@@ -51,7 +51,7 @@ pub(crate) fn put_job_retain(out: &mut Vec<u8>, retain: &JobRetain) -> Result<()
 
 /// Reads how a job is kept.
 #[tactic(auto, unfolding(crate::specs::Reading::job_retain_at))]
-pub(crate) fn read_job_retain(bytes: &mut &[u8]) -> Result<JobRetain, FieldFault>
+pub(crate) fn read_job_retain(bytes: &mut &[u8]) -> Result<JobRetain, BadField>
     ensures { Gives result bytes.new.now (job_retain_at bytes.old.now) }
 {
     match read_byte(bytes, 0, 3)? {
@@ -84,7 +84,7 @@ pub(crate) fn put_name_or_number(out: &mut Vec<u8>, wanted: &NameOrNumber) -> Re
 
 /// Reads a name or a number.
 #[tactic(auto, unfolding(crate::specs::Reading::name_or_number_at))]
-pub(crate) fn read_name_or_number(bytes: &mut &[u8]) -> Result<NameOrNumber, FieldFault>
+pub(crate) fn read_name_or_number(bytes: &mut &[u8]) -> Result<NameOrNumber, BadField>
     ensures { Gives result bytes.new.now (name_or_number_at bytes.old.now) }
 {
     if read_byte(bytes, 0, 1)? == 0 {
@@ -106,7 +106,7 @@ pub(crate) fn put_node(out: &mut Vec<u8>, on: &Node) -> Result<(), AllocError>
 
 /// Reads a node.
 #[tactic(auto, unfolding(crate::specs::Reading::node_at))]
-pub(crate) fn read_node(bytes: &mut &[u8]) -> Result<Node, FieldFault>
+pub(crate) fn read_node(bytes: &mut &[u8]) -> Result<Node, BadField>
     ensures { Gives result bytes.new.now (node_at bytes.old.now) }
 {
     let name = read_name(bytes)?;
@@ -130,7 +130,7 @@ pub(crate) fn put_shape(out: &mut Vec<u8>, shape: &Shape) -> Result<(), AllocErr
 
 /// Reads a shape.
 #[tactic(auto, unfolding(crate::specs::Reading::shape_at))]
-pub(crate) fn read_shape(bytes: &mut &[u8]) -> Result<Shape, FieldFault>
+pub(crate) fn read_shape(bytes: &mut &[u8]) -> Result<Shape, BadField>
     ensures { Gives result bytes.new.now (shape_at bytes.old.now) }
 {
     let length = read_byte(bytes, 0, 255)?;

@@ -4,15 +4,14 @@
 mod element;
 mod fault;
 mod field;
+mod kind;
 mod laws;
 mod reading;
 mod request;
 mod row;
-#[cfg(test)]
-mod tests;
 mod writing;
 
 pub use fault::RecordFault;
-pub use laws::rows_are_short;
+pub use laws::{requests_with_records, rows_are_short};
 pub use reading::{no_record_begins_another, read_record};
-pub use writing::write_record;
+pub use writing::{write_record, write_request};

@@ -1,36 +1,66 @@
 // The rows of an image.
 ghost use Rattle.std.specs.Prelude.{◌≡◌, ◌<◌, ◌^◌, ◌++◌, ℕ, List, length, OnOk};
 ghost use Rattle.qm_bytes.specs.Spelling.{fields, list, short_bytes, low_first, moment, IsList, IsName, IsMoment};
-ghost use Rattle.qm_bytes.specs.Reading.{Gives};
-ghost use Rattle.qm_record.specs.Spelling.{form as form_text, queue as queue_text, queue_kind_code, queue_state_code, queue_retain_code, FormFits, QueueFits};
+ghost use Rattle.qm_bytes.specs.Reading.{Gives, GivesKept};
+ghost use Rattle.qm_record.specs.Spelling.{head as head_text, NodeFits, form as form_text, queue as queue_text, queue_kind_code, queue_state_code, queue_retain_code, FormFits, QueueFits};
 ghost use Rattle.qm_record.specs.Reading.{form_at, queue_at, queue_kind_at, queue_state_at, queue_retain_at, head_at};
 
 use crate::element::{put_list, read_list};
 use crate::field::{put_shape, read_shape};
 use qm_bytes::{
-    FieldFault, Width, put_name, put_number, put_optional_name, put_set, put_truth, read_byte,
-    read_moment, read_name, read_number, read_optional_name, read_set, read_truth,
+    BadField, Width, put_moment, put_name, put_number, put_optional_name, put_set, put_truth,
+    read_byte, read_moment, read_name, read_number, read_optional_name, read_set, read_truth,
 };
-use qm_kinds::{Body, Form, Queue, QueueKind, QueueRetain, QueueState};
+use qm_kinds::{Body, Form, Moment, Name, Node, Queue, QueueKind, QueueRetain, QueueState, Seq};
 use std::alloc::{AllocError, Global};
 
 /// Reads the first row of an image.
 #[tactic(auto, unfolding(crate::specs::Reading::head_at))]
-pub(crate) fn read_head(alloc: Global, bytes: &mut &[u8]) -> Result<Body, FieldFault>
-    ensures { Gives result bytes.new.now (head_at bytes.old.now) }
+pub(crate) fn read_head(
+    alloc: Global,
+    bytes: &mut &[u8],
+) -> Result<Result<Body, AllocError>, BadField>
+    ensures { GivesKept result bytes.new.now (head_at bytes.old.now) }
 {
     let nodes = read_list(alloc, bytes)?;
     let may = read_list(alloc, bytes)?;
     let next_entry = read_number(bytes, Width::Four)?;
     let next_run = read_number(bytes, Width::Eight)?;
     let last = read_moment(bytes)?;
-    Ok(Body::Head {
-        nodes,
-        may,
-        next_entry: next_entry as u32,
-        next_run,
-        last,
-    })
+    match (nodes, may) {
+        (Ok(nodes), Ok(may)) => Ok(Ok(Body::Head {
+            nodes,
+            may,
+            next_entry: next_entry as u32,
+            next_run,
+            last,
+        })),
+        _ => Ok(Err(AllocError)),
+    }
+}
+
+/// Appends the fields of the first row of an image.
+pub(crate) fn put_head(
+    out: &mut Vec<u8>,
+    nodes: &Seq<Node>,
+    may: &Seq<Name>,
+    next_entry: u32,
+    next_run: u64,
+    last: Moment,
+) -> Result<(), AllocError>
+    requires nodes { length nodes.now < 2 ^ 16 }
+    requires may { length may.now < 2 ^ 16 }
+    ensures ok { OnOk result (out.new.items ≡ out.old.items ++ head_text nodes.now may.now next_entry next_run last) }
+    ensures nodes { OnOk result (IsList NodeFits nodes.now) }
+    ensures may { OnOk result (IsList IsName may.now) }
+    ensures last { OnOk result (IsMoment last) }
+{
+    put_list(out, nodes)?;
+    put_list(out, may)?;
+    put_number(out, Width::Four, u64::from(next_entry))?;
+    put_number(out, Width::Eight, next_run)?;
+    put_moment(out, last)?;
+    Ok(())
 }
 
 /// Appends a form.
@@ -46,7 +76,7 @@ pub(crate) fn put_form(out: &mut Vec<u8>, form: &Form) -> Result<(), AllocError>
 
 /// Reads a form.
 #[tactic(auto, unfolding(crate::specs::Reading::form_at))]
-pub(crate) fn read_form(bytes: &mut &[u8]) -> Result<Form, FieldFault>
+pub(crate) fn read_form(bytes: &mut &[u8]) -> Result<Form, BadField>
     ensures { Gives result bytes.new.now (form_at bytes.old.now) }
 {
     let name = read_name(bytes)?;
@@ -73,7 +103,7 @@ fn queue_kind_code(kind: QueueKind) -> u8
 }
 
 #[tactic(auto, unfolding(crate::specs::Reading::queue_kind_at))]
-fn read_queue_kind(bytes: &mut &[u8]) -> Result<QueueKind, FieldFault>
+fn read_queue_kind(bytes: &mut &[u8]) -> Result<QueueKind, BadField>
     ensures { Gives result bytes.new.now (queue_kind_at bytes.old.now) }
 {
     match read_byte(bytes, 1, 4)? {
@@ -96,7 +126,7 @@ fn queue_state_code(state: QueueState) -> u8
 }
 
 #[tactic(auto, unfolding(crate::specs::Reading::queue_state_at))]
-fn read_queue_state(bytes: &mut &[u8]) -> Result<QueueState, FieldFault>
+fn read_queue_state(bytes: &mut &[u8]) -> Result<QueueState, BadField>
     ensures { Gives result bytes.new.now (queue_state_at bytes.old.now) }
 {
     match read_byte(bytes, 1, 4)? {
@@ -118,7 +148,7 @@ fn queue_retain_code(retain: QueueRetain) -> u8
 }
 
 #[tactic(auto, unfolding(crate::specs::Reading::queue_retain_at))]
-fn read_queue_retain(bytes: &mut &[u8]) -> Result<QueueRetain, FieldFault>
+fn read_queue_retain(bytes: &mut &[u8]) -> Result<QueueRetain, BadField>
     ensures { Gives result bytes.new.now (queue_retain_at bytes.old.now) }
 {
     match read_byte(bytes, 0, 2)? {
@@ -152,8 +182,11 @@ pub(crate) fn put_queue(out: &mut Vec<u8>, queue: &Queue) -> Result<(), AllocErr
 
 /// Reads a queue.
 #[tactic(auto, unfolding(crate::specs::Reading::queue_at))]
-pub(crate) fn read_queue(alloc: Global, bytes: &mut &[u8]) -> Result<Queue, FieldFault>
-    ensures { Gives result bytes.new.now (queue_at bytes.old.now) }
+pub(crate) fn read_queue(
+    alloc: Global,
+    bytes: &mut &[u8],
+) -> Result<Result<Queue, AllocError>, BadField>
+    ensures { GivesKept result bytes.new.now (queue_at bytes.old.now) }
 {
     let name = read_name(bytes)?;
     let kind = read_queue_kind(bytes)?;
@@ -167,20 +200,22 @@ pub(crate) fn read_queue(alloc: Global, bytes: &mut &[u8]) -> Result<Queue, Fiel
     let upper = read_number(bytes, Width::Four)?;
     let by_size = read_truth(bytes)?;
     let retain = read_queue_retain(bytes)?;
-    let targets = read_list(alloc, bytes)?;
-    Ok(Queue {
-        name,
-        kind,
-        state,
-        node,
-        device,
-        limit,
-        characteristics,
-        mounted,
-        lower: lower as u32,
-        upper: upper as u32,
-        by_size,
-        retain,
-        targets,
-    })
+    match read_list(alloc, bytes)? {
+        Ok(targets) => Ok(Ok(Queue {
+            name,
+            kind,
+            state,
+            node,
+            device,
+            limit,
+            characteristics,
+            mounted,
+            lower: lower as u32,
+            upper: upper as u32,
+            by_size,
+            retain,
+            targets,
+        })),
+        Err(fault) => Ok(Err(fault)),
+    }
 }

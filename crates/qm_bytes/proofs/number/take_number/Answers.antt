@@ -1,4 +1,4 @@
-use Rattle.std.proofs.Common.{arith, ap, Err, refl}
+use Rattle.std.proofs.Common.{arith, refl}
 use Rattle.qm_bytes.specs.Widths.{bytes_of}
 use Rattle.qm_bytes.proofs.Numbers.{found_at, none_at}
 use Rattle.qm_bytes.proofs.number.take_number.Goals as goal
@@ -16,5 +16,5 @@ returns-in-Ok-clause-spelled c =
 pub returns-in-Err-clause-there : goal.returns-in-Err-clause-there
 returns-in-Err-clause-there c = (
   λ h. absurd cc,
-  λ h. absurd (none_at c.args.bytes.now c.split_at.result.1.now c.args.at (bytes_of c.args.width) c.in-Err.field-0 (λ i. omega (arith, c.type_inv.bytes i)) c.split_at.ensures.back c.in-Err.ensures.value (λ no. c.in-Err.ensures.no_memory (ap (λ x. Err x) no)) h),
+  λ h. absurd (none_at c.args.bytes.now c.split_at.result.1.now c.args.at (bytes_of c.args.width) _ (λ i. omega (arith, c.type_inv.bytes i)) c.split_at.ensures.back c.in-Err.ensures.value h),
 )

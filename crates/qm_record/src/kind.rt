@@ -1,0 +1,55 @@
+// The kinds of records.
+ghost use Rattle.std.specs.Prelude.{◌≡◌};
+ghost use Rattle.qm_record.specs.Kinds.{number_of, kind_of, is_row_kind};
+
+/// What a record is, told by its number. These are the kinds that are spelled so far: requests, and the rows of an image.
+#[derive(Clone, Copy, Debug)]
+pub enum RecordKind {
+    Append,
+    Submit,
+    Tick,
+    Head,
+    Form,
+    Queue,
+}
+
+impl RecordKind {
+    /// The number.
+    pub(crate) fn number(self) -> u8
+        ensures { result ≡ number_of self }
+    {
+        match self {
+            RecordKind::Append => 1,
+            RecordKind::Submit => 15,
+            RecordKind::Tick => 20,
+            RecordKind::Head => 33,
+            RecordKind::Form => 34,
+            RecordKind::Queue => 37,
+        }
+    }
+
+    /// The kind of this number, if there is one.
+    pub(crate) fn of(number: u8) -> Option<RecordKind>
+        ensures { result ≡ kind_of number }
+    {
+        match number {
+            1 => Some(RecordKind::Append),
+            15 => Some(RecordKind::Submit),
+            20 => Some(RecordKind::Tick),
+            33 => Some(RecordKind::Head),
+            34 => Some(RecordKind::Form),
+            37 => Some(RecordKind::Queue),
+            _ => None,
+        }
+    }
+
+    /// Whether it is a row of an image.
+    pub(crate) fn is_row(self) -> bool
+        ensures { result ≡ is_row_kind self }
+    {
+        match self {
+            RecordKind::Append | RecordKind::Submit | RecordKind::Tick => false,
+            RecordKind::Head | RecordKind::Form | RecordKind::Queue => true,
+        }
+    }
+}

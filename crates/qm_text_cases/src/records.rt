@@ -1,0 +1,148 @@
+// Records, as they stand in a queue file.
+use qm_kinds::{
+    Body, FileName, Form, Job, JobKind, JobRetain, Moment, Name, NameOrNumber, Record, Request,
+    Seq, Shape,
+};
+use qm_record::{RecordFault, read_record, write_record, write_request};
+use std::test::Fail;
+
+const APPEND: &[u8] =
+    b"\x01\x01\x00\x00\x00\x00\x00\x00\x00\x00\x01\x05\x4c\x4f\x47\x49\x4e\x01\x03\x43\x4f\x4d\x02\x00\x00\x00\x68\x69";
+
+const SUBMIT: &[u8] =
+    b"\x01\x0f\x00\x00\x00\x00\x00\x00\x00\x00\x00\x05\x53\x4d\x49\x54\x48\x02\x02\x4c\x50\x01\x41\x00\x01\x41\x64\x01\x07\x00\x00\x00\x00\x00\x00\x00\x01\x03\x07\x00\x00\x00\x00\x00\x00\x00\x00\x02\x00\x00\x04\x46\x41\x53\x54\x01\x03\x00\x01\x01\x01\x02\x02\x01";
+
+const TICK: &[u8] = b"\x01\x14\x00\x00\x00\x00\x00\x00\x00\x00\x00";
+
+const HEAD: &[u8] =
+    b"\x01\x21\x00\x00\x00\x00\x00\x00\x00\x00\x00\x01\x00\x02\x4e\x31\x01\x01\x00\x02\x4e\x31\x01\x00\x00\x00\x07\x00\x00\x00\x00\x00\x00\x00\x00\x00\x00\x00\x00\x00\x00\x00";
+
+const FORM: &[u8] =
+    b"\x01\x22\x00\x00\x00\x00\x00\x00\x00\x00\x00\x07\x44\x45\x46\x41\x55\x4c\x54\x00\x00\x05\x50\x4c\x41\x49\x4e\x42\x84\x00\x06\x00\x00\x00";
+
+const QUEUE: &[u8] =
+    b"\x01\x25\x00\x00\x00\x00\x00\x00\x00\x00\x00\x03\x41\x4c\x4c\x03\x04\x00\x01\x04\x4c\x50\x41\x30\x01\x00\x00\x00\x00\x00\x00\x00\x00\x00\x00\x00\x00\x00\x00\x00\x80\x00\x01\x00\x00\x00\xff\xff\xff\xff\x01\x02\x01\x00\x02\x4c\x50";
+
+// The number of a body that has a record.
+fn number(body: &Body) -> u8 {
+    match body {
+        Body::Ask(Request::Append { .. }) => 1,
+        Body::Ask(Request::Submit(_)) => 15,
+        Body::Ask(Request::Tick) => 20,
+        Body::Head { .. } => 33,
+        Body::Form(_) => 34,
+        Body::Queue(_) => 37,
+        _ => 0,
+    }
+}
+
+// The place of the fault in these bytes.
+fn place_in<R: AllocGlobal>(rt: &R, bytes: &[u8]) -> Option<usize> {
+    match read_record(rt.alloc(), bytes) {
+        Err(RecordFault::Bad { place }) => Some(place),
+        _ => None,
+    }
+}
+
+#[test]
+fn records_are_read_whole(rt: HostRuntime) -> Result<(), Fail> {
+    for text in [APPEND, SUBMIT, TICK, HEAD, FORM, QUEUE] {
+        let record = read_record(rt.alloc(), text)?;
+        assert!(rt; text.len() > 1 && number(&record.body) == text[1]);
+        for size in 0..text.len() {
+            assert_eq!(rt; place_in(&rt, &text[..size]), Some(size));
+        }
+    }
+    Ok(())
+}
+
+#[test]
+fn a_fault_is_told_with_its_first_place(rt: HostRuntime) {
+    for (text, place) in [
+        (b"\x02\x14\0\0\0\0\0\0\0\0\0".as_slice(), 0),
+        (b"\x01\x63\0\0\0\0\0\0\0\0\0".as_slice(), 1),
+        // A moment past the last.
+        (b"\x01\x14\0\0\0\0\0\x18\0\0\0".as_slice(), 7),
+        // A byte behind the record.
+        (b"\x01\x14\0\0\0\0\0\0\0\0\0\0".as_slice(), 11),
+        // A row of an image has moment and node 0.
+        (b"\x01\x22\0\x01\0\0\0\0\0\0\0".as_slice(), 3),
+        (b"\x01\x22\0\0\0\0\0\0\0\0\x01".as_slice(), 10),
+        // A truth value of 2: whether a file has a type.
+        (b"\x01\x01\0\0\0\0\0\0\0\0\0\x01A\x02".as_slice(), 13),
+        // A small letter.
+        (b"\x01\x01\0\0\0\0\0\0\0\0\0\x01a\0".as_slice(), 12),
+    ] {
+        assert_eq!(rt; place_in(&rt, text), Some(place));
+    }
+}
+
+#[test]
+fn bytes_of_a_file_are_written(rt: HostRuntime) -> Result<(), Fail> {
+    let request = Request::Append {
+        file: FileName {
+            name: Name::read(b"LOGIN")?,
+            extension: Some(Name::read(b"COM")?),
+        },
+        bytes: Seq::of(vec![in rt.alloc(); 104, 105]?),
+    };
+    let text = write_request(rt.alloc(), Moment::BASE, 1, &request)?;
+    assert_eq!(rt; text.as_slice(), APPEND);
+    Ok(())
+}
+
+#[test]
+fn a_job_is_written(rt: HostRuntime) -> Result<(), Fail> {
+    let name = Name::read(b"A")?;
+    let after = Moment::new(7);
+    let request = Request::Submit(Job {
+        user: Name::read(b"SMITH")?,
+        kind: JobKind::Print,
+        queue: Name::read(b"LP")?,
+        file: FileName {
+            name,
+            extension: None,
+        },
+        name,
+        priority: 100,
+        after,
+        hold: true,
+        retain: JobRetain::Until(after.unwrap_or(Moment::BASE)),
+        restart: false,
+        characteristics: Seq::of(vec![in rt.alloc();
+            NameOrNumber::Name(Name::read(b"FAST")?),
+            NameOrNumber::Number(3),
+        ]?),
+        form: Some(NameOrNumber::Number(513)),
+        copies: 2,
+        flag: true,
+    });
+    let text = write_request(rt.alloc(), Moment::BASE, 0, &request)?;
+    assert_eq!(rt; text.as_slice(), SUBMIT);
+    Ok(())
+}
+
+#[test]
+fn a_row_is_written(rt: HostRuntime) -> Result<(), Fail> {
+    let row = Record {
+        moment: Moment::BASE,
+        node: 0,
+        body: Body::Form(Form {
+            name: Name::read(b"DEFAULT")?,
+            number: 0,
+            stock: Name::read(b"PLAIN")?,
+            shape: Shape {
+                length: 66,
+                width: 132,
+                top: 0,
+                bottom: 6,
+                left: 0,
+                right: 0,
+                wrap: false,
+            },
+        }),
+    };
+    let text = write_record(rt.alloc(), &row)?;
+    assert_eq!(rt; text.as_slice(), FORM);
+    Ok(())
+}
