@@ -1,0 +1,7 @@
+pub mod Dates
+pub mod Numbers
+pub mod Clocks
+pub mod Months
+pub mod Times
+pub mod Moments
+pub mod Laws

@@ -1,0 +1,20 @@
+//! The texts of moments. `text_of` and `print_time` print one as 17-NOV-1858 00:00:00.00. The calendar and the printed
+//! text are defined in `specs/`; the dates are found by `jiff`.
+#![tactic(auto)]
+
+mod clock;
+mod date;
+mod fault;
+mod laws;
+mod moment;
+mod month;
+mod number;
+#[cfg(test)]
+mod tests;
+mod text;
+mod time;
+
+pub use fault::TimeFault;
+pub use laws::{no_time_goes_on_at_a_fault, printed_moments_read_back};
+pub use moment::read_time;
+pub use text::{TimeText, print_time, text_of};
