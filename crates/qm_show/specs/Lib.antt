@@ -1,0 +1,3 @@
+pub mod ActWords
+pub mod Behind
+pub mod Prefix

@@ -1,0 +1,138 @@
+// The lines of a transcript that answer a line of a script.
+ghost use Rattle.std.specs.Prelude.{◌≡◌, ◌++◌, ◌∷◌, [], flat_map, IfOk, IfSome, OnOk, Some};
+ghost use Rattle.qm_model.specs.Words.{act_text, refusal_line};
+ghost use Rattle.qm_model.specs.Transcript.{full_line, journal_line, line_text, reply_lines, row_lines};
+ghost use Rattle.qm_show.specs.Prefix.{prefix_text};
+
+use crate::act::{ActWords, StartText, mark_value};
+use crate::refusal::RefusalText;
+use crate::row::RowText;
+use qm_kinds::{Act, Name, Refusal, Reply, Row};
+use std::alloc::{AllocError, Global};
+use std::fmt;
+use std::io::Write;
+
+/// What stands before each line of an answer, as `A 3: `.
+#[derive(Clone, Copy)]
+pub struct Prefix {
+    /// The node that answers.
+    pub node: Name,
+    /// The line of the script that is answered, counted from 1.
+    pub line: u32,
+}
+
+impl fmt::Display for Prefix {
+    ghost output = { λ p. Some (prefix_text p.node p.line) };
+
+    fn fmt<W: fmt::Write>(&self, f: &mut fmt::Formatter<W>) -> fmt::Result {
+        write!(f, "{} {}: ", self.node, self.line)
+    }
+}
+
+// The queue file has no room.
+#[derive(Clone, Copy)]
+struct FullText {
+    need: u64,
+    cap: u64,
+}
+
+impl fmt::Display for FullText {
+    ghost output = { λ t. Some (full_line t.need t.cap) };
+
+    fn fmt<W: fmt::Write>(&self, f: &mut fmt::Formatter<W>) -> fmt::Result {
+        write!(f, "%QMAN-E-FULL, need {}, cap {}", self.need, self.cap)
+    }
+}
+
+// Appends a line of an answer.
+fn push_line<T: fmt::Display + Drop>(
+    out: &mut Vec<u8>,
+    prefix: &Prefix,
+    text: T,
+) -> Result<(), AllocError>
+    ensures { OnOk result (IfSome (T.output text) (λ bytes. out.new.items ≡ out.old.items ++ line_text prefix.now.node prefix.now.line bytes)) }
+{
+    match writeln!(out, "{prefix}{text}") {
+        Ok(()) => Ok(()),
+        Err(_) => Err(AllocError),
+    }
+}
+
+// Appends the first line of a reply. The value of a mark may be any bytes.
+fn push_act(out: &mut Vec<u8>, prefix: &Prefix, act: &Act) -> Result<(), AllocError>
+    ensures { OnOk result (out.new.items ≡ out.old.items ++ line_text prefix.now.node prefix.now.line (act_text act.now)) }
+{
+    let Ok(()) = write!(out, "{prefix}{}", ActWords(act)) else {
+        return Err(AllocError);
+    };
+    out.extend_from_slice(mark_value(act))?;
+    out.push(b'\n')?;
+    Ok(())
+}
+
+// The one line of an answer.
+fn one_line<T: fmt::Display + Drop>(
+    alloc: Global,
+    prefix: &Prefix,
+    text: T,
+) -> Result<Vec<u8>, AllocError>
+    ensures { IfOk result (λ line. IfSome (T.output text) (λ bytes. line.items ≡ flat_map (line_text prefix.now.node prefix.now.line) (bytes ∷ []))) }
+{
+    let mut line = Vec::new(alloc);
+    push_line(&mut line, prefix, text)?;
+    Ok(line)
+}
+
+/// The lines of a reply: what was done, and the jobs that were started. Memory may run out.
+pub fn show_reply(alloc: Global, prefix: &Prefix, reply: &Reply) -> Result<Vec<u8>, AllocError>
+    ensures { IfOk result (λ text. text.items ≡ flat_map (line_text prefix.now.node prefix.now.line) (reply_lines reply.now)) }
+{
+    let mut text = Vec::new(alloc);
+    push_act(&mut text, prefix, &reply.act)?;
+    for start in reply.started.as_slice() {
+        push_line(&mut text, prefix, StartText(start))?;
+    }
+    Ok(text)
+}
+
+/// The lines of a listing: how many rows there are, and the rows. Memory may run out.
+pub fn show_rows(alloc: Global, prefix: &Prefix, rows: &[Row]) -> Result<Vec<u8>, AllocError>
+    ensures { IfOk result (λ text. text.items ≡ flat_map (line_text prefix.now.node prefix.now.line) (row_lines rows.now)) }
+{
+    let mut text = Vec::new(alloc);
+    push_line(&mut text, prefix, format_args!("rows: {}", rows.len()))?;
+    for row in rows {
+        push_line(&mut text, prefix, RowText(row))?;
+    }
+    Ok(text)
+}
+
+/// The line of a refusal. Memory may run out.
+pub fn show_refusal(
+    alloc: Global,
+    prefix: &Prefix,
+    refusal: &Refusal,
+) -> Result<Vec<u8>, AllocError>
+    ensures { IfOk result (λ text. text.items ≡ flat_map (line_text prefix.now.node prefix.now.line) (refusal_line refusal.now ∷ [])) }
+{
+    one_line(
+        alloc,
+        prefix,
+        format_args!("%QMAN-E-{}", RefusalText(refusal)),
+    )
+}
+
+/// The line that says that the queue file has no room: the bytes that it would need, and those that it may have. Memory
+/// may run out.
+pub fn show_full(alloc: Global, prefix: &Prefix, need: u64, cap: u64) -> Result<Vec<u8>, AllocError>
+    ensures { IfOk result (λ text. text.items ≡ flat_map (line_text prefix.now.node prefix.now.line) (full_line need cap ∷ [])) }
+{
+    one_line(alloc, prefix, FullText { need, cap })
+}
+
+/// The line that says that the disk failed. Memory may run out.
+pub fn show_journal(alloc: Global, prefix: &Prefix) -> Result<Vec<u8>, AllocError>
+    ensures { IfOk result (λ text. text.items ≡ flat_map (line_text prefix.now.node prefix.now.line) (journal_line ∷ [])) }
+{
+    one_line(alloc, prefix, "%QMAN-F-JOURNAL")
+}
