@@ -1,6 +1,6 @@
 -- What is known of a file decides as the model does.
-use Rattle.std.proofs.Common.{◌≡◌, ◌∙◌, ℕ, ◌+◌, ◌<◌, ◌≤◌, List, [], ◌∷◌, length, Option, Some, None, Ok, Err, refl, ap, sym, arith, Bool, true, false, ◌||◌, ◌&&◌, nat_lt}
-use Rattle.std.specs.Option.{option_map}
+use Rattle.std.proofs.Common.{◌≡◌, ◌∙◌, ℕ, ◌+◌, ◌<◌, ◌≤◌, List, [], ◌∷◌, length, Option, Some, None, refl, ap, sym, arith, Bool, true, false, ◌||◌, ◌&&◌, nat_lt}
+use Rattle.std.specs.Option.{option_map, is_none}
 use Rattle.std.proofs.lemmas.List.{length-map}
 use Rattle.std.proofs.lemmas.List.Sums.{sum_by-cons}
 use Rattle.std.proofs.lemmas.Bool.{ltb-false}
@@ -8,26 +8,18 @@ use Rattle.qm_kinds.specs.declared.file.FileName.{FileName}
 use Rattle.qm_kinds.specs.declared.file.File.{File}
 use Rattle.qm_kinds.specs.declared.entry.Entry.{Entry}
 use Rattle.qm_kinds.specs.declared.refusal.Holder.TheVariants as holder
-use Rattle.qm_kinds.specs.declared.refusal.Refusal.{Refusal}
 use Rattle.qm_kinds.specs.declared.refusal.Refusal.TheVariants.{Referenced, SpoolFull}
-use Rattle.qm_model.specs.Find.{same_file_name}
+use Rattle.qm_model.specs.Find.{same_file_name, file_named}
 use Rattle.qm_model.specs.Consistent.{spooled}
-use Rattle.qm_model.specs.Appending.{append_refusal, refused_as_named, is_spool_full, appended}
-use Rattle.qm_model.specs.Apply.{at_moment}
-use Rattle.qm_kinds.specs.declared.system.System.{System}
-use Rattle.qm_model.specs.Outcome.{refused_where, first_refusal, unless_refused}
+use Rattle.qm_model.specs.Appending.{bytes_of, append_refusal, refused_as_named, is_spool_full}
+use Rattle.qm_model.specs.Outcome.{refused_where, first_refusal}
 use Rattle.std.specs.List.{find}
 use Rattle.qm_state.specs.declared.append.Standing.{Standing}
 use Rattle.qm_state.specs.declared.image.Image.{Image}
 use Rattle.qm_state.specs.declared.spooled.Spooled.{Spooled}
-use Rattle.std.specs.Result.{IsErrAnd, IsOk}
-use Rattle.std.specs.Prelude.{Result}
-use Rattle.qm_state.specs.declared.refused.Refused.{Refused}
-use Rattle.qm_state.specs.declared.refused.Refused.TheVariants.{By, NoMemory}
-use Rattle.qm_state.specs.Refusing.{Refuses}
 use Rattle.qm_state.specs.Image.{system_of}
-use Rattle.qm_state.specs.Spool.{file_of, files_of, spool_size}
-use Rattle.qm_state.specs.Appending.{StandsAs, standing_refusal, is_too_much, append_outcome}
+use Rattle.qm_state.specs.Spool.{file_of, files_of, spool_size, least_naming}
+use Rattle.qm_state.specs.Appending.{StandsAs, standing_refusal, is_too_much}
 
 pub spooled-files_of : (files : List Spooled) → spooled (files_of files) ≡ spool_size files
 spooled-files_of [] = refl
@@ -85,12 +77,10 @@ taken s more size files e =
       few = λ fresh. let h : files ≤ 4095 = ltb-false 4095 files (other s.is_new (nat_lt 4095 files) tests.2 fresh) in omega (arith, h);
     }
 
--- the outcome by what is refused
-pub outcome_by : (s : System) (now : ℕ) (name : FileName) (bytes : List ℕ) (o : Option Refusal) → append_refusal s name bytes ≡ o → append_outcome s now name bytes ≡ unless_refused o (appended (at_moment now s) name bytes)
-outcome_by s now name bytes o e = ap (λ r. unless_refused r (appended (at_moment now s) name bytes)) e
+-- the same, of bytes that the model takes
+pub taken_image : (image : Image) (name : FileName) (bytes : List ℕ) (s : Standing) → StandsAs image.files.items image.entries.items name s → append_refusal (system_of image) name bytes ≡ None → IsTaken s (length bytes) image.spool_size image.files.len
+taken_image image name bytes s known none = taken s (length bytes) image.spool_size image.files.len (sym (decided_image image name bytes s known) ∙ none)
 
--- memory was lacking for what the model accepts
-pub no_memory : {X Y : Type 0} (r : Result X Refused) (model : Result Y Refusal) → IsErrAnd r (λ e. e ≡ NoMemory) → IsOk model → Refuses r model
-no_memory (Ok x) model h ok = ok
-no_memory (Err (By x)) model h ok = cc h
-no_memory (Err NoMemory) model h ok = ok
+-- what the model knows of a file
+pub as_it_stands : (files : List Spooled) (entries : List Entry) (name : FileName) → StandsAs files entries name (record { named_by = least_naming entries name; size = length (bytes_of name (files_of files)); is_new = is_none (file_named name (files_of files)) })
+as_it_stands files entries name = record { named_by = refl; size = refl; is_new = refl }

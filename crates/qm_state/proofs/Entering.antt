@@ -1,5 +1,5 @@
 -- A new entry: what holds of the files and the entries still.
-use Rattle.std.proofs.Common.{◌≡◌, ◌∙◌, ℕ, ◌+◌, ◌<◌, ◌≤◌, List, [], ◌∷◌, ◌++◌, length, get_or, set, Option, Some, None, Ok, refl, ap, sym, subst, ⊎_elim, arith, Bool, true, false, zero, suc, cond}
+use Rattle.std.proofs.Common.{◌≡◌, ◌∙◌, ℕ, ◌+◌, ◌^◌, ◌<◌, ◌≤◌, List, [], ◌∷◌, ◌++◌, length, get_or, set, Option, Some, None, Ok, refl, ap, sym, subst, ⊎_elim, arith, Bool, true, false, zero, suc, cond, not, ◌&&◌}
 use Rattle.std.specs.List.{HoldsAt, find}
 use Rattle.std.specs.Option.{option_map, option_or, is_some}
 use Rattle.std.specs.Ordering.{nat_cmp, is_eq, ordering_reverse}
@@ -7,7 +7,7 @@ use Rattle.std.specs.declared.cmp.Ordering.TheVariants.{Less, Equal}
 use Rattle.std.specs.Cmp.{tied_itself}
 use Rattle.std.proofs.lemmas.List.{get_or-set_same, get_or-set_other, length-set, length-append}
 use Rattle.std.proofs.lemmas.List.Elements.{All-set, All-push}
-use Rattle.std.proofs.lemmas.List.Folds.{find-append}
+use Rattle.std.proofs.lemmas.List.Folds.{find-append, list_all-append}
 use Rattle.std.proofs.lemmas.List.Quantifiers.{all_pairs_push}
 use Rattle.std.proofs.lemmas.List.Sums.{sum_by-set}
 use Rattle.std.proofs.lemmas.Bool.{cases_order, cases_eq, lt-ltb}
@@ -16,6 +16,9 @@ use Rattle.qm_kinds.specs.declared.entry.Entry.{Entry}
 use Rattle.qm_model.specs.Find.{file_name_cmp, same_file_name, file_named}
 use Rattle.qm_state.specs.declared.spooled.Spooled.{Spooled}
 use Rattle.qm_state.specs.Spool.{file_of, files_of, least_naming, IsPlace, IsSpool, IsNamed, Replaces}
+use Rattle.qm_kinds.specs.declared.queue.Queue.{Queue}
+use Rattle.qm_model.specs.JobStates.{is_kept_until_a_moment}
+use Rattle.qm_state.specs.Due.{AreIdle}
 use Rattle.qm_state.specs.Listed.{AreListed}
 use Rattle.qm_state.proofs.FileNames.{file_names_total, same_is_tied}
 use Rattle.qm_state.proofs.Places.{found_at}
@@ -93,9 +96,9 @@ named_rows number [] place g within change = refl
 named_rows number (f ∷ files) zero g within change = ap (λ x. x ∷ files_of files) (λ t. record { name = (change f).name t; bytes = (change f).bytes t })
 named_rows number (f ∷ files) (suc place) g within change = ap (λ xs. file_of f ∷ xs) (named_rows number files place g (omega (arith, within)) change)
 
-pub entered_listed : (entries : List Entry) (next : ℕ) (e : Entry) → AreListed entries next → e.number ≡ next → length entries < 65536 → next < 4294967295 → AreListed (entries ++ e ∷ []) (next + 1)
+pub entered_listed : (entries : List Entry) (next : ℕ) (e : Entry) → AreListed entries next → e.number ≡ next → length entries < 65536 → next + 1 < 2 ^ 32 → AreListed (entries ++ e ∷ []) (next + 1)
 entered_listed entries next e listed number few small = record {
-  next = omega (arith, small);
+  next = small;
   few = omega (arith, few, length-append entries (e ∷ []));
   order = all_pairs_push (λ (a b : Entry). nat_cmp a.number b.number ≡ Less) entries e listed.order (λ k d inside. less (get_or entries k d).number e.number (omega (arith, listed.below k d inside, number)));
   below = All-push (λ (x : Entry). x.number < next + 1) entries e (λ k d inside. omega (arith, listed.below k d inside)) (omega (arith, number));
@@ -107,3 +110,10 @@ entered_spool_of files new entries size place e spool stands r = subst (λ fs. I
 
 pub named_rows_of : (number : ℕ) (files new : List Spooled) (place : ℕ) → place < length files → Replaces files new place (IsNamed number) → files_of new ≡ files_of files
 named_rows_of number files new place within r = ap files_of r.is ∙ named_rows number files place r.file within r.change
+
+-- a job that isn't kept until a moment leaves the entries idle
+pub entered_idle : (queues : List Queue) (entries : List Entry) (e : Entry) → AreIdle queues entries → is_kept_until_a_moment e.state ≡ false → AreIdle queues (entries ++ e ∷ [])
+entered_idle queues entries e idle lasts = record {
+  stopped = idle.stopped;
+  lasting = list_all-append (λ (x : Entry). not (is_kept_until_a_moment x.state)) entries (e ∷ []) ∙ (λ t. idle.lasting t && (not (lasts t) && true));
+}

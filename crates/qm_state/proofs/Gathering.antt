@@ -11,7 +11,10 @@ use Rattle.qm_kinds.specs.declared.system.System.{System}
 use Rattle.qm_model.specs.Find.{file_name_cmp, file_named, queue_named}
 use Rattle.qm_model.specs.Consistent.{IsInOrder}
 use Rattle.qm_model.specs.Outcome.{first_refusal, refused_where}
-use Rattle.qm_model.specs.Submitting.{Job, submit_refusal, is_other_kind, has_bad_value, refused_form, refused_characteristics}
+use Rattle.qm_kinds.specs.declared.request.Job.{Job}
+use Rattle.qm_model.specs.Kinds.{is_other_kind}
+use Rattle.qm_model.specs.Submitting.{submit_refusal, has_bad_value}
+use Rattle.qm_model.specs.Wanted.{refused_form, refused_characteristics}
 use Rattle.qm_state.specs.declared.spooled.Spooled.{Spooled}
 use Rattle.qm_state.specs.Spool.{files_of, IsPlace}
 use Rattle.qm_state.proofs.Places.{found_at, absent_at}

@@ -8,3 +8,6 @@ pub mod Deciding
 pub mod Entering
 pub mod Gathering
 pub mod Starting
+pub mod Waiting
+pub mod Reaching
+pub mod Applying

@@ -1,5 +1,5 @@
 -- How a call answers where the model may refuse.
-use Rattle.std.specs.Prelude.{◌≡◌, IsOk, Result, Ok, Err}
+use Rattle.std.specs.Prelude.{◌≡◌, IsOk, Option, None, Some, Result, Ok, Err}
 use Rattle.qm_kinds.specs.declared.refusal.Refusal.{Refusal}
 use Rattle.qm_state.specs.declared.refused.Refused.{Refused}
 use Rattle.qm_state.specs.declared.refused.Refused.TheVariants.{By, NoMemory}
@@ -9,3 +9,9 @@ abbrev pub Refuses : {X Y : Type 0} → Result X Refused → Result Y Refusal �
 Refuses (Ok x) model = IsOk model
 Refuses (Err (By r)) model = model ≡ Err r
 Refuses (Err NoMemory) model = IsOk model
+
+-- the same, where it is known what refuses
+abbrev pub Decides : {X : Type 0} → Option Refusal → Result X Refused → Type 0
+Decides refusal (Ok x) = refusal ≡ None
+Decides refusal (Err (By r)) = refusal ≡ Some r
+Decides refusal (Err NoMemory) = refusal ≡ None

@@ -8,6 +8,7 @@ use Rattle.qm_kinds.specs.declared.file.File.{File}
 use Rattle.qm_kinds.specs.declared.entry.Entry.{Entry}
 use Rattle.qm_model.specs.Find.{file_name_cmp, same_file_name, file_named}
 use Rattle.qm_model.specs.Consistent.{IsInOrder}
+use Rattle.qm_state.specs.declared.limits.TheConstants.{FILE_LIMIT, FILES_LIMIT, SPOOL_LIMIT}
 use Rattle.qm_state.specs.declared.spooled.Spooled.{Spooled}
 
 -- the file that is kept
@@ -34,11 +35,11 @@ spool_size files = sum_by (λ f. length f.bytes.items) files
 
 -- The files stand by name and keep to the limits, all their bytes are counted, and each has the least entry that names it.
 pub record IsSpool (files : List Spooled) (entries : List Entry) (size : ℕ) : Type 0 where
-  pub few : length files ≤ 4096
-  pub small : All (λ f. length f.bytes.items ≤ 1048576) files
+  pub few : length files ≤ FILES_LIMIT
+  pub small : All (λ f. length f.bytes.items ≤ FILE_LIMIT) files
   pub order : IsInOrder file_name_cmp (λ f. f.name) files
   pub counted : size ≡ spool_size files
-  pub limit : size ≤ 67108864
+  pub limit : size ≤ SPOOL_LIMIT
   pub named : All (λ f. f.named_by ≡ least_naming entries f.name) files
   -- each entry's file is there
   pub known : All (λ e. is_some (file_named e.file (files_of files)) ≡ true) entries

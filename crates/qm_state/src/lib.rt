@@ -3,9 +3,11 @@
 #![tactic(auto)]
 
 mod append;
+mod built;
 mod commit;
+mod due;
 mod image;
-mod job;
+mod limits;
 mod listed;
 mod looks;
 mod prepare;
@@ -14,11 +16,10 @@ mod refused;
 mod rows;
 mod spooled;
 mod submit;
-#[cfg(test)]
-mod tests;
 mod view;
 mod wanted;
 
+pub use built::is_built;
 pub use image::Image;
 pub use prepared::Prepared;
 pub use refused::Refused;

@@ -28,7 +28,8 @@ pub(crate) fn find_entry(entries: &[Entry], number: u32) -> Option<&Entry>
 /// Puts a value behind the others, in a place for which memory was taken.
 pub(crate) fn push_copy<T: Copy>(items: &mut Vec<T>, item: &T)
     requires { vec_len items.old < vec_capacity items.old }
-    ensures { items.new.items ≡ items.old.items ++ item.now ∷ [] }
+    ensures items { items.new.items ≡ items.old.items ++ item.now ∷ [] }
+    ensures room { vec_capacity items.new ≡ vec_capacity items.old }
 {
     items.push_reserved(*item);
 }

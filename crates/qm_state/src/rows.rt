@@ -1,10 +1,13 @@
-ghost use Rattle.std.specs.Prelude.{◌≡◌, ◌<◌, ◌≤◌, IfOk, [], None, All, is_some, true};
+ghost use Rattle.std.specs.Prelude.{◌≡◌, ◌<◌, ◌≤◌, ◌^◌, IfOk, [], None, All, is_some, true};
 ghost use Rattle.qm_model.specs.Find.{file_named};
 ghost use Rattle.qm_model.specs.Consistent.{IsConsistent};
+ghost use Rattle.qm_model.specs.Idle.{IsIdle};
 ghost use Rattle.qm_state.specs.Image.{system_of};
 ghost use Rattle.qm_state.specs.Spool.{files_of, file_of, spool_size, IsSpool};
 
+use crate::due::first_due;
 use crate::image::Image;
+use crate::limits::SPOOL_LIMIT;
 use crate::spooled::{Spooled, find_file, name_file};
 use qm_kinds::{Entry, File, Queue, Seq, System};
 use std::alloc::{AllocError, Global};
@@ -84,7 +87,7 @@ fn copy_files(alloc: Global, files: &[Spooled]) -> Result<Vec<File>, AllocError>
 
 // How many bytes all files have.
 fn size_of_all(files: &[Spooled]) -> u32
-    requires { spool_size files.now ≤ 67108864 }
+    requires { spool_size files.now ≤ SPOOL_LIMIT }
     ensures { result ≡ spool_size files.now }
 {
     let mut size = 0u32;
@@ -112,21 +115,24 @@ fn name_files(files: &mut Vec<Spooled>, entries: &[Entry], size: u32)
 // The number of the next entry.
 fn next_number(system: &System) -> u32
     ensures value { result ≡ system.now.next_entry }
-    ensures fits { result < 4294967296 }
+    ensures fits { result < 2 ^ 32 }
 {
     system.next_entry
 }
 
 impl Image {
-    /// The image of a system. Where there is no memory for it, there is none.
+    /// The image of a system in which every queue is stopped, and no job is kept until a moment. Where there is no memory for
+    /// it, there is none.
     pub fn from_rows(alloc: Global, system: &System) -> Result<Image, AllocError>
-        requires { IsConsistent system.now }
+        requires consistent { IsConsistent system.now }
+        requires idle { IsIdle system.now }
         ensures { IfOk result (λ image. system_of image ≡ system.now) }
     {
         let next_entry = next_number(system);
         let mut files = keep_files(alloc, system.files.as_slice())?;
         let spool_size = size_of_all(files.as_slice());
         name_files(&mut files, system.entries.as_slice(), spool_size);
+        let next_due = first_due(system.entries.as_slice());
         Ok(Image {
             alloc,
             nodes: Vec::from_slice(alloc, system.nodes.as_slice())?,
@@ -137,6 +143,7 @@ impl Image {
             spool_size,
             queues: copy_queues(alloc, system.queues.as_slice())?,
             entries: Vec::from_slice(alloc, system.entries.as_slice())?,
+            next_due,
             next_entry,
             next_run: system.next_run,
             last: system.last,

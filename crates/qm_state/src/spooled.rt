@@ -9,7 +9,7 @@ use std::alloc::AllocError;
 use std::cmp::Ordering;
 
 /// A file that jobs can name, with its bytes.
-#[derive(Debug, Drop)]
+#[derive(Drop)]
 pub(crate) struct Spooled {
     pub(crate) name: FileName,
     pub(crate) bytes: Vec<u8>,
@@ -54,7 +54,8 @@ pub(crate) fn reserve_bytes(
 pub(crate) fn extend_file(files: &mut Vec<Spooled>, place: usize, more: &[u8])
     requires within { place < vec_len files.old }
     requires room { HoldsAt (λ f. vec_len f.bytes + length more.now ≤ vec_capacity f.bytes) files.old.items place }
-    ensures { Replaces files.old.items files.new.items place (IsExtended more.now) }
+    ensures extended { Replaces files.old.items files.new.items place (IsExtended more.now) }
+    ensures room { vec_capacity files.new ≡ vec_capacity files.old }
 {
     let file = &mut files[place];
     let Ok(()) = file.bytes.extend_from_slice(more) else {
@@ -66,7 +67,8 @@ pub(crate) fn extend_file(files: &mut Vec<Spooled>, place: usize, more: &[u8])
 pub(crate) fn insert_file(files: &mut Vec<Spooled>, place: usize, file: Spooled)
     requires within { place ≤ vec_len files.old }
     requires room { vec_len files.old < vec_capacity files.old }
-    ensures { files.new.items ≡ insert files.old.items place file }
+    ensures items { files.new.items ≡ insert files.old.items place file }
+    ensures room { vec_capacity files.new ≡ vec_capacity files.old }
 {
     let Ok(()) = files.insert(place, file) else {
         unreachable!()
@@ -76,7 +78,8 @@ pub(crate) fn insert_file(files: &mut Vec<Spooled>, place: usize, file: Spooled)
 /// Keeps that an entry names the file.
 pub(crate) fn name_file(files: &mut Vec<Spooled>, place: usize, number: u32)
     requires { place < vec_len files.old }
-    ensures { Replaces files.old.items files.new.items place (IsNamed number) }
+    ensures named { Replaces files.old.items files.new.items place (IsNamed number) }
+    ensures room { vec_capacity files.new ≡ vec_capacity files.old }
 {
     let file = &mut files[place];
     if file.named_by.is_none() {

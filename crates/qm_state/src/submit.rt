@@ -1,32 +1,31 @@
 ghost use Rattle.std.specs.Prelude.{◌≡◌, ◌<◌, [], ◌∷◌, is_none, false, IfOk, Ok, vec_len, vec_capacity, OnOk};
 ghost use Rattle.std.specs.Option.{option_and_then, option_map_or};
-ghost use Rattle.qm_state.specs.Submitting.{job_of, submit_outcome};
+ghost use Rattle.qm_kinds.specs.declared.system.System.{System};
 ghost use Rattle.qm_model.specs.Find.{queue_named};
+ghost use Rattle.qm_model.specs.Kinds.{is_other_kind};
 ghost use Rattle.qm_model.specs.Outcome.{first_refusal, refused_where};
-ghost use Rattle.qm_model.specs.Submitting.{submit_refusal, refused_form, is_other_kind, has_bad_value, state_of, form_of, entry_of};
+ghost use Rattle.qm_model.specs.Submitting.{submit_refusal, has_bad_value, state_of, form_of, entry_of, submitted};
+ghost use Rattle.qm_model.specs.Wanted.{refused_form};
 ghost use Rattle.qm_state.specs.Image.{system_of};
-ghost use Rattle.qm_state.specs.Preparing.{made, IsPrepared};
-ghost use Rattle.qm_state.specs.Refusing.{Refuses};
+ghost use Rattle.qm_state.specs.Preparing.{made, found, entered, outcome_of, IsPrepared, IsReady};
+ghost use Rattle.qm_state.specs.Refusing.{Decides};
 ghost use Rattle.qm_state.specs.Spool.{IsPlace};
 
 use crate::image::Image;
-use crate::job::Job;
+use crate::limits::ENTRIES_LIMIT;
 use crate::prepared::{Change, Prepared};
 use crate::refused::Refused;
 use crate::spooled::find_file;
 use crate::wanted::{find_form, find_queue, is_other_kind, refused_characteristics, set_of};
 use qm_kinds::{
-    CharacteristicSet, Entry, EntryState, JobKind, Mark, Moment, Name, NameOrNumber, Refusal,
-    blocks,
+    CharacteristicSet, Entry, EntryState, Job, JobKind, Mark, Moment, Name, NameOrNumber, Refusal,
+    blocks, default_form,
 };
 use std::alloc::AllocError;
 
-/// How many entries there are at most.
-const ENTRIES_LIMIT: usize = 65_536;
-
 // Whether there is no copy, or a batch job asks for what only print jobs have.
 fn has_bad_value(job: &Job) -> bool
-    ensures { result ≡ has_bad_value (job_of job.now) }
+    ensures { result ≡ has_bad_value job.now }
 {
     job.copies == 0
         || job.kind == JobKind::Batch && (job.form.is_some() || job.flag || job.copies != 1)
@@ -94,7 +93,7 @@ impl Image {
     {
         match (kind, form) {
             (JobKind::Batch, _) => None,
-            (JobKind::Print, None) => Some(Name::read(b"DEFAULT").unwrap()),
+            (JobKind::Print, None) => Some(default_form()),
             (JobKind::Print, Some(wanted)) => {
                 find_form(self.forms.as_slice(), &wanted).map(|form| form.name)
             }
@@ -105,14 +104,17 @@ impl Image {
     #[tactic(auto, unfolding(crate::specs::Image::system_of))]
     fn submit_refusal(&self, job: &Job, place: Result<usize, usize>) -> Option<Refusal>
         requires { IsPlace job.now.file self.now.files.items place }
-        ensures { result ≡ submit_refusal (system_of self.now) (job_of job.now) }
+        ensures { result ≡ submit_refusal (system_of self.now) job.now }
     {
         let refusals = [
             self.refused_queue(job.kind, &job.queue),
             refused_where(place.is_err(), Refusal::NoSuchFile),
             refused_where(has_bad_value(job), Refusal::BadValue),
             self.refused_form(job.form),
-            refused_characteristics(self.characteristics.as_slice(), job.characteristics),
+            refused_characteristics(
+                self.characteristics.as_slice(),
+                job.characteristics.as_slice(),
+            ),
             refused_where(self.entries.len() >= ENTRIES_LIMIT, Refusal::EntriesFull),
             refused_where(self.next_entry == u32::MAX, Refusal::NumbersSpent),
         ];
@@ -124,7 +126,7 @@ impl Image {
     fn entry_of(&self, now: Moment, job: &Job, place: usize, mark: Mark) -> Entry
         requires stands { IsPlace job.now.file self.now.files.items (Ok place) }
         requires unmarked { mark ≡ [] }
-        ensures { result ≡ entry_of (system_of self.now) now (job_of job.now) }
+        ensures { result ≡ entry_of (system_of self.now) now job.now }
     {
         Entry {
             number: self.next_entry,
@@ -141,7 +143,7 @@ impl Image {
             restart: job.restart,
             characteristics: CharacteristicSet(set_of(
                 self.characteristics.as_slice(),
-                job.characteristics,
+                job.characteristics.as_slice(),
             )),
             form: self.form_of(job.kind, job.form),
             copies: job.copies,
@@ -165,25 +167,45 @@ impl Image {
         Ok(())
     }
 
+    // Takes the memory for the entry of a job that isn't refused.
+    fn take_job<'a>(
+        &mut self,
+        now: Moment,
+        place: usize,
+        job: &Job,
+    ) -> Result<Change<'a>, AllocError>
+        requires stands { IsPlace job.now.file self.old.files.items (Ok place) }
+        requires accepted { submit_refusal (system_of self.old) job.now ≡ None }
+        ensures rows { system_of self.new ≡ system_of self.old }
+        ensures ready { IfOk result (IsReady self.new) }
+        ensures enters { IfOk result (λ change. (s : System) → outcome_of change s ≡ entered s (entry_of (system_of self.old) now job.now)) }
+    {
+        let mark = Mark::new(&[]).unwrap();
+        let entry = self.entry_of(now, job, place, mark);
+        self.take_entry()?;
+        Ok(Change::NewEntry { place, entry })
+    }
+
     /// Decides on a job, and takes the memory for its entry.
     #[tactic(auto, unfolding(crate::specs::Preparing::made, crate::specs::Preparing::IsPrepared))]
-    pub(crate) fn prepare_submit(&mut self, now: Moment, job: &Job) -> Result<Prepared, Refused>
+    pub(crate) fn prepare_submit<'a>(
+        &mut self,
+        now: Moment,
+        job: &Job,
+    ) -> Result<Prepared<'a>, Refused>
         ensures rows { system_of self.new ≡ system_of self.old }
-        ensures refused { Refuses result (submit_outcome (system_of self.old) now job.now) }
+        ensures decided { Decides (submit_refusal (system_of self.old) job.now) result }
         ensures ready { IfOk result (IsPrepared self.new) }
-        ensures accepted { IfOk result (λ prepared. submit_outcome (system_of self.old) now job.now ≡ Ok (made prepared (system_of self.old))) }
+        ensures made { IfOk result (λ prepared. made prepared (system_of self.old) ≡ submitted (found now (system_of self.old)) now job.now) }
     {
         let place = find_file(self.files.as_slice(), &job.file);
         if let Some(refusal) = self.submit_refusal(job, place) {
             return Err(Refused::By(refusal));
         }
         let Ok(place) = place else { unreachable!() };
-        let mark = Mark::new(&[]).unwrap();
-        let entry = self.entry_of(now, job, place, mark);
-        self.take_entry()?;
-        Ok(Prepared {
-            at: now,
-            change: Change::NewEntry { place, entry },
-        })
+        match self.take_job(now, place, job) {
+            Ok(change) => Ok(Prepared { at: now, change }),
+            Err(AllocError) => Err(Refused::NoMemory),
+        }
     }
 }

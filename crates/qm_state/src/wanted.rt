@@ -2,7 +2,8 @@
 ghost use Rattle.std.specs.Prelude.{◌≡◌, ◌≤◌, ◌<◌, ◌^◌, All, map};
 ghost use Rattle.std.specs.Option.{option_copied};
 ghost use Rattle.qm_model.specs.Find.{queue_named, form_wanted, characteristic_wanted, is_form, is_characteristic};
-ghost use Rattle.qm_model.specs.Submitting.{refused_characteristics, set_of, is_same_kind, is_other_kind};
+ghost use Rattle.qm_model.specs.Kinds.{is_same_kind, is_other_kind};
+ghost use Rattle.qm_model.specs.Wanted.{refused_characteristics, set_of};
 
 use qm_kinds::{Characteristic, Form, JobKind, Name, NameOrNumber, Queue, QueueKind, Refusal};
 

@@ -21,7 +21,7 @@ loop-entry-preserved c =
     let stands : IsPlace c.entry-item.result.file c.loop-entry.files.items (Ok c.in-Ok.place) = subst (λ p. IsPlace c.entry-item.result.file c.loop-entry.files.items p) c.in-Ok.is (subst (λ files. IsPlace c.entry-item.result.file files c.find_file.result) c.as_slice.ensures.value c.find_file.ensures) in
     let more = take_more c.args.entries.now c.loop-entry.entry-index c.entry-item.result c.loop-entry-test.true ∙ ap (λ e. take c.loop-entry.entry-index c.args.entries.now ++ e ∷ []) (sym c.entry-item.is) in
     record {
-      rows = named_rows_of c.entry-item.result.number c.loop-entry.files.items c.name_file.new.files.items c.in-Ok.place stands.0 c.name_file.ensures ∙ c.loop-entry.invariant.rows;
+      rows = named_rows_of c.entry-item.result.number c.loop-entry.files.items c.name_file.new.files.items c.in-Ok.place stands.0 c.name_file.ensures.named ∙ c.loop-entry.invariant.rows;
       spool = subst (λ entries. IsSpool c.name_file.new.files.items entries c.args.size) (sym more)
-          (entered_spool_of c.loop-entry.files.items c.name_file.new.files.items (take c.loop-entry.entry-index c.args.entries.now) c.args.size c.in-Ok.place c.entry-item.result c.loop-entry.invariant.spool stands c.name_file.ensures);
+          (entered_spool_of c.loop-entry.files.items c.name_file.new.files.items (take c.loop-entry.entry-index c.args.entries.now) c.args.size c.in-Ok.place c.entry-item.result c.loop-entry.invariant.spool stands c.name_file.ensures.named);
     }

@@ -1,5 +1,5 @@
 use Rattle.std.proofs.Common.{◌≡◌, drop}
-use Rattle.qm_model.specs.Submitting.{refused_characteristics}
+use Rattle.qm_model.specs.Wanted.{refused_characteristics}
 use Rattle.qm_state.proofs.wanted.refused_characteristics.Given as goal
 
 -- what is left decides

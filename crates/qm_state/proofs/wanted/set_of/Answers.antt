@@ -6,7 +6,7 @@ use Rattle.std.proofs.lemmas.List.Sums.{fold_more}
 use Rattle.qm_kinds.specs.declared.form.Characteristic.{Characteristic}
 use Rattle.qm_kinds.specs.declared.request.NameOrNumber.{NameOrNumber}
 use Rattle.qm_model.specs.Find.{characteristic_wanted, is_characteristic}
-use Rattle.qm_model.specs.Submitting.{set_of, with_characteristic}
+use Rattle.qm_model.specs.Wanted.{set_of, with_characteristic}
 use Rattle.qm_state.proofs.Search.{found_all}
 use Rattle.qm_state.proofs.wanted.set_of.Goals as goal
 use Rattle.qm_state.proofs.wanted.set_of.Goals.{in-Some, in_default}

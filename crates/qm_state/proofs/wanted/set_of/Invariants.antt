@@ -1,5 +1,5 @@
 use Rattle.std.proofs.Common.{◌≡◌, take}
-use Rattle.qm_model.specs.Submitting.{set_of}
+use Rattle.qm_model.specs.Wanted.{set_of}
 use Rattle.qm_state.proofs.wanted.set_of.Given as goal
 
 -- the set of those so far
