@@ -1,63 +1,53 @@
 -- What a request that is done makes of a site.
-use Rattle.std.proofs.Common.{◌≡◌, inl, inr, ⊎_elim, ℕ, ◌+◌, ◌<◌, ◌≤◌, ◌^◌, Bool, true, false, cond, nat_le, nat_lt, ◌&&◌, ◌||◌, List, [], ◌∷◌, ◌++◌, length, map, Option, None, Some, is_none, Ok, Err, refl, sym, ap, subst, ◌∙◌, arith, append_assoc}
+use Rattle.std.proofs.Common.{◌≡◌, inl, inr, ⊎_elim, ℕ, ◌+◌, ◌<◌, ◌≤◌, ◌^◌, Bool, true, false, cond, nat_le, nat_lt, ◌&&◌, ◌||◌, List, [], ◌∷◌, ◌++◌, length, map, Option, None, Some, Ok, Err, refl, sym, ap, subst, ◌∙◌, arith, append_assoc}
 use Rattle.std.specs.List.{AllByRecursion}
 use Rattle.std.specs.Option.{option_and_then}
+use Rattle.std.specs.Prelude.{IsTrue}
 use Rattle.std.proofs.lemmas.List.{map-append}
 use Rattle.std.proofs.lemmas.Bool.Decides.{nat_tests}
 use Rattle.std.proofs.lemmas.Bool.{cases_lt}
-use Rattle.qm_disk.specs.Disk.{Image, IsLeft, LeavesOnly}
-use Rattle.qm_disk.specs.Moments.{started, weaker}
+use Rattle.qm_disk.specs.Disk.{Meaning, Image, IsLeft, KeepsOthers, LeavesOnly}
+use Rattle.qm_disk.specs.Moments.{weaker}
 use Rattle.qm_glog.specs.Log.{need_of}
 use Rattle.qm_kinds.specs.declared.file.FileName.{FileName}
 use Rattle.qm_kinds.specs.declared.record.Record.{Record}
 use Rattle.qm_kinds.specs.declared.refusal.Refusal.{Refusal}
 use Rattle.qm_kinds.specs.declared.refusal.Refusal.TheVariants.{NumbersSpent, SpoolFull}
+use Rattle.qm_kinds.specs.declared.request.Job.{Job}
 use Rattle.qm_kinds.specs.declared.request.Request.{Request}
 use Rattle.qm_kinds.specs.declared.request.Request.TheVariants.{Append, Submit}
 use Rattle.qm_kinds.specs.declared.system.System.{System}
-use Rattle.qm_model.specs.Apply.{IsBuilt, apply, outcome_of, at_moment}
-use Rattle.qm_model.specs.Appending.{append_refusal, appended, is_spool_full, bytes_of, refused_as_named}
+use Rattle.qm_model.specs.Applied.{applied, first_refusal_of, refusal_of, change_of, completed, at_moment, asks_for_numbers, are_numbers_spent}
+use Rattle.qm_model.specs.Built.{is_built}
+use Rattle.qm_model.specs.Due.{due}
+use Rattle.qm_model.specs.Standing.{node_at}
+use Rattle.qm_model.specs.Appending.{append_refusal, is_spool_full, bytes_of, refused_as_named}
 use Rattle.qm_model.specs.First.{first_system}
 use Rattle.qm_model.specs.Outcome.{Accepted, unless_refused, first_refusal, refused_where}
-use Rattle.qm_model.specs.Submitting.{Job, submit_refusal, submitted}
-use Rattle.qm_record.specs.Spelling.{HasSpelling, IsShortRequest, CanBeWritten, record_text}
-use Rattle.qm_store.specs.Store.{Holds, Appended, IsAtRest}
-use Rattle.qm_store.specs.Moments.{left_at_rest}
-use Rattle.qm_manager.specs.QueueFile.{is_kept, accepted_system, after_record, replayed, first_rows, IsQueueFile}
-use Rattle.qm_manager.specs.Asking.{Site, Asked, Done, Full, IsAskable, IsLawful, IsDone, HoldsDone, WithOrWithout, record_of, kept, decided, asked, queue_cap}
+use Rattle.qm_record.specs.Spelling.{HasSpelling, record_text}
+use Rattle.qm_store.specs.Store.{Holds, Appended, Appends, IsAtRest}
+use Rattle.qm_store.specs.declared.store.TheConstants.{QUEUE_CAP}
+use Rattle.qm_manager.specs.QueueFile.{accepted_system, after_record, replayed, first_rows, IsQueueFile}
+use Rattle.qm_manager.specs.Site.{Site, IsLawful, IsSite, BeforeOrAfter}
+use Rattle.qm_manager.specs.Sites.{site_is, steps_nowhere}
+use Rattle.qm_manager.specs.Asking.{Asked, Done, Full, IsDone, IsAccepted, Steps, record_of, kept, decided, asked, site_after}
 use Rattle.qm_manager.specs.Restoring.{HasNode}
-
--- ---- what can be asked
-
-pub askable_is_built : (r : Request) → IsAskable r → IsBuilt r
-askable_is_built (Append file bytes) asked = tt
-askable_is_built (Submit user kind queue file name priority after hold retain restart characteristics form copies flag) asked = tt
-askable_is_built _ asked = absurd asked
-
-none_is : (after : Option ℕ) → after ≡ None → is_none after ≡ true
-none_is None e = refl
-none_is (Some at) e = cc
-
-pub askable_is_kept : (r : Request) → IsAskable r → is_kept r ≡ true
-askable_is_kept (Append file bytes) asked = refl
-askable_is_kept (Submit user kind queue file name priority after hold retain restart characteristics form copies flag) asked = none_is after asked.0
-askable_is_kept _ asked = absurd asked
 
 -- ---- what is accepted
 
-by_numbers : (s : System) (now : ℕ) (r : Request) (a : Accepted) → apply s now r ≡ Ok a → outcome_of s now r ≡ Ok a
-by_numbers s now r a e = split (nat_le (2 ^ 62) s.next_run) e
-  where
-    split : (spent : Bool) → cond spent (Err NumbersSpent) (outcome_of s now r) ≡ Ok a → outcome_of s now r ≡ Ok a
-    split true e = cc
-    split false e = e
-
-not_refused : (o : Option Refusal) (made a : Accepted) → unless_refused o made ≡ Ok a → (o ≡ None) × (made ≡ a)
-not_refused None made a e = (refl, same)
-  where
-    same : made ≡ a
-    same = cc
+not_refused : (o : Option Refusal) (made a : Accepted) → unless_refused o made ≡ Ok a → o ≡ None
+not_refused None made a e = refl
 not_refused (Some r) made a e = cc
+
+unspent : (spent : Bool) (o : Option Refusal) → cond spent (Some NumbersSpent) o ≡ None → o ≡ None
+unspent true o e = cc
+unspent false o e = e
+
+-- no rule refuses what is accepted
+unrefused : (s : System) (now node : ℕ) (r : Request) (a : Accepted) → applied s now node r ≡ Ok a → refusal_of s (node_at node s.nodes) r ≡ None
+unrefused s now node r a e =
+    unspent (asks_for_numbers r && are_numbers_spent s) (refusal_of s (node_at node s.nodes) r)
+    (not_refused (first_refusal_of s (node_at node s.nodes) r) (completed (change_of (due now (at_moment now s)) now (node_at node s.nodes) r)) a e)
 
 -- a file that has room has room for the bytes alone
 small_enough : (have more others all known : ℕ) (a b : Bool) → (nat_lt 1048576 (have + more) || a || b) ≡ false → more ≤ 1048576
@@ -76,37 +66,9 @@ short_bytes s file bytes e =
     let none = unnamed (refused_as_named file s.entries) (refused_where (is_spool_full file (length bytes) s.files) SpoolFull ∷ []) e in
     small_enough (length (bytes_of file s.files)) (length bytes) 0 0 0 _ _ (not_full (is_spool_full file (length bytes) s.files) none)
 
--- an accepted request has a record that isn't too long
-pub accepted_is_short : (s : System) (now : ℕ) (r : Request) (a : Accepted) → IsAskable r → apply s now r ≡ Ok a → IsShortRequest r
-accepted_is_short s now (Append file bytes) a asked e =
-    let was = not_refused (append_refusal s file bytes) (appended (at_moment now s) file bytes) a (by_numbers s now (Append file bytes) a e) in
-    omega (arith, short_bytes s file bytes was.0)
-accepted_is_short s now (Submit user kind queue file name priority after hold retain restart characteristics form copies flag) a asked e = asked.1
-accepted_is_short s now _ a asked e = absurd asked
-
-pub record_can_be_written : (s : System) (r : Request) (a : Accepted) → IsAskable r → apply s s.last r ≡ Ok a → CanBeWritten (record_of s r)
-record_can_be_written s (Append file bytes) a asked e = record {
-  short = accepted_is_short s s.last (Append file bytes) a asked e;
-  row_moment = λ row. cc;
-  row_node = λ row. cc;
-}
-record_can_be_written s (Submit user kind queue file name priority after hold retain restart characteristics form copies flag) a asked e = record {
-  short = asked.1;
-  row_moment = λ row. cc;
-  row_node = λ row. cc;
-}
-record_can_be_written s _ a asked e = absurd asked
-
--- what is accepted leaves the nodes as they are
-pub nodes_stay : (s : System) (now : ℕ) (r : Request) (a : Accepted) → IsAskable r → apply s now r ≡ Ok a → a.system.nodes ≡ s.nodes
-nodes_stay s now (Append file bytes) a asked e =
-    let was = not_refused (append_refusal s file bytes) (appended (at_moment now s) file bytes) a (by_numbers s now (Append file bytes) a e) in
-    ap (λ (x : Accepted). x.system.nodes) (sym was.1)
-nodes_stay s now (Submit user kind queue file name priority after hold retain restart characteristics form copies flag) a asked e =
-    let j : Job = record { user = user; kind = kind; queue = queue; file = file; name = name; priority = priority; after = after; hold = hold; retain = retain; restart = restart; characteristics = characteristics; form = form; copies = copies; flag = flag } in
-    let was = not_refused (submit_refusal s j) (submitted (at_moment now s) now j) a (by_numbers s now (Submit user kind queue file name priority after hold retain restart characteristics form copies flag) a e) in
-    ap (λ (x : Accepted). x.system.nodes) (sym was.1)
-nodes_stay s now _ a asked e = absurd asked
+-- the bytes of a request that is accepted are few
+pub accepted_bytes : (s : System) (now node : ℕ) (file : FileName) (bytes : List ℕ) (a : Accepted) → applied s now node (Append file bytes) ≡ Ok a → length bytes ≤ 1048576
+accepted_bytes s now node file bytes a e = short_bytes s file bytes (unrefused s now node (Append file bytes) a e)
 
 -- ---- a queue file with one record more
 
@@ -133,9 +95,9 @@ some_node : (s : System) (node : List ℕ) → HasNode node s → 0 < length s.n
 some_node s node has = omega (arith, ap (λ ns. length ns) has)
 
 -- the record of a request that is accepted now
-pub accepted_now : (s : System) (node : List ℕ) (r : Request) (a : Accepted) → HasNode node s → is_kept r ≡ true → apply s s.last r ≡ Ok a → after_record s (record_of s r) ≡ Some a.system
+pub accepted_now : (s : System) (node : List ℕ) (r : Request) (a : Accepted) → HasNode node s → is_built r ≡ true → applied s s.last 0 r ≡ Ok a → after_record s (record_of s r) ≡ Some a.system
 accepted_now s node r a has is e =
-    ap (λ (b : Bool). cond b (accepted_system (apply s s.last r)) None) (now_is_not_early s.last (length s.nodes) (is_kept r) (some_node s node has) is)
+    ap (λ (b : Bool). cond b (accepted_system (applied s s.last 0 r)) None) (now_is_not_early s.last (length s.nodes) (is_built r) (some_node s node has) is)
     ∙ ap accepted_system e
 
 pub file_goes_on : (bodies : List (List ℕ)) (s t : System) (r : Record) → IsQueueFile bodies s → HasSpelling r → after_record s r ≡ Some t → IsQueueFile (bodies ++ record_text r ∷ []) t
@@ -158,76 +120,68 @@ room_is cap need fits = grind (arith, nat_tests)
 no_room_is : (cap need : ℕ) → cap < need → nat_lt cap need ≡ true
 no_room_is cap need over = grind (arith, nat_tests)
 
--- while nothing is written, a crash leaves the records that are there
-module _ {D : Type 0} (seen : D → ℕ → List ℕ) (may_leave : D → ℕ → List ℕ → Type 0) (moment : D → ℕ) (left_since : D → ℕ → Image → Type 0) where
-  pub leaves_before : (site : Site) (asked : Asked) (disk : D) → IsAtRest seen may_leave site.bodies disk → ((image : Image) → left_since disk (moment disk) image → IsLeft (may_leave disk) image)
-      → LeavesOnly moment left_since disk disk (WithOrWithout (may_leave disk) site asked)
-  leaves_before site asked disk rest only_now = started moment left_since disk (WithOrWithout (may_leave disk) site asked) (λ image left.
-      let now = only_now image left in
-      record {
-        records = inl (left_at_rest seen may_leave site.bodies disk image rest now);
-        others = λ f le other. now f le;
-      })
-
 -- ---- what is done where there is room for the record
 
-module _ (site : Site) (r : Request) (what : Record) (is : what ≡ record_of site.system r) (a : Accepted) (e : apply site.system what.moment r ≡ Ok a)
-    (bodies : List (List ℕ)) (same : bodies ≡ site.bodies) (body : List ℕ) (spelled : body ≡ record_text what) where
-  accepted : apply site.system site.system.last r ≡ Ok a
-  accepted = ap (λ (x : Record). apply site.system x.moment r) (sym is) ∙ e
-
-  text_is : body ≡ record_text (record_of site.system r)
-  text_is = spelled ∙ ap record_text is
-
+module _ (site : Site) (r : Request) (a : Accepted) (accepted : applied site.system site.system.last 0 r ≡ Ok a)
+    (bodies : List (List ℕ)) (same : bodies ≡ site.bodies) (body : List ℕ) (text_is : body ≡ record_text (record_of site.system r)) where
   need_is : need_of bodies body ≡ need_of site.bodies (record_text (record_of site.system r))
   need_is = ap (λ (bs : List (List ℕ)). need_of bs body) same ∙ ap (need_of site.bodies) text_is
-
-  pub done_there : need_of bodies body ≤ queue_cap → asked site r ≡ Done (record { system = a.system; bodies = site.bodies ++ record_text (record_of site.system r) ∷ [] }) a.reply
-  done_there fits = ap (decided site r) accepted
-      ∙ ap (λ (b : Bool). cond b (Full (need_of site.bodies (record_text (record_of site.system r))) queue_cap) (Done (record { system = a.system; bodies = site.bodies ++ record_text (record_of site.system r) ∷ [] }) a.reply))
-      (room_is queue_cap (need_of site.bodies (record_text (record_of site.system r))) (subst (λ (n : ℕ). n ≤ queue_cap) need_is fits))
-
-  pub full_there : queue_cap < need_of bodies body → asked site r ≡ Full (need_of bodies body) queue_cap
-  full_there over = ap (decided site r) accepted
-      ∙ ap (λ (b : Bool). cond b (Full (need_of site.bodies (record_text (record_of site.system r))) queue_cap) (Done (record { system = a.system; bodies = site.bodies ++ record_text (record_of site.system r) ∷ [] }) a.reply))
-      (no_room_is queue_cap (need_of site.bodies (record_text (record_of site.system r))) (subst (λ (n : ℕ). queue_cap < n) need_is over))
-      ∙ ap (λ (n : ℕ). Full n queue_cap) (sym need_is)
-
-  pub is_done : need_of bodies body ≤ queue_cap → IsDone (asked site r)
-  is_done fits = subst IsDone (sym (done_there fits)) tt
 
   -- the site once it is done
   abbrev pub site_done : Site
   site_done = record { system = a.system; bodies = site.bodies ++ record_text (record_of site.system r) ∷ [] }
 
+  pub done_there : need_of bodies body ≤ QUEUE_CAP → asked site r ≡ Done site_done a.reply
+  done_there fits = ap (decided site r) accepted
+      ∙ ap (λ (b : Bool). cond b (Full (need_of site.bodies (record_text (record_of site.system r))) QUEUE_CAP) (Done site_done a.reply))
+      (room_is QUEUE_CAP (need_of site.bodies (record_text (record_of site.system r))) (subst (λ (n : ℕ). n ≤ QUEUE_CAP) need_is fits))
+
+  pub full_there : QUEUE_CAP < need_of bodies body → asked site r ≡ Full (need_of bodies body) QUEUE_CAP
+  full_there over = ap (decided site r) accepted
+      ∙ ap (λ (b : Bool). cond b (Full (need_of site.bodies (record_text (record_of site.system r))) QUEUE_CAP) (Done site_done a.reply))
+      (no_room_is QUEUE_CAP (need_of site.bodies (record_text (record_of site.system r))) (subst (λ (n : ℕ). QUEUE_CAP < n) need_is over))
+      ∙ ap (λ (n : ℕ). Full n QUEUE_CAP) (sym need_is)
+
+  pub is_done : need_of bodies body ≤ QUEUE_CAP → IsDone (asked site r)
+  is_done fits = subst IsDone (sym (done_there fits)) tt
+
+  -- whether or not there is room for it, the rules accept it
+  pub is_accepted : IsAccepted (asked site r)
+  is_accepted = elim (cases_lt QUEUE_CAP (need_of bodies body)) [
+    | inl over ↦ subst IsAccepted (sym (full_there over)) tt
+    | inr fits ↦ subst IsAccepted (sym (done_there fits)) tt
+  ]
+
+  -- the records are still those of a queue file
+  pub lawful_done : IsLawful site → (node : List ℕ) → HasNode node site.system → is_built r ≡ true → HasSpelling (record_of site.system r) → IsLawful site_done
+  lawful_done lawful node has built fits =
+      file_goes_on site.bodies site.system a.system (record_of site.system r) lawful fits (accepted_now site.system node r a has built accepted)
+
+  -- and after the append those of the site once it is done
+  pub lawful_after : IsLawful site_done → (after_ : List (List ℕ)) → after_ ≡ bodies ++ body ∷ [] → (t : System) → a.system ≡ t → IsQueueFile after_ t
+  lawful_after lawful after_ appended_ t system_is =
+      let same_after : site_done.bodies ≡ after_ = sym (appended_ ∙ ap (λ (bs : List (List ℕ)). bs ++ body ∷ []) same ∙ ap (λ (t : List ℕ). site.bodies ++ t ∷ []) text_is) in
+      subst (λ (x : System). IsQueueFile after_ x) system_is (subst (λ (bs : List (List ℕ)). IsQueueFile bs a.system) same_after lawful)
+
   -- the record may be there while it is written
-  may_be_there : (may_leave : ℕ → List ℕ → Type 0) → IsLawful site_done → need_of bodies body ≤ queue_cap → (image : Image) → Appended may_leave bodies body image → WithOrWithout may_leave site (asked site r) image
-  may_be_there may_leave lawful fits image left = record {
-    records = ⊎_elim (λ old. inl (subst (λ (bs : List (List ℕ)). Holds bs image) same old))
-        (λ new. inr (subst (λ (x : Asked). HoldsDone x image) (sym (done_there fits))
-        (subst (λ (t : List ℕ). Holds (site.bodies ++ t ∷ []) image) text_is (subst (λ (bs : List (List ℕ)). Holds (bs ++ body ∷ []) image) same new), lawful))) left.records;
+  may_be_there : (may_leave : ℕ → List ℕ → Type 0) → IsLawful site → IsLawful site_done → need_of bodies body ≤ QUEUE_CAP → (image : Image) → Appended may_leave bodies body image
+      → BeforeOrAfter may_leave site (site_after site (asked site r)) image
+  may_be_there may_leave before lawful fits image left = record {
+    site = ⊎_elim (λ old. inl (site_is site image before (subst (λ (bs : List (List ℕ)). Holds bs image) same old)))
+        (λ new. inr (subst (λ (x : Asked). IsSite (image 1) (site_after site x)) (sym (done_there fits))
+        (site_is site_done image lawful (subst (λ (t : List ℕ). Holds (site.bodies ++ t ∷ []) image) text_is (subst (λ (bs : List (List ℕ)). Holds (bs ++ body ∷ []) image) same new))))) left.records;
     others = left.others;
   }
 
-  module _ {D : Type 0} (seen : D → ℕ → List ℕ) (may_leave : D → ℕ → List ℕ → Type 0) (moment : D → ℕ) (left_since : D → ℕ → Image → Type 0) (old new : D) where
+  module _ {D : Type 0} (m : Meaning D) (old new : D) where
     -- what a crash leaves while the record is written, or isn't since there is no room
-    pub leaves_either : IsLawful site_done → IsAtRest seen may_leave site.bodies old → ((image : Image) → left_since old (moment old) image → IsLeft (may_leave old) image)
-        → (queue_cap < need_of bodies body → new ≡ old) → LeavesOnly moment left_since old new (Appended (may_leave old) bodies body)
-        → LeavesOnly moment left_since old new (WithOrWithout (may_leave old) site (asked site r))
-    leaves_either lawful rest only_now unchanged run = elim (cases_lt queue_cap (need_of bodies body)) [
-      | inl over ↦ subst (λ (x : D). LeavesOnly moment left_since old x (WithOrWithout (may_leave old) site (asked site r))) (sym (unchanged over))
-          (leaves_before seen may_leave moment left_since site (asked site r) old rest only_now)
-      | inr fits ↦ weaker moment left_since old new (Appended (may_leave old) bodies body) (WithOrWithout (may_leave old) site (asked site r)) run (may_be_there (may_leave old) lawful fits)
+    pub steps_done : IsLawful site → IsLawful site_done → (IsTrue m.tells → IsAtRest m site.bodies old) → ((image : Image) → m.left_since old (m.moment old) image → IsLeft (m.may_leave old) image)
+        → (QUEUE_CAP < need_of bodies body → new ≡ old) → Appends m bodies body old new
+        → Steps m site (site_after site (asked site r)) old new
+    steps_done before lawful rest only_now unchanged appends = elim (cases_lt QUEUE_CAP (need_of bodies body)) [
+      | inl over ↦ steps_nowhere m site (site_after site (asked site r)) old new (unchanged over) before rest only_now
+      | inr fits ↦ record {
+        any_moment = λ told. weaker m old new (Appended (m.may_leave old) bodies body) (BeforeOrAfter (m.may_leave old) site (site_after site (asked site r))) (appends.any_moment told) (may_be_there (m.may_leave old) before lawful fits);
+        others = appends.others;
+      }
     ]
-
-  -- the records are still those of a queue file
-  pub lawful_after : IsLawful site → (node : List ℕ) → HasNode node site.system → is_kept r ≡ true → HasSpelling what → (after : List (List ℕ)) → after ≡ bodies ++ body ∷ [] → (t : System) → a.system ≡ t → IsQueueFile after t
-  lawful_after lawful node has kept_is fits after_ appended_ t system_is =
-      let leaves : after_record site.system what ≡ Some a.system = ap (after_record site.system) is ∙ accepted_now site.system node r a has kept_is accepted in
-      let file : IsQueueFile (site.bodies ++ record_text what ∷ []) a.system = file_goes_on site.bodies site.system a.system what lawful fits leaves in
-      let same_after : site.bodies ++ record_text what ∷ [] ≡ after_ = sym (appended_ ∙ ap (λ (bs : List (List ℕ)). bs ++ body ∷ []) same ∙ ap (λ (t : List ℕ). site.bodies ++ t ∷ []) spelled) in
-      subst (λ (x : System). IsQueueFile after_ x) system_is (subst (λ (bs : List (List ℕ)). IsQueueFile bs a.system) same_after file)
-
-  pub lawful_done : IsLawful site → (node : List ℕ) → HasNode node site.system → is_kept r ≡ true → HasSpelling what → IsLawful site_done
-  lawful_done lawful node has kept_is fits =
-      lawful_after lawful node has kept_is fits site_done.bodies (ap (λ (t : List ℕ). site.bodies ++ t ∷ []) (sym text_is) ∙ ap (λ (bs : List (List ℕ)). bs ++ body ∷ []) (sym same)) a.system refl

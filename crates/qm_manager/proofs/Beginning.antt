@@ -10,6 +10,7 @@ use Rattle.std.proofs.lemmas.Slice.Eq.{slice_eq-Decides}
 use Rattle.std.proofs.lemmas.Option.{slice_get_within, get_or_from_slice_get, slice_get-map, slice_get_read}
 use Rattle.qm_kinds.specs.declared.record.Record.{Record}
 use Rattle.qm_kinds.specs.declared.system.System.{System}
+use Rattle.qm_kinds.specs.declared.name.TheConstants.{NODE_NAME_BYTES}
 use Rattle.qm_model.specs.First.{first_system}
 use Rattle.qm_record.specs.Spelling.{HasSpelling, record_text}
 use Rattle.qm_manager.specs.QueueFile.{row, head_of, first_rows, IsQueueFile, Begins, IsFirstUnlawful}
@@ -22,7 +23,7 @@ use Rattle.qm_manager.proofs.Rows.{rows_fit}
 abbrev pub head_row : List ℕ → Record
 head_row node = row (head_of (first_system node))
 
-pub new_site_file : (node : List ℕ) → length node ≤ 6 → AllByRecursion HasSpelling (first_rows node) → IsQueueFile (map record_text (first_rows node)) (first_system node)
+pub new_site_file : (node : List ℕ) → length node ≤ NODE_NAME_BYTES → AllByRecursion HasSpelling (first_rows node) → IsQueueFile (map record_text (first_rows node)) (first_system node)
 new_site_file node short fit = record { node = node; requests = []; short = short; fit = fit; spelled = refl; leave = refl }
 
 -- there is a queue file
@@ -43,17 +44,17 @@ not_empty b bs h = cc
 
 -- ---- the first record
 
-short_name_is : (name : List ℕ) → length name ≤ 6 → short_name name ≡ Some name
+short_name_is : (name : List ℕ) → length name ≤ NODE_NAME_BYTES → short_name name ≡ Some name
 short_name_is name short = grind (arith, nat_tests)
 
 same_some : (a b : List ℕ) → Some a ≡ Some b → a ≡ b
 same_some a b h = cc
 
 -- what the first row of a site names is its node
-pub names_its_node : (r : Record) (node : List ℕ) → length node ≤ 6 → r ≡ head_row node → named_by r.body ≡ Some node
+pub names_its_node : (r : Record) (node : List ℕ) → length node ≤ NODE_NAME_BYTES → r ≡ head_row node → named_by r.body ≡ Some node
 names_its_node r node short same = ap (λ (x : Record). named_by x.body) same ∙ short_name_is node short
 
-pub is_of : (bodies : List (List ℕ)) (r : Record) (node : List ℕ) → 0 < length bodies → length node ≤ 6 → named_by r.body ≡ Some node
+pub is_of : (bodies : List (List ℕ)) (r : Record) (node : List ℕ) → 0 < length bodies → length node ≤ NODE_NAME_BYTES → named_by r.body ≡ Some node
     → ((body : List ℕ) (other : Record) → slice_get bodies 0 ≡ Some body → HasSpelling other → body ≡ record_text other → r ≡ other)
     → IsOf bodies node
 is_of [] r node some short named only = absurd (omega arith)
@@ -68,7 +69,7 @@ is_of (first ∷ others) r node some short named only = record {
 }
 
 pub first_is_unlawful : (bodies : List (List ℕ))
-    → ((body node : List ℕ) → slice_get bodies 0 ≡ Some body → length node ≤ 6 → HasSpelling (head_row node) → body ≡ record_text (head_row node) → ⊥)
+    → ((body node : List ℕ) → slice_get bodies 0 ≡ Some body → length node ≤ NODE_NAME_BYTES → HasSpelling (head_row node) → body ≡ record_text (head_row node) → ⊥)
     → IsFirstUnlawful bodies 0
 first_is_unlawful [] not = record {
   within = omega arith;

@@ -1,5 +1,5 @@
 -- A queue file that goes on, record by record.
-use Rattle.std.proofs.Common.{◌≡◌, ℕ, ◌+◌, ◌<◌, ◌≤◌, List, [], ◌∷◌, ◌++◌, length, map, take, drop, Some, None, sym, ap, subst, ◌∙◌, arith, append_assoc}
+use Rattle.std.proofs.Common.{◌≡◌, ℕ, ◌+◌, ◌<◌, ◌≤◌, List, [], ◌∷◌, ◌++◌, length, map, take, drop, Some, None, Err, sym, ap, subst, ◌∙◌, arith, append_assoc}
 use Rattle.std.specs.List.{AllByRecursion, slice_get}
 use Rattle.std.specs.Option.{option_and_then}
 use Rattle.std.proofs.lemmas.List.{take_more, take_all, map-append, append-nil}
@@ -10,7 +10,7 @@ use Rattle.qm_model.specs.First.{first_system}
 use Rattle.qm_bytes.specs.Laws.{Spells}
 use Rattle.qm_record.specs.Spelling.{HasSpelling, record_text}
 use Rattle.qm_manager.specs.QueueFile.{first_rows, after_record, replayed, IsQueueFile, IsFirstUnlawful}
-use Rattle.qm_manager.specs.Restoring.{BeginsWithRows, Judges, Leaves, LeavesNothing, IsRefused}
+use Rattle.qm_manager.specs.Restoring.{BeginsWithRows, Judges, Leaves, LeavesNothing, IsRefused, IsRead, IsAt}
 use Rattle.qm_manager.specs.declared.restoring.RestoreEnd.{RestoreEnd}
 use Rattle.qm_manager.specs.declared.restoring.RestoreEnd.TheVariants.{Unlawful, NoMemory}
 use Rattle.qm_manager.proofs.Beginning.{new_site_file}
@@ -168,3 +168,9 @@ read_leaves body r s t spells only leaves = record {
 
 pub read_leaves_nothing : (body : List ℕ) (r : Record) (s : System) → ((other : Record) → HasSpelling other → body ≡ record_text other → r ≡ other) → after_record s r ≡ None → LeavesNothing body s
 read_leaves_nothing body r s only leaves other fits is = ap (after_record s) (sym (only other fits is)) ∙ leaves
+
+-- a record that can't be read is refused
+pub unread_is_refused : (bodies : List (List ℕ)) (index : ℕ) (body : List ℕ) (s : System) (end : RestoreEnd) → slice_get bodies index ≡ Some body → IsAt index end
+    → ((text : List ℕ) (r : Record) → slice_get bodies index ≡ Some text → HasSpelling r → text ≡ record_text r → IsRead r (Err end)) → IsRefused index body s end
+unread_is_refused bodies index body s (Unlawful i) there at only = (at, λ other fits is. absurd (only body other there fits is))
+unread_is_refused bodies index body s NoMemory there at only = tt

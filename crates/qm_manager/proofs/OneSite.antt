@@ -11,8 +11,7 @@ use Rattle.qm_kinds.specs.declared.system.Node.{Node}
 use Rattle.qm_kinds.specs.declared.system.System.{System}
 use Rattle.qm_model.specs.First.{first_system}
 use Rattle.qm_record.specs.Spelling.{HasSpelling, record_text}
-use Rattle.qm_manager.specs.Asking.{Site}
-use Rattle.qm_manager.specs.Opened.{IsSite}
+use Rattle.qm_manager.specs.Site.{Site, IsSite}
 use Rattle.qm_manager.specs.QueueFile.{first_rows, replayed, IsQueueFile}
 
 -- the node that the first of these records names

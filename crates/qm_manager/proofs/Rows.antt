@@ -4,11 +4,11 @@ use Rattle.std.specs.List.{All, AllByRecursion}
 use Rattle.std.proofs.lemmas.List.Elements.{All-from_recursion, All-same}
 use Rattle.qm_kinds.specs.Text.{IsText, is_name_byte}
 use Rattle.qm_bytes.specs.Spelling.{IsName}
-use Rattle.qm_model.specs.Names.{default_form, batch_queue}
+use Rattle.qm_kinds.specs.Names.{default_form, batch_queue}
 use Rattle.qm_model.specs.First.{first_form, first_queue}
 use Rattle.qm_record.specs.Rows.{IsRow}
 use Rattle.qm_record.specs.Spelling.{HasSpelling, CanBeWritten, FormFits, QueueFits}
-use Rattle.qm_store.specs.Causes.{AreFewRows}
+use Rattle.qm_store.specs.Rows.{AreFewRows}
 use Rattle.qm_manager.specs.QueueFile.{first_rows}
 use Rattle.qm_kinds.specs.declared.record.Record.{Record}
 

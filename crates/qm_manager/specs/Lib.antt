@@ -1,4 +1,5 @@
 pub mod QueueFile
+pub mod Site
 pub mod Asking
 pub mod Manager
 pub mod Opened

@@ -1,5 +1,5 @@
 -- What the records of a queue file stand for.
-use Rattle.std.specs.Prelude.{◌≡◌, ℕ, ◌+◌, ◌<◌, ◌≤◌, nat_le, nat_lt, Bool, true, false, ◌&&◌, if◌then◌else◌, List, [], ◌∷◌, ◌++◌, length, map, take, Option, None, Some, is_none, Result, Ok, Err}
+use Rattle.std.specs.Prelude.{◌≡◌, ℕ, ◌+◌, ◌<◌, ◌≤◌, nat_le, nat_lt, ◌&&◌, if◌then◌else◌, List, [], ◌∷◌, ◌++◌, length, map, take, Option, None, Some, Result, Ok, Err}
 use Rattle.std.specs.List.{AllByRecursion}
 use Rattle.std.specs.Option.{option_and_then}
 use Rattle.qm_kinds.specs.declared.record.Record.{Record}
@@ -7,9 +7,10 @@ use Rattle.qm_kinds.specs.declared.record.Body.{Body}
 use Rattle.qm_kinds.specs.declared.record.Body.TheVariants.{Ask, Head, Form, Queue}
 use Rattle.qm_kinds.specs.declared.refusal.Refusal.{Refusal}
 use Rattle.qm_kinds.specs.declared.request.Request.{Request}
-use Rattle.qm_kinds.specs.declared.request.Request.TheVariants.{Append, Submit}
 use Rattle.qm_kinds.specs.declared.system.System.{System}
-use Rattle.qm_model.specs.Apply.{apply}
+use Rattle.qm_kinds.specs.declared.name.TheConstants.{NODE_NAME_BYTES}
+use Rattle.qm_model.specs.Applied.{applied}
+use Rattle.qm_model.specs.Built.{is_built}
 use Rattle.qm_model.specs.First.{first_form, first_queue, first_system}
 use Rattle.qm_model.specs.Outcome.{Accepted}
 use Rattle.qm_record.specs.Spelling.{HasSpelling, record_text}
@@ -26,21 +27,15 @@ head_of s = Head s.nodes s.may s.next_entry s.next_run s.last
 abbrev pub first_rows : List ℕ → List Record
 first_rows node = row (head_of (first_system node)) ∷ row (Form first_form) ∷ row (Queue (first_queue node)) ∷ []
 
--- A request that a queue file keeps so far. A job that waits for a moment isn't among them: its moment can't be listed yet.
-abbrev pub is_kept : Request → Bool
-is_kept (Append file bytes) = true
-is_kept (Submit user kind queue file name priority after hold retain restart characteristics form copies flag) = is_none after
-is_kept _ = false
-
 abbrev pub accepted_system : Result Accepted Refusal → Option System
 accepted_system (Ok accepted) = Some accepted.system
 accepted_system (Err refusal) = None
 
--- What a request's record leaves of a system. There is nothing where the moment goes back, the node isn't there, or the
--- request is refused.
+-- What a request's record leaves of a system. There is nothing where the moment goes back, the node isn't there, the
+-- request isn't one that can be asked, or it is refused.
 abbrev pub after_request : System → ℕ → ℕ → Request → Option System
 after_request s moment node request =
-    if nat_le s.last moment && nat_lt node (length s.nodes) && is_kept request then accepted_system (apply s moment request) else None
+    if nat_le s.last moment && nat_lt node (length s.nodes) && is_built request then accepted_system (applied s moment node request) else None
 
 -- a row stands at the beginning alone
 abbrev pub after_body : System → ℕ → ℕ → Body → Option System
@@ -60,7 +55,7 @@ replayed s (r ∷ rs) = option_and_then (λ t. replayed t rs) (after_record s r)
 pub record IsQueueFile (bodies : List (List ℕ)) (s : System) : Type 0 where
   pub node : List ℕ
   pub requests : List Record
-  pub short : length node ≤ 6
+  pub short : length node ≤ NODE_NAME_BYTES
   pub fit : AllByRecursion HasSpelling (first_rows node ++ requests)
   pub spelled : bodies ≡ map record_text (first_rows node ++ requests)
   pub leave : replayed (first_system node) requests ≡ Some s

@@ -2,6 +2,7 @@
 use Rattle.std.specs.Prelude.{◌≡◌, ℕ, ◌≤◌, nat_le, true, if◌then◌else◌, List, [], ◌∷◌, ◌++◌, length, map, Option, None, Some, Result, Ok, Err}
 use Rattle.std.specs.List.{AllByRecursion}
 use Rattle.qm_bytes.specs.Laws.{Spells}
+use Rattle.qm_kinds.specs.declared.name.TheConstants.{NODE_NAME_BYTES}
 use Rattle.qm_kinds.specs.declared.record.Record.{Record}
 use Rattle.qm_kinds.specs.declared.record.Body.{Body}
 use Rattle.qm_kinds.specs.declared.record.Body.TheVariants.{Head}
@@ -14,7 +15,7 @@ use Rattle.qm_manager.specs.declared.restoring.RestoreEnd.TheVariants.{Unlawful,
 
 -- the name of the one node, if it is short enough for one
 abbrev pub short_name : List ℕ → Option (List ℕ)
-short_name name = if nat_le (length name) 6 then Some name else None
+short_name name = if nat_le (length name) NODE_NAME_BYTES then Some name else None
 
 abbrev pub one_name : List Node → Option (List ℕ)
 one_name [] = None
@@ -28,7 +29,7 @@ named_by _ = None
 
 -- Each queue file that begins with the first of these records is of this node, which is named there.
 pub record IsOf (bodies : List (List ℕ)) (node : List ℕ) : Type 0 where
-  pub short : length node ≤ 6
+  pub short : length node ≤ NODE_NAME_BYTES
   pub first : List ℕ
   pub others : List (List ℕ)
   pub are : bodies ≡ first ∷ others
@@ -41,7 +42,7 @@ HasNode node s = s.nodes ≡ record { name = node; up = true } ∷ []
 -- The first records are the rows of a new site of this node, and each queue file that begins with the first of them is of
 -- this node.
 pub record BeginsWithRows (bodies : List (List ℕ)) (node : List ℕ) : Type 0 where
-  pub short : length node ≤ 6
+  pub short : length node ≤ NODE_NAME_BYTES
   pub fit : AllByRecursion HasSpelling (first_rows node)
   pub rest : List (List ℕ)
   pub rows : bodies ≡ map record_text (first_rows node) ++ rest

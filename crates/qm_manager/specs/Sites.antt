@@ -1,15 +1,21 @@
 -- Laws of queue files and of the sites that they stand for.
-use Rattle.std.specs.Prelude.{◌≡◌, ℕ, ◌+◌, List, [], ◌∷◌, length, take, drop}
-use Rattle.std.proofs.Common.{inl, inr, refl, sym, subst, arith}
+use Rattle.std.specs.Prelude.{◌≡◌, ℕ, ◌+◌, IsTrue, List, [], ◌∷◌, ◌++◌, length, take, drop}
+use Rattle.std.proofs.Common.{inl, inr, refl, sym, subst, ap, ◌∙◌, append_assoc, arith}
 use Rattle.std.proofs.lemmas.List.{take-append-drop}
 use Rattle.std.proofs.lemmas.Bool.{cases_lt}
-use Rattle.qm_disk.specs.Disk.{Image}
-use Rattle.qm_store.specs.Store.{Holds}
-use Rattle.qm_store.specs.Opened.{IsFormatted}
+use Rattle.qm_disk.specs.Disk.{Meaning, Image, IsLeft, LeavesOnly}
+use Rattle.qm_disk.specs.Moments.{started}
+use Rattle.qm_store.specs.Store.{Holds, IsAtRest}
+use Rattle.qm_store.specs.Moments.{left_at_rest}
+use Rattle.qm_glog.specs.Records.{text, behind_gate, BeginsWithRecord}
+use Rattle.qm_store.specs.Opened.{first_byte, IsFormatted}
 use Rattle.qm_store.specs.Laws.{one_content, begins_open, never_damaged}
 use Rattle.qm_manager.specs.QueueFile.{IsQueueFile, IsFirstUnlawful, Begins}
-use Rattle.qm_manager.specs.Asking.{Site, IsLawful}
-use Rattle.qm_manager.specs.Opened.{IsSite, IsDamagedFile}
+use Rattle.qm_manager.specs.declared.manager.Manager.{Manager}
+use Rattle.qm_manager.specs.Site.{Site, IsLawful, IsSite, IsSiteOf, BeforeOrAfter}
+use Rattle.qm_manager.specs.Asking.{Steps}
+use Rattle.qm_manager.specs.Manager.{site_of, disk_of, IsReady}
+use Rattle.qm_manager.specs.Opened.{IsDamagedFile}
 
 no_rows : (body : List ℕ) (bodies : List (List ℕ)) → [] ≡ body ∷ bodies → ⊥
 no_rows body bodies h = cc
@@ -45,3 +51,43 @@ site_not_damaged file place site is damaged =
       | inr unlawful ↦ lawful_not_unlawful unlawful.bodies unlawful.index site
           (subst (λ (bs : List (List ℕ)). IsQueueFile bs site.system) (one_content image site.bodies unlawful.bodies is.formatted.records unlawful.records) is.lawful) unlawful.first
     ]
+
+-- ---- a device at rest
+
+module _ {D : Type 0} (m : Meaning D) where
+  -- while nothing is written, a crash leaves the records that are there
+  leaves_before : (site after : Site) (disk : D) → IsLawful site → IsAtRest m site.bodies disk → ((image : Image) → m.left_since disk (m.moment disk) image → IsLeft (m.may_leave disk) image)
+      → LeavesOnly m disk disk (BeforeOrAfter (m.may_leave disk) site after)
+  leaves_before site after disk lawful rest only_now = started m disk (BeforeOrAfter (m.may_leave disk) site after) (λ image left.
+      let now = only_now image left in
+      record {
+        site = inl (site_is site image lawful (left_at_rest m site.bodies disk image rest now));
+        others = λ f le other. now f le;
+      })
+
+  -- a request that isn't written down leaves the device as it was
+  pub steps_nowhere : (site after : Site) (old new : D) → new ≡ old → IsLawful site → (IsTrue m.tells → IsAtRest m site.bodies old)
+      → ((image : Image) → m.left_since old (m.moment old) image → IsLeft (m.may_leave old) image) → Steps m site after old new
+  steps_nowhere site after old new same lawful rest only_now = subst (λ (d : D). Steps m site after old d) (sym same) (record {
+    any_moment = λ told. leaves_before site after old lawful (rest told) only_now;
+    others = record { reads = λ f le other. refl; no_more = λ f c le other left. left; no_fewer = λ f c le other left. left };
+  })
+
+  -- a device at rest has the queue file of its site, as it reads and in each image that a crash may leave
+  pub site_at_rest : (site : Site) (disk : D) → IsLawful site → IsAtRest m site.bodies disk → IsSiteOf m site disk
+  site_at_rest site disk lawful rest = record {
+    reads = site_is site (m.seen disk) lawful rest.records;
+    crash = λ image left. site_is site image lawful (left_at_rest m site.bodies disk image rest left);
+  }
+
+  -- so has that of a manager that can be asked
+  pub site_kept : (manager : Manager D) → IsReady m manager → IsTrue m.tells → IsSiteOf m (site_of manager) (disk_of manager)
+  site_kept manager ready told = site_at_rest (site_of manager) (disk_of manager) ready.lawful (ready.rest told)
+
+-- ---- want of memory
+
+-- a file that was opened begins with a whole record
+pub begins_with_record : (file : List ℕ) (bodies : List (List ℕ)) → IsFormatted file bodies → BeginsWithRecord file
+begins_with_record file [] is = absurd (is.records.shut (sym (ap first_byte is.records.whole) ∙ is.begins))
+begins_with_record file (body ∷ bodies) is =
+    (body, text bodies ++ is.records.gate ∷ is.records.rest, is.records.fit.0, is.records.whole ∙ ap (λ (l : List ℕ). 1 ∷ l) (append_assoc (behind_gate body) (text bodies) (is.records.gate ∷ is.records.rest)))

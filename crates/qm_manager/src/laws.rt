@@ -1,7 +1,6 @@
 // What a file stands for is one thing.
 ghost use Rattle.std.specs.Prelude.{◌≡◌, ℕ, List};
-ghost use Rattle.qm_manager.specs.Asking.{Site};
-ghost use Rattle.qm_manager.specs.Opened.{IsSite};
+ghost use Rattle.qm_manager.specs.Site.{Site, IsSite};
 
 use qm_record::no_record_begins_another;
 

@@ -2,8 +2,6 @@
 //! opens the file again, after a stop or a crash at any moment, goes on from what was answered.
 #![tactic(auto)]
 
-#[cfg(test)]
-mod ask_tests;
 mod asking;
 mod fault;
 mod laws;
@@ -11,10 +9,9 @@ mod manager;
 mod opening;
 mod restoring;
 mod site;
-#[cfg(test)]
-mod tests;
 
-pub use fault::{AskFault, OpenFault};
+pub use fault::AskFault;
 pub use laws::a_queue_file_is_of_one_site;
 pub use manager::Manager;
 pub use opening::init;
+pub use qm_store::{MakeFault, OpenFault};

@@ -3,7 +3,6 @@ ghost use Rattle.std.specs.Prelude.{◌≡◌, Ok, IfOk};
 ghost use Rattle.qm_model.specs.Listing.{IsOfOneEntry, rows_of};
 ghost use Rattle.qm_state.specs.Image.{system_of};
 ghost use Rattle.qm_state.specs.Refusing.{Refuses};
-ghost use Rattle.qm_store.specs.Store.{cap_of};
 ghost use Rattle.qm_manager.specs.Restoring.{HasNode};
 
 use qm_disk::Disk;
@@ -19,7 +18,6 @@ pub struct Manager<D> {
     pub(crate) node: Name,
     pub(crate) image: Image,
     pub(crate) store: Open<D>,
-    ghost capped: { cap_of store ≡ 134217728 },
     ghost named: { HasNode node (system_of image) },
 }
 

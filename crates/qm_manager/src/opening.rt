@@ -1,58 +1,36 @@
 // How a queue file is made and opened.
-ghost use Rattle.std.specs.Prelude.{◌≡◌, ◌⊎◌, ◌≤◌, IsTrue, length, map, IfOk, IfErr, IsErrOf, OnOk};
-ghost use Rattle.qm_disk.specs.Disk.{OthersLeft, KeepsOthers, LeavesOnly, Rose};
-ghost use Rattle.qm_glog.specs.Moments.{OnlyLooks};
-ghost use Rattle.qm_model.specs.First.{first_system};
-ghost use Rattle.qm_record.specs.Spelling.{record_text};
-ghost use Rattle.qm_store.specs.Causes.{IsNotFull};
-ghost use Rattle.qm_store.specs.Store.{bodies_of, disk_of as store_disk, IsAtRest};
-ghost use Rattle.qm_manager.specs.Asking.{IsLawful};
-ghost use Rattle.qm_manager.specs.QueueFile.{first_rows, IsQueueFile};
-ghost use Rattle.qm_manager.specs.Manager.{site_of, node_of, disk_of};
-ghost use Rattle.qm_manager.specs.Opened.{Opens, IsSameFault, TellsOf, disk_after, disk_made};
-ghost use Rattle.qm_manager.specs.Restoring.{Judges, HasNode};
+ghost use Rattle.std.specs.Prelude.{◌≡◌, ◌≤◌, IsTrue, length, IfOk};
+ghost use Rattle.qm_disk.specs.Disk.{ChangesOnly, OnlyLooks, TellsFaults};
+ghost use Rattle.qm_store.specs.Opened.{FailsBy};
+ghost use Rattle.qm_store.specs.Store.{bodies_of, disk_of as store_disk};
+ghost use Rattle.qm_manager.specs.Site.{new_site};
+ghost use Rattle.qm_manager.specs.Manager.{IsReady};
+ghost use Rattle.qm_manager.specs.Opened.{Opens, Makes, TellsOf, disk_after, disk_made};
+ghost use Rattle.qm_manager.specs.Restoring.{Judges};
 
-use crate::fault::OpenFault;
 use crate::manager::Manager;
 use crate::restoring::{RestoreEnd, restore};
 use crate::site::first_rows;
 use qm_disk::Disk;
-use qm_kinds::Name;
-use qm_store::{Open, QUEUE_FILE, StoreFault};
+use qm_kinds::{NODE_NAME_BYTES, Name};
+use qm_store::{MakeFault, Open, OpenFault, QUEUE_FILE};
 use std::alloc::Global;
 
-// What a fault of the store is to the manager's caller.
-fn open_fault(fault: StoreFault) -> OpenFault
-    requires { IsNotFull fault }
-    ensures { IsSameFault fault result }
-{
-    match fault {
-        StoreFault::Disk => OpenFault::Disk,
-        StoreFault::Unformatted { byte } => OpenFault::Unformatted { byte },
-        StoreFault::Damaged { file, place } => OpenFault::Damaged { file, place },
-        StoreFault::NoMemory => OpenFault::NoMemory,
-        StoreFault::Full { .. } => unreachable!(),
-    }
-}
+/// Makes the queue file of a new site of this node, whatever it held. At `Disk`, and at a crash before `Ok`, the file may
+/// hold anything; it has to be made again. At `NoMemory` the device is as it was.
+pub fn init<D: Disk>(alloc: Global, disk: D, node: Name) -> Result<D, (D, MakeFault)>
+    requires { length node ≤ NODE_NAME_BYTES }
 
-/// Makes the queue file of a new site of this node, whatever it held. At an `Err`, and at a crash before `Ok`, the file
-/// may hold anything; it has to be made again. The one faults are `Disk` and `NoMemory`.
-pub fn init<D: Disk>(alloc: Global, disk: D, node: Name) -> Result<D, (D, OpenFault)>
-    requires { length node ≤ 6 }
-
-    ensures made { IfOk result (λ new. IsTrue D.tells → IsAtRest D.seen D.may_leave (map record_text (first_rows node)) new) }
-    ensures lawful { OnOk result (IsQueueFile (map record_text (first_rows node)) (first_system node)) }
-    ensures others { KeepsOthers D.seen D.may_leave 1 disk (disk_made result) }
-    ensures any_moment { IsTrue D.tells → LeavesOnly D.moment D.left_since disk (disk_made result) (OthersLeft (D.may_leave disk) 1) }
-    ensures faults { D.faults disk ≤ D.faults (disk_made result) }
-    ensures cause { IfErr result (λ e. ((e.1 ≡ OpenFault.Disk) × Rose (D.faults disk) (D.faults e.0)) ⊎ (e.1 ≡ OpenFault.NoMemory)) }
+    ensures made { Makes D.meaning (new_site node) disk result }
+    ensures changes { ChangesOnly D.meaning QUEUE_FILE disk (disk_made result) }
+    ensures faults { TellsFaults D.meaning disk (disk_made result) (FailsBy result MakeFault.Disk) }
 {
     let Ok(rows) = first_rows(alloc, node) else {
-        return Err((disk, OpenFault::NoMemory));
+        return Err((disk, MakeFault::NoMemory));
     };
     match qm_store::init(alloc, disk, &rows) {
         Ok(store) => Ok(store.give_back()),
-        Err((disk, fault)) => Err((disk, open_fault(fault))),
+        Err(failed) => Err(failed),
     }
 }
 
@@ -77,17 +55,14 @@ impl<D: Disk> Manager<D> {
     /// `Unformatted` comes where the file doesn't begin with a record, `Damaged` with the place of the first record that is
     /// cut short or can't stand there. Nothing on the disk is changed.
     pub fn open(alloc: Global, disk: D) -> Result<Manager<D>, (D, OpenFault)>
-        ensures found { IsTrue D.tells → Opens (D.seen disk 1) result }
-        ensures lawful { IfOk result (λ manager. IsLawful (site_of manager)) }
-        ensures node { IfOk result (λ manager. HasNode (node_of manager) (site_of manager).system) }
-        ensures rest { IfOk result (λ manager. IsTrue D.tells → IsAtRest D.seen D.may_leave (site_of manager).bodies (disk_of manager)) }
-        ensures looks { OnlyLooks D.seen D.may_leave D.moment D.left_since disk (disk_after result) }
-        ensures faults { D.faults disk ≤ D.faults (disk_after result) }
-        ensures failed { IfErr result (λ e. e.1 ≡ OpenFault.Disk → Rose (D.faults disk) (D.faults e.0)) }
+        ensures found { IsTrue D.meaning.tells → Opens (D.meaning.seen disk 1) result }
+        ensures ready { IfOk result (IsReady D.meaning) }
+        ensures looks { OnlyLooks D.meaning disk (disk_after result) }
+        ensures faults { TellsFaults D.meaning disk (disk_after result) (FailsBy result OpenFault.Disk) }
     {
         let store = match qm_store::open(alloc, disk) {
             Ok(store) => store,
-            Err((disk, fault)) => return Err((disk, open_fault(fault))),
+            Err(failed) => return Err(failed),
         };
         match restore(alloc, &store) {
             Ok((node, image)) => Ok(Manager {

@@ -4,18 +4,19 @@ ghost use Rattle.qm_kinds.specs.declared.record.Record.{Record as AnyRecord};
 ghost use Rattle.qm_bytes.specs.Laws.{Spells};
 ghost use Rattle.qm_bytes.specs.Spelling.{IsName};
 ghost use Rattle.qm_record.specs.Spelling.{record_text, CanBeWritten, HasSpelling};
+ghost use Rattle.qm_model.specs.Built.{is_built};
 ghost use Rattle.qm_state.specs.Image.{system_of};
 ghost use Rattle.qm_store.specs.Store.{bodies_of};
 ghost use Rattle.qm_manager.specs.declared.restoring.RestoreEnd.TheVariants.{NoMemory};
-ghost use Rattle.qm_manager.specs.QueueFile.{first_rows, is_kept, after_record, IsQueueFile};
+ghost use Rattle.qm_manager.specs.QueueFile.{first_rows, after_record, IsQueueFile};
 ghost use Rattle.qm_manager.specs.Restoring.{named_by, IsOf, BeginsWithRows, Judges, Leaves, IsRead, IsRefused, IsAt, HasNode};
 
 use crate::site::{first_rows, first_system};
 use qm_disk::Disk;
-use qm_kinds::{Body, Moment, Name, Record, Request};
-use qm_model::first_system_is_consistent;
+use qm_kinds::{Body, Moment, NODE_NAME_BYTES, Name, Record, Request};
+use qm_model::{first_system_is_consistent, idle_systems_stay_idle, nodes_keep_their_names};
 use qm_record::{RecordFault, write_record};
-use qm_state::{Image, Refused};
+use qm_state::{Image, Refused, is_built};
 use qm_store::Open;
 use std::alloc::{AllocError, AllocFailed, Global};
 
@@ -43,13 +44,10 @@ impl<T: Drop> From<AllocFailed<T>> for RestoreEnd {
     }
 }
 
-/// The most bytes of a node's name.
-const NODE_NAME_BYTES: usize = 6;
-
 // The node that the first row names.
 fn named_by(body: &Body) -> Option<Name>
     ensures name { result ≡ named_by body.now }
-    ensures short { IfSome result (λ node. length node ≤ 6) }
+    ensures short { IfSome result (λ node. length node ≤ NODE_NAME_BYTES) }
     ensures lawful { IfSome result IsName }
 {
     let Body::Head { nodes, .. } = body else {
@@ -120,27 +118,17 @@ fn read_rows<D: Disk>(alloc: Global, store: &Open<D>) -> Result<Name, RestoreEnd
     Ok(node)
 }
 
-// Whether a queue file keeps such requests.
-fn is_kept(request: &Request) -> bool
-    ensures { result ≡ is_kept request.now }
-{
-    match request {
-        Request::Append { .. } => true,
-        Request::Submit { after, .. } => after.is_none(),
-        _ => false,
-    }
-}
-
-// Whether a request can act: its moment doesn't go back, its node is there, and a queue file keeps it.
+// Whether a request can act: its moment doesn't go back, its node is there, and it is one that can be asked.
 fn can_act(image: &Image, moment: Moment, node: u8, request: &Request) -> bool
-    ensures { result ≡ (nat_le (system_of image.now).last moment && nat_lt node (length (system_of image.now).nodes) && is_kept request.now) }
+    ensures { result ≡ (nat_le (system_of image.now).last moment && nat_lt node (length (system_of image.now).nodes) && is_built request.now) }
 {
-    image.last() <= moment && usize::from(node) < image.nodes().len() && is_kept(request)
+    image.last() <= moment && usize::from(node) < image.nodes().len() && is_built(request)
 }
 
 // Does what a record says, if it can stand there.
 fn replay(image: &mut Image, what: &Record) -> Result<bool, AllocError>
-    ensures { IfOk result (λ done. after_record (system_of image.old) what.now ≡ (if done then Some (system_of image.new) else None)) }
+    ensures nodes { (system_of image.new).nodes ≡ (system_of image.old).nodes }
+    ensures done { IfOk result (λ done. after_record (system_of image.old) what.now ≡ (if done then Some (system_of image.new) else None)) }
 {
     let Body::Ask(request) = &what.body else {
         return Ok(false);
@@ -148,6 +136,7 @@ fn replay(image: &mut Image, what: &Record) -> Result<bool, AllocError>
     if !can_act(image, what.moment, what.node, request) {
         return Ok(false);
     }
+    nodes_keep_their_names();
     match image.prepare(what.moment, what.node, request) {
         Ok(prepared) => {
             image.commit(prepared);
@@ -167,6 +156,7 @@ fn restore_record<D: Disk>(
     requires { index < length (bodies_of store.now) }
     ensures leaves { OnOk result ((body : List ℕ) → slice_get (bodies_of store.now) index ≡ Some body → Leaves body (system_of image.old) (system_of image.new)) }
     ensures refused { IfErr result (λ end. (body : List ℕ) → slice_get (bodies_of store.now) index ≡ Some body → IsRefused index body (system_of image.old) end) }
+    ensures nodes { (system_of image.new).nodes ≡ (system_of image.old).nodes }
 {
     let record = read_at(store, index)?;
     if replay(image, &record)? {
@@ -184,6 +174,7 @@ pub(crate) fn restore<D: Disk>(alloc: Global, store: &Open<D>) -> Result<(Name, 
 {
     let node = read_rows(alloc, store)?;
     first_system_is_consistent();
+    idle_systems_stay_idle();
     let mut image = Image::from_rows(alloc, &first_system(alloc, node)?)?;
     for index in 3..store.count() {
         restore_record(store, index, &mut image)?;

@@ -1,13 +1,12 @@
 // A new site of one node, and the records with which its queue file begins.
 ghost use Rattle.std.specs.Prelude.{◌≡◌, ◌≤◌, ◌∷◌, [], length, All, IfOk};
-ghost use Rattle.qm_model.specs.Names.{default_form, batch_queue};
 ghost use Rattle.qm_model.specs.First.{first_form, first_queue, first_system};
 ghost use Rattle.qm_record.specs.Spelling.{CanBeWritten};
 ghost use Rattle.qm_manager.specs.QueueFile.{row, head_of, first_rows};
 
 use qm_kinds::{
     Body, CharacteristicSet, Form, Moment, Name, Node, Queue, QueueKind, QueueRetain, QueueState,
-    Record, Seq, Shape, System,
+    Record, Seq, Shape, System, batch_queue, default_form,
 };
 use std::alloc::{AllocError, Global};
 
@@ -30,18 +29,6 @@ fn first_form() -> Form
             wrap: false,
         },
     }
-}
-
-fn default_form() -> Name
-    ensures { result ≡ default_form }
-{
-    Name::read(b"DEFAULT").unwrap()
-}
-
-fn batch_queue() -> Name
-    ensures { result ≡ batch_queue }
-{
-    Name::read(b"SYS$BATCH").unwrap()
 }
 
 // The batch queue that is there from the start, stopped.

@@ -7,7 +7,6 @@ use Rattle.qm_state.specs.Image.{system_of}
 use Rattle.qm_store.specs.Store.{bodies_of}
 use Rattle.qm_manager.specs.Restoring.{HasNode}
 use Rattle.qm_manager.proofs.Going.{Stands, rows_stand, next_stands, next_is_judged}
-use Rattle.qm_manager.proofs.Replaying.{record_keeps_nodes}
 use Rattle.qm_manager.proofs.restoring.restore.Goals as goal
 
 pub loop-index-init : goal.loop-index-init
@@ -37,5 +36,5 @@ loop-index-preserved g c =
     let leaves = c.in_ok-restore_record.ensures.leaves body there in
     record {
       stands = next_stands (bodies_of c.args.store.now) index body (system_of c.loop-index.image) (system_of c.restore_record.new.image) there c.loop-index.invariant.stands leaves;
-      node = record_keeps_nodes (system_of c.loop-index.image) (system_of c.restore_record.new.image) leaves.value leaves.leaves ∙ c.loop-index.invariant.node;
+      node = c.restore_record.ensures.nodes ∙ c.loop-index.invariant.node;
     }

@@ -1,0 +1,17 @@
+use Rattle.std.proofs.Common.{◌≡◌, ◌∙◌, ◌&&◌, nat_le, nat_lt, length, Bool, true, sym, ap, arith}
+use Rattle.qm_kinds.specs.declared.system.System.{System}
+use Rattle.qm_model.specs.Built.{is_built}
+use Rattle.qm_model.specs.Outcome.{Accepted}
+use Rattle.qm_state.specs.Image.{system_of}
+use Rattle.qm_state.specs.Preparing.{made}
+use Rattle.qm_manager.proofs.restoring.replay.Goals as goal
+
+third : (a b d : Bool) → (a && b && d) ≡ true → d ≡ true
+third a b d all = grind arith
+
+pub returns-in-Ok-clause-nodes : goal.returns-in-Ok-clause-nodes
+returns-in-Ok-clause-nodes c =
+    let s : System = system_of c.args.image.now in
+    ap (λ (x : Accepted). x.system.nodes) (sym c.commit.ensures.done)
+    ∙ ap (λ (t : System). (made c.in-Ok.prepared t).system.nodes) c.prepare.ensures.rows
+    ∙ c.nodes_keep_their_names.ensures.built s _ _ _ (made c.in-Ok.prepared s) (third (nat_le s.last c.args.what.now.moment) (nat_lt c.args.what.now.node (length s.nodes)) (is_built c.in-Ask.request) (sym c.can_act.ensures ∙ c.if-not-can_act.false)) c.in-Ok.ensures.accepted
