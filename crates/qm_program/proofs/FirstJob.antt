@@ -1,26 +1,20 @@
 -- The first script that a newcomer runs, and the lines that it prints; and refusals as they are printed.
-use Rattle.std.proofs.Common.{◌≡◌, ℕ, List, [], ◌∷◌, ◌++◌, Result, Ok, Err, refl, map}
+use Rattle.std.proofs.Common.{◌≡◌, ℕ, List, [], ◌∷◌, ◌++◌, Result, Ok, Err, refl}
 use Rattle.std.specs.Prelude.{codes}
 use Rattle.std.specs.List.{flat_map}
 use Rattle.std.specs.Fmt.{digits}
 use Rattle.qm_kinds.specs.declared.script.ScriptKind.{ScriptKind}
-use Rattle.qm_model.specs.First.{first_system}
 use Rattle.qm_model.specs.Script.{ScriptLine, script_of}
-use Rattle.qm_record.specs.Spelling.{record_text}
-use Rattle.qm_manager.specs.Asking.{Site}
-use Rattle.qm_manager.specs.QueueFile.{first_rows}
+use Rattle.qm_manager.specs.Site.{new_site}
 use Rattle.qm_program.specs.Transcript.{transcript}
 
 -- lines, each ended by a line feed
 abbrev pub lines_of : List (List ℕ) → List ℕ
 lines_of lines = flat_map (λ line. line ++ 10 ∷ []) lines
 
--- a new site of node A
-abbrev pub new_site : Site
-new_site = record { system = first_system (codes "A"); bodies = map record_text (first_rows (codes "A")) }
-
+-- what lines print over a new site of node A
 abbrev pub printed_by : Result (List ScriptLine) ScriptKind → List ℕ
-printed_by (Ok lines) = transcript new_site lines
+printed_by (Ok lines) = transcript (new_site (codes "A")) lines
 printed_by (Err kind) = []
 
 pub first_job : printed_by (script_of (lines_of

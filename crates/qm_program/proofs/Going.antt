@@ -1,232 +1,102 @@
 -- How far serving has come with a script.
-use Rattle.std.proofs.Common.{◌≡◌, ◌⊎◌, ◌<◌, ◌≤◌, inl, inr, ⊎_elim, ℕ, zero, suc, Bool, true, false, ◌&&◌, List, [], ◌∷◌, ◌++◌, length, take, drop, Option, None, Some, refl, sym, ◌∙◌, ap, subst, append_assoc, ◌+◌, get_or, drop-cons, add-one, arith, length-drop, IsTrue, Err}
+use Rattle.std.proofs.Common.{◌≡◌, ◌<◌, ◌≤◌, ℕ, zero, suc, Bool, true, false, ◌&&◌, List, [], ◌∷◌, ◌++◌, length, take, drop, Option, None, Some, refl, sym, ◌∙◌, ap, subst, append_assoc, ◌+◌, get_or, drop-cons, add-one, arith, length-drop, Err}
 use Rattle.std.proofs.lemmas.List.{append-nil, take-append-drop, drop_all}
-use Rattle.std.specs.Io.KnownBytes.{Appends}
-use Rattle.std.proofs.KnownBytes.{Appends-trans}
-use Rattle.qm_disk.specs.Disk.{Image, IsLeft, OthersLeft, LeavesOnly, Rose}
-use Rattle.qm_disk.specs.Moments.{started, weaker}
 use Rattle.std.specs.Str.{bytes_eq}
-use Rattle.std.specs.Result.{IsErrOf}
+use Rattle.std.specs.Io.KnownBytes.{Keeps}
 use Rattle.std.proofs.lemmas.Slice.Eq.{bytes_eq-Decides}
-use Rattle.qm_model.specs.Script.{ScriptLine, are_of_node}
-use Rattle.qm_store.specs.Store.{IsAtRest}
-use Rattle.qm_store.specs.Moments.{left_at_rest}
-use Rattle.qm_manager.specs.Asking.{Site, Asked, Done, Refused, Full, IsLawful, HoldsDone, WithOrWithout}
-use Rattle.qm_manager.specs.Opened.{IsSite}
-use Rattle.qm_manager.specs.Sites.{site_is}
-use Rattle.qm_program.specs.Lines.{lines_view, line_view}
-use Rattle.qm_program.specs.Transcript.{told, turn, after, transcript, answer_text}
+use Rattle.qm_disk.specs.Disk.{Meaning, KeepsOthers, IsQuiet, OnlyLooks}
 use Rattle.qm_io.specs.Bytes.{TakesPrefix}
-use Rattle.qm_program.specs.Serving.{BeforeOrAfter, LeavesEither, LeavesSite, IsFront, IsPart, journal_text, Stops, StopsWithFailure, StopsWithin, Reaches}
-use Rattle.qm_program.specs.Running.{IsSiteOf, IsWithoutFault}
-use Rattle.qm_program.specs.Course.{ServesLine, ServesLines, StopsAtLine}
-use Rattle.qm_program.specs.declared.outcome.End.TheVariants.{Journal, NoMemory}
+use Rattle.qm_model.specs.Script.{ScriptLine, are_of_node}
+use Rattle.qm_manager.specs.Site.{Site}
+use Rattle.qm_program.specs.Lines.{lines_view, line_view}
+use Rattle.qm_program.specs.Transcript.{Step, turn, step_of, steps_of, site_behind, after}
+use Rattle.qm_program.specs.Course.{Outside, TakesPart, MakesStep, MakesSteps, StopsAtStep, StopsWithin}
+use Rattle.qm_program.specs.Running.{OthersStay}
 use Rattle.qm_program.specs.declared.outcome.End.{End}
 use Rattle.qm_program.specs.declared.serve.ServeEnd.{ServeEnd}
-use Rattle.qm_program.specs.declared.serve.ServeEnd.TheVariants as serve
-use Rattle.qm_program.specs.Ends.{end_of}
+use Rattle.qm_program.specs.declared.serve.ServeEnd.TheVariants as ends
+use Rattle.qm_program.specs.Serving.{CountsSink}
+use Rattle.qm_io.specs.Faults.{Rose as SinkRose}
 use Rattle.qm_program.specs.declared.script.Line.{Line}
-use Rattle.qm_program.specs.declared.script.Sort.TheVariants as code
 
-pub after-append : (site : Site) (lines more : List ScriptLine) → after site (lines ++ more) ≡ after (after site lines) more
-after-append site [] more = refl
-after-append site (line ∷ lines) more = after-append (turn site line).site lines more
+-- ---- steps, one behind the other
 
-pub transcript-append : (site : Site) (lines more : List ScriptLine) → transcript site (lines ++ more) ≡ transcript site lines ++ transcript (after site lines) more
-transcript-append site [] more = refl
-transcript-append site (line ∷ lines) more =
-    ap (λ text. answer_text line (turn site line).answer ++ text) (transcript-append (turn site line).site lines more)
-    ∙ sym (append_assoc (answer_text line (turn site line).answer) (transcript (turn site line).site lines) (transcript (after (turn site line).site lines) more))
+pub site_behind-append : (site : Site) (xs ys : List Step) → site_behind site (xs ++ ys) ≡ site_behind (site_behind site xs) ys
+site_behind-append site [] ys = refl
+site_behind-append site (x ∷ xs) ys = site_behind-append x.after xs ys
 
--- the lines before these were answered, and left this site; a sink that had old took their part of the transcript
-pub record Goes (first : Site) (lines : List ScriptLine) (site : Site) (rest : List ScriptLine) (old now : Option (List ℕ)) : Type 0 where
-  pub answered : List ScriptLine
-  pub are : lines ≡ answered ++ rest
-  pub here : site ≡ after first answered
-  pub taken : Appends old now (transcript first answered)
+pub steps_of-append : (site : Site) (xs ys : List ScriptLine) → steps_of site (xs ++ ys) ≡ steps_of site xs ++ steps_of (after site xs) ys
+steps_of-append site [] ys = refl
+steps_of-append site (x ∷ xs) ys = ap (λ (steps : List Step). step_of site x ∷ steps) (steps_of-append (turn site x).site xs ys)
 
-pub nothing : (old : Option (List ℕ)) → Appends old old []
-nothing None = tt
-nothing (Some xs) = sym (append-nil xs)
+-- a line behind others leaves what it leaves of the site behind them
+after_one : (site : Site) (lines : List ScriptLine) (line : ScriptLine) → after site (lines ++ line ∷ []) ≡ (turn (after site lines) line).site
+after_one site lines line =
+    ap (site_behind site) (steps_of-append site lines (line ∷ []))
+    ∙ site_behind-append site (steps_of site lines) (step_of (after site lines) line ∷ [])
 
-abbrev pub goes_first : (site : Site) (lines : List ScriptLine) (old : Option (List ℕ)) → Goes site lines site lines old old
-goes_first site lines old = record { answered = []; are = refl; here = refl; taken = nothing old }
+module _ {D : Type 0} (m : Meaning D) where
+  -- one step more
+  one_step_more : (site : Site) (steps : List Step) (step : Step) (old mid new : Outside D) → MakesSteps m site steps old mid → MakesStep m (site_behind site steps) step mid new
+      → MakesSteps m site (steps ++ step ∷ []) old new
+  one_step_more site [] step old mid new so_far one = (new, (subst (λ (o : Outside D). MakesStep m site step o new) so_far one, refl))
+  one_step_more site (first ∷ steps) step old mid new so_far one = (so_far.0, (so_far.1.0, one_step_more first.after steps step so_far.0 mid new so_far.1.1 one))
 
--- each image of a device at rest has the queue file of its site
-pub leaves_at_rest : {D : Type 0} (seen : D → ℕ → List ℕ) (may_leave : D → ℕ → List ℕ → Type 0) (site : Site) (disk : D) → IsLawful site → IsAtRest seen may_leave site.bodies disk → LeavesSite (may_leave disk) site
-leaves_at_rest seen may_leave site disk lawful rest image left = site_is site image lawful (left_at_rest seen may_leave site.bodies disk image rest left)
+  -- the lines before these made their steps, and left this site
+  pub record Goes (first : Site) (lines : List ScriptLine) (site : Site) (rest : List ScriptLine) (old now : Outside D) : Type 0 where
+    pub answered : List ScriptLine
+    pub are : lines ≡ answered ++ rest
+    pub here : site ≡ after first answered
+    pub so_far : MakesSteps m first (steps_of first answered) old now
 
--- a device at rest has the queue file of its site
-pub site_at_rest : {D : Type 0} (seen : D → ℕ → List ℕ) (may_leave : D → ℕ → List ℕ → Type 0) (site : Site) (disk : D) → IsLawful site → IsAtRest seen may_leave site.bodies disk → IsSiteOf seen may_leave site disk
-site_at_rest seen may_leave site disk lawful rest = record { reads = site_is site (seen disk) lawful rest.records; crash = leaves_at_rest seen may_leave site disk lawful rest }
+  abbrev pub goes_first : (site : Site) (lines : List ScriptLine) (old : Outside D) → Goes site lines site lines old old
+  goes_first site lines old = record { answered = []; are = refl; here = refl; so_far = refl }
 
--- ---- the course of the lines
+  module _ (first : Site) (lines : List ScriptLine) (site : Site) (rest : List ScriptLine) (old now : Outside D) (g : Goes first lines site rest old now) where
+    -- no line is left
+    pub goes_to_end : rest ≡ [] → MakesSteps m first (steps_of first lines) old now
+    goes_to_end none =
+        let all : g.answered ≡ lines = sym (append-nil g.answered) ∙ ap (λ (r : List ScriptLine). g.answered ++ r) (sym none) ∙ sym g.are in
+        subst (λ (done : List ScriptLine). MakesSteps m first (steps_of first done) old now) all g.so_far
 
-module _ {D : Type 0} (seen : D → ℕ → List ℕ) (may_leave : D → ℕ → List ℕ → Type 0) (moment : D → ℕ) (left_since : D → ℕ → Image → Type 0) where
-  -- one line more
-  one_line_more : (site : Site) (lines : List ScriptLine) (line : ScriptLine) (old mid new : D) (before taken now : Option (List ℕ))
-      → ServesLines seen may_leave moment left_since site lines old mid before taken → ServesLine seen may_leave moment left_since (after site lines) line mid new taken now
-      → ServesLines seen may_leave moment left_since site (lines ++ line ∷ []) old new before now
-  one_line_more site [] line old mid new before taken now so_far step = (
-    new,
-    (
-      now,
-      (
-        subst (λ (d : D). ServesLine seen may_leave moment left_since site line d new before now) so_far.0
-            (subst (λ (t : Option (List ℕ)). ServesLine seen may_leave moment left_since site line mid new t now) so_far.1 step),
-        (refl, refl),
-      ),
-    ),
-  )
-  one_line_more site (first ∷ lines) line old mid new before taken now so_far step =
-      (so_far.0, (so_far.1.0, (so_far.1.1.0, one_line_more (turn site first).site lines line so_far.0 mid new so_far.1.0 taken now so_far.1.1.1 step)))
+    module _ (line : ScriptLine) (behind : List ScriptLine) (is : rest ≡ line ∷ behind) where
+      are_before : lines ≡ g.answered ++ line ∷ behind
+      are_before = g.are ∙ ap (λ (r : List ScriptLine). g.answered ++ r) is
 
-module _ (first : Site) (lines : List ScriptLine) (site : Site) (rest : List ScriptLine) (old now : Option (List ℕ)) (g : Goes first lines site rest old now) where
-  -- no line is left
-  pub all_answered : rest ≡ [] → g.answered ≡ lines
-  all_answered none = sym (append-nil g.answered) ∙ ap (λ (r : List ScriptLine). g.answered ++ r) (sym none) ∙ sym g.are
+      steps_are : steps_of first lines ≡ steps_of first g.answered ++ step_of (after first g.answered) line ∷ steps_of (turn (after first g.answered) line).site behind
+      steps_are = ap (steps_of first) are_before ∙ steps_of-append first g.answered (line ∷ behind)
 
-  pub goes_to_end : rest ≡ [] → Appends old now (transcript first lines)
-  goes_to_end none = subst (λ (done : List ScriptLine). Appends old now (transcript first done)) (all_answered none) g.taken
-
-  pub ends_there : rest ≡ [] → site ≡ after first lines
-  ends_there none = g.here ∙ ap (after first) (all_answered none)
-
-  module _ (line : ScriptLine) (behind : List ScriptLine) (is : rest ≡ line ∷ behind) where
-    pub are_before : lines ≡ g.answered ++ line ∷ behind
-    are_before = g.are ∙ ap (λ (r : List ScriptLine). g.answered ++ r) is
-
-    pub one_more : lines ≡ (g.answered ++ line ∷ []) ++ behind
-    one_more = are_before ∙ sym (append_assoc g.answered (line ∷ []) behind)
-
-    pub after_more : (turn site line).site ≡ after first (g.answered ++ line ∷ [])
-    after_more = ap (λ (s : Site). (turn s line).site) g.here ∙ sym (after-append first g.answered (line ∷ []))
-
-    pub text_more : transcript first (g.answered ++ line ∷ []) ≡ transcript first g.answered ++ answer_text line (turn site line).answer
-    text_more = transcript-append first g.answered (line ∷ [])
-        ∙ ap (λ text. transcript first g.answered ++ text) (append-nil (answer_text line (turn (after first g.answered) line).answer)
-        ∙ ap (λ (s : Site). answer_text line (turn s line).answer) (sym g.here))
-
-    -- the line was answered
-    abbrev pub goes_on : (next : Site) (new : Option (List ℕ)) → next ≡ (turn site line).site → Appends now new (answer_text line (turn site line).answer) → Goes first lines next behind old new
-    goes_on next new same h = record {
-      answered = g.answered ++ line ∷ [];
-      are = one_more;
-      here = same ∙ after_more;
-      taken = subst (Appends old new) (sym text_more) (Appends-trans _ _ _ _ _ g.taken h);
-    }
-
-    -- the line wasn't answered whole
-    pub goes_within : (tells : Bool) (may_leave : ℕ → List ℕ → Type 0) (new : Option (List ℕ)) (end : End) → Stops tells may_leave site line now new end
-        → (IsTrue tells → LeavesEither may_leave site (turn site line).site) → StopsWithin tells may_leave first lines old new end
-    goes_within tells may_leave new end stops leaves = record {
-      answered = g.answered;
-      line = line;
-      behind = behind;
-      are = are_before;
-      middle = now;
-      taken = g.taken;
-      stops = subst (λ (s : Site). Stops tells may_leave s line now new end) g.here stops;
-      leaves = subst (λ (s : Site). IsTrue tells → LeavesEither may_leave s (turn s line).site) g.here leaves;
-    }
-
-    -- what a crash leaves while the line is at work
-    pub goes_reaching : (may_leave_first may_leave : ℕ → List ℕ → Type 0) → ((f : ℕ) (c : List ℕ) → f ≤ 2 → (f ≡ 1 → ⊥) → may_leave f c → may_leave_first f c)
-        → (image : Image) → BeforeOrAfter may_leave site (turn site line).site image → Reaches may_leave_first first lines image
-    goes_reaching may_leave_first may_leave kept image left = elim left.site [
-      | inl before ↦ record {
-        answered = g.answered;
-        behind = line ∷ behind;
-        are = are_before;
-        left = subst (IsSite (image 1)) g.here before;
-        others = others;
-      }
-      | inr then_ ↦ record {
+      -- the line made its step
+      pub goes_on : (next : Site) (new : Outside D) → next ≡ (turn site line).site → MakesStep m site (step_of site line) now new → Goes first lines next behind old new
+      goes_on next new same made = record {
         answered = g.answered ++ line ∷ [];
-        behind = behind;
-        are = one_more;
-        left = subst (IsSite (image 1)) after_more then_;
-        others = others;
-      }
-    ]
-      where
-        others : OthersLeft may_leave_first 1 image
-        others f le other = kept f (image f) le other (left.others f le other)
-
-    module _ {D : Type 0} (seen : D → ℕ → List ℕ) (may_leave : D → ℕ → List ℕ → Type 0) (moment : D → ℕ) (left_since : D → ℕ → Image → Type 0) (begun mid new : D)
-        (so_far : ServesLines seen may_leave moment left_since first g.answered begun mid old now)
-        (run : LeavesOnly moment left_since mid new (BeforeOrAfter (may_leave mid) site (turn site line).site)) where
-      -- the lines were served, this one too
-      pub serves_on : (next : Site) (taken : Option (List ℕ)) → IsLawful next → next ≡ (turn site line).site → IsAtRest seen may_leave next.bodies new
-          → Appends now taken (answer_text line (turn site line).answer) → ServesLines seen may_leave moment left_since first (g.answered ++ line ∷ []) begun new old taken
-      serves_on next taken lawful same at_rest answered = one_line_more seen may_leave moment left_since first g.answered line begun mid new old now taken so_far
-          (subst (λ (s : Site). ServesLine seen may_leave moment left_since s line mid new now taken) g.here (record {
-            any_moment = run;
-            durable = subst (λ (s : Site). IsSiteOf seen may_leave s new) same (site_at_rest seen may_leave next new lawful at_rest);
-            answered = answered;
-          }))
-
-      -- this one is in work
-      pub stops_at : (faults : D → ℕ) (tells : Bool) (taken : Option (List ℕ)) (end : End) → Stops tells (may_leave new) site line now taken end
-          → (IsWithoutFault (faults mid) (faults new) → IsSiteOf seen may_leave site new ⊎ IsSiteOf seen may_leave (turn site line).site new)
-          → (end ≡ Journal → Rose (faults mid) (faults new)) → StopsAtLine seen may_leave moment left_since faults tells first lines begun new old taken end
-      stops_at faults tells taken end stops settled cause = record {
-        answered = g.answered;
-        line = line;
-        behind = behind;
-        are = are_before;
-        next = mid;
-        middle = now;
-        served = so_far;
-        any_moment = subst (λ (s : Site). LeavesOnly moment left_since mid new (BeforeOrAfter (may_leave mid) s (turn s line).site)) g.here run;
-        stops = subst (λ (s : Site). Stops tells (may_leave new) s line now taken end) g.here stops;
-        settled = subst (λ (s : Site). IsWithoutFault (faults mid) (faults new) → IsSiteOf seen may_leave s new ⊎ IsSiteOf seen may_leave (turn s line).site new) g.here settled;
-        cause = cause;
+        are = are_before ∙ sym (append_assoc g.answered (line ∷ []) behind);
+        here = same ∙ ap (λ (s : Site). (turn s line).site) g.here ∙ sym (after_one first g.answered line);
+        so_far = subst (λ (steps : List Step). MakesSteps m first steps old new) (sym (steps_of-append first g.answered (line ∷ [])))
+            (one_step_more first (steps_of first g.answered) (step_of (after first g.answered) line) old now new g.so_far
+            (subst (λ (s : Site). MakesStep m s (step_of s line) now new) g.here made));
       }
 
--- ---- what a crash leaves while a request is done
+      -- the run stopped at it
+      pub stops_here : (new : Outside D) (end : End) → StopsAtStep m site (step_of site line) now new end → StopsWithin m end first (steps_of first lines) old new
+      stops_here new end stops = record {
+        made = steps_of first g.answered;
+        step = step_of (after first g.answered) line;
+        behind = steps_of (turn (after first g.answered) line).site behind;
+        are = steps_are;
+        next = now;
+        so_far = g.so_far;
+        stops = subst (λ (s : Site). StopsAtStep m s (step_of s line) now new end) g.here stops;
+      }
 
-done_site : (site : Site) (a : Asked) (image : Image) → HoldsDone a image → IsSite (image 1) (told site a).site
-done_site site (Done after_ reply) image done = site_is after_ image done.1 done.0
-done_site site (Refused refusal) image done = absurd done
-done_site site (Full need cap) image done = absurd done
-
-pub asked_leaves : {D : Type 0} (may_leave : D → ℕ → List ℕ → Type 0) (moment : D → ℕ) (left_since : D → ℕ → Image → Type 0) (old new : D) (site : Site) (a : Asked) → IsLawful site
-    → LeavesOnly moment left_since old new (WithOrWithout (may_leave old) site a) → LeavesOnly moment left_since old new (BeforeOrAfter (may_leave old) site (told site a).site)
-asked_leaves may_leave moment left_since old new site a lawful run = weaker moment left_since old new (WithOrWithout (may_leave old) site a) (BeforeOrAfter (may_leave old) site (told site a).site) run (λ image left. record {
-  site = ⊎_elim (λ before. inl (site_is site image lawful before)) (λ done. inr (done_site site a image done)) left.records;
-  others = left.others;
-})
-
--- while nothing is written
-pub leaves_site : {D : Type 0} (seen : D → ℕ → List ℕ) (may_leave : D → ℕ → List ℕ → Type 0) (moment : D → ℕ) (left_since : D → ℕ → Image → Type 0) (before after_ : Site) (disk : D)
-    → IsLawful before → IsAtRest seen may_leave before.bodies disk → ((image : Image) → left_since disk (moment disk) image → IsLeft (may_leave disk) image)
-    → LeavesOnly moment left_since disk disk (BeforeOrAfter (may_leave disk) before after_)
-leaves_site seen may_leave moment left_since before after_ disk lawful rest only_now = started moment left_since disk (BeforeOrAfter (may_leave disk) before after_) (λ image left.
-    let now = only_now image left in
-    record {
-      site = inl (leaves_at_rest seen may_leave before disk lawful rest image now);
-      others = λ f le other. now f le;
-    })
-
--- before the first line
-pub reaches_first : {D : Type 0} (seen : D → ℕ → List ℕ) (may_leave : D → ℕ → List ℕ → Type 0) (site : Site) (lines : List ScriptLine) (disk : D) (image : Image)
-    → IsLawful site → IsAtRest seen may_leave site.bodies disk → IsLeft (may_leave disk) image → Reaches (may_leave disk) site lines image
-reaches_first seen may_leave site lines disk image lawful rest left = record {
-  answered = [];
-  behind = lines;
-  are = refl;
-  left = leaves_at_rest seen may_leave site disk lawful rest image left;
-  others = λ f le other. left f le;
-}
-
--- what stands for a line past the end
-abbrev pub no_line : Line
-no_line = record { number = 0; who = record { ref_ptr = (0, 0); now = [] }; sort = code.Command; text = record { ref_ptr = (0, 0); now = [] } }
+-- ---- lines of the script in memory
 
 -- the lines from a place on begin with the line there
-pub first_line : (lines : List Line) (i : ℕ) → i < length lines → lines_view (drop i lines) ≡ line_view (get_or lines i no_line) ∷ lines_view (drop (i + 1) lines)
-first_line lines i within = ap lines_view (drop-cons lines i no_line within) ∙ ap (λ n. line_view (get_or lines i no_line) ∷ lines_view (drop n lines)) (sym (add-one i))
+pub first_line : (lines : List Line) (i : ℕ) (line : Line) → i < length lines → line ≡ get_or lines i line → lines_view (drop i lines) ≡ line_view line ∷ lines_view (drop (i + 1) lines)
+first_line lines i line within is =
+    ap lines_view (drop-cons lines i line within)
+    ∙ ap (λ (l : Line). line_view l ∷ lines_view (drop (suc i) lines)) (sym is)
+    ∙ ap (λ n. line_view line ∷ lines_view (drop n lines)) (sym (add-one i))
 
 -- behind the last line there is none
 pub rest_is_nothing : (lines : List Line) (i : ℕ) → length lines ≤ i → lines_view (drop i lines) ≡ []
@@ -241,69 +111,65 @@ both_second true b e = e
 both_second false b e = cc
 
 -- each of the lines is of the node of all
-pub node_at : (node : List ℕ) (lines : List Line) (i : ℕ) → i < length lines → are_of_node node (lines_view lines) ≡ true → (line_view (get_or lines i no_line)).node ≡ node
-node_at node [] i lt all = absurd (omega (arith, lt))
-node_at node (l ∷ ls) zero lt all = (bytes_eq-Decides (line_view l).node node).0 (both_first (bytes_eq (line_view l).node node) (are_of_node node (lines_view ls)) all)
-node_at node (l ∷ ls) (suc i) lt all = node_at node ls i (omega (arith, lt)) (both_second (bytes_eq (line_view l).node node) (are_of_node node (lines_view ls)) all)
+node_at : (node : List ℕ) (lines : List Line) (i : ℕ) (none : Line) → i < length lines → are_of_node node (lines_view lines) ≡ true → (line_view (get_or lines i none)).node ≡ node
+node_at node [] i none lt all = absurd (omega (arith, lt))
+node_at node (l ∷ ls) zero none lt all = (bytes_eq-Decides (line_view l).node node).0 (both_first (bytes_eq (line_view l).node node) (are_of_node node (lines_view ls)) all)
+node_at node (l ∷ ls) (suc i) none lt all = node_at node ls i none (omega (arith, lt)) (both_second (bytes_eq (line_view l).node node) (are_of_node node (lines_view ls)) all)
 
--- ---- how a line ends that isn't answered whole
+pub node_of_line : (node : List ℕ) (lines : List Line) (i : ℕ) (line : Line) → i < length lines → line ≡ get_or lines i line → are_of_node node (lines_view lines) ≡ true → (line_view line).node ≡ node
+node_of_line node lines i line lt is all = ap (λ (l : Line). (line_view l).node) is ∙ node_at node lines i line lt all
 
-pub whole_front : (text : List ℕ) → IsFront text text
-whole_front text = record { rest = []; whole = append-nil text }
+-- ---- what a sink took of a text
 
-pub no_front : (text : List ℕ) → IsFront [] text
-no_front text = record { rest = text; whole = refl }
-
-pub some_front : (count : ℕ) (text : List ℕ) → IsFront (take count text) text
-some_front count text = record { rest = drop count text; whole = take-append-drop count text }
-
-pub some_part : (count : ℕ) (text : List ℕ) → count < length text → IsPart (take count text) text
-some_part count text less = record { rest = drop count text; whole = take-append-drop count text; more = omega (arith, length-drop count text) }
-
-module _ (tells : Bool) (may_leave : ℕ → List ℕ → Type 0) (site : Site) (line : ScriptLine) (old new : Option (List ℕ)) (end : End) where
-  -- first bytes of the answer were taken
-  pub stops_within : (text : List ℕ) → text ≡ answer_text line (turn site line).answer → TakesPrefix old new text → (end ≡ Journal → ⊥) → (end ≡ NoMemory → ⊥)
-      → (IsTrue tells → LeavesSite may_leave (turn site line).site) → Stops tells may_leave site line old new end
-  stops_within text is h not not_memory kept = record {
-    front = take h.0 text;
-    taken = h.2;
-    begins = inr (subst (IsPart (take h.0 text)) is (some_part h.0 text h.1), kept);
-    journal = λ journal. absurd (not journal);
-    memory = λ memory. absurd (not_memory memory);
-  }
-
-  -- the disk failed at the line
-  pub stops_failed : StopsWithFailure line old new end → Stops tells may_leave site line old new end
-  stops_failed f = record { front = f.front; taken = f.taken; begins = inl f.begins; journal = f.journal; memory = f.memory }
-
--- nothing was taken
-pub stops_before : (tells : Bool) (may_leave : ℕ → List ℕ → Type 0) (site : Site) (line : ScriptLine) (old : Option (List ℕ)) (end : End) → (end ≡ Journal → ⊥) → Stops tells may_leave site line old old end
-stops_before tells may_leave site line old end not = record { front = []; taken = nothing old; begins = inl (no_front (journal_text line)); journal = λ is. absurd (not is); memory = λ is. refl }
-
-pub failed_within : (line : ScriptLine) (old new : Option (List ℕ)) (end : End) (text : List ℕ) → text ≡ journal_text line → TakesPrefix old new text → (end ≡ Journal → ⊥) → (end ≡ NoMemory → ⊥) → StopsWithFailure line old new end
-failed_within line old new end text is h not not_memory = record {
-  front = take h.0 text;
+-- a write that failed took a part
+pub part_of_prefix : (old new : Option (List ℕ)) (bytes text : List ℕ) → bytes ≡ text → TakesPrefix old new bytes → TakesPart old new text
+part_of_prefix old new bytes text is h = record {
+  front = take h.0 bytes;
+  rest = drop h.0 bytes;
+  whole = take-append-drop h.0 bytes ∙ is;
+  more = omega (arith, h.1, length-drop h.0 bytes);
   taken = h.2;
-  begins = subst (IsFront (take h.0 text)) is (some_front h.0 text);
-  journal = λ journal. absurd (not journal);
-  memory = λ memory. absurd (not_memory memory);
 }
 
--- ---- what a line leaves where the device doesn't fail
+pub keeps_same : (taken : Option (List ℕ)) → Keeps taken taken
+keeps_same None = tt
+keeps_same (Some bytes) = refl
 
-module _ {D : Type 0} (seen : D → ℕ → List ℕ) (may_leave : D → ℕ → List ℕ → Type 0) (before after_ next : Site) (new : D) where
-  -- the manager went on with one of the two sites
-  pub settles : IsLawful next → (next ≡ before) ⊎ (next ≡ after_) → IsAtRest seen may_leave next.bodies new → IsSiteOf seen may_leave before new ⊎ IsSiteOf seen may_leave after_ new
-  settles lawful either rest =
-      let is = site_at_rest seen may_leave next new lawful rest in
-      ⊎_elim (λ same. inl (subst (λ (s : Site). IsSiteOf seen may_leave s new) same is)) (λ same. inr (subst (λ (s : Site). IsSiteOf seen may_leave s new) same is)) either
+-- ---- what steps leave
 
--- a device whose count stands failed nowhere
-pub quiet : (old mid now : ℕ) → Rose old mid → mid ≤ now → IsWithoutFault old now → ⊥
-quiet old mid now rose no_fewer without = omega (arith, rose without.1, no_fewer, without.0)
+module _ {D : Type 0} (m : Meaning D) where
+  -- the other files stay over all steps
+  pub steps_keep_others : (site : Site) (steps : List Step) (old new : Outside D) → MakesSteps m site steps old new → OthersStay m old.device new.device
+  steps_keep_others site [] old new same = subst (λ (o : Outside D). OthersStay m old.device o.device) (sym same) (record { reads = λ f le other. refl; no_more = λ f c le other left. left })
+  steps_keep_others site (step ∷ steps) old new made =
+      let rest = steps_keep_others step.after steps made.0 new made.1.1 in
+      let one = made.1.0.device.others in
+      record {
+        reads = λ f le other. rest.reads f le other ∙ one.reads f le other;
+        no_more = λ f c le other left. one.no_more f c le other (rest.no_more f c le other left);
+      }
 
--- the end of a run at a failed disk has that of its line as its cause
-pub failed_disk : (end : ServeEnd) (P : Type 0) → (IsErrOf {T = Unit {0}} (Err end) serve.Journal → P) → end_of end ≡ Journal → P
-failed_disk serve.Journal P cause is = cause refl
-failed_disk serve.Write P cause is = cc
-failed_disk serve.NoMemory P cause is = cc
+  -- and no fault was counted
+  pub steps_are_quiet : (site : Site) (steps : List Step) (old new : Outside D) → MakesSteps m site steps old new → IsQuiet m old.device new.device
+  steps_are_quiet site [] old new same = ap (λ (o : Outside D). m.faults o.device) same
+  steps_are_quiet site (step ∷ steps) old new made = steps_are_quiet step.after steps made.0 new made.1.1 ∙ made.1.0.quiet
+
+  pub others_on : (old mid new : D) → OthersStay m old mid → OthersStay m mid new → OthersStay m old new
+  others_on old mid new first second = record {
+    reads = λ f le other. second.reads f le other ∙ first.reads f le other;
+    no_more = λ f c le other left. first.no_more f c le other (second.no_more f c le other left);
+  }
+
+  pub others_of : (old new : D) → KeepsOthers m 1 old new → OthersStay m old new
+  others_of old new kept = record { reads = kept.reads; no_more = kept.no_more }
+
+  pub looks_keep_others : (old new : D) → OnlyLooks m old new → OthersStay m old new
+  looks_keep_others old new looks = record { reads = λ f le other. looks.reads f le; no_more = λ f c le other left. looks.no_more f c le left }
+
+-- ---- the sink's faults
+
+-- what was counted at a line was counted since the first
+pub counts_on : (first old new : ℕ) (end : ServeEnd) → old ≡ first → CountsSink {T = ℕ} old new (Err end) → CountsSink {T = ℕ} first new (Err end)
+counts_on first old new ends.Write same counted = subst (λ (n : ℕ). SinkRose n new) same counted
+counts_on first old new ends.Journal same counted = counted ∙ same
+counts_on first old new ends.NoMemory same counted = counted ∙ same

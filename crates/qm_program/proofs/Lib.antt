@@ -1,5 +1,7 @@
 pub mod Parts
-pub mod Served
 pub mod Going
+pub mod Served
+pub mod Serving
+pub mod Surviving
+pub mod Ending
 pub mod FirstJob
-pub mod Opened

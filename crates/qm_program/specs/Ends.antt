@@ -3,6 +3,10 @@ use Rattle.std.specs.Prelude.{ℕ, List, [], ◌++◌, codes, decimal}
 use Rattle.qm_kinds.specs.Words.{script_kind_text}
 use Rattle.qm_program.specs.declared.outcome.End.{End}
 use Rattle.qm_program.specs.declared.outcome.End.TheVariants as ends
+use Rattle.qm_glog.specs.declared.fault.MakeFault.{MakeFault}
+use Rattle.qm_glog.specs.declared.fault.MakeFault.TheVariants as init
+use Rattle.qm_glog.specs.declared.fault.OpenFault.{OpenFault}
+use Rattle.qm_glog.specs.declared.fault.OpenFault.TheVariants as opening
 use Rattle.qm_program.specs.declared.serve.ServeEnd.{ServeEnd}
 use Rattle.qm_program.specs.declared.serve.ServeEnd.TheVariants as serve
 
@@ -34,3 +38,15 @@ abbrev pub end_of : ServeEnd → End
 end_of serve.Journal = ends.Journal
 end_of serve.Write = ends.Write
 end_of serve.NoMemory = ends.NoMemory
+
+-- the end of a run whose queue file can't be opened
+abbrev pub end_of_opening : OpenFault → End
+end_of_opening opening.Disk = ends.Journal
+end_of_opening (opening.Unformatted byte) = ends.Unformatted byte
+end_of_opening (opening.Damaged file place) = ends.Damaged file place
+end_of_opening opening.NoMemory = ends.NoMemory
+
+-- the end where no queue file could be made
+abbrev pub end_of_making : MakeFault → End
+end_of_making init.Disk = ends.Journal
+end_of_making init.NoMemory = ends.NoMemory

@@ -1,7 +1,8 @@
 pub mod Lines
 pub mod Ends
+pub mod Task
 pub mod Transcript
-pub mod Serving
-pub mod Taking
-pub mod Running
 pub mod Course
+pub mod Serving
+pub mod Running
+pub mod Surviving

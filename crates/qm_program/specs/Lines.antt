@@ -3,8 +3,7 @@ use Rattle.std.specs.Prelude.{◌≡◌, ◌+◌, ◌==◌, ℕ, List, [], ◌�
 use Rattle.std.specs.Borrow.{Bor}
 use Rattle.std.specs.List.{slice_split}
 use Rattle.qm_kinds.specs.declared.script.ScriptKind.{ScriptKind}
-use Rattle.std.specs.Option.{option_map_or}
-use Rattle.qm_model.specs.Script.{ScriptLine, Sort, Command, Site, node_name_of}
+use Rattle.qm_model.specs.Script.{ScriptLine, Sort, Command, Site}
 use Rattle.qm_program.specs.declared.script.Sort.{Sort as CodeSort}
 use Rattle.qm_program.specs.declared.script.Sort.TheVariants as code
 use Rattle.qm_program.specs.declared.script.Line.{Line}
@@ -15,12 +14,8 @@ abbrev pub sort_view : CodeSort → Sort
 sort_view code.Command = Command
 sort_view code.Site = Site
 
--- the name of a node as a line has it, raised; none stands for a name that is none
-abbrev pub node_in : List ℕ → List ℕ
-node_in who = option_map_or (λ name. name) (node_name_of who) []
-
 abbrev pub line_view : Line → ScriptLine
-line_view l = record { number = l.number; node = node_in l.who.now; sort = sort_view l.sort; text = l.text.now }
+line_view l = record { number = l.number; node = l.node; sort = sort_view l.sort; text = l.text.now }
 
 abbrev pub lines_view : List Line → List ScriptLine
 lines_view = map line_view

@@ -1,99 +1,30 @@
--- What the program's words ask for, and what a run reads, writes and leaves on the disk.
-use Rattle.std.specs.Prelude.{◌≡◌, ◌≢◌, ◌⊎◌, ◌<◌, ◌≤◌, ◌-◌, ◌^◌, ℕ, Bool, true, false, if◌then◌else◌, List, [], ◌∷◌, ◌++◌, codes, Option, None, IfSome, IsSome, IsTrue, map, Ok, Err}
-use Rattle.std.specs.Cmp.Lexicographic.{pointwise}
-use Rattle.std.specs.Str.{bytes_eq}
-use Rattle.std.specs.Io.KnownBytes.{Appends, Keeps}
-use Rattle.qm_disk.specs.Disk.{Image, IsLeft}
+-- What a run, and the making of a queue file, leave of the source, the sink and the device, by their end.
+use Rattle.std.specs.Prelude.{◌≡◌, ◌≢◌, ◌⊎◌, ◌<◌, ◌≤◌, ◌-◌, ◌^◌, ℕ, Bool, true, false, List, Option, None, Some, IfSome, IsSome, IsTrue, Ok, Err}
+use Rattle.std.specs.Io.KnownBytes.{Appends, Keeps, IsAtEnd}
+use Rattle.qm_disk.specs.Disk.{Meaning}
+use Rattle.qm_disk.specs.Disk.{LeavesOnly, OthersLeft, IsQuiet}
+use Rattle.qm_io.specs.Faults.{Rose, counted}
+use Rattle.qm_disk.specs.Disk.{OnlyLooks}
+use Rattle.qm_store.specs.Opened.{first_byte}
 use Rattle.qm_kinds.specs.declared.script.ScriptKind.{ScriptKind}
 use Rattle.qm_kinds.specs.declared.script.ScriptKind.TheVariants.{Node}
-use Rattle.qm_model.specs.Script.{ScriptLine, script_of, node_name_of, are_of_node}
-use Rattle.qm_model.specs.First.{first_system}
-use Rattle.qm_record.specs.Spelling.{record_text}
-use Rattle.qm_manager.specs.Asking.{Site}
-use Rattle.qm_manager.specs.Opened.{IsSite}
-use Rattle.qm_manager.specs.QueueFile.{first_rows}
+use Rattle.qm_model.specs.Script.{ScriptLine, script_of, are_of_node}
+use Rattle.qm_manager.specs.Site.{Site, IsSite, IsSiteOf, new_site}
+use Rattle.qm_manager.specs.Opened.{IsDamagedFile}
 use Rattle.qm_manager.specs.Restoring.{HasNode}
-use Rattle.qm_program.specs.Serving.{LeavesSite, StopsWithin, Reaches}
-use Rattle.qm_program.specs.Transcript.{after, transcript}
-use Rattle.qm_manager.specs.declared.fault.OpenFault.{OpenFault}
-use Rattle.qm_manager.specs.declared.fault.OpenFault.TheVariants as fault
+use Rattle.qm_program.specs.Transcript.{Step, steps_of}
+use Rattle.qm_program.specs.Task.{initialized}
+use Rattle.qm_program.specs.Course.{Outside, TakesPart, MakesSteps, StopsWithin, ServesNothing}
 use Rattle.qm_program.specs.declared.outcome.End.{End}
 use Rattle.qm_program.specs.declared.outcome.End.TheVariants as ends
+use Rattle.qm_program.specs.declared.task.Task.{Task}
+use Rattle.qm_program.specs.declared.task.Task.TheVariants.{Run, Init}
 
--- the words that ask for a run of a script
-abbrev pub are_run_words : List (List ℕ) → Bool
-are_run_words words = pointwise bytes_eq words (codes "run" ∷ [])
-
--- the node of the site whose queue file the words ask to make
-abbrev pub node_to_make : List (List ℕ) → Option (List ℕ)
-node_to_make [] = None
-node_to_make (word ∷ []) = None
-node_to_make (word ∷ node ∷ []) = if bytes_eq word (codes "init") then node_name_of node else None
-node_to_make (word ∷ node ∷ other ∷ others) = None
-
--- what is printed once the files are made
-abbrev pub initialized : List ℕ
-initialized = codes "initialized" ++ 10 ∷ []
+-- ---- what was read
 
 -- the text is what a source had left, where that is told
 abbrev pub IsRead : Option (List ℕ) → List ℕ → Type 0
 IsRead left text = IfSome left (λ bytes. bytes ≡ text)
-
--- the files other than the queue file read as before, and a crash leaves nothing else of them than it might before
-pub record OthersStay {D : Type 0} (seen : D → ℕ → List ℕ) (may_leave : D → ℕ → List ℕ → Type 0) (old new : D) : Type 0 where
-  pub reads : (f : ℕ) → f ≤ 2 → f ≢ 1 → seen new f ≡ seen old f
-  pub no_more : (f : ℕ) (c : List ℕ) → f ≤ 2 → f ≢ 1 → may_leave new f c → may_leave old f c
-
--- nothing was served: the sink took nothing, and the files are as they were
-pub record IsUnserved {D : Type 0} (seen : D → ℕ → List ℕ) (may_leave : D → ℕ → List ℕ → Type 0) (old new : Option (List ℕ)) (before after : D) : Type 0 where
-  pub taken : Keeps old new
-  pub reads : (f : ℕ) → f ≤ 2 → seen after f ≡ seen before f
-  pub no_more : (f : ℕ) (c : List ℕ) → f ≤ 2 → may_leave after f c → may_leave before f c
-
--- the site and its one node are those of the queue file, where its content is told
-pub record IsFound (tells : Bool) (file : List ℕ) (site : Site) (node : List ℕ) : Type 0 where
-  pub told : IsTrue tells → IsSite file site
-  pub one_node : HasNode node site.system
-
--- these are a script's lines for the site of a queue file
-pub record IsServable (tells : Bool) (file : List ℕ) (lines : List ScriptLine) (site : Site) : Type 0 where
-  pub node : List ℕ
-  pub found : IsFound tells file site node
-  pub for_node : are_of_node node lines ≡ true
-
--- a line is of another node than that of the queue file
-pub record IsForAnother (tells : Bool) (file : List ℕ) (lines : List ScriptLine) : Type 0 where
-  pub site : Site
-  pub node : List ℕ
-  pub found : IsFound tells file site node
-  pub another : are_of_node node lines ≡ false
-
--- what a crash in a run over these lines leaves: what it might leave before, or the site after some of the lines
-abbrev pub Survives : (ℕ → List ℕ → Type 0) → List ℕ → List ScriptLine → Image → Type 0
-Survives may_leave file lines image = IsLeft may_leave image ⊎ ((site : Site) × IsSite file site × Reaches may_leave site lines image)
-
--- the queue file is that of this site, as it reads and in each image that a crash may leave
-pub record IsSiteOf {D : Type 0} (seen : D → ℕ → List ℕ) (may_leave : D → ℕ → List ℕ → Type 0) (site : Site) (disk : D) : Type 0 where
-  pub reads : IsSite (seen disk 1) site
-  pub crash : LeavesSite (may_leave disk) site
-
--- the site that is made for a node
-abbrev pub new_site : List ℕ → Site
-new_site node = record { system = first_system node; bodies = map record_text (first_rows node) }
-
--- A run that was served whole: the sink took the transcript, and the queue file is that of the site after it, which no crash
--- can take away.
-pub record IsServed {D : Type 0} (tells : Bool) (seen : D → ℕ → List ℕ) (may_leave : D → ℕ → List ℕ → Type 0) (file : List ℕ) (lines : List ScriptLine) (old new : Option (List ℕ)) (disk : D) : Type 0 where
-  pub site : Site
-  pub servable : IsServable tells file lines site
-  pub taken : Appends old new (transcript site lines)
-  pub left : IsTrue tells → IsSiteOf seen may_leave (after site lines) disk
-
--- a run that stopped at a line
-pub record IsStopped (tells : Bool) (may_leave : ℕ → List ℕ → Type 0) (file : List ℕ) (lines : List ScriptLine) (old new : Option (List ℕ)) (end : End) : Type 0 where
-  pub site : Site
-  pub servable : IsServable tells file lines site
-  pub stops : StopsWithin tells may_leave site lines old new end
 
 -- what a source had left is a script whose lines are so
 pub record OfScript (left : Option (List ℕ)) (P : List ScriptLine → Type 0) : Type 0 where
@@ -103,13 +34,135 @@ pub record OfScript (left : Option (List ℕ)) (P : List ScriptLine → Type 0) 
   pub script : script_of text ≡ Ok lines
   pub so : P lines
 
--- what a crash in a run leaves: what it might leave before, or the site after some of the lines of the script
-abbrev pub SurvivesRun : Option (List ℕ) → (ℕ → List ℕ → Type 0) → List ℕ → Image → Type 0
-SurvivesRun left may_leave file image = IsLeft may_leave image ⊎ OfScript left (λ lines. (site : Site) × IsSite file site × Reaches may_leave site lines image)
+-- what a source had left is a script
+abbrev pub HasScript : Option (List ℕ) → Type 0
+HasScript left = OfScript left (λ lines. Unit {0})
+
+-- ---- what is served
+
+-- the site and its one node are those of the queue file, where its content is told
+pub record IsFound (tells : Bool) (file : List ℕ) (site : Site) (node : List ℕ) : Type 0 where
+  pub told : IsTrue tells → IsSite file site
+  pub one_node : HasNode node site.system
+
+-- a line is of another node than that of the queue file
+pub record IsForAnother (tells : Bool) (file : List ℕ) (lines : List ScriptLine) : Type 0 where
+  pub site : Site
+  pub node : List ℕ
+  pub found : IsFound tells file site node
+  pub another : are_of_node node lines ≡ false
+
+module _ {D : Type 0} (m : Meaning D) where
+  -- The queue file of a site was opened, and the device only looked at and didn't fail; every line is of the site's node. Then the file is
+  -- that of the site, as it reads and in each image that a crash may leave, and the steps of the lines go on from there.
+  pub record Serves (goes : Site → List Step → Outside D → Outside D → Type 0) (old new : Outside D) (lines : List ScriptLine) : Type 0 where
+    pub site : Site
+    pub node : List ℕ
+    pub found : IsFound m.tells (m.seen old.device 1) site node
+    pub for_node : are_of_node node lines ≡ true
+    pub opened : D
+    pub opening : OnlyLooks m old.device opened
+    pub quiet : IsQuiet m old.device opened
+    pub at_rest : IsTrue m.tells → IsSiteOf m site opened
+    pub serving : goes site (steps_of site lines) (record { device = opened; taken = old.taken }) new
+
+  -- a run over the script that a source had left, whose steps go on so
+  abbrev pub ServesScript : Option (List ℕ) → (Site → List Step → Outside D → Outside D → Type 0) → Outside D → Outside D → Type 0
+  ServesScript left goes old new = OfScript left (Serves goes old new)
+
+  -- What serving these lines leaves, by its end.
+  abbrev pub ServesTo : List ScriptLine → Outside D → Outside D → End → Type 0
+  ServesTo lines old new ends.Ok = Serves (MakesSteps m) old new lines
+  ServesTo lines old new ends.Usage = ⊥
+  ServesTo lines old new ends.Read = ⊥
+  ServesTo lines old new (ends.Script line kind) = ServesNothing m old new × (kind ≡ Node)
+  ServesTo lines old new ends.Write = Serves (StopsWithin m ends.Write) old new lines
+  ServesTo lines old new ends.Journal = ServesNothing m old new ⊎ Serves (StopsWithin m ends.Journal) old new lines
+  ServesTo lines old new (ends.Unformatted byte) = ServesNothing m old new
+  ServesTo lines old new (ends.Damaged file place) = ServesNothing m old new
+  ServesTo lines old new ends.NoMemory = ServesNothing m old new ⊎ Serves (StopsWithin m ends.NoMemory) old new lines
+
+  -- What a run leaves, by its end. At Ok the source is at its end and all steps were made. At Read, and at Script for another
+  -- reason than the node of a line, the device wasn't looked at. At Journal and NoMemory either nothing was served, or
+  -- the run stopped within its steps; at Write it did.
+  abbrev pub RunsTo : Option (List ℕ) → Option (List ℕ) → Outside D → Outside D → End → Type 0
+  RunsTo left rest old new ends.Ok = IsAtEnd rest × ServesScript left (MakesSteps m) old new
+  RunsTo left rest old new ends.Usage = ⊥
+  RunsTo left rest old new ends.Read = new ≡ old
+  RunsTo left rest old new (ends.Script line kind) = ServesNothing m old new × (kind ≢ Node → new ≡ old)
+  RunsTo left rest old new ends.Write = ServesScript left (StopsWithin m ends.Write) old new
+  RunsTo left rest old new ends.Journal = (ServesNothing m old new × HasScript left) ⊎ ServesScript left (StopsWithin m ends.Journal) old new
+  RunsTo left rest old new (ends.Unformatted byte) = ServesNothing m old new × HasScript left
+  RunsTo left rest old new (ends.Damaged file place) = ServesNothing m old new × HasScript left
+  RunsTo left rest old new ends.NoMemory = ServesNothing m old new ⊎ ServesScript left (StopsWithin m ends.NoMemory) old new
+
+  -- What the making of a queue file leaves, by its end. At Ok and at Write the file is that of a new site of the node. At
+  -- Journal it may hold anything. At NoMemory the device is as it was.
+  abbrev pub MakesTo : List ℕ → Outside D → Outside D → End → Type 0
+  MakesTo node old new ends.Ok = (IsTrue m.tells → IsSiteOf m (new_site node) new.device) × Appends old.taken new.taken initialized
+  MakesTo node old new ends.Write = IsQuiet m old.device new.device × (IsTrue m.tells → IsSiteOf m (new_site node) new.device) × TakesPart old.taken new.taken initialized
+  MakesTo node old new ends.Journal = Keeps old.taken new.taken
+  MakesTo node old new ends.NoMemory = new ≡ old
+  MakesTo node old new ends.Usage = ⊥
+  MakesTo node old new ends.Read = ⊥
+  MakesTo node old new (ends.Script line kind) = ⊥
+  MakesTo node old new (ends.Unformatted byte) = ⊥
+  MakesTo node old new (ends.Damaged file place) = ⊥
+
+  -- A crash at any moment of the making of a queue file leaves of the other files what a crash before it might.
+  pub record Makes (node : List ℕ) (old new : Outside D) (end : End) : Type 0 where
+    pub leaves : MakesTo node old new end
+    pub any_moment : IsTrue m.tells → LeavesOnly m old.device new.device (OthersLeft (m.may_leave old.device) 1)
+
+  -- What the program does, by what its words ask for. Words that ask for nothing touch nothing, and a run alone reads.
+  abbrev pub Does : {S : Type 0} → (S → Option (List ℕ)) → Option Task → S → S → Outside D → Outside D → End → Type 0
+  Does remaining None source rest old new end = (rest ≡ source) × (new ≡ old)
+  Does remaining (Some Run) source rest old new end = RunsTo (remaining source) (remaining rest) old new end
+  Does remaining (Some (Init node)) source rest old new end = (rest ≡ source) × Makes node old new end
+
+  -- the files other than the queue file read as before, and a crash leaves nothing else of them than it might before
+  pub record OthersStay (old new : D) : Type 0 where
+    pub reads : (f : ℕ) → f ≤ 2 → f ≢ 1 → m.seen new f ≡ m.seen old f
+    pub no_more : (f : ℕ) (c : List ℕ) → f ≤ 2 → f ≢ 1 → m.may_leave new f c → m.may_leave old f c
+
+-- ---- causes
+
+-- how often the source, the sink and the device have failed
+pub record Counts : Type 0 where
+  pub source : ℕ
+  pub sink : ℕ
+  pub device : ℕ
 
 -- what was read is no script, or a line is of another node than that of the queue file
-abbrev pub IsFaulty : Bool → List ℕ → ScriptKind → List ℕ → Type 0
-IsFaulty tells file kind text = (script_of text ≡ Err kind) ⊎ ((kind ≡ Node) × ((lines : List ScriptLine) × (script_of text ≡ Ok lines) × IsForAnother tells file lines))
+abbrev pub IsFaultyText : Bool → List ℕ → ScriptKind → List ℕ → Type 0
+IsFaultyText tells file kind text = (script_of text ≡ Err kind) ⊎ ((kind ≡ Node) × ((lines : List ScriptLine) × (script_of text ≡ Ok lines) × IsForAnother tells file lines))
+
+-- what a source had left, where that is told, is such a text
+abbrev pub IsFaulty : Bool → List ℕ → Option (List ℕ) → ScriptKind → Type 0
+IsFaulty tells file left kind = IfSome left (IsFaultyText tells file kind)
+
+-- a line of a script is of another node
+abbrev pub IsOfAnother : Bool → List ℕ → List ScriptLine → ScriptKind → Type 0
+IsOfAnother tells file lines kind = (kind ≡ Node) × IsForAnother tells file lines
+
+-- Each end has its cause: a count rises only where the end says so, and the device's by one. At Write of a run the device may
+-- have failed before the sink did; what the run leaves says whether it did.
+abbrev pub HasCause : Bool → List ℕ → (ScriptKind → Type 0) → Counts → Counts → End → Type 0
+HasCause tells file Faulty old new ends.Ok = new ≡ old
+HasCause tells file Faulty old new ends.Usage = new ≡ old
+HasCause tells file Faulty old new (ends.Script line kind) = (new ≡ old) × (line ≡ 0) × Faulty kind
+HasCause tells file Faulty old new ends.Read = Rose old.source new.source × (new.sink ≡ old.sink) × (new.device ≡ old.device)
+HasCause tells file Faulty old new ends.Write = Rose old.sink new.sink × (new.source ≡ old.source) × ((new.device ≡ old.device) ⊎ (new.device ≡ counted old.device))
+HasCause tells file Faulty old new ends.Journal = (new.device ≡ counted old.device) × (new.source ≡ old.source) × (new.sink ≡ old.sink)
+HasCause tells file Faulty old new (ends.Unformatted byte) = (new ≡ old) × (IsTrue tells → (byte ≡ first_byte file) × (byte ≢ 1))
+HasCause tells file Faulty old new (ends.Damaged f place) = (new ≡ old) × (IsTrue tells → (f ≡ 1) × IsDamagedFile file place)
+HasCause tells file Faulty old new ends.NoMemory = new ≡ old
+
+-- ---- completeness
+
+-- no fault was counted, and the count could have risen
+abbrev pub IsWithoutFault : ℕ → ℕ → Type 0
+IsWithoutFault before now = (now ≡ before) × (before < 2 ^ 64 - 1)
 
 -- the file is a queue file, and every line is of its node
 pub record IsSound (file : List ℕ) (lines : List ScriptLine) : Type 0 where
@@ -120,83 +173,3 @@ pub record IsSound (file : List ℕ) (lines : List ScriptLine) : Type 0 where
 -- a source tells that it has a script, for the site of this queue file
 abbrev pub HasSoundScript : Option (List ℕ) → List ℕ → Type 0
 HasSoundScript left file = IsSome left × OfScript left (IsSound file)
-
--- ends that come before a line is served
-abbrev pub IsBeforeServing : End → Type 0
-IsBeforeServing ends.Usage = Unit {0}
-IsBeforeServing ends.Read = Unit {0}
-IsBeforeServing (ends.Script line kind) = Unit {0}
-IsBeforeServing (ends.Unformatted byte) = Unit {0}
-IsBeforeServing (ends.Damaged file place) = Unit {0}
-IsBeforeServing ends.Ok = ⊥
-IsBeforeServing ends.Write = ⊥
-IsBeforeServing ends.Journal = ⊥
-IsBeforeServing ends.NoMemory = ⊥
-
--- ends that come before the device is looked at
-abbrev pub IsBeforeOpening : End → Type 0
-IsBeforeOpening ends.Usage = Unit {0}
-IsBeforeOpening ends.Read = Unit {0}
-IsBeforeOpening (ends.Script line kind) = kind ≢ Node
-IsBeforeOpening ends.Ok = ⊥
-IsBeforeOpening ends.Write = ⊥
-IsBeforeOpening ends.Journal = ⊥
-IsBeforeOpening (ends.Unformatted byte) = ⊥
-IsBeforeOpening (ends.Damaged file place) = ⊥
-IsBeforeOpening ends.NoMemory = ⊥
-
--- ends of a run that come once what was read is known to be a script
-abbrev pub IsAfterScript : End → Type 0
-IsAfterScript ends.Ok = Unit {0}
-IsAfterScript ends.Write = Unit {0}
-IsAfterScript ends.Journal = Unit {0}
-IsAfterScript (ends.Unformatted byte) = Unit {0}
-IsAfterScript (ends.Damaged file place) = Unit {0}
-IsAfterScript _ = ⊥
-
--- what a source had left is a script
-abbrev pub HasScript : Option (List ℕ) → Type 0
-HasScript left = OfScript left (λ lines. Unit {0})
-
--- ends that may come at a line
-abbrev pub IsWithinServing : End → Type 0
-IsWithinServing ends.Write = Unit {0}
-IsWithinServing ends.Journal = Unit {0}
-IsWithinServing ends.NoMemory = Unit {0}
-IsWithinServing ends.Ok = ⊥
-IsWithinServing ends.Usage = ⊥
-IsWithinServing ends.Read = ⊥
-IsWithinServing (ends.Script line kind) = ⊥
-IsWithinServing (ends.Unformatted byte) = ⊥
-IsWithinServing (ends.Damaged file place) = ⊥
-
--- no fault was counted, and the count could have risen
-abbrev pub IsWithoutFault : ℕ → ℕ → Type 0
-IsWithoutFault before now = (now ≡ before) × (before < 2 ^ 64 - 1)
-
--- the making of a queue file has these ends
-abbrev pub IsEndOfMaking : End → Type 0
-IsEndOfMaking ends.Ok = Unit {0}
-IsEndOfMaking ends.Write = Unit {0}
-IsEndOfMaking ends.Journal = Unit {0}
-IsEndOfMaking ends.NoMemory = Unit {0}
-IsEndOfMaking _ = ⊥
-
--- the making of a queue file failed
-abbrev pub IsUnmade : End → Type 0
-IsUnmade ends.Journal = Unit {0}
-IsUnmade ends.NoMemory = Unit {0}
-IsUnmade _ = ⊥
-
--- serving has these ends
-abbrev pub IsEndOfServing : End → Type 0
-IsEndOfServing ends.Usage = ⊥
-IsEndOfServing ends.Read = ⊥
-IsEndOfServing _ = Unit {0}
-
--- the end of a run whose queue file can't be opened
-abbrev pub open_end : OpenFault → End
-open_end fault.Disk = ends.Journal
-open_end (fault.Unformatted byte) = ends.Unformatted byte
-open_end (fault.Damaged file place) = ends.Damaged file place
-open_end fault.NoMemory = ends.NoMemory

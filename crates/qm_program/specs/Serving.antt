@@ -1,95 +1,68 @@
--- What holds while a script is served.
-use Rattle.std.specs.Prelude.{◌≡◌, ◌⊎◌, ◌<◌, ℕ, Bool, IsTrue, List, [], ◌∷◌, ◌++◌, length, Option}
-use Rattle.std.specs.List.{AllByRecursion}
+-- What answering a line leaves of the manager.
+use Rattle.std.specs.Prelude.{◌≡◌, ◌⊎◌, ℕ, true, List, [], ◌∷◌, flat_map, Option, Result, Ok, Err}
 use Rattle.std.specs.Io.KnownBytes.{Appends}
-use Rattle.qm_disk.specs.Disk.{Image, IsLeft, OthersLeft}
 use Rattle.qm_kinds.specs.declared.input.Input.{Input}
 use Rattle.qm_kinds.specs.declared.input.Input.TheVariants.{Ask, Show, Fault}
-use Rattle.qm_kinds.specs.declared.system.System.{System}
+use Rattle.qm_model.specs.Built.{is_built}
 use Rattle.qm_model.specs.Listing.{IsOfOneEntry}
-use Rattle.qm_model.specs.Script.{ScriptLine}
-use Rattle.qm_model.specs.Words.{HasText}
-use Rattle.qm_manager.specs.Asking.{Site, IsAskable}
-use Rattle.qm_manager.specs.Opened.{IsSite}
-use Rattle.qm_program.specs.Transcript.{turn, after, transcript, answer_text, journal_line}
-use Rattle.qm_program.specs.declared.outcome.End.{End}
-use Rattle.qm_program.specs.declared.outcome.End.TheVariants.{Journal, NoMemory}
+use Rattle.qm_model.specs.Transcript.{line_text, journal_line}
+use Rattle.qm_show.specs.declared.answer.Prefix.{Prefix}
+use Rattle.qm_disk.specs.Disk.{Meaning, Rose, IsQuiet}
+use Rattle.qm_manager.specs.declared.manager.Manager.{Manager}
+use Rattle.qm_manager.specs.Site.{Site}
+use Rattle.qm_manager.specs.Asking.{Steps, HasShortLists}
+use Rattle.qm_manager.specs.Manager.{site_of, node_of, disk_of, IsReady}
+use Rattle.qm_program.specs.Course.{Outside, TakesPart}
+use Rattle.qm_io.specs.Faults.{Rose as SinkRose}
+use Rattle.qm_program.specs.declared.serve.ServeEnd.{ServeEnd}
+use Rattle.qm_program.specs.declared.serve.ServeEnd.TheVariants as ends
+use Rattle.qm_program.specs.declared.serve.AnswerFault.{AnswerFault}
+use Rattle.qm_program.specs.declared.serve.AnswerFault.TheVariants.{Disk, NoMemory}
 
--- each entry's status can be printed
-abbrev pub IsPrintable : System → Type 0
-IsPrintable s = AllByRecursion (λ e. HasText e.state) s.entries
+-- the device of a manager, beside what a sink took
+abbrev pub outside : {D : Type 0} → Manager D → Option (List ℕ) → Outside D
+outside manager taken = record { device = disk_of manager; taken = taken }
 
--- the inputs that a line can have so far
-abbrev pub IsAsked : Input → Type 0
-IsAsked (Ask request) = IsAskable request
-IsAsked (Show query) = IsOfOneEntry query
-IsAsked (Fault place kind) = Unit {0}
-IsAsked _ = ⊥
+-- lines of the transcript, each behind the node and the number of the script's line
+abbrev pub lines_behind : Prefix → List (List ℕ) → List ℕ
+lines_behind prefix lines = flat_map (line_text prefix.node prefix.line) lines
 
--- The queue file is that of the site before a line or after it; the other files are as a crash before the line may leave
--- them.
-pub record BeforeOrAfter (may_leave : ℕ → List ℕ → Type 0) (before after : Site) (image : Image) : Type 0 where
-  pub site : IsSite (image 1) before ⊎ IsSite (image 1) after
-  pub others : OthersLeft may_leave 1 image
+-- what can be asked of a manager
+abbrev pub IsAskable : Input → Type 0
+IsAskable (Ask request) = (is_built request ≡ true) × HasShortLists request
+IsAskable (Show query) = IsOfOneEntry query
+IsAskable (Fault place kind) = Unit {0}
+IsAskable _ = ⊥
 
--- bytes with which a text begins: none, some or all
-pub record IsFront (front text : List ℕ) : Type 0 where
-  pub rest : List ℕ
-  pub whole : front ++ rest ≡ text
+-- what says that the disk failed was made
+abbrev pub TellsFailure : Prefix → AnswerFault → Type 0
+TellsFailure prefix (Disk told) = told.items ≡ lines_behind prefix (journal_line ∷ [])
+TellsFailure prefix NoMemory = Unit {0}
 
--- first bytes of a text: none or some, but not all
-pub record IsPart (front text : List ℕ) : Type 0 where
-  pub rest : List ℕ
-  pub whole : front ++ rest ≡ text
-  pub more : 0 < length rest
+-- It was handed to a sink, which took it, or failed, and then took a part of it.
+abbrev pub TellsThrough : Option (List ℕ) → Option (List ℕ) → ℕ → ℕ → List ℕ → ServeEnd → Type 0
+TellsThrough old new before now told ends.Journal = Appends old new told × (now ≡ before)
+TellsThrough old new before now told ends.Write = TakesPart old new told × SinkRose before now
+TellsThrough old new before now told ends.NoMemory = ⊥
 
--- what the transcript has of a line at which the disk failed
-abbrev pub journal_text : ScriptLine → List ℕ
-journal_text line = answer_text line (journal_line ∷ [])
+module _ {D : Type 0} (m : Meaning D) where
+  -- The site that a line leaves which was answered. Where memory ran out it may have been done, and where the disk failed
+  -- the manager has to be given up.
+  abbrev pub LeavesSite : {X : Type 0} → Site → Site → Manager D → Manager D → Result X AnswerFault → Type 0
+  LeavesSite before after old new (Ok text) = IsReady m new × (site_of new ≡ after) × IsQuiet m (disk_of old) (disk_of new)
+  LeavesSite before after old new (Err NoMemory) =
+      IsReady m new × ((site_of new ≡ before) ⊎ (site_of new ≡ after)) × IsQuiet m (disk_of old) (disk_of new)
+  LeavesSite before after old new (Err (Disk told)) = Rose m (disk_of old) (disk_of new)
 
--- each image that a crash may leave has the queue file of this site
-abbrev pub LeavesSite : (ℕ → List ℕ → Type 0) → Site → Type 0
-LeavesSite may_leave site = (image : Image) → IsLeft may_leave image → IsSite (image 1) site
+  -- how a manager answers a line: a crash at any moment leaves the site from before it or from after it
+  pub record Serves {X : Type 0} (before after : Site) (old new : Manager D) (result : Result X AnswerFault) : Type 0 where
+    pub steps : Steps m before after (disk_of old) (disk_of new)
+    pub leaves : LeavesSite before after old new result
+    pub node : node_of new ≡ node_of old
 
--- How a line ends that isn't answered whole. The sink took a front of the line that says that the disk failed, and, where
--- nothing else failed, all of that; or it took a part of the answer, and then no crash can take away what the line changed.
--- Where memory ran out it took nothing of the line.
-pub record Stops (tells : Bool) (may_leave : ℕ → List ℕ → Type 0) (site : Site) (line : ScriptLine) (old new : Option (List ℕ)) (end : End) : Type 0 where
-  pub front : List ℕ
-  pub taken : Appends old new front
-  pub begins : IsFront front (journal_text line) ⊎ (IsPart front (answer_text line (turn site line).answer) × (IsTrue tells → LeavesSite may_leave (turn site line).site))
-  pub journal : end ≡ Journal → front ≡ journal_text line
-  pub memory : end ≡ NoMemory → front ≡ []
-
--- how the telling ends that the disk failed at a line
-pub record StopsWithFailure (line : ScriptLine) (old new : Option (List ℕ)) (end : End) : Type 0 where
-  pub front : List ℕ
-  pub taken : Appends old new front
-  pub begins : IsFront front (journal_text line)
-  pub journal : end ≡ Journal → front ≡ journal_text line
-  pub memory : end ≡ NoMemory → front ≡ []
-
--- each image that a crash may leave has the queue file of the site before a line or after it
-abbrev pub LeavesEither : (ℕ → List ℕ → Type 0) → Site → Site → Type 0
-LeavesEither may_leave before after = (image : Image) → IsLeft may_leave image → IsSite (image 1) before ⊎ IsSite (image 1) after
-
--- How serving ends before its last line: every line before one was answered whole, and that one wasn't. Each image that a
--- crash may leave now has the queue file of the site before that line or after it.
-pub record StopsWithin (tells : Bool) (may_leave : ℕ → List ℕ → Type 0) (site : Site) (lines : List ScriptLine) (old new : Option (List ℕ)) (end : End) : Type 0 where
-  pub answered : List ScriptLine
-  pub line : ScriptLine
-  pub behind : List ScriptLine
-  pub are : lines ≡ answered ++ line ∷ behind
-  pub middle : Option (List ℕ)
-  pub taken : Appends old middle (transcript site answered)
-  pub stops : Stops tells may_leave (after site answered) line middle new end
-  pub leaves : IsTrue tells → LeavesEither may_leave (after site answered) (turn (after site answered) line).site
-
--- The queue file is that of the site after some of the lines, the first of them, and the other files are as a crash before
--- may leave them.
-pub record Reaches (may_leave : ℕ → List ℕ → Type 0) (site : Site) (lines : List ScriptLine) (image : Image) : Type 0 where
-  pub answered : List ScriptLine
-  pub behind : List ScriptLine
-  pub are : lines ≡ answered ++ behind
-  pub left : IsSite (image 1) (after site answered)
-  pub others : OthersLeft may_leave 1 image
+-- the sink's count of faults rose where the sink failed, and else it stayed
+abbrev pub CountsSink : {T : Type 0} → ℕ → ℕ → Result T ServeEnd → Type 0
+CountsSink old new (Ok done) = new ≡ old
+CountsSink old new (Err ends.Write) = SinkRose old new
+CountsSink old new (Err ends.Journal) = new ≡ old
+CountsSink old new (Err ends.NoMemory) = new ≡ old

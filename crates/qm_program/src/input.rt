@@ -1,6 +1,6 @@
 // What a line of a script asks for.
 ghost use Rattle.std.specs.Prelude.{◌≡◌, IfOk};
-ghost use Rattle.qm_model.specs.Names.{system_user};
+ghost use Rattle.qm_kinds.specs.Names.{system_user};
 ghost use Rattle.qm_model.specs.Script.{input_of, or_not_built};
 ghost use Rattle.qm_model.specs.Command.{command_of};
 ghost use Rattle.qm_program.specs.Lines.{sort_view};
@@ -8,24 +8,16 @@ ghost use Rattle.qm_program.specs.Lines.{sort_view};
 use crate::act::read_act;
 use crate::script::{Line, Sort};
 use qm_dcl::{DclFault, read_command};
-use qm_kinds::{Input, Name};
+use qm_kinds::{Input, system_user};
 use std::alloc::{AllocError, Global};
 
-// The user of a line that names none.
-fn system_user() -> Name
-    ensures { result ≡ system_user }
-{
-    Name::read(b"SYSTEM").unwrap()
-}
-
 // A command that can't be read is a fault at its place.
-fn read_typed(alloc: Global, text: &[u8]) -> Result<Input, AllocError>
-    ensures { IfOk result (λ input. input ≡ or_not_built (command_of system_user text.now)) }
+fn read_typed(alloc: Global, text: &[u8]) -> Input
+    ensures { result ≡ or_not_built (command_of system_user text.now) }
 {
     match read_command(alloc, text, system_user()) {
-        Ok(input) => Ok(input),
-        Err(DclFault::At { place, kind }) => Ok(Input::Fault { place, kind }),
-        Err(DclFault::NoMemory) => Err(AllocError),
+        Ok(input) => input,
+        Err(DclFault { place, kind }) => Input::Fault { place, kind },
     }
 }
 
@@ -34,7 +26,7 @@ pub(crate) fn read_input(alloc: Global, line: &Line<'_>) -> Result<Input, AllocE
     ensures { IfOk result (λ input. input ≡ input_of (sort_view line.now.sort) line.now.text.now) }
 {
     match line.sort {
-        Sort::Command => read_typed(alloc, line.text),
+        Sort::Command => Ok(read_typed(alloc, line.text)),
         Sort::Site => read_act(alloc, line.text),
     }
 }

@@ -4,11 +4,16 @@
 
 mod act;
 mod input;
+mod laws;
 mod outcome;
-mod print;
 mod script;
 mod serve;
+mod task;
 mod top_call;
 
+pub use laws::{
+    a_crash_leaves_the_site_after_some_lines, a_run_that_ends_well_has_served_its_script,
+    steps_print_their_text,
+};
 pub use outcome::{End, Outcome};
 pub use top_call::qman;

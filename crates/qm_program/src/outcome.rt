@@ -1,8 +1,10 @@
 ghost use Rattle.std.specs.Prelude.{◌≡◌, Some};
-ghost use Rattle.qm_program.specs.Ends.{status_of, end_text};
+ghost use Rattle.qm_program.specs.Ends.{status_of, end_text, end_of, end_of_opening, end_of_making};
 
+use crate::serve::ServeEnd;
 use qm_disk::Disk;
 use qm_kinds::ScriptKind;
+use qm_manager::{MakeFault, OpenFault};
 use std::fmt;
 
 /// How the program ended.
@@ -44,6 +46,42 @@ impl End {
             End::Unformatted { .. } => 7,
             End::Damaged { .. } => 8,
             End::NoMemory => 10,
+        }
+    }
+}
+
+impl From<OpenFault> for End {
+    ghost from_gives = { λ fault end. end ≡ end_of_opening fault };
+
+    fn from(fault: OpenFault) -> End {
+        match fault {
+            OpenFault::Disk => End::Journal,
+            OpenFault::Unformatted { byte } => End::Unformatted { byte },
+            OpenFault::Damaged { file, place } => End::Damaged { file, place },
+            OpenFault::NoMemory => End::NoMemory,
+        }
+    }
+}
+
+impl From<MakeFault> for End {
+    ghost from_gives = { λ fault end. end ≡ end_of_making fault };
+
+    fn from(fault: MakeFault) -> End {
+        match fault {
+            MakeFault::Disk => End::Journal,
+            MakeFault::NoMemory => End::NoMemory,
+        }
+    }
+}
+
+impl From<ServeEnd> for End {
+    ghost from_gives = { λ fault end. end ≡ end_of fault };
+
+    fn from(fault: ServeEnd) -> End {
+        match fault {
+            ServeEnd::Journal => End::Journal,
+            ServeEnd::Write => End::Write,
+            ServeEnd::NoMemory => End::NoMemory,
         }
     }
 }

@@ -6,17 +6,14 @@ ghost use Rattle.std.specs.Str.{bytes_eq};
 ghost use Rattle.qm_kinds.specs.declared.script.ScriptKind.TheVariants.{Form};
 ghost use Rattle.qm_model.specs.Command.{cut_at_blank};
 ghost use Rattle.qm_model.specs.Script.{is_line_byte, node_name_of, sorted, line_of, script_of, are_of_node};
-ghost use Rattle.qm_program.specs.Lines.{node_in, line_view, lines_view, parts_view, CutsFirstLine, ReadsScript};
+ghost use Rattle.qm_program.specs.Lines.{line_view, lines_view, parts_view, CutsFirstLine, ReadsScript};
 ghost use Rattle.qm_program.specs.declared.script.ScriptEnd.TheVariants.{NoMemory};
 
-use qm_kinds::{Name, ScriptKind};
+use qm_kinds::{NODE_NAME_BYTES, Name, ScriptKind};
 use std::alloc::{AllocError, AllocFailed, Global};
 
 /// The most bytes that a script may have.
 pub(crate) const SCRIPT_BYTES: usize = 16_777_216;
-
-/// The most bytes of a node's name.
-const NODE_NAME_BYTES: usize = 6;
 
 #[derive(Clone, Copy, Debug, PartialEq, Eq)]
 pub(crate) enum Sort {
@@ -31,8 +28,8 @@ pub(crate) enum Sort {
 pub(crate) struct Line<'a> {
     /// Lines of the text are counted from 1, empty ones too.
     pub(crate) number: u32,
-    /// The name of the line's node, as it stands there.
-    pub(crate) who: &'a [u8],
+    /// The name of the line's node.
+    pub(crate) node: Name,
     pub(crate) sort: Sort,
     /// What stands behind the sort and a blank.
     pub(crate) text: &'a [u8],
@@ -94,19 +91,19 @@ fn is_of_line(text: &[u8]) -> bool
 }
 
 // A command that doesn't end in `-`, or an act.
-fn read_sorted<'a>(number: u32, who: &'a [u8], text: &'a [u8]) -> Option<Line<'a>>
-    ensures { option_map line_view result ≡ sorted number (node_in who.now) text.now }
+fn read_sorted(number: u32, node: Name, text: &[u8]) -> Option<Line<'_>>
+    ensures { option_map line_view result ≡ sorted number node text.now }
 {
     match text {
         [b'!', b' ', text @ ..] => Some(Line {
             number,
-            who,
+            node,
             sort: Sort::Site,
             text,
         }),
         [b'$', b' ', text @ ..] if !text.ends_with(b"-") => Some(Line {
             number,
-            who,
+            node,
             sort: Sort::Command,
             text,
         }),
@@ -132,18 +129,8 @@ fn read_line(number: u32, text: &[u8]) -> Option<Line<'_>>
         return None;
     }
     let (who, rest) = cut_at_blank(text)?;
-    read_node_name(who)?;
-    read_sorted(number, who, rest)
-}
-
-// Whether a line is of this node.
-fn is_of_node(node: Name, line: &Line<'_>) -> bool
-    ensures { result ≡ bytes_eq (line_view line.now).node node }
-{
-    match read_node_name(line.who) {
-        Some(name) => name == node,
-        None => false,
-    }
+    let node = read_node_name(who)?;
+    read_sorted(number, node, rest)
 }
 
 /// Whether every line is of this node.
@@ -151,7 +138,7 @@ pub(crate) fn are_of_node(node: &Name, lines: &[Line<'_>]) -> bool
     ensures { result ≡ are_of_node node.now (lines_view lines.now) }
 {
     for line in lines {
-        if !is_of_node(*node, line) {
+        if line.node != *node {
             return false;
         }
     }
@@ -171,7 +158,8 @@ pub(crate) fn read_script<'a>(alloc: Global, script: &'a [u8]) -> Result<Vec<Lin
             let Some(line) = read_line(number, text) else {
                 return Err(ScriptEnd::Fault(ScriptKind::Form));
             };
-            lines.push(line)?;
+            lines.reserve(1)?;
+            lines.push_reserved(line);
         }
         rest = more;
         number += 1;

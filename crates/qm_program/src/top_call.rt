@@ -1,47 +1,22 @@
 // The top call.
-ghost use Rattle.std.specs.Prelude.{◌≡◌, ◌≢◌, ◌≤◌, ◌⊎◌, ℕ, ◌↔◌, List, map, length, true, false, IsTrue, IfSome, None, Some};
-ghost use Rattle.std.specs.Io.KnownBytes.{Appends, Keeps, IsAtEnd};
+ghost use Rattle.std.specs.Prelude.{◌≡◌, ◌⊎◌, ◌≤◌, ◌↔◌, ℕ, List, map, length, IsTrue, None, Some};
 ghost use Rattle.std.specs.String.{string_bytes};
-ghost use Rattle.qm_disk.specs.Disk.{LeavesOnly, OthersLeft, Rose as DiskRose};
-ghost use Rattle.qm_io.specs.Faults.{Rose};
-ghost use Rattle.qm_kinds.specs.declared.script.ScriptKind.{ScriptKind};
-ghost use Rattle.qm_kinds.specs.declared.script.ScriptKind.TheVariants.{Node};
-ghost use Rattle.qm_store.specs.Opened.{first_byte};
-ghost use Rattle.qm_manager.specs.Opened.{IsDamagedFile};
-ghost use Rattle.qm_program.specs.Ends.{status_of, end_of};
+ghost use Rattle.qm_program.specs.Ends.{status_of};
 ghost use Rattle.qm_program.specs.Lines.{lines_view};
-ghost use Rattle.qm_program.specs.Taking.{TakesFront};
-ghost use Rattle.qm_program.specs.Course.{ServesOrNot, ServesRun};
-ghost use Rattle.qm_program.specs.Running.{are_run_words, node_to_make, open_end, initialized, OthersStay, IsServed, IsStopped, IsForAnother, IsFaulty, IsSound, OfScript, HasSoundScript, IsSiteOf, new_site, IsUnserved, Survives, SurvivesRun, IsBeforeOpening, IsAfterScript, HasScript, IsBeforeServing, IsWithinServing, IsUnmade, IsEndOfMaking, IsEndOfServing, IsWithoutFault};
+ghost use Rattle.qm_program.specs.Task.{task_of};
+ghost use Rattle.qm_program.specs.Course.{ServesNothing};
+ghost use Rattle.qm_program.specs.Running.{Does, RunsTo, ServesTo, Makes, OthersStay, HasCause, IsFaulty, IsOfAnother, IsWithoutFault, HasSoundScript};
+ghost use Rattle.qm_program.specs.declared.task.Task.TheVariants.{Run};
 
 use crate::outcome::{End, Outcome};
-use crate::script::{Line, SCRIPT_BYTES, ScriptEnd, are_of_node, read_node_name, read_script};
-use crate::serve::{ServeEnd, serve_lines};
+use crate::script::{Line, SCRIPT_BYTES, ScriptEnd, are_of_node, read_script};
+use crate::serve::serve_lines;
+use crate::task::{Task, read_task};
 use qm_disk::Disk;
 use qm_io::{ReadEnd, Sink, Source, read_whole, write_whole};
-use qm_kinds::{Name, ScriptKind};
-use qm_manager::{Manager, OpenFault, init};
+use qm_kinds::{NODE_NAME_BYTES, Name, ScriptKind};
+use qm_manager::{Manager, init};
 use std::alloc::Global;
-
-// Whether the words ask for a run of a script.
-fn is_run(words: &[String]) -> bool
-    ensures { result ≡ are_run_words (map string_bytes words.now) }
-{
-    match words {
-        [word] => word.as_str() == "run",
-        _ => false,
-    }
-}
-
-// The node of the site whose queue file the words ask to make.
-fn node_to_make(words: &[String]) -> Option<Name>
-    ensures { result ≡ node_to_make (map string_bytes words.now) }
-{
-    match words {
-        [word, node] if word.as_str() == "init" => read_node_name(node.as_bytes()),
-        _ => None,
-    }
-}
 
 // A script that can't be read, or can't be served here.
 fn script_end(kind: ScriptKind) -> End
@@ -50,51 +25,23 @@ fn script_end(kind: ScriptKind) -> End
     End::Script { line: 0, kind }
 }
 
-fn open_end(fault: OpenFault) -> End
-    ensures { result ≡ open_end fault }
-{
-    match fault {
-        OpenFault::Disk => End::Journal,
-        OpenFault::Unformatted { byte } => End::Unformatted { byte },
-        OpenFault::Damaged { file, place } => End::Damaged { file, place },
-        OpenFault::NoMemory => End::NoMemory,
-    }
-}
-
-fn serve_end(end: ServeEnd) -> End
-    ensures { result ≡ end_of end }
-{
-    match end {
-        ServeEnd::Journal => End::Journal,
-        ServeEnd::Write => End::Write,
-        ServeEnd::NoMemory => End::NoMemory,
-    }
-}
-
 // Makes the queue file of a new site.
 fn make<O: Sink, D: Disk>(alloc: Global, node: Name, sink: &mut O, disk: D) -> Outcome<D>
-    requires { length node ≤ 6 }
+    requires { length node ≤ NODE_NAME_BYTES }
 
     ensures status { result.status ≡ status_of result.end }
-    ensures ends { IsEndOfMaking result.end }
-    ensures ok { result.end ≡ End.Ok → Appends (O.taken sink.old) (O.taken sink.new) initialized
-        × (IsTrue D.tells → IsSiteOf D.seen D.may_leave (new_site node) result.disk) }
-    ensures front { TakesFront (O.taken sink.old) (O.taken sink.new) initialized }
-    ensures unmade { IsUnmade result.end → Keeps (O.taken sink.old) (O.taken sink.new) }
-    ensures untold { result.end ≡ End.Write → IsTrue D.tells → IsSiteOf D.seen D.may_leave (new_site node) result.disk }
-    ensures write { result.end ≡ End.Write → Rose (O.faults sink.old) (O.faults sink.new) }
-    ensures journal { result.end ≡ End.Journal → DiskRose (D.faults disk) (D.faults result.disk) }
-    ensures others { OthersStay D.seen D.may_leave disk result.disk }
-    ensures any_moment { IsTrue D.tells → LeavesOnly D.moment D.left_since disk result.disk (OthersLeft (D.may_leave disk) 1) }
-    ensures disk_faults { D.faults disk ≤ D.faults result.disk }
-    ensures never_falls { O.faults sink.old ≤ O.faults sink.new }
+    ensures cause { (file : List ℕ) (source : ℕ) → HasCause D.meaning.tells file (λ kind. ⊥)
+        (record { source = source; sink = O.faults sink.old; device = D.meaning.faults disk })
+        (record { source = source; sink = O.faults sink.new; device = D.meaning.faults result.disk }) result.end }
+    ensures makes { Makes D.meaning node (record { device = disk; taken = O.taken sink.old }) (record { device = result.disk; taken = O.taken sink.new }) result.end }
+    ensures others { OthersStay D.meaning disk result.disk }
 {
     match init(alloc, disk, node) {
         Ok(disk) => match write_whole(sink, b"initialized\n") {
             Ok(()) => Outcome::of(End::Ok, disk),
             Err(_) => Outcome::of(End::Write, disk),
         },
-        Err((disk, fault)) => Outcome::of(open_end(fault), disk),
+        Err((disk, fault)) => Outcome::of(End::from(fault), disk),
     }
 }
 
@@ -106,41 +53,23 @@ fn serve_site<O: Sink, D: Disk>(
     disk: D,
 ) -> Outcome<D>
     ensures status { result.status ≡ status_of result.end }
-    ensures ends { IsEndOfServing result.end }
-    ensures ok { result.end ≡ End.Ok → IsServed D.tells D.seen D.may_leave (D.seen disk 1) (lines_view lines.now)
-        (O.taken sink.old) (O.taken sink.new) result.disk }
-    ensures stopped { IsWithinServing result.end → IsUnserved D.seen D.may_leave (O.taken sink.old) (O.taken sink.new) disk result.disk
-        ⊎ IsStopped D.tells (D.may_leave result.disk) (D.seen disk 1) (lines_view lines.now) (O.taken sink.old) (O.taken sink.new) result.end }
-    ensures nothing { IsBeforeServing result.end → IsUnserved D.seen D.may_leave (O.taken sink.old) (O.taken sink.new) disk result.disk }
-
-    ensures script { (line : ℕ) (kind : ScriptKind) → result.end ≡ End.Script line kind
-        → (line ≡ 0) × (kind ≡ Node) × IsForAnother D.tells (D.seen disk 1) (lines_view lines.now) }
-    ensures unformatted { (byte : ℕ) → result.end ≡ End.Unformatted byte → IsTrue D.tells → (byte ≡ first_byte (D.seen disk 1)) × (byte ≢ 1) }
-    ensures damaged { (file place : ℕ) → result.end ≡ End.Damaged file place → IsTrue D.tells → (file ≡ 1) × IsDamagedFile (D.seen disk 1) place }
-    ensures write { result.end ≡ End.Write → Rose (O.faults sink.old) (O.faults sink.new) }
-    ensures journal { result.end ≡ End.Journal → DiskRose (D.faults disk) (D.faults result.disk) }
-
-    ensures any_moment { IsTrue D.tells → LeavesOnly D.moment D.left_since disk result.disk
-        (Survives (D.may_leave disk) (D.seen disk 1) (lines_view lines.now)) }
-    ensures line_by_line { IsTrue D.tells → ServesOrNot D.seen D.may_leave D.moment D.left_since D.faults D.tells (lines_view lines.now) disk result.disk
-        (O.taken sink.old) (O.taken sink.new) result.end }
-    ensures others { OthersStay D.seen D.may_leave disk result.disk }
-    ensures disk_faults { D.faults disk ≤ D.faults result.disk }
-    ensures never_falls { O.faults sink.old ≤ O.faults sink.new }
-
-    ensures complete { IsTrue D.tells → IsSound (D.seen disk 1) (lines_view lines.now) → IsWithoutFault (D.faults disk) (D.faults result.disk)
-        → IsWithoutFault (O.faults sink.old) (O.faults sink.new) → (result.end ≡ End.Ok) ⊎ (result.end ≡ End.NoMemory) }
+    ensures cause { (source : ℕ) → HasCause D.meaning.tells (D.meaning.seen disk 1) (IsOfAnother D.meaning.tells (D.meaning.seen disk 1) (lines_view lines.now))
+        (record { source = source; sink = O.faults sink.old; device = D.meaning.faults disk })
+        (record { source = source; sink = O.faults sink.new; device = D.meaning.faults result.disk }) result.end }
+    ensures serves { ServesTo D.meaning (lines_view lines.now)
+        (record { device = disk; taken = O.taken sink.old }) (record { device = result.disk; taken = O.taken sink.new }) result.end }
+    ensures others { OthersStay D.meaning disk result.disk }
 {
     let mut manager = match Manager::open(alloc, disk) {
         Ok(manager) => manager,
-        Err((disk, fault)) => return Outcome::of(open_end(fault), disk),
+        Err((disk, fault)) => return Outcome::of(End::from(fault), disk),
     };
     if !are_of_node(&manager.node(), lines) {
         return Outcome::of(script_end(ScriptKind::Node), manager.give_back());
     }
     let end = match serve_lines(alloc, &mut manager, lines, sink) {
         Ok(()) => End::Ok,
-        Err(end) => serve_end(end),
+        Err(end) => End::from(end),
     };
     Outcome::of(end, manager.give_back())
 }
@@ -153,36 +82,12 @@ fn run<S: Source, O: Sink, D: Disk>(
     disk: D,
 ) -> Outcome<D>
     ensures status { result.status ≡ status_of result.end }
-    ensures no_usage { result.end ≡ End.Usage → ⊥ }
-    ensures read { result.end ≡ End.Read → Rose (S.faults source.old) (S.faults source.new) }
-    ensures script { (line : ℕ) (kind : ScriptKind) → result.end ≡ End.Script line kind
-        → (line ≡ 0) × IfSome (S.remaining source.old) (IsFaulty D.tells (D.seen disk 1) kind) }
-    ensures unformatted { (byte : ℕ) → result.end ≡ End.Unformatted byte → IsTrue D.tells → (byte ≡ first_byte (D.seen disk 1)) × (byte ≢ 1) }
-    ensures damaged { (file place : ℕ) → result.end ≡ End.Damaged file place → IsTrue D.tells → (file ≡ 1) × IsDamagedFile (D.seen disk 1) place }
-    ensures write { result.end ≡ End.Write → Rose (O.faults sink.old) (O.faults sink.new) }
-    ensures journal { result.end ≡ End.Journal → DiskRose (D.faults disk) (D.faults result.disk) }
-
-    ensures untouched { IsBeforeOpening result.end → result.disk ≡ disk }
-    ensures script_first { IsAfterScript result.end → HasScript (S.remaining source.old) }
-
-    ensures at_end { result.end ≡ End.Ok → IsAtEnd (S.remaining source.new) }
-    ensures ok { result.end ≡ End.Ok → OfScript (S.remaining source.old) (λ lines. IsServed D.tells D.seen D.may_leave (D.seen disk 1) lines
-        (O.taken sink.old) (O.taken sink.new) result.disk) }
-    ensures stopped { IsWithinServing result.end → IsUnserved D.seen D.may_leave (O.taken sink.old) (O.taken sink.new) disk result.disk
-        ⊎ OfScript (S.remaining source.old) (λ lines. IsStopped D.tells (D.may_leave result.disk) (D.seen disk 1) lines
-        (O.taken sink.old) (O.taken sink.new) result.end) }
-    ensures nothing { IsBeforeServing result.end → IsUnserved D.seen D.may_leave (O.taken sink.old) (O.taken sink.new) disk result.disk }
-
-    ensures any_moment { IsTrue D.tells → LeavesOnly D.moment D.left_since disk result.disk
-        (SurvivesRun (S.remaining source.old) (D.may_leave disk) (D.seen disk 1)) }
-    ensures line_by_line { IsTrue D.tells → ServesRun D.seen D.may_leave D.moment D.left_since D.faults D.tells (S.remaining source.old) disk result.disk
-        (O.taken sink.old) (O.taken sink.new) result.end }
-    ensures others { OthersStay D.seen D.may_leave disk result.disk }
-    ensures disk_faults { D.faults disk ≤ D.faults result.disk }
-
-    ensures complete { IsTrue D.tells → HasSoundScript (S.remaining source.old) (D.seen disk 1)
-        → IsWithoutFault (S.faults source.old) (S.faults source.new) → IsWithoutFault (D.faults disk) (D.faults result.disk)
-        → IsWithoutFault (O.faults sink.old) (O.faults sink.new) → (result.end ≡ End.Ok) ⊎ (result.end ≡ End.NoMemory) }
+    ensures cause { HasCause D.meaning.tells (D.meaning.seen disk 1) (IsFaulty D.meaning.tells (D.meaning.seen disk 1) (S.remaining source.old))
+        (record { source = S.faults source.old; sink = O.faults sink.old; device = D.meaning.faults disk })
+        (record { source = S.faults source.new; sink = O.faults sink.new; device = D.meaning.faults result.disk }) result.end }
+    ensures runs { RunsTo D.meaning (S.remaining source.old) (S.remaining source.new)
+        (record { device = disk; taken = O.taken sink.old }) (record { device = result.disk; taken = O.taken sink.new }) result.end }
+    ensures others { OthersStay D.meaning disk result.disk }
 {
     let script = match read_whole(alloc, source, SCRIPT_BYTES) {
         Ok(script) => script,
@@ -217,70 +122,29 @@ pub fn qman<S: Source, O: Sink, D: Disk>(
     disk: D,
 ) -> Outcome<D>
     ensures status { result.status ≡ status_of result.end }
+    ensures usage { (result.end ≡ End.Usage) ↔ (task_of (map string_bytes words.now) ≡ None) }
 
-    // Each end has its cause.
-    ensures usage { (result.end ≡ End.Usage) ↔ ((are_run_words (map string_bytes words.now) ≡ false) × (node_to_make (map string_bytes words.now) ≡ None)) }
-    ensures read { result.end ≡ End.Read → Rose (S.faults source.old) (S.faults source.new) }
-    ensures script { (line : ℕ) (kind : ScriptKind) → result.end ≡ End.Script line kind
-        → (line ≡ 0) × IfSome (S.remaining source.old) (IsFaulty D.tells (D.seen disk 1) kind) }
-    ensures unformatted { (byte : ℕ) → result.end ≡ End.Unformatted byte → IsTrue D.tells → (byte ≡ first_byte (D.seen disk 1)) × (byte ≢ 1) }
-    ensures damaged { (file place : ℕ) → result.end ≡ End.Damaged file place → IsTrue D.tells → (file ≡ 1) × IsDamagedFile (D.seen disk 1) place }
-    ensures write { result.end ≡ End.Write → Rose (O.faults sink.old) (O.faults sink.new) }
-    ensures journal { result.end ≡ End.Journal → DiskRose (D.faults disk) (D.faults result.disk) }
+    // Each end has its cause, and no fault is hidden.
+    ensures cause { HasCause D.meaning.tells (D.meaning.seen disk 1) (IsFaulty D.meaning.tells (D.meaning.seen disk 1) (S.remaining source.old))
+        (record { source = S.faults source.old; sink = O.faults sink.old; device = D.meaning.faults disk })
+        (record { source = S.faults source.new; sink = O.faults sink.new; device = D.meaning.faults result.disk }) result.end }
 
-    // A run read its source to the end. The sink took the transcript of the script over the site of the queue file, and the
-    // file is that of the site after it, which no crash can take away.
-    ensures at_end { are_run_words (map string_bytes words.now) ≡ true → result.end ≡ End.Ok → IsAtEnd (S.remaining source.new) }
-    ensures ok { are_run_words (map string_bytes words.now) ≡ true → result.end ≡ End.Ok → OfScript (S.remaining source.old) (λ lines. IsServed D.tells D.seen D.may_leave (D.seen disk 1) lines
-        (O.taken sink.old) (O.taken sink.new) result.disk) }
-
-    // A run that stopped within a line answered every line before it whole, and no crash can take away what it answered. Where
-    // nothing was served, the sink took nothing and the files are as they were.
-    ensures stopped { are_run_words (map string_bytes words.now) ≡ true → IsWithinServing result.end → IsUnserved D.seen D.may_leave (O.taken sink.old) (O.taken sink.new) disk result.disk
-        ⊎ OfScript (S.remaining source.old) (λ lines. IsStopped D.tells (D.may_leave result.disk) (D.seen disk 1) lines
-        (O.taken sink.old) (O.taken sink.new) result.end) }
-    ensures nothing { IsBeforeServing result.end → IsUnserved D.seen D.may_leave (O.taken sink.old) (O.taken sink.new) disk result.disk }
-    ensures unread { are_run_words (map string_bytes words.now) ≡ false → source.new ≡ source.old }
-
-    // Ends that come before the queue file is opened leave the device as it was. The others, but want of memory, come only
-    // where what was read is a script.
-    ensures untouched { IsBeforeOpening result.end → result.disk ≡ disk }
-    ensures script_first { are_run_words (map string_bytes words.now) ≡ true → IsAfterScript result.end → HasScript (S.remaining source.old) }
-
-    // A crash at any moment of a run leaves what it might leave before, or the queue file of the site after some of the lines.
-    ensures any_moment { are_run_words (map string_bytes words.now) ≡ true → IsTrue D.tells → LeavesOnly D.moment D.left_since disk result.disk
-        (SurvivesRun (S.remaining source.old) (D.may_leave disk) (D.seen disk 1)) }
-
-    // Until the queue file is open a crash leaves what it might leave before. Then at each moment it leaves the site after the
-    // lines that were served so far, or after the line in work too.
-    ensures line_by_line { are_run_words (map string_bytes words.now) ≡ true → IsTrue D.tells
-        → ServesRun D.seen D.may_leave D.moment D.left_since D.faults D.tells (S.remaining source.old) disk result.disk
-        (O.taken sink.old) (O.taken sink.new) result.end }
-    ensures others { OthersStay D.seen D.may_leave disk result.disk }
-
-    // The making of a queue file.
-    ensures made { (node : List ℕ) → node_to_make (map string_bytes words.now) ≡ Some node → result.end ≡ End.Ok
-        → Appends (O.taken sink.old) (O.taken sink.new) initialized
-        × (IsTrue D.tells → IsSiteOf D.seen D.may_leave (new_site node) result.disk) }
-    ensures ends_of_making { (node : List ℕ) → node_to_make (map string_bytes words.now) ≡ Some node
-        → IsEndOfMaking result.end × TakesFront (O.taken sink.old) (O.taken sink.new) initialized }
-    ensures unmade { (node : List ℕ) → node_to_make (map string_bytes words.now) ≡ Some node → IsUnmade result.end
-        → Keeps (O.taken sink.old) (O.taken sink.new) }
-    ensures untold { (node : List ℕ) → node_to_make (map string_bytes words.now) ≡ Some node → result.end ≡ End.Write
-        → IsTrue D.tells → IsSiteOf D.seen D.may_leave (new_site node) result.disk }
-    ensures making { (node : List ℕ) → node_to_make (map string_bytes words.now) ≡ Some node → IsTrue D.tells
-        → LeavesOnly D.moment D.left_since disk result.disk (OthersLeft (D.may_leave disk) 1) }
+    // What is read, what the sink takes and what the device holds, then and at each moment, by what the words ask for and by
+    // the end.
+    ensures does { Does D.meaning S.remaining (task_of (map string_bytes words.now)) source.old source.new
+        (record { device = disk; taken = O.taken sink.old }) (record { device = result.disk; taken = O.taken sink.new }) result.end }
+    ensures others { OthersStay D.meaning disk result.disk }
 
     // Over a script and a queue file that are sound every line is answered, unless the outside fails or memory runs out.
-    ensures complete { are_run_words (map string_bytes words.now) ≡ true → IsTrue D.tells → HasSoundScript (S.remaining source.old) (D.seen disk 1)
-        → IsWithoutFault (S.faults source.old) (S.faults source.new) → IsWithoutFault (D.faults disk) (D.faults result.disk)
-        → IsWithoutFault (O.faults sink.old) (O.faults sink.new) → (result.end ≡ End.Ok) ⊎ (result.end ≡ End.NoMemory) }
+    ensures complete { task_of (map string_bytes words.now) ≡ Some Run → IsTrue D.meaning.tells → HasSoundScript (S.remaining source.old) (D.meaning.seen disk 1)
+        → IsWithoutFault (S.faults source.old) (S.faults source.new) → IsWithoutFault (O.faults sink.old) (O.faults sink.new)
+        → IsWithoutFault (D.meaning.faults disk) (D.meaning.faults result.disk)
+        → (result.end ≡ End.Ok) ⊎ (result.end ≡ End.NoMemory) }
 {
-    if is_run(words) {
-        return run(alloc, source, sink, disk);
-    }
-    match node_to_make(words) {
-        Some(node) => make(alloc, node, sink, disk),
+    let task = read_task(words);
+    match &task {
+        Some(Task::Run) => run(alloc, source, sink, disk),
+        Some(Task::Init(node)) => make(alloc, *node, sink, disk),
         None => Outcome::of(End::Usage, disk),
     }
 }

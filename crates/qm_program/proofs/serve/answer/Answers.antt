@@ -1,28 +1,27 @@
+use Rattle.std.proofs.Common.{◌∙◌, sym, ap}
+use Rattle.qm_kinds.specs.declared.input.Input.{Input}
+use Rattle.qm_model.specs.Listing.{rows_of}
 use Rattle.qm_manager.specs.Manager.{site_of, disk_of}
 use Rattle.qm_program.specs.Transcript.{turn_of}
-use Rattle.qm_program.proofs.Going.{leaves_site}
+use Rattle.qm_program.proofs.Served.{nothing_done_as, only_answered, shown_site}
 use Rattle.qm_program.proofs.serve.answer.Goals as goal
 
-pub returns-in_err-show-in-Show-clause-any_moment : goal.returns-in_err-show-in-Show-clause-any_moment
-returns-in_err-show-in-Show-clause-any_moment g c = λ told.
-    let d = g.D.Disk in
-    let site = site_of c.args.manager.now in
-    leaves_site d.seen d.may_leave d.moment d.left_since site (turn_of site c.args.input).site (disk_of c.args.manager.now) c.requires.lawful (c.requires.rest told) (g.met.D.Disk.only_now (disk_of c.args.manager.now))
+pub returns-in_err-show-in-Show-clause-serves : goal.returns-in_err-show-in-Show-clause-serves
+returns-in_err-show-in-Show-clause-serves g c =
+    nothing_done_as g.D.Disk.meaning c.args.manager.now c.requires.ready (g.met.D.Disk.only_now (disk_of c.args.manager.now)) (turn_of (site_of c.args.manager.now) c.args.input.now).site c.from_residual.result c.from_residual.ensures.1
 
-pub returns-in_err-refusal_lines-in-Fault-clause-any_moment : goal.returns-in_err-refusal_lines-in-Fault-clause-any_moment
-returns-in_err-refusal_lines-in-Fault-clause-any_moment g c = λ told.
-    let d = g.D.Disk in
-    let site = site_of c.args.manager.now in
-    leaves_site d.seen d.may_leave d.moment d.left_since site (turn_of site c.args.input).site (disk_of c.args.manager.now) c.requires.lawful (c.requires.rest told) (g.met.D.Disk.only_now (disk_of c.args.manager.now))
+pub returns-in_err-show_fault-in-Fault-clause-serves : goal.returns-in_err-show_fault-in-Fault-clause-serves
+returns-in_err-show_fault-in-Fault-clause-serves g c =
+    nothing_done_as g.D.Disk.meaning c.args.manager.now c.requires.ready (g.met.D.Disk.only_now (disk_of c.args.manager.now)) (turn_of (site_of c.args.manager.now) c.args.input.now).site c.from_residual-in_err-show_fault-in-Fault.result c.from_residual-in_err-show_fault-in-Fault.ensures.1
 
-pub returns-in_ok-show-in-Show-clause-any_moment : goal.returns-in_ok-show-in-Show-clause-any_moment
-returns-in_ok-show-in-Show-clause-any_moment g c = λ told.
-    let d = g.D.Disk in
+pub returns-in_ok-show-in-Show-clause-serves : goal.returns-in_ok-show-in-Show-clause-serves
+returns-in_ok-show-in-Show-clause-serves g c =
     let site = site_of c.args.manager.now in
-    leaves_site d.seen d.may_leave d.moment d.left_since site (turn_of site c.args.input).site (disk_of c.args.manager.now) c.requires.lawful (c.requires.rest told) (g.met.D.Disk.only_now (disk_of c.args.manager.now))
+    only_answered g.D.Disk.meaning c.args.manager.now c.requires.ready (g.met.D.Disk.only_now (disk_of c.args.manager.now)) (turn_of site c.args.input.now).site c.in_ok-show-in-Show.field-0
+    (shown_site site (rows_of site.system c.in-Show.query) ∙ ap (λ (input : Input). (turn_of site input).site) (sym c.in-Show.is))
 
-pub returns-in_ok-refusal_lines-in-Fault-clause-any_moment : goal.returns-in_ok-refusal_lines-in-Fault-clause-any_moment
-returns-in_ok-refusal_lines-in-Fault-clause-any_moment g c = λ told.
-    let d = g.D.Disk in
+pub returns-in_ok-show_fault-in-Fault-clause-serves : goal.returns-in_ok-show_fault-in-Fault-clause-serves
+returns-in_ok-show_fault-in-Fault-clause-serves g c =
     let site = site_of c.args.manager.now in
-    leaves_site d.seen d.may_leave d.moment d.left_since site (turn_of site c.args.input).site (disk_of c.args.manager.now) c.requires.lawful (c.requires.rest told) (g.met.D.Disk.only_now (disk_of c.args.manager.now))
+    only_answered g.D.Disk.meaning c.args.manager.now c.requires.ready (g.met.D.Disk.only_now (disk_of c.args.manager.now)) (turn_of site c.args.input.now).site c.in_ok-show_fault-in-Fault.field-0
+    (ap (λ (input : Input). (turn_of site input).site) (sym c.in-Fault.is))

@@ -1,13 +1,28 @@
-use Rattle.qm_manager.specs.Manager.{site_of}
-use Rattle.qm_program.proofs.Served.{queue_file_printable, done_serves, refusal_was}
+use Rattle.std.proofs.Common.{inl, sym, ap, subst}
+use Rattle.qm_manager.specs.Site.{Site}
+use Rattle.qm_manager.specs.Asking.{Steps, asked}
+use Rattle.qm_manager.specs.Manager.{site_of, disk_of}
+use Rattle.qm_program.proofs.Served.{told_site}
 use Rattle.qm_program.proofs.serve.ask.Goals as goal
 
-pub reply_lines-requires : goal.reply_lines-requires
-reply_lines-requires g c =
-    let site = site_of c.args.manager.now in
-    (done_serves site c.args.request (queue_file_printable site.bodies site.system c.requires.lawful) c.requires.asked (site_of c.ask.new.self) c.in-Ok.reply c.in-Ok.ensures.answer).1
+pub returns-in-Err-Disk-clause-serves : goal.returns-in-Err-Disk-clause-serves
+returns-in-Err-Disk-clause-serves g c =
+    let before = site_of c.args.manager.now in
+    record {
+      steps = subst (λ (after : Site). Steps g.D.Disk.meaning before after (disk_of c.args.manager.now) (disk_of c.ask.new.self)) (sym (told_site before (asked before c.args.request.now))) c.ask.ensures.steps;
+      leaves = rw c.in-Err-Disk.field-0-is at c.in-Err-Disk.ensures.device;
+      node = c.ask.ensures.node;
+    }
 
-pub refusal_lines-requires : goal.refusal_lines-requires
-refusal_lines-requires g c =
-    let site = site_of c.args.manager.now in
-    refusal_was site c.args.request (queue_file_printable site.bodies site.system c.requires.lawful) c.requires.asked c.in-Err-Refused.refusal (rw c.in-Err-Refused.field-0-is at c.in-Err-Refused.ensures.answer).0
+pub returns-in-Err-NoMemory-clause-serves : goal.returns-in-Err-NoMemory-clause-serves
+returns-in-Err-NoMemory-clause-serves g c =
+    let before = site_of c.args.manager.now in
+    record {
+      steps = subst (λ (after : Site). Steps g.D.Disk.meaning before after (disk_of c.args.manager.now) (disk_of c.ask.new.self)) (sym (told_site before (asked before c.args.request.now))) c.ask.ensures.steps;
+      leaves = (
+        (rw c.in-Err-NoMemory.field-0-is at c.in-Err-NoMemory.ensures.ready) (λ is. cc),
+        inl (rw c.in-Err-NoMemory.field-0-is at c.in-Err-NoMemory.ensures.answer).1,
+        ap g.D.Disk.meaning.faults (rw c.in-Err-NoMemory.field-0-is at c.in-Err-NoMemory.ensures.device),
+      );
+      node = c.ask.ensures.node;
+    }

@@ -1,16 +1,22 @@
-use Rattle.std.proofs.Common.{◌∙◌, subst}
+use Rattle.std.proofs.Common.{◌∙◌, ℕ}
 use Rattle.qm_manager.specs.Manager.{site_of, disk_of}
-use Rattle.qm_program.specs.Lines.{line_view}
-use Rattle.qm_program.specs.declared.outcome.End.TheVariants.{Write}
-use Rattle.qm_program.specs.Serving.{LeavesSite}
-use Rattle.qm_program.proofs.Going.{leaves_at_rest, stops_within}
+use Rattle.qm_program.specs.Lines.{sort_view, line_view}
+use Rattle.qm_program.specs.Transcript.{turn}
+use Rattle.qm_program.proofs.Served.{input_askable, nothing_done}
+use Rattle.qm_program.proofs.Serving.{step_cut, step_wanting}
 use Rattle.qm_program.proofs.serve.serve.Goals as goal
 
-pub returns-in-Ok-clause-stops : goal.returns-in-Ok-clause-stops
-returns-in-Ok-clause-stops g c =
-    let d = g.D.Disk in
-    let disk = disk_of c.serve_line.new.manager in
-    stops_within d.tells (d.may_leave disk) (site_of c.args.manager.now) (line_view c.args.line.now) (g.O.Sink.taken c.args.sink.now) (g.O.Sink.taken c.write_whole.new.sink) Write c.as_bytes.result.now
-    (c.as_bytes.ensures.value ∙ c.in-Ok.ensures.text) c.in-Err.ensures.prefix (λ is. cc) (λ is. cc)
-    (λ told. subst (LeavesSite (d.may_leave disk)) c.in-Ok.ensures.site
-    (leaves_at_rest d.seen d.may_leave (site_of c.serve_line.new.manager) disk c.serve_line.ensures.lawful (c.in-Ok.ensures.rest (λ is. cc) told)))
+pub returns-in_default-clause-stops : goal.returns-in_default-clause-stops
+returns-in_default-clause-stops g c =
+    let manager = c.args.manager.now in
+    let line = line_view c.args.line.now in
+    let taken = g.O.Sink.taken c.args.sink.now in
+    step_wanting g.D.Disk.meaning line manager manager taken taken {X = ℕ} (nothing_done g.D.Disk.meaning manager c.requires.ready (g.met.D.Disk.only_now (disk_of manager)) (turn (site_of manager) line).site)
+
+pub answer-requires-clause-askable : goal.answer-requires-clause-askable
+answer-requires-clause-askable g c = rw c.in-Ok.ensures (input_askable (sort_view c.args.line.now.sort) c.args.line.now.text.now)
+
+pub returns-in-Ok-answer-clause-stops : goal.returns-in-Ok-answer-clause-stops
+returns-in-Ok-answer-clause-stops g c =
+    step_cut g.D.Disk.meaning (line_view c.args.line.now) c.args.manager.now c.answer.new.manager (g.O.Sink.taken c.args.sink.now) (g.O.Sink.taken c.write_whole.new.sink)
+    c.in-Ok-answer.text c.deref.result.now (rw c.in-Ok.ensures at c.in-Ok-answer.ensures.serves) (c.deref.ensures.value ∙ (rw c.in-Ok.ensures at c.in-Ok-answer.ensures.text)) c.in-Err.ensures.prefix

@@ -1,5 +1,0 @@
-use Rattle.std.proofs.Common.{append_assoc}
-use Rattle.qm_program.proofs.print.start.Goals as goal
-
-pub returns : goal.returns
-returns c = simp append_assoc (simp append_assoc at (rw c.in_ok-job.ensures at c.format.ensures.ok))
