@@ -1,0 +1,17 @@
+//! A turnstile over one value: each call of `turn` works once on the value, the turns of all threads have one
+//! order, and each pass knows which of them it has seen. Nothing here knows what the value is.
+#![tactic(auto)]
+
+mod pass;
+mod rule;
+mod told;
+mod turnstile;
+mod view;
+
+pub use pass::{Pass, PassOf, TurnsSpent};
+pub use told::{Task, Told};
+pub use turnstile::Turnstile;
+pub use view::{Phase, View};
+
+#[cfg(test)]
+mod tests;
