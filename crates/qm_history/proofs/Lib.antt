@@ -1,0 +1,11 @@
+pub mod LogLemmas
+pub mod SoundLemmas
+pub mod EventLemmas
+pub mod HistoryLemmas
+pub mod FenceLemmas
+pub mod Serving
+pub mod Failover
+pub mod Doubts
+pub mod TwoNodes
+pub mod StretchLemmas
+pub mod OneCourse

@@ -1,0 +1,153 @@
+-- A node's lines, the step behind its STEP line, its own fetches and steps, and its leave.
+use Rattle.std.proofs.Common.{◌≡◌, ℕ, lit<, lit≤, false, List, [], ◌∷◌, ◌++◌, refl, map, length}
+use Rattle.std.specs.Prelude.{codes, ◌==◌, if◌then◌else◌}
+use Rattle.std.specs.Fmt.{digits}
+use Rattle.qm_kinds.specs.declared.input.Input.{Input}
+use Rattle.qm_kinds.specs.declared.input.Input.TheVariants as input
+use Rattle.qm_kinds.specs.declared.request.Request.TheVariants as request
+use Rattle.qm_kinds.specs.declared.work.Report.{Report}
+use Rattle.qm_kinds.specs.declared.work.Report.TheVariants as report
+use Rattle.qm_kinds.specs.declared.work.Work.{Work}
+use Rattle.qm_kinds.specs.declared.entry.JobKind.TheVariants as job
+use Rattle.qm_model.specs.Filing.{filling}
+use Rattle.qm_model.specs.Script.{ScriptLine, Sort, Command, Site}
+use Rattle.qm_history.specs.declared.call.Call.{Call}
+use Rattle.qm_history.specs.declared.call.Call.TheVariants as call
+use Rattle.qm_history.specs.declared.turn.Turn.{Turn}
+use Rattle.qm_history.specs.declared.world.World.{World}
+use Rattle.qm_history.specs.Blocks.{handed}
+use Rattle.qm_history.specs.Course.{KeptRun, MadeStep, WentOn, Whole, IsCourse}
+use Rattle.qm_history.specs.Text.{text}
+use Rattle.qm_history.specs.Visits.{Visit}
+use Rattle.qm_history.proofs.Serving.{Asked, new_site, world_of, history, no_items, Any}
+use Rattle.qm_history.proofs.TwoNodes.{asks, listing_file, print_queue, print_job}
+
+abbrev reports : Report → Asked
+reports told = record { node = 0; reading = 1000; call = call.Report 1 told }
+
+abbrev own : Call → Asked
+own what = record { node = 0; reading = 1000; call = what }
+
+-- a print job of two pages: STEP 1 prints the first one, and the node's own step the other
+abbrev calls : List Asked
+calls =
+    asks 0 1 (input.Ask (request.Fill listing_file 72))
+    ∷ asks 0 2 (input.Ask (print_queue (codes "A") (codes "LP")))
+    ∷ asks 0 3 (input.Ask (request.Submit (print_job (codes "LP"))))
+    ∷ asks 0 4 (input.Fetch [])
+    ∷ reports (report.Mark (codes "1") (record { at = 1; used = 0 }))
+    ∷ own (call.Fetch (1 ∷ []))
+    ∷ reports (report.Done 1)
+    ∷ own (call.Fetch [])
+    ∷ own call.Leave
+    ∷ []
+
+abbrev site : World
+site = world_of new_site
+
+abbrev turns : List Turn
+turns = history site calls
+
+pub their_text : text no_items site turns
+    ≡ codes "A 1: file F.LIS, 4608 bytes\nA 2: queue LP started\nA 3: Job F (queue LP, entry 1) pending\nA 3: Job F (queue LP, entry 1) started on LP\n"
+    ++ codes "A 4: runs: 1\nA -: run 1 mark 1\nA -: run 1 completed, status 1\n"
+unfolding digits
+their_text = refl
+
+abbrev line : ℕ → Sort → List ℕ → ScriptLine
+line number sort what = record { number = number; node = codes "A"; sort = sort; text = what }
+
+abbrev lines : List ScriptLine
+lines =
+    line 1 Site (codes "FILL F.LIS 72")
+    ∷ line 2 Command (codes "INIT/QUEUE/START LP")
+    ∷ line 3 Command (codes "PRINT/QUEUE=LP F")
+    ∷ line 4 Site (codes "STEP 1")
+    ∷ []
+
+-- what these lines ask for
+abbrev read : ScriptLine → ℕ → List Visit → List ℕ → Input
+read l reading earlier known =
+    if l.number == 1 then input.Ask (request.Fill listing_file 72) else
+    if l.number == 2 then input.Ask (print_queue (codes "A") (codes "LP")) else
+    if l.number == 3 then input.Ask (request.Submit (print_job (codes "LP"))) else input.Fetch known
+
+-- the job as the node has it
+abbrev work : Work
+work = record {
+  run = 1;
+  entry = 1;
+  kind = job.Print;
+  name = codes "F";
+  user = codes "SYSTEM";
+  device = codes "LP";
+  text = filling 72;
+  shape = record { length = 66; width = 132; top = 0; bottom = 6; left = 0; right = 0; wrap = false };
+  copies = 1;
+  flag = false;
+  again = false;
+  mark = [];
+}
+
+abbrev run_at : ℕ → KeptRun
+run_at block = record { run = 1; aborting = false; paused = false; work = work; place = record { at = block; used = 0 } }
+
+abbrev steps : List MadeStep
+steps = record { run = run_at 0; end = WentOn } ∷ record { run = run_at 1; end = WentOn } ∷ []
+
+-- both pages were handed over, in order: 60 lines of 64 bytes and a form feed, and then the other 12
+pub what_the_device_got : map length (handed steps) ≡ 3841 ∷ 769 ∷ []
+what_the_device_got = refl
+
+pub it_is_a_course : IsCourse Any read Whole site turns 0 lines 0
+unfolding digits
+it_is_a_course = record {
+  steps = steps;
+  turns_are = (
+    (
+      record {
+        node_there = lit< tt;
+        why_is = refl;
+        outside = tt;
+        can_come = (
+          record {
+            next_epoch = refl;
+            told = refl;
+            nodes = record { gone_is = refl; up_is = refl; named = refl };
+            follows = record { spelled = tt; node_there = lit< tt; not_earlier = lit≤ tt; names = refl; lists = (refl, refl, refl); accepted = refl };
+          },
+          ((refl, record { spelled = tt; node_there = lit< tt; not_earlier = lit≤ tt; names = tt; lists = tt; accepted = refl }, refl), tt),
+        );
+      },
+      (refl, refl, refl, (refl, refl, refl, refl)),
+    ),
+    (
+      (record { node_there = lit< tt; why_is = refl; outside = tt; can_come = ((refl, record { spelled = tt; node_there = lit< tt; not_earlier = lit≤ tt; names = (lit≤ tt, tt, lit< tt); lists = tt; accepted = refl }, refl), tt) }, (refl, refl, refl, refl)),
+      (
+        (record { node_there = lit< tt; why_is = refl; outside = tt; can_come = ((refl, record { spelled = tt; node_there = lit< tt; not_earlier = lit≤ tt; names = tt; lists = tt; accepted = refl }, refl), tt) }, (refl, refl, refl, refl)),
+        (
+          (record { node_there = lit< tt; why_is = refl; outside = tt; can_come = (tt, tt) }, refl),
+          (
+            (refl, tt),
+            (record { node_there = lit< tt; why_is = refl; outside = tt; can_come = ((refl, record { spelled = tt; node_there = lit< tt; not_earlier = lit≤ tt; names = tt; lists = tt; accepted = refl }, refl), tt) }, (refl, refl, refl, refl)),
+            (
+              (record { node_there = lit< tt; why_is = refl; outside = tt; can_come = (tt, tt) }, refl),
+              (
+                (refl, tt),
+                (record { node_there = lit< tt; why_is = refl; outside = tt; can_come = ((refl, record { spelled = tt; node_there = lit< tt; not_earlier = lit≤ tt; names = tt; lists = tt; accepted = refl }, refl), tt) }, (refl, refl, refl, refl)),
+                (
+                  (record { node_there = lit< tt; why_is = refl; outside = tt; can_come = (tt, tt) }, refl),
+                  (
+                    (record { node_there = lit< tt; why_is = refl; outside = tt; can_come = (refl, tt) }, refl),
+                    (refl, refl),
+                  ),
+                ),
+              ),
+            ),
+          ),
+        ),
+      ),
+    ),
+  );
+  few_faults = lit≤ tt;
+}

@@ -1,0 +1,9 @@
+use Rattle.qm_record.specs.Spelling.{HasSpelling}
+use Rattle.qm_history.proofs.StretchLemmas.{course_stretches}
+use Rattle.qm_history.proofs.devices.steps_come_in_stretches.Goals as goal
+
+pub returns-clause-stretches : goal.returns-clause-stretches
+returns-clause-stretches c read extent = course_stretches HasSpelling read extent
+
+pub returns-clause-next_block : goal.returns-clause-next_block
+returns-clause-next_block c k print = c.print_jobs_report_each_block.ensures.next_block k.work k.place print

@@ -1,0 +1,29 @@
+//! Turns of the queue manager, the worlds between them and whole histories: types, definitions that the crates above
+//! cite, and laws about them. It has no program: its functions are laws.
+#![tactic(auto)]
+
+mod call;
+mod devices;
+mod event;
+mod events;
+mod histories;
+mod sound;
+mod start;
+mod turn;
+mod world;
+
+pub use call::{Answer, Call, Takeover};
+pub use devices::steps_come_in_stretches;
+pub use event::Event;
+pub use events::{
+    acknowledged_records_stay, epochs_rise, histories_are_events, logs_grow,
+    some_events_change_nothing,
+};
+pub use histories::{
+    compactions_can_go_and_come, courses_are_of_own_turns, fenced_turns_change_nothing,
+    other_epochs_are_fenced, texts_follow_turns,
+};
+pub use sound::{sound_worlds_are_consistent, worlds_stay_sound};
+pub use start::programs_begin_sound;
+pub use turn::{Turn, Why};
+pub use world::{Role, World};
