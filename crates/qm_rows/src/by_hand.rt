@@ -71,6 +71,12 @@ pub(crate) fn append(alloc: Global, moment: u8, node: u8) -> Result<Vec<u8>, All
     record(alloc, 1, moment, node, &fields)
 }
 
+/// One byte at the end of the file LOG.LIS.
+pub(crate) fn append_log(alloc: Global, moment: u8) -> Result<Vec<u8>, AllocError> {
+    let fields: [&[u8]; 3] = [b"\x03LOG\x01\x03LIS", b"\x01\x00\x00\x00", b"x"];
+    record(alloc, 1, moment, 0, &fields)
+}
+
 /// A batch job for the file JOB.COM, of the user SYSTEM.
 pub(crate) fn submit(alloc: Global) -> Result<Vec<u8>, AllocError> {
     submit_after(alloc, b"\x00")

@@ -1,8 +1,6 @@
 // Files that are no queue file, and what is told of each.
-use crate::by_hand::{
-    add, append, form, head, queue, queue_file, record, site_and, submit, submit_after, tick,
-};
-use crate::run::{Ran, device, serve};
+use crate::by_hand::{add, append, form, head, queue, queue_file, record, site_and, submit, tick};
+use crate::run::{Ran, check, device, serve};
 use qm_program::End;
 use std::alloc::{AllocError, Global};
 use std::process::Abort;
@@ -33,35 +31,36 @@ fn a_file_that_begins_with_no_record_is_unformatted(rt: HostRuntime) -> Result<(
         (b"\xff", 255),
     ] {
         let ran = over(alloc, file)?;
-        assert_eq!(rt; ran.end, End::Unformatted { byte }, "the file {file:?}");
-        assert_eq!(rt; ran.status, 7);
-        assert_eq!(rt; ran.transcript.len(), 0);
+        check(&rt, file, &ran, End::Unformatted { byte }, b"");
         assert_eq!(rt; ran.disk.held(1), file);
     }
     Ok(())
 }
 
+// The gates of a new site, a file and a job for it are at these places.
 #[test]
 fn a_file_that_was_cut_is_damaged_at_its_last_gate(rt: HostRuntime) -> Result<(), Fail> {
     let alloc = rt.alloc();
-    let records = [append(alloc, 0, 0)?, submit(alloc)?];
-    let file = site_and(alloc, &records)?;
-    let gates = [0, 45, 86, 158, 196, 253];
-    assert_eq!(rt; file.len(), 254);
-    assert_eq!(rt; over(alloc, &file[..0])?.end, End::Unformatted { byte: 0 });
-    for size in 1..file.len() {
-        let place = gates
-            .iter()
-            .copied()
-            .filter(|gate| *gate <= size as u64)
-            .max()
-            .unwrap_or(0);
-        let ran = over(alloc, &file[..size])?;
-        assert_eq!(rt; ran.end, damaged(place), "cut to {size}");
-        assert_eq!(rt; ran.status, 8);
-        assert_eq!(rt; ran.transcript.len(), 0);
+    let file = site_and(alloc, &[append(alloc, 0, 0)?, submit(alloc)?])?;
+    for (gate, next) in [
+        (0, 45),
+        (45, 86),
+        (86, 158),
+        (158, 196),
+        (196, 253),
+        (253, 254),
+    ] {
+        for size in gate..next {
+            let ran = over(alloc, file.get(..size).unwrap_or(&[]))?;
+            let end = if size == 0 {
+                End::Unformatted { byte: 0 }
+            } else {
+                damaged(gate as u64)
+            };
+            check(&rt, size, &ran, end, b"");
+        }
     }
-    assert_eq!(rt; over(alloc, &file)?.end, End::Ok);
+    check(&rt, 254, &over(alloc, &file)?, End::Ok, PENDING);
     Ok(())
 }
 
@@ -70,120 +69,91 @@ const PENDING: &[u8] = b"A 1: rows: 1
 A 1:      1 JOB              SYSTEM              1 pending
 ";
 
+const HOLDING: &[u8] = b"A 1: rows: 1
+A 1:      1 JOB              SYSTEM              1 holding
+";
+
 /// What it prints where there is no entry.
 const NO_ENTRY: &[u8] = b"A 1: %QMAN-E-NOSUCHENT, 1
 ";
+
+// These bytes with the one at a place raised by one.
+fn raised(alloc: Global, bytes: &[u8], place: usize) -> Result<Vec<u8>, AllocError> {
+    let mut wrong = bytes.to_vec(alloc)?;
+    if let Some(byte) = wrong.get_mut(place) {
+        *byte = byte.wrapping_add(1);
+    }
+    Ok(wrong)
+}
 
 // The file of a new site and two requests, with the bytes from one place to another raised by one, each alone.
 #[test]
 fn each_byte_may_be_wrong(rt: HostRuntime) -> Result<(), Fail> {
     let alloc = rt.alloc();
     let file = site_and(alloc, &[append(alloc, 0, 0)?, submit(alloc)?])?;
-    let mut place = 0;
-    for (last, end, printed) in [
+    for (first, last, end, printed) in [
         // The first gate, and the head.
-        (0, End::Unformatted { byte: 2 }, b"".as_slice()),
-        (44, damaged(0), b""),
+        (0, 0, End::Unformatted { byte: 2 }, b"".as_slice()),
+        (1, 44, damaged(0), b""),
         // The form, and the queue. A gate that is closed leaves them out.
-        (85, damaged(45), b""),
-        (157, damaged(86), b""),
+        (45, 85, damaged(45), b""),
+        (86, 157, damaged(86), b""),
         // APPEND: its gate; then its length, version and number.
-        (158, End::Ok, NO_ENTRY),
-        (164, damaged(158), b""),
+        (158, 158, End::Ok, NO_ENTRY),
+        (159, 164, damaged(158), b""),
         // Its moment, behind which that of SUBMIT goes back, or which is past the last one; its node.
-        (170, damaged(196), b""),
-        (173, damaged(158), b""),
+        (165, 170, damaged(196), b""),
+        (171, 173, damaged(158), b""),
         // Lengths, and names of a file that SUBMIT doesn't name.
-        (174, damaged(158), b""),
-        (177, damaged(196), b""),
-        (179, damaged(158), b""),
-        (182, damaged(196), b""),
-        (186, damaged(158), b""),
+        (174, 174, damaged(158), b""),
+        (175, 177, damaged(196), b""),
+        (178, 179, damaged(158), b""),
+        (180, 182, damaged(196), b""),
+        (183, 186, damaged(158), b""),
         // The bytes of the file.
-        (195, End::Ok, PENDING),
+        (187, 195, End::Ok, PENDING),
         // SUBMIT: its gate; then its length, with which a gate is wanted where the file ends, or beyond.
-        (196, End::Ok, NO_ENTRY),
-        (197, damaged(254), b""),
-        (202, damaged(196), b""),
-        // Its moment.
-        (208, End::Ok, PENDING),
-        (212, damaged(196), b""),
-        // The user.
-        (
-            213,
-            End::Ok,
-            b"A 1: rows: 1\nA 1:      1 JOB              TYSTEM              1 pending\n",
-        ),
-        (
-            214,
-            End::Ok,
-            b"A 1: rows: 1\nA 1:      1 JOB              SZSTEM              1 pending\n",
-        ),
-        (
-            215,
-            End::Ok,
-            b"A 1: rows: 1\nA 1:      1 JOB              SYTTEM              1 pending\n",
-        ),
-        (
-            216,
-            End::Ok,
-            b"A 1: rows: 1\nA 1:      1 JOB              SYSUEM              1 pending\n",
-        ),
-        (
-            217,
-            End::Ok,
-            b"A 1: rows: 1\nA 1:      1 JOB              SYSTFM              1 pending\n",
-        ),
-        (
-            218,
-            End::Ok,
-            b"A 1: rows: 1\nA 1:      1 JOB              SYSTEN              1 pending\n",
-        ),
+        (196, 196, End::Ok, NO_ENTRY),
+        (197, 197, damaged(254), b""),
+        (198, 202, damaged(196), b""),
+        // Its moment; then its node, and the length of the user.
+        (203, 208, End::Ok, PENDING),
+        (209, 212, damaged(196), b""),
         // The kind, the queue and the file: there is no other.
-        (239, damaged(196), b""),
-        // The job's name, and its priority, which isn't listed.
-        (
-            240,
-            End::Ok,
-            b"A 1: rows: 1\nA 1:      1 KOB              SYSTEM              1 pending\n",
-        ),
-        (
-            241,
-            End::Ok,
-            b"A 1: rows: 1\nA 1:      1 JPB              SYSTEM              1 pending\n",
-        ),
-        (
-            242,
-            End::Ok,
-            b"A 1: rows: 1\nA 1:      1 JOC              SYSTEM              1 pending\n",
-        ),
-        (243, End::Ok, PENDING),
+        (219, 239, damaged(196), b""),
+        // The priority, which isn't listed.
+        (243, 243, End::Ok, PENDING),
         // A moment for which it waits, which isn't there.
-        (244, damaged(196), b""),
+        (244, 244, damaged(196), b""),
         // Held; retention and restart, which aren't listed.
-        (
-            245,
-            End::Ok,
-            b"A 1: rows: 1\nA 1:      1 JOB              SYSTEM              1 holding\n",
-        ),
-        (247, End::Ok, PENDING),
+        (245, 245, End::Ok, HOLDING),
+        (246, 247, End::Ok, PENDING),
         // Characteristics and a form that aren't there, copies and a flag page of a batch job.
-        (252, damaged(196), b""),
+        (248, 252, damaged(196), b""),
         // The closed gate.
-        (253, damaged(253), b""),
+        (253, 253, damaged(253), b""),
     ] {
-        for at in place..=last {
-            let mut wrong = file.to_vec(alloc)?;
-            if let Some(byte) = wrong.get_mut(at) {
-                *byte = byte.wrapping_add(1);
-            }
-            let ran = over(alloc, &wrong)?;
-            assert_eq!(rt; ran.end, end, "byte {at}");
-            assert_eq!(rt; ran.transcript.as_slice(), printed, "byte {at}");
+        for place in first..=last {
+            let ran = over(alloc, &raised(alloc, &file, place)?)?;
+            check(&rt, place, &ran, end, printed);
         }
-        place = last.saturating_add(1);
     }
-    assert_eq!(rt; place, file.len());
+    // The letters of the user and of the job's name are listed.
+    for (place, listed) in [
+        (213, 42),
+        (214, 43),
+        (215, 44),
+        (216, 45),
+        (217, 46),
+        (218, 47),
+        (240, 25),
+        (241, 26),
+        (242, 27),
+    ] {
+        let ran = over(alloc, &raised(alloc, &file, place)?)?;
+        let printed = raised(alloc, PENDING, listed)?;
+        check(&rt, place, &ran, End::Ok, &printed);
+    }
     Ok(())
 }
 
@@ -196,9 +166,7 @@ fn check_damaged<R: Abort + AllocGlobal>(
 ) -> Result<(), Fail> {
     let alloc = rt.alloc();
     let ran = over(alloc, &queue_file(alloc, bodies)?)?;
-    assert_eq!(rt; ran.end, damaged(place), "{name}");
-    assert_eq!(rt; ran.status, 8);
-    assert_eq!(rt; ran.transcript.len(), 0);
+    check(rt, name, &ran, damaged(place), b"");
     Ok(())
 }
 
@@ -281,9 +249,7 @@ fn a_record_that_cannot_stand_is_damage_at_its_gate(rt: HostRuntime) -> Result<(
         ("a number that isn't one", record(alloc, 99, 0, 0, &[])?),
     ] {
         let ran = over(alloc, &site_and(alloc, &[body])?)?;
-        assert_eq!(rt; ran.end, damaged(ROWS[3]), "{name}");
-        assert_eq!(rt; ran.status, 8);
-        assert_eq!(rt; ran.transcript.len(), 0);
+        check(&rt, name, &ran, damaged(ROWS[3]), b"");
     }
     Ok(())
 }
@@ -292,23 +258,38 @@ fn a_record_that_cannot_stand_is_damage_at_its_gate(rt: HostRuntime) -> Result<(
 #[test]
 fn a_record_is_judged_by_those_before_it(rt: HostRuntime) -> Result<(), Fail> {
     let alloc = rt.alloc();
-    let waiting = submit_after(alloc, b"\x01\x07\x00\x00\x00\x00\x00\x00\x00")?;
-    for (name, before, body) in [
-        ("a moment that goes back", 5, append(alloc, 4, 0)?),
-        ("a job that waits for a moment", 0, waiting),
-        ("time that has passed", 0, tick(alloc)?),
-        ("a second head", 0, head(alloc, b"\x01A")?),
+    for (name, first, second, end) in [
+        (
+            "a moment that goes back",
+            append(alloc, 5, 0)?,
+            append(alloc, 4, 0)?,
+            damaged(196),
+        ),
+        (
+            "a later moment",
+            append(alloc, 4, 0)?,
+            append(alloc, 5, 0)?,
+            End::Ok,
+        ),
+        (
+            "time that has passed",
+            append(alloc, 0, 0)?,
+            tick(alloc)?,
+            damaged(196),
+        ),
+        (
+            "a second head",
+            append(alloc, 0, 0)?,
+            head(alloc, b"\x01A")?,
+            damaged(196),
+        ),
     ] {
-        let file = site_and(alloc, &[append(alloc, before, 0)?, body])?;
-        assert_eq!(rt; over(alloc, &file)?.end, damaged(196), "{name}");
+        let ran = over(alloc, &site_and(alloc, &[first, second])?)?;
+        assert_eq!(rt; ran.end, end, "{name}");
     }
     let referenced = [append(alloc, 0, 0)?, submit(alloc)?, append(alloc, 0, 0)?];
     let ran = over(alloc, &site_and(alloc, &referenced)?)?;
     assert_eq!(rt; ran.end, damaged(253));
-    let two = [append(alloc, 0, 0)?, tick(alloc)?, head(alloc, b"\x01A")?];
-    assert_eq!(rt; over(alloc, &site_and(alloc, &two)?)?.end, damaged(196));
-    let later = [append(alloc, 4, 0)?, append(alloc, 5, 0)?];
-    assert_eq!(rt; over(alloc, &site_and(alloc, &later)?)?.end, End::Ok);
     Ok(())
 }
 

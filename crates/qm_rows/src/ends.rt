@@ -1,5 +1,5 @@
 // Each end of a run, and what it leaves.
-use crate::run::{Ran, device, run, run_with, serve, site};
+use crate::run::{check, device, run, run_with, serve, site};
 use qm_kinds::ScriptKind;
 use qm_program::End;
 use std::test::Fail;
@@ -21,6 +21,7 @@ const NODE: End = End::Script {
 #[test]
 fn other_words_are_a_fault_of_usage(rt: HostRuntime) -> Result<(), Fail> {
     let alloc = rt.alloc();
+    let disk = site(&rt)?;
     for words in [
         [].as_slice(),
         &["run", "x"],
@@ -40,12 +41,9 @@ fn other_words_are_a_fault_of_usage(rt: HostRuntime) -> Result<(), Fail> {
         &["INIT", "A"],
         &["A", "init"],
     ] {
-        let ran = run_with(alloc, words, TWO_LINES, &[], &[], site(&rt)?)?;
-        assert_eq!(rt; ran.end, End::Usage, "the words {words:?}");
-        assert_eq!(rt; ran.status, 2);
-        assert_eq!(rt; ran.transcript.len(), 0);
-        let held = site(&rt)?;
-        assert_eq!(rt; ran.disk.held(1), held.held(1));
+        let ran = run_with(alloc, words, TWO_LINES, &[], &[], disk.after_crash(0)?)?;
+        check(&rt, words, &ran, End::Usage, b"");
+        assert_eq!(rt; ran.disk.held(1), disk.held(1));
     }
     Ok(())
 }
@@ -74,13 +72,9 @@ fn a_text_of_another_shape_is_no_script(rt: HostRuntime) -> Result<(), Fail> {
         b"A $ SHOW ENTRY 1\nA $ SHOW ENTRY \xc3\xa9\n",
         b"B $ SHOW ENTRY 1\nA\n",
     ] {
-        let ran = run(&rt, script)?;
-        assert_eq!(rt; ran.end, FORM, "the script {script:?}");
-        assert_eq!(rt; ran.status, 3);
-        assert_eq!(rt; ran.transcript.len(), 0);
         // It is told before the queue file is looked at.
         let ran = serve(alloc, script, device(alloc, &[], &[])?)?;
-        assert_eq!(rt; ran.end, FORM, "over no queue file: {script:?}");
+        check(&rt, script, &ran, FORM, b"");
     }
     Ok(())
 }
@@ -95,29 +89,13 @@ fn a_line_of_another_node_is_no_script_of_this_site(rt: HostRuntime) -> Result<(
         b"A ! LINE JOB.COM x\nb ! LINE JOB.COM x\n",
     ] {
         let ran = run(&rt, script)?;
-        assert_eq!(rt; ran.end, NODE, "the script {script:?}");
-        assert_eq!(rt; ran.status, 3);
-        assert_eq!(rt; ran.transcript.len(), 0);
+        check(&rt, script, &ran, NODE, b"");
         // No line was served.
-        let later = ran.then(alloc, b"A ! LINE JOB.COM x\n")?;
-        assert_eq!(rt;
-            later.transcript.as_slice(),
-            b"A 1: file JOB.COM, 2 bytes\n".as_slice()
-        );
+        assert_eq!(rt; ran.disk.held(1), site(&rt)?.held(1));
         // Only the queue file knows its node.
         let ran = serve(alloc, script, device(alloc, &[], &[])?)?;
-        assert_eq!(rt; ran.end, End::Unformatted { byte: 0 });
+        check(&rt, script, &ran, End::Unformatted { byte: 0 }, b"");
     }
-    Ok(())
-}
-
-#[test]
-fn an_act_may_end_in_a_hyphen(rt: HostRuntime) -> Result<(), Fail> {
-    let ran = run(&rt, b"A ! LINE J.COM -\n")?;
-    assert_eq!(rt;
-        ran.transcript.as_slice(),
-        b"A 1: file J.COM, 2 bytes\n".as_slice()
-    );
     Ok(())
 }
 
@@ -125,80 +103,49 @@ fn an_act_may_end_in_a_hyphen(rt: HostRuntime) -> Result<(), Fail> {
 fn a_script_has_16_mib_at_most(rt: HostRuntime) -> Result<(), Fail> {
     let alloc = rt.alloc();
     let mut script = vec![in alloc; b'\n'; 16_777_216]?;
-    let ran = run(&rt, &script)?;
-    assert_eq!(rt; ran.end, End::Ok);
-    assert_eq!(rt; ran.transcript.len(), 0);
+    check(&rt, "16 MiB", &run(&rt, &script)?, End::Ok, b"");
     script.push(b'\n')?;
-    let ran = run(&rt, &script)?;
-    assert_eq!(rt;
-        ran.end,
-        End::Script {
-            line: 0,
-            kind: ScriptKind::Long
-        }
-    );
-    assert_eq!(rt; ran.status, 3);
+    let end = End::Script {
+        line: 0,
+        kind: ScriptKind::Long,
+    };
+    check(&rt, "one byte more", &run(&rt, &script)?, end, b"");
     Ok(())
 }
 
+// The script is read by two calls, and each line's answer is written by one: what is told is a front of the transcript.
 #[test]
-fn a_source_that_fails_is_told(rt: HostRuntime) -> Result<(), Fail> {
+fn a_source_or_a_sink_that_fails_is_told(rt: HostRuntime) -> Result<(), Fail> {
     let alloc = rt.alloc();
-    for fault in [1, 2] {
-        let ran = run_with(alloc, &["run"], TWO_LINES, &[fault], &[], site(&rt)?)?;
-        assert_eq!(rt; ran.end, End::Read);
-        assert_eq!(rt; ran.status, 4);
-        assert_eq!(rt; ran.transcript.len(), 0);
+    for (read, write, end, printed) in [
+        (1, 9, End::Read, b"".as_slice()),
+        (2, 9, End::Read, b""),
+        (3, 1, End::Write, b""),
+        (3, 2, End::Write, b"A 1: file J.COM, 2 bytes\n"),
+        (
+            3,
+            3,
+            End::Ok,
+            b"A 1: file J.COM, 2 bytes\nA 2: file J.COM, 4 bytes\n",
+        ),
+    ] {
+        let script = b"A ! LINE J.COM -\nA ! LINE J.COM y\n";
+        let ran = run_with(alloc, &["run"], script, &[read], &[write], site(&rt)?)?;
+        check(&rt, (read, write), &ran, end, printed);
     }
-    let ran = run_with(alloc, &["run"], TWO_LINES, &[3], &[], site(&rt)?)?;
-    assert_eq!(rt; ran.end, End::Ok);
-    Ok(())
-}
-
-#[test]
-fn a_sink_that_fails_is_told_and_has_a_front_of_the_transcript(
-    rt: HostRuntime,
-) -> Result<(), Fail> {
-    let alloc = rt.alloc();
-    let ran = run_with(alloc, &["run"], TWO_LINES, &[], &[1], site(&rt)?)?;
-    assert_eq!(rt; ran.end, End::Write);
-    assert_eq!(rt; ran.status, 5);
-    assert_eq!(rt; ran.transcript.len(), 0);
-    let ran = run_with(alloc, &["run"], TWO_LINES, &[], &[2], site(&rt)?)?;
-    assert_eq!(rt; ran.end, End::Write);
-    assert_eq!(rt;
-        ran.transcript.as_slice(),
-        b"A 1: %QMAN-E-NOSUCHENT, 1\n".as_slice()
-    );
-    let ran = run_with(alloc, &["run"], TWO_LINES, &[], &[3], site(&rt)?)?;
-    assert_eq!(rt; ran.end, End::Ok);
-    assert_eq!(rt;
-        ran.transcript.as_slice(),
-        b"A 1: %QMAN-E-NOSUCHENT, 1\nA 2: %QMAN-E-NOSUCHENT, 2\n".as_slice()
-    );
     Ok(())
 }
 
 #[test]
 fn what_was_done_stays_where_its_answer_is_lost(rt: HostRuntime) -> Result<(), Fail> {
     let alloc = rt.alloc();
-    let ran = run_with(
-        alloc,
-        &["run"],
-        b"A ! LINE JOB.COM x\nA ! LINE JOB.COM y\n",
-        &[],
-        &[1],
-        site(&rt)?,
-    )?;
-    assert_eq!(rt; ran.end, End::Write);
-    assert_eq!(rt; ran.transcript.len(), 0);
-    let Ran { disk, .. } = ran;
-    for pick in [0, 1, 2] {
-        let later = serve(alloc, b"A ! LINE JOB.COM z\n", disk.after_crash(pick)?)?;
-        assert_eq!(rt;
-            later.transcript.as_slice(),
-            b"A 1: file JOB.COM, 4 bytes\n".as_slice()
-        );
+    let script = b"A ! LINE JOB.COM x\nA ! LINE JOB.COM y\n";
+    let ran = run_with(alloc, &["run"], script, &[], &[1], site(&rt)?)?;
+    check(&rt, "run", &ran, End::Write, b"");
+    for pick in 0..3 {
+        let disk = ran.disk.after_crash(pick)?;
+        let later = serve(alloc, b"A ! LINE JOB.COM z\n", disk)?;
+        check(&rt, pick, &later, End::Ok, b"A 1: file JOB.COM, 4 bytes\n");
     }
     Ok(())
 }

@@ -1,6 +1,5 @@
-//! Worked cases, as tests on the top call over a device in memory, and once over real files: scripts and what they print,
-//! each refusal, each end, what a later run finds, each call of the device failing, a full queue file, and files that are
-//! none.
+//! Worked cases that are code, as tests on the top call over a device in memory, and once over real files: limits, each end,
+//! what a later run finds, each call of the device failing, and files that are none.
 #![tactic(auto)]
 
 #[cfg(test)]
@@ -12,8 +11,6 @@ mod damage;
 #[cfg(test)]
 mod ends;
 #[cfg(test)]
-mod full;
-#[cfg(test)]
 mod making;
 #[cfg(test)]
 mod real_files;
@@ -21,7 +18,5 @@ mod real_files;
 mod refusals;
 #[cfg(test)]
 mod run;
-#[cfg(test)]
-mod scripts;
 #[cfg(test)]
 mod stops;

@@ -1,8 +1,8 @@
 // Runs over real files.
 use crate::by_hand::{append, site_and, submit};
-use qm_disk::FileDisk;
+use qm_files::FileDisk;
 use qm_io::{MemorySink, MemorySource};
-use qm_program::{End, qman};
+use qm_program::{End, Outcome, qman};
 use std::alloc::AllocError;
 use std::fs;
 use std::test::Fail;
@@ -12,6 +12,7 @@ fn files(rt: HostRuntime) -> Result<FileDisk<HostRuntime>, AllocError> {
     let alloc = rt.alloc();
     Ok(FileDisk::new(
         rt,
+        String::from_str(alloc, "qm_rows_test/lock")?,
         String::from_str(alloc, "qm_rows_test/master")?,
         String::from_str(alloc, "qm_rows_test/one")?,
         String::from_str(alloc, "qm_rows_test/two")?,
@@ -28,8 +29,9 @@ fn ran(rt: &HostRuntime, words: &[&str], script: &[u8]) -> Result<(End, Vec<u8>)
     let mut source = MemorySource::new(script.to_vec(alloc)?, Vec::new(alloc));
     let mut sink = MemorySink::new(alloc, Vec::new(alloc));
     let disk = files(rt.clone()?)?;
-    let outcome = qman(alloc, &owned, &mut source, &mut sink, disk);
-    Ok((outcome.end, sink.held().to_vec(alloc)?))
+    let Outcome { end, disk, .. } = qman(alloc, &owned, &mut source, &mut sink, disk);
+    disk.close();
+    Ok((end, sink.held().to_vec(alloc)?))
 }
 
 #[test]

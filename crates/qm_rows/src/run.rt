@@ -3,6 +3,7 @@ use qm_disk::MemoryDisk;
 use qm_io::{MemorySink, MemorySource};
 use qm_program::{End, Outcome, qman};
 use std::alloc::{AllocError, Global};
+use std::fmt::Debug;
 use std::process::Abort;
 use std::test::Fail;
 
@@ -10,7 +11,6 @@ use std::test::Fail;
 #[derive(Drop)]
 pub(crate) struct Ran {
     pub(crate) end: End,
-    pub(crate) status: u8,
     pub(crate) transcript: Vec<u8>,
     pub(crate) disk: MemoryDisk,
 }
@@ -21,6 +21,18 @@ impl Ran {
         let Ran { disk, .. } = self;
         serve(alloc, script, disk)
     }
+}
+
+/// That a run ended so and printed this, where it is the run with what is told of it.
+pub(crate) fn check<R: Abort, W: Debug + Drop>(
+    rt: &R,
+    told: W,
+    ran: &Ran,
+    end: End,
+    printed: &[u8],
+) {
+    assert_eq!(rt; ran.end, end, "{told:?}");
+    assert_eq!(rt; ran.transcript.as_slice(), printed, "{told:?}");
 }
 
 /// A device whose queue file holds these bytes, and whose other files are empty. It fails at the calls that are listed,
@@ -55,10 +67,9 @@ pub(crate) fn run_with(
     }
     let mut source = MemorySource::new(script.to_vec(alloc)?, reads_that_fail.to_vec(alloc)?);
     let mut sink = MemorySink::new(alloc, writes_that_fail.to_vec(alloc)?);
-    let Outcome { status, end, disk } = qman(alloc, &owned, &mut source, &mut sink, disk);
+    let Outcome { end, disk, .. } = qman(alloc, &owned, &mut source, &mut sink, disk);
     Ok(Ran {
         end,
-        status,
         transcript: sink.held().to_vec(alloc)?,
         disk,
     })
@@ -78,8 +89,7 @@ pub(crate) fn serve(alloc: Global, script: &[u8], disk: MemoryDisk) -> Result<Ra
 pub(crate) fn site<R: Abort + AllocGlobal>(rt: &R) -> Result<MemoryDisk, Fail> {
     let alloc = rt.alloc();
     let made = init(alloc, "A", device(alloc, &[], &[])?)?;
-    assert_eq!(rt; made.end, End::Ok);
-    assert_eq!(rt; made.transcript.as_slice(), b"initialized\n".as_slice());
+    check(rt, "init", &made, End::Ok, b"initialized\n");
     let Ran { disk, .. } = made;
     Ok(disk)
 }

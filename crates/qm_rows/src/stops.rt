@@ -3,7 +3,7 @@
 // Opening a new site is nine calls: a sync, the size, two reads for each of the three rows, and one of the closed gate. Each
 // accepted line is four: the record behind the gate is written and synced, and then the gate is. The first script has two
 // accepted lines and a listing.
-use crate::run::{Ran, device, run_with, serve, site};
+use crate::run::{Ran, check, device, run_with, serve, site};
 use qm_program::End;
 use std::process::Abort;
 use std::test::Fail;
@@ -64,90 +64,67 @@ fn check_images<R: Abort + AllocGlobal>(
     call: u64,
     found: [&[u8]; 3],
 ) -> Result<(), Fail> {
-    let alloc = rt.alloc();
     for (pick, lines) in [(0, found[0]), (1, found[1]), (2, found[2])] {
-        let later = serve(alloc, LOOK, ran.disk.after_crash(pick)?)?;
-        assert_eq!(rt; later.end, End::Ok, "call {call}, image {pick}");
-        assert_eq!(rt;
-            later.transcript.as_slice(),
-            lines,
-            "call {call}, image {pick}"
-        );
+        let later = serve(rt.alloc(), LOOK, ran.disk.after_crash(pick)?)?;
+        check(rt, (call, pick), &later, End::Ok, lines);
     }
     Ok(())
 }
 
-// What is found on the device that was given back, with no crash.
-fn check_given_back<R: Abort + AllocGlobal>(
+// Runs on a device that fails at this call: how they end and what they print, and what is found on the device that was
+// given back, and after a crash of each kind.
+fn check_stop<R: Abort + AllocGlobal>(
     rt: &R,
-    ran: Ran,
     call: u64,
-    lines: &[u8],
+    end: End,
+    printed: &[u8],
+    given_back: &[u8],
+    after_crash: [&[u8]; 3],
 ) -> Result<(), Fail> {
+    let ran = stopped(rt, call)?;
+    check(rt, call, &ran, end, printed);
+    check_images(rt, &ran, call, after_crash)?;
     let later = ran.then(rt.alloc(), LOOK)?;
-    assert_eq!(rt; later.end, End::Ok, "call {call}");
-    assert_eq!(rt; later.transcript.as_slice(), lines, "call {call}");
+    check(rt, call, &later, End::Ok, given_back);
     Ok(())
 }
 
 #[test]
 fn opening_may_fail_at_each_call(rt: HostRuntime) -> Result<(), Fail> {
     for call in 1..=9 {
-        let ran = stopped(&rt, call)?;
-        assert_eq!(rt; ran.end, End::Journal, "call {call}");
-        assert_eq!(rt; ran.status, 6);
-        assert_eq!(rt; ran.transcript.len(), 0, "call {call}");
-        check_images(&rt, &ran, call, [NONE, NONE, NONE])?;
-        check_given_back(&rt, ran, call, NONE)?;
+        check_stop(&rt, call, End::Journal, b"", NONE, [NONE, NONE, NONE])?;
     }
     Ok(())
 }
 
 // Before the gate opens the line is in no image. A write of the gate that fails, or isn't synced, may have been made or not;
-// the third image has half of that one byte, and so none of it.
+// the third image has half of that one byte, and so none of it. Past the last call nothing fails.
 #[test]
 fn a_line_may_fail_at_each_call(rt: HostRuntime) -> Result<(), Fail> {
-    for (call, printed, given_back, after_crash) in [
-        (10, FIRST_FAILS, NONE, [NONE, NONE, NONE]),
-        (11, FIRST_FAILS, NONE, [NONE, NONE, NONE]),
-        (12, FIRST_FAILS, NONE, [NONE, ONE, NONE]),
-        (13, FIRST_FAILS, ONE, [NONE, ONE, NONE]),
-        (14, SECOND_FAILS, ONE, [ONE, ONE, ONE]),
-        (15, SECOND_FAILS, ONE, [ONE, ONE, ONE]),
-        (16, SECOND_FAILS, ONE, [ONE, BOTH, ONE]),
-        (17, SECOND_FAILS, BOTH, [ONE, BOTH, ONE]),
+    for (call, end, printed, given_back, after_crash) in [
+        (10, End::Journal, FIRST_FAILS, NONE, [NONE, NONE, NONE]),
+        (11, End::Journal, FIRST_FAILS, NONE, [NONE, NONE, NONE]),
+        (12, End::Journal, FIRST_FAILS, NONE, [NONE, ONE, NONE]),
+        (13, End::Journal, FIRST_FAILS, ONE, [NONE, ONE, NONE]),
+        (14, End::Journal, SECOND_FAILS, ONE, [ONE, ONE, ONE]),
+        (15, End::Journal, SECOND_FAILS, ONE, [ONE, ONE, ONE]),
+        (16, End::Journal, SECOND_FAILS, ONE, [ONE, BOTH, ONE]),
+        (17, End::Journal, SECOND_FAILS, BOTH, [ONE, BOTH, ONE]),
     ] {
-        let ran = stopped(&rt, call)?;
-        assert_eq!(rt; ran.end, End::Journal, "call {call}");
-        assert_eq!(rt; ran.status, 6);
-        assert_eq!(rt; ran.transcript.as_slice(), printed, "call {call}");
-        check_images(&rt, &ran, call, after_crash)?;
-        check_given_back(&rt, ran, call, given_back)?;
+        check_stop(&rt, call, end, printed, given_back, after_crash)?;
     }
-    Ok(())
-}
-
-#[test]
-fn past_the_last_call_nothing_fails(rt: HostRuntime) -> Result<(), Fail> {
-    for call in [18, 19, 1_000_000] {
-        let ran = stopped(&rt, call)?;
-        assert_eq!(rt; ran.end, End::Ok, "call {call}");
-        assert_eq!(rt; ran.transcript.as_slice(), NONE_FAILS, "call {call}");
-        check_images(&rt, &ran, call, [BOTH, BOTH, BOTH])?;
-    }
-    Ok(())
+    let ran = stopped(&rt, 18)?;
+    check(&rt, "past the last call", &ran, End::Ok, NONE_FAILS);
+    check_images(&rt, &ran, 18, [BOTH, BOTH, BOTH])
 }
 
 #[test]
 fn a_failure_that_cannot_be_told_is_a_failed_write(rt: HostRuntime) -> Result<(), Fail> {
     let alloc = rt.alloc();
-    let new = site(&rt)?;
-    let disk = device(alloc, new.held(1), &[10])?;
+    let disk = device(alloc, site(&rt)?.held(1), &[10])?;
     let ran = run_with(alloc, &["run"], SCRIPT, &[], &[1], disk)?;
-    assert_eq!(rt; ran.end, End::Write);
-    assert_eq!(rt; ran.transcript.len(), 0);
-    check_images(&rt, &ran, 10, [NONE, NONE, NONE])?;
-    check_given_back(&rt, ran, 10, NONE)
+    check(&rt, "run", &ran, End::Write, b"");
+    check_images(&rt, &ran, 10, [NONE, NONE, NONE])
 }
 
 // One crash after another. Each run goes on from the image that the one before left; its line is there where the gate was
@@ -174,9 +151,12 @@ fn a_site_goes_on_from_crash_to_crash(rt: HostRuntime) -> Result<(), Fail> {
         file = ran.disk.after_crash(pick)?.held(1).to_vec(alloc)?;
     }
     let last = serve(alloc, line, device(alloc, &file, &[])?)?;
-    assert_eq!(rt;
-        last.transcript.as_slice(),
-        b"A 1: file LOG.LIS, 45 bytes\n".as_slice()
+    check(
+        &rt,
+        "last",
+        &last,
+        End::Ok,
+        b"A 1: file LOG.LIS, 45 bytes\n",
     );
     Ok(())
 }
