@@ -2,10 +2,14 @@
 //! and its status.
 #![tactic(auto)]
 
-use qm_disk::FileDisk;
+mod advice;
+
+use advice::advice;
+use qm_files::FileDisk;
 use qm_io::{InputSource, OutputSink};
-use qm_program::{End, qman};
+use qm_program::{End, Outcome, qman};
 use std::alloc::AllocError;
+use std::io::IsTerminal;
 use std::process::ExitCode;
 use std::{env, io};
 
@@ -23,32 +27,50 @@ fn files(rt: &HostRuntime) -> Result<FileDisk<HostRuntime>, AllocError> {
     let alloc = rt.alloc();
     Ok(FileDisk::new(
         rt.clone()?,
+        String::from_str(alloc, "QMAN_LOCK.DAT")?,
         String::from_str(alloc, "QMAN_MASTER.DAT")?,
         String::from_str(alloc, "QMAN_QUEUES_1.DAT")?,
         String::from_str(alloc, "QMAN_QUEUES_2.DAT")?,
     ))
 }
 
-// A word that isn't UTF-8 is no word of the program.
-fn run(rt: &HostRuntime) -> End {
+// How the program ended, and whether another run has the folder. A word that isn't UTF-8 is no word of the program.
+fn run(rt: &HostRuntime) -> (End, bool) {
     let words = match words(rt) {
         Ok(words) => words,
-        Err(error) if error.kind() == io::ErrorKind::InvalidData => return End::Usage,
-        Err(_) => return End::NoMemory,
+        Err(error) if error.kind() == io::ErrorKind::InvalidData => return (End::Usage, false),
+        Err(_) => return (End::NoMemory, false),
     };
     let Ok(disk) = files(rt) else {
-        return End::NoMemory;
+        return (End::NoMemory, false);
     };
     let mut source = InputSource::new(rt.stdin());
     let mut sink = OutputSink::new(rt.stdout());
-    qman(rt.alloc(), &words, &mut source, &mut sink, disk).end
+    let Outcome { end, disk, .. } = qman(rt.alloc(), &words, &mut source, &mut sink, disk);
+    let is_in_use = disk.is_in_use();
+    disk.close();
+    (end, is_in_use)
+}
+
+// Prints the one line of an end. Where nobody reads it, the status says the same.
+fn tell(rt: &HostRuntime, end: End, is_in_use: bool) {
+    let cause = if is_in_use {
+        ", the folder is in use"
+    } else {
+        ""
+    };
+    let next = if rt.stderr().is_terminal() {
+        advice(end, is_in_use)
+    } else {
+        ""
+    };
+    let _ = eprintln!(rt; "qman: {end}{cause}{next}");
 }
 
 fn main(rt: HostRuntime) -> ExitCode {
-    let end = run(&rt);
+    let (end, is_in_use) = run(&rt);
     if end != End::Ok {
-        // Where nobody reads it, the status says the same.
-        let _ = eprintln!(rt; "qman: {end}");
+        tell(&rt, end, is_in_use);
     }
     ExitCode::from(end.status())
 }
