@@ -1,5 +1,5 @@
 // A disk in memory. It keeps a record of its calls, so that a crash may leave of it all that the contract allows.
-ghost use Rattle.std.specs.Prelude.{◌≡◌, ◌⊎◌, ◌+◌, ◌-◌, ◌^◌, ◌≤◌, min, Contains, List, drop, IsErr, ◌++◌, ◌∷◌, [], ℕ, true, false, if◌then◌else◌, is_ok, length, take, IfOk, OnOk, OnErr};
+ghost use Rattle.std.specs.Prelude.{◌≡◌, ◌⊎◌, ◌↔◌, ◌+◌, ◌-◌, ◌^◌, ◌≤◌, min, Contains, List, drop, IsErr, ◌++◌, ◌∷◌, [], ℕ, true, false, if◌then◌else◌, is_ok, length, take, IfOk, OnOk, OnErr};
 ghost use Rattle.qm_disk.specs.Disk.{spliced, Only, IsLeft, Follows, Torn, Cut, KeepsAll, KeepsOthers, Elapses, TellsFaults};
 ghost use Rattle.qm_disk.specs.Calls.{reading, reading_of, first_of, replayed, LeftOf, LeftSince, IsWrite, IsTruncate, Notes, Syncs, ReadsOthers, padded, part, crash_changed, crashed, changed as after_change};
 ghost use Rattle.qm_disk.specs.declared.calls.Change.TheVariants.{Look};
@@ -257,7 +257,7 @@ fn shorten(
 // Counts a call, and says whether it may be made: its number doesn't stand in the list.
 fn next_call(made: &mut u64, fail: &[u64]) -> bool
     ensures made { made.new ≡ min (made.old + 1) (2 ^ 64 - 1) }
-    ensures listed { Contains fail.now made.new → result ≡ false }
+    ensures listed { Contains fail.now made.new ↔ (result ≡ false) }
 {
     *made = made.saturating_add(1);
     !fail.contains(made)

@@ -1,8 +1,8 @@
 -- What a crash leaves at each moment of an append.
 use Rattle.std.proofs.Common.{◌≡◌, inl, sym, ◌∙◌, ap, subst, ℕ, ◌+◌, ◌^◌, ◌<◌, ◌≤◌, List, [], ◌∷◌, ◌++◌, length, drop, arith}
 use Rattle.qm_disk.specs.Disk.{Meaning, Image, spliced, Torn, KeepsOthers}
-use Rattle.qm_glog.specs.Records.{text, size_of, IsLog}
-use Rattle.qm_glog.specs.Reading.{length-text}
+use Rattle.qm_glog.specs.Records.{text, size_of, IsLog, IsShutByZero}
+use Rattle.qm_glog.specs.Reading.{length-text, text-push}
 use Rattle.qm_glog.specs.Moments.{Written, Appended}
 use Rattle.qm_glog.proofs.Adding.{tail, staged, room, length-staged, torn_behind, written_behind, torn_gate, written_gate, after_gate}
 
@@ -45,9 +45,13 @@ module _ {D : Type 0} (m : Meaning D) (file : ℕ) (old : D) (bodies : List (Lis
       others = λ f le other. others.no_more f (image f) le other (written.others f le other);
     }
 
+    whole : (new : D) → m.seen new file ≡ spliced end (1 ∷ []) (m.seen mid file) → m.seen new file ≡ staged bodies body 1 behind
+    whole new opened = opened ∙ ap (λ (l : List ℕ). spliced end (1 ∷ []) l) is_staged ∙ written_gate bodies log.fit end is body small log.gate behind
+
     -- and then the file has it
     pub has_both : (new : D) → m.seen new file ≡ spliced end (1 ∷ []) (m.seen mid file) → IsLog (m.seen new file) (bodies ++ body ∷ [])
-    has_both new opened =
-        let whole : m.seen new file ≡ staged bodies body 1 behind =
-        opened ∙ ap (λ (l : List ℕ). spliced end (1 ∷ []) l) is_staged ∙ written_gate bodies log.fit end is body small log.gate behind in
-        subst (λ (l : List ℕ). IsLog l (bodies ++ body ∷ [])) (sym whole) (after_gate bodies log.fit end is body small behind)
+    has_both new opened = subst (λ (l : List ℕ). IsLog l (bodies ++ body ∷ [])) (sym (whole new opened)) (after_gate bodies log.fit end is body small behind)
+
+    -- and behind it the byte 0
+    pub shut_by_zero : (new : D) → m.seen new file ≡ spliced end (1 ∷ []) (m.seen mid file) → IsShutByZero (m.seen new file) (bodies ++ body ∷ [])
+    shut_by_zero new opened = (behind, whole new opened ∙ sym (text-push bodies body (0 ∷ behind)))

@@ -32,6 +32,10 @@ pub record IsLog (file : List ℕ) (bodies : List (List ℕ)) : Type 0 where
   pub shut : gate ≢ 1
   pub fit : Fit bodies
 
+-- behind open records of these bodies the file has the byte 0
+abbrev pub IsShutByZero : List ℕ → List (List ℕ) → Type 0
+IsShutByZero file bodies = (rest : List ℕ) × (file ≡ text bodies ++ 0 ∷ rest)
+
 -- the file begins with a whole record
 abbrev pub BeginsWithRecord : List ℕ → Type 0
 BeginsWithRecord file = (body : List ℕ) × (rest : List ℕ) × (length body < 2 ^ 32) × (file ≡ 1 ∷ (behind_gate body ++ rest))

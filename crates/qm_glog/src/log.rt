@@ -1,7 +1,7 @@
 // The log and its calls on records.
 ghost use Rattle.std.specs.Prelude.{◌≡◌, ◌+◌, ◌<◌, ◌≤◌, [], ◌∷◌, ◌++◌, IsTrue, length, vec_capacity, OnOk, OnErr, IsErrOf, slice_get, Some};
 ghost use Rattle.qm_disk.specs.Disk.{KeepsOthers, LeavesOnly, TellsFaults};
-ghost use Rattle.qm_glog.specs.Records.{size_of};
+ghost use Rattle.qm_glog.specs.Records.{size_of, IsShutByZero};
 ghost use Rattle.qm_glog.specs.Bodies.{list_of, free_bytes, free_ends};
 ghost use Rattle.qm_glog.specs.declared.log.TheConstants.{GREATEST_CAP};
 
@@ -104,6 +104,7 @@ impl Log {
         ensures ok { OnOk result (bodies_of self.new ≡ bodies_of self.old ++ body.now ∷ []) }
         ensures err { OnErr result (bodies_of self.new ≡ bodies_of self.old) }
         ensures acknowledged { OnOk result (IsTrue D.meaning.tells → IsAsLeft D.meaning self.new disk.new) }
+        ensures shut { OnOk result (IsTrue D.meaning.tells → IsShutByZero (D.meaning.seen disk.new (file_of self.old)) (bodies_of self.new)) }
 
         // A crash at any moment of the call leaves the old records, or these and the new one.
         ensures any_moment { IsTrue D.meaning.tells → LeavesOnly D.meaning disk.old disk.new

@@ -54,6 +54,7 @@ pub fn format<D: Disk>(alloc: Global, disk: &mut D, file: u8) -> Result<Log, Dis
     ensures empty { IfOk result (λ log. bodies_of log ≡ []) }
     ensures place { IfOk result (StandsIn file GREATEST_CAP) }
     ensures left { IfOk result (λ log. IsTrue D.meaning.tells → IsAsLeft D.meaning log disk.new) }
+    ensures written { OnOk result (IsTrue D.meaning.tells → D.meaning.seen disk.new file ≡ 0 ∷ []) }
     ensures changes { ChangesOnly D.meaning file disk.old disk.new }
     ensures faults { TellsFaults D.meaning disk.old disk.new (IsErr result) }
 {
@@ -77,6 +78,7 @@ pub fn create<D: Disk>(
     ensures records { IfOk result (λ log. bodies_of log ≡ contents rows.now) }
     ensures place { IfOk result (StandsIn file cap) }
     ensures left { IfOk result (λ log. IsTrue D.meaning.tells → IsAsLeft D.meaning log disk.new) }
+    ensures written { OnOk result (IsTrue D.meaning.tells → D.meaning.seen disk.new file ≡ text_for (contents rows.now) ++ 0 ∷ []) }
     ensures changes { ChangesOnly D.meaning file disk.old disk.new }
     ensures unchanged { IsErrOf result MakeFault.NoMemory → disk.new ≡ disk.old }
     ensures faults { TellsFaults D.meaning disk.old disk.new (IsErrOf result MakeFault.Disk) }

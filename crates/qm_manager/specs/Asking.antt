@@ -1,7 +1,7 @@
 -- What a request is answered over a queue file.
 use Rattle.std.specs.Prelude.{◌≡◌, ◌<◌, ◌^◌, ℕ, nat_lt, if◌then◌else◌, IsTrue, List, [], ◌∷◌, ◌++◌, length, Result, Ok, Err}
 use Rattle.qm_disk.specs.Disk.{Meaning}
-use Rattle.qm_disk.specs.Disk.{KeepsOthers, LeavesOnly, Rose, IsQuiet}
+use Rattle.qm_disk.specs.Disk.{KeepsOthers, LeavesOnly, OneFailed, IsQuiet}
 use Rattle.qm_kinds.specs.declared.record.Record.{Record}
 use Rattle.qm_kinds.specs.declared.record.Body.TheVariants.{Ask}
 use Rattle.qm_kinds.specs.declared.refusal.Refusal.{Refusal}
@@ -85,5 +85,5 @@ abbrev pub LeavesDevice : {D : Type 0} → Meaning D → D → D → Result Repl
 LeavesDevice m old new (Ok reply) = IsQuiet m old new
 LeavesDevice m old new (Err (fault.Refused refusal)) = new ≡ old
 LeavesDevice m old new (Err (fault.Full need cap)) = new ≡ old
-LeavesDevice m old new (Err fault.Disk) = Rose m old new
+LeavesDevice m old new (Err fault.Disk) = OneFailed m old new
 LeavesDevice m old new (Err fault.NoMemory) = new ≡ old

@@ -7,6 +7,10 @@ use Rattle.qm_store.specs.Store.{place_of, IsAtRest}
 use Rattle.qm_glog.specs.declared.fault.OpenFault.{OpenFault}
 use Rattle.qm_glog.specs.declared.fault.OpenFault.TheVariants.{Disk, Unformatted, Damaged, NoMemory}
 use Rattle.qm_manager.specs.declared.manager.Manager.{Manager}
+use Rattle.qm_store.specs.declared.store.TheConstants.{QUEUE_FILE}
+use Rattle.qm_manager.specs.declared.restoring.RestoreEnd.{RestoreEnd}
+use Rattle.qm_manager.specs.declared.restoring.RestoreEnd.TheVariants.{Unlawful}
+use Rattle.qm_manager.specs.declared.restoring.RestoreEnd.TheVariants as restoring
 use Rattle.qm_manager.specs.QueueFile.{IsFirstUnlawful}
 use Rattle.qm_manager.specs.Site.{Site, IsLawful, IsSite}
 use Rattle.qm_glog.specs.declared.fault.MakeFault.{MakeFault}
@@ -43,12 +47,11 @@ abbrev pub disk_after : {D : Type 0} → Result (Manager D) (D × OpenFault) →
 disk_after (Ok manager) = disk_of manager
 disk_after (Err failed) = failed.0
 
--- The place of the first of these records that can't stand there. Else memory ran out.
-abbrev pub TellsOf : List (List ℕ) → OpenFault → Type 0
-TellsOf bodies (Damaged file place) = (file ≡ 1) × ((index : ℕ) × IsFirstUnlawful bodies index × (place ≡ place_of bodies index))
-TellsOf bodies NoMemory = Unit {0}
-TellsOf bodies Disk = ⊥
-TellsOf bodies (Unformatted byte) = ⊥
+-- what is told of records that aren't those of a queue file: the place of the one that can't stand there, or that memory ran
+-- out
+abbrev pub told_of : List (List ℕ) → RestoreEnd → OpenFault
+told_of bodies (Unlawful index) = Damaged QUEUE_FILE (place_of bodies index)
+told_of bodies restoring.NoMemory = NoMemory
 
 -- the device after the making of a queue file
 abbrev pub disk_made : {D : Type 0} → Result D (D × MakeFault) → D

@@ -5,7 +5,7 @@ ghost use Rattle.qm_store.specs.Opened.{FailsBy};
 ghost use Rattle.qm_store.specs.Store.{bodies_of, disk_of as store_disk};
 ghost use Rattle.qm_manager.specs.Site.{new_site};
 ghost use Rattle.qm_manager.specs.Manager.{IsReady};
-ghost use Rattle.qm_manager.specs.Opened.{Opens, Makes, TellsOf, disk_after, disk_made};
+ghost use Rattle.qm_manager.specs.Opened.{Opens, Makes, told_of, disk_after, disk_made};
 ghost use Rattle.qm_manager.specs.Restoring.{Judges};
 
 use crate::manager::Manager;
@@ -38,7 +38,7 @@ pub fn init<D: Disk>(alloc: Global, disk: D, node: Name) -> Result<D, (D, MakeFa
 fn give_up<D: Disk>(store: Open<D>, end: RestoreEnd) -> (D, OpenFault)
     requires { Judges (bodies_of store) end }
     ensures disk { result.0 ≡ store_disk store }
-    ensures told { TellsOf (bodies_of store) result.1 }
+    ensures told { result.1 ≡ told_of (bodies_of store) end }
 {
     match end {
         RestoreEnd::Unlawful { index } => {

@@ -2,6 +2,7 @@
 use Rattle.std.proofs.Common.{◌≡◌, ◌⊎◌, inl, inr, ⊎_elim, ℕ, List, Bool, true, false, Option, None, Some, Result, Ok, Err, IsTrue, IfSome, refl, sym, ◌∙◌, ap, subst, arith}
 use Rattle.std.specs.Io.KnownBytes.{IsAtEnd}
 use Rattle.qm_disk.specs.Disk.{Meaning, OnlyLooks, IsQuiet, TellsFaults}
+use Rattle.qm_io.specs.Bytes.{LosesAtMost}
 use Rattle.qm_io.specs.Faults.{counted}
 use Rattle.qm_io.specs.Faults as io
 use Rattle.qm_kinds.specs.declared.script.ScriptKind.{ScriptKind}
@@ -17,9 +18,10 @@ use Rattle.qm_manager.specs.Opened.{IsOpenFault}
 use Rattle.qm_manager.specs.Manager.{site_of, node_of, disk_of, IsReady}
 use Rattle.qm_program.specs.Transcript.{Step, steps_of}
 use Rattle.qm_program.specs.Course.{Outside, MakesSteps, StopsWithin, ServesNothing}
-use Rattle.qm_program.specs.Running.{IsRead, OfScript, IsFound, Serves, ServesTo, RunsTo, OthersStay, Counts, IsFaulty, IsOfAnother, HasCause, IsWithoutFault, HasSoundScript}
+use Rattle.qm_program.specs.Running.{IsRead, Reads, OfScript, IsFound, Serves, ServesTo, RunsTo, OthersStay, Counts, IsFaulty, IsOfAnother, HasCause, IsWithoutFault, HasSoundScript}
 use Rattle.qm_program.specs.Serving.{CountsSink}
 use Rattle.qm_program.specs.Ends.{end_of, end_of_opening}
+use Rattle.qm_program.specs.declared.script.TheConstants.{SCRIPT_BYTES}
 use Rattle.qm_program.specs.declared.outcome.End.{End}
 use Rattle.qm_program.specs.declared.outcome.End.TheVariants as ends
 use Rattle.qm_program.specs.declared.serve.ServeEnd.{ServeEnd}
@@ -47,12 +49,12 @@ module _ {D : Type 0} (m : Meaning D) where
   looked_at : (old new : D) (taken : Option (List ℕ)) → OnlyLooks m old new → ServesNothing m (record { device = old; taken = taken }) (record { device = new; taken = taken })
   looked_at old new taken looks = record { device = looks; taken = keeps_same taken }
 
-  pub opening_serves : (lines : List ScriptLine) (old new : D) (taken : Option (List ℕ)) (f : OpenFault) → OnlyLooks m old new
+  pub opening_serves : (lines : List ScriptLine) (old new : D) (taken : Option (List ℕ)) (f : OpenFault) → (IsTrue m.tells → IsOpenFault (m.seen old 1) f) → OnlyLooks m old new
       → ServesTo m lines (record { device = old; taken = taken }) (record { device = new; taken = taken }) (end_of_opening f)
-  opening_serves lines old new taken opening.Disk looks = inl (looked_at old new taken looks)
-  opening_serves lines old new taken (opening.Unformatted byte) looks = looked_at old new taken looks
-  opening_serves lines old new taken (opening.Damaged file place) looks = looked_at old new taken looks
-  opening_serves lines old new taken opening.NoMemory looks = inl (looked_at old new taken looks)
+  opening_serves lines old new taken opening.Disk told looks = inl (looked_at old new taken looks)
+  opening_serves lines old new taken (opening.Unformatted byte) told looks = looked_at old new taken looks
+  opening_serves lines old new taken (opening.Damaged file place) told looks = looked_at old new taken looks
+  opening_serves lines old new taken opening.NoMemory told looks = inl (looked_at old new taken looks, told)
 
   -- ---- a queue file that was made
 
@@ -140,16 +142,29 @@ module _ {D : Type 0} (m : Meaning D) where
   others_same old new same = subst (λ (d : D). OthersStay m old d) (sym same) (record { reads = λ f le other. refl; no_more = λ f c le other left. left })
 
   -- no run answers that the words ask for nothing
-  pub never_usage : (left rest : Option (List ℕ)) (old new : Outside D) (end : End) → RunsTo m left rest old new end → end ≡ ends.Usage → ⊥
-  never_usage left rest old new end runs is = subst (λ (e : End). RunsTo m left rest old new e) is runs
+  pub never_usage : (left : Option (List ℕ)) (old new : Outside D) (end : End) → RunsTo m left old new end → end ≡ ends.Usage → ⊥
+  never_usage left old new end runs is = subst (λ (e : End). RunsTo m left old new e) is runs
+
+  -- a source whose script was served was read to its end
+  pub reads_whole : (left rest : Option (List ℕ)) (lines : List ScriptLine) (old new : Outside D) (end : End) → ServesTo m lines old new end
+      → LosesAtMost (SCRIPT_BYTES + 1) left rest → IsAtEnd rest → Reads left rest end
+  reads_whole left rest lines old new ends.Ok serves lost at_end = at_end
+  reads_whole left rest lines old new ends.Usage serves lost at_end = absurd serves
+  reads_whole left rest lines old new ends.Read serves lost at_end = absurd serves
+  reads_whole left rest lines old new (ends.Script line kind) serves lost at_end = (lost, λ not. at_end)
+  reads_whole left rest lines old new ends.Write serves lost at_end = at_end
+  reads_whole left rest lines old new ends.Journal serves lost at_end = at_end
+  reads_whole left rest lines old new (ends.Unformatted byte) serves lost at_end = at_end
+  reads_whole left rest lines old new (ends.Damaged file place) serves lost at_end = at_end
+  reads_whole left rest lines old new ends.NoMemory serves lost at_end = inr at_end
 
   -- what was read is a script, over which the run went on
-  module _ (left rest : Option (List ℕ)) (text : List ℕ) (lines : List ScriptLine) (read : IsRead left text) (script : script_of text ≡ Ok lines) (at_end : IsAtEnd rest) where
+  module _ (left : Option (List ℕ)) (text : List ℕ) (lines : List ScriptLine) (read : IsRead left text) (script : script_of text ≡ Ok lines) where
     of_script : {P : List ScriptLine → Type 0} → P lines → OfScript left P
     of_script so = record { text = text; lines = lines; read = read; script = script; so = so }
 
-    pub serves_script : (old new : Outside D) (end : End) → ServesTo m lines old new end → RunsTo m left rest old new end
-    serves_script old new ends.Ok serves = (at_end, of_script serves)
+    pub serves_script : (old new : Outside D) (end : End) → ServesTo m lines old new end → RunsTo m left old new end
+    serves_script old new ends.Ok serves = of_script serves
     serves_script old new ends.Usage serves = absurd serves
     serves_script old new ends.Read serves = absurd serves
     serves_script old new (ends.Script line kind) serves = (serves.0, λ not. absurd (not serves.1))
@@ -157,7 +172,7 @@ module _ {D : Type 0} (m : Meaning D) where
     serves_script old new ends.Journal serves = ⊎_elim (λ nothing. inl (nothing, of_script tt)) (λ stopped. inr (of_script stopped)) serves
     serves_script old new (ends.Unformatted byte) serves = (serves, of_script tt)
     serves_script old new (ends.Damaged file place) serves = (serves, of_script tt)
-    serves_script old new ends.NoMemory serves = ⊎_elim (λ nothing. inl nothing) (λ stopped. inr (of_script stopped)) serves
+    serves_script old new ends.NoMemory serves = ⊎_elim (λ nothing. inr (inl (nothing, of_script tt))) (λ stopped. inr (inr (of_script stopped))) serves
 
     faulty_text : (tells : Bool) (file : List ℕ) (o : Option (List ℕ)) → IsRead o text → (kind : ScriptKind) → IsOfAnother tells file lines kind → IsFaulty tells file o kind
     faulty_text tells file None r kind another = tt

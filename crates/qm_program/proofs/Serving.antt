@@ -1,7 +1,7 @@
 -- How a line that is answered, or isn't, makes a step of the run.
 use Rattle.std.proofs.Common.{◌≡◌, inl, inr, ⊎_elim, ℕ, List, [], ◌∷◌, Option, Ok, Err, IsTrue, subst}
 use Rattle.std.specs.Io.KnownBytes.{Appends}
-use Rattle.qm_disk.specs.Disk.{Meaning, Rose}
+use Rattle.qm_disk.specs.Disk.{Meaning, OneFailed}
 use Rattle.qm_io.specs.Bytes.{TakesPrefix}
 use Rattle.qm_model.specs.Script.{ScriptLine}
 use Rattle.qm_model.specs.Transcript.{journal_line}
@@ -41,12 +41,12 @@ module _ {D : Type 0} (m : Meaning D) (line : ScriptLine) (old new : Manager D) 
   }
 
   -- the disk failed, and the sink took what says so
-  pub failure_told : Steps m (site_of old) (turn (site_of old) line).site (disk_of old) (disk_of new) → Rose m (disk_of old) (disk_of new)
+  pub failure_told : Steps m (site_of old) (turn (site_of old) line).site (disk_of old) (disk_of new) → OneFailed m (disk_of old) (disk_of new)
       → Appends taken now (answer_text line (journal_line ∷ [])) → StopsAtStep m (site_of old) (step_of (site_of old) line) (outside old taken) (outside new now) ends.Journal
   failure_told steps rose took = record { device = steps; ends = (rose, took) }
 
   -- the disk failed, and the sink failed to take what says so
-  pub failure_cut : Steps m (site_of old) (turn (site_of old) line).site (disk_of old) (disk_of new) → Rose m (disk_of old) (disk_of new)
+  pub failure_cut : Steps m (site_of old) (turn (site_of old) line).site (disk_of old) (disk_of new) → OneFailed m (disk_of old) (disk_of new)
       → TakesPart taken now (answer_text line (journal_line ∷ [])) → StopsAtStep m (site_of old) (step_of (site_of old) line) (outside old taken) (outside new now) ends.Write
   failure_cut steps rose took = record { device = steps; ends = inr (rose, took) }
 

@@ -125,19 +125,20 @@ module _ {D : Type 0} (m : Meaning D) (only_now : (disk : D) (image : Image) →
       subst (λ (all : List Step). LeavesOnly m old.device new.device (Reaches (m.may_leave old.device) site all)) (append-nil steps) (steps_reach site steps [] old new made told is)
 
   -- what a crash leaves of a run, by its end
-  pub run_survives : (left rest : Option (List ℕ)) (old new : Outside D) (end : End) → RunsTo m left rest old new end → IsTrue m.tells
+  pub run_survives : (left : Option (List ℕ)) (old new : Outside D) (end : End) → RunsTo m left old new end → IsTrue m.tells
       → LeavesOnly m old.device new.device (Survives left (m.may_leave old.device) (m.seen old.device 1))
-  run_survives left rest old new ends.Ok runs told = script_survives (MakesSteps m) all_reach left old new runs.1 told
-  run_survives left rest old new ends.Usage runs told = absurd runs
-  run_survives left rest old new ends.Read runs told = stays left old new runs
-  run_survives left rest old new (ends.Script line kind) runs told = nothing_survives left old new runs.0
-  run_survives left rest old new ends.Write runs told = script_survives (StopsWithin m ends.Write) (stop_reaches ends.Write) left old new runs told
-  run_survives left rest old new ends.Journal runs told =
+  run_survives left old new ends.Ok runs told = script_survives (MakesSteps m) all_reach left old new runs told
+  run_survives left old new ends.Usage runs told = absurd runs
+  run_survives left old new ends.Read runs told = stays left old new runs
+  run_survives left old new (ends.Script line kind) runs told = nothing_survives left old new runs.0
+  run_survives left old new ends.Write runs told = script_survives (StopsWithin m ends.Write) (stop_reaches ends.Write) left old new runs told
+  run_survives left old new ends.Journal runs told =
       ⊎_elim (λ nothing. nothing_survives left old new nothing.0) (λ served. script_survives (StopsWithin m ends.Journal) (stop_reaches ends.Journal) left old new served told) runs
-  run_survives left rest old new (ends.Unformatted byte) runs told = nothing_survives left old new runs.0
-  run_survives left rest old new (ends.Damaged file place) runs told = nothing_survives left old new runs.0
-  run_survives left rest old new ends.NoMemory runs told =
-      ⊎_elim (λ nothing. nothing_survives left old new nothing) (λ served. script_survives (StopsWithin m ends.NoMemory) (stop_reaches ends.NoMemory) left old new served told) runs
+  run_survives left old new (ends.Unformatted byte) runs told = nothing_survives left old new runs.0
+  run_survives left old new (ends.Damaged file place) runs told = nothing_survives left old new runs.0
+  run_survives left old new ends.NoMemory runs told =
+      ⊎_elim (λ same. stays left old new same) (λ opened.
+      ⊎_elim (λ nothing. nothing_survives left old new nothing.0.0) (λ served. script_survives (StopsWithin m ends.NoMemory) (stop_reaches ends.NoMemory) left old new served told) opened) runs
 
 -- ---- what the sink took
 
@@ -152,21 +153,21 @@ module _ {D : Type 0} (m : Meaning D) where
       Appends-trans old.taken made.0.taken new.taken step.text (text_of steps) made.1.0.printed (steps_print step.after steps made.0 new made.1.1)
 
   pub served_whole : (only_now : (disk : D) (image : Image) → m.left_since disk (m.moment disk) image → IsLeft (m.may_leave disk) image)
-      → (left rest : Option (List ℕ)) (old new : Outside D) → RunsTo m left rest old new ends.Ok → OfScript left (AreServed m old new)
-  served_whole only_now left rest old new runs =
-      let so = runs.1.so in
+      → (left : Option (List ℕ)) (old new : Outside D) → RunsTo m left old new ends.Ok → OfScript left (AreServed m old new)
+  served_whole only_now left old new runs =
+      let so = runs.so in
       record {
-        text = runs.1.text;
-        lines = runs.1.lines;
-        read = runs.1.read;
-        script = runs.1.script;
+        text = runs.text;
+        lines = runs.lines;
+        read = runs.read;
+        script = runs.script;
         so = record {
           site = so.site;
           node = so.node;
           found = so.found;
           for_node = so.for_node;
-          taken = steps_print so.site (steps_of so.site runs.1.lines) (record { device = so.opened; taken = old.taken }) new so.serving;
-          left = λ told. at_end m only_now so.site (steps_of so.site runs.1.lines) (record { device = so.opened; taken = old.taken }) new so.serving told (so.at_rest told);
+          taken = steps_print so.site (steps_of so.site runs.lines) (record { device = so.opened; taken = old.taken }) new so.serving;
+          left = λ told. at_end m only_now so.site (steps_of so.site runs.lines) (record { device = so.opened; taken = old.taken }) new so.serving told (so.at_rest told);
         };
       }
 

@@ -2,7 +2,7 @@
 use Rattle.std.specs.Prelude.{◌≡◌, ◌⊎◌, ◌<◌, ℕ, IsTrue, List, [], ◌∷◌, ◌++◌, length, Option}
 use Rattle.std.specs.Io.KnownBytes.{Appends, Keeps}
 use Rattle.qm_disk.specs.Disk.{Meaning}
-use Rattle.qm_disk.specs.Disk.{Rose, IsQuiet}
+use Rattle.qm_disk.specs.Disk.{OneFailed, IsQuiet}
 use Rattle.qm_disk.specs.Disk.{OnlyLooks}
 use Rattle.qm_manager.specs.Site.{Site, IsSiteOf}
 use Rattle.qm_manager.specs.Asking.{Steps}
@@ -43,13 +43,13 @@ module _ {D : Type 0} (m : Meaning D) where
   abbrev pub StopsWriting : Site → Step → Outside D → Outside D → Type 0
   StopsWriting site step old new =
       (IsQuiet m old.device new.device × (IsTrue m.tells → IsSiteOf m step.after new.device) × TakesPart old.taken new.taken step.text)
-      ⊎ (Rose m old.device new.device × TakesPart old.taken new.taken step.failure)
+      ⊎ (OneFailed m old.device new.device × TakesPart old.taken new.taken step.failure)
 
   -- The end of a run that stops at a step. At Journal the disk failed, and the sink took what says so. At NoMemory nothing
   -- of the step was printed, and the queue file is that of the site before it or after it, which no crash can change.
   abbrev pub EndsAtStep : Site → Step → Outside D → Outside D → End → Type 0
   EndsAtStep site step old new ends.Write = StopsWriting site step old new
-  EndsAtStep site step old new ends.Journal = Rose m old.device new.device × Appends old.taken new.taken step.failure
+  EndsAtStep site step old new ends.Journal = OneFailed m old.device new.device × Appends old.taken new.taken step.failure
   EndsAtStep site step old new ends.NoMemory =
       IsQuiet m old.device new.device × Keeps old.taken new.taken × (IsTrue m.tells → IsSiteOf m site new.device ⊎ IsSiteOf m step.after new.device)
   EndsAtStep site step old new ends.Ok = ⊥

@@ -1,13 +1,15 @@
 -- What a run, and the making of a queue file, leave of the source, the sink and the device, by their end.
-use Rattle.std.specs.Prelude.{◌≡◌, ◌≢◌, ◌⊎◌, ◌<◌, ◌≤◌, ◌-◌, ◌^◌, ℕ, Bool, true, false, List, Option, None, Some, IfSome, IsSome, IsTrue, Ok, Err}
+use Rattle.std.specs.Prelude.{◌≡◌, ◌≢◌, ◌⊎◌, ◌<◌, ◌≤◌, ◌+◌, ◌-◌, ◌^◌, ℕ, Bool, true, false, List, Option, None, Some, IfSome, IsSome, IsTrue, Ok, Err}
 use Rattle.std.specs.Io.KnownBytes.{Appends, Keeps, IsAtEnd}
 use Rattle.qm_disk.specs.Disk.{Meaning}
 use Rattle.qm_disk.specs.Disk.{LeavesOnly, OthersLeft, IsQuiet}
+use Rattle.qm_io.specs.Bytes.{LosesAtMost, LosesSome}
 use Rattle.qm_io.specs.Faults.{Rose, counted}
 use Rattle.qm_disk.specs.Disk.{OnlyLooks}
+use Rattle.qm_glog.specs.Records.{BeginsWithRecord}
 use Rattle.qm_store.specs.Opened.{first_byte}
 use Rattle.qm_kinds.specs.declared.script.ScriptKind.{ScriptKind}
-use Rattle.qm_kinds.specs.declared.script.ScriptKind.TheVariants.{Node}
+use Rattle.qm_kinds.specs.declared.script.ScriptKind.TheVariants.{Node, Long}
 use Rattle.qm_model.specs.Script.{ScriptLine, script_of, are_of_node}
 use Rattle.qm_manager.specs.Site.{Site, IsSite, IsSiteOf, new_site}
 use Rattle.qm_manager.specs.Opened.{IsDamagedFile}
@@ -15,6 +17,7 @@ use Rattle.qm_manager.specs.Restoring.{HasNode}
 use Rattle.qm_program.specs.Transcript.{Step, steps_of}
 use Rattle.qm_program.specs.Task.{initialized}
 use Rattle.qm_program.specs.Course.{Outside, TakesPart, MakesSteps, StopsWithin, ServesNothing}
+use Rattle.qm_program.specs.declared.script.TheConstants.{SCRIPT_BYTES}
 use Rattle.qm_program.specs.declared.outcome.End.{End}
 use Rattle.qm_program.specs.declared.outcome.End.TheVariants as ends
 use Rattle.qm_program.specs.declared.task.Task.{Task}
@@ -37,6 +40,19 @@ pub record OfScript (left : Option (List ℕ)) (P : List ScriptLine → Type 0) 
 -- what a source had left is a script
 abbrev pub HasScript : Option (List ℕ) → Type 0
 HasScript left = OfScript left (λ lines. Unit {0})
+
+-- What a run leaves of its source, by its end: it was read to its end, but where it failed, where memory ran out within a
+-- script, and where there was more than a script may have. Then one byte more tells so, and no other is read.
+abbrev pub Reads : Option (List ℕ) → Option (List ℕ) → End → Type 0
+Reads left rest ends.Ok = IsAtEnd rest
+Reads left rest ends.Usage = ⊥
+Reads left rest ends.Read = LosesAtMost (SCRIPT_BYTES + 1) left rest
+Reads left rest (ends.Script line kind) = LosesAtMost (SCRIPT_BYTES + 1) left rest × (kind ≢ Long → IsAtEnd rest)
+Reads left rest ends.Write = IsAtEnd rest
+Reads left rest ends.Journal = IsAtEnd rest
+Reads left rest (ends.Unformatted byte) = IsAtEnd rest
+Reads left rest (ends.Damaged file place) = IsAtEnd rest
+Reads left rest ends.NoMemory = LosesSome SCRIPT_BYTES left rest ⊎ IsAtEnd rest
 
 -- ---- what is served
 
@@ -66,6 +82,10 @@ module _ {D : Type 0} (m : Meaning D) where
     pub at_rest : IsTrue m.tells → IsSiteOf m site opened
     pub serving : goes site (steps_of site lines) (record { device = opened; taken = old.taken }) new
 
+  -- memory ran out at the opening of the queue file, which begins with a whole record
+  abbrev pub LacksMemory : Outside D → Outside D → Type 0
+  LacksMemory old new = ServesNothing m old new × (IsTrue m.tells → BeginsWithRecord (m.seen old.device 1))
+
   -- a run over the script that a source had left, whose steps go on so
   abbrev pub ServesScript : Option (List ℕ) → (Site → List Step → Outside D → Outside D → Type 0) → Outside D → Outside D → Type 0
   ServesScript left goes old new = OfScript left (Serves goes old new)
@@ -80,21 +100,21 @@ module _ {D : Type 0} (m : Meaning D) where
   ServesTo lines old new ends.Journal = ServesNothing m old new ⊎ Serves (StopsWithin m ends.Journal) old new lines
   ServesTo lines old new (ends.Unformatted byte) = ServesNothing m old new
   ServesTo lines old new (ends.Damaged file place) = ServesNothing m old new
-  ServesTo lines old new ends.NoMemory = ServesNothing m old new ⊎ Serves (StopsWithin m ends.NoMemory) old new lines
+  ServesTo lines old new ends.NoMemory = LacksMemory old new ⊎ Serves (StopsWithin m ends.NoMemory) old new lines
 
-  -- What a run leaves, by its end. At Ok the source is at its end and all steps were made. At Read, and at Script for another
-  -- reason than the node of a line, the device wasn't looked at. At Journal and NoMemory either nothing was served, or
-  -- the run stopped within its steps; at Write it did.
-  abbrev pub RunsTo : Option (List ℕ) → Option (List ℕ) → Outside D → Outside D → End → Type 0
-  RunsTo left rest old new ends.Ok = IsAtEnd rest × ServesScript left (MakesSteps m) old new
-  RunsTo left rest old new ends.Usage = ⊥
-  RunsTo left rest old new ends.Read = new ≡ old
-  RunsTo left rest old new (ends.Script line kind) = ServesNothing m old new × (kind ≢ Node → new ≡ old)
-  RunsTo left rest old new ends.Write = ServesScript left (StopsWithin m ends.Write) old new
-  RunsTo left rest old new ends.Journal = (ServesNothing m old new × HasScript left) ⊎ ServesScript left (StopsWithin m ends.Journal) old new
-  RunsTo left rest old new (ends.Unformatted byte) = ServesNothing m old new × HasScript left
-  RunsTo left rest old new (ends.Damaged file place) = ServesNothing m old new × HasScript left
-  RunsTo left rest old new ends.NoMemory = ServesNothing m old new ⊎ ServesScript left (StopsWithin m ends.NoMemory) old new
+  -- What a run over what a source had left leaves, by its end. At Ok all steps were made. At Read, and at Script for another
+  -- reason than the node of a line, the device wasn't looked at, nor where memory ran out before the script was known. At
+  -- Journal and else at NoMemory either nothing was served, or the run stopped within its steps; at Write it did.
+  abbrev pub RunsTo : Option (List ℕ) → Outside D → Outside D → End → Type 0
+  RunsTo left old new ends.Ok = ServesScript left (MakesSteps m) old new
+  RunsTo left old new ends.Usage = ⊥
+  RunsTo left old new ends.Read = new ≡ old
+  RunsTo left old new (ends.Script line kind) = ServesNothing m old new × (kind ≢ Node → new ≡ old)
+  RunsTo left old new ends.Write = ServesScript left (StopsWithin m ends.Write) old new
+  RunsTo left old new ends.Journal = (ServesNothing m old new × HasScript left) ⊎ ServesScript left (StopsWithin m ends.Journal) old new
+  RunsTo left old new (ends.Unformatted byte) = ServesNothing m old new × HasScript left
+  RunsTo left old new (ends.Damaged file place) = ServesNothing m old new × HasScript left
+  RunsTo left old new ends.NoMemory = (new ≡ old) ⊎ ((LacksMemory old new × HasScript left) ⊎ ServesScript left (StopsWithin m ends.NoMemory) old new)
 
   -- What the making of a queue file leaves, by its end. At Ok and at Write the file is that of a new site of the node. At
   -- Journal it may hold anything. At NoMemory the device is as it was.
@@ -117,7 +137,7 @@ module _ {D : Type 0} (m : Meaning D) where
   -- What the program does, by what its words ask for. Words that ask for nothing touch nothing, and a run alone reads.
   abbrev pub Does : {S : Type 0} → (S → Option (List ℕ)) → Option Task → S → S → Outside D → Outside D → End → Type 0
   Does remaining None source rest old new end = (rest ≡ source) × (new ≡ old)
-  Does remaining (Some Run) source rest old new end = RunsTo (remaining source) (remaining rest) old new end
+  Does remaining (Some Run) source rest old new end = Reads (remaining source) (remaining rest) end × RunsTo (remaining source) old new end
   Does remaining (Some (Init node)) source rest old new end = (rest ≡ source) × Makes node old new end
 
   -- the files other than the queue file read as before, and a crash leaves nothing else of them than it might before

@@ -7,13 +7,13 @@ use Rattle.qm_model.specs.Built.{is_built}
 use Rattle.qm_model.specs.Listing.{IsOfOneEntry}
 use Rattle.qm_model.specs.Transcript.{line_text, journal_line}
 use Rattle.qm_show.specs.declared.answer.Prefix.{Prefix}
-use Rattle.qm_disk.specs.Disk.{Meaning, Rose, IsQuiet}
+use Rattle.qm_disk.specs.Disk.{Meaning, OneFailed, IsQuiet}
 use Rattle.qm_manager.specs.declared.manager.Manager.{Manager}
 use Rattle.qm_manager.specs.Site.{Site}
 use Rattle.qm_manager.specs.Asking.{Steps, HasShortLists}
 use Rattle.qm_manager.specs.Manager.{site_of, node_of, disk_of, IsReady}
 use Rattle.qm_program.specs.Course.{Outside, TakesPart}
-use Rattle.qm_io.specs.Faults.{Rose as SinkRose}
+use Rattle.qm_io.specs.Faults.{Rose}
 use Rattle.qm_program.specs.declared.serve.ServeEnd.{ServeEnd}
 use Rattle.qm_program.specs.declared.serve.ServeEnd.TheVariants as ends
 use Rattle.qm_program.specs.declared.serve.AnswerFault.{AnswerFault}
@@ -42,7 +42,7 @@ TellsFailure prefix NoMemory = Unit {0}
 -- It was handed to a sink, which took it, or failed, and then took a part of it.
 abbrev pub TellsThrough : Option (List ℕ) → Option (List ℕ) → ℕ → ℕ → List ℕ → ServeEnd → Type 0
 TellsThrough old new before now told ends.Journal = Appends old new told × (now ≡ before)
-TellsThrough old new before now told ends.Write = TakesPart old new told × SinkRose before now
+TellsThrough old new before now told ends.Write = TakesPart old new told × Rose before now
 TellsThrough old new before now told ends.NoMemory = ⊥
 
 module _ {D : Type 0} (m : Meaning D) where
@@ -52,7 +52,7 @@ module _ {D : Type 0} (m : Meaning D) where
   LeavesSite before after old new (Ok text) = IsReady m new × (site_of new ≡ after) × IsQuiet m (disk_of old) (disk_of new)
   LeavesSite before after old new (Err NoMemory) =
       IsReady m new × ((site_of new ≡ before) ⊎ (site_of new ≡ after)) × IsQuiet m (disk_of old) (disk_of new)
-  LeavesSite before after old new (Err (Disk told)) = Rose m (disk_of old) (disk_of new)
+  LeavesSite before after old new (Err (Disk told)) = OneFailed m (disk_of old) (disk_of new)
 
   -- how a manager answers a line: a crash at any moment leaves the site from before it or from after it
   pub record Serves {X : Type 0} (before after : Site) (old new : Manager D) (result : Result X AnswerFault) : Type 0 where
@@ -63,6 +63,6 @@ module _ {D : Type 0} (m : Meaning D) where
 -- the sink's count of faults rose where the sink failed, and else it stayed
 abbrev pub CountsSink : {T : Type 0} → ℕ → ℕ → Result T ServeEnd → Type 0
 CountsSink old new (Ok done) = new ≡ old
-CountsSink old new (Err ends.Write) = SinkRose old new
+CountsSink old new (Err ends.Write) = Rose old new
 CountsSink old new (Err ends.Journal) = new ≡ old
 CountsSink old new (Err ends.NoMemory) = new ≡ old

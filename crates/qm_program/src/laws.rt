@@ -16,13 +16,13 @@ use qm_disk::Disk;
 /// the queue file of its site after the first lines of the script, none to all, and of the other files what a crash before
 /// the run might leave.
 pub fn a_crash_leaves_the_site_after_some_lines<D: Disk>(old: &D, new: &D)
-    ensures { (left rest taken printed : Option (List ℕ)) (end : End) → RunsTo D.meaning left rest (record { device = old.now; taken = taken }) (record { device = new.now; taken = printed }) end
+    ensures { (left taken printed : Option (List ℕ)) (end : End) → RunsTo D.meaning left (record { device = old.now; taken = taken }) (record { device = new.now; taken = printed }) end
         → IsTrue D.meaning.tells → LeavesOnly D.meaning old.now new.now (Survives left (D.meaning.may_leave old.now) (D.meaning.seen old.now 1)) }
 {}
 
 /// At `Ok` what the source had left is a script, which was served whole.
 pub fn a_run_that_ends_well_has_served_its_script<D: Disk>(old: &D, new: &D)
-    ensures { (left rest taken printed : Option (List ℕ)) → RunsTo D.meaning left rest (record { device = old.now; taken = taken }) (record { device = new.now; taken = printed }) End.Ok
+    ensures { (left taken printed : Option (List ℕ)) → RunsTo D.meaning left (record { device = old.now; taken = taken }) (record { device = new.now; taken = printed }) End.Ok
         → OfScript left (AreServed D.meaning (record { device = old.now; taken = taken }) (record { device = new.now; taken = printed })) }
 {}
 

@@ -5,7 +5,7 @@ ghost use Rattle.qm_program.specs.Ends.{status_of};
 ghost use Rattle.qm_program.specs.Lines.{lines_view};
 ghost use Rattle.qm_program.specs.Task.{task_of};
 ghost use Rattle.qm_program.specs.Course.{ServesNothing};
-ghost use Rattle.qm_program.specs.Running.{Does, RunsTo, ServesTo, Makes, OthersStay, HasCause, IsFaulty, IsOfAnother, IsWithoutFault, HasSoundScript};
+ghost use Rattle.qm_program.specs.Running.{Does, Reads, RunsTo, ServesTo, Makes, OthersStay, HasCause, IsFaulty, IsOfAnother, IsWithoutFault, HasSoundScript};
 ghost use Rattle.qm_program.specs.declared.task.Task.TheVariants.{Run};
 
 use crate::outcome::{End, Outcome};
@@ -85,7 +85,8 @@ fn run<S: Source, O: Sink, D: Disk>(
     ensures cause { HasCause D.meaning.tells (D.meaning.seen disk 1) (IsFaulty D.meaning.tells (D.meaning.seen disk 1) (S.remaining source.old))
         (record { source = S.faults source.old; sink = O.faults sink.old; device = D.meaning.faults disk })
         (record { source = S.faults source.new; sink = O.faults sink.new; device = D.meaning.faults result.disk }) result.end }
-    ensures runs { RunsTo D.meaning (S.remaining source.old) (S.remaining source.new)
+    ensures reads { Reads (S.remaining source.old) (S.remaining source.new) result.end }
+    ensures runs { RunsTo D.meaning (S.remaining source.old)
         (record { device = disk; taken = O.taken sink.old }) (record { device = result.disk; taken = O.taken sink.new }) result.end }
     ensures others { OthersStay D.meaning disk result.disk }
 {

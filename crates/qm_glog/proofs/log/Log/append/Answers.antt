@@ -1,10 +1,10 @@
 use Rattle.std.proofs.Common.{◌∙◌, sym, subst, ap, ◌+◌, ◌^◌, ◌<◌, length, arith}
 use Rattle.qm_disk.specs.Moments.{weaker, goes_further}
-use Rattle.qm_glog.specs.Records.{size_of, IsLog}
+use Rattle.qm_glog.specs.Records.{size_of, IsLog, IsShutByZero}
 use Rattle.qm_glog.specs.Reading.{size_of-push}
 use Rattle.qm_glog.specs.Bodies.{list_of}
 use Rattle.qm_glog.specs.Moments.{Written, Appended}
-use Rattle.qm_glog.proofs.Added.{gate_stands, gate_still_stands, first_leaves, second_leaves, has_both}
+use Rattle.qm_glog.proofs.Added.{gate_stands, gate_still_stands, first_leaves, second_leaves, has_both, shut_by_zero}
 use Rattle.qm_glog.proofs.log.Log.append.Goals as goal
 
 pub write_through-requires-clause-place : goal.write_through-requires-clause-place
@@ -63,6 +63,16 @@ returns-clause-acknowledged g c = λ told.
       records = subst (IsLog (m.seen c.write_through-2.new.disk log.file)) (sym c.push_reserved.ensures) both;
       durable = c.in_ok-write_through-2.ensures.durable told;
     }
+
+pub returns-clause-shut : goal.returns-clause-shut
+returns-clause-shut g c = λ told.
+    let m = g.D.Disk.meaning in
+    let log = c.args.self.now in
+    let small : length c.args.body.now < 2 ^ 32 = omega arith in
+    let shut = shut_by_zero m log.file c.args.disk.now (list_of log.bodies) (c.requires.left told).records log.end log.at_end c.args.body.now small
+    c.write_through.new.disk c.deref.result.now (c.deref.ensures.value ∙ c.spell.ensures.text) (c.in_ok-write_through.ensures.written told)
+    c.write_through-2.new.disk (c.in_ok-write_through-2.ensures.written told) in
+    subst (IsShutByZero (m.seen c.write_through-2.new.disk log.file)) (sym c.push_reserved.ensures) shut
 
 pub returns-clause-any_moment : goal.returns-clause-any_moment
 returns-clause-any_moment g c = λ told.
