@@ -1,10 +1,10 @@
 // std's readers and writers as a source and a sink. They tell no bytes, since a file or a terminal
 // tells none, and they count their faults.
-ghost use Rattle.std.specs.Prelude.{◌≡◌, ◌<◌, ◌≤◌, length, take, true, false, IfOk, OnOk, OnErr, None, Ok};
+ghost use Rattle.std.specs.Prelude.{◌≡◌, ◌==◌, ◌&&◌, ◌<◌, ◌≤◌, nat_lt, length, take, true, false, IfOk, OnOk, OnErr, None, Ok};
 ghost use Rattle.std.specs.Io.KnownBytes.{Appends, Consumes, IsAtEnd, Keeps};
 ghost use Rattle.qm_io.specs.Adapters.{reader_of, is_ended, input_faults, writer_of, is_lost, output_faults};
 ghost use Rattle.qm_io.specs.Bytes.{TakesSome};
-ghost use Rattle.qm_io.specs.Faults.{Rose, counted};
+ghost use Rattle.qm_io.specs.Faults.{counted};
 
 use crate::failed::count_fault;
 use crate::{Failed, Sink, Source};
@@ -51,15 +51,13 @@ impl<R: Read> Source for InputSource<R> {
         ensures failed { OnErr result (Keeps
             (R.remaining (reader_of self.old)) (R.remaining (reader_of self.new))) }
 
-        ensures ended { IfOk result (λ count.
-            count ≡ 0 → 0 < length into.new → is_ended self.new ≡ true) }
-        ensures goes_on { IfOk result (λ count. 0 < count → is_ended self.new ≡ false) }
+        ensures ended { is_ended self.old ≡ false → IfOk result (λ count.
+            is_ended self.new ≡ (count == 0 && nat_lt 0 (length into.new))) }
         ensures begun { OnErr result (is_ended self.new ≡ is_ended self.old) }
         ensures behind { is_ended self.old ≡ true → (result ≡ Ok 0) × (self.new ≡ self.old) }
 
         ensures quiet { OnOk result (input_faults self.new ≡ input_faults self.old) }
-        ensures counted { OnErr result (input_faults self.new ≡ counted (input_faults self.old)) }
-        ensures cause { OnErr result (Rose (input_faults self.old) (input_faults self.new)) }
+        ensures cause { OnErr result (input_faults self.new ≡ counted (input_faults self.old)) }
         ensures never_falls { input_faults self.old ≤ input_faults self.new }
     {
         if self.is_ended {
@@ -124,8 +122,7 @@ impl<W: Write> Sink for OutputSink<W> {
         ensures untouched { is_lost self.old ≡ true → writer_of self.new ≡ writer_of self.old }
 
         ensures quiet { OnOk result (output_faults self.new ≡ output_faults self.old) }
-        ensures counted { OnErr result (output_faults self.new ≡ counted (output_faults self.old)) }
-        ensures cause { OnErr result (Rose (output_faults self.old) (output_faults self.new)) }
+        ensures cause { OnErr result (output_faults self.new ≡ counted (output_faults self.old)) }
         ensures never_falls { output_faults self.old ≤ output_faults self.new }
     {
         if self.is_lost {

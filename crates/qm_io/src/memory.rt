@@ -1,6 +1,6 @@
 // A source and a sink in memory, which fail at the calls that a list names.
 ghost use Rattle.std.specs.Prelude.{◌≡◌, ◌≤◌, [], ◌++◌, length, min, take, drop, Contains, IfOk, OnOk, OnErr, Ok, Some};
-ghost use Rattle.qm_io.specs.Faults.{Rose, counted};
+ghost use Rattle.qm_io.specs.Faults.{counted};
 
 use crate::failed::count_fault;
 use crate::{Failed, Sink, Source};
@@ -123,7 +123,7 @@ impl Source for MemorySource {
           faults = counted self.old.faults;
         }) }
         ensures quiet { OnOk result (self.new.faults ≡ self.old.faults) }
-        ensures cause { OnErr result (Rose self.old.faults self.new.faults) }
+        ensures cause { OnErr result (self.new.faults ≡ counted self.old.faults) }
         ensures never_falls { self.old.faults ≤ self.new.faults }
     {
         self.reads.begin()?;
@@ -194,7 +194,7 @@ impl Sink for MemorySink {
           faults = counted self.old.faults;
         }) }
         ensures quiet { OnOk result (self.new.faults ≡ self.old.faults) }
-        ensures cause { OnErr result (Rose self.old.faults self.new.faults) }
+        ensures cause { OnErr result (self.new.faults ≡ counted self.old.faults) }
         ensures never_falls { self.old.faults ≤ self.new.faults }
     {
         self.writes.begin()?;

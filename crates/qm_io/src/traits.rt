@@ -1,7 +1,7 @@
 // What reading and writing owe, whatever lies behind them.
 ghost use Rattle.std.specs.Prelude.{◌≡◌, ◌<◌, ◌≤◌, ℕ, List, Option, length, take, is_some, IfOk, OnErr, OnOk, Ok};
 ghost use Rattle.std.specs.Io.KnownBytes.{Appends, Consumes, IsAtEnd, Keeps};
-ghost use Rattle.qm_io.specs.Faults.{Rose};
+ghost use Rattle.qm_io.specs.Faults.{counted};
 
 use crate::Failed;
 
@@ -16,7 +16,7 @@ pub trait Source {
     /// Puts the next bytes at the front of `into` and answers how many: 0 into a place that isn't
     /// empty is the end of the input. What stands behind them in `into` is left open.
     ///
-    /// After `Failed` no byte is lost. Each call that fails is counted, and no other is.
+    /// After `Failed` no byte is lost. Each call that fails is counted by one, and no other is.
     fn read(&mut self, into: &mut [u8]) -> Result<usize, Failed>
         ensures room { IfOk result (λ count. count ≤ length into.new) }
         ensures next { IfOk result (λ count.
@@ -27,7 +27,7 @@ pub trait Source {
         ensures told { is_some (remaining self.new) ≡ is_some (remaining self.old) }
 
         ensures quiet { OnOk result (faults self.new ≡ faults self.old) }
-        ensures cause { OnErr result (Rose (faults self.old) (faults self.new)) }
+        ensures cause { OnErr result (faults self.new ≡ counted (faults self.old)) }
         ensures never_falls { faults self.old ≤ faults self.new };
 }
 
@@ -42,8 +42,8 @@ pub trait Sink {
     /// Takes the first bytes of `piece` and answers how many: one at least of a piece that isn't
     /// empty.
     ///
-    /// After `Failed` none of the piece counts as taken. Each call that fails is counted, and no
-    /// other is.
+    /// After `Failed` none of the piece counts as taken. Each call that fails is counted by one, and
+    /// no other is.
     fn write(&mut self, piece: &[u8]) -> Result<usize, Failed>
         ensures room { IfOk result (λ count. count ≤ length piece.now) }
         ensures some { result ≡ Ok 0 → length piece.now ≡ 0 }
@@ -53,6 +53,6 @@ pub trait Sink {
         ensures told { is_some (taken self.new) ≡ is_some (taken self.old) }
 
         ensures quiet { OnOk result (faults self.new ≡ faults self.old) }
-        ensures cause { OnErr result (Rose (faults self.old) (faults self.new)) }
+        ensures cause { OnErr result (faults self.new ≡ counted (faults self.old)) }
         ensures never_falls { faults self.old ≤ faults self.new };
 }

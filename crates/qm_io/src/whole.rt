@@ -2,7 +2,7 @@
 ghost use Rattle.std.specs.Prelude.{◌≡◌, ◌+◌, ◌<◌, ◌≤◌, ◌++◌, length, vec_len, is_some, IfOk, IfSome, IsErrOf, OnErr, OnOk};
 ghost use Rattle.std.specs.Io.KnownBytes.{Appends, Consumes, IsAtEnd};
 ghost use Rattle.qm_io.specs.Bytes.{LosesAtMost, LosesSome, TakesPrefix};
-ghost use Rattle.qm_io.specs.Faults.{Rose};
+ghost use Rattle.qm_io.specs.Faults.{counted};
 ghost use Rattle.qm_io.specs.declared.whole.ReadEnd.TheVariants as ends;
 
 use crate::{Failed, Sink, Source};
@@ -93,7 +93,7 @@ pub fn read_whole<S: Source>(
     ensures quiet { (IsErrOf result ReadEnd.Failed → ⊥)
         → S.faults source.new ≡ S.faults source.old }
     ensures cause { IsErrOf result ReadEnd.Failed
-        → Rose (S.faults source.old) (S.faults source.new) }
+        → S.faults source.new ≡ counted (S.faults source.old) }
     ensures never_falls { S.faults source.old ≤ S.faults source.new }
 
     ensures lost { LosesAtMost (limit + 1) (S.remaining source.old) (S.remaining source.new) }
@@ -142,7 +142,7 @@ pub fn write_whole<O: Sink>(sink: &mut O, bytes: &[u8]) -> Result<(), Failed>
     ensures told { is_some (O.taken sink.new) ≡ is_some (O.taken sink.old) }
 
     ensures quiet { OnOk result (O.faults sink.new ≡ O.faults sink.old) }
-    ensures cause { OnErr result (Rose (O.faults sink.old) (O.faults sink.new)) }
+    ensures cause { OnErr result (O.faults sink.new ≡ counted (O.faults sink.old)) }
     ensures never_falls { O.faults sink.old ≤ O.faults sink.new }
 {
     let mut at = 0;
