@@ -87,3 +87,9 @@ pub record IsReached (now : ℕ) (old new : Image) : Type 0 where
 pub record KeepsRoom (old new : Image) : Type 0 where
   pub files : vec_capacity new.files ≡ vec_capacity old.files
   pub entries : vec_capacity new.entries ≡ vec_capacity old.entries
+
+-- a new file has the very bytes for which memory was taken, and no copy of them
+abbrev pub HasItsBytes : Image → Change → Type 0
+HasItsBytes image (NewFile place name bytes) = HoldsAt (λ f. f.bytes ≡ bytes) image.files.items place
+HasItsBytes image (MoreBytes place name bytes) = Unit {0}
+HasItsBytes image (NewEntry place entry) = Unit {0}

@@ -15,3 +15,9 @@ abbrev pub Decides : {X : Type 0} → Option Refusal → Result X Refused → Ty
 Decides refusal (Ok x) = refusal ≡ None
 Decides refusal (Err (By r)) = refusal ≡ Some r
 Decides refusal (Err NoMemory) = refusal ≡ None
+
+-- A refusal leaves the image as it was, down to the memory that it holds.
+abbrev pub KeepsRefused : {I X : Type 0} → I → I → Result X Refused → Type 0
+KeepsRefused old new (Ok x) = Unit {0}
+KeepsRefused old new (Err (By r)) = new ≡ old
+KeepsRefused old new (Err NoMemory) = Unit {0}

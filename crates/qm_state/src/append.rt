@@ -27,7 +27,7 @@ impl Image {
     ghost use Rattle.qm_model.specs.Appending.{append_refusal, appended};
     ghost use Rattle.qm_state.specs.Appending.{StandsAs, standing_refusal, Adds};
     ghost use Rattle.qm_state.specs.Preparing.{found};
-    ghost use Rattle.qm_state.specs.Refusing.{Decides};
+    ghost use Rattle.qm_state.specs.Refusing.{Decides, KeepsRefused};
 
     // What is known of the file that stands, or belongs, at the place.
     fn standing(&self, name: &FileName, place: Result<usize, usize>) -> Standing
@@ -158,6 +158,7 @@ impl Image {
     ) -> Result<Prepared<'a>, Refused>
         ensures rows { system_of self.new ≡ system_of self.old }
         ensures decided { Decides (append_refusal (system_of self.old) name.now bytes.now) result }
+        ensures untouched { KeepsRefused self.old self.new result }
         ensures ready { IfOk result (IsPrepared self.new) }
         ensures made { IfOk result (λ prepared. made prepared (system_of self.old) ≡ appended (found now (system_of self.old)) name.now bytes.now) }
     {

@@ -1,7 +1,8 @@
 ghost use Rattle.std.specs.Prelude.{◌≡◌, []};
 ghost use Rattle.qm_model.specs.Appending.{appended};
 ghost use Rattle.qm_state.specs.Image.{system_of};
-ghost use Rattle.qm_state.specs.Preparing.{made, entered, IsPrepared, IsNewFile, AreMoreBytes, IsNewEntry, KeepsRoom};
+ghost use Rattle.qm_state.specs.Preparing.{made, entered, IsPrepared, IsNewFile, AreMoreBytes, IsNewEntry, KeepsRoom, HasItsBytes};
+ghost use Rattle.std.specs.List.{HoldsAt};
 
 use crate::due::earliest;
 use crate::image::Image;
@@ -18,6 +19,7 @@ impl Image {
         requires { IsPrepared self.old prepared }
         ensures done { made prepared.entry (system_of self.old) ≡ record { system = system_of self.new; reply = result } }
         ensures room { KeepsRoom self.old self.new }
+        ensures bytes { HasItsBytes self.new prepared.entry.change }
     {
         let Prepared { at, change } = prepared;
         self.reach(at);
@@ -37,6 +39,7 @@ impl Image {
     fn commit_file(&mut self, place: usize, name: &FileName, bytes: Vec<u8>) -> Act
         requires { IsNewFile self.old place name.now bytes.items }
         ensures room { KeepsRoom self.old self.new }
+        ensures bytes { HoldsAt (λ f. f.bytes ≡ bytes) self.new.files.items place }
         ensures done { appended (system_of self.old) name.now bytes.items ≡ record { system = system_of self.new; reply = record { act = result; started = [] } } }
     {
         let size = bytes.len() as u32;

@@ -3,7 +3,7 @@ ghost use Rattle.qm_model.specs.Applied.{applied};
 ghost use Rattle.qm_model.specs.Built.{is_built};
 ghost use Rattle.qm_state.specs.Image.{system_of};
 ghost use Rattle.qm_state.specs.Preparing.{made, IsPrepared};
-ghost use Rattle.qm_state.specs.Refusing.{Refuses};
+ghost use Rattle.qm_state.specs.Refusing.{Refuses, KeepsRefused};
 
 use crate::image::Image;
 use crate::limits::RUNS_LIMIT;
@@ -14,7 +14,7 @@ use qm_model::idle_requests_start_nothing;
 
 impl Image {
     /// Decides on a request that a node serves at the acting moment, and takes the memory for its change. No row is
-    /// changed. Where the request is refused, it is refused before memory is asked for.
+    /// changed. Where the request is refused, it is refused before memory is asked for, and the image is as it was.
     pub fn prepare<'a>(
         &mut self,
         now: Moment,
@@ -27,6 +27,7 @@ impl Image {
 
         ensures rows { system_of self.new ≡ system_of self.old }
         ensures refused { Refuses result (applied (system_of self.old) now node request.now) }
+        ensures untouched { KeepsRefused self.old self.new result }
 
         // What is prepared can be made, and is what the model accepts.
         ensures ready { IfOk result (IsPrepared self.new) }

@@ -8,7 +8,7 @@ ghost use Rattle.qm_model.specs.Submitting.{submit_refusal, has_bad_value, state
 ghost use Rattle.qm_model.specs.Wanted.{refused_form};
 ghost use Rattle.qm_state.specs.Image.{system_of};
 ghost use Rattle.qm_state.specs.Preparing.{made, found, entered, outcome_of, IsPrepared, IsReady};
-ghost use Rattle.qm_state.specs.Refusing.{Decides};
+ghost use Rattle.qm_state.specs.Refusing.{Decides, KeepsRefused};
 ghost use Rattle.qm_state.specs.Spool.{IsPlace};
 
 use crate::image::Image;
@@ -195,6 +195,7 @@ impl Image {
     ) -> Result<Prepared<'a>, Refused>
         ensures rows { system_of self.new ≡ system_of self.old }
         ensures decided { Decides (submit_refusal (system_of self.old) job.now) result }
+        ensures untouched { KeepsRefused self.old self.new result }
         ensures ready { IfOk result (IsPrepared self.new) }
         ensures made { IfOk result (λ prepared. made prepared (system_of self.old) ≡ submitted (found now (system_of self.old)) now job.now) }
     {
