@@ -1,6 +1,6 @@
 // The one way in which a call of the outside fails.
 ghost use Rattle.std.specs.Prelude.{◌≡◌, ◌≤◌};
-ghost use Rattle.qm_io.specs.Faults.{Rose, counted};
+ghost use Rattle.qm_io.specs.Faults.{counted};
 
 use std::error::Error;
 use std::fmt;
@@ -24,7 +24,6 @@ impl Error for Failed {}
 // Counts a fault.
 pub(crate) fn count_fault(faults: &mut u64) -> Failed
     ensures counted { faults.new ≡ counted faults.old }
-    ensures rose { Rose faults.old faults.new }
     ensures never_falls { faults.old ≤ faults.new }
 {
     *faults = faults.saturating_add(1);

@@ -4,7 +4,6 @@ use Rattle.std.specs.Io.KnownBytes.{IsAtEnd}
 use Rattle.qm_disk.specs.Disk.{Meaning, OnlyLooks, IsQuiet, TellsFaults}
 use Rattle.qm_io.specs.Bytes.{LosesAtMost}
 use Rattle.qm_io.specs.Faults.{counted}
-use Rattle.qm_io.specs.Faults as io
 use Rattle.qm_kinds.specs.declared.script.ScriptKind.{ScriptKind}
 use Rattle.qm_kinds.specs.declared.script.ScriptKind.TheVariants.{Node}
 use Rattle.qm_glog.specs.declared.fault.OpenFault.{OpenFault}
@@ -214,9 +213,6 @@ not_a_script tells file (Some bytes) text kind r is = inl (subst (λ (t : List �
 -- ---- completeness
 
 -- a count that stayed didn't rise
-no_rise : (old new : ℕ) → IsWithoutFault old new → io.Rose old new → ⊥
-no_rise old new without rose = omega (arith, without.0, without.1, rose without.1)
-
 no_count : (old new : ℕ) → IsWithoutFault old new → new ≡ counted old → ⊥
 no_count old new without rose = omega (arith, without.0, without.1, rose)
 
@@ -252,9 +248,9 @@ pub sound_completes : (tells : Bool) (told : IsTrue tells) (file : List ℕ) (le
     → HasCause tells file (IsFaulty tells file left) old new end → (end ≡ ends.Ok) ⊎ (end ≡ ends.NoMemory)
 sound_completes tells told file left old new ends.Ok used sound source sink device cause = inl refl
 sound_completes tells told file left old new ends.Usage used sound source sink device cause = absurd (used refl)
-sound_completes tells told file left old new ends.Read used sound source sink device cause = absurd (no_rise _ _ source cause.0)
+sound_completes tells told file left old new ends.Read used sound source sink device cause = absurd (no_count _ _ source cause.0)
 sound_completes tells told file left old new (ends.Script line kind) used sound source sink device cause = absurd (sound_is_not_faulty tells told file left kind sound cause.2)
-sound_completes tells told file left old new ends.Write used sound source sink device cause = absurd (no_rise _ _ sink cause.0)
+sound_completes tells told file left old new ends.Write used sound source sink device cause = absurd (no_count _ _ sink cause.0)
 sound_completes tells told file left old new ends.Journal used sound source sink device cause = absurd (no_count _ _ device cause.0)
 sound_completes tells told file left old new (ends.Unformatted byte) used sound source sink device cause =
     let begins = cause.1 told in

@@ -16,7 +16,7 @@ use Rattle.qm_program.specs.declared.outcome.End.{End}
 use Rattle.qm_program.specs.declared.serve.ServeEnd.{ServeEnd}
 use Rattle.qm_program.specs.declared.serve.ServeEnd.TheVariants as ends
 use Rattle.qm_program.specs.Serving.{CountsSink}
-use Rattle.qm_io.specs.Faults.{Rose}
+use Rattle.qm_io.specs.Faults as io
 use Rattle.qm_program.specs.declared.script.Line.{Line}
 
 -- ---- steps, one behind the other
@@ -170,6 +170,6 @@ module _ {D : Type 0} (m : Meaning D) where
 
 -- what was counted at a line was counted since the first
 pub counts_on : (first old new : ℕ) (end : ServeEnd) → old ≡ first → CountsSink {T = ℕ} old new (Err end) → CountsSink {T = ℕ} first new (Err end)
-counts_on first old new ends.Write same counted = subst (λ (n : ℕ). Rose n new) same counted
+counts_on first old new ends.Write same counted = subst (λ (n : ℕ). new ≡ io.counted n) same counted
 counts_on first old new ends.Journal same counted = counted ∙ same
 counts_on first old new ends.NoMemory same counted = counted ∙ same

@@ -4,7 +4,7 @@ use Rattle.std.specs.Io.KnownBytes.{Appends, Keeps, IsAtEnd}
 use Rattle.qm_disk.specs.Disk.{Meaning}
 use Rattle.qm_disk.specs.Disk.{LeavesOnly, OthersLeft, IsQuiet}
 use Rattle.qm_io.specs.Bytes.{LosesAtMost, LosesSome}
-use Rattle.qm_io.specs.Faults.{Rose, counted}
+use Rattle.qm_io.specs.Faults.{counted}
 use Rattle.qm_disk.specs.Disk.{OnlyLooks}
 use Rattle.qm_glog.specs.Records.{BeginsWithRecord}
 use Rattle.qm_store.specs.Opened.{first_byte}
@@ -165,14 +165,14 @@ IsFaulty tells file left kind = IfSome left (IsFaultyText tells file kind)
 abbrev pub IsOfAnother : Bool → List ℕ → List ScriptLine → ScriptKind → Type 0
 IsOfAnother tells file lines kind = (kind ≡ Node) × IsForAnother tells file lines
 
--- Each end has its cause: a count rises only where the end says so, and the device's by one. At Write of a run the device may
+-- Each end has its cause: a count rises only where the end says so, and then by one. At Write of a run the device may
 -- have failed before the sink did; what the run leaves says whether it did.
 abbrev pub HasCause : Bool → List ℕ → (ScriptKind → Type 0) → Counts → Counts → End → Type 0
 HasCause tells file Faulty old new ends.Ok = new ≡ old
 HasCause tells file Faulty old new ends.Usage = new ≡ old
 HasCause tells file Faulty old new (ends.Script line kind) = (new ≡ old) × (line ≡ 0) × Faulty kind
-HasCause tells file Faulty old new ends.Read = Rose old.source new.source × (new.sink ≡ old.sink) × (new.device ≡ old.device)
-HasCause tells file Faulty old new ends.Write = Rose old.sink new.sink × (new.source ≡ old.source) × ((new.device ≡ old.device) ⊎ (new.device ≡ counted old.device))
+HasCause tells file Faulty old new ends.Read = (new.source ≡ counted old.source) × (new.sink ≡ old.sink) × (new.device ≡ old.device)
+HasCause tells file Faulty old new ends.Write = (new.sink ≡ counted old.sink) × (new.source ≡ old.source) × ((new.device ≡ old.device) ⊎ (new.device ≡ counted old.device))
 HasCause tells file Faulty old new ends.Journal = (new.device ≡ counted old.device) × (new.source ≡ old.source) × (new.sink ≡ old.sink)
 HasCause tells file Faulty old new (ends.Unformatted byte) = (new ≡ old) × (IsTrue tells → (byte ≡ first_byte file) × (byte ≢ 1))
 HasCause tells file Faulty old new (ends.Damaged f place) = (new ≡ old) × (IsTrue tells → (f ≡ 1) × IsDamagedFile file place)

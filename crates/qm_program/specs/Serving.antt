@@ -13,7 +13,7 @@ use Rattle.qm_manager.specs.Site.{Site}
 use Rattle.qm_manager.specs.Asking.{Steps, HasShortLists}
 use Rattle.qm_manager.specs.Manager.{site_of, node_of, disk_of, IsReady}
 use Rattle.qm_program.specs.Course.{Outside, TakesPart}
-use Rattle.qm_io.specs.Faults.{Rose}
+use Rattle.qm_io.specs.Faults.{counted}
 use Rattle.qm_program.specs.declared.serve.ServeEnd.{ServeEnd}
 use Rattle.qm_program.specs.declared.serve.ServeEnd.TheVariants as ends
 use Rattle.qm_program.specs.declared.serve.AnswerFault.{AnswerFault}
@@ -42,7 +42,7 @@ TellsFailure prefix NoMemory = Unit {0}
 -- It was handed to a sink, which took it, or failed, and then took a part of it.
 abbrev pub TellsThrough : Option (List ℕ) → Option (List ℕ) → ℕ → ℕ → List ℕ → ServeEnd → Type 0
 TellsThrough old new before now told ends.Journal = Appends old new told × (now ≡ before)
-TellsThrough old new before now told ends.Write = TakesPart old new told × Rose before now
+TellsThrough old new before now told ends.Write = TakesPart old new told × (now ≡ counted before)
 TellsThrough old new before now told ends.NoMemory = ⊥
 
 module _ {D : Type 0} (m : Meaning D) where
@@ -63,6 +63,6 @@ module _ {D : Type 0} (m : Meaning D) where
 -- the sink's count of faults rose where the sink failed, and else it stayed
 abbrev pub CountsSink : {T : Type 0} → ℕ → ℕ → Result T ServeEnd → Type 0
 CountsSink old new (Ok done) = new ≡ old
-CountsSink old new (Err ends.Write) = Rose old new
+CountsSink old new (Err ends.Write) = new ≡ counted old
 CountsSink old new (Err ends.Journal) = new ≡ old
 CountsSink old new (Err ends.NoMemory) = new ≡ old
