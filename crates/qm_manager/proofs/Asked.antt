@@ -24,7 +24,7 @@ use Rattle.qm_model.specs.Standing.{node_at}
 use Rattle.qm_model.specs.Appending.{append_refusal, is_spool_full, bytes_of, refused_as_named}
 use Rattle.qm_model.specs.First.{first_system}
 use Rattle.qm_model.specs.Outcome.{Accepted, unless_refused, first_refusal, refused_where}
-use Rattle.qm_record.specs.Spelling.{HasSpelling, record_text}
+use Rattle.qm_record.specs.Spelling.{HasSpelling, record_text, request_record}
 use Rattle.qm_store.specs.Store.{Holds, Appended, Appends, IsAtRest}
 use Rattle.qm_store.specs.declared.store.TheConstants.{QUEUE_CAP}
 use Rattle.qm_manager.specs.QueueFile.{accepted_system, after_record, replayed, first_rows, IsQueueFile}
@@ -185,3 +185,27 @@ module _ (site : Site) (r : Request) (a : Accepted) (accepted : applied site.sys
         others = appends.others;
       }
     ]
+
+-- ---- the same, by what the calls say that make the request: it acts at this moment, which is the last
+
+module _ (site : Site) (r : Request) (a : Accepted) (now : ℕ) (last : now ≡ site.system.last) (accepted : applied site.system now 0 r ≡ Ok a)
+    (bodies : List (List ℕ)) (same : bodies ≡ site.bodies) (body : List ℕ) (text_is : body ≡ record_text (request_record now 0 r)) (fits : HasSpelling (request_record now 0 r))
+    (node : List ℕ) (has : HasNode node site.system) (built : is_built r ≡ true) (lawful : IsLawful site) where
+  accepted_last : applied site.system site.system.last 0 r ≡ Ok a
+  accepted_last = subst (λ (n : ℕ). applied site.system n 0 r ≡ Ok a) last accepted
+
+  text_last : body ≡ record_text (record_of site.system r)
+  text_last = text_is ∙ ap (λ (n : ℕ). record_text (request_record n 0 r)) last
+
+  lawful_last : IsLawful (site_done site r a accepted_last bodies same body text_last)
+  lawful_last = lawful_done site r a accepted_last bodies same body text_last lawful node has built (subst (λ (n : ℕ). HasSpelling (request_record n 0 r)) last fits)
+
+  pub appended_is_lawful : (after : List (List ℕ)) → after ≡ bodies ++ body ∷ [] → (t : System) → a.system ≡ t → IsQueueFile after t
+  appended_is_lawful after is t system_is = lawful_after site r a accepted_last bodies same body text_last lawful_last after is t system_is
+
+  pub steps_appending : {D : Type 0} (m : Meaning D) (old mid new : D) → mid ≡ old → (IsTrue m.tells → IsAtRest m site.bodies old)
+      → ((image : Image) → m.left_since old (m.moment old) image → IsLeft (m.may_leave old) image)
+      → (QUEUE_CAP < need_of bodies body → new ≡ mid) → Appends m bodies body mid new → Steps m site (site_after site (asked site r)) old new
+  steps_appending m old mid new reserved rest only_now unchanged appends =
+      steps_done site r a accepted_last bodies same body text_last m old new lawful lawful_last rest only_now
+      (λ over. unchanged over ∙ reserved) (subst (λ d. Appends m bodies body d new) reserved appends)

@@ -1,15 +1,13 @@
-use Rattle.std.proofs.Common.{◌≡◌, ◌∙◌, Ok, sym, ap, subst, refl}
+use Rattle.std.proofs.Common.{◌∙◌, sym, ap, refl}
 use Rattle.qm_kinds.specs.declared.system.System.{System}
-use Rattle.qm_model.specs.Applied.{applied}
 use Rattle.qm_model.specs.Outcome.{Accepted}
-use Rattle.qm_record.specs.Spelling.{record_text, request_record, HasSpelling}
 use Rattle.qm_state.specs.Image.{system_of}
 use Rattle.qm_state.specs.Preparing.{made}
 use Rattle.qm_store.specs.Store as store
 use Rattle.qm_manager.specs.Asking.{asked, site_after}
 use Rattle.qm_manager.specs.Manager.{site_of, disk_of}
 use Rattle.qm_manager.specs.Sites.{steps_nowhere}
-use Rattle.qm_manager.proofs.Asked.{steps_done, lawful_done, lawful_after}
+use Rattle.qm_manager.proofs.Asked.{steps_appending, appended_is_lawful}
 use Rattle.qm_manager.proofs.manager.Manager.ask.Goals as goal
 
 pub returns-in-Err-By-clause-steps : goal.returns-in-Err-By-clause-steps
@@ -44,64 +42,38 @@ invariant_of-self-in-Ok-append g c =
 
 pub returns-in-Ok-append-clause-steps : goal.returns-in-Ok-append-clause-steps
 returns-in-Ok-append-clause-steps g c =
-    let site = site_of c.args.self.now in
-    let s : System = system_of c.args.self.now.image in
-    let a : Accepted = made c.in-Ok.prepared s in
-    let accepted = subst (λ n. applied s n 0 c.args.request.now ≡ Ok a) c.last-moment.ensures c.in-Ok.ensures.accepted in
-    let text = c.deref.ensures.value ∙ c.in_ok-body.ensures.is ∙ ap (λ n. record_text (request_record n 0 c.args.request.now)) c.last-moment.ensures in
-    let fits = subst (λ n. HasSpelling (request_record n 0 c.args.request.now)) c.last-moment.ensures c.in_ok-body.ensures.fits in
-    steps_done site c.args.request.now a accepted
-    (store.bodies_of c.reserve.new.self) c.reserve.ensures.bodies c.deref.result.now text
-    g.D.Disk.meaning (disk_of c.args.self.now) (store.disk_of c.append.new.self)
-    c.requires.ready.lawful (lawful_done site c.args.request.now a accepted
-    (store.bodies_of c.reserve.new.self) c.reserve.ensures.bodies c.deref.result.now text
-    c.requires.ready.lawful c.args.self.now.node c.args.self.now.named c.requires.built fits) c.requires.ready.rest (g.met.D.Disk.only_now (disk_of c.args.self.now))
-    (λ over. ap store.disk_of (c.append.ensures.unchanged over) ∙ c.reserve.ensures.disk) (rw c.reserve.ensures.disk at c.append.ensures.leaves)
+    let a : Accepted = made c.in-Ok.prepared (system_of c.args.self.now.image) in
+    steps_appending (site_of c.args.self.now) c.args.request.now a c.last-moment.result c.last-moment.ensures c.in-Ok.ensures.accepted
+    (store.bodies_of c.reserve.new.self) c.reserve.ensures.bodies c.deref.result.now (c.deref.ensures.value ∙ c.in_ok-body.ensures.is) c.in_ok-body.ensures.fits
+    c.args.self.now.node c.args.self.now.named c.requires.built c.requires.ready.lawful
+    g.D.Disk.meaning (disk_of c.args.self.now) (store.disk_of c.reserve.new.self) (store.disk_of c.append.new.self) c.reserve.ensures.disk
+    c.requires.ready.rest (g.met.D.Disk.only_now (disk_of c.args.self.now)) (λ over. ap store.disk_of (c.append.ensures.unchanged over)) c.append.ensures.leaves
 
 pub returns-in-Err-Full-clause-steps : goal.returns-in-Err-Full-clause-steps
 returns-in-Err-Full-clause-steps g c =
-    let site = site_of c.args.self.now in
-    let s : System = system_of c.args.self.now.image in
-    let a : Accepted = made c.in-Ok.prepared s in
-    let accepted = subst (λ n. applied s n 0 c.args.request.now ≡ Ok a) c.last-moment.ensures c.in-Ok.ensures.accepted in
-    let text = c.deref.ensures.value ∙ c.in_ok-body.ensures.is ∙ ap (λ n. record_text (request_record n 0 c.args.request.now)) c.last-moment.ensures in
-    let fits = subst (λ n. HasSpelling (request_record n 0 c.args.request.now)) c.last-moment.ensures c.in_ok-body.ensures.fits in
-    steps_done site c.args.request.now a accepted
-    (store.bodies_of c.reserve.new.self) c.reserve.ensures.bodies c.deref.result.now text
-    g.D.Disk.meaning (disk_of c.args.self.now) (store.disk_of c.append.new.self)
-    c.requires.ready.lawful (lawful_done site c.args.request.now a accepted
-    (store.bodies_of c.reserve.new.self) c.reserve.ensures.bodies c.deref.result.now text
-    c.requires.ready.lawful c.args.self.now.node c.args.self.now.named c.requires.built fits) c.requires.ready.rest (g.met.D.Disk.only_now (disk_of c.args.self.now))
-    (λ over. ap store.disk_of (c.append.ensures.unchanged over) ∙ c.reserve.ensures.disk) (rw c.reserve.ensures.disk at c.append.ensures.leaves)
+    let a : Accepted = made c.in-Ok.prepared (system_of c.args.self.now.image) in
+    steps_appending (site_of c.args.self.now) c.args.request.now a c.last-moment.result c.last-moment.ensures c.in-Ok.ensures.accepted
+    (store.bodies_of c.reserve.new.self) c.reserve.ensures.bodies c.deref.result.now (c.deref.ensures.value ∙ c.in_ok-body.ensures.is) c.in_ok-body.ensures.fits
+    c.args.self.now.node c.args.self.now.named c.requires.built c.requires.ready.lawful
+    g.D.Disk.meaning (disk_of c.args.self.now) (store.disk_of c.reserve.new.self) (store.disk_of c.append.new.self) c.reserve.ensures.disk
+    c.requires.ready.rest (g.met.D.Disk.only_now (disk_of c.args.self.now)) (λ over. ap store.disk_of (c.append.ensures.unchanged over)) c.append.ensures.leaves
 
 pub returns-clause-steps : goal.returns-clause-steps
 returns-clause-steps g c =
-    let site = site_of c.args.self.now in
-    let s : System = system_of c.args.self.now.image in
-    let a : Accepted = made c.in-Ok.prepared s in
-    let accepted = subst (λ n. applied s n 0 c.args.request.now ≡ Ok a) c.last-moment.ensures c.in-Ok.ensures.accepted in
-    let text = c.deref.ensures.value ∙ c.in_ok-body.ensures.is ∙ ap (λ n. record_text (request_record n 0 c.args.request.now)) c.last-moment.ensures in
-    let fits = subst (λ n. HasSpelling (request_record n 0 c.args.request.now)) c.last-moment.ensures c.in_ok-body.ensures.fits in
-    steps_done site c.args.request.now a accepted
-    (store.bodies_of c.reserve.new.self) c.reserve.ensures.bodies c.deref.result.now text
-    g.D.Disk.meaning (disk_of c.args.self.now) (store.disk_of c.append.new.self)
-    c.requires.ready.lawful (lawful_done site c.args.request.now a accepted
-    (store.bodies_of c.reserve.new.self) c.reserve.ensures.bodies c.deref.result.now text
-    c.requires.ready.lawful c.args.self.now.node c.args.self.now.named c.requires.built fits) c.requires.ready.rest (g.met.D.Disk.only_now (disk_of c.args.self.now))
-    (λ over. ap store.disk_of (c.append.ensures.unchanged over) ∙ c.reserve.ensures.disk) (rw c.reserve.ensures.disk at c.append.ensures.leaves)
+    let a : Accepted = made c.in-Ok.prepared (system_of c.args.self.now.image) in
+    steps_appending (site_of c.args.self.now) c.args.request.now a c.last-moment.result c.last-moment.ensures c.in-Ok.ensures.accepted
+    (store.bodies_of c.reserve.new.self) c.reserve.ensures.bodies c.deref.result.now (c.deref.ensures.value ∙ c.in_ok-body.ensures.is) c.in_ok-body.ensures.fits
+    c.args.self.now.node c.args.self.now.named c.requires.built c.requires.ready.lawful
+    g.D.Disk.meaning (disk_of c.args.self.now) (store.disk_of c.reserve.new.self) (store.disk_of c.append.new.self) c.reserve.ensures.disk
+    c.requires.ready.rest (g.met.D.Disk.only_now (disk_of c.args.self.now)) (λ over. ap store.disk_of (c.append.ensures.unchanged over)) c.append.ensures.leaves
 
 pub returns-in-Ok-append-clause-ready : goal.returns-in-Ok-append-clause-ready
 returns-in-Ok-append-clause-ready g c = λ not.
-    let site = site_of c.args.self.now in
-    let s : System = system_of c.args.self.now.image in
-    let a : Accepted = made c.in-Ok.prepared s in
-    let accepted = subst (λ n. applied s n 0 c.args.request.now ≡ Ok a) c.last-moment.ensures c.in-Ok.ensures.accepted in
-    let text = c.deref.ensures.value ∙ c.in_ok-body.ensures.is ∙ ap (λ n. record_text (request_record n 0 c.args.request.now)) c.last-moment.ensures in
-    let fits = subst (λ n. HasSpelling (request_record n 0 c.args.request.now)) c.last-moment.ensures c.in_ok-body.ensures.fits in
+    let a : Accepted = made c.in-Ok.prepared (system_of c.args.self.now.image) in
     record {
-      lawful = lawful_after site c.args.request.now a accepted (store.bodies_of c.reserve.new.self) c.reserve.ensures.bodies c.deref.result.now text
-          (lawful_done site c.args.request.now a accepted (store.bodies_of c.reserve.new.self) c.reserve.ensures.bodies c.deref.result.now text
-          c.requires.ready.lawful c.args.self.now.node c.args.self.now.named c.requires.built fits)
+      lawful = appended_is_lawful (site_of c.args.self.now) c.args.request.now a c.last-moment.result c.last-moment.ensures c.in-Ok.ensures.accepted
+          (store.bodies_of c.reserve.new.self) c.reserve.ensures.bodies c.deref.result.now (c.deref.ensures.value ∙ c.in_ok-body.ensures.is) c.in_ok-body.ensures.fits
+          c.args.self.now.node c.args.self.now.named c.requires.built c.requires.ready.lawful
           (store.bodies_of c.append.new.self) c.in-Ok-append.ensures.ok (system_of c.commit.new.self)
           (ap (λ (x : Accepted). x.system) (ap (made c.in-Ok.prepared) (sym c.prepare.ensures.rows) ∙ c.commit.ensures.done));
       rest = c.in-Ok-append.ensures.acknowledged;
