@@ -1,5 +1,6 @@
-//! Worked cases of the device, the log and the store, as tests: what each crash leaves, also behind a call that failed;
-//! files that are judged at their gates; a stop within an append; each call of the device failing.
+//! Worked cases of the outside, the device, the log and the store, as tests: what each crash leaves, also behind a call that
+//! failed; files that are judged at their gates; a stop within an append; each call of the device failing; what is asked of
+//! real files, of readers and of writers.
 #![tactic(auto)]
 
 #[cfg(test)]
@@ -7,4 +8,8 @@ mod crashes;
 #[cfg(test)]
 mod files;
 #[cfg(test)]
+mod site_files;
+#[cfg(test)]
 mod stops;
+#[cfg(test)]
+mod streams;

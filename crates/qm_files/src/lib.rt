@@ -6,8 +6,6 @@ mod disk;
 mod folder;
 mod named;
 mod site_file;
-#[cfg(test)]
-mod tests;
 
 pub use disk::FileDisk;
 pub use site_file::SiteFile;

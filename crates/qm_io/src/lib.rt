@@ -14,6 +14,3 @@ pub use failed::Failed;
 pub use memory::{MemorySink, MemorySource};
 pub use traits::{Sink, Source};
 pub use whole::{ReadEnd, read_whole, write_whole};
-
-#[cfg(test)]
-mod tests;

@@ -5,7 +5,7 @@ use Rattle.qm_state.specs.Image.{system_of}
 use Rattle.qm_store.specs.Store.{bodies_of, IsAtRest}
 use Rattle.qm_store.specs.Store as store
 use Rattle.qm_manager.specs.declared.manager.Manager.{Manager}
-use Rattle.qm_manager.specs.Site.{Site, IsLawful, IsSiteOf}
+use Rattle.qm_manager.specs.Site.{Site, IsLawful}
 
 -- its system, and the bodies of the records of its queue file
 abbrev pub site_of : {D : Type 0} → Manager D → Site

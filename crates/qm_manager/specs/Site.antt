@@ -1,5 +1,5 @@
 -- A site: its system, and the queue file that keeps what it accepted.
-use Rattle.std.specs.Prelude.{◌≡◌, ◌⊎◌, ℕ, List, map}
+use Rattle.std.specs.Prelude.{◌⊎◌, ℕ, List, map}
 use Rattle.qm_disk.specs.Disk.{Meaning}
 use Rattle.qm_disk.specs.Disk.{Image, IsLeft, OthersLeft}
 use Rattle.qm_kinds.specs.declared.system.System.{System}

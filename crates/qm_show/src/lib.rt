@@ -7,8 +7,6 @@ mod answer;
 mod refusal;
 mod row;
 mod status;
-#[cfg(test)]
-mod tests;
 
 pub use act::{ActWords, StartText};
 pub use answer::{Prefix, show_full, show_journal, show_refusal, show_reply, show_rows};

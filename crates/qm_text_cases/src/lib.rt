@@ -1,5 +1,5 @@
 //! Cases of the readers and writers of text and bytes, as tests: fields, records and commands, each written and read again,
-//! and what is told of bytes and texts that spell nothing.
+//! and what is told of bytes and texts that spell nothing; moments as texts; what is printed of rows and answers.
 #![tactic(auto)]
 
 #[cfg(test)]
@@ -8,3 +8,7 @@ mod commands;
 mod fields;
 #[cfg(test)]
 mod records;
+#[cfg(test)]
+mod shown;
+#[cfg(test)]
+mod times;

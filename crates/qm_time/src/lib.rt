@@ -9,8 +9,6 @@ mod laws;
 mod moment;
 mod month;
 mod number;
-#[cfg(test)]
-mod tests;
 mod text;
 mod time;
 

@@ -1,6 +1,6 @@
-// What the contracts leave open: what is asked of the system's files, in which order, and what is made of its answers.
-use crate::{FileDisk, SiteFile};
+// What the contracts of real files leave open: what is asked of the system, in which order, and what is made of its answers.
 use qm_disk::Disk;
+use qm_files::{FileDisk, SiteFile};
 use std::alloc::{AllocError, Allocator};
 use std::cell::RefCell;
 use std::fs::{File, Files, Metadata, OpenFile, OpenOptions};

@@ -1,9 +1,10 @@
-use super::*;
+// What is printed of rows, replies and refusals.
 use qm_kinds::{
     Act, Characteristic, CharacteristicSet, Entry, EntryState, FileName, Form, JobKind, JobRetain,
     Mark, Moment, Name, ParseKind, Queue, QueueKind, QueueRetain, QueueState, Refusal, Reply, Row,
     Seq, Shape, Start,
 };
+use qm_show::{Prefix, show_full, show_journal, show_refusal, show_reply, show_rows};
 use std::alloc::Global;
 use std::test::Fail;
 

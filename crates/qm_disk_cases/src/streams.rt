@@ -1,6 +1,6 @@
-// What the contracts leave open: that memory suffices, and that calls of std's readers and writers
+// What the contracts of readers and writers leave open: that memory suffices, and that calls of std's readers and writers
 // that are short, interrupted or failing are gone on with, made again or refused.
-use crate::{
+use qm_io::{
     InputSource, MemorySink, MemorySource, OutputSink, ReadEnd, Sink, read_whole, write_whole,
 };
 use std::io;

@@ -1,5 +1,6 @@
-use super::*;
+// Moments as texts, printed and read.
 use qm_kinds::Moment;
+use qm_time::{TimeFault, print_time, read_time, text_of};
 use std::test::Fail;
 
 // The moment of so many hundredths of a second.
