@@ -1,5 +1,5 @@
 //! Cases of the readers and writers of text and bytes, as tests: fields, records and commands, each written and read again,
-//! and what is told of bytes and texts that spell nothing; moments as texts; what is printed of rows and answers.
+//! and what is told of bytes and texts that spell nothing; tokens; moments as texts; what is printed of rows and answers.
 #![tactic(auto)]
 
 #[cfg(test)]
@@ -12,3 +12,5 @@ mod records;
 mod shown;
 #[cfg(test)]
 mod times;
+#[cfg(test)]
+mod tokens;
