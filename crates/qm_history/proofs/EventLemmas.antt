@@ -94,10 +94,10 @@ same_log log = ([], sym (append-nil log))
 with_one : (log : List Record) (r : Record) → Begins log (log ++ r ∷ [])
 with_one log r = (r ∷ [], refl)
 
-begins_on : (a b c : List Record) → Begins a b → Begins b c → Begins a c
+pub begins_on : (a b c : List Record) → Begins a b → Begins b c → Begins a c
 begins_on a b c first second = (first.0 ++ second.0, second.1 ∙ ap (λ x. x ++ second.0) first.1 ∙ append_assoc a first.0 second.0)
 
-read_begins : (w : World) (kept : Option Bool) → Begins w.log (log_read w kept)
+pub read_begins : (w : World) (kept : Option Bool) → Begins w.log (log_read w kept)
 read_begins w None = same_log w.log
 read_begins w (Some false) = same_log w.log
 read_begins w (Some true) = (option_to_list w.doubt, refl)

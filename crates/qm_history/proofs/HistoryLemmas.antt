@@ -10,7 +10,6 @@ use Rattle.qm_kinds.specs.declared.input.Input.TheVariants as input
 use Rattle.qm_kinds.specs.declared.query.Row.{Row}
 use Rattle.qm_kinds.specs.declared.record.Record.{Record}
 use Rattle.qm_kinds.specs.declared.request.Request.TheVariants as request
-use Rattle.qm_model.specs.Script.{ScriptLine}
 use Rattle.qm_history.specs.declared.call.Call.{Call}
 use Rattle.qm_history.specs.declared.event.Event.{Event}
 use Rattle.qm_history.specs.declared.event.Event.TheVariants as event
@@ -21,6 +20,7 @@ use Rattle.qm_history.specs.Calls.{input_of, is_start}
 use Rattle.qm_history.specs.Course.{Extent, IsCourse, GoesOn, at_first}
 use Rattle.qm_history.specs.Happening.{IsForManager, IsCompactionAlone}
 use Rattle.qm_history.specs.Legal.{after_turn, after_turns, IsLegalTurn, IsLegal}
+use Rattle.qm_history.specs.Script.{UserLine}
 use Rattle.qm_history.specs.Step.{after_events}
 use Rattle.qm_history.specs.Takeover.{takes_over}
 use Rattle.qm_history.specs.Text.{text, text_of_node, visit_text}
@@ -148,18 +148,19 @@ other_visit node w t other =
     let differ : (t.node == node) ≡ false = grind (arith, nat_tests) in
     ap (λ b. cond b (record { before = w; turn = t } ∷ []) []) differ
 
-module _ (HasSpelling : Record → Type 0) (read : ScriptLine → ℕ → List Visit → List ℕ → Input) where
-  pub same_course : (extent : Extent) (w v : World) (turns others : List Turn) (node : ℕ) (lines : List ScriptLine) (faults : ℕ) → is_live w node ≡ is_live v node
+module _ (HasSpelling : Record → Type 0) (read : UserLine → ℕ → List Visit → List ℕ → Input) where
+  pub same_course : (extent : Extent) (w v : World) (turns others : List Turn) (node : ℕ) (lines : List UserLine) (faults : ℕ) → is_live w node ≡ is_live v node
       → visits_of node w turns ≡ visits_of node v others → IsCourse HasSpelling read extent w turns node lines faults → IsCourse HasSpelling read extent v others node lines faults
   same_course extent w v turns others node lines faults live same h = record {
     steps = h.steps;
+    broken = h.broken;
     turns_are =
-        subst (λ b. GoesOn HasSpelling read extent (at_first lines) [] b (visits_of node v others) h.steps) live
-        (subst (λ vs. GoesOn HasSpelling read extent (at_first lines) [] (is_live w node) vs h.steps) same h.turns_are);
+        subst (λ b. GoesOn HasSpelling read extent h.broken (at_first lines) [] b (visits_of node v others) h.steps) live
+        (subst (λ vs. GoesOn HasSpelling read extent h.broken (at_first lines) [] (is_live w node) vs h.steps) same h.turns_are);
     few_faults = h.few_faults;
   }
 
-  pub course_behind : (extent : Extent) (w : World) (turns : List Turn) (t : Turn) (node : ℕ) (lines : List ScriptLine) (faults : ℕ) → t.node ≢ node
+  pub course_behind : (extent : Extent) (w : World) (turns : List Turn) (t : Turn) (node : ℕ) (lines : List UserLine) (faults : ℕ) → t.node ≢ node
       → IsCourse HasSpelling read extent w turns node lines faults → IsCourse HasSpelling read extent w (turns ++ t ∷ []) node lines faults
   course_behind extent w turns t node lines faults other h =
       same_course extent w w turns (turns ++ t ∷ []) node lines faults refl

@@ -3,9 +3,14 @@ pub mod SoundLemmas
 pub mod EventLemmas
 pub mod HistoryLemmas
 pub mod FenceLemmas
+pub mod NextLemmas
+pub mod MarkLemmas
+pub mod ShapeLemmas
+pub mod CrashLemmas
 pub mod Serving
 pub mod Failover
 pub mod Doubts
 pub mod TwoNodes
 pub mod StretchLemmas
+pub mod AgainLemmas
 pub mod OneCourse

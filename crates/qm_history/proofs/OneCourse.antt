@@ -1,5 +1,5 @@
 -- A node's lines, the step behind its STEP line, its own fetches and steps, and its leave.
-use Rattle.std.proofs.Common.{◌≡◌, ℕ, lit<, lit≤, false, List, [], ◌∷◌, ◌++◌, refl, map, length}
+use Rattle.std.proofs.Common.{◌≡◌, ℕ, lit<, lit≤, false, List, [], ◌∷◌, ◌++◌, refl, map, length, None}
 use Rattle.std.specs.Prelude.{codes, ◌==◌, if◌then◌else◌}
 use Rattle.std.specs.Fmt.{digits}
 use Rattle.qm_kinds.specs.declared.input.Input.{Input}
@@ -10,13 +10,14 @@ use Rattle.qm_kinds.specs.declared.work.Report.TheVariants as report
 use Rattle.qm_kinds.specs.declared.work.Work.{Work}
 use Rattle.qm_kinds.specs.declared.entry.JobKind.TheVariants as job
 use Rattle.qm_model.specs.Filing.{filling}
-use Rattle.qm_model.specs.Script.{ScriptLine, Sort, Command, Site}
+use Rattle.qm_model.specs.Script.{Sort, Command, Site}
 use Rattle.qm_history.specs.declared.call.Call.{Call}
 use Rattle.qm_history.specs.declared.call.Call.TheVariants as call
 use Rattle.qm_history.specs.declared.turn.Turn.{Turn}
 use Rattle.qm_history.specs.declared.world.World.{World}
-use Rattle.qm_history.specs.Blocks.{handed}
+use Rattle.qm_history.specs.Blocks.{AreHanded, blocks_next}
 use Rattle.qm_history.specs.Course.{KeptRun, MadeStep, WentOn, Whole, IsCourse}
+use Rattle.qm_history.specs.Script.{UserLine}
 use Rattle.qm_history.specs.Text.{text}
 use Rattle.qm_history.specs.Visits.{Visit}
 use Rattle.qm_history.proofs.Serving.{Asked, new_site, world_of, history, no_items, Any}
@@ -54,10 +55,10 @@ pub their_text : text no_items site turns
 unfolding digits
 their_text = refl
 
-abbrev line : ℕ → Sort → List ℕ → ScriptLine
-line number sort what = record { number = number; node = codes "A"; sort = sort; text = what }
+abbrev line : ℕ → Sort → List ℕ → UserLine
+line number sort what = record { line = record { number = number; node = codes "A"; sort = sort; text = what }; user = codes "SYSTEM" }
 
-abbrev lines : List ScriptLine
+abbrev lines : List UserLine
 lines =
     line 1 Site (codes "FILL F.LIS 72")
     ∷ line 2 Command (codes "INIT/QUEUE/START LP")
@@ -66,11 +67,11 @@ lines =
     ∷ []
 
 -- what these lines ask for
-abbrev read : ScriptLine → ℕ → List Visit → List ℕ → Input
+abbrev read : UserLine → ℕ → List Visit → List ℕ → Input
 read l reading earlier known =
-    if l.number == 1 then input.Ask (request.Fill listing_file 72) else
-    if l.number == 2 then input.Ask (print_queue (codes "A") (codes "LP")) else
-    if l.number == 3 then input.Ask (request.Submit (print_job (codes "LP"))) else input.Fetch known
+    if l.line.number == 1 then input.Ask (request.Fill listing_file 72) else
+    if l.line.number == 2 then input.Ask (print_queue (codes "A") (codes "LP")) else
+    if l.line.number == 3 then input.Ask (request.Submit (print_job (codes "LP"))) else input.Fetch known
 
 -- the job as the node has it
 abbrev work : Work
@@ -90,19 +91,23 @@ work = record {
 }
 
 abbrev run_at : ℕ → KeptRun
-run_at block = record { run = 1; aborting = false; paused = false; work = work; place = record { at = block; used = 0 } }
+run_at block = record { run = 1; aborting = false; paused = false; work = work; place = record { at = block; used = 0 }; fetched = 3 }
 
 abbrev steps : List MadeStep
 steps = record { run = run_at 0; end = WentOn } ∷ record { run = run_at 1; end = WentOn } ∷ []
 
 -- both pages were handed over, in order: 60 lines of 64 bytes and a form feed, and then the other 12
-pub what_the_device_got : map length (handed steps) ≡ 3841 ∷ 769 ∷ []
+pub what_each_step_handed_over : AreHanded steps (blocks_next (run_at 0) ∷ blocks_next (run_at 1) ∷ [])
+what_each_step_handed_over = (refl, (refl, tt))
+
+pub what_the_device_got : map length (blocks_next (run_at 0) ++ blocks_next (run_at 1)) ≡ 3841 ∷ 769 ∷ []
 what_the_device_got = refl
 
 pub it_is_a_course : IsCourse Any read Whole site turns 0 lines 0
 unfolding digits
 it_is_a_course = record {
   steps = steps;
+  broken = None;
   turns_are = (
     (
       record {
@@ -139,7 +144,7 @@ it_is_a_course = record {
                   (record { node_there = lit< tt; why_is = refl; outside = tt; can_come = (tt, tt) }, refl),
                   (
                     (record { node_there = lit< tt; why_is = refl; outside = tt; can_come = (refl, tt) }, refl),
-                    (refl, refl),
+                    (refl, refl, tt),
                   ),
                 ),
               ),

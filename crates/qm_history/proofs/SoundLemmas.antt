@@ -60,7 +60,7 @@ module _ (HasSpelling : Record → Type 0)
       pub accepted : IsAccepted HasSpelling log
       pub same : cluster (system_of log) ≡ cluster (system_of before)
 
-    with_doubt : (log : List Record) (d : Option Record) → IsAccepted HasSpelling log → IfSome d (IsNext HasSpelling (system_of log)) → IsReading (log ++ option_to_list d) log
+    pub with_doubt : (log : List Record) (d : Option Record) → IsAccepted HasSpelling log → IfSome d (IsNext HasSpelling (system_of log)) → IsReading (log ++ option_to_list d) log
     with_doubt log None h can = subst (λ x. IsReading x log) (sym (append-nil log)) (record { accepted = h; same = refl })
     with_doubt log (Some r) h can = record { accepted = accepted_append HasSpelling log r h can; same = one_more_cluster log r can }
 
@@ -84,7 +84,7 @@ module _ (HasSpelling : Record → Type 0)
           alone = alone;
         }
 
-    doubt_follows : (w : World) (node moment : ℕ) (asked : Request) → CanBeInDoubt HasSpelling w node moment asked → CanFollow HasSpelling (system_in w) moment node asked
+    pub doubt_follows : (w : World) (node moment : ℕ) (asked : Request) → CanBeInDoubt HasSpelling w node moment asked → CanFollow HasSpelling (system_in w) moment node asked
     doubt_follows w node moment (request.Took epoch gone up may) can = can.follows
     doubt_follows w node moment asked can = can.1
 

@@ -1,9 +1,10 @@
--- The steps of a node come in stretches.
-use Rattle.std.proofs.Common.{◌≡◌, ℕ, inl, inr, Bool, true, false, cond, not, List, [], ◌∷◌, ◌++◌, refl, sym, subst, arith, Option, None, Some, map}
-use Rattle.std.specs.Prelude.{◌==◌, IfSome}
+-- The steps of a node come in stretches, one for each fetch.
+use Rattle.std.proofs.Common.{◌≡◌, ℕ, zero, suc, ◌<◌, inl, inr, Bool, true, false, cond, not, List, [], ◌∷◌, ◌++◌, length, refl, sym, subst, arith, Option, None, Some, map, Contains}
+use Rattle.std.specs.Prelude.{◌==◌, IfSome, slice_get}
 use Rattle.std.specs.Option.{option_map}
 use Rattle.std.specs.List.{AllByRecursion, cons_option}
 use Rattle.std.proofs.lemmas.Bool.Decides.{nat_tests}
+use Rattle.std.proofs.lemmas.List.{append_assoc}
 use Rattle.qm_kinds.specs.declared.input.Input.{Input}
 use Rattle.qm_kinds.specs.declared.record.Record.{Record}
 use Rattle.qm_kinds.specs.declared.work.Duty.{Duty}
@@ -11,18 +12,15 @@ use Rattle.qm_kinds.specs.declared.work.Place.{Place}
 use Rattle.qm_kinds.specs.declared.work.Report.{Report}
 use Rattle.qm_kinds.specs.declared.work.Report.TheVariants as report
 use Rattle.qm_kinds.specs.declared.work.Work.{Work}
-use Rattle.qm_model.specs.Script.{ScriptLine}
+use Rattle.qm_model.specs.Reports.{begin}
 use Rattle.qm_history.specs.declared.call.Answer.{Answer}
 use Rattle.qm_history.specs.declared.call.Answer.TheVariants as answer
 use Rattle.qm_history.specs.declared.world.World.{World}
 use Rattle.qm_history.specs.declared.turn.Turn.{Turn}
-use Rattle.qm_history.specs.Blocks.{last_step, IsLeftBy, IsInStretch, ComeInStretches}
+use Rattle.qm_history.specs.Blocks.{last_step, Gives, IsGiven, IsFetchedBehind, IsLeftBy, IsInStretch, ComeInStretches}
 use Rattle.qm_history.specs.Course.{KeptRun, NodeState, MadeStep, NextTurn, Extent, IsCourse, GoesOn, Follows, ALine, AStep, AFetch, ALeave, NoTurn, run_kept, kept_of, kept_after, moved_to, without_run, is_marked, behind_mark, behind_report, behind_step, behind_line, behind_step_line, behind_fetch, next_at, own_stage, answered, is_live_behind, at_first, report_told, Over}
-use Rattle.qm_history.specs.Script.{steps_asked}
-use Rattle.qm_history.specs.Visits.{Visit}
-
-abbrev pub AllInStretch : List MadeStep → List KeptRun → Type 0
-AllInStretch earlier runs = AllByRecursion (IsInStretch earlier) runs
+use Rattle.qm_history.specs.Script.{UserLine, steps_asked}
+use Rattle.qm_history.specs.Visits.{Visit, visits_of}
 
 same_number : (a b : ℕ) → (a == b) ≡ true → a ≡ b
 same_number a b h = grind (arith, nat_tests)
@@ -30,133 +28,299 @@ same_number a b h = grind (arith, nat_tests)
 itself : (a : ℕ) → (a == a) ≡ true
 itself a = grind (arith, nat_tests)
 
--- ---- runs that are found, moved and forgotten
-
-found_at : (earlier : List MadeStep) (run : ℕ) (k : KeptRun) (runs : List KeptRun) (b : Bool) → IsInStretch earlier k
-    → IfSome (run_kept run runs) (IsInStretch earlier) → IfSome (cond b (Some k) (run_kept run runs)) (IsInStretch earlier)
-found_at earlier run k runs true here there = here
-found_at earlier run k runs false here there = there
-
-found : (earlier : List MadeStep) (run : ℕ) (runs : List KeptRun) → AllInStretch earlier runs → IfSome (run_kept run runs) (IsInStretch earlier)
-found earlier run [] all = tt
-found earlier run (k ∷ runs) all = found_at earlier run k runs (k.run == run) all.0 (found earlier run runs all.1)
-
-found_is : (earlier : List MadeStep) (o : Option KeptRun) (k : KeptRun) → o ≡ Some k → IfSome o (IsInStretch earlier) → IsInStretch earlier k
-found_is earlier o k is h = let h2 : IfSome (Some k) (IsInStretch earlier) = subst (λ x. IfSome x (IsInStretch earlier)) is h in h2
-
--- a run of another number is where it was
-still : (m : MadeStep) (earlier : List MadeStep) (k : KeptRun) → (m.run.run == k.run) ≡ false → IsInStretch earlier k → IsInStretch (m ∷ earlier) k
-still m earlier k other (inl begins) = inl begins
-still m earlier k other (inr left) = inr (subst (λ b. IsLeftBy (cond b (Some m) (last_step k.run earlier)) k) (sym other) left)
-
 turned_round : (a b : ℕ) → (a == b) ≡ false → (b == a) ≡ false
 turned_round a b h = grind (arith, nat_tests)
 
-moved_at : (m : MadeStep) (earlier : List MadeStep) (place : Place) (value : List ℕ) → report_told m.run m.end ≡ report.Mark value place → (k : KeptRun) (b : Bool) → (k.run == m.run.run) ≡ b
+-- ---- what holds of each run that is kept
+
+module _ (P : KeptRun → Type 0) where
+  found_at : (k : KeptRun) (rest : Option KeptRun) (b : Bool) → P k → IfSome rest P → IfSome (cond b (Some k) rest) P
+  found_at k rest true here there = here
+  found_at k rest false here there = there
+
+  found : (run : ℕ) (runs : List KeptRun) → AllByRecursion P runs → IfSome (run_kept run runs) P
+  found run [] all = tt
+  found run (k ∷ runs) all = found_at k (run_kept run runs) (k.run == run) all.0 (found run runs all.1)
+
+  found_is : (o : Option KeptRun) (k : KeptRun) → o ≡ Some k → IfSome o P → P k
+  found_is o k is h = let h2 : IfSome (Some k) P = subst (λ x. IfSome x P) is h in h2
+
+  joined : (o : Option KeptRun) (runs : List KeptRun) → IfSome o P → AllByRecursion P runs → AllByRecursion P (cons_option o runs)
+  joined None runs here there = there
+  joined (Some k) runs here there = (here, there)
+
+  gone_at : (k : KeptRun) (others : List KeptRun) (b : Bool) → P k → AllByRecursion P others → AllByRecursion P (cond (not b) (k ∷ others) others)
+  gone_at k others true here there = there
+  gone_at k others false here there = (here, there)
+
+  gone : (run : ℕ) (runs : List KeptRun) → AllByRecursion P runs → AllByRecursion P (without_run run runs)
+  gone run [] all = tt
+  gone run (k ∷ runs) all = gone_at k (without_run run runs) (k.run == run) all.0 (gone run runs all.1)
+
+  -- it doesn't speak of what the last fetch said
+  module _ (flagged : (k : KeptRun) (aborting paused : Bool) → P k → P (record k { aborting = aborting; paused = paused })) (turns : ℕ) (all_duties : List Duty)
+      (new : (d : Duty) (work : Work) → Contains all_duties d → d.work ≡ Some work
+      → P (record { run = d.run; aborting = d.aborting; paused = d.paused; work = work; place = begin work; fetched = turns }))
+    where
+      kept_one : (d : Duty) (o : Option KeptRun) → IfSome o P → IfSome (option_map (λ (k : KeptRun). record k { aborting = d.aborting; paused = d.paused }) o) P
+      kept_one d None h = tt
+      kept_one d (Some k) h = flagged k d.aborting d.paused h
+
+      kept : (runs : List KeptRun) (d : Duty) (work : Option Work) → Contains all_duties d → d.work ≡ work → AllByRecursion P runs → IfSome (kept_of turns runs d work) P
+      kept runs d (Some work) among is all = new d work among is
+      kept runs d None among is all = kept_one d (run_kept d.run runs) (found d.run runs all)
+
+      all_kept : (runs : List KeptRun) (duties : List Duty) → ((d : Duty) → Contains duties d → Contains all_duties d) → AllByRecursion P runs → AllByRecursion P (kept_after turns runs duties)
+      all_kept runs [] among all = tt
+      all_kept runs (d ∷ duties) among all =
+          joined (kept_of turns runs d d.work) (kept_after turns runs duties) (kept runs d d.work (among d (zero, omega arith, refl)) refl all)
+          (all_kept runs duties (λ x inside. among x (suc inside.0, omega (arith, inside.1), inside.2)) all)
+
+  -- it doesn't speak of the place
+  module _ (placed : (k : KeptRun) (place : Place) → P k → P (record k { place = place })) (s : KeptRun) (here : P s) where
+    moved_at : (place : Place) (k : KeptRun) (b : Bool) → P k → P (cond b (record s { place = place }) k)
+    moved_at place k true h = placed s place here
+    moved_at place k false h = h
+
+    all_moved : (place : Place) (runs : List KeptRun) → AllByRecursion P runs → AllByRecursion P (map (moved_to s place) runs)
+    all_moved place [] all = tt
+    all_moved place (k ∷ runs) all = (moved_at place k (k.run == s.run) all.0, all_moved place runs all.1)
+
+    mark_keeps : (n : NodeState) (others : List ℕ) (next : Place) (recorded : Bool) → AllByRecursion P n.runs → AllByRecursion P (behind_mark n s others next recorded).runs
+    mark_keeps n others next true all = all_moved next n.runs all
+    mark_keeps n others next false all = gone s.run n.runs all
+
+    report_keeps : (n : NodeState) (others : List ℕ) (told : Report) (replied : Answer) → AllByRecursion P n.runs → AllByRecursion P (behind_report n s others told replied).runs
+    report_keeps n others (report.Mark value next) (answer.Done took moment reply) all = mark_keeps n others next (is_marked reply.act) all
+    report_keeps n others (report.Mark value next) (answer.Shown took moment rows) all = gone s.run n.runs all
+    report_keeps n others (report.Mark value next) (answer.Duties took moment duties) all = gone s.run n.runs all
+    report_keeps n others (report.Mark value next) (answer.Refused took refusal) all = gone s.run n.runs all
+    report_keeps n others (report.Mark value next) (answer.Full took need cap) all = gone s.run n.runs all
+    report_keeps n others (report.Mark value next) (answer.Journal took live) all = gone s.run n.runs all
+    report_keeps n others (report.Mark value next) (answer.Fenced held current) all = gone s.run n.runs all
+    report_keeps n others (report.Mark value next) (answer.NoManager took name) all = gone s.run n.runs all
+    report_keeps n others (report.Mark value next) (answer.Damaged file place) all = gone s.run n.runs all
+    report_keeps n others (report.Mark value next) answer.HistoryFull all = gone s.run n.runs all
+    report_keeps n others (report.Mark value next) (answer.NoMemory took) all = gone s.run n.runs all
+    report_keeps n others (report.Done status) replied all = gone s.run n.runs all
+
+-- ---- fetches that gave runs
+
+get_before : (a b : List Visit) (i : ℕ) (v : Visit) → slice_get a i ≡ Some v → slice_get (a ++ b) i ≡ Some v
+get_before [] b i v h = cc
+get_before (x ∷ a) b zero v h = h
+get_before (x ∷ a) b (suc i) v h = get_before a b i v h
+
+get_last : (a : List Visit) (v : Visit) → slice_get (a ++ v ∷ []) (length a) ≡ Some v
+get_last [] v = refl
+get_last (x ∷ a) v = get_last a v
+
+get_within : (a : List Visit) (i : ℕ) (v : Visit) → slice_get a i ≡ Some v → i < length a
+get_within [] i v h = cc
+get_within (x ∷ a) zero v h = omega arith
+get_within (x ∷ a) (suc i) v h = let within = get_within a i v h in omega arith
+
+pub given_later : (a b : List Visit) (k : KeptRun) → IsGiven a k → IsGiven (a ++ b) k
+given_later a b k (v, is, gives) = (v, get_before a b k.fetched v is, gives)
+
+all_given_later : (a b : List Visit) (runs : List KeptRun) → AllByRecursion (IsGiven a) runs → AllByRecursion (IsGiven (a ++ b)) runs
+all_given_later a b [] all = tt
+all_given_later a b (k ∷ runs) all = (given_later a b k all.0, all_given_later a b runs all.1)
+
+steps_given_later : (a b : List Visit) (steps : List MadeStep) → AllByRecursion (λ (m : MadeStep). IsGiven a m.run) steps → AllByRecursion (λ (m : MadeStep). IsGiven (a ++ b) m.run) steps
+steps_given_later a b [] all = tt
+steps_given_later a b (m ∷ steps) all = (given_later a b m.run all.0, steps_given_later a b steps all.1)
+
+-- a fetch as the last of these turns gives what it shows
+given_new : (before : List Visit) (v : Visit) (n : NodeState) (replied : Answer) → answered v ≡ replied → AllByRecursion (IsGiven before) n.runs
+    → AllByRecursion (IsGiven (before ++ v ∷ [])) (behind_fetch (length before) n replied).runs
+given_new before v n (answer.Duties took moment duties) is all =
+    all_kept (IsGiven (before ++ v ∷ [])) (λ k aborting paused h. h) (length before) duties
+    (λ d work among work_is. (v, get_last before v, subst (λ r. Gives r d.run work) (sym is) (d, among, refl, work_is)))
+    n.runs duties (λ d among. among) (all_given_later before (v ∷ []) n.runs all)
+given_new before v n replied is all = all_given_later before (v ∷ []) n.runs all
+
+given_line : (before : List Visit) (v : Visit) (n : NodeState) (steps : ℕ) (replied : Answer) → answered v ≡ replied → AllByRecursion (IsGiven before) n.runs
+    → AllByRecursion (IsGiven (before ++ v ∷ [])) (behind_step_line (length before) n steps replied).runs
+given_line before v n steps (answer.Duties took moment duties) is all =
+    all_kept (IsGiven (before ++ v ∷ [])) (λ k aborting paused h. h) (length before) duties
+    (λ d work among work_is. (v, get_last before v, subst (λ r. Gives r d.run work) (sym is) (d, among, refl, work_is)))
+    n.runs duties (λ d among. among) (all_given_later before (v ∷ []) n.runs all)
+given_line before v n steps replied is all = all_given_later before (v ∷ []) n.runs all
+
+-- ---- where runs are
+
+abbrev pub AllInStretch : List MadeStep → List KeptRun → Type 0
+AllInStretch earlier runs = AllByRecursion (IsInStretch earlier) runs
+
+-- a run of another number is where it was
+pub still : (m : MadeStep) (earlier : List MadeStep) (k : KeptRun) → (m.run.run == k.run) ≡ false → IsInStretch earlier k → IsInStretch (m ∷ earlier) k
+still m earlier k other (inl begins) = inl (subst (λ b. IsFetchedBehind (cond b (Some m) (last_step k.run earlier)) k) (sym other) begins.0, begins.1)
+still m earlier k other (inr left) = inr (subst (λ b. IsLeftBy (cond b (Some m) (last_step k.run earlier)) k) (sym other) left)
+
+stretch_moved_at : (m : MadeStep) (earlier : List MadeStep) (place : Place) (value : List ℕ) → report_told m.run m.end ≡ report.Mark value place → (k : KeptRun) (b : Bool) → (k.run == m.run.run) ≡ b
     → IsInStretch earlier k → IsInStretch (m ∷ earlier) (cond b (record m.run { place = place }) k)
-moved_at m earlier place value told k true is h =
-    inr (subst (λ b. IsLeftBy (cond b (Some m) (last_step m.run.run earlier)) (record m.run { place = place })) (sym (itself m.run.run)) (refl, (value, told)))
-moved_at m earlier place value told k false is h = still m earlier k (turned_round k.run m.run.run is) h
+stretch_moved_at m earlier place value told k true is h =
+    inr (subst (λ b. IsLeftBy (cond b (Some m) (last_step m.run.run earlier)) (record m.run { place = place })) (sym (itself m.run.run)) (refl, refl, (value, told)))
+stretch_moved_at m earlier place value told k false is h = still m earlier k (turned_round k.run m.run.run is) h
 
-moved : (m : MadeStep) (earlier : List MadeStep) (place : Place) (value : List ℕ) → report_told m.run m.end ≡ report.Mark value place → (runs : List KeptRun)
+stretch_moved : (m : MadeStep) (earlier : List MadeStep) (place : Place) (value : List ℕ) → report_told m.run m.end ≡ report.Mark value place → (runs : List KeptRun)
     → AllInStretch earlier runs → AllInStretch (m ∷ earlier) (map (moved_to m.run place) runs)
-moved m earlier place value told [] all = tt
-moved m earlier place value told (k ∷ runs) all =
-    (moved_at m earlier place value told k (k.run == m.run.run) refl all.0, moved m earlier place value told runs all.1)
+stretch_moved m earlier place value told [] all = tt
+stretch_moved m earlier place value told (k ∷ runs) all =
+    (stretch_moved_at m earlier place value told k (k.run == m.run.run) refl all.0, stretch_moved m earlier place value told runs all.1)
 
-gone_at : (m : MadeStep) (earlier : List MadeStep) (k : KeptRun) (runs : List KeptRun) (b : Bool) → (k.run == m.run.run) ≡ b → IsInStretch earlier k
+stretch_gone_at : (m : MadeStep) (earlier : List MadeStep) (k : KeptRun) (runs : List KeptRun) (b : Bool) → (k.run == m.run.run) ≡ b → IsInStretch earlier k
     → AllInStretch (m ∷ earlier) (without_run m.run.run runs) → AllInStretch (m ∷ earlier) (cond (not b) (k ∷ without_run m.run.run runs) (without_run m.run.run runs))
-gone_at m earlier k runs true is here there = there
-gone_at m earlier k runs false is here there = (still m earlier k (turned_round k.run m.run.run is) here, there)
+stretch_gone_at m earlier k runs true is here there = there
+stretch_gone_at m earlier k runs false is here there = (still m earlier k (turned_round k.run m.run.run is) here, there)
 
-gone : (m : MadeStep) (earlier : List MadeStep) (runs : List KeptRun) → AllInStretch earlier runs → AllInStretch (m ∷ earlier) (without_run m.run.run runs)
-gone m earlier [] all = tt
-gone m earlier (k ∷ runs) all = gone_at m earlier k runs (k.run == m.run.run) refl all.0 (gone m earlier runs all.1)
+stretch_gone : (m : MadeStep) (earlier : List MadeStep) (runs : List KeptRun) → AllInStretch earlier runs → AllInStretch (m ∷ earlier) (without_run m.run.run runs)
+stretch_gone m earlier [] all = tt
+stretch_gone m earlier (k ∷ runs) all = stretch_gone_at m earlier k runs (k.run == m.run.run) refl all.0 (stretch_gone m earlier runs all.1)
 
 -- ---- a step
 
 marked : (n : NodeState) (m : MadeStep) (earlier : List MadeStep) (others : List ℕ) (value : List ℕ) (next : Place) (recorded : Bool) → report_told m.run m.end ≡ report.Mark value next
     → AllInStretch earlier n.runs → AllInStretch (m ∷ earlier) (behind_mark n m.run others next recorded).runs
-marked n m earlier others value next true is all = moved m earlier next value is n.runs all
-marked n m earlier others value next false is all = gone m earlier n.runs all
+marked n m earlier others value next true is all = stretch_moved m earlier next value is n.runs all
+marked n m earlier others value next false is all = stretch_gone m earlier n.runs all
 
 stepped : (n : NodeState) (m : MadeStep) (earlier : List MadeStep) (others : List ℕ) (told : Report) (replied : Answer) → report_told m.run m.end ≡ told
     → AllInStretch earlier n.runs → AllInStretch (m ∷ earlier) (behind_report n m.run others told replied).runs
 stepped n m earlier others (report.Mark value next) (answer.Done took moment reply) is all = marked n m earlier others value next (is_marked reply.act) is all
-stepped n m earlier others (report.Mark value next) (answer.Shown took moment rows) is all = gone m earlier n.runs all
-stepped n m earlier others (report.Mark value next) (answer.Duties took moment duties) is all = gone m earlier n.runs all
-stepped n m earlier others (report.Mark value next) (answer.Refused took refusal) is all = gone m earlier n.runs all
-stepped n m earlier others (report.Mark value next) (answer.Full took need cap) is all = gone m earlier n.runs all
-stepped n m earlier others (report.Mark value next) (answer.Journal took live) is all = gone m earlier n.runs all
-stepped n m earlier others (report.Mark value next) (answer.Fenced held current) is all = gone m earlier n.runs all
-stepped n m earlier others (report.Mark value next) (answer.NoManager took name) is all = gone m earlier n.runs all
-stepped n m earlier others (report.Mark value next) (answer.Damaged file place) is all = gone m earlier n.runs all
-stepped n m earlier others (report.Mark value next) answer.HistoryFull is all = gone m earlier n.runs all
-stepped n m earlier others (report.Mark value next) (answer.NoMemory took) is all = gone m earlier n.runs all
-stepped n m earlier others (report.Done status) replied is all = gone m earlier n.runs all
+stepped n m earlier others (report.Mark value next) (answer.Shown took moment rows) is all = stretch_gone m earlier n.runs all
+stepped n m earlier others (report.Mark value next) (answer.Duties took moment duties) is all = stretch_gone m earlier n.runs all
+stepped n m earlier others (report.Mark value next) (answer.Refused took refusal) is all = stretch_gone m earlier n.runs all
+stepped n m earlier others (report.Mark value next) (answer.Full took need cap) is all = stretch_gone m earlier n.runs all
+stepped n m earlier others (report.Mark value next) (answer.Journal took live) is all = stretch_gone m earlier n.runs all
+stepped n m earlier others (report.Mark value next) (answer.Fenced held current) is all = stretch_gone m earlier n.runs all
+stepped n m earlier others (report.Mark value next) (answer.NoManager took name) is all = stretch_gone m earlier n.runs all
+stepped n m earlier others (report.Mark value next) (answer.Damaged file place) is all = stretch_gone m earlier n.runs all
+stepped n m earlier others (report.Mark value next) answer.HistoryFull is all = stretch_gone m earlier n.runs all
+stepped n m earlier others (report.Mark value next) (answer.NoMemory took) is all = stretch_gone m earlier n.runs all
+stepped n m earlier others (report.Done status) replied is all = stretch_gone m earlier n.runs all
 
 -- ---- a fetch
 
-left_too : (o : Option MadeStep) (k : KeptRun) (d : Duty) → IsLeftBy o k → IsLeftBy o (record k { aborting = d.aborting; paused = d.paused })
-left_too None k d left = absurd left
-left_too (Some m) k d left = left
+left_too : (o : Option MadeStep) (k : KeptRun) (aborting paused : Bool) → IsLeftBy o k → IsLeftBy o (record k { aborting = aborting; paused = paused })
+left_too None k aborting paused left = absurd left
+left_too (Some m) k aborting paused left = left
 
-kept_one : (earlier : List MadeStep) (d : Duty) (o : Option KeptRun) → IfSome o (IsInStretch earlier)
-    → IfSome (option_map (λ (k : KeptRun). record k { aborting = d.aborting; paused = d.paused }) o) (IsInStretch earlier)
-kept_one earlier d None h = tt
-kept_one earlier d (Some k) (inl begins) = inl begins
-kept_one earlier d (Some k) (inr left) = inr (left_too (last_step k.run earlier) k d left)
+behind_too : (o : Option MadeStep) (k : KeptRun) (aborting paused : Bool) → IsFetchedBehind o k → IsFetchedBehind o (record k { aborting = aborting; paused = paused })
+behind_too None k aborting paused behind = tt
+behind_too (Some m) k aborting paused behind = behind
 
-kept : (earlier : List MadeStep) (runs : List KeptRun) (d : Duty) (work : Option Work) → AllInStretch earlier runs → IfSome (kept_of runs d work) (IsInStretch earlier)
-kept earlier runs d (Some work) all = inl refl
-kept earlier runs d None all = kept_one earlier d (run_kept d.run runs) (found earlier d.run runs all)
+stretch_flagged : (earlier : List MadeStep) (k : KeptRun) (aborting paused : Bool) → IsInStretch earlier k → IsInStretch earlier (record k { aborting = aborting; paused = paused })
+stretch_flagged earlier k aborting paused (inl begins) = inl (behind_too (last_step k.run earlier) k aborting paused begins.0, begins.1)
+stretch_flagged earlier k aborting paused (inr left) = inr (left_too (last_step k.run earlier) k aborting paused left)
 
-joined : (earlier : List MadeStep) (o : Option KeptRun) (runs : List KeptRun) → IfSome o (IsInStretch earlier) → AllInStretch earlier runs → AllInStretch earlier (cons_option o runs)
-joined earlier None runs here there = there
-joined earlier (Some k) runs here there = (here, there)
+module _ (k : KeptRun) where
+  behind_at : (m : MadeStep) (rest : Option MadeStep) (b : Bool) → m.run.fetched < k.fetched → IsFetchedBehind rest k → IsFetchedBehind (cond b (Some m) rest) k
+  behind_at m rest true here there = here
+  behind_at m rest false here there = there
 
-all_kept : (earlier : List MadeStep) (runs : List KeptRun) (duties : List Duty) → AllInStretch earlier runs → AllInStretch earlier (kept_after runs duties)
-all_kept earlier runs [] all = tt
-all_kept earlier runs (d ∷ duties) all = joined earlier (kept_of runs d d.work) (kept_after runs duties) (kept earlier runs d d.work all) (all_kept earlier runs duties all)
+  -- a fetch is behind all steps before it
+  fetched_behind : (before : List Visit) (run : ℕ) → k.fetched ≡ length before → (earlier : List MadeStep) → AllByRecursion (λ (m : MadeStep). IsGiven before m.run) earlier
+      → IsFetchedBehind (last_step run earlier) k
+  fetched_behind before run now [] made = tt
+  fetched_behind before run now (m ∷ earlier) made =
+      let within : m.run.fetched < length before = get_within before m.run.fetched made.0.0 made.0.1 in
+      behind_at m (last_step run earlier) (m.run.run == run) (omega arith) (fetched_behind before run now earlier made.1)
 
-fetched : (n : NodeState) (earlier : List MadeStep) (replied : Answer) → AllInStretch earlier n.runs → AllInStretch earlier (behind_fetch n replied).runs
-fetched n earlier (answer.Duties took moment duties) all = all_kept earlier n.runs duties all
-fetched n earlier replied all = all
+module _ (before : List Visit) (earlier : List MadeStep) (made : AllByRecursion (λ (m : MadeStep). IsGiven before m.run) earlier) where
+  shown : (runs : List KeptRun) (duties : List Duty) → AllInStretch earlier runs → AllInStretch earlier (kept_after (length before) runs duties)
+  shown runs duties all =
+      all_kept (IsInStretch earlier) (stretch_flagged earlier) (length before) duties
+      (λ d work among work_is. inl (fetched_behind (record { run = d.run; aborting = d.aborting; paused = d.paused; work = work; place = begin work; fetched = length before }) before d.run refl earlier made, refl))
+      runs duties (λ d among. among) all
 
-step_line : (n : NodeState) (steps : ℕ) (earlier : List MadeStep) (replied : Answer) → AllInStretch earlier n.runs → AllInStretch earlier (behind_step_line n steps replied).runs
-step_line n steps earlier (answer.Duties took moment duties) all = all_kept earlier n.runs duties all
-step_line n steps earlier replied all = all
+  fetched : (n : NodeState) (replied : Answer) → AllInStretch earlier n.runs → AllInStretch earlier (behind_fetch (length before) n replied).runs
+  fetched n (answer.Duties took moment duties) all = shown n.runs duties all
+  fetched n replied all = all
 
-lined : (n : NodeState) (lines : List ScriptLine) (asked : Option ℕ) (earlier : List MadeStep) (replied : Answer) → AllInStretch earlier n.runs
-    → AllInStretch earlier (behind_line n lines asked replied).runs
-lined n lines (Some steps) earlier replied all = step_line (record n { lines = lines }) steps earlier replied all
-lined n lines None earlier replied all = all
+  step_line : (n : NodeState) (steps : ℕ) (replied : Answer) → AllInStretch earlier n.runs → AllInStretch earlier (behind_step_line (length before) n steps replied).runs
+  step_line n steps (answer.Duties took moment duties) all = shown n.runs duties all
+  step_line n steps replied all = all
+
+  lined : (n : NodeState) (lines : List UserLine) (asked : Option ℕ) (replied : Answer) → AllInStretch earlier n.runs → AllInStretch earlier (behind_line (length before) n lines asked replied).runs
+  lined n lines (Some steps) replied all = step_line (record n { lines = lines }) steps replied all
+  lined n lines None replied all = all
+
+given_lined : (before : List Visit) (v : Visit) (n : NodeState) (lines : List UserLine) (asked : Option ℕ) → AllByRecursion (IsGiven before) n.runs
+    → AllByRecursion (IsGiven (before ++ v ∷ [])) (behind_line (length before) n lines asked (answered v)).runs
+given_lined before v n lines (Some steps) all = given_line before v (record n { lines = lines }) steps (answered v) refl all
+given_lined before v n lines None all = all_given_later before (v ∷ []) n.runs all
 
 -- ---- a course
 
-module _ (HasSpelling : Record → Type 0) (read : ScriptLine → ℕ → List Visit → List ℕ → Input) (extent : Extent) where
-  follows_on : (n : NodeState) (before : List Visit) (v : Visit) (others : List Visit) (steps : List MadeStep) (earlier : List MadeStep) (next : NextTurn) → AllInStretch earlier n.runs
-      → ((after : NodeState) (left : List MadeStep) (earlier : List MadeStep) → AllInStretch earlier after.runs
-      → GoesOn HasSpelling read extent after (before ++ v ∷ []) (is_live_behind v) others left → ComeInStretches earlier left)
-      → Follows HasSpelling read extent n before steps v others (λ after left. GoesOn HasSpelling read extent after (before ++ v ∷ []) (is_live_behind v) others left) next
-      → ComeInStretches earlier steps
-  follows_on n before v others steps earlier (ALine line lines) all on h =
-      on (behind_line n lines (steps_asked line.sort line.text) (answered v)) steps earlier (lined n lines (steps_asked line.sort line.text) earlier (answered v) all) h.1
-  follows_on n before v others [] earlier (AStep run round) all on h = absurd h
-  follows_on n before v others (m ∷ steps) earlier (AStep run round) all on h = (
-    found_is earlier (run_kept run n.runs) m.run h.0.0 (found earlier run n.runs all),
-    on (behind_step n m.run round (report_told m.run m.end) (answered v)) steps (m ∷ earlier) (stepped n m earlier round (report_told m.run m.end) (answered v) refl all) h.2,
-  )
-  follows_on n before v others steps earlier AFetch all on h =
-      on (behind_fetch (record n { stage = own_stage n.stage }) (answered v)) steps earlier (fetched (record n { stage = own_stage n.stage }) earlier (answered v) all) h.1
-  follows_on n before v others steps earlier ALeave all on h = on (record n { stage = Over }) steps earlier all h.1
-  follows_on n before v others steps earlier NoTurn all on h = absurd h
+-- what is known of a node and of its steps so far
+pub record IsSoFar (n : NodeState) (before : List Visit) (earlier : List MadeStep) : Type 0 where
+  pub stretch : AllInStretch earlier n.runs
+  pub given : AllByRecursion (IsGiven before) n.runs
+  pub made : AllByRecursion (λ (m : MadeStep). IsGiven before m.run) earlier
 
-  pub stretches : (visits : List Visit) (n : NodeState) (before : List Visit) (live : Bool) (steps : List MadeStep) (earlier : List MadeStep) → AllInStretch earlier n.runs
-      → GoesOn HasSpelling read extent n before live visits steps → ComeInStretches earlier steps
-  stretches [] n before live steps earlier all h = subst (λ xs. ComeInStretches earlier xs) (sym h.1) tt
-  stretches (v ∷ others) n before live steps earlier all h =
-      follows_on n before v others steps earlier (next_at live n n.stage) all (λ after left more sound goes. stretches others after (before ++ v ∷ []) (is_live_behind v) left more sound goes) h
+-- what is said of the steps that follow
+pub record AreGood (all : List Visit) (earlier steps : List MadeStep) : Type 0 where
+  pub stretches : ComeInStretches earlier steps
+  pub given : AllByRecursion (λ (m : MadeStep). IsGiven all m.run) steps
 
-  pub course_stretches : (w : World) (turns : List Turn) (node : ℕ) (lines : List ScriptLine) (faults : ℕ) → (h : IsCourse HasSpelling read extent w turns node lines faults) → ComeInStretches [] h.steps
-  course_stretches w turns node lines faults h = stretches _ (at_first lines) [] _ h.steps [] tt h.turns_are
+module _ (HasSpelling : Record → Type 0) (read : UserLine → ℕ → List Visit → List ℕ → Input) (extent : Extent) (broken : Option KeptRun) where
+  follows_on : (all : List Visit) (n : NodeState) (before : List Visit) (v : Visit) (others : List Visit) (steps : List MadeStep) (earlier : List MadeStep) (next : NextTurn) → IsSoFar n before earlier
+      → ((k : KeptRun) → IsGiven before k → IsGiven all k)
+      → ((after : NodeState) (left : List MadeStep) (earlier : List MadeStep) → IsSoFar after (before ++ v ∷ []) earlier
+      → GoesOn HasSpelling read extent broken after (before ++ v ∷ []) (is_live_behind v) others left → AreGood all earlier left)
+      → Follows HasSpelling read extent broken n before steps v others (λ after left. GoesOn HasSpelling read extent broken after (before ++ v ∷ []) (is_live_behind v) others left) next
+      → AreGood all earlier steps
+  follows_on all n before v others steps earlier (ALine l lines) so later on h =
+      on (behind_line (length before) n lines (steps_asked l.line.sort l.line.text) (answered v)) steps earlier
+      (record {
+        stretch = lined before earlier so.made n lines (steps_asked l.line.sort l.line.text) (answered v) so.stretch;
+        given = given_lined before v n lines (steps_asked l.line.sort l.line.text) so.given;
+        made = steps_given_later before (v ∷ []) earlier so.made;
+      }) h.1
+  follows_on all n before v others [] earlier (AStep run round) so later on h = absurd h
+  follows_on all n before v others (m ∷ steps) earlier (AStep run round) so later on h =
+      let given : IsGiven before m.run = found_is (IsGiven before) (run_kept run n.runs) m.run h.0.0 (found (IsGiven before) run n.runs so.given) in
+      let rest : AreGood all (m ∷ earlier) steps =
+      on (behind_step n m.run round (report_told m.run m.end) (answered v)) steps (m ∷ earlier)
+      (record {
+        stretch = stepped n m earlier round (report_told m.run m.end) (answered v) refl so.stretch;
+        given = all_given_later before (v ∷ []) (behind_step n m.run round (report_told m.run m.end) (answered v)).runs
+            (report_keeps (IsGiven before) (λ k place h. h) m.run given n round (report_told m.run m.end) (answered v) so.given);
+        made = (given_later before (v ∷ []) m.run given, steps_given_later before (v ∷ []) earlier so.made);
+      }) h.2 in
+      record {
+        stretches = (found_is (IsInStretch earlier) (run_kept run n.runs) m.run h.0.0 (found (IsInStretch earlier) run n.runs so.stretch), rest.stretches);
+        given = (later m.run given, rest.given);
+      }
+  follows_on all n before v others steps earlier AFetch so later on h =
+      on (behind_fetch (length before) (record n { stage = own_stage n.stage }) (answered v)) steps earlier
+      (record {
+        stretch = fetched before earlier so.made (record n { stage = own_stage n.stage }) (answered v) so.stretch;
+        given = given_new before v (record n { stage = own_stage n.stage }) (answered v) refl so.given;
+        made = steps_given_later before (v ∷ []) earlier so.made;
+      }) h.1
+  follows_on all n before v others steps earlier ALeave so later on h =
+      on (record n { stage = Over }) steps earlier
+      (record { stretch = so.stretch; given = all_given_later before (v ∷ []) n.runs so.given; made = steps_given_later before (v ∷ []) earlier so.made }) h.1
+  follows_on all n before v others steps earlier NoTurn so later on h = absurd h
+
+  pub good : (visits : List Visit) (n : NodeState) (before : List Visit) (live : Bool) (steps : List MadeStep) (earlier : List MadeStep) → IsSoFar n before earlier
+      → GoesOn HasSpelling read extent broken n before live visits steps → AreGood (before ++ visits) earlier steps
+  good [] n before live steps earlier so h = subst (λ xs. AreGood (before ++ []) earlier xs) (sym h.1) (record { stretches = tt; given = tt })
+  good (v ∷ others) n before live steps earlier so h =
+      follows_on (before ++ v ∷ others) n before v others steps earlier (next_at live n n.stage) so (given_later before (v ∷ others))
+      (λ after left more sound goes. subst (λ vs. AreGood vs more left) (append_assoc before (v ∷ []) others) (good others after (before ++ v ∷ []) (is_live_behind v) left more sound goes)) h
+
+module _ (HasSpelling : Record → Type 0) (read : UserLine → ℕ → List Visit → List ℕ → Input) (extent : Extent) where
+  course_good : (w : World) (turns : List Turn) (node : ℕ) (lines : List UserLine) (faults : ℕ) → (h : IsCourse HasSpelling read extent w turns node lines faults) → AreGood (visits_of node w turns) [] h.steps
+  course_good w turns node lines faults h =
+      good HasSpelling read extent h.broken (visits_of node w turns) (at_first lines) [] _ h.steps [] (record { stretch = tt; given = tt; made = tt }) h.turns_are
+
+  pub course_stretches : (w : World) (turns : List Turn) (node : ℕ) (lines : List UserLine) (faults : ℕ) → (h : IsCourse HasSpelling read extent w turns node lines faults) → ComeInStretches [] h.steps
+  course_stretches w turns node lines faults h = let all = course_good w turns node lines faults h in all.stretches
+
+  pub course_given : (w : World) (turns : List Turn) (node : ℕ) (lines : List UserLine) (faults : ℕ) → (h : IsCourse HasSpelling read extent w turns node lines faults)
+      → AllByRecursion (λ (m : MadeStep). IsGiven (visits_of node w turns) m.run) h.steps
+  course_given w turns node lines faults h = let all = course_good w turns node lines faults h in all.given

@@ -2,7 +2,7 @@
 -- and at last its leave.
 -- OpenVMS System Manager's Manual, Setting Up and Maintaining Queues, on symbionts. This site's own: STEP, and that a node
 -- goes on until nothing is left to do.
-use Rattle.std.specs.Prelude.{◌≡◌, ◌⊎◌, ◌≤◌, ℕ, zero, suc, ◌-◌, ◌==◌, Bool, true, false, not, ◌||◌, if◌then◌else◌, List, [], ◌∷◌, ◌++◌, map, filter, find, filter_map, count_by, Option, None, Some}
+use Rattle.std.specs.Prelude.{◌≡◌, ◌⊎◌, ◌≤◌, ℕ, zero, suc, ◌-◌, ◌==◌, Bool, true, false, not, ◌||◌, if◌then◌else◌, List, [], ◌∷◌, ◌++◌, length, map, filter, find, filter_map, count_by, Option, None, Some}
 use Rattle.std.specs.Option.{option_map}
 use Rattle.qm_kinds.specs.declared.input.Input.{Input}
 use Rattle.qm_kinds.specs.declared.record.Record.{Record}
@@ -16,7 +16,6 @@ use Rattle.qm_kinds.specs.declared.work.Report.TheVariants as report
 use Rattle.qm_kinds.specs.declared.work.Work.{Work}
 use Rattle.qm_model.specs.Ending.{aborted_status}
 use Rattle.qm_model.specs.Reports.{begin, course, next_report}
-use Rattle.qm_model.specs.Script.{ScriptLine}
 use Rattle.qm_history.specs.declared.call.Answer.{Answer}
 use Rattle.qm_history.specs.declared.call.Answer.TheVariants as answer
 use Rattle.qm_history.specs.declared.call.Call.{Call}
@@ -25,18 +24,20 @@ use Rattle.qm_history.specs.declared.turn.Turn.{Turn}
 use Rattle.qm_history.specs.declared.world.World.{World}
 use Rattle.qm_history.specs.Answers.{answer_of}
 use Rattle.qm_history.specs.Legal.{after_turn}
-use Rattle.qm_history.specs.Script.{steps_asked}
+use Rattle.qm_history.specs.Script.{UserLine, steps_asked}
 use Rattle.qm_history.specs.Turn.{IsTurnOf, IsCutShort}
 use Rattle.qm_history.specs.Visits.{Visit, visits_of}
 use Rattle.qm_history.specs.World.{is_live}
 
--- a run that a node keeps: what it needs, how far it is, and what the last fetch said of it
+-- A run that a node keeps: what it needs, how far it is, and what the last fetch said of it. The fetch that gave it to the
+-- node is told by the number of the node's turns before that one.
 pub record KeptRun : Type 0 where
   pub run : ℕ
   pub aborting : Bool
   pub paused : Bool
   pub work : Work
   pub place : Place
+  pub fetched : ℕ
 
 -- what a node is about: reading its lines, or, behind the last one, fetching, working, leaving, or nothing more
 pub data Stage : Type 0 where
@@ -50,7 +51,7 @@ pub data Stage : Type 0 where
 -- number, and the numbers of those that may step, the next one first
 pub record NodeState : Type 0 where
   pub stage : Stage
-  pub lines : List ScriptLine
+  pub lines : List UserLine
   pub steps : ℕ
   pub runs : List KeptRun
   pub round : List ℕ
@@ -63,14 +64,15 @@ known n = map (λ (k : KeptRun). k.run) n.runs
 abbrev pub run_kept : ℕ → List KeptRun → Option KeptRun
 run_kept run runs = find (λ (k : KeptRun). k.run == run) runs
 
--- a run as a fetch shows it: what it needs is new, and it begins; or it goes on where it was
-abbrev pub kept_of : List KeptRun → Duty → Option Work → Option KeptRun
-kept_of runs d (Some work) = Some (record { run = d.run; aborting = d.aborting; paused = d.paused; work = work; place = begin work })
-kept_of runs d None = option_map (λ (k : KeptRun). record k { aborting = d.aborting; paused = d.paused }) (run_kept d.run runs)
+-- a run as a fetch behind so many turns shows it: what it needs is new, and it begins; or it goes on where it was
+abbrev pub kept_of : ℕ → List KeptRun → Duty → Option Work → Option KeptRun
+kept_of turns runs d (Some work) =
+    Some (record { run = d.run; aborting = d.aborting; paused = d.paused; work = work; place = begin work; fetched = turns })
+kept_of turns runs d None = option_map (λ (k : KeptRun). record k { aborting = d.aborting; paused = d.paused }) (run_kept d.run runs)
 
 -- the runs that a node keeps behind a fetch: those that it shows
-abbrev pub kept_after : List KeptRun → List Duty → List KeptRun
-kept_after runs duties = filter_map (λ (d : Duty). kept_of runs d d.work) duties
+abbrev pub kept_after : ℕ → List KeptRun → List Duty → List KeptRun
+kept_after turns runs duties = filter_map (λ (d : Duty). kept_of turns runs d d.work) duties
 
 -- an aborting run may step, and so may one whose queue isn't paused
 abbrev pub may_step : KeptRun → Bool
@@ -158,19 +160,19 @@ abbrev pub behind_step : NodeState → KeptRun → List ℕ → Report → Answe
 behind_step n stepped others told replied =
     record (behind_report n stepped others told replied) { stage = stage_behind n.stage replied; steps = n.steps - 1 }
 
--- the node behind a fetch that showed duties
-abbrev pub with_duties : NodeState → ℕ → List Duty → NodeState
-with_duties n steps duties = let runs = kept_after n.runs duties in record n { steps = steps; runs = runs; round = round_of runs }
+-- the node behind a fetch that showed duties, behind so many turns
+abbrev pub with_duties : ℕ → NodeState → ℕ → List Duty → NodeState
+with_duties turns n steps duties = let runs = kept_after turns n.runs duties in record n { steps = steps; runs = runs; round = round_of runs }
 
 -- the node behind a STEP line: steps may follow where duties were shown
-abbrev pub behind_step_line : NodeState → ℕ → Answer → NodeState
-behind_step_line n steps (answer.Duties took moment duties) = with_duties n steps duties
-behind_step_line n steps replied = record n { steps = 0 }
+abbrev pub behind_step_line : ℕ → NodeState → ℕ → Answer → NodeState
+behind_step_line turns n steps (answer.Duties took moment duties) = with_duties turns n steps duties
+behind_step_line turns n steps replied = record n { steps = 0 }
 
 -- the node behind a line
-abbrev pub behind_line : NodeState → List ScriptLine → Option ℕ → Answer → NodeState
-behind_line n lines (Some steps) replied = behind_step_line (record n { lines = lines }) steps replied
-behind_line n lines None replied = record n { lines = lines; steps = 0 }
+abbrev pub behind_line : ℕ → NodeState → List UserLine → Option ℕ → Answer → NodeState
+behind_line turns n lines (Some steps) replied = behind_step_line turns (record n { lines = lines }) steps replied
+behind_line turns n lines None replied = record n { lines = lines; steps = 0 }
 
 -- there is work where a run may step, and else the node leaves
 abbrev pub stage_for : List ℕ → Stage
@@ -178,26 +180,27 @@ stage_for [] = Leaving
 stage_for (run ∷ round) = Working
 
 -- the node behind a fetch of its own
-abbrev pub behind_fetch : NodeState → Answer → NodeState
-behind_fetch n (answer.Duties took moment duties) = let after = with_duties n 0 duties in record after { stage = stage_for after.round }
-behind_fetch n replied = record n { stage = Leaving }
+abbrev pub behind_fetch : ℕ → NodeState → Answer → NodeState
+behind_fetch turns n (answer.Duties took moment duties) =
+    let after = with_duties turns n 0 duties in record after { stage = stage_for after.round }
+behind_fetch turns n replied = record n { stage = Leaving }
 
 -- what comes next
 pub data NextTurn : Type 0 where
-  ALine : ScriptLine → List ScriptLine → NextTurn
+  ALine : UserLine → List UserLine → NextTurn
   AStep : ℕ → List ℕ → NextTurn
   AFetch : NextTurn
   ALeave : NextTurn
   NoTurn : NextTurn
 
 -- the next line, and behind the last one a fetch of a node that is live
-abbrev pub next_line : Bool → List ScriptLine → NextTurn
+abbrev pub next_line : Bool → List UserLine → NextTurn
 next_line live (line ∷ lines) = ALine line lines
 next_line true [] = AFetch
 next_line false [] = NoTurn
 
 -- steps come before the next line, as many as a STEP line allows
-abbrev pub next_reading : Bool → ℕ → List ℕ → List ScriptLine → NextTurn
+abbrev pub next_reading : Bool → ℕ → List ℕ → List UserLine → NextTurn
 next_reading live (suc steps) (run ∷ others) lines = AStep run others
 next_reading live (suc steps) [] lines = next_line live lines
 next_reading live zero round lines = next_line live lines
@@ -221,7 +224,7 @@ own_stage Reading = Fetching
 own_stage stage = stage
 
 -- a node at the beginning of its lines
-abbrev pub at_first : List ScriptLine → NodeState
+abbrev pub at_first : List UserLine → NodeState
 at_first lines = record { stage = Reading; lines = lines; steps = 0; runs = []; round = [] }
 
 -- a course that was gone to its end, or as far as its thread came
@@ -233,6 +236,20 @@ pub data Extent : Type 0 where
 abbrev pub IsAtEnd : Extent → NextTurn → Type 0
 IsAtEnd Whole next = next ≡ NoTurn
 IsAtEnd Begun next = Unit {0}
+
+-- the run that is to step next, if one is
+abbrev pub next_run : NodeState → NextTurn → Option KeptRun
+next_run n (AStep run round) = run_kept run n.runs
+next_run n (ALine line lines) = None
+next_run n AFetch = None
+next_run n ALeave = None
+next_run n NoTurn = None
+
+-- A course that was only begun may break off within a step: it was begun, and no turn told of it.
+abbrev pub IsBrokenOff : Extent → Option KeptRun → Option KeptRun → Type 0
+IsBrokenOff extent next None = Unit {0}
+IsBrokenOff Whole next (Some k) = ⊥
+IsBrokenOff Begun next (Some k) = (next ≡ Some k) × (k.aborting ≡ false)
 
 -- the node is live behind this turn
 abbrev pub is_live_behind : Visit → Bool
@@ -248,23 +265,24 @@ IsStepOf n run m = (run_kept run n.runs ≡ Some m.run) × IsEndOf m.run.abortin
 
 -- How a line is read is said where commands and item lists are: by its text and its user, the moment that the clock told, the
 -- node's turns before it, which tell what listings it has begun, and, for STEP, the runs that it keeps.
-module _ (HasSpelling : Record → Type 0) (read : ScriptLine → ℕ → List Visit → List ℕ → Input) where
+module _ (HasSpelling : Record → Type 0) (read : UserLine → ℕ → List Visit → List ℕ → Input) where
   -- the turn served this call whole; or it is the last one of a course that was only begun, and was cut short
   abbrev pub ServesOrEnds : Extent → World → Call → Turn → List Visit → Type 0
   ServesOrEnds Whole w asked t others = IsTurnOf HasSpelling w asked t
   ServesOrEnds Begun w asked t others = IsTurnOf HasSpelling w asked t ⊎ (IsCutShort HasSpelling w asked t × (others ≡ []))
 
   -- the call of a line
-  abbrev pub call_of_line : NodeState → List Visit → ScriptLine → Turn → Call
-  call_of_line n earlier line t = call.Line line.number (read line t.moment earlier (known n))
+  abbrev pub call_of_line : NodeState → List Visit → UserLine → Turn → Call
+  call_of_line n earlier l t = call.Line l.line.number (read l t.moment earlier (known n))
 
-  -- From here on these turns are what the node does, and these are the steps that it makes between them.
-  module _ (extent : Extent) where
+  -- From here on these turns are what the node does, and these are the steps that it makes between them. Where the course
+  -- breaks off within a step, its run is given.
+  module _ (extent : Extent) (broken : Option KeptRun) where
     -- what follows this turn, which is the one that comes next, where the node's course goes on by Rest
     abbrev pub Follows : NodeState → List Visit → List MadeStep → Visit → List Visit → (NodeState → List MadeStep → Type 0) → NextTurn → Type 0
-    Follows n earlier steps v others Rest (ALine line lines) =
-        ServesOrEnds extent v.before (call_of_line n earlier line v.turn) v.turn others
-        × Rest (behind_line n lines (steps_asked line.sort line.text) (answered v)) steps
+    Follows n earlier steps v others Rest (ALine l lines) =
+        ServesOrEnds extent v.before (call_of_line n earlier l v.turn) v.turn others
+        × Rest (behind_line (length earlier) n lines (steps_asked l.line.sort l.line.text) (answered v)) steps
     Follows n earlier [] v others Rest (AStep run round) = ⊥
     Follows n earlier (m ∷ steps) v others Rest (AStep run round) =
         IsStepOf n run m
@@ -272,19 +290,21 @@ module _ (HasSpelling : Record → Type 0) (read : ScriptLine → ℕ → List V
         × Rest (behind_step n m.run round (report_told m.run m.end) (answered v)) steps
     Follows n earlier steps v others Rest AFetch =
         ServesOrEnds extent v.before (call.Fetch (known n)) v.turn others
-        × Rest (behind_fetch (record n { stage = own_stage n.stage }) (answered v)) steps
+        × Rest (behind_fetch (length earlier) (record n { stage = own_stage n.stage }) (answered v)) steps
     Follows n earlier steps v others Rest ALeave =
         ServesOrEnds extent v.before call.Leave v.turn others × Rest (record n { stage = Over }) steps
     Follows n earlier steps v others Rest NoTurn = ⊥
 
     abbrev pub GoesOn : NodeState → List Visit → Bool → List Visit → List MadeStep → Type 0
-    GoesOn n earlier live [] steps = IsAtEnd extent (next_at live n n.stage) × (steps ≡ [])
+    GoesOn n earlier live [] steps =
+        IsAtEnd extent (next_at live n n.stage) × (steps ≡ []) × IsBrokenOff extent (next_run n (next_at live n n.stage)) broken
     GoesOn n earlier live (v ∷ others) steps =
         Follows n earlier steps v others (λ after left. GoesOn after (earlier ++ v ∷ []) (is_live_behind v) others left) (next_at live n n.stage)
 
-  -- The turns of a node are a course of its lines, with these steps. It begins with no run, and its device fails in at most so
-  -- many steps.
-  pub record IsCourse (extent : Extent) (start : World) (turns : List Turn) (node : ℕ) (lines : List ScriptLine) (faults : ℕ) : Type 0 where
+  -- The turns of a node are a course of its lines, with these steps, and one more where it broke off within that. It begins with
+  -- no run, and its device fails in at most so many steps.
+  pub record IsCourse (extent : Extent) (start : World) (turns : List Turn) (node : ℕ) (lines : List UserLine) (faults : ℕ) : Type 0 where
     pub steps : List MadeStep
-    pub turns_are : GoesOn extent (at_first lines) [] (is_live start node) (visits_of node start turns) steps
+    pub broken : Option KeptRun
+    pub turns_are : GoesOn extent broken (at_first lines) [] (is_live start node) (visits_of node start turns) steps
     pub few_faults : failed_steps steps ≤ faults

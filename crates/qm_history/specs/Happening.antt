@@ -123,6 +123,47 @@ IsForManager (input.Ask request.Tick) = Unit {0}
 IsForManager input.Compact = Unit {0}
 IsForManager asked = ⊥
 
+-- a node takes over or tries to
+abbrev pub is_takeover : Event → Bool
+is_takeover (event.Took node moment epoch gone up may kept) = true
+is_takeover (event.TakeDoubt node tried kept) = true
+is_takeover (event.Done node moment asked reply) = false
+is_takeover (event.Refused node moment asked refusal) = false
+is_takeover (event.Shown node moment asked) = false
+is_takeover (event.Doubt node moment asked) = false
+is_takeover (event.Full node need cap) = false
+is_takeover (event.NoManager node) = false
+is_takeover (event.Fenced node held current) = false
+is_takeover (event.Stopped node) = false
+is_takeover (event.Left node) = false
+is_takeover (event.Started node) = false
+is_takeover (event.Compacted node epoch file) = false
+is_takeover (event.CompactDoubt node) = false
+
+-- the node takes over, comes up or goes, and something else of the same turn may follow
+abbrev pub may_come_first : Event → Bool
+may_come_first (event.Took node moment epoch gone up may kept) = true
+may_come_first (event.TakeDoubt node tried kept) = true
+may_come_first (event.Stopped node) = true
+may_come_first (event.Left node) = true
+may_come_first (event.Started node) = true
+may_come_first (event.Done node moment asked reply) = false
+may_come_first (event.Refused node moment asked refusal) = false
+may_come_first (event.Shown node moment asked) = false
+may_come_first (event.Doubt node moment asked) = false
+may_come_first (event.Full node need cap) = false
+may_come_first (event.NoManager node) = false
+may_come_first (event.Fenced node held current) = false
+may_come_first (event.Compacted node epoch file) = false
+may_come_first (event.CompactDoubt node) = false
+
+-- one event; or two, of which the second is no takeover
+abbrev pub AreOneOrTwo : List Event → Type 0
+AreOneOrTwo [] = ⊥
+AreOneOrTwo (e ∷ []) = Unit {0}
+AreOneOrTwo (e ∷ next ∷ []) = (may_come_first e ≡ true) × (is_takeover next ≡ false)
+AreOneOrTwo (e ∷ next ∷ other ∷ events) = ⊥
+
 -- nothing but a compaction happened in the turn
 abbrev pub IsCompactionAlone : Turn → Type 0
 IsCompactionAlone t = (node : ℕ) × (epoch : ℕ) × (file : ℕ) × (t.events ≡ event.Compacted node epoch file ∷ [])

@@ -17,3 +17,4 @@ pub mod Happening
 pub mod Master
 pub mod Start
 pub mod Leaving
+pub mod Marks

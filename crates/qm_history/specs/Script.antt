@@ -1,14 +1,24 @@
 -- The lines of a node, and what each asks for.
--- OpenVMS User's Manual, on command procedures. This site's own: the form of a script, and STEP.
-use Rattle.std.specs.Prelude.{ℕ, nat_le, ◌&&◌, if◌then◌else◌, List, filter, decimal, codes, Option, None, Some}
+-- OpenVMS User's Manual, on command procedures; DCL Dictionary, SUBMIT, /USER. This site's own: the form of a script, and STEP.
+use Rattle.std.specs.Prelude.{ℕ, nat_le, ◌&&◌, if◌then◌else◌, List, filter, map, decimal, codes, Option, None, Some}
 use Rattle.std.specs.Option.{option_and_then}
 use Rattle.std.specs.Str.{bytes_eq}
+use Rattle.qm_kinds.specs.Names.{system_user}
 use Rattle.qm_model.specs.Command.{cut_at_blank, value_of}
 use Rattle.qm_model.specs.Script.{ScriptLine, Sort, Command, Site}
 
--- the lines of one node, with their numbers
-abbrev pub lines_of : List ℕ → List ScriptLine → List ScriptLine
-lines_of name script = filter (λ (line : ScriptLine). bytes_eq line.node name) script
+-- a line of a script, and the user who asks
+pub record UserLine : Type 0 where
+  pub line : ScriptLine
+  pub user : List ℕ
+
+-- the lines of a script in which no user is named: SYSTEM asks
+abbrev pub asked_by_system : List ScriptLine → List UserLine
+asked_by_system script = map (λ (line : ScriptLine). record { line = line; user = system_user }) script
+
+-- the lines of one node, with their numbers and users
+abbrev pub lines_of : List ℕ → List UserLine → List UserLine
+lines_of name script = filter (λ (l : UserLine). bytes_eq l.line.node name) script
 
 -- a number as it is written, from 1 to 100,000
 abbrev pub step_number : List ℕ → Option ℕ

@@ -58,37 +58,39 @@ abbrev pub KindFollows : Option ℕ → Body → Type 0
 KindFollows None b = rank b ≡ 0
 KindFollows (Some before) b = (before ≤ rank b) × (0 < rank b)
 
--- what is said of a file as a log: that it is one of these bodies, that it is broken off at a place, and the place of a gate
+-- ---- files that hold a log
+
+-- what is said of a file as a log: that it is one of these bodies
+module _ (IsLog : List ℕ → List (List ℕ) → Type 0) (HasSpelling : Record → Type 0) (record_text : Record → List ℕ) where
+  -- the files of a site hold these records, under a master that says this
+  pub record HoldRecords (files : ℕ → List ℕ) (says : MasterState) (records : List Record) : Type 0 where
+    pub masters : List MasterRecord
+    pub master_is_log : IsLog (files 0) (map master_text masters)
+    pub are_master : AreMaster masters
+    pub says_is : says ≡ master_of no_master masters
+    pub live_is_log : IsLog (files says.live) (map record_text records)
+    pub accepted : IsAccepted HasSpelling records
+
+  -- they hold a log: its records, or others that stand for the same system
+  pub record Hold (files : ℕ → List ℕ) (log : List Record) : Type 0 where
+    pub says : MasterState
+    pub records : List Record
+    pub hold : HoldRecords files says records
+    pub same : system_of records ≡ system_of log
+
+  -- the world with which a program begins on these files
+  pub record Starts (files : ℕ → List ℕ) (w : World) : Type 0 where
+    pub says : MasterState
+    pub records : List Record
+    pub hold : HoldRecords files says records
+    pub begins : w ≡ first_world records says.epoch
+
+-- ---- the first place that is wrong
+
+-- what more is said of a file as a log: that it is broken off at a place, and the place of a gate
 module _ (IsLog : List ℕ → List (List ℕ) → Type 0) (IsBrokenAt : List ℕ → ℕ → Type 0) (place_of : List (List ℕ) → ℕ → ℕ)
     (HasSpelling : Record → Type 0) (record_text : Record → List ℕ)
   where
-    -- ---- files that hold a log
-
-    -- the files of a site hold these records, under a master that says this
-    pub record HoldRecords (files : ℕ → List ℕ) (says : MasterState) (records : List Record) : Type 0 where
-      pub masters : List MasterRecord
-      pub master_is_log : IsLog (files 0) (map master_text masters)
-      pub are_master : AreMaster masters
-      pub says_is : says ≡ master_of no_master masters
-      pub live_is_log : IsLog (files says.live) (map record_text records)
-      pub accepted : IsAccepted HasSpelling records
-
-    -- they hold a log: its records, or others that stand for the same system
-    pub record Hold (files : ℕ → List ℕ) (log : List Record) : Type 0 where
-      pub says : MasterState
-      pub records : List Record
-      pub hold : HoldRecords files says records
-      pub same : system_of records ≡ system_of log
-
-    -- the world with which a program begins on these files
-    pub record Starts (files : ℕ → List ℕ) (w : World) : Type 0 where
-      pub says : MasterState
-      pub records : List Record
-      pub hold : HoldRecords files says records
-      pub begins : w ≡ first_world records says.epoch
-
-    -- ---- the first place that is wrong
-
     -- the master doesn't begin with a record
     abbrev pub IsUnformatted : (ℕ → List ℕ) → ℕ → Type 0
     IsUnformatted files byte = (byte ≡ first_byte (files 0)) × (byte ≢ 1)

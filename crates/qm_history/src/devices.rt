@@ -1,24 +1,33 @@
 // What the devices of a node get.
 ghost use Rattle.std.specs.Prelude.{◌≡◌, ℕ, List, [], take, drop};
+ghost use Rattle.std.specs.List.{AllByRecursion};
 ghost use Rattle.qm_kinds.specs.declared.entry.JobKind.TheVariants.{Print};
 ghost use Rattle.qm_kinds.specs.declared.input.Input.{Input};
 ghost use Rattle.qm_model.specs.Pages.{page_blocks};
-ghost use Rattle.qm_model.specs.Script.{ScriptLine};
-ghost use Rattle.qm_record.specs.Spelling.{HasSpelling};
+ghost use Rattle.qm_history.specs.Script.{UserLine};
 ghost use Rattle.qm_history.specs.declared.turn.Turn.{Turn};
 ghost use Rattle.qm_history.specs.declared.world.World.{World};
-ghost use Rattle.qm_history.specs.Blocks.{ComeInStretches, handed_by};
-ghost use Rattle.qm_history.specs.Course.{Extent, IsCourse, KeptRun, WentOn};
-ghost use Rattle.qm_history.specs.Visits.{Visit};
+ghost use Rattle.qm_history.specs.Blocks.{HandsOver, IsGiven, ComeInStretches, ComeAgainBehindMarks};
+ghost use Rattle.qm_history.specs.Course.{Extent, IsCourse, KeptRun, MadeStep, WentOn};
+ghost use Rattle.qm_history.specs.Visits.{Visit, visits_of};
 
+use crate::format::Format;
 use qm_model::print_jobs_report_each_block;
 
-/// The steps that a node makes for its runs come in stretches. The first step of each begins behind the mark with which the
-/// work was fetched, and each other one at the checkpoint of the step of that run before it. A step of a print run hands over
-/// the next block of its pages, if one is left. So the blocks of a stretch are consecutive ones from behind the mark.
-pub fn steps_come_in_stretches()
-    ensures stretches { (read : ScriptLine → ℕ → List Visit → List ℕ → Input) (extent : Extent) (w : World) (turns : List Turn) (node : ℕ) (lines : List ScriptLine) (faults : ℕ) (h : IsCourse HasSpelling read extent w turns node lines faults) → ComeInStretches [] h.steps }
-    ensures next_block { (k : KeptRun) → k.work.kind ≡ Print → handed_by k WentOn ≡ take 1 (drop k.place.at (page_blocks k.work)) }
+/// The steps that a node makes for its runs come in stretches, one for each fetch that gave a run to the node. The first step
+/// of each begins behind the mark with which the work was fetched, and each other one at the checkpoint of the step of that
+/// run before it. A step of a print run hands over the next block of its pages, if one is left. So the blocks of a stretch are
+/// consecutive ones from behind the mark.
+pub fn steps_come_in_stretches<F: Format>()
+    ensures stretches { (read : UserLine → ℕ → List Visit → List ℕ → Input) (extent : Extent) (w : World) (turns : List Turn) (node : ℕ) (lines : List UserLine) (faults : ℕ) (h : IsCourse F.has_spelling read extent w turns node lines faults) → ComeInStretches [] h.steps }
+    ensures given { (read : UserLine → ℕ → List Visit → List ℕ → Input) (extent : Extent) (w : World) (turns : List Turn) (node : ℕ) (lines : List UserLine) (faults : ℕ) (h : IsCourse F.has_spelling read extent w turns node lines faults) → AllByRecursion (λ (m : MadeStep). IsGiven (visits_of node w turns) m.run) h.steps }
+    ensures next_block { (k : KeptRun) (blocks : List (List ℕ)) → k.work.kind ≡ Print → HandsOver k WentOn blocks → blocks ≡ take 1 (drop k.place.at (page_blocks k.work)) }
 {
     print_jobs_report_each_block();
 }
+
+/// Where steps come in stretches, a block of a print job comes again only as another fetch gave it, and behind the mark with
+/// which that one gave it.
+pub fn blocks_come_again_behind_marks()
+    ensures { (steps : List MadeStep) → ComeInStretches [] steps → ComeAgainBehindMarks steps }
+{}

@@ -1,7 +1,6 @@
 // What events do to a world, one behind another.
 ghost use Rattle.std.specs.Prelude.{◌≡◌, true, List, ◌∷◌, ◌++◌, Some, Contains};
 ghost use Rattle.qm_kinds.specs.declared.record.Record.{Record};
-ghost use Rattle.qm_record.specs.Spelling.{HasSpelling};
 ghost use Rattle.qm_history.specs.declared.event.Event.{Event};
 ghost use Rattle.qm_history.specs.declared.turn.Turn.{Turn};
 ghost use Rattle.qm_history.specs.declared.world.World.{World};
@@ -9,16 +8,19 @@ ghost use Rattle.qm_history.specs.Happening.{events_of, epochs_taken, RiseFrom, 
 ghost use Rattle.qm_history.specs.Legal.{after_turns, IsLegal};
 ghost use Rattle.qm_history.specs.Step.{after_event, after_events, CanAllCome};
 
+use crate::format::Format;
+
 /// The events of a legal history may come one behind another, and lead to the world behind it. So what is said of events is
 /// said of histories.
-pub fn histories_are_events()
-    ensures come { (w : World) (turns : List Turn) → IsLegal HasSpelling w turns → CanAllCome HasSpelling w (events_of turns) }
+pub fn histories_are_events<F: Format>()
+    ensures come { (w : World) (turns : List Turn) → IsLegal F.has_spelling w turns → CanAllCome F.has_spelling w (events_of turns) }
     ensures world { (w : World) (turns : List Turn) → after_turns w turns ≡ after_events w (events_of turns) }
 {}
 
 /// The epochs of takeovers that stand rise, from above the greatest that was recorded or tried before.
-pub fn epochs_rise()
-    ensures { (w : World) (events : List Event) → CanAllCome HasSpelling w events → RiseFrom w.greatest (epochs_taken events) }
+pub fn epochs_rise<F: Format>()
+    ensures events { (w : World) (events : List Event) → CanAllCome F.has_spelling w events → RiseFrom w.greatest (epochs_taken events) }
+    ensures history { (w : World) (turns : List Turn) → IsLegal F.has_spelling w turns → RiseFrom w.greatest (epochs_taken (events_of turns)) }
 {}
 
 /// A refusal, a listing, what has no room, a node that may not be manager, a fenced call and a compaction leave the world.

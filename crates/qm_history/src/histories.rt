@@ -2,8 +2,7 @@
 ghost use Rattle.std.specs.Prelude.{◌≡◌, ◌≢◌, ◌⊎◌, ℕ, true, List, [], ◌∷◌, ◌++◌, Some};
 ghost use Rattle.qm_kinds.specs.declared.input.Input.{Input};
 ghost use Rattle.qm_kinds.specs.declared.query.Row.{Row};
-ghost use Rattle.qm_model.specs.Script.{ScriptLine};
-ghost use Rattle.qm_record.specs.Spelling.{HasSpelling};
+ghost use Rattle.qm_history.specs.Script.{UserLine};
 ghost use Rattle.qm_history.specs.declared.call.Call.{Call};
 ghost use Rattle.qm_history.specs.declared.event.Event.TheVariants as event;
 ghost use Rattle.qm_history.specs.declared.turn.Turn.{Turn};
@@ -18,23 +17,25 @@ ghost use Rattle.qm_history.specs.Turn.{IsTurnOf, IsCutShort};
 ghost use Rattle.qm_history.specs.Visits.{Visit, visits, visits_of};
 ghost use Rattle.qm_history.specs.World.{is_live, held_by, IsSound};
 
+use crate::format::Format;
+
 /// TICK and COMPACT of a node that holds another epoch than the present manager's change nothing: the turn holds the fence
 /// alone, or the node is down.
-pub fn other_epochs_are_fenced()
-    ensures world { (w : World) (asked : Call) (t : Turn) (role : Role) → w.manager ≡ Some role → held_by w t.node ≢ role.epoch → IsForManager (input_of asked) → IsTurnOf HasSpelling w asked t ⊎ IsCutShort HasSpelling w asked t → after_turn w t ≡ w }
-    ensures fenced { (w : World) (asked : Call) (t : Turn) (role : Role) → w.manager ≡ Some role → held_by w t.node ≢ role.epoch → IsForManager (input_of asked) → IsTurnOf HasSpelling w asked t ⊎ IsCutShort HasSpelling w asked t → is_live w t.node ≡ true → t.events ≡ event.Fenced t.node (held_by w t.node) role.epoch ∷ [] }
+pub fn other_epochs_are_fenced<F: Format>()
+    ensures world { (w : World) (asked : Call) (t : Turn) (role : Role) → w.manager ≡ Some role → held_by w t.node ≢ role.epoch → IsForManager (input_of asked) → IsTurnOf F.has_spelling w asked t ⊎ IsCutShort F.has_spelling w asked t → after_turn w t ≡ w }
+    ensures fenced { (w : World) (asked : Call) (t : Turn) (role : Role) → w.manager ≡ Some role → held_by w t.node ≢ role.epoch → IsForManager (input_of asked) → IsTurnOf F.has_spelling w asked t ⊎ IsCutShort F.has_spelling w asked t → is_live w t.node ≡ true → t.events ≡ event.Fenced t.node (held_by w t.node) role.epoch ∷ [] }
 {}
 
 /// A turn that holds a fence changes nothing.
-pub fn fenced_turns_change_nothing()
-    ensures { (w : World) (t : Turn) → IsSound HasSpelling w → IsLegalTurn HasSpelling w t → has_fence t.events ≡ true → after_turn w t ≡ w }
+pub fn fenced_turns_change_nothing<F: Format>()
+    ensures { (w : World) (t : Turn) → IsSound F.has_spelling w → IsLegalTurn F.has_spelling w t → has_fence t.events ≡ true → after_turn w t ≡ w }
 {}
 
 /// A legal history stays legal without a turn that holds a compaction alone, and with one more where that turn is legal. All
 /// other turns are made in the same worlds, so their answers, listings and duties stay.
-pub fn compactions_can_go_and_come()
-    ensures go { (w : World) (before behind : List Turn) (t : Turn) → IsCompactionAlone t → IsLegal HasSpelling w (before ++ t ∷ behind) → IsLegal HasSpelling w (before ++ behind) }
-    ensures come { (w : World) (before behind : List Turn) (t : Turn) → IsCompactionAlone t → IsLegalTurn HasSpelling (after_turns w before) t → IsLegal HasSpelling w (before ++ behind) → IsLegal HasSpelling w (before ++ t ∷ behind) }
+pub fn compactions_can_go_and_come<F: Format>()
+    ensures go { (w : World) (before behind : List Turn) (t : Turn) → IsCompactionAlone t → IsLegal F.has_spelling w (before ++ t ∷ behind) → IsLegal F.has_spelling w (before ++ behind) }
+    ensures come { (w : World) (before behind : List Turn) (t : Turn) → IsCompactionAlone t → IsLegalTurn F.has_spelling (after_turns w before) t → IsLegal F.has_spelling w (before ++ behind) → IsLegal F.has_spelling w (before ++ t ∷ behind) }
     ensures with_it { (w : World) (before behind : List Turn) (t : Turn) → IsCompactionAlone t → visits w (before ++ t ∷ behind) ≡ visits w before ++ record { before = after_turns w before; turn = t } ∷ visits (after_turns w before) behind }
     ensures without_it { (w : World) (before behind : List Turn) → visits w (before ++ behind) ≡ visits w before ++ visits (after_turns w before) behind }
 {}
@@ -49,7 +50,7 @@ pub fn texts_follow_turns()
 
 /// The course of a node is one of its own turns alone, each in the world in which it is made. So it stays where other nodes'
 /// turns come behind, and two histories in which the node makes the same turns in the same worlds have the same courses.
-pub fn courses_are_of_own_turns()
-    ensures own { (read : ScriptLine → ℕ → List Visit → List ℕ → Input) (extent : Extent) (w v : World) (turns others : List Turn) (node : ℕ) (lines : List ScriptLine) (faults : ℕ) → is_live w node ≡ is_live v node → visits_of node w turns ≡ visits_of node v others → IsCourse HasSpelling read extent w turns node lines faults → IsCourse HasSpelling read extent v others node lines faults }
-    ensures behind { (read : ScriptLine → ℕ → List Visit → List ℕ → Input) (extent : Extent) (w : World) (turns : List Turn) (t : Turn) (node : ℕ) (lines : List ScriptLine) (faults : ℕ) → t.node ≢ node → IsCourse HasSpelling read extent w turns node lines faults → IsCourse HasSpelling read extent w (turns ++ t ∷ []) node lines faults }
+pub fn courses_are_of_own_turns<F: Format>()
+    ensures own { (read : UserLine → ℕ → List Visit → List ℕ → Input) (extent : Extent) (w v : World) (turns others : List Turn) (node : ℕ) (lines : List UserLine) (faults : ℕ) → is_live w node ≡ is_live v node → visits_of node w turns ≡ visits_of node v others → IsCourse F.has_spelling read extent w turns node lines faults → IsCourse F.has_spelling read extent v others node lines faults }
+    ensures behind { (read : UserLine → ℕ → List Visit → List ℕ → Input) (extent : Extent) (w : World) (turns : List Turn) (t : Turn) (node : ℕ) (lines : List UserLine) (faults : ℕ) → t.node ≢ node → IsCourse F.has_spelling read extent w turns node lines faults → IsCourse F.has_spelling read extent w (turns ++ t ∷ []) node lines faults }
 {}

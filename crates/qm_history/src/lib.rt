@@ -3,26 +3,32 @@
 #![tactic(auto)]
 
 mod call;
+mod crashes;
 mod devices;
 mod event;
 mod events;
+mod format;
 mod histories;
+mod marks;
 mod sound;
 mod start;
 mod turn;
 mod world;
 
 pub use call::{Answer, Call, Takeover};
-pub use devices::steps_come_in_stretches;
+pub use crashes::{crashes_leave_a_beginning, turns_have_one_event_or_two};
+pub use devices::{blocks_come_again_behind_marks, steps_come_in_stretches};
 pub use event::Event;
 pub use events::{
     acknowledged_records_stay, epochs_rise, histories_are_events, logs_grow,
     some_events_change_nothing,
 };
+pub use format::{FileFormat, Format, QueueFile};
 pub use histories::{
     compactions_can_go_and_come, courses_are_of_own_turns, fenced_turns_change_nothing,
     other_epochs_are_fenced, texts_follow_turns,
 };
+pub use marks::entries_have_their_last_marks;
 pub use sound::{sound_worlds_are_consistent, worlds_stay_sound};
 pub use start::programs_begin_sound;
 pub use turn::{Turn, Why};

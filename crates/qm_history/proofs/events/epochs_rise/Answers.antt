@@ -1,6 +1,9 @@
-use Rattle.qm_record.specs.Spelling.{HasSpelling}
-use Rattle.qm_history.proofs.EventLemmas.{rise}
+use Rattle.qm_history.specs.Happening.{events_of}
+use Rattle.qm_history.proofs.EventLemmas.{all_come, rise}
 use Rattle.qm_history.proofs.events.epochs_rise.Goals as goal
 
-pub returns : goal.returns
-returns c = rise HasSpelling
+pub returns-clause-events : goal.returns-clause-events
+returns-clause-events g c = rise g.F.Format.has_spelling
+
+pub returns-clause-history : goal.returns-clause-history
+returns-clause-history g c w turns legal = rise g.F.Format.has_spelling w (events_of turns) (all_come g.F.Format.has_spelling w turns legal)

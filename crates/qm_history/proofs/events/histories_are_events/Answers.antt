@@ -1,9 +1,8 @@
-use Rattle.qm_record.specs.Spelling.{HasSpelling}
 use Rattle.qm_history.proofs.EventLemmas.{all_come, world_of_events}
 use Rattle.qm_history.proofs.events.histories_are_events.Goals as goal
 
 pub returns-clause-come : goal.returns-clause-come
-returns-clause-come c = all_come HasSpelling
+returns-clause-come g c = all_come g.F.Format.has_spelling
 
 pub returns-clause-world : goal.returns-clause-world
-returns-clause-world c = world_of_events
+returns-clause-world g c = world_of_events

@@ -1,15 +1,14 @@
-use Rattle.qm_record.specs.Spelling.{HasSpelling}
 use Rattle.qm_history.proofs.HistoryLemmas.{compaction_goes, compaction_comes, visits_append, visits_with}
 use Rattle.qm_history.proofs.histories.compactions_can_go_and_come.Goals as goal
 
 pub returns-clause-go : goal.returns-clause-go
-returns-clause-go c = compaction_goes HasSpelling
+returns-clause-go g c = compaction_goes g.F.Format.has_spelling
 
 pub returns-clause-come : goal.returns-clause-come
-returns-clause-come c = compaction_comes HasSpelling
+returns-clause-come g c = compaction_comes g.F.Format.has_spelling
 
 pub returns-clause-with_it : goal.returns-clause-with_it
-returns-clause-with_it c = visits_with
+returns-clause-with_it g c = visits_with
 
 pub returns-clause-without_it : goal.returns-clause-without_it
-returns-clause-without_it c = visits_append
+returns-clause-without_it g c = visits_append

@@ -1,6 +1,5 @@
-use Rattle.qm_record.specs.Spelling.{HasSpelling}
 use Rattle.qm_history.proofs.FenceLemmas.{fenced_stays}
 use Rattle.qm_history.proofs.histories.fenced_turns_change_nothing.Goals as goal
 
 pub returns : goal.returns
-returns c = fenced_stays HasSpelling
+returns g c = fenced_stays g.F.Format.has_spelling

@@ -5,7 +5,7 @@ use Rattle.qm_history.proofs.LogLemmas.{image_stands}
 use Rattle.qm_history.proofs.start.programs_begin_sound.Goals as goal
 
 pub returns-clause-sound : goal.returns-clause-sound
-returns-clause-sound c log epoch h = record {
+returns-clause-sound g c log epoch h = record {
   log = h;
   live = length-replicate (length (system_of log).nodes) true;
   held = length-replicate (length (system_of log).nodes) 0;
@@ -15,7 +15,7 @@ returns-clause-sound c log epoch h = record {
 }
 
 pub returns-clause-system : goal.returns-clause-system
-returns-clause-system c log epoch = refl
+returns-clause-system g c log epoch = refl
 
 pub returns-clause-image : goal.returns-clause-image
-returns-clause-image c = image_stands
+returns-clause-image g c = image_stands

@@ -1,0 +1,24 @@
+use Rattle.std.proofs.Common.{subst, sym}
+use Rattle.qm_history.specs.Marks.{HaveMarks, last_mark}
+use Rattle.qm_history.specs.World.{system_in}
+use Rattle.qm_history.proofs.LogLemmas.{accepted_consistent}
+use Rattle.qm_history.proofs.MarkLemmas.{marks_after_request, marks_after_records}
+use Rattle.qm_history.proofs.NextLemmas.{history_next}
+use Rattle.qm_history.proofs.marks.entries_have_their_last_marks.Goals as goal
+
+pub returns-clause-request : goal.returns-clause-request
+returns-clause-request g c = marks_after_request c.settling_changes_entries_alone.ensures.states_alone
+
+pub returns-clause-records : goal.returns-clause-records
+returns-clause-records g c =
+    marks_after_records c.settling_changes_entries_alone.ensures.states_alone g.F.Format.has_spelling c.requests_keep_consistent.ensures
+
+pub returns-clause-history : goal.returns-clause-history
+returns-clause-history g c w turns marks sound legal h =
+    let more = history_next g.F.Format.has_spelling c.nodes_keep_their_names.ensures.names w turns sound legal in (
+      more.0,
+      more.1,
+      subst (λ s. HaveMarks (λ number. last_mark number (marks number) (system_in w) more.0) s.entries) (sym more.3)
+          (marks_after_records c.settling_changes_entries_alone.ensures.states_alone g.F.Format.has_spelling c.requests_keep_consistent.ensures (system_in w) more.0 marks
+          (accepted_consistent g.F.Format.has_spelling c.requests_keep_consistent.ensures w.log sound.log) h more.2),
+    )

@@ -1,0 +1,30 @@
+// What crashes leave of the log.
+ghost use Rattle.std.specs.Prelude.{◌≡◌, ◌⊎◌, ◌++◌, List, option_to_list};
+ghost use Rattle.qm_kinds.specs.declared.record.Record.{Record};
+ghost use Rattle.qm_history.specs.declared.turn.Turn.{Turn};
+ghost use Rattle.qm_history.specs.declared.world.World.{World};
+ghost use Rattle.qm_history.specs.Accepted.{IsAccepted};
+ghost use Rattle.qm_history.specs.Happening.{Begins, AreOneOrTwo};
+ghost use Rattle.qm_history.specs.Leaving.{MayBeLeft, MayBeLeftBehind};
+ghost use Rattle.qm_history.specs.Legal.{after_turn, IsLegalTurn};
+ghost use Rattle.qm_history.specs.World.{IsSound};
+
+use crate::format::Format;
+use qm_model::nodes_keep_their_names;
+
+/// A turn has one event or two. Of two, the first is a takeover, or the node comes up or goes, and the second is no takeover.
+pub fn turns_have_one_event_or_two<F: Format>()
+    ensures { (w : World) (t : Turn) → IsLegalTurn F.has_spelling w t → AreOneOrTwo t.events }
+{}
+
+/// A crash at any moment of a turn leaves a log with which a program can begin. It begins with the log before the turn, so each
+/// acknowledged record is there; and it is a beginning of the log behind the turn, with what is in doubt there, or the log
+/// before the turn with the record that was in doubt then. A crash behind a turn leaves such a log too.
+pub fn crashes_leave_a_beginning<F: Format>()
+    ensures accepted { (w : World) (t : Turn) (log : List Record) → IsSound F.has_spelling w → IsLegalTurn F.has_spelling w t → MayBeLeft w t log → IsAccepted F.has_spelling log }
+    ensures holds { (w : World) (t : Turn) (log : List Record) → MayBeLeft w t log → Begins w.log log }
+    ensures beginning { (w : World) (t : Turn) (log : List Record) → IsLegalTurn F.has_spelling w t → MayBeLeft w t log → Begins log ((after_turn w t).log ++ option_to_list (after_turn w t).doubt) ⊎ (log ≡ w.log ++ option_to_list w.doubt) }
+    ensures behind { (w : World) (log : List Record) → IsSound F.has_spelling w → MayBeLeftBehind w log → IsAccepted F.has_spelling log }
+{
+    nodes_keep_their_names();
+}

@@ -1,0 +1,26 @@
+// What the laws ask of the format of the files.
+ghost use Rattle.std.specs.Prelude.{ℕ, List};
+ghost use Rattle.qm_kinds.specs.declared.record.Record.{Record};
+ghost use Rattle.qm_record.specs.Spelling.{HasSpelling};
+
+/// A format of records: which ones have a spelling. The laws hold of each, so they stay when more records get one.
+pub trait Format {
+    /// The record has a spelling.
+    ghost has_spelling: { Record → Type 0 };
+}
+
+/// The format of the queue file.
+pub struct QueueFile;
+
+impl Format for QueueFile {
+    ghost has_spelling = { HasSpelling };
+}
+
+/// A format of files: the text of each record, and which texts a file holds.
+pub trait FileFormat: Format {
+    /// The bytes of a record.
+    ghost text: { Record → List ℕ };
+
+    /// The bytes of a file are a log of these texts.
+    ghost is_log: { List ℕ → List (List ℕ) → Type 0 };
+}
