@@ -1,6 +1,7 @@
 -- Turns that change nothing, and what is told of a history turn by turn.
-use Rattle.std.proofs.Common.{◌≡◌, ◌≢◌, ℕ, ◌⊎◌, inl, inr, Bool, true, false, cond, not, ◌&&◌, List, [], ◌∷◌, ◌++◌, refl, sym, ◌∙◌, ap, subst, arith, Option, None, Some, filter}
+use Rattle.std.proofs.Common.{◌≡◌, ◌≢◌, ℕ, ◌<◌, ◌⊎◌, inl, inr, Bool, true, false, cond, not, ◌&&◌, List, [], ◌∷◌, ◌++◌, length, refl, sym, ◌∙◌, ap, subst, arith, Option, None, Some, filter}
 use Rattle.std.specs.Prelude.{◌==◌, flat_map, is_none}
+use Rattle.std.specs.Option.{option_map}
 use Rattle.std.proofs.lemmas.Bool.Decides.{nat_tests}
 use Rattle.std.proofs.lemmas.Grind.{flat_map-append}
 use Rattle.std.proofs.lemmas.List.Elements.{filter-append}
@@ -11,9 +12,11 @@ use Rattle.qm_kinds.specs.declared.query.Row.{Row}
 use Rattle.qm_kinds.specs.declared.record.Record.{Record}
 use Rattle.qm_kinds.specs.declared.request.Request.TheVariants as request
 use Rattle.qm_history.specs.declared.call.Call.{Call}
+use Rattle.qm_history.specs.declared.call.Call.TheVariants as call
 use Rattle.qm_history.specs.declared.event.Event.{Event}
 use Rattle.qm_history.specs.declared.event.Event.TheVariants as event
 use Rattle.qm_history.specs.declared.turn.Turn.{Turn}
+use Rattle.qm_history.specs.declared.turn.Why.TheVariants as why
 use Rattle.qm_history.specs.declared.world.Role.{Role}
 use Rattle.qm_history.specs.declared.world.World.{World}
 use Rattle.qm_history.specs.Calls.{input_of, is_start}
@@ -26,7 +29,7 @@ use Rattle.qm_history.specs.Takeover.{takes_over}
 use Rattle.qm_history.specs.Text.{text, text_of_node, visit_text}
 use Rattle.qm_history.specs.Turn.{Nothing, fence, FencedOr, IsAsked, IsCompaction, IsOwn, IsBehindTakeover, UnlessDown, is_down, IsServed, IsTurnOf, IsCutShort}
 use Rattle.qm_history.specs.Visits.{Visit, visits, visits_of}
-use Rattle.qm_history.specs.World.{is_live, held_by}
+use Rattle.qm_history.specs.World.{system_in, is_live, held_by}
 
 -- ---- fenced turns
 
@@ -114,6 +117,24 @@ module _ (HasSpelling : Record → Type 0) where
       → IsLegal HasSpelling w (before ++ behind) → IsLegal HasSpelling w (before ++ t ∷ behind)
   compaction_comes w [] behind t alone may legal = (may, subst (λ v. IsLegal HasSpelling v behind) (sym (alone_stays w t alone)) legal)
   compaction_comes w (x ∷ before) behind t alone may legal = (legal.0, compaction_comes (after_turn w x) before behind t alone may legal.1)
+
+fence_none : (w : World) (node : ℕ) (m : Option Role) (role : Role) → m ≡ Some role → held_by w node ≡ role.epoch → fence (record w { manager = m }) node ≡ None
+fence_none w node m role is same =
+    let equal : (held_by w node == role.epoch) ≡ true = grind (arith, nat_tests) in
+    subst (λ x. fence (record w { manager = x }) node ≡ None) (sym is) (ap (λ b. cond b None (Some (event.Fenced node (held_by w node) role.epoch))) equal)
+
+module _ (HasSpelling : Record → Type 0) where
+  pub compaction_may_come : (w : World) (role : Role) (node file line moment : ℕ) → w.manager ≡ Some role → held_by w node ≡ role.epoch → is_live w node ≡ true → node < length (system_in w).nodes
+      → (file ≡ 1) ⊎ (file ≡ 2) → IsLegalTurn HasSpelling w (record { node = node; why = why.Line line; moment = moment; events = event.Compacted node role.epoch file ∷ [] })
+  compaction_may_come w role node file line moment is same live within is_file =
+      let events : List Event = event.Compacted node role.epoch file ∷ [] in
+      let asked : Call = call.Line line input.Compact in
+      let own : FencedOr (fence w node) (IsCompaction node events) events = subst (λ f. FencedOr f (IsCompaction node events) events) (sym (fence_none w node w.manager role is same)) refl in
+      let behind : IsBehindTakeover w node moment asked (takes_over w input.Compact) events =
+      subst (λ b. IsBehindTakeover w node moment asked b events) (sym (takes_none w role input.Compact is tt)) own in
+      let served : IsServed w node moment asked events =
+      subst (λ b. UnlessDown b node moment input.Compact (IsBehindTakeover w node moment asked (takes_over w input.Compact) events) events) (sym (not_down w node input.Compact live)) behind in
+      (asked, inl (record { node_there = within; why_is = refl; outside = tt; can_come = ((ap (λ (m : Option Role). option_map (λ (r : Role). r.epoch) m) is, is_file), tt) }, served))
 
 pub visits_append : (w : World) (a b : List Turn) → visits w (a ++ b) ≡ visits w a ++ visits (after_turns w a) b
 visits_append w [] b = refl

@@ -1,5 +1,6 @@
 pub mod LogLemmas
 pub mod SoundLemmas
+pub mod StartLemmas
 pub mod EventLemmas
 pub mod HistoryLemmas
 pub mod FenceLemmas

@@ -1,11 +1,12 @@
 // Turns that change nothing, and texts and courses of histories.
-ghost use Rattle.std.specs.Prelude.{◌≡◌, ◌≢◌, ◌⊎◌, ℕ, true, List, [], ◌∷◌, ◌++◌, Some};
+ghost use Rattle.std.specs.Prelude.{◌≡◌, ◌≢◌, ◌⊎◌, ◌<◌, ℕ, true, List, [], ◌∷◌, ◌++◌, length, Some};
 ghost use Rattle.qm_kinds.specs.declared.input.Input.{Input};
 ghost use Rattle.qm_kinds.specs.declared.query.Row.{Row};
 ghost use Rattle.qm_history.specs.Script.{UserLine};
 ghost use Rattle.qm_history.specs.declared.call.Call.{Call};
 ghost use Rattle.qm_history.specs.declared.event.Event.TheVariants as event;
 ghost use Rattle.qm_history.specs.declared.turn.Turn.{Turn};
+ghost use Rattle.qm_history.specs.declared.turn.Why.TheVariants as why;
 ghost use Rattle.qm_history.specs.declared.world.Role.{Role};
 ghost use Rattle.qm_history.specs.declared.world.World.{World};
 ghost use Rattle.qm_history.specs.Calls.{input_of};
@@ -15,7 +16,7 @@ ghost use Rattle.qm_history.specs.Legal.{after_turn, after_turns, IsLegalTurn, I
 ghost use Rattle.qm_history.specs.Text.{text, text_of_node, visit_text};
 ghost use Rattle.qm_history.specs.Turn.{IsTurnOf, IsCutShort};
 ghost use Rattle.qm_history.specs.Visits.{Visit, visits, visits_of};
-ghost use Rattle.qm_history.specs.World.{is_live, held_by, IsSound};
+ghost use Rattle.qm_history.specs.World.{system_in, is_live, held_by, IsSound};
 
 use crate::format::Format;
 
@@ -31,11 +32,13 @@ pub fn fenced_turns_change_nothing<F: Format>()
     ensures { (w : World) (t : Turn) → IsSound F.has_spelling w → IsLegalTurn F.has_spelling w t → has_fence t.events ≡ true → after_turn w t ≡ w }
 {}
 
-/// A legal history stays legal without a turn that holds a compaction alone, and with one more where that turn is legal. All
-/// other turns are made in the same worlds, so their answers, listings and duties stay.
+/// A legal history stays legal without a turn that holds a compaction alone, and with one more where that turn is legal, as it
+/// is at a live node that holds the manager's epoch. All other turns are made in the same worlds, so their answers, listings
+/// and duties stay.
 pub fn compactions_can_go_and_come<F: Format>()
     ensures go { (w : World) (before behind : List Turn) (t : Turn) → IsCompactionAlone t → IsLegal F.has_spelling w (before ++ t ∷ behind) → IsLegal F.has_spelling w (before ++ behind) }
     ensures come { (w : World) (before behind : List Turn) (t : Turn) → IsCompactionAlone t → IsLegalTurn F.has_spelling (after_turns w before) t → IsLegal F.has_spelling w (before ++ behind) → IsLegal F.has_spelling w (before ++ t ∷ behind) }
+    ensures may_come { (w : World) (role : Role) (node file line moment : ℕ) → w.manager ≡ Some role → held_by w node ≡ role.epoch → is_live w node ≡ true → node < length (system_in w).nodes → (file ≡ 1) ⊎ (file ≡ 2) → IsLegalTurn F.has_spelling w (record { node = node; why = why.Line line; moment = moment; events = event.Compacted node role.epoch file ∷ [] }) }
     ensures with_it { (w : World) (before behind : List Turn) (t : Turn) → IsCompactionAlone t → visits w (before ++ t ∷ behind) ≡ visits w before ++ record { before = after_turns w before; turn = t } ∷ visits (after_turns w before) behind }
     ensures without_it { (w : World) (before behind : List Turn) → visits w (before ++ behind) ≡ visits w before ++ visits (after_turns w before) behind }
 {}
