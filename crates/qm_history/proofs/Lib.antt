@@ -6,6 +6,7 @@ pub mod HistoryLemmas
 pub mod FenceLemmas
 pub mod NextLemmas
 pub mod MarkLemmas
+pub mod EntryLemmas
 pub mod ShapeLemmas
 pub mod CrashLemmas
 pub mod Serving

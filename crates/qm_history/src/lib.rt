@@ -5,6 +5,7 @@
 mod call;
 mod crashes;
 mod devices;
+mod entries;
 mod event;
 mod events;
 mod format;
@@ -18,6 +19,7 @@ mod world;
 pub use call::{Answer, Call, Takeover};
 pub use crashes::{crashes_leave_a_beginning, turns_have_one_event_or_two};
 pub use devices::{blocks_come_again_behind_marks, steps_come_in_stretches};
+pub use entries::submitted_entries_stay;
 pub use event::Event;
 pub use events::{
     acknowledged_records_stay, epochs_rise, histories_are_events, logs_grow,
