@@ -13,6 +13,7 @@ pub mod Serving
 pub mod Failover
 pub mod Doubts
 pub mod TwoNodes
+pub mod TwoNodesLegal
 pub mod StretchLemmas
 pub mod AgainLemmas
 pub mod OneCourse

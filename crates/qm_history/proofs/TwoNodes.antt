@@ -34,7 +34,7 @@ no_change = record { limit = None; characteristics = None; form = None; blocks =
 abbrev pub print_queue : List ℕ → List ℕ → Request
 print_queue node name = request.InitializeQueue (record { name = name; kind = queue.Print; node = Some node; device = None; targets = []; change = no_change; start = true })
 
-abbrev generic_queue : Request
+abbrev pub generic_queue : Request
 generic_queue = request.InitializeQueue (record { name = codes "GP"; kind = queue.GenericPrint; node = None; device = None; targets = codes "LPA" ∷ codes "LPB" ∷ []; change = no_change; start = true })
 
 abbrev pub print_job : List ℕ → Job
@@ -56,7 +56,7 @@ print_job name = record {
 }
 
 -- A prints three pages of each of two jobs and stops. B goes on with the one that may restart.
-abbrev calls : List Asked
+abbrev pub calls : List Asked
 calls =
     asks 0 1 (input.Ask (request.Fill listing_file 420))
     ∷ asks 0 2 (input.Ask (print_queue (codes "A") (codes "LPA")))
@@ -84,7 +84,7 @@ calls =
     ∷ record { node = 1; reading = 1000; call = call.Leave }
     ∷ []
 
-abbrev site : World
+abbrev pub site : World
 site = world_of new_site
 
 pub their_text : text no_items site (history site calls)

@@ -18,3 +18,4 @@ pub mod Master
 pub mod Start
 pub mod Leaving
 pub mod Marks
+pub mod Printed
