@@ -26,7 +26,7 @@ print_mark all used at [] value next h = cc
 print_mark all used at (block ∷ []) value next h = count_at (at + 1) used (nat_lt (at + 1) all) value next h
 print_mark all used at (block ∷ other ∷ blocks) value next h = count_at (at + 1) used (nat_lt (at + 1) all) value next h
 
-told_mark : (k : KeptRun) (end : StepEnd) (value : List ℕ) (next : Place) → k.work.kind ≡ Print → report_told k end ≡ report.Mark value next → next.at ≡ k.place.at + 1
+pub told_mark : (k : KeptRun) (end : StepEnd) (value : List ℕ) (next : Place) → k.work.kind ≡ Print → report_told k end ≡ report.Mark value next → next.at ≡ k.place.at + 1
 told_mark k WentOn value next print h =
     print_mark (length (page_blocks k.work)) k.place.used k.place.at (drop k.place.at (page_blocks k.work)) value next
     (subst (λ (kind : JobKind). next_report (course_of kind k.work k.place) ≡ report.Mark value next) print h)
@@ -58,7 +58,7 @@ abbrev pub Came : List MadeStep → Type 0
 Came [] = Unit {0}
 Came (m ∷ earlier) = IsInStretch earlier m.run × Came earlier
 
-same_run : (a b : ℕ) → (a == b) ≡ true → a ≡ b
+pub same_run : (a b : ℕ) → (a == b) ≡ true → a ≡ b
 same_run a b h = grind (arith, nat_tests)
 
 other_run : (a b : ℕ) → (a == b) ≡ false → a ≡ b → ⊥
@@ -68,7 +68,7 @@ other_run a b h same = absurd (grind (arith, nat_tests))
 abbrev pub InStretchAt : Option MadeStep → KeptRun → Type 0
 InStretchAt o k = (IsFetchedBehind o k × (k.place ≡ begin k.work)) ⊎ IsLeftBy o k
 
-step_before : (m : MadeStep) (k : KeptRun) → InStretchAt (Some m) k → Precedes m.run k
+pub step_before : (m : MadeStep) (k : KeptRun) → InStretchAt (Some m) k → Precedes m.run k
 step_before m k (inl begins) = inl begins.0
 step_before m k (inr (work, fetched, left)) = inr (
   fetched,
@@ -108,7 +108,7 @@ behind_mark_at m earlier k true is (inr (work, fetched, left)) print before on =
     omega arith
 behind_mark_at m earlier k false is h print before on = on h
 
-behind_its_mark : (earlier : List MadeStep) (k : KeptRun) → Came earlier → IsInStretch earlier k → k.work.kind ≡ Print → (begin k.work).at ≤ k.place.at
+pub behind_its_mark : (earlier : List MadeStep) (k : KeptRun) → Came earlier → IsInStretch earlier k → k.work.kind ≡ Print → (begin k.work).at ≤ k.place.at
 behind_its_mark [] k came (inl begins) print = let same : k.place.at ≡ (begin k.work).at = ap (λ (p : Place). p.at) begins.1 in omega arith
 behind_its_mark [] k came (inr left) print = absurd left
 behind_its_mark (m ∷ earlier) k came h print =

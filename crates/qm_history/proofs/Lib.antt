@@ -16,4 +16,5 @@ pub mod TwoNodes
 pub mod TwoNodesLegal
 pub mod StretchLemmas
 pub mod AgainLemmas
+pub mod ConsecutiveLemmas
 pub mod OneCourse

@@ -7,7 +7,7 @@ ghost use Rattle.qm_model.specs.Pages.{page_blocks};
 ghost use Rattle.qm_history.specs.Script.{UserLine};
 ghost use Rattle.qm_history.specs.declared.turn.Turn.{Turn};
 ghost use Rattle.qm_history.specs.declared.world.World.{World};
-ghost use Rattle.qm_history.specs.Blocks.{HandsOver, IsGiven, ComeInStretches, ComeAgainBehindMarks};
+ghost use Rattle.qm_history.specs.Blocks.{AreFirst, AreHanded, HandsOver, IsGiven, ComeInStretches, ComeAgainBehindMarks, blocks_behind_mark, blocks_of_stretch};
 ghost use Rattle.qm_history.specs.Course.{Extent, IsCourse, KeptRun, MadeStep, WentOn};
 ghost use Rattle.qm_history.specs.Visits.{Visit, visits_of};
 
@@ -22,6 +22,14 @@ pub fn steps_come_in_stretches<F: Format>()
     ensures stretches { (read : UserLine → ℕ → List Visit → List ℕ → Input) (extent : Extent) (w : World) (turns : List Turn) (node : ℕ) (lines : List UserLine) (faults : ℕ) (h : IsCourse F.has_spelling read extent w turns node lines faults) → ComeInStretches [] h.steps }
     ensures given { (read : UserLine → ℕ → List Visit → List ℕ → Input) (extent : Extent) (w : World) (turns : List Turn) (node : ℕ) (lines : List UserLine) (faults : ℕ) (h : IsCourse F.has_spelling read extent w turns node lines faults) → AllByRecursion (λ (m : MadeStep). IsGiven (visits_of node w turns) m.run) h.steps }
     ensures next_block { (k : KeptRun) (blocks : List (List ℕ)) → k.work.kind ≡ Print → HandsOver k WentOn blocks → blocks ≡ take 1 (drop k.place.at (page_blocks k.work)) }
+{
+    print_jobs_report_each_block();
+}
+
+/// Where steps come in stretches, the blocks of each stretch of a print job are the first ones behind the mark with which it was
+/// fetched, one behind another.
+pub fn stretches_are_consecutive()
+    ensures { (steps : List MadeStep) (handed : List (List (List ℕ))) → ComeInStretches [] steps → AreHanded steps handed → AllByRecursion (λ (m : MadeStep). m.run.work.kind ≡ Print → AreFirst (blocks_of_stretch m.run steps handed) (blocks_behind_mark m.run)) steps }
 {
     print_jobs_report_each_block();
 }

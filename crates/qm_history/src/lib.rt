@@ -18,7 +18,9 @@ mod world;
 
 pub use call::{Answer, Call, Takeover};
 pub use crashes::{crashes_leave_a_beginning, turns_have_one_event_or_two};
-pub use devices::{blocks_come_again_behind_marks, steps_come_in_stretches};
+pub use devices::{
+    blocks_come_again_behind_marks, steps_come_in_stretches, stretches_are_consecutive,
+};
 pub use entries::submitted_entries_stay;
 pub use event::Event;
 pub use events::{
