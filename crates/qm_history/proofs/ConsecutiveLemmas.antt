@@ -1,15 +1,18 @@
 -- The blocks of a stretch are consecutive.
-use Rattle.std.proofs.Common.{◌≡◌, ℕ, zero, suc, ◌+◌, ◌-◌, ◌<◌, ◌≤◌, inl, inr, Bool, true, false, cond, ◌&&◌, List, [], ◌∷◌, ◌++◌, take, drop, refl, sym, ◌∙◌, ap, subst, arith, Option, None, Some}
-use Rattle.std.specs.Prelude.{◌==◌}
+use Rattle.std.proofs.Common.{◌≡◌, ℕ, zero, suc, ◌+◌, ◌-◌, ◌<◌, ◌≤◌, inl, inr, Bool, true, false, cond, ◌&&◌, List, [], ◌∷◌, ◌++◌, length, take, drop, refl, sym, ◌∙◌, ap, subst, arith, Option, None, Some}
+use Rattle.std.specs.Prelude.{◌==◌, nat_lt}
 use Rattle.std.specs.List.{AllByRecursion}
 use Rattle.std.proofs.lemmas.Bool.Decides.{nat_tests}
-use Rattle.std.proofs.lemmas.List.{append_assoc, append-nil, drop-drop}
+use Rattle.std.proofs.lemmas.List.{append_assoc, append-nil, drop-drop, take-append-drop}
+use Rattle.qm_kinds.specs.declared.entry.JobKind.{JobKind}
 use Rattle.qm_kinds.specs.declared.entry.JobKind.TheVariants.{Print}
 use Rattle.qm_kinds.specs.declared.work.Place.{Place}
 use Rattle.qm_kinds.specs.declared.work.Report.TheVariants as report
 use Rattle.qm_kinds.specs.declared.work.Work.{Work}
+use Rattle.qm_model.specs.Batch.{normal_status}
 use Rattle.qm_model.specs.Pages.{page_blocks}
-use Rattle.qm_model.specs.Reports.{begin, course, blocks_before_report}
+use Rattle.qm_model.specs.Reports.{begin, course, course_of, next_report, print_steps, blocks_before_report}
+use Rattle.qm_model.proofs.ReportLemmas.{next_mark, more_left}
 use Rattle.qm_history.specs.Blocks.{AreFirst, blocks_next, HandsOver, AreHanded, last_step, IsFetchedBehind, IsLeftBy, IsInStretch, ComeInStretches, blocks_of_stretch, blocks_behind_mark}
 use Rattle.qm_history.specs.Course.{KeptRun, MadeStep, StepEnd, WentOn, DeviceFailed, CutShort, report_told}
 use Rattle.qm_history.proofs.AgainLemmas.{Came, InStretchAt, told_mark, same_run, behind_its_mark}
@@ -311,3 +314,103 @@ module _ (next_block : (w : Work) (p : Place) → w.kind ≡ Print → blocks_be
   pub stretches_consecutive : (steps : List MadeStep) (handed : List (List (List ℕ))) → ComeInStretches [] steps → AreHanded steps handed
       → AllByRecursion (λ (m : MadeStep). m.run.work.kind ≡ Print → AreFirst (blocks_of_stretch m.run steps handed) (blocks_behind_mark m.run)) steps
   stretches_consecutive steps handed come more = of_stretch steps handed steps (each_first steps handed [] [] tt tt come more)
+
+  -- ---- stretches that ended with status 1
+
+  -- a run that ends at its next report hands over all that is left before that
+  all_left : (all used at : ℕ) (pages blocks : List (List ℕ)) → length pages ≡ all → drop at pages ≡ blocks → next_report (print_steps all used at blocks) ≡ report.Done normal_status → take 1 blocks ≡ blocks
+  all_left all used at pages [] size is told = refl
+  all_left all used at pages (block ∷ []) size is told = refl
+  all_left all used at pages (block ∷ other ∷ blocks) size is told =
+      let inside : nat_lt (at + 1) all ≡ true = subst (λ n. nat_lt (at + 1) n ≡ true) size (more_left at pages block other blocks is) in
+      let mark = next_mark all used (at + 1) inside in
+      cc
+
+  ends_with_all : (k : KeptRun) → k.work.kind ≡ Print → report_told k WentOn ≡ report.Done normal_status → take 1 (drop k.place.at (page_blocks k.work)) ≡ drop k.place.at (page_blocks k.work)
+  ends_with_all k print told =
+      all_left (length (page_blocks k.work)) k.place.used k.place.at (page_blocks k.work) (drop k.place.at (page_blocks k.work)) refl refl
+      (subst (λ (kind : JobKind). next_report (course_of kind k.work k.place) ≡ report.Done normal_status) print told)
+
+  module _ (earlier : List MadeStep) (handed : List (List (List ℕ))) (m : MadeStep) (blocks : List (List ℕ)) (came : Came earlier) (hands : AreHanded earlier handed)
+      (stretch : IsInStretch earlier m.run) (now : HandsOver m.run m.end blocks) (print : m.run.work.kind ≡ Print) (went : m.end ≡ WentOn) (told : report_told m.run m.end ≡ report.Done normal_status)
+    where
+      whole_step : so_far m.run.run m.run.fetched (m ∷ earlier) (blocks ∷ handed) ≡ blocks_behind_mark m.run
+      whole_step =
+          let from : ℕ = (begin m.run.work).at in
+          let behind : from ≤ m.run.place.at = behind_its_mark earlier m.run came stretch print in
+          let n : ℕ = m.run.place.at - from in
+          let sum : from + n ≡ m.run.place.at = omega arith in
+          let ys : List (List ℕ) = blocks_behind_mark m.run in
+          let so : List (List ℕ) = so_far m.run.run m.run.fetched earlier handed in
+          let rest : drop m.run.place.at (page_blocks m.run.work) ≡ drop n ys =
+          sym (drop-drop n from (page_blocks m.run.work) ∙ ap (λ i. drop i (page_blocks m.run.work)) sum) in
+          let block : blocks ≡ drop n ys =
+          subst (λ end. HandsOver m.run end blocks) went now ∙ next_block m.run.work m.run.place print
+          ∙ ends_with_all m.run print (subst (λ end. report_told m.run end ≡ report.Done normal_status) went told) ∙ rest in
+          ap (λ b. so ++ cond b blocks []) (both_are m) ∙ ap (λ x. x ++ blocks) (up_to_place earlier handed m.run came hands stretch print) ∙ ap (λ x. take n ys ++ x) block ∙ take-append-drop n ys
+
+  -- behind the end of its run nothing of the stretch comes
+  ended_at : (steps : List MadeStep) (handed : List (List (List ℕ))) (earlier : List MadeStep) (m l : MadeStep) (blocks : List (List ℕ)) → m.run.run ≡ l.run.run → InStretchAt (Some m) l.run
+      → report_told m.run m.end ≡ report.Done normal_status → ComeInStretches (l ∷ earlier) steps
+      → cond (l.run.run == m.run.run && l.run.fetched == m.run.fetched) blocks [] ++ later m.run.run m.run.fetched steps handed ≡ []
+  ended_at steps handed earlier m l blocks run (inl begins) told come =
+      over_at m.run.run m.run.fetched l blocks (later m.run.run m.run.fetched steps handed) (l.run.run == m.run.run && l.run.fetched == m.run.fetched)
+      (not_both (l.run.run == m.run.run) (l.run.fetched == m.run.fetched) (apart_too l.run.fetched m.run.fetched begins.0))
+      (over m.run.run m.run.fetched steps handed (l ∷ earlier) l (ap (λ r. last_step r (l ∷ earlier)) run ∙ last_is l earlier) begins.0 come)
+  ended_at steps handed earlier m l blocks run (inr (work, fetched, left)) told come =
+      let mark : report_told m.run m.end ≡ report.Mark left.0 l.run.place = left.1 in cc
+
+  ended_step : (steps : List MadeStep) (handed : List (List (List ℕ))) (earlier : List MadeStep) (m l : MadeStep) (blocks : List (List ℕ)) (b : Bool) → (l.run.run == m.run.run) ≡ b → last_step m.run.run earlier ≡ Some m
+      → report_told m.run m.end ≡ report.Done normal_status → IsInStretch earlier l.run → ComeInStretches (l ∷ earlier) steps
+      → (last_step m.run.run (l ∷ earlier) ≡ Some m → later m.run.run m.run.fetched steps handed ≡ [])
+      → cond (l.run.run == m.run.run && l.run.fetched == m.run.fetched) blocks [] ++ later m.run.run m.run.fetched steps handed ≡ []
+  ended_step steps handed earlier m l blocks true is last told stretch come on =
+      let run : m.run.run ≡ l.run.run = sym (same_run l.run.run m.run.run is) in
+      ended_at steps handed earlier m l blocks run (subst (λ x. InStretchAt x l.run) (ap (λ r. last_step r earlier) (sym run) ∙ last) stretch) told come
+  ended_step steps handed earlier m l blocks false is last told stretch come on =
+      over_at m.run.run m.run.fetched l blocks (later m.run.run m.run.fetched steps handed) (l.run.run == m.run.run && l.run.fetched == m.run.fetched)
+      (ap (λ b. b && l.run.fetched == m.run.fetched) is) (on (ap (λ b. cond b (Some l) (last_step m.run.run earlier)) is ∙ last))
+
+  ended : (steps : List MadeStep) (handed : List (List (List ℕ))) (earlier : List MadeStep) (m : MadeStep) → last_step m.run.run earlier ≡ Some m → report_told m.run m.end ≡ report.Done normal_status
+      → ComeInStretches earlier steps → later m.run.run m.run.fetched steps handed ≡ []
+  ended [] handed earlier m last told come = refl
+  ended (l ∷ steps) [] earlier m last told come = refl
+  ended (l ∷ steps) (blocks ∷ handed) earlier m last told come =
+      ended_step steps handed earlier m l blocks (l.run.run == m.run.run) refl last told come.0 come.1 (λ last2. ended steps handed (l ∷ earlier) m last2 told come.1)
+
+  abbrev AllWhole : List MadeStep → List (List (List ℕ)) → List MadeStep → List (List (List ℕ)) → List MadeStep → Type 0
+  AllWhole earlier before steps handed ms =
+      AllByRecursion (λ (m : MadeStep). m.run.work.kind ≡ Print → m.end ≡ WentOn → report_told m.run m.end ≡ report.Done normal_status
+      → so_far m.run.run m.run.fetched earlier before ++ later m.run.run m.run.fetched steps handed ≡ blocks_behind_mark m.run) ms
+
+  whole_shifted : (earlier : List MadeStep) (before : List (List (List ℕ))) (l : MadeStep) (blocks : List (List ℕ)) (steps : List MadeStep) (handed : List (List (List ℕ))) (ms : List MadeStep)
+      → AllWhole (l ∷ earlier) (blocks ∷ before) steps handed ms → AllWhole earlier before (l ∷ steps) (blocks ∷ handed) ms
+  whole_shifted earlier before l blocks steps handed [] all = tt
+  whole_shifted earlier before l blocks steps handed (m ∷ ms) all = (
+    (λ print went told.
+        sym (append_assoc (so_far m.run.run m.run.fetched earlier before) (cond (l.run.run == m.run.run && l.run.fetched == m.run.fetched) blocks []) (later m.run.run m.run.fetched steps handed))
+        ∙ all.0 print went told),
+    whole_shifted earlier before l blocks steps handed ms all.1,
+  )
+
+  each_whole : (steps : List MadeStep) (handed : List (List (List ℕ))) (earlier : List MadeStep) (before : List (List (List ℕ))) → Came earlier → AreHanded earlier before → ComeInStretches earlier steps
+      → AreHanded steps handed → AllWhole earlier before steps handed steps
+  each_whole [] handed earlier before came hands come more = tt
+  each_whole (m ∷ steps) [] earlier before came hands come more = absurd more
+  each_whole (m ∷ steps) (blocks ∷ handed) earlier before came hands come more = (
+    (λ print went told.
+        let so : List (List ℕ) = so_far m.run.run m.run.fetched (m ∷ earlier) (blocks ∷ before) in
+        sym (append_assoc (so_far m.run.run m.run.fetched earlier before) (cond (m.run.run == m.run.run && m.run.fetched == m.run.fetched) blocks []) (later m.run.run m.run.fetched steps handed))
+        ∙ ap (λ x. so ++ x) (ended steps handed (m ∷ earlier) m (last_is m earlier) told come.1) ∙ append-nil so
+        ∙ whole_step earlier before m blocks came hands come.0 more.0 print went told),
+    whole_shifted earlier before m blocks steps handed steps (each_whole steps handed (m ∷ earlier) (blocks ∷ before) (come.0, came) (more.0, hands) come.1 more.1),
+  )
+
+  whole_of_stretch : (steps : List MadeStep) (handed : List (List (List ℕ))) (ms : List MadeStep) → AllWhole [] [] steps handed ms
+      → AllByRecursion (λ (m : MadeStep). m.run.work.kind ≡ Print → m.end ≡ WentOn → report_told m.run m.end ≡ report.Done normal_status → blocks_of_stretch m.run steps handed ≡ blocks_behind_mark m.run) ms
+  whole_of_stretch steps handed [] all = tt
+  whole_of_stretch steps handed (m ∷ ms) all = ((λ print went told. stretch_is m.run steps handed ∙ all.0 print went told), whole_of_stretch steps handed ms all.1)
+
+  pub stretches_whole : (steps : List MadeStep) (handed : List (List (List ℕ))) → ComeInStretches [] steps → AreHanded steps handed
+      → AllByRecursion (λ (m : MadeStep). m.run.work.kind ≡ Print → m.end ≡ WentOn → report_told m.run m.end ≡ report.Done normal_status → blocks_of_stretch m.run steps handed ≡ blocks_behind_mark m.run) steps
+  stretches_whole steps handed come more = whole_of_stretch steps handed steps (each_whole steps handed [] [] tt tt come more)

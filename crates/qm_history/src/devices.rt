@@ -3,12 +3,14 @@ ghost use Rattle.std.specs.Prelude.{◌≡◌, ℕ, List, [], take, drop};
 ghost use Rattle.std.specs.List.{AllByRecursion};
 ghost use Rattle.qm_kinds.specs.declared.entry.JobKind.TheVariants.{Print};
 ghost use Rattle.qm_kinds.specs.declared.input.Input.{Input};
+ghost use Rattle.qm_kinds.specs.declared.work.Report.TheVariants.{Done};
+ghost use Rattle.qm_model.specs.Batch.{normal_status};
 ghost use Rattle.qm_model.specs.Pages.{page_blocks};
 ghost use Rattle.qm_history.specs.Script.{UserLine};
 ghost use Rattle.qm_history.specs.declared.turn.Turn.{Turn};
 ghost use Rattle.qm_history.specs.declared.world.World.{World};
 ghost use Rattle.qm_history.specs.Blocks.{AreFirst, AreHanded, HandsOver, IsGiven, ComeInStretches, ComeAgainBehindMarks, blocks_behind_mark, blocks_of_stretch};
-ghost use Rattle.qm_history.specs.Course.{Extent, IsCourse, KeptRun, MadeStep, WentOn};
+ghost use Rattle.qm_history.specs.Course.{Extent, IsCourse, KeptRun, MadeStep, WentOn, report_told};
 ghost use Rattle.qm_history.specs.Visits.{Visit, visits_of};
 
 use crate::format::Format;
@@ -27,9 +29,10 @@ pub fn steps_come_in_stretches<F: Format>()
 }
 
 /// Where steps come in stretches, the blocks of each stretch of a print job are the first ones behind the mark with which it was
-/// fetched, one behind another.
+/// fetched, one behind another. Where its symbiont told that the run ended with status 1, they are all of these.
 pub fn stretches_are_consecutive()
-    ensures { (steps : List MadeStep) (handed : List (List (List ℕ))) → ComeInStretches [] steps → AreHanded steps handed → AllByRecursion (λ (m : MadeStep). m.run.work.kind ≡ Print → AreFirst (blocks_of_stretch m.run steps handed) (blocks_behind_mark m.run)) steps }
+    ensures first { (steps : List MadeStep) (handed : List (List (List ℕ))) → ComeInStretches [] steps → AreHanded steps handed → AllByRecursion (λ (m : MadeStep). m.run.work.kind ≡ Print → AreFirst (blocks_of_stretch m.run steps handed) (blocks_behind_mark m.run)) steps }
+    ensures whole { (steps : List MadeStep) (handed : List (List (List ℕ))) → ComeInStretches [] steps → AreHanded steps handed → AllByRecursion (λ (m : MadeStep). m.run.work.kind ≡ Print → m.end ≡ WentOn → report_told m.run m.end ≡ Done normal_status → blocks_of_stretch m.run steps handed ≡ blocks_behind_mark m.run) steps }
 {
     print_jobs_report_each_block();
 }
