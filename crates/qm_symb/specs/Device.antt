@@ -1,0 +1,41 @@
+-- What the calls of devices and symbionts speak of: the blocks that were handed over, and the faults.
+use Rattle.std.specs.Prelude.{◌≡◌, ℕ, ◌+◌, ◌-◌, ◌^◌, ◌<◌, min, Bool, IsTrue, List, ◌++◌, length, map, take}
+
+-- What the devices, or the symbionts, of one type mean: all that the contract of their calls speaks of.
+pub record Meaning (D : Type 0) : Type 1 where
+  -- whether they tell what they took; where they don't, `taken` says nothing
+  pub tells : Bool
+  -- the blocks that were handed over, each with its run, the first one first
+  pub taken : D → List (ℕ × List ℕ)
+  -- how many calls failed
+  pub faults : D → ℕ
+
+-- these blocks, each with the run that handed it over
+abbrev pub blocks_of_run : ℕ → List (List ℕ) → List (ℕ × List ℕ)
+blocks_of_run run blocks = map (λ block. (run, block)) blocks
+
+module _ {D : Type 0} (m : Meaning D) where
+  -- a run handed over these blocks, in their order, and nothing else was handed over
+  abbrev pub Takes : ℕ → List (List ℕ) → D → D → Type 0
+  Takes run blocks old new = IsTrue m.tells → m.taken new ≡ m.taken old ++ blocks_of_run run blocks
+
+  -- a run handed over first ones of these blocks: none, some or all
+  abbrev pub TakesSome : ℕ → List (List ℕ) → D → D → Type 0
+  TakesSome run blocks old new = (count : ℕ) × Takes run (take count blocks) old new
+
+  -- a run handed over first ones of these blocks, and not all
+  abbrev pub TakesNotAll : ℕ → List (List ℕ) → D → D → Type 0
+  TakesNotAll run blocks old new = (count : ℕ) × (count < length blocks) × Takes run (take count blocks) old new
+
+  -- one call failed: the count of faults is one more, or stands at the end of its type
+  abbrev pub Rose : D → D → Type 0
+  Rose old new = m.faults new ≡ min (m.faults old + 1) (2 ^ 64 - 1)
+
+  -- no call failed
+  abbrev pub IsQuiet : D → D → Type 0
+  IsQuiet old new = m.faults new ≡ m.faults old
+
+  -- Where a fault is told one call failed, and where none is told none did: no fault is hidden or tried again.
+  pub record TellsFaults (old new : D) (told : Type 0) : Type 0 where
+    pub fault : told → Rose old new
+    pub quiet : (told → ⊥) → IsQuiet old new

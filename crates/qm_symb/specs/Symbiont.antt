@@ -1,0 +1,36 @@
+-- What a step of a symbiont leaves, in a run that has this course before it.
+use Rattle.std.specs.Prelude.{◌≡◌, ◌⊎◌, ℕ, ◌+◌, ◌<◌, ◌≤◌, List, length}
+use Rattle.qm_kinds.specs.declared.work.Work.{Work}
+use Rattle.qm_kinds.specs.declared.work.Report.{Report}
+use Rattle.qm_kinds.specs.declared.work.Report.TheVariants.{Done}
+use Rattle.qm_model.specs.Reports.{Step, next_report, blocks_before_report}
+use Rattle.qm_symb.specs.Device.{Meaning, Takes, TakesSome, TakesNotAll, Rose, IsQuiet}
+use Rattle.qm_symb.specs.declared.symbiont.TheConstants.{DEVICE_FAULT_STATUS, TEXT_BYTES}
+
+-- a page has a row and a column between its margins, and the text isn't too long
+pub record IsWithinLimits (w : Work) : Type 0 where
+  pub has_rows : w.shape.top + w.shape.bottom < w.shape.length
+  pub has_columns : w.shape.left + w.shape.right < w.shape.width
+  pub text : length w.text ≤ TEXT_BYTES
+
+module _ {D : Type 0} (m : Meaning D) where
+  -- the next report is given, and the blocks before it were handed over
+  pub record GoesOn (run : ℕ) (course : List Step) (report : Report) (old new : D) : Type 0 where
+    pub next : report ≡ next_report course
+    pub blocks : Takes m run (blocks_before_report course) old new
+    pub quiet : IsQuiet m old new
+
+  -- the device failed at one of the blocks before the next report, and the run ends with the status of that
+  pub record Fails (run : ℕ) (course : List Step) (report : Report) (old new : D) : Type 0 where
+    pub ended : report ≡ Done DEVICE_FAULT_STATUS
+    pub blocks : TakesNotAll m run (blocks_before_report course) old new
+    pub rose : Rose m old new
+
+  -- a step that gives a report
+  abbrev pub Steps : ℕ → List Step → Report → D → D → Type 0
+  Steps run course report old new = GoesOn run course report old new ⊎ Fails run course report old new
+
+  -- a step that gives none, since memory ran out: the device didn't fail
+  pub record RunsOut (run : ℕ) (course : List Step) (old new : D) : Type 0 where
+    pub blocks : TakesSome m run (blocks_before_report course) old new
+    pub quiet : IsQuiet m old new

@@ -1,0 +1,9 @@
+//! What runs hand their blocks to, and what carries runs out: the traits `Device` and `Symbiont`. `MemoryDevice` keeps
+//! what it takes; `FileDevice` appends it to files, and tells nothing of them.
+#![tactic(auto)]
+
+mod device;
+mod symbiont;
+
+pub use device::{Device, DeviceFault};
+pub use symbiont::{DEVICE_FAULT_STATUS, Symbiont, TEXT_BYTES};
