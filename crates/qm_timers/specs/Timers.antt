@@ -1,0 +1,47 @@
+-- Timers, each a moment and the number that it is for: what their callers see, and what the calls make of it.
+use Rattle.std.specs.Prelude.{◌≡◌, ◌≢◌, ◌⊎◌, ℕ, ◌==◌, nat_lt, Bool, true, ◌&&◌, ◌||◌, not, if◌then◌else◌, List, [], ◌∷◌, Option, find, filter, All, Contains}
+
+-- the timers in their order, and how many more have room
+pub record Waiting : Type 0 where
+  pub timers : List (ℕ × ℕ)
+  pub spare : ℕ
+
+-- one stands before the other: its moment comes first, or the moment is the same and its number is less
+abbrev pub is_before : (ℕ × ℕ) → (ℕ × ℕ) → Bool
+is_before a b = nat_lt a.0 b.0 || (a.0 == b.0 && nat_lt a.1 b.1)
+
+-- each timer comes before all that stand behind it, in an order
+abbrev pub IsRising : ((ℕ × ℕ) → (ℕ × ℕ) → Bool) → List (ℕ × ℕ) → Type 0
+IsRising comes_before [] = Unit {0}
+IsRising comes_before (t ∷ ts) = All (λ u. comes_before t u ≡ true) ts × IsRising comes_before ts
+
+-- no number has two timers
+abbrev pub HasEachNumberOnce : List (ℕ × ℕ) → Type 0
+HasEachNumberOnce [] = Unit {0}
+HasEachNumberOnce (t ∷ ts) = All (λ u. u.1 ≢ t.1) ts × HasEachNumberOnce ts
+
+-- timers as they are kept
+pub record IsInOrder (ts : List (ℕ × ℕ)) : Type 0 where
+  pub rising : IsRising is_before ts
+  pub once : HasEachNumberOnce ts
+
+-- the timer of a number
+abbrev pub timer_of : ℕ → List (ℕ × ℕ) → Option (ℕ × ℕ)
+timer_of number ts = find (λ t. t.1 == number) ts
+
+-- the timers and one more, which stands before the first that doesn't come before it, in an order
+abbrev pub inserted_by : ((ℕ × ℕ) → (ℕ × ℕ) → Bool) → (ℕ × ℕ) → List (ℕ × ℕ) → List (ℕ × ℕ)
+inserted_by comes_before t [] = t ∷ []
+inserted_by comes_before t (u ∷ us) = if comes_before u t then u ∷ inserted_by comes_before t us else t ∷ u ∷ us
+
+-- the timers and one more, at its place
+abbrev pub inserted : (ℕ × ℕ) → List (ℕ × ℕ) → List (ℕ × ℕ)
+inserted t ts = inserted_by is_before t ts
+
+-- the timers but that of a number
+abbrev pub without : ℕ → List (ℕ × ℕ) → List (ℕ × ℕ)
+without number ts = filter (λ t. not (t.1 == number)) ts
+
+-- one of the timers, before all others
+abbrev pub IsLeast : (ℕ × ℕ) → List (ℕ × ℕ) → Type 0
+IsLeast t ts = Contains ts t × All (λ u. (u ≡ t) ⊎ (is_before t u ≡ true)) ts
