@@ -2,10 +2,14 @@
 use Rattle.std.proofs.Common.{◌≡◌, ◌≢◌, ℕ, ◌<◌, ◌==◌, nat_lt, Bool, true, false, not, cond, List, [], length, get_or, Option, Some, None, refl, sym, ◌∙◌, ap, arith}
 use Rattle.std.specs.List.{All, insert, remove}
 use Rattle.std.proofs.lemmas.List.Elements.{All-weaker}
-use Rattle.qm_timers.specs.Timers.{is_before, IsRising, HasEachNumberOnce, IsInOrder, timer_of, inserted_by, inserted, without}
+use Rattle.qm_timers.specs.Timers.{Waiting, is_before, IsRising, HasEachNumberOnce, IsInOrder, timer_of, inserted_by, inserted, without}
 use Rattle.qm_timers.specs.Kept.{has_less, AreKept, Parts, IsTimerAt}
 use Rattle.qm_timers.proofs.Orders.{before-trans, before-other, less-trans, less-other, insert-is, IsRising-inserted, IsRising-filter}
 use Rattle.qm_timers.proofs.Numbers.{absent_all, timer_of-number, timer_of-inserted, timer_of-without, without-absent, HasEachNumberOnce-inserted, HasEachNumberOnce-filter, rising_once, remove-is, StandsAt, stands_at}
+
+-- timers and spare places
+abbrev pub waiting : List (ℕ × ℕ) → ℕ → Waiting
+waiting ts n = record { timers = ts; spare = n }
 
 -- no timers
 pub kept_none : AreKept [] []
@@ -54,3 +58,7 @@ module _ (xs ys : List (ℕ × ℕ)) (i j n : ℕ) (t : ℕ × ℕ) (kept : AreK
 
   pub remove_by_moment : remove xs j ≡ without n xs
   remove_by_moment = remove-is xs j t n kept.in_order.once stands.within (ap (λ (u : ℕ × ℕ). u.1) stands.is ∙ timer_of-number n xs t has_timer)
+
+-- what is seen of timers, by its parts
+pub waiting_is : (xs ys : List (ℕ × ℕ)) (m n : ℕ) → xs ≡ ys → m ≡ n → waiting xs m ≡ waiting ys n
+waiting_is xs ys m n same_timers same_spare = ap (λ (l : List (ℕ × ℕ)). waiting l m) same_timers ∙ ap (λ (k : ℕ). waiting ys k) same_spare
