@@ -1,0 +1,4 @@
+pub mod PartLemmas
+pub mod PieceLemmas
+pub mod LineLemmas
+pub mod PageLemmas
