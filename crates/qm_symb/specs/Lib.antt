@@ -1,2 +1,4 @@
 pub mod Device
 pub mod Symbiont
+pub mod Held
+pub mod Faults

@@ -2,8 +2,13 @@
 //! what it takes; `FileDevice` appends it to files, and tells nothing of them.
 #![tactic(auto)]
 
+mod calls;
 mod device;
+mod files;
+mod memory;
 mod symbiont;
 
 pub use device::{Device, DeviceFault};
+pub use files::FileDevice;
+pub use memory::MemoryDevice;
 pub use symbiont::{DEVICE_FAULT_STATUS, Symbiont, TEXT_BYTES};

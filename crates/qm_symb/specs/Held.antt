@@ -1,0 +1,23 @@
+-- A device in memory, as its callers see it.
+use Rattle.std.specs.Prelude.{ℕ, ◌+◌, ◌-◌, ◌^◌, true, List, min}
+use Rattle.qm_symb.specs.Device.{Meaning}
+
+-- the blocks that it took, each with its run, and the calls: which fail by their number, how many there were, and how
+-- many failed
+pub record HeldDevice : Type 0 where
+  pub taken : List (ℕ × List ℕ)
+  pub fail : List ℕ
+  pub calls : ℕ
+  pub faults : ℕ
+
+-- one more, or the same at the end of the type
+abbrev pub counted : ℕ → ℕ
+counted n = min (n + 1) (2 ^ 64 - 1)
+
+-- it tells what it took
+abbrev pub in_memory : Meaning HeldDevice
+in_memory = record {
+  tells = true;
+  taken = λ device. device.taken;
+  faults = λ device. device.faults;
+}
