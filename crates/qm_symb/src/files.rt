@@ -46,10 +46,15 @@ fn path_of(folder: &String, device: &Name) -> Result<String, AllocError> {
     Ok(path)
 }
 
-// Appends a block to a file. Calls that are interrupted are made again, and short ones are gone on with.
-fn append<R: Files>(rt: &R, path: &str, block: &[u8]) -> io::Result<()> {
-    let mut file = OpenOptions::new().append(true).create(true).open(rt, path)?;
+// Writes the whole block. Calls that are interrupted are made again, and short ones are gone on with.
+pub(crate) fn append_whole<W: Write>(file: &mut W, block: &[u8]) -> io::Result<()> {
     file.write_all(block)
+}
+
+// Appends a block to the file of this path.
+pub(crate) fn append<R: Files>(rt: &R, path: &str, block: &[u8]) -> io::Result<()> {
+    let mut file = OpenOptions::new().append(true).create(true).open(rt, path)?;
+    append_whole(&mut file, block)
 }
 
 fn append_to<R: Files>(rt: &R, folder: &String, device: &Name, block: &[u8]) -> io::Result<()> {

@@ -7,6 +7,8 @@ mod device;
 mod files;
 mod memory;
 mod symbiont;
+#[cfg(test)]
+mod tests;
 
 pub use device::{Device, DeviceFault};
 pub use files::FileDevice;
