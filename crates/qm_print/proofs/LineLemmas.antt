@@ -129,7 +129,7 @@ append_none [] = refl
 append_none (x ∷ xs) = ap (λ l. x ∷ l) (append_none xs)
 
 -- the first line, and the lines behind it
-by_line : (shape : Shape) (b : ℕ) (bs : List ℕ) → printed_lines shape (b ∷ bs) ≡ fitted shape (part_in_front 10 (b ∷ bs)) ++ printed_lines shape (part_behind 10 (b ∷ bs))
+pub by_line : (shape : Shape) (b : ℕ) (bs : List ℕ) → printed_lines shape (b ∷ bs) ≡ fitted shape (part_in_front 10 (b ∷ bs)) ++ printed_lines shape (part_behind 10 (b ∷ bs))
 unfolding printed_lines
 by_line shape b bs = ap (flat_map (fitted shape)) (parts_are 10 b bs)
 

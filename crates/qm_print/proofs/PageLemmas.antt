@@ -24,7 +24,7 @@ pages_of : (shape : Shape) (c : ℕ) (cs : List ℕ) → section_pages shape (c 
 unfolding printed_lines
 pages_of shape c cs = refl
 
-blocks_in_section : (shape : Shape) (text : List ℕ) → is_in_section text ≡ true
+pub blocks_in_section : (shape : Shape) (text : List ℕ) → is_in_section text ≡ true
     → text_blocks shape text ≡ map (page_block shape) (pieces (rows shape) (printed_lines shape (section text))) ++ text_blocks shape (others text)
 blocks_in_section shape [] inside = absurd (cc)
 blocks_in_section shape (b ∷ bs) inside =

@@ -1,0 +1,11 @@
+use Rattle.std.proofs.Common.{◌≡◌, ◌++◌, length, map}
+use Rattle.qm_model.specs.Pages.{page_blocks}
+use Rattle.qm_print.specs.Places.{blocks_from}
+use Rattle.qm_print.proofs.blocks.page_blocks.Given as goal
+
+-- the blocks so far, and those that are left
+abbrev pub invariant-loop-block : goal.invariant-loop-block
+invariant-loop-block l = map (λ block. block.items) l.blocks.items ++ blocks_from l.work l.cursor ≡ page_blocks l.work
+
+abbrev pub decreases-loop-block : goal.decreases-loop-block
+decreases-loop-block l = length (blocks_from l.work l.cursor)
