@@ -53,7 +53,12 @@ impl MemoryDevice {
 }
 
 // Keeps a block, or leaves what is kept.
-fn keep(alloc: Global, taken: &mut Vec<(u64, Seq<u8>)>, run: u64, block: &[u8]) -> Result<(), AllocError>
+fn keep(
+    alloc: Global,
+    taken: &mut Vec<(u64, Seq<u8>)>,
+    run: u64,
+    block: &[u8],
+) -> Result<(), AllocError>
     ensures ok { OnOk result (taken.new.items ≡ taken.old.items ++ (run, block.now) ∷ []) }
     ensures err { OnErr result (taken.new.items ≡ taken.old.items) }
 {

@@ -35,17 +35,19 @@ fn new_folder(rt: &HostRuntime) -> io::Result<()> {
 }
 
 fn devices_of(rt: &HostRuntime, folder: &str) -> io::Result<FileDevice<HostRuntime>> {
-    Ok(FileDevice::new(
-        rt.clone()?,
-        String::from_str(rt.alloc(), folder)?,
-    ))
+    Ok(FileDevice::new(rt.clone()?, String::from_str(rt.alloc(), folder)?))
 }
 
 #[test]
 fn blocks_are_appended_to_the_files_of_their_devices(rt: HostRuntime) -> Result<(), Fail> {
     new_folder(&rt)?;
     let mut devices = devices_of(&rt, FOLDER)?;
-    let blocks = [("LPA0", "one\n"), ("LPB0", ""), ("LPA0", "two\x0c"), ("LPB0", "three")];
+    let blocks = [
+        ("LPA0", "one\n"),
+        ("LPB0", ""),
+        ("LPA0", "two\x0c"),
+        ("LPB0", "three"),
+    ];
     for (device, block) in blocks {
         assert!(rt; devices.hand(1, &name(device), block.as_bytes()).is_ok());
     }
@@ -53,8 +55,14 @@ fn blocks_are_appended_to_the_files_of_their_devices(rt: HostRuntime) -> Result<
     drop(devices);
     let mut devices = devices_of(&rt, FOLDER)?;
     assert!(rt; devices.hand(2, &name("LPA0"), b"four").is_ok());
-    assert_eq!(rt; fs::read_to_string(&rt, "qm_symb_test/LPA0.OUT")?.as_str(), "one\ntwo\x0cfour");
-    assert_eq!(rt; fs::read_to_string(&rt, "qm_symb_test/LPB0.OUT")?.as_str(), "three");
+    assert_eq!(rt;
+        fs::read_to_string(&rt, "qm_symb_test/LPA0.OUT")?.as_str(),
+        "one\ntwo\x0cfour"
+    );
+    assert_eq!(rt;
+        fs::read_to_string(&rt, "qm_symb_test/LPB0.OUT")?.as_str(),
+        "three"
+    );
     Ok(())
 }
 
@@ -73,7 +81,10 @@ fn what_cannot_be_appended_is_a_fault(rt: HostRuntime) -> Result<(), Fail> {
     // A descriptor that can't be written to.
     let mut unwritable = File::open(&rt, "qm_symb_test/LPD0.OUT")?;
     assert!(rt; append_whole(&mut unwritable, b"a").is_err());
-    assert_eq!(rt; fs::read_to_string(&rt, "qm_symb_test/LPD0.OUT")?.as_str(), "old");
+    assert_eq!(rt;
+        fs::read_to_string(&rt, "qm_symb_test/LPD0.OUT")?.as_str(),
+        "old"
+    );
     Ok(())
 }
 

@@ -90,7 +90,7 @@ module _ (comes_before : (ℕ × ℕ) → (ℕ × ℕ) → Bool) where
     IsRising-inserted t [] total rising = (All-nil (λ u. comes_before t u ≡ true), tt)
     IsRising-inserted t (u ∷ us) total rising =
         let others : IsRising comes_before (inserted_by comes_before t us) =
-            IsRising-inserted t us (All-tail (λ v. comes_before v t ≡ false → comes_before t v ≡ true) u us total) rising.1 in
+        IsRising-inserted t us (All-tail (λ v. comes_before v t ≡ false → comes_before t v ≡ true) u us total) rising.1 in
         step (comes_before u t) refl others
       where
         step : (b : Bool) → comes_before u t ≡ b → IsRising comes_before (inserted_by comes_before t us) → IsRising comes_before (if b then u ∷ inserted_by comes_before t us else t ∷ u ∷ us)

@@ -8,5 +8,5 @@ use Rattle.qm_timers.proofs.places.place_by_moment.Goals as goal
 pub returns : goal.returns
 returns c =
     let point = IsPartitionPoint-from_clause (λ t. is_before t c.args.timer) c.args.timers.now c.partition_point.result c.partition_point.ensures.partitioned
-        (parted is_before before-trans c.args.timers.now c.args.timer c.requires) (λ a r f called. search rules) in
+    (parted is_before before-trans c.args.timers.now c.args.timer c.requires) (λ a r f called. search rules) in
     record { within = c.partition_point.ensures.bound; before = point.0; behind = point.1 }

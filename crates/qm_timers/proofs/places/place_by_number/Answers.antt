@@ -8,5 +8,5 @@ use Rattle.qm_timers.proofs.places.place_by_number.Goals as goal
 pub returns : goal.returns
 returns c =
     let point = IsPartitionPoint-from_clause (λ t. nat_lt t.1 c.args.number) c.args.timers.now c.partition_point.result c.partition_point.ensures.partitioned
-        (parted has_less less-trans c.args.timers.now (0, c.args.number) c.requires) (λ a r f called. search rules) in
+    (parted has_less less-trans c.args.timers.now (0, c.args.number) c.requires) (λ a r f called. search rules) in
     record { within = c.partition_point.ensures.bound; before = point.0; behind = point.1 }

@@ -5,7 +5,6 @@ use Rattle.qm_timers.proofs.Orders.{insert-is}
 use Rattle.qm_timers.proofs.Keeping.{kept_inserted, waiting_is}
 use Rattle.qm_timers.proofs.timers.Timers.insert.Goals as goal
 
-
 pub invariant_of-self : goal.invariant_of-self
 invariant_of-self c =
     let t : ℕ × ℕ = (c.args.at, c.args.number) in
