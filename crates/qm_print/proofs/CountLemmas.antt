@@ -2,6 +2,7 @@
 use Rattle.std.proofs.Common.{◌≡◌, ◌⊎◌, inl, inr, ⊎_elim, ℕ, zero, suc, ◌+◌, ◌-◌, ◌*◌, ◌≤◌, ◌<◌, Bool, true, false, cond, ◌==◌, List, [], ◌∷◌, ◌++◌, length, map, take, drop, length-drop, length-append, refl, sym, ◌∙◌, ap, subst, arith}
 use Rattle.std.specs.Prelude.{flat_map, max}
 use Rattle.std.specs.List.{repeat}
+use mir.Val.{bool_byte}
 use Rattle.std.proofs.lemmas.Nat.{mul-le}
 use Rattle.std.proofs.lemmas.List.{length-map}
 use Rattle.qm_kinds.specs.declared.form.Shape.{Shape}
@@ -103,3 +104,13 @@ few_blocks w rows_some columns_some short copies =
       length_repeated w.copies pages,
       mul-le w.copies (length pages) 255 16777216 copies (omega (arith, few_pages w.shape rows_some columns_some w.text, short)),
     )
+
+-- how many blocks a job has
+pub blocks_counted : (w : Work) → length (page_blocks w) ≡ bool_byte w.flag + w.copies * length (text_blocks w.shape w.text)
+blocks_counted w =
+    let pages : List (List ℕ) = text_blocks w.shape w.text in
+    length-append (flag_blocks w) (repeat w.copies pages) ∙ ap (λ n. n + length (repeat w.copies pages)) (flags w.flag) ∙ ap (λ n. bool_byte w.flag + n) (length_repeated w.copies pages)
+  where
+  flags : (t : Bool) → length (cond t (flag_block w ∷ []) []) ≡ bool_byte t
+  flags true = refl
+  flags false = refl

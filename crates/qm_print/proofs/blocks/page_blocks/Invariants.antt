@@ -4,8 +4,8 @@ use Rattle.qm_print.specs.Places.{blocks_from}
 use Rattle.qm_print.proofs.blocks.page_blocks.Given as goal
 
 -- the blocks so far, and those that are left
-abbrev pub invariant-loop-block : goal.invariant-loop-block
-invariant-loop-block l = map (λ block. block.items) l.blocks.items ++ blocks_from l.work l.cursor ≡ page_blocks l.work
+abbrev pub invariant-loop-blocks : goal.invariant-loop-blocks
+invariant-loop-blocks l = map (λ block. block.items) l.blocks.items ++ blocks_from l.work l.cursor ≡ page_blocks l.work
 
-abbrev pub decreases-loop-block : goal.decreases-loop-block
-decreases-loop-block l = length (blocks_from l.work l.cursor)
+abbrev pub decreases-loop-blocks : goal.decreases-loop-blocks
+decreases-loop-blocks l = length (blocks_from l.work l.cursor)
