@@ -41,7 +41,10 @@ module _ {X : Type 0} (f : List ℕ → List X) (few : (part : List ℕ) → len
       let rest : List ℕ = part_behind ender (b ∷ bs) in
       let both = first_and_rest ender b bs in
       omega (
-        arith, h, both, few first,
+        arith,
+        h,
+        both,
+        few first,
         few_from room rest (omega (arith, h, both)),
         ap (λ l. length (flat_map f l)) (parts_are ender b bs),
         length-append (f first) (flat_map f (parts_ended_by ender rest)),
@@ -56,7 +59,9 @@ module _ {X : Type 0} (size : ℕ) (some : 0 < size) where
   few_pieces_from zero (x ∷ xs) h = absurd (omega (arith, h))
   few_pieces_from (suc room) (x ∷ xs) h =
       omega (
-        arith, h, some,
+        arith,
+        h,
+        some,
         ap length (pieces_are size (x ∷ xs) some (omega arith)),
         length-drop size (x ∷ xs),
         few_pieces_from room (drop size (x ∷ xs)) (omega (arith, h, some, length-drop size (x ∷ xs))),
@@ -111,6 +116,6 @@ blocks_counted w =
     let pages : List (List ℕ) = text_blocks w.shape w.text in
     length-append (flag_blocks w) (repeat w.copies pages) ∙ ap (λ n. n + length (repeat w.copies pages)) (flags w.flag) ∙ ap (λ n. bool_byte w.flag + n) (length_repeated w.copies pages)
   where
-  flags : (t : Bool) → length (cond t (flag_block w ∷ []) []) ≡ bool_byte t
-  flags true = refl
-  flags false = refl
+    flags : (t : Bool) → length (cond t (flag_block w ∷ []) []) ≡ bool_byte t
+    flags true = refl
+    flags false = refl

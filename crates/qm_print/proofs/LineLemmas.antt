@@ -217,7 +217,7 @@ module _ (shape : Shape) (some : 0 < columns shape) (text run : List ℕ) where
       let more : section (b ∷ bs) ≡ b ∷ section bs = ap (λ t. cond t [] (b ∷ section bs)) other in
       let front : part_in_front 10 (section (b ∷ bs)) ≡ b ∷ part_in_front 10 (section bs) = ap (part_in_front 10) more ∙ ap (λ t. cond t [] (b ∷ part_in_front 10 (section bs))) next in
       let behind : printed_lines shape (section (b ∷ bs)) ≡ fitted shape (part_in_front 10 (section (b ∷ bs))) ++ printed_lines shape (part_behind 10 (section (b ∷ bs))) =
-          ap (printed_lines shape) more ∙ by_line shape b (section bs) ∙ ap (λ l. fitted shape (part_in_front 10 l) ++ printed_lines shape (part_behind 10 l)) (sym more) in
+      ap (printed_lines shape) more ∙ by_line shape b (section bs) ∙ ap (λ l. fitted shape (part_in_front 10 l) ++ printed_lines shape (part_behind 10 l)) (sym more) in
       let whole : run ≡ take (columns shape) run = sym (take_all (columns shape) run (omega (arith, full))) in
       record {
         printed = cut.printed
@@ -278,21 +278,21 @@ first_line_is shape most text some inside limit =
     by_tail shape some text (take n text) (drop n text) (ends n refl)
     (cut_at shape text (take n text) (drop n text) inside (no_line_feed most text) (no_form_feed most text) (take-append-drop n text))
   where
-  shown : (n : ℕ) → bytes_of_line most text ≡ n → length (take n text) ≡ n
-  shown n is = length-take-le n text (omega (arith, is, bytes_inside most text))
+    shown : (n : ℕ) → bytes_of_line most text ≡ n → length (take n text) ≡ n
+    shown n is = length-take-le n text (omega (arith, is, bytes_inside most text))
 
-  stopped : (n : ℕ) → bytes_of_line most text ≡ n → most ≡ length text → stops (drop n text) ≡ true
-  stopped n is whole =
-      ⊎_elim (λ full. ap stops (drop_all n text (omega (arith, is, full, whole)))) (λ h. ap (λ m. stops (drop m text)) (sym is) ∙ h) (full_or_stopped most text)
+    stopped : (n : ℕ) → bytes_of_line most text ≡ n → most ≡ length text → stops (drop n text) ≡ true
+    stopped n is whole =
+        ⊎_elim (λ full. ap stops (drop_all n text (omega (arith, is, full, whole)))) (λ h. ap (λ m. stops (drop m text)) (sym is) ∙ h) (full_or_stopped most text)
 
-  wide : (n : ℕ) → bytes_of_line most text ≡ n → shape.wrap ≡ true → most ≡ columns shape → Ends shape (take n text) (drop n text)
-  wide n is wrap width =
-      let long = shown n is in
-      ⊎_elim (λ full. inr (wrap, long ∙ sym is ∙ full ∙ width))
-      (λ h. inl (inr (omega (arith, long, is, few_bytes most text, width)), ap (λ m. stops (drop m text)) (sym is) ∙ h)) (full_or_stopped most text)
+    wide : (n : ℕ) → bytes_of_line most text ≡ n → shape.wrap ≡ true → most ≡ columns shape → Ends shape (take n text) (drop n text)
+    wide n is wrap width =
+        let long = shown n is in
+        ⊎_elim (λ full. inr (wrap, long ∙ sym is ∙ full ∙ width))
+        (λ h. inl (inr (omega (arith, long, is, few_bytes most text, width)), ap (λ m. stops (drop m text)) (sym is) ∙ h)) (full_or_stopped most text)
 
-  ends : (n : ℕ) → bytes_of_line most text ≡ n → Ends shape (take n text) (drop n text)
-  ends n is = ⊎_elim (λ h. inl (inl h.0, stopped n is h.1)) (λ h. wide n is h.0 h.1) limit
+    ends : (n : ℕ) → bytes_of_line most text ≡ n → Ends shape (take n text) (drop n text)
+    ends n is = ⊎_elim (λ h. inl (inl h.0, stopped n is h.1)) (λ h. wide n is h.0 h.1) limit
 
 next_least : (n m : ℕ) → min (suc n) (suc m) ≡ suc (min n m)
 next_least n m = omega arith

@@ -101,10 +101,9 @@ module _ (shape : Shape) (text rest line next : List ℕ) (count : ℕ) (front :
       let many = so_many count all line [] (front.printed ∙ first.printed) in
       let none : drop (rows shape) all ≡ [] = drop_all (rows shape) all (omega (arith, many, room)) in
       let one : pieces (rows shape) all ≡ take (rows shape) all ∷ [] =
-          pieces_are (rows shape) all (omega (arith, room)) (omega (arith, many))
-          ∙ ap (λ l. take (rows shape) all ∷ pieces (rows shape) l) none
-          ∙ ap (λ l. take (rows shape) all ∷ l) (no_pieces (rows shape) (omega (arith, room))) in
-      (
+      pieces_are (rows shape) all (omega (arith, room)) (omega (arith, many))
+      ∙ ap (λ l. take (rows shape) all ∷ pieces (rows shape) l) none
+      ∙ ap (λ l. take (rows shape) all ∷ l) (no_pieces (rows shape) (omega (arith, room))) in (
         record {
           blocks = blocks_in_section shape text front.begun
               ∙ ap (λ l. map (page_block shape) l ++ text_blocks shape (others text)) one
@@ -139,9 +138,9 @@ module _ (shape : Shape) (text : List ℕ) where
   pub blank_at : 0 < length text → get_or text 0 0 ≡ 12 → IsFirstPage shape text (drop 1 text) × (first_page shape text ≡ [])
   blank_at some feed = go text some feed
     where
-    go : (l : List ℕ) → 0 < length l → get_or l 0 0 ≡ 12 → IsFirstPage shape l (drop 1 l) × (first_page shape l ≡ [])
-    go [] h e = absurd (omega (arith, h))
-    go (b ∷ bs) h e = (blank_page_is shape b bs (eq-eqb b 12 e), blank_page shape b bs (eq-eqb b 12 e))
+      go : (l : List ℕ) → 0 < length l → get_or l 0 0 ≡ 12 → IsFirstPage shape l (drop 1 l) × (first_page shape l ≡ [])
+      go [] h e = absurd (omega (arith, h))
+      go (b ∷ bs) h e = (blank_page_is shape b bs (eq-eqb b 12 e), blank_page shape b bs (eq-eqb b 12 e))
 
   module _ (at row shown next : ℕ) (rest : List ℕ) (front : IsInFront shape text (drop at text) row) (is : rest ≡ drop at text) where
     pub next_row : (is_last : Bool) → is_last ≡ false → IsFirstLine shape rest (take shown rest) (drop next rest) is_last → IsInFront shape text (drop (at + next) text) (row + 1)

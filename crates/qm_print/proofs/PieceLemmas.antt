@@ -60,6 +60,6 @@ module _ {X : Type 0} where
       ∙ ap (λ p. p ∷ map (piece size xs) (range_with_len 1 (count_of size (length xs - size)))) (first_piece size xs)
       ∙ ap (λ l. take size xs ∷ l)
       (
-        shifted (piece size xs) (piece size (drop size xs)) (next_piece size xs) (count_of size (length xs - size)) 0
-        ∙ ap (λ n. map (piece size (drop size xs)) (range_with_len 0 (count_of size n))) (sym (length-drop size xs))
+      shifted (piece size xs) (piece size (drop size xs)) (next_piece size xs) (count_of size (length xs - size)) 0
+      ∙ ap (λ n. map (piece size (drop size xs)) (range_with_len 0 (count_of size n))) (sym (length-drop size xs))
       )

@@ -77,8 +77,8 @@ nothing_left w c plain past (inr none) = ap (λ f. blocks_from w (place f c.copi
 pub turns_over : (w : Work) (flag : Bool) (copies less at : ℕ) → less + 1 ≡ copies → length w.text ≤ at → blocks_from w (place flag less 0) ≡ blocks_from w (place flag copies at)
 turns_over w flag copies less at is past = turns w flag less at past ∙ ap (λ n. blocks_from w (place flag n at)) (next less ∙ is)
   where
-  next : (n : ℕ) → suc n ≡ n + 1
-  next n = omega arith
+    next : (n : ℕ) → suc n ≡ n + 1
+    next n = omega arith
 
 pub flag_first : (w : Work) (c : Cursor) → c.flag ≡ true → blocks_from w c ≡ flag_block w ∷ blocks_from w (place false c.copies c.at)
 flag_first w c flagged = ap (λ f. blocks_from w (place f c.copies c.at)) flagged ∙ flag_comes w c.copies c.at
@@ -108,14 +108,14 @@ pub some_page : (shape : Shape) → 0 < rows shape → 0 < columns shape → (te
 some_page shape rows_some columns_some [] h = absurd (omega (arith, h))
 some_page shape rows_some columns_some (b ∷ bs) h = by_first (b == 12) refl
   where
-  by_first : (t : Bool) → (b == 12) ≡ t → 0 < length (text_blocks shape (b ∷ bs))
-  by_first true is = omega (arith, ap length ((blank_page_is shape b bs is).blocks))
-  by_first false is =
-      let inside : is_in_section (b ∷ bs) ≡ true = ap (λ t. cond t false true) is in
-      let first = begins (b ∷ bs) inside in
-      let all : List (List ℕ) = printed_lines shape (section (b ∷ bs)) in
-      let some : 0 < length all = subst (λ l. 0 < length (printed_lines shape l)) (sym first.2) (some_printed shape columns_some first.0 first.1) in
-      omega (arith, ap length (blocks_in_section shape (b ∷ bs) inside ∙ ap (λ l. map (page_block shape) l ++ text_blocks shape (others (b ∷ bs))) (pieces_are (rows shape) all rows_some some)))
+    by_first : (t : Bool) → (b == 12) ≡ t → 0 < length (text_blocks shape (b ∷ bs))
+    by_first true is = omega (arith, ap length ((blank_page_is shape b bs is).blocks))
+    by_first false is =
+        let inside : is_in_section (b ∷ bs) ≡ true = ap (λ t. cond t false true) is in
+        let first = begins (b ∷ bs) inside in
+        let all : List (List ℕ) = printed_lines shape (section (b ∷ bs)) in
+        let some : 0 < length all = subst (λ l. 0 < length (printed_lines shape l)) (sym first.2) (some_printed shape columns_some first.0 first.1) in
+        omega (arith, ap length (blocks_in_section shape (b ∷ bs) inside ∙ ap (λ l. map (page_block shape) l ++ text_blocks shape (others (b ∷ bs))) (pieces_are (rows shape) all rows_some some)))
 
 pub more_left : (w : Work) (c : Cursor) → 0 < rows w.shape → 0 < columns w.shape → c.at < length w.text → blocks_from w c ≡ [] → ⊥
 unfolding blocks_from

@@ -97,7 +97,11 @@ fn flag_block(alloc: Global, work: &Work) -> Result<Vec<u8>, AllocError>
 
 /// The next block of a print job, where one is left; the cursor is then behind it. It costs what the block holds, and
 /// what a form that cuts lines leaves out of it. Memory may run out, and then the cursor is where it was.
-pub fn next_block(alloc: Global, work: &Work, cursor: &mut Cursor) -> Result<Option<Vec<u8>>, AllocError>
+pub fn next_block(
+    alloc: Global,
+    work: &Work,
+    cursor: &mut Cursor,
+) -> Result<Option<Vec<u8>>, AllocError>
     requires { IsWithinLimits work.now }
     ensures block { IfOk result (λ found. MatchOption found (IsDone (blocks_from work.now cursor.old) cursor.old cursor.new) (λ block. blocks_from work.now cursor.old ≡ block.items ∷ blocks_from work.now cursor.new)) }
     ensures no_memory { OnErr result (cursor.new ≡ cursor.old) }

@@ -8,6 +8,7 @@ ghost use Rattle.qm_print.specs.Lines.{IsFirstLine};
 use qm_kinds::Shape;
 
 pub(crate) const LINE_FEED: u8 = 10;
+
 pub(crate) const FORM_FEED: u8 = 12;
 
 /// The first line that is printed of a text.
@@ -102,11 +103,7 @@ pub(crate) fn first_line(shape: Shape, text: &[u8]) -> FirstLine
     ensures next { result.next ≤ length text.now }
 {
     let columns = columns(shape);
-    let most = if shape.wrap {
-        columns
-    } else {
-        text.len()
-    };
+    let most = if shape.wrap { columns } else { text.len() };
     let bytes = bytes_of_line(text, most);
     let behind = behind_line(&text[bytes..]);
     FirstLine {

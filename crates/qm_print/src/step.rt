@@ -55,7 +55,13 @@ fn report_behind(work: &Work, at: Place, behind: Cursor) -> Report
 ///
 /// OpenVMS System Manager's Manual, Setting Up and Maintaining Queues, on symbionts and on jobs that restart at a
 /// checkpoint.
-pub fn print_step<P: Device>(alloc: Global, device: &mut P, work: &Work, at: Place, cursor: &mut Cursor) -> Result<Report, AllocError>
+pub fn print_step<P: Device>(
+    alloc: Global,
+    device: &mut P,
+    work: &Work,
+    at: Place,
+    cursor: &mut Cursor,
+) -> Result<Report, AllocError>
     requires limits { IsWithinLimits work.now }
     requires kind { work.now.kind ≡ Print }
     requires place { blocks_from work.now cursor.old ≡ drop at.at (page_blocks work.now) }

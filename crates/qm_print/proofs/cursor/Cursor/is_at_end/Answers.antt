@@ -13,8 +13,7 @@ returns-then-not-here c = (
 
 pub returns-else-not-here : goal.returns-else-not-here
 returns-else-not-here c =
-    let flagged = not-false c.turned-here.result.flag c.if-not-here.false in
-    (
+    let flagged = not-false c.turned-here.result.flag c.if-not-here.false in (
       λ plain. let clear = not-true c.turned-here.result.flag plain in absurd (cc),
       λ none. absurd (some_left _ _ _ (flag_first c.args.work.now c.turned-here.result flagged) (c.turned-here.ensures.same ∙ none)),
     )

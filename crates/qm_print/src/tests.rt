@@ -1,0 +1,174 @@
+// What the contracts leave open: that memory suffices where it is ample, and cases worked by hand.
+use super::*;
+use qm_kinds::{JobKind, Mark, Name, Place, Report, Seq, Shape, Work, system_user};
+use qm_symb::{DEVICE_FAULT_STATUS, MemoryDevice};
+use std::alloc::{AllocError, Global};
+use std::test::Fail;
+
+// Three lines of two columns, with a line free at the top and a column at the left.
+const SMALL: Shape = Shape {
+    length: 5,
+    width: 4,
+    top: 1,
+    bottom: 1,
+    left: 1,
+    right: 1,
+    wrap: true,
+};
+
+// One line of one column.
+const NARROW: Shape = Shape {
+    length: 1,
+    width: 1,
+    top: 0,
+    bottom: 0,
+    left: 0,
+    right: 0,
+    wrap: true,
+};
+
+fn cut(shape: Shape) -> Shape {
+    Shape {
+        wrap: false,
+        ..shape
+    }
+}
+
+fn name(text: &str) -> Name {
+    Name::read(text.as_bytes()).unwrap_or(system_user())
+}
+
+// A job of entry 7.
+fn job(
+    alloc: Global,
+    shape: Shape,
+    copies: u8,
+    flag: bool,
+    text: &str,
+) -> Result<Work, AllocError> {
+    Ok(Work {
+        run: 3,
+        entry: 7,
+        kind: JobKind::Print,
+        name: name("X"),
+        user: name("SMITH"),
+        device: name("LPA0"),
+        text: Seq::of(text.as_bytes().to_vec(alloc)?),
+        shape,
+        copies,
+        flag,
+        again: false,
+        mark: Mark::new(b"").unwrap(),
+    })
+}
+
+#[test]
+fn pages_hold_the_lines_of_their_sections(rt: HostRuntime) -> Result<(), Fail> {
+    let plain = Shape {
+        left: 0,
+        right: 0,
+        width: 80,
+        top: 0,
+        ..SMALL
+    };
+    let cases = [
+        (plain, 1, false, "a\n", "a\n\x0c"),
+        (plain, 1, false, "", ""),
+        (plain, 1, false, "\n", "\n\x0c"),
+        (plain, 1, false, "\x0c", "\x0c"),
+        (
+            plain,
+            1,
+            false,
+            "\x0ca\x0c\x0cb\x0c",
+            "\x0ca\n\x0c\x0cb\n\x0c",
+        ),
+        (plain, 0, true, "a", "ENTRY 7 JOB X USER SMITH\n\x0c"),
+        (
+            plain,
+            2,
+            true,
+            "a",
+            "ENTRY 7 JOB X USER SMITH\n\x0ca\n\x0ca\n\x0c",
+        ),
+        (
+            plain,
+            1,
+            false,
+            "a\nb\nc\nd\ne\n",
+            "a\nb\nc\nd\n\x0ce\n\x0c",
+        ),
+        (
+            plain,
+            1,
+            false,
+            "a\nb\nc\nd\n\x0ce",
+            "a\nb\nc\nd\n\x0ce\n\x0c",
+        ),
+        (
+            SMALL,
+            1,
+            false,
+            "abcde\n\nf",
+            "\n ab\n cd\n e\n\x0c\n \n f\n\x0c",
+        ),
+        (cut(SMALL), 1, false, "abcde\n\nf", "\n ab\n \n f\n\x0c"),
+        (
+            SMALL,
+            1,
+            false,
+            "ab\nabc\x0cab\x0cabcd",
+            "\n ab\n ab\n c\n\x0c\n ab\n\x0c\n ab\n cd\n\x0c",
+        ),
+        (cut(SMALL), 1, false, "abcdefghi", "\n ab\n\x0c"),
+        (NARROW, 1, false, "ab\n\nc", "a\n\x0cb\n\x0c\n\x0cc\n\x0c"),
+    ];
+    for (shape, copies, flag, text, pages) in cases {
+        let work = job(rt.alloc(), shape, copies, flag, text)?;
+        let mut printed = Vec::new(rt.alloc());
+        for block in &page_blocks(rt.alloc(), &work)? {
+            printed.extend_from_slice(block)?;
+        }
+        assert_eq!(rt; printed.as_slice(), pages.as_bytes());
+    }
+    Ok(())
+}
+
+#[test]
+fn a_job_goes_on_behind_its_mark(rt: HostRuntime) -> Result<(), Fail> {
+    // The mark, the calls at which the device fails, what the steps report (a number for a mark, a status behind it),
+    // and what the device took.
+    let cases = [
+        ("", 0, 2, 1, "a\n\x0cb\n\x0cc\n\x0c"),
+        ("1", 0, 1, 1, "b\n\x0cc\n\x0c"),
+        ("02", 0, 0, 1, "c\n\x0c"),
+        ("3", 0, 0, 1, ""),
+        ("4", 0, 2, 1, "a\n\x0cb\n\x0cc\n\x0c"),
+        ("x", 2, 1, DEVICE_FAULT_STATUS, "a\n\x0c"),
+        ("99999999999999999999999", 0, 2, 1, "a\n\x0cb\n\x0cc\n\x0c"),
+    ];
+    for (mark, fails, marks, status, pages) in cases {
+        let mut work = job(rt.alloc(), NARROW, 1, false, "abc")?;
+        work.mark = Mark::new(mark.as_bytes()).unwrap();
+        let mut device = MemoryDevice::new(rt.alloc(), vec![in rt.alloc(); fails]?);
+        let mut at = print_begin(&work);
+        let mut cursor = cursor_behind(&work, at.at);
+        for _ in 0..marks {
+            match print_step(rt.alloc(), &mut device, &work, at, &mut cursor)? {
+                Report::Mark { next, .. } => at = next,
+                Report::Done { .. } => assert!(rt; false),
+            }
+        }
+        match print_step(rt.alloc(), &mut device, &work, at, &mut cursor)? {
+            Report::Mark { .. } => assert!(rt; false),
+            Report::Done { status: told } => assert_eq!(rt; told, status),
+        }
+        let mut printed = Vec::new(rt.alloc());
+        for (run, block) in device.held() {
+            assert_eq!(rt; *run, work.run);
+            printed.extend_from_slice(block.as_slice())?;
+        }
+        assert_eq!(rt; printed.as_slice(), pages.as_bytes());
+    }
+    Ok(())
+}
