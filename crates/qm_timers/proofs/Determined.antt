@@ -2,7 +2,7 @@
 use Rattle.std.proofs.Common.{◌≡◌, ◌≢◌, ◌⊎◌, ℕ, ◌==◌, Bool, true, false, cond, List, [], ◌∷◌, Some, None, refl, sym, ◌∙◌, ap, subst, inl, inr, arith}
 use Rattle.std.specs.List.{All}
 use Rattle.std.proofs.lemmas.Bool.Decides.{nat_tests}
-use Rattle.qm_timers.specs.Timers.{is_before, IsRising, HasEachNumberOnce, IsInOrder, timer_of}
+use Rattle.qm_timers.specs.Timers.{is_before, IsRising, HasEachNumberOnce, timer_of}
 use Rattle.qm_timers.proofs.Orders.{before-trans, before-itself}
 use Rattle.qm_timers.proofs.Numbers.{timer_of-All, all_absent}
 

@@ -1,10 +1,11 @@
 -- What the calls of timers keep.
-use Rattle.std.proofs.Common.{◌≡◌, ◌≢◌, ℕ, ◌<◌, ◌==◌, nat_lt, Bool, true, false, not, cond, List, [], length, get_or, Option, Some, None, refl, sym, ◌∙◌, ap, arith}
-use Rattle.std.specs.List.{All, insert, remove}
+use Rattle.std.proofs.Common.{◌≡◌, ◌≢◌, ℕ, ◌==◌, true, false, not, cond, List, [], get_or, Option, Some, None, refl, sym, ◌∙◌, ap, arith}
+use Rattle.std.specs.List.{All, remove}
+use Rattle.std.proofs.lemmas.Bool.Decides.{nat_tests}
 use Rattle.std.proofs.lemmas.List.Elements.{All-weaker}
-use Rattle.qm_timers.specs.Timers.{Waiting, is_before, IsRising, HasEachNumberOnce, IsInOrder, timer_of, inserted_by, inserted, without}
+use Rattle.qm_timers.specs.Timers.{Waiting, is_before, IsRising, timer_of, inserted_by, without}
 use Rattle.qm_timers.specs.Kept.{has_less, AreKept, Parts, IsTimerAt}
-use Rattle.qm_timers.proofs.Orders.{before-trans, before-other, less-trans, less-other, insert-is, IsRising-inserted, IsRising-filter}
+use Rattle.qm_timers.proofs.Orders.{before-trans, before-other, less-trans, less-other, IsRising-inserted, IsRising-filter}
 use Rattle.qm_timers.proofs.Numbers.{absent_all, timer_of-number, timer_of-inserted, timer_of-without, without-absent, HasEachNumberOnce-inserted, HasEachNumberOnce-filter, rising_once, remove-is, StandsAt, stands_at}
 
 -- timers and spare places
@@ -43,6 +44,10 @@ kept_without xs ys n kept = record {
 -- where a number has no timer nothing goes
 pub without_none : (xs ys : List (ℕ × ℕ)) (n : ℕ) → AreKept xs ys → timer_of n ys ≡ None → xs ≡ without n xs
 without_none xs ys n kept none = sym (without-absent n xs (absent_all n xs (sym (kept.same n) ∙ none)))
+
+-- behind a removal the number has no timer
+pub gone : (ts : List (ℕ × ℕ)) (n : ℕ) → timer_of n (without n ts) ≡ None
+gone ts n = let same : (n == n) ≡ true = grind (arith, nat_tests) in timer_of-without n n ts ∙ ap (λ b. cond b None (timer_of n ts)) same
 
 -- the timer of a number is taken out where it stands among the numbers,
 pub remove_by_number : (ys : List (ℕ × ℕ)) (i n : ℕ) → IsRising has_less ys → IsTimerAt n ys i → remove ys i ≡ without n ys

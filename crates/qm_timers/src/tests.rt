@@ -11,6 +11,7 @@ fn moment(hundredths: u64) -> Moment {
 fn timers_are_due_in_order_of_moments_and_numbers(rt: HostRuntime) -> Result<(), Fail> {
     let mut timers = Timers::new(rt.alloc());
     for (at, number) in [(30, 4), (10, 7), (20, 9), (10, 2), (40, 1)] {
+        assert!(rt; !timers.remove(number));
         timers.reserve()?;
         timers.insert(moment(at), number);
     }

@@ -84,6 +84,7 @@ impl Timers {
     pub fn remove(&mut self, number: u32) -> bool
         ensures found { result ≡ is_some (timer_of number self.old.timers) }
         ensures timers { self.new.timers ≡ without number self.old.timers }
+        ensures gone { timer_of number self.new.timers ≡ None }
         ensures spare { self.new.spare ≡ (if result then self.old.spare + 1 else self.old.spare) }
         ensures in_order { IsInOrder self.new.timers }
     {

@@ -1,6 +1,6 @@
-use Rattle.std.proofs.Common.{◌≡◌, ℕ, ◌-◌, min, List, None, ap, sym, ◌∙◌, arith, vec_len, vec_capacity}
-use Rattle.qm_timers.specs.Timers.{Waiting, is_before, inserted_by, timer_of, IsInOrder}
-use Rattle.qm_timers.specs.Kept.{has_less, AreKept}
+use Rattle.std.proofs.Common.{ℕ, List, ap, ◌∙◌, arith}
+use Rattle.qm_timers.specs.Timers.{Waiting, is_before, inserted_by}
+use Rattle.qm_timers.specs.Kept.{has_less}
 use Rattle.qm_timers.proofs.Orders.{insert-is}
 use Rattle.qm_timers.proofs.Keeping.{kept_inserted, waiting_is}
 use Rattle.qm_timers.proofs.timers.Timers.insert.Goals as goal
