@@ -28,8 +28,8 @@ module _ {D : Type 0} (m : Meaning D) where
   TakesNotAll run blocks old new = (count : ℕ) × (count < length blocks) × Takes run (take count blocks) old new
 
   -- one call failed: the count of faults is one more, or stands at the end of its type
-  abbrev pub Rose : D → D → Type 0
-  Rose old new = m.faults new ≡ min (m.faults old + 1) (2 ^ 64 - 1)
+  abbrev pub OneFailed : D → D → Type 0
+  OneFailed old new = m.faults new ≡ min (m.faults old + 1) (2 ^ 64 - 1)
 
   -- no call failed
   abbrev pub IsQuiet : D → D → Type 0
@@ -37,5 +37,5 @@ module _ {D : Type 0} (m : Meaning D) where
 
   -- Where a fault is told one call failed, and where none is told none did: no fault is hidden or tried again.
   pub record TellsFaults (old new : D) (told : Type 0) : Type 0 where
-    pub fault : told → Rose old new
+    pub fault : told → OneFailed old new
     pub quiet : (told → ⊥) → IsQuiet old new

@@ -4,7 +4,7 @@ use Rattle.qm_kinds.specs.declared.work.Work.{Work}
 use Rattle.qm_kinds.specs.declared.work.Report.{Report}
 use Rattle.qm_kinds.specs.declared.work.Report.TheVariants.{Done}
 use Rattle.qm_model.specs.Reports.{Step, next_report, blocks_before_report}
-use Rattle.qm_symb.specs.Device.{Meaning, Takes, TakesSome, TakesNotAll, Rose, IsQuiet}
+use Rattle.qm_symb.specs.Device.{Meaning, Takes, TakesSome, TakesNotAll, OneFailed, IsQuiet}
 use Rattle.qm_symb.specs.declared.symbiont.TheConstants.{DEVICE_FAULT_STATUS, TEXT_BYTES}
 
 -- a page has a row and a column between its margins, and the text isn't too long
@@ -24,7 +24,7 @@ module _ {D : Type 0} (m : Meaning D) where
   pub record Fails (run : ℕ) (course : List Step) (report : Report) (old new : D) : Type 0 where
     pub ended : report ≡ Done DEVICE_FAULT_STATUS
     pub blocks : TakesNotAll m run (blocks_before_report course) old new
-    pub rose : Rose m old new
+    pub rose : OneFailed m old new
 
   -- a step that gives a report
   abbrev pub Steps : ℕ → List Step → Report → D → D → Type 0
