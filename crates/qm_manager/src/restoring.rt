@@ -1,9 +1,10 @@
 // How the records of a queue file become the image of a system.
-ghost use Rattle.std.specs.Prelude.{◌≡◌, ◌↔◌, ◌≤◌, ◌<◌, ◌&&◌, ℕ, List, nat_le, nat_lt, if◌then◌else◌, length, slice_get, Some, None, true, false, IfSome, IfOk, IfErr, OnOk};
+ghost use Rattle.std.specs.Prelude.{◌≡◌, ◌↔◌, ◌≤◌, ◌<◌, ◌&&◌, ℕ, List, nat_le, nat_lt, if◌then◌else◌, length, slice_get, Some, None, true, false, IsSome, IfSome, IsErr, IsErrOf, IfOk, IfErr, OnOk};
 ghost use Rattle.qm_kinds.specs.declared.record.Record.{Record as AnyRecord};
 ghost use Rattle.qm_bytes.specs.Laws.{Spells};
 ghost use Rattle.qm_bytes.specs.Spelling.{IsName};
 ghost use Rattle.qm_record.specs.Spelling.{record_text, CanBeWritten, HasSpelling};
+ghost use Rattle.qm_record.specs.Faults.{IsRecord};
 ghost use Rattle.qm_model.specs.Built.{is_built};
 ghost use Rattle.qm_state.specs.Image.{system_of};
 ghost use Rattle.qm_store.specs.Store.{bodies_of};
@@ -65,6 +66,7 @@ fn read_at<D: Disk>(store: &Open<D>, index: usize) -> Result<Record, RestoreEnd>
     ensures found { (body : List ℕ) → slice_get (bodies_of store.now) index ≡ Some body → IfOk result (λ r. Spells HasSpelling record_text r body) }
     ensures only { (body : List ℕ) (r : AnyRecord) → slice_get (bodies_of store.now) index ≡ Some body → HasSpelling r → body ≡ record_text r → IsRead r result }
     ensures place { IfErr result (IsAt index) }
+    ensures no_memory { (body : List ℕ) → slice_get (bodies_of store.now) index ≡ Some body → IsErrOf result RestoreEnd.NoMemory → IsRecord body }
 {
     match store.record(index) {
         Ok(record) => Ok(record),
@@ -129,6 +131,8 @@ fn can_act(image: &Image, moment: Moment, node: u8, request: &Request) -> bool
 fn replay(image: &mut Image, what: &Record) -> Result<bool, AllocError>
     ensures nodes { (system_of image.new).nodes ≡ (system_of image.old).nodes }
     ensures done { IfOk result (λ done. after_record (system_of image.old) what.now ≡ (if done then Some (system_of image.new) else None)) }
+    // Memory is wanted for what can stand there alone.
+    ensures no_memory { IsErr result → IsSome (after_record (system_of image.old) what.now) }
 {
     let Body::Ask(request) = &what.body else {
         return Ok(false);
