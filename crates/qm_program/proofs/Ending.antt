@@ -1,5 +1,5 @@
 -- What each end of a run leaves, and its cause.
-use Rattle.std.proofs.Common.{◌≡◌, ◌⊎◌, ◌+◌, inl, inr, ⊎_elim, ℕ, List, Bool, true, false, Option, None, Some, Result, Ok, Err, IsTrue, IfSome, refl, sym, ◌∙◌, ap, subst, arith}
+use Rattle.std.proofs.Common.{◌≡◌, ◌⊎◌, ◌+◌, inl, inr, ⊎_elim, ℕ, List, Bool, true, false, Option, None, Some, Result, Ok, Err, IsOk, IsTrue, IfSome, refl, sym, ◌∙◌, ap, subst, arith}
 use Rattle.std.specs.Io.KnownBytes.{IsAtEnd}
 use Rattle.qm_disk.specs.Disk.{Meaning, OnlyLooks, IsQuiet, TellsFaults}
 use Rattle.qm_io.specs.Bytes.{LosesAtMost}
@@ -17,7 +17,7 @@ use Rattle.qm_manager.specs.Opened.{IsOpenFault}
 use Rattle.qm_manager.specs.Manager.{site_of, node_of, disk_of, IsReady}
 use Rattle.qm_program.specs.Transcript.{Step, steps_of}
 use Rattle.qm_program.specs.Course.{Outside, MakesSteps, StopsWithin, ServesNothing}
-use Rattle.qm_program.specs.Running.{IsRead, Reads, OfScript, IsFound, Serves, ServesTo, RunsTo, OthersStay, Counts, IsFaulty, IsOfAnother, HasCause, IsWithoutFault, HasSoundScript}
+use Rattle.qm_program.specs.Running.{IsRead, Reads, OfScript, HasScript, IsFound, Serves, ServesTo, RunsTo, OthersStay, Counts, IsFaulty, IsOfAnother, HasCause, IsWithoutFault, HasSoundScript}
 use Rattle.qm_program.specs.Serving.{CountsSink}
 use Rattle.qm_program.specs.Ends.{end_of, end_of_opening}
 use Rattle.qm_program.specs.declared.script.TheConstants.{SCRIPT_BYTES}
@@ -146,16 +146,16 @@ module _ {D : Type 0} (m : Meaning D) where
 
   -- a source whose script was served was read to its end
   pub reads_whole : (left rest : Option (List ℕ)) (lines : List ScriptLine) (old new : Outside D) (end : End) → ServesTo m lines old new end
-      → LosesAtMost (SCRIPT_BYTES + 1) left rest → IsAtEnd rest → Reads left rest end
-  reads_whole left rest lines old new ends.Ok serves lost at_end = at_end
-  reads_whole left rest lines old new ends.Usage serves lost at_end = absurd serves
-  reads_whole left rest lines old new ends.Read serves lost at_end = absurd serves
-  reads_whole left rest lines old new (ends.Script line kind) serves lost at_end = (lost, λ not. at_end)
-  reads_whole left rest lines old new ends.Write serves lost at_end = at_end
-  reads_whole left rest lines old new ends.Journal serves lost at_end = at_end
-  reads_whole left rest lines old new (ends.Unformatted byte) serves lost at_end = at_end
-  reads_whole left rest lines old new (ends.Damaged file place) serves lost at_end = at_end
-  reads_whole left rest lines old new ends.NoMemory serves lost at_end = inr at_end
+      → LosesAtMost (SCRIPT_BYTES + 1) left rest → IsAtEnd rest → HasScript left → Reads left rest end
+  reads_whole left rest lines old new ends.Ok serves lost at_end script = at_end
+  reads_whole left rest lines old new ends.Usage serves lost at_end script = absurd serves
+  reads_whole left rest lines old new ends.Read serves lost at_end script = absurd serves
+  reads_whole left rest lines old new (ends.Script line kind) serves lost at_end script = (lost, λ not. at_end)
+  reads_whole left rest lines old new ends.Write serves lost at_end script = at_end
+  reads_whole left rest lines old new ends.Journal serves lost at_end script = at_end
+  reads_whole left rest lines old new (ends.Unformatted byte) serves lost at_end script = at_end
+  reads_whole left rest lines old new (ends.Damaged file place) serves lost at_end script = at_end
+  reads_whole left rest lines old new ends.NoMemory serves lost at_end script = inr (at_end, script)
 
   -- what was read is a script, over which the run went on
   module _ (left : Option (List ℕ)) (text : List ℕ) (lines : List ScriptLine) (read : IsRead left text) (script : script_of text ≡ Ok lines) where
@@ -187,6 +187,14 @@ module _ {D : Type 0} (m : Meaning D) where
     script_cause tells file old new (ends.Unformatted byte) cause = cause
     script_cause tells file old new (ends.Damaged f place) cause = cause
     script_cause tells file old new ends.NoMemory cause = cause
+
+-- what was read is a script
+pub is_script : (left : Option (List ℕ)) (text : List ℕ) → IsRead left text → IsOk (script_of text) → HasScript left
+is_script left text read ok = of_result (script_of text) refl ok
+  where
+    of_result : (s : Result (List ScriptLine) ScriptKind) → script_of text ≡ s → IsOk s → HasScript left
+    of_result (Ok lines) is ok = record { text = text; lines = lines; read = read; script = is; so = tt }
+    of_result (Err kind) is ok = cc
 
 -- what was read is what the source had left
 pub read_text : (left : Option (List ℕ)) (items text : List ℕ) → IfSome left (λ bytes. items ≡ bytes) → text ≡ items → IsRead left text

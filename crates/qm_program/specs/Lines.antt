@@ -1,5 +1,5 @@
 -- The lines of a script, without where they lie in memory.
-use Rattle.std.specs.Prelude.{◌≡◌, ◌+◌, ◌==◌, ℕ, List, [], ◌∷◌, length, map, Option, None, Some, Result, Ok, Err}
+use Rattle.std.specs.Prelude.{◌≡◌, ◌+◌, ◌==◌, ℕ, List, [], ◌∷◌, length, map, Option, None, Some, Result, Ok, Err, IsOk}
 use Rattle.std.specs.Borrow.{Bor}
 use Rattle.std.specs.List.{slice_split}
 use Rattle.qm_kinds.specs.declared.script.ScriptKind.{ScriptKind}
@@ -29,8 +29,8 @@ CutsFirstLine text None = slice_split (λ b. b == 10) text ≡ text ∷ []
 CutsFirstLine text (Some parts) =
     (slice_split (λ b. b == 10) text ≡ parts.0 ∷ slice_split (λ b. b == 10) parts.1) × (length parts.0 + length parts.1 + 1 ≡ length text)
 
--- what was read, seen by view, is the script, unless memory ran out
+-- what was read, seen by view, is the script; or it is none; or it is one, for which memory ran out
 abbrev pub ReadsScript : {X : Type 0} → (X → List ScriptLine) → Result (List ScriptLine) ScriptKind → Result X ScriptEnd → Type 0
 ReadsScript view script (Ok lines) = script ≡ Ok (view lines)
 ReadsScript view script (Err (Fault kind)) = script ≡ Err kind
-ReadsScript view script (Err NoMemory) = Unit {0}
+ReadsScript view script (Err NoMemory) = IsOk script

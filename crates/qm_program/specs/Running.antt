@@ -41,8 +41,9 @@ pub record OfScript (left : Option (List ℕ)) (P : List ScriptLine → Type 0) 
 abbrev pub HasScript : Option (List ℕ) → Type 0
 HasScript left = OfScript left (λ lines. Unit {0})
 
--- What a run leaves of its source, by its end: it was read to its end, but where it failed, where memory ran out within a
--- script, and where there was more than a script may have. Then one byte more tells so, and no other is read.
+-- What a run leaves of its source, by its end: it was read to its end, but where it failed, where memory ran out within the
+-- bytes that a script may have, and where there was more. Then one byte more tells so, and no other is read. Behind the whole
+-- text memory runs out for a script alone.
 abbrev pub Reads : Option (List ℕ) → Option (List ℕ) → End → Type 0
 Reads left rest ends.Ok = IsAtEnd rest
 Reads left rest ends.Usage = ⊥
@@ -52,7 +53,7 @@ Reads left rest ends.Write = IsAtEnd rest
 Reads left rest ends.Journal = IsAtEnd rest
 Reads left rest (ends.Unformatted byte) = IsAtEnd rest
 Reads left rest (ends.Damaged file place) = IsAtEnd rest
-Reads left rest ends.NoMemory = LosesSome SCRIPT_BYTES left rest ⊎ IsAtEnd rest
+Reads left rest ends.NoMemory = LosesSome SCRIPT_BYTES left rest ⊎ (IsAtEnd rest × HasScript left)
 
 -- ---- what is served
 

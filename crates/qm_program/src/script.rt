@@ -1,5 +1,5 @@
 // A script: lines for the nodes of a site, each ended by a line feed.
-ghost use Rattle.std.specs.Prelude.{◌≡◌, ◌==◌, ◌+◌, ◌<◌, ◌≤◌, ◌∷◌, [], not, nat_lt, map, length, position, Ok, Err, IsOk, IfOk, IfSome, MatchOption, MatchResult};
+ghost use Rattle.std.specs.Prelude.{◌≡◌, ◌==◌, ◌+◌, ◌<◌, ◌≤◌, ◌∷◌, [], not, nat_lt, map, length, position, Ok, Err, IsOk, IfOk, IfErr, OnOk, IfSome, MatchOption, MatchResult};
 ghost use Rattle.std.specs.List.{list_all, slice_split};
 ghost use Rattle.std.specs.Option.{option_map, option_copied};
 ghost use Rattle.std.specs.Str.{bytes_eq};
@@ -7,7 +7,7 @@ ghost use Rattle.qm_kinds.specs.declared.script.ScriptKind.TheVariants.{Form};
 ghost use Rattle.qm_model.specs.Command.{cut_at_blank};
 ghost use Rattle.qm_model.specs.Script.{is_line_byte, node_name_of, sorted, line_of, script_of, are_of_node};
 ghost use Rattle.qm_program.specs.Lines.{line_view, lines_view, parts_view, CutsFirstLine, ReadsScript};
-ghost use Rattle.qm_program.specs.declared.script.ScriptEnd.TheVariants.{NoMemory};
+ghost use Rattle.qm_program.specs.declared.script.ScriptEnd.TheVariants.{Fault, NoMemory};
 
 use qm_kinds::{NODE_NAME_BYTES, Name, ScriptKind};
 use std::alloc::{AllocError, AllocFailed, Global};
@@ -40,6 +40,14 @@ pub(crate) struct Line<'a> {
 pub(crate) enum ScriptEnd {
     Fault(ScriptKind),
     NoMemory,
+}
+
+impl From<ScriptKind> for ScriptEnd {
+    ghost from_gives = { λ kind end. end ≡ Fault kind };
+
+    fn from(kind: ScriptKind) -> ScriptEnd {
+        ScriptEnd::Fault(kind)
+    }
 }
 
 impl From<AllocError> for ScriptEnd {
@@ -145,11 +153,36 @@ pub(crate) fn are_of_node(node: &Name, lines: &[Line<'_>]) -> bool
     true
 }
 
-/// The lines of a script that aren't empty.
+// Whether the text is a script. It takes no memory.
+fn check_script(script: &[u8]) -> Result<(), ScriptKind>
+    requires { length script.now ≤ SCRIPT_BYTES }
+    ensures script { OnOk result (IsOk (script_of script.now)) }
+    ensures fault { IfErr result (λ kind. script_of script.now ≡ Err kind) }
+{
+    let mut rest = script;
+    let mut at_line = 1;
+    while let Some((text, more)) = cut_at_line_feed(rest) {
+        if !text.is_empty() {
+            let Some(_) = read_line(at_line, text) else {
+                return Err(ScriptKind::Form);
+            };
+        }
+        rest = more;
+        at_line += 1;
+    }
+    if rest.is_empty() {
+        Ok(())
+    } else {
+        Err(ScriptKind::Form)
+    }
+}
+
+/// The lines of a script that aren't empty. Memory is wanted for a script alone.
 pub(crate) fn read_script<'a>(alloc: Global, script: &'a [u8]) -> Result<Vec<Line<'a>>, ScriptEnd>
     requires { length script.now ≤ SCRIPT_BYTES }
     ensures { ReadsScript (λ lines. lines_view lines.items) (script_of script.now) result }
 {
+    check_script(script)?;
     let mut lines = Vec::new(alloc);
     let mut rest = script;
     let mut number = 1;
