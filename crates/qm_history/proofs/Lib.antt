@@ -16,5 +16,6 @@ pub mod TwoNodes
 pub mod TwoNodesLegal
 pub mod StretchLemmas
 pub mod AgainLemmas
+pub mod GivenLemmas
 pub mod ConsecutiveLemmas
 pub mod OneCourse

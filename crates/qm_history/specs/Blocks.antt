@@ -2,16 +2,23 @@
 -- OpenVMS System Manager's Manual, Setting Up and Maintaining Queues, on jobs that restart at a checkpoint.
 use Rattle.std.specs.Prelude.{◌≡◌, ◌⊎◌, ℕ, ◌<◌, ◌≤◌, ◌==◌, Bool, ◌&&◌, if◌then◌else◌, List, [], ◌∷◌, ◌++◌, map, find, take, drop, slice_get, Option, None, Some, Contains}
 use Rattle.std.specs.List.{AllByRecursion}
+use Rattle.qm_kinds.specs.declared.entry.Entry.{Entry}
 use Rattle.qm_kinds.specs.declared.entry.JobKind.TheVariants.{Print}
+use Rattle.qm_kinds.specs.declared.system.System.{System}
 use Rattle.qm_kinds.specs.declared.work.Duty.{Duty}
 use Rattle.qm_kinds.specs.declared.work.Report.TheVariants as report
 use Rattle.qm_kinds.specs.declared.work.Work.{Work}
+use Rattle.qm_model.specs.Duties.{run_number, work_of}
 use Rattle.qm_model.specs.Pages.{page_blocks}
 use Rattle.qm_model.specs.Reports.{begin, course, blocks_before_report}
 use Rattle.qm_history.specs.declared.call.Answer.{Answer}
 use Rattle.qm_history.specs.declared.call.Answer.TheVariants as answer
+use Rattle.qm_history.specs.declared.event.Event.{Event}
+use Rattle.qm_history.specs.declared.world.World.{World}
 use Rattle.qm_history.specs.Course.{KeptRun, MadeStep, StepEnd, WentOn, DeviceFailed, CutShort, report_told, answered}
+use Rattle.qm_history.specs.Step.{after_event}
 use Rattle.qm_history.specs.Visits.{Visit}
+use Rattle.qm_history.specs.World.{system_in}
 
 -- ---- what steps hand over
 
@@ -75,6 +82,20 @@ Gives replied run work = ⊥
 -- the fetch that gave the run to the node is one of these turns, and showed this work
 abbrev pub IsGiven : List Visit → KeptRun → Type 0
 IsGiven visits k = (v : Visit) × (slice_get visits k.fetched ≡ Some v) × Gives (answered v) k.run k.work
+
+-- the world in which the last one of some events comes
+abbrev pub world_at_last : World → List Event → World
+world_at_last w [] = w
+world_at_last w (e ∷ []) = w
+world_at_last w (e ∷ next ∷ events) = world_at_last (after_event w e) (next ∷ events)
+
+-- the system that a fetch shows
+abbrev pub system_shown : Visit → System
+system_shown v = system_in (world_at_last v.before v.turn.events)
+
+-- the work is that of an entry of the system, as it is there, with the mark that was recorded last
+abbrev pub IsWorkOf : System → ℕ → Work → Type 0
+IsWorkOf s run work = (e : Entry) × Contains s.entries e × (run ≡ run_number e) × (work ≡ work_of s e)
 
 -- the last step of a run, of steps of which the last one comes first
 abbrev pub last_step : ℕ → List MadeStep → Option MadeStep

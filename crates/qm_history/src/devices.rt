@@ -4,13 +4,14 @@ ghost use Rattle.std.specs.List.{AllByRecursion};
 ghost use Rattle.qm_kinds.specs.declared.entry.JobKind.TheVariants.{Print};
 ghost use Rattle.qm_kinds.specs.declared.input.Input.{Input};
 ghost use Rattle.qm_kinds.specs.declared.work.Report.TheVariants.{Done};
+ghost use Rattle.qm_kinds.specs.declared.work.Work.{Work};
 ghost use Rattle.qm_model.specs.Batch.{normal_status};
 ghost use Rattle.qm_model.specs.Pages.{page_blocks};
 ghost use Rattle.qm_history.specs.Script.{UserLine};
 ghost use Rattle.qm_history.specs.declared.turn.Turn.{Turn};
 ghost use Rattle.qm_history.specs.declared.world.World.{World};
-ghost use Rattle.qm_history.specs.Blocks.{AreFirst, AreHanded, HandsOver, IsGiven, ComeInStretches, ComeAgainBehindMarks, blocks_behind_mark, blocks_of_stretch};
-ghost use Rattle.qm_history.specs.Course.{Extent, IsCourse, KeptRun, MadeStep, WentOn, report_told};
+ghost use Rattle.qm_history.specs.Blocks.{AreFirst, AreHanded, HandsOver, Gives, IsGiven, IsWorkOf, ComeInStretches, ComeAgainBehindMarks, blocks_behind_mark, blocks_of_stretch, system_shown};
+ghost use Rattle.qm_history.specs.Course.{Extent, IsCourse, KeptRun, MadeStep, WentOn, answered, report_told};
 ghost use Rattle.qm_history.specs.Visits.{Visit, visits_of};
 
 use crate::format::Format;
@@ -27,6 +28,12 @@ pub fn steps_come_in_stretches<F: Format>()
 {
     print_jobs_report_each_block();
 }
+
+/// The work that a fetch shows is that of an entry of the system, as it is there: with the mark that was recorded last, and
+/// whether it runs again.
+pub fn fetches_show_recorded_marks()
+    ensures { (v : Visit) (run : ℕ) (work : Work) → Gives (answered v) run work → IsWorkOf (system_shown v) run work }
+{}
 
 /// Where steps come in stretches, the blocks of each stretch of a print job are the first ones behind the mark with which it was
 /// fetched, one behind another. Where its symbiont told that the run ended with status 1, they are all of these.

@@ -19,7 +19,8 @@ mod world;
 pub use call::{Answer, Call, Takeover};
 pub use crashes::{crashes_leave_a_beginning, turns_have_one_event_or_two};
 pub use devices::{
-    blocks_come_again_behind_marks, steps_come_in_stretches, stretches_are_consecutive,
+    blocks_come_again_behind_marks, fetches_show_recorded_marks, steps_come_in_stretches,
+    stretches_are_consecutive,
 };
 pub use entries::submitted_entries_stay;
 pub use event::Event;
@@ -33,7 +34,9 @@ pub use histories::{
     other_epochs_are_fenced, texts_follow_turns,
 };
 pub use marks::entries_have_their_last_marks;
-pub use sound::{sound_worlds_are_consistent, worlds_stay_sound};
+pub use sound::{
+    sound_worlds_are_consistent, worlds_on_queue_files_stay_sound, worlds_stay_sound,
+};
 pub use start::programs_begin_sound;
 pub use turn::{Turn, Why};
 pub use world::{Role, World};

@@ -3,6 +3,7 @@ ghost use Rattle.std.specs.Prelude.{◌≡◌, List, All, count_by};
 ghost use Rattle.std.specs.Str.{bytes_eq};
 ghost use Rattle.qm_model.specs.Consistent.{IsConsistent};
 ghost use Rattle.qm_model.specs.Standing.{stands_in};
+ghost use Rattle.qm_record.specs.Spelling.{HasSpelling};
 ghost use Rattle.qm_history.specs.declared.event.Event.{Event};
 ghost use Rattle.qm_history.specs.declared.turn.Turn.{Turn};
 ghost use Rattle.qm_history.specs.declared.world.World.{World};
@@ -10,7 +11,7 @@ ghost use Rattle.qm_history.specs.Legal.{after_turns, IsLegal};
 ghost use Rattle.qm_history.specs.Step.{after_event, after_events, CanCome, CanAllCome};
 ghost use Rattle.qm_history.specs.World.{system_in, IsSound};
 
-use crate::format::Format;
+use crate::format::{Format, QueueFile};
 use qm_model::{entries_stand_in_one_queue, nodes_keep_their_names, requests_keep_consistent};
 
 /// A sound world stays sound at every event that may come, and so at every turn and through a whole legal history.
@@ -20,6 +21,14 @@ pub fn worlds_stay_sound<F: Format>()
     ensures history { (w : World) (turns : List Turn) → IsSound F.has_spelling w → IsLegal F.has_spelling w turns → IsSound F.has_spelling (after_turns w turns) }
 {
     nodes_keep_their_names();
+}
+
+/// A sound world whose records are spelled as in the queue file stays sound through a whole legal history. Other laws hold of
+/// the queue file in the same way.
+pub fn worlds_on_queue_files_stay_sound()
+    ensures { (w : World) (turns : List Turn) → IsSound HasSpelling w → IsLegal HasSpelling w turns → IsSound HasSpelling (after_turns w turns) }
+{
+    worlds_stay_sound::<QueueFile>();
 }
 
 /// The system of a sound world is consistent, so each of its entries stands in exactly one queue.
