@@ -17,8 +17,8 @@ use Rattle.qm_history.specs.declared.call.Answer.{Answer}
 use Rattle.qm_history.specs.declared.call.Answer.TheVariants as answer
 use Rattle.qm_history.specs.declared.world.World.{World}
 use Rattle.qm_history.specs.declared.turn.Turn.{Turn}
-use Rattle.qm_history.specs.Blocks.{last_step, Gives, IsGiven, IsFetchedBehind, IsLeftBy, IsInStretch, ComeInStretches}
-use Rattle.qm_history.specs.Course.{KeptRun, NodeState, MadeStep, NextTurn, Extent, IsCourse, GoesOn, Follows, ALine, AStep, AFetch, ALeave, NoTurn, run_kept, kept_of, kept_after, moved_to, without_run, is_marked, behind_mark, behind_report, behind_step, behind_line, behind_step_line, behind_fetch, next_at, own_stage, answered, is_live_behind, at_first, report_told, Over}
+use Rattle.qm_history.specs.Blocks.{broken_step, all_steps, last_step, Gives, IsGiven, IsFetchedBehind, IsLeftBy, IsInStretch, ComeInStretches}
+use Rattle.qm_history.specs.Course.{KeptRun, NodeState, MadeStep, NextTurn, Extent, Whole, Begun, IsBrokenOff, next_run, IsCourse, GoesOn, Follows, ALine, AStep, AFetch, ALeave, NoTurn, run_kept, kept_of, kept_after, moved_to, without_run, is_marked, behind_mark, behind_report, behind_step, behind_line, behind_step_line, behind_fetch, next_at, own_stage, answered, is_live_behind, at_first, report_told, Over}
 use Rattle.qm_history.specs.Script.{UserLine, steps_asked}
 use Rattle.qm_history.specs.Visits.{Visit, visits_of}
 
@@ -265,13 +265,30 @@ pub record AreGood (all : List Visit) (earlier steps : List MadeStep) : Type 0 w
   pub stretches : ComeInStretches earlier steps
   pub given : AllByRecursion (λ (m : MadeStep). IsGiven all m.run) steps
 
+next_kept : (P : KeptRun → Type 0) (n : NodeState) (next : NextTurn) → AllByRecursion P n.runs → IfSome (next_run n next) P
+next_kept P n (AStep run round) all = found P run n.runs all
+next_kept P n (ALine l lines) all = tt
+next_kept P n AFetch all = tt
+next_kept P n ALeave all = tt
+next_kept P n NoTurn all = tt
+
+-- the step within which a course broke off
+broken_good : (extent : Extent) (n : NodeState) (before : List Visit) (earlier : List MadeStep) (next : NextTurn) (broken : Option KeptRun) → IsSoFar n before earlier
+    → IsBrokenOff extent (next_run n next) broken → AreGood (before ++ []) earlier (broken_step broken)
+broken_good extent n before earlier next None so h = record { stretches = tt; given = tt }
+broken_good Whole n before earlier next (Some k) so h = absurd h
+broken_good Begun n before earlier next (Some k) so h = record {
+  stretches = (found_is (IsInStretch earlier) (next_run n next) k h.0 (next_kept (IsInStretch earlier) n next so.stretch), tt);
+  given = (given_later before [] k (found_is (IsGiven before) (next_run n next) k h.0 (next_kept (IsGiven before) n next so.given)), tt);
+}
+
 module _ (HasSpelling : Record → Type 0) (read : UserLine → ℕ → List Visit → List ℕ → Input) (extent : Extent) (broken : Option KeptRun) where
   follows_on : (all : List Visit) (n : NodeState) (before : List Visit) (v : Visit) (others : List Visit) (steps : List MadeStep) (earlier : List MadeStep) (next : NextTurn) → IsSoFar n before earlier
       → ((k : KeptRun) → IsGiven before k → IsGiven all k)
       → ((after : NodeState) (left : List MadeStep) (earlier : List MadeStep) → IsSoFar after (before ++ v ∷ []) earlier
-      → GoesOn HasSpelling read extent broken after (before ++ v ∷ []) (is_live_behind v) others left → AreGood all earlier left)
+      → GoesOn HasSpelling read extent broken after (before ++ v ∷ []) (is_live_behind v) others left → AreGood all earlier (left ++ broken_step broken))
       → Follows HasSpelling read extent broken n before steps v others (λ after left. GoesOn HasSpelling read extent broken after (before ++ v ∷ []) (is_live_behind v) others left) next
-      → AreGood all earlier steps
+      → AreGood all earlier (steps ++ broken_step broken)
   follows_on all n before v others steps earlier (ALine l lines) so later on h =
       on (behind_line (length before) n lines (steps_asked l.line.sort l.line.text) (answered v)) steps earlier
       (record {
@@ -282,7 +299,7 @@ module _ (HasSpelling : Record → Type 0) (read : UserLine → ℕ → List Vis
   follows_on all n before v others [] earlier (AStep run round) so later on h = absurd h
   follows_on all n before v others (m ∷ steps) earlier (AStep run round) so later on h =
       let given : IsGiven before m.run = found_is (IsGiven before) (run_kept run n.runs) m.run h.0.0 (found (IsGiven before) run n.runs so.given) in
-      let rest : AreGood all (m ∷ earlier) steps =
+      let rest : AreGood all (m ∷ earlier) (steps ++ broken_step broken) =
       on (behind_step n m.run round (report_told m.run m.end) (answered v)) steps (m ∷ earlier)
       (record {
         stretch = stepped n m earlier round (report_told m.run m.end) (answered v) refl so.stretch;
@@ -307,20 +324,21 @@ module _ (HasSpelling : Record → Type 0) (read : UserLine → ℕ → List Vis
   follows_on all n before v others steps earlier NoTurn so later on h = absurd h
 
   pub good : (visits : List Visit) (n : NodeState) (before : List Visit) (live : Bool) (steps : List MadeStep) (earlier : List MadeStep) → IsSoFar n before earlier
-      → GoesOn HasSpelling read extent broken n before live visits steps → AreGood (before ++ visits) earlier steps
-  good [] n before live steps earlier so h = subst (λ xs. AreGood (before ++ []) earlier xs) (sym h.1) (record { stretches = tt; given = tt })
+      → GoesOn HasSpelling read extent broken n before live visits steps → AreGood (before ++ visits) earlier (steps ++ broken_step broken)
+  good [] n before live steps earlier so h =
+      subst (λ xs. AreGood (before ++ []) earlier (xs ++ broken_step broken)) (sym h.1) (broken_good extent n before earlier (next_at live n n.stage) broken so h.2)
   good (v ∷ others) n before live steps earlier so h =
       follows_on (before ++ v ∷ others) n before v others steps earlier (next_at live n n.stage) so (given_later before (v ∷ others))
-      (λ after left more sound goes. subst (λ vs. AreGood vs more left) (append_assoc before (v ∷ []) others) (good others after (before ++ v ∷ []) (is_live_behind v) left more sound goes)) h
+      (λ after left more sound goes. subst (λ vs. AreGood vs more (left ++ broken_step broken)) (append_assoc before (v ∷ []) others) (good others after (before ++ v ∷ []) (is_live_behind v) left more sound goes)) h
 
 module _ (HasSpelling : Record → Type 0) (read : UserLine → ℕ → List Visit → List ℕ → Input) (extent : Extent) where
-  course_good : (w : World) (turns : List Turn) (node : ℕ) (lines : List UserLine) (faults : ℕ) → (h : IsCourse HasSpelling read extent w turns node lines faults) → AreGood (visits_of node w turns) [] h.steps
+  course_good : (w : World) (turns : List Turn) (node : ℕ) (lines : List UserLine) (faults : ℕ) → (h : IsCourse HasSpelling read extent w turns node lines faults) → AreGood (visits_of node w turns) [] (all_steps h.steps h.broken)
   course_good w turns node lines faults h =
       good HasSpelling read extent h.broken (visits_of node w turns) (at_first lines) [] _ h.steps [] (record { stretch = tt; given = tt; made = tt }) h.turns_are
 
-  pub course_stretches : (w : World) (turns : List Turn) (node : ℕ) (lines : List UserLine) (faults : ℕ) → (h : IsCourse HasSpelling read extent w turns node lines faults) → ComeInStretches [] h.steps
+  pub course_stretches : (w : World) (turns : List Turn) (node : ℕ) (lines : List UserLine) (faults : ℕ) → (h : IsCourse HasSpelling read extent w turns node lines faults) → ComeInStretches [] (all_steps h.steps h.broken)
   course_stretches w turns node lines faults h = let all = course_good w turns node lines faults h in all.stretches
 
   pub course_given : (w : World) (turns : List Turn) (node : ℕ) (lines : List UserLine) (faults : ℕ) → (h : IsCourse HasSpelling read extent w turns node lines faults)
-      → AllByRecursion (λ (m : MadeStep). IsGiven (visits_of node w turns) m.run) h.steps
+      → AllByRecursion (λ (m : MadeStep). IsGiven (visits_of node w turns) m.run) (all_steps h.steps h.broken)
   course_given w turns node lines faults h = let all = course_good w turns node lines faults h in all.given

@@ -44,10 +44,14 @@ AreHanded [] (blocks ∷ handed) = ⊥
 AreHanded (m ∷ steps) [] = ⊥
 AreHanded (m ∷ steps) (blocks ∷ handed) = HandsOver m.run m.end blocks × AreHanded steps handed
 
--- a step that broke off handed over the first ones of its blocks
-abbrev pub IsHandedAtEnd : Option KeptRun → List (List ℕ) → Type 0
-IsHandedAtEnd None blocks = blocks ≡ []
-IsHandedAtEnd (Some k) blocks = AreFirst blocks (blocks_next k)
+-- a step within which a course broke off, of which no more is known than of one whose device failed
+abbrev pub broken_step : Option KeptRun → List MadeStep
+broken_step None = []
+broken_step (Some k) = record { run = k; end = DeviceFailed } ∷ []
+
+-- the steps of a course, and the one within which it broke off
+abbrev pub all_steps : List MadeStep → Option KeptRun → List MadeStep
+all_steps steps broken = steps ++ broken_step broken
 
 -- a block, and the run that handed it over
 abbrev pub of_run : ℕ → List (List ℕ) → List (ℕ × List ℕ)
@@ -59,18 +63,11 @@ in_order [] handed = []
 in_order (m ∷ steps) [] = []
 in_order (m ∷ steps) (blocks ∷ handed) = of_run m.run.run blocks ++ in_order steps handed
 
--- the blocks of a step that broke off
-abbrev pub of_broken : Option KeptRun → List (List ℕ) → List (ℕ × List ℕ)
-of_broken None blocks = []
-of_broken (Some k) blocks = of_run k.run blocks
-
 -- what a device got in a course of these steps, and in one more where the course broke off within it
 pub record IsGot (steps : List MadeStep) (broken : Option KeptRun) (got : List (ℕ × List ℕ)) : Type 0 where
   pub handed : List (List (List ℕ))
-  pub last : List (List ℕ)
-  pub are_handed : AreHanded steps handed
-  pub last_handed : IsHandedAtEnd broken last
-  pub got_is : got ≡ in_order steps handed ++ of_broken broken last
+  pub are_handed : AreHanded (all_steps steps broken) handed
+  pub got_is : got ≡ in_order (all_steps steps broken) handed
 
 -- ---- stretches
 

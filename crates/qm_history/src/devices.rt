@@ -10,20 +10,20 @@ ghost use Rattle.qm_model.specs.Pages.{page_blocks};
 ghost use Rattle.qm_history.specs.Script.{UserLine};
 ghost use Rattle.qm_history.specs.declared.turn.Turn.{Turn};
 ghost use Rattle.qm_history.specs.declared.world.World.{World};
-ghost use Rattle.qm_history.specs.Blocks.{AreFirst, AreHanded, HandsOver, Gives, IsGiven, IsWorkOf, ComeInStretches, ComeAgainBehindMarks, blocks_behind_mark, blocks_of_stretch, system_shown};
+ghost use Rattle.qm_history.specs.Blocks.{AreFirst, AreHanded, HandsOver, Gives, IsGiven, IsWorkOf, all_steps, ComeInStretches, ComeAgainBehindMarks, blocks_behind_mark, blocks_of_stretch, system_shown};
 ghost use Rattle.qm_history.specs.Course.{Extent, IsCourse, KeptRun, MadeStep, WentOn, answered, report_told};
 ghost use Rattle.qm_history.specs.Visits.{Visit, visits_of};
 
 use crate::format::Format;
 use qm_model::print_jobs_report_each_block;
 
-/// The steps that a node makes for its runs come in stretches, one for each fetch that gave a run to the node. The first step
-/// of each begins behind the mark with which the work was fetched, and each other one at the checkpoint of the step of that
-/// run before it. A step of a print run hands over the next block of its pages, if one is left. So the blocks of a stretch are
-/// consecutive ones from behind the mark.
+/// The steps that a node makes for its runs, and the one within which its course broke off, come in stretches, one for each
+/// fetch that gave a run to the node. The first step of each begins behind the mark with which the work was fetched, and each
+/// other one at the checkpoint of the step of that run before it. A step of a print run hands over the next block of its
+/// pages, if one is left.
 pub fn steps_come_in_stretches<F: Format>()
-    ensures stretches { (read : UserLine → ℕ → List Visit → List ℕ → Input) (extent : Extent) (w : World) (turns : List Turn) (node : ℕ) (lines : List UserLine) (faults : ℕ) (h : IsCourse F.has_spelling read extent w turns node lines faults) → ComeInStretches [] h.steps }
-    ensures given { (read : UserLine → ℕ → List Visit → List ℕ → Input) (extent : Extent) (w : World) (turns : List Turn) (node : ℕ) (lines : List UserLine) (faults : ℕ) (h : IsCourse F.has_spelling read extent w turns node lines faults) → AllByRecursion (λ (m : MadeStep). IsGiven (visits_of node w turns) m.run) h.steps }
+    ensures stretches { (read : UserLine → ℕ → List Visit → List ℕ → Input) (extent : Extent) (w : World) (turns : List Turn) (node : ℕ) (lines : List UserLine) (faults : ℕ) (h : IsCourse F.has_spelling read extent w turns node lines faults) → ComeInStretches [] (all_steps h.steps h.broken) }
+    ensures given { (read : UserLine → ℕ → List Visit → List ℕ → Input) (extent : Extent) (w : World) (turns : List Turn) (node : ℕ) (lines : List UserLine) (faults : ℕ) (h : IsCourse F.has_spelling read extent w turns node lines faults) → AllByRecursion (λ (m : MadeStep). IsGiven (visits_of node w turns) m.run) (all_steps h.steps h.broken) }
     ensures next_block { (k : KeptRun) (blocks : List (List ℕ)) → k.work.kind ≡ Print → HandsOver k WentOn blocks → blocks ≡ take 1 (drop k.place.at (page_blocks k.work)) }
 {
     print_jobs_report_each_block();

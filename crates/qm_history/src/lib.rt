@@ -34,9 +34,7 @@ pub use histories::{
     other_epochs_are_fenced, texts_follow_turns,
 };
 pub use marks::entries_have_their_last_marks;
-pub use sound::{
-    sound_worlds_are_consistent, worlds_on_queue_files_stay_sound, worlds_stay_sound,
-};
+pub use sound::{sound_worlds_are_consistent, worlds_on_queue_files_stay_sound, worlds_stay_sound};
 pub use start::programs_begin_sound;
 pub use turn::{Turn, Why};
 pub use world::{Role, World};
