@@ -142,7 +142,7 @@ contains_last : (a : List Record) (r : Record) → Contains (a ++ r ∷ []) r
 contains_last [] r = (0, omega arith, refl)
 contains_last (x ∷ a) r = let further = contains_last a r in (suc further.0, omega (arith, further.1), further.2)
 
-stays_in : (a b : List Record) (r : Record) → Begins a b → Contains a r → Contains b r
+pub stays_in : (a b : List Record) (r : Record) → Begins a b → Contains a r → Contains b r
 stays_in a b r begins found = subst (λ x. Contains x r) (sym begins.1) (contains_front a begins.0 r found)
 
 in_event : (w : World) (e : Event) (r : Record) → acknowledged e ≡ Some r → Contains (after_event w e).log r

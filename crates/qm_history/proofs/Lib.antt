@@ -9,6 +9,7 @@ pub mod MarkLemmas
 pub mod EntryLemmas
 pub mod ShapeLemmas
 pub mod CrashLemmas
+pub mod AfterLemmas
 pub mod Serving
 pub mod Failover
 pub mod Doubts

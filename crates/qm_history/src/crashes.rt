@@ -1,12 +1,15 @@
 // What crashes leave of the log.
-ghost use Rattle.std.specs.Prelude.{◌≡◌, ◌⊎◌, ◌++◌, List, option_to_list};
+ghost use Rattle.std.specs.Prelude.{◌≡◌, ◌⊎◌, ◌++◌, ◌∷◌, [], ℕ, true, List, Some, Contains, option_to_list};
 ghost use Rattle.qm_kinds.specs.declared.record.Record.{Record};
+ghost use Rattle.qm_history.specs.declared.event.Event.{Event};
 ghost use Rattle.qm_history.specs.declared.turn.Turn.{Turn};
 ghost use Rattle.qm_history.specs.declared.world.World.{World};
 ghost use Rattle.qm_history.specs.Accepted.{IsAccepted};
-ghost use Rattle.qm_history.specs.Happening.{Begins, AreOneOrTwo};
+ghost use Rattle.qm_history.specs.Happening.{events_of, Begins, AreOneOrTwo, acknowledged, told_of_doubt};
 ghost use Rattle.qm_history.specs.Leaving.{MayBeLeft, MayBeLeftBehind};
-ghost use Rattle.qm_history.specs.Legal.{after_turn, IsLegalTurn};
+ghost use Rattle.qm_history.specs.Legal.{after_turn, after_turns, IsLegalTurn, IsLegal};
+ghost use Rattle.qm_history.specs.Start.{first_world};
+ghost use Rattle.qm_history.specs.Step.{after_events};
 ghost use Rattle.qm_history.specs.World.{IsSound};
 
 use crate::format::Format;
@@ -25,6 +28,16 @@ pub fn crashes_leave_a_beginning<F: Format>()
     ensures holds { (w : World) (t : Turn) (log : List Record) → MayBeLeft w t log → Begins w.log log }
     ensures beginning { (w : World) (t : Turn) (log : List Record) → IsLegalTurn F.has_spelling w t → MayBeLeft w t log → Begins log ((after_turn w t).log ++ option_to_list (after_turn w t).doubt) ⊎ (log ≡ w.log ++ option_to_list w.doubt) }
     ensures behind { (w : World) (log : List Record) → IsSound F.has_spelling w → MayBeLeftBehind w log → IsAccepted F.has_spelling log }
+{
+    nodes_keep_their_names();
+}
+
+/// A program that begins on what a crash within a turn left goes on from it: in a sound world, whose log holds the record of
+/// each request that was done before, of each takeover that stood, and each one in doubt that a reading had found.
+pub fn programs_go_on_after_crashes<F: Format>()
+    ensures sound { (w : World) (before : List Turn) (t : Turn) (log : List Record) (epoch : ℕ) → IsSound F.has_spelling w → IsLegal F.has_spelling w (before ++ t ∷ []) → MayBeLeft (after_turns w before) t log → IsSound F.has_spelling (first_world log epoch) }
+    ensures acknowledged { (w : World) (before : List Turn) (t : Turn) (log : List Record) (some : List Event) (e : Event) (others : List Event) (r : Record) → MayBeLeft (after_turns w before) t log → events_of before ≡ some ++ e ∷ others → acknowledged e ≡ Some r → Contains log r }
+    ensures kept { (w : World) (before : List Turn) (t : Turn) (log : List Record) (some : List Event) (e : Event) (others : List Event) (r : Record) → MayBeLeft (after_turns w before) t log → events_of before ≡ some ++ e ∷ others → (after_events w some).doubt ≡ Some r → told_of_doubt e ≡ Some true → Contains log r }
 {
     nodes_keep_their_names();
 }

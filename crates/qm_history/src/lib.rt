@@ -17,7 +17,9 @@ mod turn;
 mod world;
 
 pub use call::{Answer, Call, Takeover};
-pub use crashes::{crashes_leave_a_beginning, turns_have_one_event_or_two};
+pub use crashes::{
+    crashes_leave_a_beginning, programs_go_on_after_crashes, turns_have_one_event_or_two,
+};
 pub use devices::{
     blocks_come_again_behind_marks, fetches_show_recorded_marks, steps_come_in_stretches,
     stretches_are_consecutive,
