@@ -46,12 +46,18 @@ fn numbers_and_names_are_taken_at_a_place(rt: HostRuntime) {
         (1, Width::One, Some(1)),
         (FIELDS.len(), Width::One, None),
     ] {
-        let found = take_number(FIELDS, at, width);
-        assert_eq!(rt; found.map(|found| found.0), number);
+        let found = match take_number(FIELDS, at, width) {
+            Some((found, _next)) => Some(found),
+            None => None,
+        };
+        assert_eq!(rt; found, number);
     }
     for (at, next) in [(3, Some(9)), (0, None), (4, None)] {
-        let found = take_name(FIELDS, at);
-        assert_eq!(rt; found.map(|found| found.1), next);
+        let found = match take_name(FIELDS, at) {
+            Some((_name, found)) => Some(found),
+            None => None,
+        };
+        assert_eq!(rt; found, next);
     }
 }
 

@@ -7,6 +7,8 @@ mod commands;
 #[cfg(test)]
 mod fields;
 #[cfg(test)]
+mod names;
+#[cfg(test)]
 mod records;
 #[cfg(test)]
 mod shown;

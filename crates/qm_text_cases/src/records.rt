@@ -1,7 +1,8 @@
 // Records, as they stand in a queue file.
+use crate::names::name;
 use qm_kinds::{
-    Body, FileName, Form, Job, JobKind, JobRetain, Moment, Name, NameOrNumber, Record, Request,
-    Seq, Shape,
+    Body, FileName, Form, Job, JobKind, JobRetain, Moment, NameOrNumber, Record, Request, Seq,
+    Shape,
 };
 use qm_record::{RecordFault, read_record, write_record, write_request};
 use std::test::Fail;
@@ -59,21 +60,21 @@ fn records_are_read_whole(rt: HostRuntime) -> Result<(), Fail> {
 #[test]
 fn a_fault_is_told_with_its_first_place(rt: HostRuntime) {
     for (text, place) in [
-        (b"\x02\x14\0\0\0\0\0\0\0\0\0".as_slice(), 0),
-        (b"\x01\x63\0\0\0\0\0\0\0\0\0".as_slice(), 1),
+        ("\x02\x14\0\0\0\0\0\0\0\0\0", 0),
+        ("\x01\x63\0\0\0\0\0\0\0\0\0", 1),
         // A moment past the last.
-        (b"\x01\x14\0\0\0\0\0\x18\0\0\0".as_slice(), 7),
+        ("\x01\x14\0\0\0\0\0\x18\0\0\0", 7),
         // A byte behind the record.
-        (b"\x01\x14\0\0\0\0\0\0\0\0\0\0".as_slice(), 11),
+        ("\x01\x14\0\0\0\0\0\0\0\0\0\0", 11),
         // A row of an image has moment and node 0.
-        (b"\x01\x22\0\x01\0\0\0\0\0\0\0".as_slice(), 3),
-        (b"\x01\x22\0\0\0\0\0\0\0\0\x01".as_slice(), 10),
+        ("\x01\x22\0\x01\0\0\0\0\0\0\0", 3),
+        ("\x01\x22\0\0\0\0\0\0\0\0\x01", 10),
         // A truth value of 2: whether a file has a type.
-        (b"\x01\x01\0\0\0\0\0\0\0\0\0\x01A\x02".as_slice(), 13),
+        ("\x01\x01\0\0\0\0\0\0\0\0\0\x01A\x02", 13),
         // A small letter.
-        (b"\x01\x01\0\0\0\0\0\0\0\0\0\x01a\0".as_slice(), 12),
+        ("\x01\x01\0\0\0\0\0\0\0\0\0\x01a\0", 12),
     ] {
-        assert_eq!(rt; place_in(&rt, text), Some(place));
+        assert_eq!(rt; place_in(&rt, text.as_bytes()), Some(place));
     }
 }
 
@@ -81,8 +82,8 @@ fn a_fault_is_told_with_its_first_place(rt: HostRuntime) {
 fn bytes_of_a_file_are_written(rt: HostRuntime) -> Result<(), Fail> {
     let request = Request::Append {
         file: FileName {
-            name: Name::read(b"LOGIN")?,
-            extension: Some(Name::read(b"COM")?),
+            name: name(b"LOGIN"),
+            extension: Some(name(b"COM")),
         },
         bytes: Seq::of(vec![in rt.alloc(); 104, 105]?),
     };
@@ -93,26 +94,22 @@ fn bytes_of_a_file_are_written(rt: HostRuntime) -> Result<(), Fail> {
 
 #[test]
 fn a_job_is_written(rt: HostRuntime) -> Result<(), Fail> {
-    let name = Name::read(b"A")?;
-    let after = Moment::new(7);
+    let asked = vec![in rt.alloc(); NameOrNumber::Name(name(b"FAST")), NameOrNumber::Number(3)]?;
     let request = Request::Submit(Job {
-        user: Name::read(b"SMITH")?,
+        user: name(b"SMITH"),
         kind: JobKind::Print,
-        queue: Name::read(b"LP")?,
+        queue: name(b"LP"),
         file: FileName {
-            name,
+            name: name(b"A"),
             extension: None,
         },
-        name,
+        name: name(b"A"),
         priority: 100,
-        after,
+        after: Moment::new(7),
         hold: true,
-        retain: JobRetain::Until(after.unwrap_or(Moment::BASE)),
+        retain: JobRetain::Until(Moment::new(7).unwrap_or(Moment::BASE)),
         restart: false,
-        characteristics: Seq::of(vec![in rt.alloc();
-            NameOrNumber::Name(Name::read(b"FAST")?),
-            NameOrNumber::Number(3),
-        ]?),
+        characteristics: Seq::of(asked),
         form: Some(NameOrNumber::Number(513)),
         copies: 2,
         flag: true,
@@ -128,9 +125,9 @@ fn a_row_is_written(rt: HostRuntime) -> Result<(), Fail> {
         moment: Moment::BASE,
         node: 0,
         body: Body::Form(Form {
-            name: Name::read(b"DEFAULT")?,
+            name: name(b"DEFAULT"),
             number: 0,
-            stock: Name::read(b"PLAIN")?,
+            stock: name(b"PLAIN"),
             shape: Shape {
                 length: 66,
                 width: 132,

@@ -1,41 +1,43 @@
 // What is printed of rows, replies and refusals.
+use crate::names::name;
 use qm_kinds::{
     Act, Characteristic, CharacteristicSet, Entry, EntryState, FileName, Form, JobKind, JobRetain,
     Mark, Moment, Name, ParseKind, Queue, QueueKind, QueueRetain, QueueState, Refusal, Reply, Row,
     Seq, Shape, Start,
 };
 use qm_show::{Prefix, show_full, show_journal, show_refusal, show_reply, show_rows};
-use std::alloc::Global;
+use std::alloc::{AllocError, Global};
+use std::process::Abort;
 use std::test::Fail;
 
 // A started queue, on a device of a node with a form, or on a node, or on none.
-fn queue(alloc: Global, name: &[u8], kind: QueueKind, node: Option<Name>) -> Result<Row, Fail> {
-    Ok(Row::Queue(Queue {
-        name: Name::read(name)?,
+fn queue(alloc: Global, queue: &[u8], kind: QueueKind, node: Option<Name>) -> Row {
+    Row::Queue(Queue {
+        name: name(queue),
         kind,
         state: QueueState::Started,
         node,
-        device: Some(Name::read(b"LPA0")?),
+        device: Some(name(b"LPA0")),
         limit: 1,
         characteristics: CharacteristicSet::new(),
-        mounted: Some(Name::read(b"LETTER")?),
+        mounted: Some(name(b"LETTER")),
         lower: 1,
         upper: 9,
         by_size: false,
         retain: QueueRetain::Nothing,
         targets: Seq::new(alloc),
-    }))
+    })
 }
 
-fn entry(number: u32, name: &[u8], size: u32, state: EntryState) -> Result<Row, Fail> {
-    Ok(Row::Entry(Entry {
+fn entry(number: u32, job: &[u8], size: u32, state: EntryState) -> Row {
+    Row::Entry(Entry {
         number,
         kind: JobKind::Print,
-        home: Name::read(b"LPA")?,
-        name: Name::read(name)?,
-        user: Name::read(b"SMITH")?,
+        home: name(b"LPA"),
+        name: name(job),
+        user: name(b"SMITH"),
         file: FileName {
-            name: Name::read(b"F")?,
+            name: name(b"F"),
             extension: None,
         },
         size,
@@ -48,17 +50,21 @@ fn entry(number: u32, name: &[u8], size: u32, state: EntryState) -> Result<Row, 
         form: None,
         copies: 1,
         flag: false,
-        mark: Mark::new(b"")?,
+        mark: no_mark(),
         again: false,
         state,
-    }))
+    })
 }
 
-fn letter() -> Result<Row, Fail> {
-    Ok(Row::Form(Form {
-        name: Name::read(b"LETTER")?,
+fn no_mark() -> Mark {
+    Mark::new(b"").unwrap()
+}
+
+fn letter() -> Row {
+    Row::Form(Form {
+        name: name(b"LETTER"),
         number: 1,
-        stock: Name::read(b"WHITE")?,
+        stock: name(b"WHITE"),
         shape: Shape {
             length: 60,
             width: 132,
@@ -68,59 +74,75 @@ fn letter() -> Result<Row, Fail> {
             right: 0,
             wrap: false,
         },
-    }))
+    })
+}
+
+fn manager(alloc: Global) -> Result<Row, AllocError> {
+    let node = name(b"PLUTO");
+    let mut may = Vec::new(alloc);
+    may.push(node)?;
+    may.push(name(b"MARS"))?;
+    Ok(Row::Manager {
+        node,
+        epoch: 2,
+        may: Seq::of(may),
+    })
+}
+
+fn print_rows(alloc: Global) -> Result<Vec<Row>, AllocError> {
+    let node = name(b"PLUTO");
+    let running = EntryState::Running {
+        queue: name(b"PLUTO_LP"),
+        node,
+        run: 1,
+    };
+    let mut rows = Vec::new(alloc);
+    rows.push(queue(alloc, b"PLUTO_LP", QueueKind::Print, Some(node)))?;
+    rows.push(entry(1, b"REPORT", 13, running))?;
+    Ok(rows)
+}
+
+// Adds rows of a batch queue and of jobs that have ended, or wait.
+fn push_batch_rows(alloc: Global, rows: &mut Vec<Row>) -> Result<(), AllocError> {
+    let retained = EntryState::Retained {
+        status: 1020,
+        until: None,
+    };
+    let timed = EntryState::Timed {
+        at: Moment::new(540_021_600_000).unwrap_or(Moment::BASE),
+    };
+    let node = name(b"PLUTO");
+    rows.push(queue(alloc, b"SYS$BATCH", QueueKind::Batch, Some(node)))?;
+    rows.push(entry(4, b"A_LONG_NAME_OF_A_JOB", 1, retained))?;
+    rows.push(entry(1234567, b"F", 123456789, timed))?;
+    Ok(())
+}
+
+// Adds the rows of the other listings.
+fn push_other_rows(alloc: Global, rows: &mut Vec<Row>) -> Result<(), AllocError> {
+    rows.push(queue(alloc, b"SYS$PRINT", QueueKind::GenericPrint, None))?;
+    rows.push(letter())?;
+    rows.push(Row::Characteristic(Characteristic {
+        name: name(b"DUPLEX"),
+        number: 7,
+    }))?;
+    rows.push(manager(alloc)?)?;
+    Ok(())
 }
 
 #[test]
 fn listings_stand_in_columns(rt: HostRuntime) -> Result<(), Fail> {
     let alloc = rt.alloc();
-    let node = Name::read(b"PLUTO")?;
-    let mars = Name::read(b"MARS")?;
-    let rows = vec![in alloc;
-        queue(alloc, b"PLUTO_LP", QueueKind::Print, Some(node))?,
-        entry(
-            1,
-            b"REPORT",
-            13,
-            EntryState::Running {
-                queue: Name::read(b"PLUTO_LP")?,
-                node,
-                run: 1
-            }
-        )?,
-        queue(alloc, b"SYS$BATCH", QueueKind::Batch, Some(node))?,
-        entry(
-            4,
-            b"A_LONG_NAME_OF_A_JOB",
-            1,
-            EntryState::Retained {
-                status: 1020,
-                until: None
-            }
-        )?,
-        entry(
-            1234567,
-            b"F",
-            123456789,
-            EntryState::Timed {
-                at: Moment::new(540_021_600_000).unwrap()
-            }
-        )?,
-        queue(alloc, b"SYS$PRINT", QueueKind::GenericPrint, None)?,
-        letter()?,
-        Row::Characteristic(Characteristic {
-            name: Name::read(b"DUPLEX")?,
-            number: 7
-        }),
-        Row::Manager {
-            node,
-            epoch: 2,
-            may: Seq::of(vec![in alloc; node, mars]?)
-        },
-    ]?;
-    let text = show_rows(alloc, &Prefix { node, line: 16 }, &rows)?;
-    assert_eq!(rt;
-        text.as_slice(),
+    let mut rows = print_rows(alloc)?;
+    push_batch_rows(alloc, &mut rows)?;
+    push_other_rows(alloc, &mut rows)?;
+    let prefix = Prefix {
+        node: name(b"PLUTO"),
+        line: 16,
+    };
+    check(
+        &rt,
+        show_rows(alloc, &prefix, &rows),
         b"PLUTO 16: rows: 9
 PLUTO 16: print queue PLUTO_LP, started, on PLUTO::LPA0:, mounted form LETTER
 PLUTO 16:      1 REPORT           SMITH              13 executing on PLUTO_LP
@@ -131,74 +153,84 @@ PLUTO 16: generic print queue SYS$PRINT, started
 PLUTO 16: form LETTER, number 1, stock WHITE
 PLUTO 16: characteristic DUPLEX, number 7
 PLUTO 16: manager on PLUTO::, epoch 2, may run on PLUTO,MARS
-"
-            .as_slice()
-    );
+",
+    )
+}
+
+// That what is shown is this.
+fn check<R: Abort>(
+    rt: &R,
+    shown: Result<Vec<u8>, AllocError>,
+    expected: &[u8],
+) -> Result<(), Fail> {
+    assert_eq!(rt; shown?.as_slice(), expected);
     Ok(())
 }
 
-#[test]
-fn answers_stand_behind_their_prefix(rt: HostRuntime) -> Result<(), Fail> {
-    let alloc = rt.alloc();
-    let name = Name::read(b"REPORT")?;
-    let home = Name::read(b"SYS$PRINT")?;
-    let queue = Name::read(b"PLUTO_LP")?;
-    let prefix = Prefix {
-        node: Name::read(b"MARS")?,
-        line: 10,
-    };
-    let submitted = Reply {
+// A job that was accepted, and started by that.
+fn submitted(alloc: Global) -> Result<Reply, AllocError> {
+    let job = name(b"REPORT");
+    let home = name(b"SYS$PRINT");
+    let mut started = Vec::new(alloc);
+    started.push(Start {
+        entry: 1,
+        name: job,
+        home,
+        queue: name(b"PLUTO_LP"),
+        run: 1,
+    })?;
+    Ok(Reply {
         act: Act::Submitted {
-            name,
+            name: job,
             home,
             entry: 1,
             state: EntryState::Pending,
         },
-        started: Seq::of(vec![in alloc;
-            Start {
-                entry: 1,
-                name,
-                home,
-                queue,
-                run: 1
-            },
-        ]?),
-    };
-    let marked = Reply {
+        started: Seq::of(started),
+    })
+}
+
+// A mark whose first byte is no text.
+fn marked(alloc: Global) -> Reply {
+    Reply {
         act: Act::Marked {
             run: 3,
-            value: Mark::new(b"\xff1")?,
+            value: Mark::new(b"\xff1").unwrap(),
         },
         started: Seq::new(alloc),
+    }
+}
+
+const SUBMITTED: &[u8] = b"MARS 10: Job REPORT (queue SYS$PRINT, entry 1) pending
+MARS 10: Job REPORT (queue SYS$PRINT, entry 1) started on PLUTO_LP
+";
+
+const MARKED: &[u8] = b"MARS 10: run 3 mark \xff1\n";
+
+const PARSE: &[u8] = b"MARS 10: %QMAN-E-PARSE, byte 7: word\n";
+
+const FULL: &[u8] = b"MARS 10: %QMAN-E-FULL, need 17, cap 16\n";
+
+const JOURNAL: &[u8] = b"MARS 10: %QMAN-F-JOURNAL\n";
+
+#[test]
+fn answers_stand_behind_their_prefix(rt: HostRuntime) -> Result<(), Fail> {
+    let alloc = rt.alloc();
+    let prefix = Prefix {
+        node: name(b"MARS"),
+        line: 10,
     };
     let fault = Refusal::ParseFault {
         place: 7,
         kind: ParseKind::Word,
     };
-    let answers = [
-        (
-            show_reply(alloc, &prefix, &submitted)?,
-            b"MARS 10: Job REPORT (queue SYS$PRINT, entry 1) pending\nMARS 10: Job REPORT (queue SYS$PRINT, entry 1) started on PLUTO_LP\n".as_slice(),
-        ),
-        (
-            show_reply(alloc, &prefix, &marked)?,
-            b"MARS 10: run 3 mark \xff1\n".as_slice(),
-        ),
-        (
-            show_refusal(alloc, &prefix, &fault)?,
-            b"MARS 10: %QMAN-E-PARSE, byte 7: word\n".as_slice(),
-        ),
-        (
-            show_full(alloc, &prefix, 17, 16)?,
-            b"MARS 10: %QMAN-E-FULL, need 17, cap 16\n".as_slice(),
-        ),
-        (
-            show_journal(alloc, &prefix)?,
-            b"MARS 10: %QMAN-F-JOURNAL\n".as_slice(),
-        ),
-    ];
-    for (text, expected) in &answers {
-        assert_eq!(rt; text.as_slice(), *expected);
-    }
-    Ok(())
+    check(
+        &rt,
+        show_reply(alloc, &prefix, &submitted(alloc)?),
+        SUBMITTED,
+    )?;
+    check(&rt, show_reply(alloc, &prefix, &marked(alloc)), MARKED)?;
+    check(&rt, show_refusal(alloc, &prefix, &fault), PARSE)?;
+    check(&rt, show_full(alloc, &prefix, 17, 16), FULL)?;
+    check(&rt, show_journal(alloc, &prefix), JOURNAL)
 }

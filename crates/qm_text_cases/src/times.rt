@@ -24,8 +24,16 @@ fn the_day_stands_right_in_two_places(rt: HostRuntime) -> Result<(), Fail> {
     Ok(())
 }
 
+// The moment that a text is read as, in hundredths of a second.
+fn read(text: &str, now: Moment) -> Result<u64, TimeFault> {
+    match read_time(text.as_bytes(), now) {
+        Ok(moment) => Ok(moment.hundredths()),
+        Err(fault) => Err(fault),
+    }
+}
+
 #[test]
-fn texts_of_each_form_are_read(rt: HostRuntime) -> Result<(), Fail> {
+fn texts_of_each_form_are_read(rt: HostRuntime) {
     let now = at(530_250_391_025);
     let cases = [
         ("TODAY", Ok(530_245_440_000)),
@@ -58,10 +66,6 @@ fn texts_of_each_form_are_read(rt: HostRuntime) -> Result<(), Fail> {
         ("17-NOV-1858-0:01", Err(TimeFault::Range)),
     ];
     for (text, answer) in cases {
-        assert_eq!(rt;
-            read_time(text.as_bytes(), now).map(|m| m.hundredths()),
-            answer
-        );
+        assert_eq!(rt; read(text, now), answer);
     }
-    Ok(())
 }
