@@ -1,5 +1,5 @@
 // Runs over real files.
-use crate::by_hand::{append, site_and, submit};
+use crate::by_hand::{APPEND, Body, SUBMIT, site_and};
 use qm_files::FileDisk;
 use qm_io::{MemorySink, MemorySource};
 use qm_program::{End, Outcome, qman};
@@ -36,46 +36,39 @@ fn ran(rt: &HostRuntime, words: &[&str], script: &[u8]) -> Result<(End, Vec<u8>)
 
 #[test]
 fn a_site_in_real_files_outlives_its_runs(rt: HostRuntime) -> Result<(), Fail> {
-    let alloc = rt.alloc();
     let _ = fs::remove_dir_all(&rt, "qm_rows_test");
     fs::create_dir(&rt, "qm_rows_test")?;
-    let (end, made) = ran(&rt, &["init", "A"], b"")?;
-    assert_eq!(rt; end, End::Ok);
-    assert_eq!(rt; made.as_slice(), b"initialized\n".as_slice());
-    let rows = site_and(alloc, &[])?;
-    assert_eq!(rt;
-        fs::read(&rt, "qm_rows_test/one")?.as_slice(),
-        rows.as_slice()
-    );
-    let (end, first) = ran(
-        &rt,
-        &["run"],
-        b"A ! LINE JOB.COM $ EXIT 1\nA $ SUBMIT JOB\nA $ SHOW ENTRY 1\n",
-    )?;
-    assert_eq!(rt; end, End::Ok);
-    assert_eq!(rt;
-        first.as_slice(),
-        b"A 1: file JOB.COM, 9 bytes
+    // Runs one behind the other: their words and script, what each prints, and the records that are then behind the rows.
+    let runs: [(&[&str], &[u8], &[u8], &[Body]); 3] = [
+        (&["init", "A"], b"", b"initialized\n", &[]),
+        (
+            &["run"],
+            b"A ! LINE JOB.COM $ EXIT 1\nA $ SUBMIT JOB\nA $ SHOW ENTRY 1\n",
+            b"A 1: file JOB.COM, 9 bytes
 A 2: Job JOB (queue SYS$BATCH, entry 1) pending
 A 3: rows: 1
 A 3:      1 JOB              SYSTEM              1 pending
-"
-            .as_slice()
-    );
-    let both = site_and(alloc, &[append(alloc, 0, 0)?, submit(alloc)?])?;
-    assert_eq!(rt;
-        fs::read(&rt, "qm_rows_test/one")?.as_slice(),
-        both.as_slice()
-    );
-    let (end, later) = ran(&rt, &["run"], b"A $ SHOW ENTRY 1\n")?;
-    assert_eq!(rt; end, End::Ok);
-    assert_eq!(rt;
-        later.as_slice(),
-        b"A 1: rows: 1
+",
+            &[APPEND, SUBMIT],
+        ),
+        (
+            &["run"],
+            b"A $ SHOW ENTRY 1\n",
+            b"A 1: rows: 1
 A 1:      1 JOB              SYSTEM              1 pending
-"
-            .as_slice()
-    );
+",
+            &[APPEND, SUBMIT],
+        ),
+    ];
+    for (words, script, expected, records) in runs {
+        let (end, printed) = ran(&rt, words, script)?;
+        assert_eq!(rt; end, End::Ok);
+        assert_eq!(rt; printed.as_slice(), expected);
+        assert_eq!(rt;
+            fs::read(&rt, "qm_rows_test/one")?,
+            site_and(rt.alloc(), records)?
+        );
+    }
     fs::remove_dir_all(&rt, "qm_rows_test")?;
     Ok(())
 }

@@ -8,11 +8,15 @@ fn a_file_past_its_limit_is_refused(rt: HostRuntime) -> Result<(), Fail> {
     let alloc = rt.alloc();
     let xs = vec![in alloc; b'x'; 1_048_576]?;
     let mut script = Vec::new(alloc);
-    script.extend_from_slice(b"A ! LINE BIG.LIS ")?;
-    script.extend_from_slice(&xs[1..])?;
-    script.extend_from_slice(b"\nA ! LINE BIG.LIS \nA ! LINE BIGGER.LIS ")?;
-    script.extend_from_slice(&xs)?;
-    script.extend_from_slice(b"\nA ! LINE BIGGER.LIS x\n")?;
+    for part in [
+        b"A ! LINE BIG.LIS ".as_slice(),
+        &xs[1..],
+        b"\nA ! LINE BIG.LIS \nA ! LINE BIGGER.LIS ",
+        &xs,
+        b"\nA ! LINE BIGGER.LIS x\n",
+    ] {
+        script.extend_from_slice(part)?;
+    }
     let ran = run(&rt, &script)?;
     check(
         &rt,
