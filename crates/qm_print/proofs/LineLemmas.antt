@@ -1,13 +1,12 @@
 -- The lines that are printed of a text, one by one.
-use Rattle.std.proofs.Common.{◌≡◌, ◌⊎◌, inl, inr, ⊎_elim, ℕ, zero, suc, ◌+◌, ◌-◌, ◌≤◌, ◌<◌, Bool, true, false, cond, ◌==◌, ◌||◌, not, List, [], ◌∷◌, ◌++◌, length, map, take, drop, min, Option, None, Some, refl, sym, ◌∙◌, ap, subst, arith}
-use Rattle.std.specs.Prelude.{nat_lt, flat_map}
-use Rattle.std.specs.List.{position, position_or_len, prefix_len}
-use Rattle.std.proofs.lemmas.Bool.Decides.{nat_tests}
-use Rattle.std.proofs.lemmas.Bool.{cases_Bool, cases_lt, lt-ltb, le-ltb}
-use Rattle.std.proofs.lemmas.List.{take-append-drop, take_all, drop_all, drop-drop, take_at, drop_at, length-take-le, length-append}
+use Rattle.std.proofs.Common.{◌≡◌, ◌⊎◌, inl, inr, ⊎_elim, ℕ, zero, suc, ◌+◌, ◌≤◌, ◌<◌, Bool, true, false, cond, ◌==◌, ◌||◌, not, List, [], ◌∷◌, ◌++◌, length, take, drop, min, None, Some, refl, sym, ◌∙◌, ap, subst, arith}
+use Rattle.std.specs.Prelude.{flat_map}
+use Rattle.std.specs.List.{position, position_or_len}
+use Rattle.std.proofs.lemmas.Bool.{cases_lt, lt-ltb, le-ltb}
+use Rattle.std.proofs.lemmas.List.{take-append-drop, take_all, drop_all, take_at, drop_at, length-take-le}
 use Rattle.std.proofs.lemmas.List.Sums.{prefix_len-le-length}
 use Rattle.qm_kinds.specs.declared.form.Shape.{Shape}
-use Rattle.qm_model.specs.Pages.{lines, parts_ended_by, columns, fitted, wrapped, pieces}
+use Rattle.qm_model.specs.Pages.{columns, fitted, wrapped, pieces}
 use Rattle.qm_print.specs.Parts.{part_in_front, part_behind, section, others, is_in_section, ends_line, bytes_of_line, is_section_over, without_form_feed, behind_line}
 use Rattle.qm_print.specs.Lines.{printed_lines, IsFirstLine}
 use Rattle.qm_print.proofs.PartLemmas.{parts_are, Lacks, front_behind, rest_behind}

@@ -1,7 +1,7 @@
 -- The pages of a text, one by one.
-use Rattle.std.proofs.Common.{◌≡◌, ◌⊎◌, inl, inr, ⊎_elim, ℕ, zero, suc, ◌+◌, ◌-◌, ◌≤◌, ◌<◌, Bool, true, false, cond, ◌==◌, List, [], ◌∷◌, ◌++◌, length, map, take, drop, get_or, eq-eqb, length-drop, length-append, refl, sym, ◌∙◌, ap, subst, arith}
+use Rattle.std.proofs.Common.{◌≡◌, ℕ, zero, suc, ◌+◌, ◌<◌, Bool, true, false, cond, ◌==◌, List, [], ◌∷◌, ◌++◌, length, map, take, drop, get_or, eq-eqb, length-drop, refl, sym, ◌∙◌, ap, subst, arith}
 use Rattle.std.specs.Prelude.{flat_map}
-use Rattle.std.proofs.lemmas.List.{take_all, drop_all, drop-drop, map-append, append_assoc, flat_map_more}
+use Rattle.std.proofs.lemmas.List.{take_all, drop_all, drop-drop, map-append, flat_map_more}
 use Rattle.qm_kinds.specs.declared.form.Shape.{Shape}
 use Rattle.qm_model.specs.Pages.{lines, sections, rows, section_pages, page_block, line_block, text_blocks, pieces}
 use Rattle.qm_model.proofs.ReportLemmas.{drop_next}

@@ -1,9 +1,8 @@
 -- Texts, cut into parts one by one.
-use Rattle.std.proofs.Common.{◌≡◌, ◌⊎◌, inl, inr, ℕ, zero, suc, ◌+◌, ◌-◌, ◌≤◌, ◌<◌, Bool, true, false, cond, ◌==◌, ◌||◌, not, List, [], ◌∷◌, ◌++◌, length, take, drop, refl, sym, ◌∙◌, ap, subst, arith, eq-eqb}
-use Rattle.std.specs.List.{slice_split, onto_first, list_any}
-use Rattle.std.proofs.lemmas.Bool.Decides.{nat_tests}
+use Rattle.std.proofs.Common.{◌≡◌, ℕ, true, false, cond, ◌==◌, List, [], ◌∷◌, ◌++◌, refl, ◌∙◌, ap}
+use Rattle.std.specs.List.{slice_split, onto_first}
 use Rattle.qm_model.specs.Pages.{without_empty_end, parts_ended_by}
-use Rattle.qm_print.specs.Parts.{part_in_front, part_behind, section, others, is_in_section, ends_line, bytes_of_line, is_section_over, without_form_feed, behind_line}
+use Rattle.qm_print.specs.Parts.{part_in_front, part_behind}
 
 -- ---- the parts of a text are its first one and those of what stands behind that
 

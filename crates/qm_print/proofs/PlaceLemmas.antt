@@ -1,5 +1,5 @@
 -- What is left of a print job at its places.
-use Rattle.std.proofs.Common.{◌≡◌, ◌⊎◌, inl, inr, ⊎_elim, ℕ, zero, suc, ◌+◌, ◌-◌, ◌≤◌, ◌<◌, Bool, true, false, cond, ◌==◌, List, [], ◌∷◌, ◌++◌, length, map, take, drop, length-drop, length-append, refl, sym, ◌∙◌, ap, subst, arith}
+use Rattle.std.proofs.Common.{◌≡◌, ◌⊎◌, inl, inr, ℕ, zero, suc, ◌+◌, ◌≤◌, ◌<◌, Bool, true, false, cond, ◌==◌, List, [], ◌∷◌, ◌++◌, length, map, take, drop, length-drop, length-append, refl, sym, ◌∙◌, ap, subst, arith}
 use Rattle.std.specs.List.{repeat}
 use Rattle.std.proofs.lemmas.List.{drop_all, drop-drop}
 use Rattle.qm_kinds.specs.declared.work.Work.{Work}

@@ -1,4 +1,4 @@
-use Rattle.std.proofs.Common.{◌≡◌, ◌+◌, ◌*◌, length, sym, ap, ◌∙◌}
+use Rattle.std.proofs.Common.{◌+◌, ◌*◌, length, sym, ap, ◌∙◌}
 use mir.Val.{bool_byte}
 use Rattle.qm_model.specs.Pages.{text_blocks}
 use Rattle.qm_print.proofs.CountLemmas.{blocks_counted}

@@ -1,4 +1,4 @@
-use Rattle.std.proofs.Common.{◌≡◌, ◌∷◌, ◌+◌, false, sym, ap, ◌∙◌, drop, length, take, ◌-◌}
+use Rattle.std.proofs.Common.{◌∷◌, ◌+◌, false, sym, ap, ◌∙◌, drop}
 use Rattle.std.proofs.lemmas.List.{take_rest}
 use Rattle.qm_print.specs.Places.{blocks_from}
 use Rattle.qm_print.proofs.PlaceLemmas.{flag_first, page_first}

@@ -1,7 +1,7 @@
-use Rattle.std.proofs.Common.{arith, ◌≡◌, length, take, min, sym, ap, ◌∙◌, Some, None}
-use Rattle.std.specs.List.{position, position_or_len}
+use Rattle.std.proofs.Common.{arith, take, sym, ap, ◌∙◌}
+use Rattle.std.specs.List.{position_or_len}
 use Rattle.std.proofs.lemmas.List.{take_min}
-use Rattle.qm_print.specs.Parts.{ends_line, bytes_of_line}
+use Rattle.qm_print.specs.Parts.{ends_line}
 use Rattle.qm_print.proofs.LineLemmas.{bytes_inside, found_bytes, found_some, found_none}
 use Rattle.qm_print.proofs.line.bytes_of_line.Goals as goal
 

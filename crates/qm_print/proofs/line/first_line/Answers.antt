@@ -1,9 +1,8 @@
-use Rattle.std.proofs.Common.{◌≡◌, ◌⊎◌, inl, inr, ⊎_elim, ℕ, ◌+◌, ◌-◌, ◌≤◌, ◌<◌, Bool, true, false, length, take, drop, min, sym, ap, ◌∙◌, refl, subst, arith, length-drop}
+use Rattle.std.proofs.Common.{◌≡◌, ◌⊎◌, inl, inr, ⊎_elim, ◌+◌, ◌<◌, true, false, length, drop, min, sym, ap, ◌∙◌, subst, arith}
 use Rattle.std.proofs.lemmas.List.{take_rest, drop-drop}
 use Rattle.qm_model.specs.Pages.{columns}
-use Rattle.qm_print.specs.Parts.{bytes_of_line, behind_line, is_section_over}
-use Rattle.qm_print.specs.Lines.{IsFirstLine}
-use Rattle.qm_print.proofs.LineLemmas.{first_line_is, shown_bytes, line_moves, section_has_bytes, is_first_line}
+use Rattle.qm_print.specs.Parts.{behind_line, is_section_over}
+use Rattle.qm_print.proofs.LineLemmas.{line_moves, section_has_bytes, is_first_line}
 use Rattle.qm_print.proofs.line.first_line.Goals as goal
 use Rattle.qm_print.proofs.line.first_line.Goals.{then-shape, else-shape}
 

@@ -1,4 +1,4 @@
-use Rattle.std.proofs.Common.{◌≡◌, ◌+◌, ◌<◌, ◌≤◌, length, drop, arith, sym, ap, ◌∙◌, length-drop}
+use Rattle.std.proofs.Common.{length, drop, arith, ap, length-drop}
 use Rattle.std.proofs.lemmas.List.{take_rest}
 use Rattle.qm_print.proofs.PageLemmas.{blank_at, next_row, last_row, page_is_full}
 use Rattle.qm_print.proofs.page.behind_page.Goals as goal

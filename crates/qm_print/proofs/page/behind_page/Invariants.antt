@@ -1,4 +1,4 @@
-use Rattle.std.proofs.Common.{◌≡◌, ◌⊎◌, ℕ, ◌+◌, ◌≤◌, ◌<◌, length, drop}
+use Rattle.std.proofs.Common.{◌≤◌, ◌<◌, length, drop}
 use Rattle.qm_print.specs.Lines.{IsInFront}
 use Rattle.qm_print.proofs.page.behind_page.Given as goal
 

@@ -1,4 +1,4 @@
-use Rattle.std.proofs.Common.{◌≡◌, ◌⊎◌, ℕ, ◌+◌, ◌≤◌, ◌<◌, ◌++◌, length, drop, take}
+use Rattle.std.proofs.Common.{◌≡◌, ◌≤◌, ◌<◌, ◌++◌, length, drop, take}
 use Rattle.std.specs.Prelude.{flat_map}
 use Rattle.qm_model.specs.Pages.{line_block}
 use Rattle.qm_print.specs.Parts.{section}

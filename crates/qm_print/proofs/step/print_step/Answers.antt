@@ -1,4 +1,4 @@
-use Rattle.std.proofs.Common.{◌≡◌, ◌+◌, [], length, drop, arith, sym, ap, ◌∙◌}
+use Rattle.std.proofs.Common.{sym, ap, ◌∙◌}
 use Rattle.qm_model.specs.Pages.{page_blocks}
 use Rattle.qm_print.specs.Places.{blocks_from}
 use Rattle.qm_print.proofs.StepLemmas.{next_place, behind_the_end}

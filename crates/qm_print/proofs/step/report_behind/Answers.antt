@@ -1,7 +1,6 @@
-use Rattle.std.proofs.Common.{◌≡◌, ◌+◌, ◌<◌, ◌≤◌, [], length, drop, arith, sym, ap, ◌∙◌}
+use Rattle.std.proofs.Common.{◌≡◌, ◌+◌, [], drop, arith, sym, ap, ◌∙◌}
 use Rattle.qm_kinds.specs.declared.work.Report.TheVariants.{Mark}
 use Rattle.qm_model.specs.Pages.{page_blocks}
-use Rattle.qm_print.specs.Places.{blocks_from}
 use Rattle.qm_print.proofs.CountLemmas.{few_blocks}
 use Rattle.qm_print.proofs.StepLemmas.{more_are_behind, more_behind, none_behind}
 use Rattle.qm_print.proofs.step.report_behind.Goals as goal

@@ -1,6 +1,5 @@
-use Rattle.std.proofs.Common.{◌≡◌, sym, ap, ◌∙◌, drop, length, take, ◌-◌, subst}
+use Rattle.std.proofs.Common.{sym, ap, ◌∙◌, drop}
 use Rattle.std.proofs.lemmas.List.{take_rest}
-use Rattle.qm_print.specs.Places.{IsOneLess, blocks_from}
 use Rattle.qm_print.proofs.PlaceLemmas.{flag_first, page_first, one_less}
 use Rattle.qm_print.proofs.cursor.Cursor.behind_block.Goals as goal
 

@@ -1,4 +1,4 @@
-use Rattle.std.proofs.Common.{◌≡◌, ◌≤◌, ◌<◌, ⊎_elim, true, false, length, arith, sym, ◌∙◌}
+use Rattle.std.proofs.Common.{⊎_elim, arith, sym, ◌∙◌}
 use Rattle.std.proofs.lemmas.Bool.{cases_lt, leb-true, le-leb, not-true, not-false}
 use Rattle.qm_print.proofs.PlaceLemmas.{flag_first, more_left, some_left}
 use Rattle.qm_print.proofs.cursor.Cursor.is_at_end.Goals as goal

@@ -1,4 +1,4 @@
-use Rattle.std.proofs.Common.{◌≡◌, ap, ◌∙◌}
+use Rattle.std.proofs.Common.{ap, ◌∙◌}
 use Rattle.qm_print.specs.Places.{blocks_from}
 use Rattle.qm_print.proofs.PlaceLemmas.{place, starts}
 use Rattle.qm_print.proofs.cursor.Cursor.start.Goals as goal

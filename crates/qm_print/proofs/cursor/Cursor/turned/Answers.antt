@@ -1,4 +1,4 @@
-use Rattle.std.proofs.Common.{◌≡◌, ◌⊎◌, inl, inr, ◌≤◌, arith}
+use Rattle.std.proofs.Common.{inl, inr, arith}
 use Rattle.qm_print.proofs.PlaceLemmas.{nothing_left, turns_over}
 use Rattle.qm_print.proofs.cursor.Cursor.turned.Goals as goal
 use Rattle.qm_print.proofs.cursor.Cursor.turned.Goals.{then-self-len-via-then-self-len, then-self-len-via-else-self-len+then-self-eq0, then-self-len-via-else-self-len+else-self-eq0+then-is_empty}
