@@ -1,4 +1,6 @@
 // What the contracts of real files leave open: what is asked of the system, in which order, and what is made of its answers.
+ghost use Rattle.std.specs.Prelude.{◌≤◌};
+
 use qm_disk::Disk;
 use qm_files::{FileDisk, SiteFile};
 use std::alloc::{AllocError, Allocator};
@@ -253,18 +255,28 @@ fn new_folder(rt: &HostRuntime) -> io::Result<()> {
     fs::create_dir(rt, "qm_files_test")
 }
 
-// One call of each kind on file 1, which is then empty, and whether it held.
+// One call of each kind on a file, and whether it held.
+fn each_call_on<R: Files>(disk: &mut FileDisk<R>, file: u8) -> [bool; 5]
+where
+    R::File: SiteFile,
+    requires { file ≤ 2 }
+{
+    let mut read = [0; 3];
+    [
+        disk.write(file, 0, b"abc").is_ok(),
+        disk.size(file) == Ok(3),
+        disk.read(file, 0, &mut read).is_ok() && read == *b"abc",
+        disk.cut(file, 1).is_ok(),
+        disk.sync(file).is_ok(),
+    ]
+}
+
+// The same on file 1.
 fn each_call<R: Files>(disk: &mut FileDisk<R>) -> [bool; 5]
 where
     R::File: SiteFile,
 {
-    [
-        disk.write(1, 0, b"abc").is_ok(),
-        disk.size(1) == Ok(3),
-        disk.read(1, 1, &mut [0, 0]).is_ok(),
-        disk.cut(1, 1).is_ok(),
-        disk.sync(1).is_ok(),
-    ]
+    each_call_on(disk, 1)
 }
 
 const LOOKED: &str = "open qm_files_test
@@ -389,6 +401,43 @@ fn behind_a_call_that_failed_each_is_a_fault(rt: HostRuntime) -> Result<(), Fail
             Err(_) => false,
         };
         assert!(rt; !failed || !ended, "call {failing}");
+        // The numbers 1 and 2 were free: the folder has them, and was opened a third time, and a fourth to be synced;
+        // beside it the lock and the file were opened.
+        assert!(rt; failed || calls.into_inner().number == 1 + 4 + 2);
+    }
+    Ok(())
+}
+
+#[test]
+fn each_file_is_asked_by_its_own_name_and_has_to_be_synced(rt: HostRuntime) -> Result<(), Fail> {
+    let names = ["master", "one", "two"];
+    for file in 0..3u8 {
+        new_folder(&rt)?;
+        let calls = Calls::new(&rt, 0, 3);
+        let mut disk = disk_watched(&rt, &calls)?;
+        assert_eq!(rt; each_call_on(&mut disk, file), [true; 5]);
+        // What isn't synced keeps the end from being marked.
+        let changed = match file {
+            1 => disk.write(file, 0, b"b"),
+            _ => disk.cut(file, 0),
+        };
+        assert!(rt; changed.is_ok());
+        disk.close();
+        assert_eq!(rt;
+            fs::read(&rt, "qm_files_test/lock")?.as_slice(),
+            b"begun
+"
+                .as_slice()
+        );
+        let last = if file == 1 { "write" } else { "cut" };
+        let mut wanted = String::new(rt.alloc());
+        for what in ["write", "size", "read", "cut", "sync", last] {
+            for part in [what, " qm_files_test/", names[file as usize], "\n"] {
+                wanted.push_str(part)?;
+            }
+        }
+        let calls = calls.into_inner();
+        assert!(rt; calls.lines.as_str().ends_with(wanted.as_str()));
     }
     Ok(())
 }
