@@ -1,0 +1,12 @@
+use Rattle.std.proofs.Common.{◌≡◌, take, min, true}
+use Rattle.std.specs.List.{list_all}
+use Rattle.std.specs.Char.{is_ascii_digit}
+use Rattle.qm_model.specs.Command.{value_of}
+use Rattle.qm_batch.proofs.parts.status_of.Given as goal
+
+-- the digits so far, and their value up to one more than a status has
+abbrev pub invariant-loop-byte : goal.invariant-loop-byte
+invariant-loop-byte l = record {
+  digits : list_all is_ascii_digit (take l.byte-index l.text) ≡ true;
+  value_is : l.value ≡ min (value_of (take l.byte-index l.text)) 4294967296;
+}

@@ -1,0 +1,95 @@
+// The lines of batch jobs, each with what it asks for.
+ghost use Rattle.std.specs.Prelude.{◌≡◌, ◌++◌, ◌∷◌, [], codes, option_map};
+ghost use Rattle.std.specs.Option.{option_and_then};
+ghost use Rattle.qm_model.specs.Batch.{batch_line, behind, ahead_of, only_if, has_no_quote, is_mark, is_label, label_of};
+ghost use Rattle.qm_batch.specs.Lines.{meaning, status_of};
+
+use crate::parts::{ahead_of, behind, has_no_quote, is_label, is_mark, status_of};
+
+/// What a line asks for.
+#[derive(Clone, Copy)]
+pub enum Line<'a> {
+    /// A comment, an empty line or a label.
+    Nothing,
+    /// A text goes to the device.
+    Write(&'a [u8]),
+    /// A text is the mark of a checkpoint.
+    SetRestart(&'a [u8]),
+    /// The run goes on at a label.
+    GoTo(&'a [u8]),
+    /// The run goes on at the label that its mark names, where it has one and isn't the first.
+    GoToRestart,
+    /// The run ends with a status.
+    Exit(u32),
+    /// A line of no form.
+    Bad,
+}
+
+// $ WRITE SYS$OUTPUT "text"
+fn written(line: &[u8]) -> Option<&[u8]>
+    ensures { option_map (λ text. text.now) result ≡ option_and_then (only_if has_no_quote) (option_and_then (ahead_of (34 ∷ [])) (behind (codes "$ WRITE SYS$OUTPUT " ++ 34 ∷ []) line.now)) }
+{
+    let text = ahead_of(b"\"", behind(b"$ WRITE SYS$OUTPUT \"", line)?)?;
+    if has_no_quote(text) { Some(text) } else { None }
+}
+
+// $ SET RESTART_VALUE = text
+fn restart_value(line: &[u8]) -> Option<&[u8]>
+    ensures { option_map (λ text. text.now) result ≡ option_and_then (only_if is_mark) (behind (codes "$ SET RESTART_VALUE = ") line.now) }
+{
+    let text = behind(b"$ SET RESTART_VALUE = ", line)?;
+    if is_mark(text) { Some(text) } else { None }
+}
+
+// The label of the line `$ label:`.
+fn label_of(line: &[u8]) -> Option<&[u8]>
+    ensures { option_map (λ label. label.now) result ≡ label_of line.now }
+{
+    let label = ahead_of(b":", behind(b"$ ", line)?)?;
+    if is_label(label) { Some(label) } else { None }
+}
+
+// $ GOTO label
+fn destination(line: &[u8]) -> Option<&[u8]>
+    ensures { option_map (λ label. label.now) result ≡ option_and_then (only_if is_label) (behind (codes "$ GOTO ") line.now) }
+{
+    let label = behind(b"$ GOTO ", line)?;
+    if is_label(label) { Some(label) } else { None }
+}
+
+// $ EXIT n
+fn exit_status(line: &[u8]) -> Option<u32>
+    ensures { result ≡ option_and_then status_of (behind (codes "$ EXIT ") line.now) }
+{
+    status_of(behind(b"$ EXIT ", line)?)
+}
+
+/// What a line asks for.
+///
+/// OpenVMS User's Manual, on command procedures and `$RESTART`.
+pub fn read_line(line: &[u8]) -> Line
+    ensures { meaning result ≡ batch_line line.now }
+{
+    if line.is_empty() || line.starts_with(b"$!") {
+        return Line::Nothing;
+    }
+    if let Some(text) = written(line) {
+        return Line::Write(text);
+    }
+    if let Some(text) = restart_value(line) {
+        return Line::SetRestart(text);
+    }
+    if label_of(line).is_some() {
+        return Line::Nothing;
+    }
+    if let Some(label) = destination(line) {
+        return Line::GoTo(label);
+    }
+    if line == b"$ IF $RESTART THEN GOTO 'BATCH$RESTART'".as_slice() {
+        return Line::GoToRestart;
+    }
+    match exit_status(line) {
+        Some(status) => Line::Exit(status),
+        None => Line::Bad,
+    }
+}
