@@ -29,35 +29,40 @@ fn told(alloc: Global, text: &[u8]) -> Result<Vec<u8>, AllocError> {
         }
         Err(LexFault::Unreadable { place }) => {
             told.push(b'?')?;
-            told.push(b'0'.wrapping_add(place as u8))?;
+            told.push(b'0'.wrapping_add(u8::try_from(place).unwrap_or(u8::MAX)))?;
         }
         Err(LexFault::NoMemory) => return Err(AllocError),
     }
     Ok(told)
 }
 
+// Texts, and what is told of them.
+const CASES: [(&[u8], &[u8]); 14] = [
+    (b"", b""),
+    (b" \t ", b""),
+    (b"! SUBMIT J", b""),
+    (b"SUBMIT J.COM;1", b"wSUBMIT wJ.COM;1 "),
+    (
+        b"submit/priority=200 J!last",
+        b"wsubmit s/ wpriority e= w200 wJ ",
+    ),
+    (b"\tA,(B)\t=~$_%*:-+", b"wA k, o( wB c) e= w~$_%*:-+ "),
+    (
+        b"X/NAME=\"a \"\"b! \" C",
+        b"wX s/ wNAME e= q\"a \"\"b! \" wC ",
+    ),
+    (b"\"\"\"\"x\"y\"", b"q\"\"\"\" wx q\"y\" "),
+    (b"A \"b", b"?2"),
+    (b"A \"b\"\"", b"?2"),
+    (b"\"", b"?0"),
+    (b"AB\x01", b"?2"),
+    (b"A/\x7f", b"?2"),
+    (b"A \xff ! \x01", b"?2"),
+];
+
 #[test]
 fn a_text_falls_into_tokens(rt: HostRuntime) -> Result<(), Fail> {
-    let cases: [(&[u8], &[u8]); 14] = [
-        (b"", b""),
-        (b" \t ", b""),
-        (b"! SUBMIT J", b""),
-        (b"SUBMIT J.COM;1", b"wSUBMIT wJ.COM;1 "),
-        (
-            b"submit/priority=200 J!last",
-            b"wsubmit s/ wpriority e= w200 wJ ",
-        ),
-        (b"\tA,(B)\t=~$_%*:-+", b"wA k, o( wB c) e= w~$_%*:-+ "),
-        (b"X/NAME=\"a \"\"b! \" C", b"wX s/ wNAME e= q\"a \"\"b! \" wC "),
-        (b"\"\"\"\"x\"y\"", b"q\"\"\"\" wx q\"y\" "),
-        (b"A \"b", b"?2"),
-        (b"A \"b\"\"", b"?2"),
-        (b"\"", b"?0"),
-        (b"AB\x01", b"?2"),
-        (b"A/\x7f", b"?2"),
-        (b"A \xff ! \x01", b"?2"),
-    ];
-    for (text, tokens) in cases {
+    for (text, tokens) in CASES {
         let told = told(rt.alloc(), text)?;
         assert_eq!(rt; told.as_slice(), tokens);
     }
