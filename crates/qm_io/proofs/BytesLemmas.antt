@@ -1,10 +1,10 @@
 -- What several reads and writes, one after the other, do to known bytes.
-use Rattle.std.proofs.Common.{ℕ, ◌+◌, ◌<◌, ◌≤◌, List, ◌++◌, length, take, drop, Option, sym, subst, arith, length-append, length-take-le}
+use Rattle.std.proofs.Common.{ℕ, ◌+◌, ◌≤◌, List, ◌++◌, length, take, drop, Option, sym, subst, arith, length-append, length-take-le}
 use Rattle.std.proofs.Math.Seq.{take-add, take-append-add}
 use Rattle.std.proofs.lemmas.List.{take-append-le}
 use Rattle.std.specs.Io.KnownBytes.{Appends, Consumes}
 use Rattle.std.proofs.KnownBytes.{Appends-trans, Consumes-trans}
-use Rattle.qm_io.specs.Bytes.{LosesAtMost, LosesSome, TakesPrefix}
+use Rattle.qm_io.specs.Bytes.{LosesAtMost, TakesPrefix}
 
 -- what a sink takes of the rest stands behind what it took before
 pub Appends-next : (a b c : Option (List ℕ)) (at count : ℕ) (bytes : List ℕ) → Appends a b (take at bytes) → Appends b c (take count (drop at bytes)) → Appends a c (take (at + count) bytes)
@@ -15,12 +15,6 @@ pub LosesAtMost-next : (most : ℕ) (a b c : Option (List ℕ)) (bytes piece : L
     → LosesAtMost most a c
 LosesAtMost-next most a b c bytes piece count p q within fits =
     (bytes ++ take count piece, Consumes-trans a b c _ _ p q, omega (arith, length-append bytes (take count piece), length-take-le count piece within))
-
--- the same where that read gave a byte
-pub LosesSome-next : (most : ℕ) (a b c : Option (List ℕ)) (bytes piece : List ℕ) (count : ℕ) → Consumes a b bytes → Consumes b c (take count piece) → count ≤ length piece → 0 < count → length bytes + count ≤ most
-    → LosesSome most a c
-LosesSome-next most a b c bytes piece count p q within given fits =
-    (bytes ++ take count piece, Consumes-trans a b c _ _ p q, omega (arith, length-append bytes (take count piece), length-take-le count piece within), omega (arith, length-append bytes (take count piece), length-take-le count piece within))
 
 -- some bytes were taken whole, and of the next ones a prefix
 pub TakesPrefix-after : (a b c : Option (List ℕ)) (xs ys : List ℕ) → Appends a b xs → TakesPrefix b c ys → TakesPrefix a c (xs ++ ys)

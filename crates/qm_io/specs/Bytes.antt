@@ -6,10 +6,6 @@ use Rattle.std.specs.Io.KnownBytes.{Appends, Consumes}
 abbrev pub LosesAtMost : ℕ → Option (List ℕ) → Option (List ℕ) → Type 0
 LosesAtMost most old new = (front : List ℕ) × Consumes old new front × (length front ≤ most)
 
--- a source lost a byte at least and at most this many, from the front
-abbrev pub LosesSome : ℕ → Option (List ℕ) → Option (List ℕ) → Type 0
-LosesSome most old new = (front : List ℕ) × Consumes old new front × (0 < length front) × (length front ≤ most)
-
 -- a sink took first bytes of these, and not all
 abbrev pub TakesPrefix : Option (List ℕ) → Option (List ℕ) → List ℕ → Type 0
 TakesPrefix old new bytes = (count : ℕ) × (count < length bytes) × Appends old new (take count bytes)

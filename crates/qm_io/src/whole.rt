@@ -1,12 +1,12 @@
 // Reading all that a source has, up to a limit, and writing all of a text.
-ghost use Rattle.std.specs.Prelude.{◌≡◌, ◌+◌, ◌<◌, ◌≤◌, ◌++◌, length, vec_len, is_some, IfOk, IfSome, IsErrOf, OnErr, OnOk};
+ghost use Rattle.std.specs.Prelude.{◌≡◌, ◌+◌, ◌<◌, ◌≤◌, length, vec_len, is_some, IfOk, IfSome, IsErrOf, OnErr, OnOk};
 ghost use Rattle.std.specs.Io.KnownBytes.{Appends, Consumes, IsAtEnd};
-ghost use Rattle.qm_io.specs.Bytes.{LosesAtMost, LosesSome, TakesPrefix};
+ghost use Rattle.qm_io.specs.Bytes.{LosesAtMost, TakesPrefix};
 ghost use Rattle.qm_io.specs.Faults.{counted};
 ghost use Rattle.qm_io.specs.declared.whole.ReadEnd.TheVariants as ends;
 
 use crate::{Failed, Sink, Source};
-use std::alloc::{AllocError, AllocFailed, Global};
+use std::alloc::{AllocError, Global};
 use std::error::Error;
 use std::fmt;
 
@@ -57,24 +57,17 @@ impl From<AllocError> for ReadEnd {
     }
 }
 
-impl<T: Drop> From<AllocFailed<T>> for ReadEnd {
-    ghost from_gives = { λ _ end. end ≡ ends.NoMemory };
-
-    fn from(_: AllocFailed<T>) -> ReadEnd {
-        ReadEnd::NoMemory
-    }
-}
-
 /// Reads a source to its end.
 ///
-/// It takes at most `limit` bytes and one more, which tells that there are too many, and holds at
-/// most `limit` bytes and one piece of 4 KiB. Each read but the last gives a byte at least, so it
-/// ends at any source, also at one that never ends.
+/// Memory for `limit` bytes is taken before the first read, so want of memory costs the source nothing;
+/// what is not written to takes no page of the machine. It takes at most `limit` bytes and one more,
+/// which tells that there are too many. Each read but the last gives a byte at least, so it ends at
+/// any source, also at one that never ends.
 ///
 /// `Failed` comes exactly where the source failed in this call, `TooLong` exactly where it had more
-/// than `limit` bytes and nothing failed before they were read, and `NoMemory` only where an
-/// allocation failed, for one of the first `limit` bytes. After each of them the source has lost the
-/// bytes read so far, and it isn't asked again.
+/// than `limit` bytes and nothing failed before they were read, and `NoMemory` only where the
+/// allocation failed, and then the source is as it was. After the other two it has lost the bytes
+/// read so far, and it isn't asked again.
 pub fn read_whole<S: Source>(
     alloc: Global,
     source: &mut S,
@@ -87,8 +80,7 @@ pub fn read_whole<S: Source>(
 
     ensures too_long { IsErrOf result ReadEnd.TooLong
         → IfSome (S.remaining source.old) (λ left. limit < length left) }
-    ensures no_memory { IsErrOf result ReadEnd.NoMemory
-        → LosesSome limit (S.remaining source.old) (S.remaining source.new) }
+    ensures no_memory { IsErrOf result ReadEnd.NoMemory → source.new ≡ source.old }
 
     ensures quiet { (IsErrOf result ReadEnd.Failed → ⊥)
         → S.faults source.new ≡ S.faults source.old }
@@ -100,6 +92,7 @@ pub fn read_whole<S: Source>(
     ensures told { is_some (S.remaining source.new) ≡ is_some (S.remaining source.old) }
 {
     let mut bytes = Vec::new(alloc);
+    bytes.reserve_exact(limit)?;
     let mut piece = [0; PIECE];
     loop {
         let room = limit - bytes.len();
@@ -111,23 +104,8 @@ pub fn read_whole<S: Source>(
         if count > room {
             return Err(ReadEnd::TooLong);
         }
-        append_within(&mut bytes, &piece[..count], limit)?;
+        bytes.extend_from_slice(&piece[..count]).unwrap();
     }
-}
-
-// Appends a piece. Where the room is spent it doubles, but not past the limit: so each byte is
-// moved a few times at most, and no more is held than the limit.
-fn append_within(bytes: &mut Vec<u8>, piece: &[u8], limit: usize) -> Result<(), AllocError>
-    requires { vec_len bytes.old + length piece.now ≤ limit }
-    ensures ok { OnOk result (bytes.new.items ≡ bytes.old.items ++ piece.now) }
-    ensures err { OnErr result (bytes.new.items ≡ bytes.old.items) }
-{
-    let needed = bytes.len() + piece.len();
-    if needed > bytes.capacity() {
-        let doubled = bytes.capacity().saturating_mul(2).min(limit);
-        bytes.reserve_exact(doubled.max(needed) - bytes.len())?;
-    }
-    bytes.extend_from_slice(piece)
 }
 
 /// Writes all of these bytes.

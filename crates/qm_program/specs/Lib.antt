@@ -1,6 +1,7 @@
 pub mod Lines
 pub mod Ends
 pub mod Task
+pub mod Wanting
 pub mod Transcript
 pub mod Course
 pub mod Serving

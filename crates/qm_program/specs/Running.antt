@@ -3,7 +3,7 @@ use Rattle.std.specs.Prelude.{◌≡◌, ◌≢◌, ◌⊎◌, ◌<◌, ◌≤�
 use Rattle.std.specs.Io.KnownBytes.{Appends, Keeps, IsAtEnd}
 use Rattle.qm_disk.specs.Disk.{Meaning}
 use Rattle.qm_disk.specs.Disk.{LeavesOnly, OthersLeft, IsQuiet}
-use Rattle.qm_io.specs.Bytes.{LosesAtMost, LosesSome}
+use Rattle.qm_io.specs.Bytes.{LosesAtMost}
 use Rattle.qm_io.specs.Faults.{counted}
 use Rattle.qm_disk.specs.Disk.{OnlyLooks}
 use Rattle.qm_glog.specs.Records.{BeginsWithRecord}
@@ -41,9 +41,9 @@ pub record OfScript (left : Option (List ℕ)) (P : List ScriptLine → Type 0) 
 abbrev pub HasScript : Option (List ℕ) → Type 0
 HasScript left = OfScript left (λ lines. Unit {0})
 
--- What a run leaves of its source, by its end: it was read to its end, but where it failed, where memory ran out within the
--- bytes that a script may have, and where there was more. Then one byte more tells so, and no other is read. Behind the whole
--- text memory runs out for a script alone.
+-- What a run leaves of its source, by its end: it was read to its end, but where it failed, and where there was more than a
+-- script may have. Then one byte more tells so, and no other is read. Memory runs out before the first byte is read, or behind
+-- the whole text, which is a script then.
 abbrev pub Reads : Option (List ℕ) → Option (List ℕ) → End → Type 0
 Reads left rest ends.Ok = IsAtEnd rest
 Reads left rest ends.Usage = ⊥
@@ -53,7 +53,7 @@ Reads left rest ends.Write = IsAtEnd rest
 Reads left rest ends.Journal = IsAtEnd rest
 Reads left rest (ends.Unformatted byte) = IsAtEnd rest
 Reads left rest (ends.Damaged file place) = IsAtEnd rest
-Reads left rest ends.NoMemory = LosesSome SCRIPT_BYTES left rest ⊎ (IsAtEnd rest × HasScript left)
+Reads left rest ends.NoMemory = (rest ≡ left) ⊎ (IsAtEnd rest × HasScript left)
 
 -- ---- what is served
 

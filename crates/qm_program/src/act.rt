@@ -1,7 +1,8 @@
 // What is done at the site of a node, in place of a user.
-ghost use Rattle.std.specs.Prelude.{◌≡◌, ◌++◌, ◌∷◌, [], IfOk};
+ghost use Rattle.std.specs.Prelude.{◌≡◌, ◌++◌, ◌∷◌, [], IfOk, OnErr};
 ghost use Rattle.qm_model.specs.Command.{cut_at_blank};
 ghost use Rattle.qm_model.specs.Script.{act_of, line_act};
+ghost use Rattle.qm_program.specs.Wanting.{WantsMemory};
 
 use crate::script::cut_at_blank;
 use qm_kinds::{FileName, Input, ParseKind, Request, Seq};
@@ -11,9 +12,10 @@ const LINE: &[u8] = b"LINE";
 
 /// What an act asks for: a word, and behind a blank what the word takes. The word that is built is `LINE`, which takes
 /// a file's name, a blank and a line of text for the end of that file. Another word isn't built, and what a word
-/// doesn't take is a fault of form.
+/// doesn't take is a fault of form. Memory is wanted for bytes that are added to a file alone.
 pub(crate) fn read_act(alloc: Global, text: &[u8]) -> Result<Input, AllocError>
-    ensures { IfOk result (λ input. input ≡ act_of text.now) }
+    ensures input { IfOk result (λ input. input ≡ act_of text.now) }
+    ensures no_memory { OnErr result (WantsMemory (act_of text.now)) }
 {
     match cut_at_blank(text) {
         None if text == LINE => Ok(fault(ParseKind::Form)),
@@ -25,7 +27,8 @@ pub(crate) fn read_act(alloc: Global, text: &[u8]) -> Result<Input, AllocError>
 
 // A file's name, a blank and a line.
 fn read_line_act(alloc: Global, text: &[u8]) -> Result<Input, AllocError>
-    ensures { IfOk result (λ input. input ≡ line_act (cut_at_blank text.now)) }
+    ensures input { IfOk result (λ input. input ≡ line_act (cut_at_blank text.now)) }
+    ensures no_memory { OnErr result (WantsMemory (line_act (cut_at_blank text.now))) }
 {
     let Some((file, line)) = cut_at_blank(text) else {
         return Ok(fault(ParseKind::Form));

@@ -1,9 +1,10 @@
 // What a line of a script asks for.
-ghost use Rattle.std.specs.Prelude.{◌≡◌, IfOk};
+ghost use Rattle.std.specs.Prelude.{◌≡◌, IfOk, OnErr};
 ghost use Rattle.qm_kinds.specs.Names.{system_user};
 ghost use Rattle.qm_model.specs.Script.{input_of, or_not_built};
 ghost use Rattle.qm_model.specs.Command.{command_of};
 ghost use Rattle.qm_program.specs.Lines.{sort_view};
+ghost use Rattle.qm_program.specs.Wanting.{WantsMemory};
 
 use crate::act::read_act;
 use crate::script::{Line, Sort};
@@ -23,7 +24,8 @@ fn read_typed(alloc: Global, text: &[u8]) -> Input
 
 /// What a line asks for: a command behind a `$`, an act at the site behind a `!`.
 pub(crate) fn read_input(alloc: Global, line: &Line<'_>) -> Result<Input, AllocError>
-    ensures { IfOk result (λ input. input ≡ input_of (sort_view line.now.sort) line.now.text.now) }
+    ensures input { IfOk result (λ input. input ≡ input_of (sort_view line.now.sort) line.now.text.now) }
+    ensures no_memory { OnErr result (WantsMemory (input_of (sort_view line.now.sort) line.now.text.now)) }
 {
     match line.sort {
         Sort::Command => Ok(read_typed(alloc, line.text)),

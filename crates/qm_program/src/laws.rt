@@ -1,7 +1,8 @@
 // What follows from what a run leaves.
-ghost use Rattle.std.specs.Prelude.{ℕ, List, Option, IsTrue};
+ghost use Rattle.std.specs.Prelude.{◌≡◌, ℕ, List, Option, IsTrue};
 ghost use Rattle.std.specs.Io.KnownBytes.{Appends};
 ghost use Rattle.qm_disk.specs.Disk.{LeavesOnly};
+ghost use Rattle.qm_store.specs.declared.store.TheConstants.{QUEUE_CAP};
 ghost use Rattle.qm_manager.specs.Site.{Site};
 ghost use Rattle.qm_program.specs.Transcript.{Step, text_of};
 ghost use Rattle.qm_program.specs.Course.{MakesSteps, StopsWithin};
@@ -37,4 +38,9 @@ pub fn a_run_that_stops_has_served_its_first_lines<D: Disk>(old: &D, new: &D)
 pub fn steps_print_their_text<D: Disk>(old: &D, new: &D)
     ensures { (site : Site) (steps : List Step) (taken printed : Option (List ℕ)) → MakesSteps D.meaning site steps (record { device = old.now; taken = taken }) (record { device = new.now; taken = printed })
         → Appends taken printed (text_of steps) }
+{}
+
+/// A queue file takes 134,217,728 bytes at most. Definitions cite the number by its name, so here it is said.
+pub fn a_queue_file_has_a_cap()
+    ensures { QUEUE_CAP ≡ 134217728 }
 {}

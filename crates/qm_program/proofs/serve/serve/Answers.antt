@@ -14,9 +14,9 @@ returns-in_default-clause-stops g c =
     step_wanting g.D.Disk.meaning line manager manager taken taken {X = ℕ} (nothing_done g.D.Disk.meaning manager c.requires.ready (g.met.D.Disk.only_now (disk_of manager)) (turn (site_of manager) line).site)
 
 pub answer-requires-clause-askable : goal.answer-requires-clause-askable
-answer-requires-clause-askable g c = rw c.in-Ok.ensures (input_askable (sort_view c.args.line.now.sort) c.args.line.now.text.now)
+answer-requires-clause-askable g c = rw c.in-Ok.ensures.input (input_askable (sort_view c.args.line.now.sort) c.args.line.now.text.now)
 
 pub returns-in-Ok-answer-clause-stops : goal.returns-in-Ok-answer-clause-stops
 returns-in-Ok-answer-clause-stops g c =
     step_cut g.D.Disk.meaning (line_view c.args.line.now) c.args.manager.now c.answer.new.manager (g.O.Sink.taken c.args.sink.now) (g.O.Sink.taken c.write_whole.new.sink)
-    c.in-Ok-answer.text c.deref.result.now (rw c.in-Ok.ensures at c.in-Ok-answer.ensures.serves) (c.deref.ensures.value ∙ (rw c.in-Ok.ensures at c.in-Ok-answer.ensures.text)) c.in-Err.ensures.prefix
+    c.in-Ok-answer.text c.deref.result.now (rw c.in-Ok.ensures.input at c.in-Ok-answer.ensures.serves) (c.deref.ensures.value ∙ (rw c.in-Ok.ensures.input at c.in-Ok-answer.ensures.text)) c.in-Err.ensures.prefix
