@@ -1,1 +1,4 @@
 pub mod Lines
+pub mod Cursors
+pub mod Moves
+pub mod Standard

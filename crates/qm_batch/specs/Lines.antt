@@ -1,5 +1,5 @@
 -- What a line that was read means.
-use Rattle.std.specs.Prelude.{ℕ, List, if◌then◌else◌, Option, None, Some}
+use Rattle.std.specs.Prelude.{◌≤◌, ℕ, List, length, if◌then◌else◌, Option, None, Some}
 use Rattle.qm_model.specs.Command.{value_of}
 use Rattle.qm_model.specs.Batch.{BatchLine, is_status}
 use Rattle.qm_model.specs.Batch as batch
@@ -19,3 +19,13 @@ meaning (line.GoTo label) = batch.GoTo label.now
 meaning line.GoToRestart = batch.GoToRestart
 meaning (line.Exit status) = batch.Exit status
 meaning line.Bad = batch.Bad
+
+-- a mark that a line sets isn't too long
+abbrev pub IsMarkShort : Line → Type 0
+IsMarkShort line.Nothing = Unit {0}
+IsMarkShort (line.Write text) = Unit {0}
+IsMarkShort (line.SetRestart text) = length text.now ≤ 255
+IsMarkShort (line.GoTo label) = Unit {0}
+IsMarkShort line.GoToRestart = Unit {0}
+IsMarkShort (line.Exit status) = Unit {0}
+IsMarkShort line.Bad = Unit {0}

@@ -1,8 +1,8 @@
 // The lines of batch jobs, each with what it asks for.
-ghost use Rattle.std.specs.Prelude.{◌≡◌, ◌++◌, ◌∷◌, [], codes, option_map};
+ghost use Rattle.std.specs.Prelude.{◌≡◌, ◌≤◌, ◌++◌, ◌∷◌, [], codes, length, option_map, IfSome};
 ghost use Rattle.std.specs.Option.{option_and_then};
-ghost use Rattle.qm_model.specs.Batch.{batch_line, behind, ahead_of, only_if, has_no_quote, is_mark, is_label, label_of};
-ghost use Rattle.qm_batch.specs.Lines.{meaning, status_of};
+ghost use Rattle.qm_model.specs.Batch.{batch_line, behind, ahead_of, only_if, has_no_quote, is_mark, is_label, is_label_line, label_of};
+ghost use Rattle.qm_batch.specs.Lines.{meaning, status_of, IsMarkShort};
 
 use crate::parts::{ahead_of, behind, has_no_quote, is_label, is_mark, status_of};
 
@@ -35,7 +35,8 @@ fn written(line: &[u8]) -> Option<&[u8]>
 
 // $ SET RESTART_VALUE = text
 fn restart_value(line: &[u8]) -> Option<&[u8]>
-    ensures { option_map (λ text. text.now) result ≡ option_and_then (only_if is_mark) (behind (codes "$ SET RESTART_VALUE = ") line.now) }
+    ensures few { IfSome result (λ text. length text.now ≤ 255) }
+    ensures value { option_map (λ text. text.now) result ≡ option_and_then (only_if is_mark) (behind (codes "$ SET RESTART_VALUE = ") line.now) }
 {
     let text = behind(b"$ SET RESTART_VALUE = ", line)?;
     if is_mark(text) { Some(text) } else { None }
@@ -47,6 +48,16 @@ fn label_of(line: &[u8]) -> Option<&[u8]>
 {
     let label = ahead_of(b":", behind(b"$ ", line)?)?;
     if is_label(label) { Some(label) } else { None }
+}
+
+/// Whether a line is the label.
+pub(crate) fn is_label_line(label: &[u8], line: &[u8]) -> bool
+    ensures { result ≡ is_label_line label.now line.now }
+{
+    match label_of(line) {
+        Some(found) => label == found,
+        None => false,
+    }
 }
 
 // $ GOTO label
@@ -68,7 +79,8 @@ fn exit_status(line: &[u8]) -> Option<u32>
 ///
 /// OpenVMS User's Manual, on command procedures and `$RESTART`.
 pub fn read_line(line: &[u8]) -> Line
-    ensures { meaning result ≡ batch_line line.now }
+    ensures meaning { meaning result ≡ batch_line line.now }
+    ensures mark { IsMarkShort result }
 {
     if line.is_empty() || line.starts_with(b"$!") {
         return Line::Nothing;

@@ -69,6 +69,7 @@ pub fn print_step<P: Device>(
     ensures next_place { OnOk result (blocks_from work.now cursor.new ≡ drop (at.at + 1) (page_blocks work.now)) }
     ensures no_memory { OnErr result (RunsOut P.meaning work.now.run (course work.now at) device.old device.new) }
     ensures same_place { OnErr result (cursor.new ≡ cursor.old) }
+    ensures untouched { OnErr result (device.new ≡ device.old) }
 {
     let Some(block) = next_block(alloc, work, cursor)? else {
         return Ok(Report::Done {

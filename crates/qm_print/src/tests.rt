@@ -174,18 +174,20 @@ fn print(alloc: Global, device: &mut MemoryDevice, work: &Work) -> Result<(u32, 
 #[test]
 fn a_job_goes_on_behind_its_mark(rt: HostRuntime) -> Result<(), Fail> {
     let alloc = rt.alloc();
-    // The mark, the call at which the device fails, how many marks are reported and the status behind them, and what the
-    // device took.
+    // The text, the mark, the call at which the device fails, how many marks are reported and the status behind them, and
+    // what the device took.
     let cases = [
-        ("", 0, 2, 1, "a\n\x0cb\n\x0cc\n\x0c"),
-        ("1", 0, 1, 1, "b\n\x0cc\n\x0c"),
-        ("02", 0, 0, 1, "c\n\x0c"),
-        ("3", 0, 0, 1, ""),
-        ("4", 0, 2, 1, "a\n\x0cb\n\x0cc\n\x0c"),
-        ("x", 2, 1, DEVICE_FAULT_STATUS, "a\n\x0c"),
+        ("", "", 0, 0, 1, ""),
+        ("a\n", "", 0, 0, 1, "a\n\x0c"),
+        ("abc", "", 0, 2, 1, "a\n\x0cb\n\x0cc\n\x0c"),
+        ("abc", "1", 0, 1, 1, "b\n\x0cc\n\x0c"),
+        ("abc", "02", 0, 0, 1, "c\n\x0c"),
+        ("abc", "3", 0, 0, 1, ""),
+        ("abc", "4", 0, 2, 1, "a\n\x0cb\n\x0cc\n\x0c"),
+        ("abc", "x", 2, 1, DEVICE_FAULT_STATUS, "a\n\x0c"),
     ];
-    for (mark, fails, marks, status, pages) in cases {
-        let mut work = job(alloc, NARROW, 1, false, "abc")?;
+    for (text, mark, fails, marks, status, pages) in cases {
+        let mut work = job(alloc, NARROW, 1, false, text)?;
         work.mark = Mark::new(mark.as_bytes()).unwrap_or(work.mark);
         assert!(rt; is_printable(&work));
         let mut device = MemoryDevice::new(alloc, vec![in alloc; fails]?);
@@ -195,6 +197,73 @@ fn a_job_goes_on_behind_its_mark(rt: HostRuntime) -> Result<(), Fail> {
             printed.extend_from_slice(block.as_slice())?;
         }
         assert_eq!(rt; printed.as_slice(), pages.as_bytes());
+    }
+    Ok(())
+}
+
+// So many lines of 63 letters.
+fn lines_of_letters(alloc: Global, lines: u32) -> Result<Seq<u8>, AllocError> {
+    let mut text = Vec::new(alloc);
+    for line in 0..lines {
+        for column in 0..63 {
+            text.push(b'x')?;
+        }
+        text.push(b'\n')?;
+    }
+    Ok(Seq::of(text))
+}
+
+#[test]
+fn a_mark_counts_the_pages_of_all_copies(rt: HostRuntime) -> Result<(), Fail> {
+    let alloc = rt.alloc();
+    // The lines of a page, those of the text, the copies and the mark; how many marks are reported, and how many pages the
+    // device took.
+    let cases = [
+        (60, 16, 1, "", 0, 1),
+        (60, 72, 1, "", 1, 2),
+        (60, 420, 1, "", 6, 7),
+        (60, 420, 1, "3", 3, 4),
+        (56, 100, 1, "", 1, 2),
+        (56, 100, 2, "", 3, 4),
+    ];
+    for (length, lines, copies, mark, marks, pages) in cases {
+        let shape = Shape {
+            length,
+            width: 132,
+            ..cut(NARROW)
+        };
+        let mut work = job(alloc, shape, copies, false, "")?;
+        work.text = lines_of_letters(alloc, lines)?;
+        work.mark = Mark::new(mark.as_bytes()).unwrap_or(work.mark);
+        assert!(rt; is_printable(&work));
+        let mut device = MemoryDevice::new(alloc, Vec::new(alloc));
+        assert_eq!(rt; print(alloc, &mut device, &work)?, (marks, 1));
+        assert!(rt; device.held().len() == pages);
+    }
+    Ok(())
+}
+
+// So many letters.
+fn letters(alloc: Global, count: usize) -> Result<Seq<u8>, AllocError> {
+    Ok(Seq::of(vec![in alloc; b'x'; count]?))
+}
+
+// A page of 66 lines of 132 columns takes 8,712 letters, where lines go on; else all stand in one line.
+#[test]
+fn sixteen_mib_of_one_letter_are_printed(rt: HostRuntime) -> Result<(), Fail> {
+    let alloc = rt.alloc();
+    for (wrap, marks) in [(true, 1925), (false, 0)] {
+        let shape = Shape {
+            length: 66,
+            width: 132,
+            wrap,
+            ..NARROW
+        };
+        let mut work = job(alloc, shape, 1, false, "")?;
+        work.text = letters(alloc, TEXT_BYTES)?;
+        assert!(rt; is_printable(&work));
+        let mut device = MemoryDevice::new(alloc, Vec::new(alloc));
+        assert_eq!(rt; print(alloc, &mut device, &work)?, (marks, 1));
     }
     Ok(())
 }

@@ -1,8 +1,9 @@
 -- What a step of a symbiont leaves, in a run that has this course before it.
 use Rattle.std.specs.Prelude.{◌≡◌, ◌⊎◌, ℕ, ◌+◌, ◌<◌, ◌≤◌, List, length}
 use Rattle.qm_kinds.specs.declared.work.Work.{Work}
+use Rattle.qm_kinds.specs.declared.work.Place.{Place}
 use Rattle.qm_kinds.specs.declared.work.Report.{Report}
-use Rattle.qm_kinds.specs.declared.work.Report.TheVariants.{Done}
+use Rattle.qm_kinds.specs.declared.work.Report.TheVariants.{Done, Mark}
 use Rattle.qm_model.specs.Reports.{Step, next_report, blocks_before_report}
 use Rattle.qm_symb.specs.Device.{Meaning, Takes, TakesSome, TakesNotAll, OneFailed, IsQuiet}
 use Rattle.qm_symb.specs.declared.symbiont.TheConstants.{DEVICE_FAULT_STATUS, TEXT_BYTES}
@@ -12,6 +13,11 @@ pub record IsWithinLimits (w : Work) : Type 0 where
   pub has_rows : w.shape.top + w.shape.bottom < w.shape.length
   pub has_columns : w.shape.left + w.shape.right < w.shape.width
   pub text : length w.text ≤ TEXT_BYTES
+
+-- a fact of the place where a run goes on behind a report, if it does
+abbrev pub IfGoesOn : Report → (Place → Type 0) → Type 0
+IfGoesOn (Mark value next) fact = fact next
+IfGoesOn (Done status) fact = Unit {0}
 
 module _ {D : Type 0} (m : Meaning D) where
   -- the next report is given, and the blocks before it were handed over

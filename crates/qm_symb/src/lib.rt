@@ -13,4 +13,4 @@ mod tests;
 pub use device::{Device, DeviceFault};
 pub use files::FileDevice;
 pub use memory::MemoryDevice;
-pub use symbiont::{DEVICE_FAULT_STATUS, Symbiont, TEXT_BYTES};
+pub use symbiont::{Beginning, DEVICE_FAULT_STATUS, Symbiont, TEXT_BYTES};

@@ -15,6 +15,13 @@ fn is_before(timer: Timer, other: Timer) -> bool
     timer.0 < other.0 || (timer.0 == other.0 && timer.1 < other.1)
 }
 
+// Whether a timer has a lesser number.
+fn has_less(timer: Timer, number: u32) -> bool
+    ensures { result ≡ nat_lt timer.1 number }
+{
+    timer.1 < number
+}
+
 /// How many of these stand before a timer.
 pub(crate) fn place_by_moment(timers: &[Timer], timer: Timer) -> usize
     requires { IsRising is_before timers.now }
@@ -28,7 +35,7 @@ pub(crate) fn place_by_number(timers: &[Timer], number: u32) -> usize
     requires { IsRising has_less timers.now }
     ensures { Parts (λ t. nat_lt t.1 number) timers.now result }
 {
-    timers.partition_point(|other| other.1 < number)
+    timers.partition_point(|other| has_less(*other, number))
 }
 
 /// Where the timer of a number stands, if it has one.

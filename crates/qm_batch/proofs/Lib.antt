@@ -1,0 +1,4 @@
+pub mod TextLemmas
+pub mod MoveLemmas
+pub mod CourseLemmas
+pub mod StandardLemmas

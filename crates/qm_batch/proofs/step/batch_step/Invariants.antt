@@ -1,0 +1,13 @@
+use Rattle.std.proofs.Common.{◌≡◌}
+use Rattle.qm_model.specs.Reports.{course}
+use Rattle.qm_batch.specs.Cursors.{IsInText}
+use Rattle.qm_batch.proofs.CourseLemmas.{Passed, steps_from}
+use Rattle.qm_batch.proofs.step.batch_step.Given as goal
+
+-- so much of the course is passed, and the cursor stands in front of the rest
+abbrev pub invariant-loop-used : goal.invariant-loop-used
+invariant-loop-used g l = record {
+  same : l.cursor ≡ l.initial.cursor;
+  in_text : IsInText l.work.text l.here;
+  passed : Passed g.P.Device.meaning l.work.run (course l.work l.fn.at) (steps_from l.work l.used l.here.line) l.initial.device l.device;
+}
