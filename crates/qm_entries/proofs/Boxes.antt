@@ -1,0 +1,40 @@
+-- What lies in boxes, and what an edit of the boxes makes of that.
+use Rattle.std.proofs.Common.{◌≡◌, ◌∙◌, ℕ, zero, suc, ◌<◌, ◌≤◌, List, [], ◌∷◌, ◌++◌, length, get_or, take, drop, set, Some, None, refl, sym, ap, arith}
+use Rattle.std.specs.List.{remove, slice_get}
+use Rattle.std.specs.Prelude.{Box}
+use Rattle.std.specs.Box.{with_value}
+use Rattle.std.proofs.lemmas.List.{map-append, map-set, map_push, take-map, drop-map, get_or-map, length-map}
+use Rattle.qm_entries.specs.Boxed.{contents}
+
+module _ {X Z : Type 0} where
+  abbrev pub value_of : Box X Z → X
+  value_of b = b.value
+
+  pub place_within : (boxes : List (Box X Z)) (i : ℕ) (b : Box X Z) → i < length boxes → b ≡ get_or boxes i b → Some b.value ≡ slice_get (contents boxes) i
+  place_within [] i b within read = absurd (omega (arith, within))
+  place_within (c ∷ boxes) zero b within read = ap (λ (x : Box X Z). Some x.value) read
+  place_within (c ∷ boxes) (suc i) b within read = place_within boxes i b (omega (arith, within)) read
+
+  pub place_past : (boxes : List (Box X Z)) (i : ℕ) → length boxes ≤ i → None ≡ slice_get (contents boxes) i
+  place_past [] i past = refl
+  place_past (c ∷ boxes) zero past = absurd (omega (arith, past))
+  place_past (c ∷ boxes) (suc i) past = place_past boxes i (omega (arith, past))
+
+  module _ (boxes : List (Box X Z)) where
+    pub contents_length : length (contents boxes) ≡ length boxes
+    contents_length = length-map boxes value_of
+
+    pub contents_set : (i : ℕ) (b : Box X Z) → contents (set boxes i b) ≡ set (contents boxes) i b.value
+    contents_set i b = map-set value_of boxes i b
+
+    pub contents_pushed : (b : Box X Z) → contents (boxes ++ b ∷ []) ≡ contents boxes ++ b.value ∷ []
+    contents_pushed b = map_push value_of boxes b
+
+    pub contents_removed : (i : ℕ) → contents (remove boxes i) ≡ remove (contents boxes) i
+    contents_removed i = rw (take-map value_of i boxes, drop-map value_of (suc i) boxes) (map-append value_of (take i boxes) (drop (suc i) boxes))
+
+    -- a value that was read is written back changed
+    pub contents_changed : (change : X → X) (i : ℕ) (b : Box X Z) (x : X) → i < length boxes → b ≡ get_or boxes i b → x ≡ b.value → (d : X) → contents (set boxes i (with_value b (change x))) ≡ set (contents boxes) i (change (get_or (contents boxes) i d))
+    contents_changed change i b x within read is d =
+        contents_set i (with_value b (change x))
+        ∙ ap (λ (y : X). set (contents boxes) i (change y)) (is ∙ ap value_of read ∙ sym (get_or-map value_of boxes i b d within))

@@ -1,0 +1,11 @@
+//! Entries by number. `EntryTable` keeps each in a box of its own, so that none is moved while others come and go.
+#![tactic(auto)]
+
+mod boxed;
+mod change;
+mod places;
+mod table;
+#[cfg(test)]
+mod tests;
+
+pub use table::EntryTable;

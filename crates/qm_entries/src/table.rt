@@ -1,0 +1,168 @@
+// The entries in order of their numbers.
+ghost use Rattle.std.specs.Prelude.{◌≡◌, ◌+◌, ◌-◌, ◌<◌, ◌≤◌, ◌++◌, ◌∷◌, [], All, is_some, Some, None, true, OnErr, OnOk};
+ghost use Rattle.std.specs.Option.{option_copied};
+ghost use Rattle.std.specs.Ordering.{nat_cmp};
+ghost use Rattle.qm_model.specs.Consistent.{IsInOrder};
+ghost use Rattle.qm_model.specs.Find.{entry_numbered};
+ghost use Rattle.qm_model.specs.Standing.{with_entry};
+ghost use Rattle.qm_entries.specs.Entries.{entry_after};
+ghost use Rattle.qm_entries.specs.Changes.{changed_by};
+
+use crate::boxed;
+use crate::change::Change;
+use crate::places::{change_at, filler, place_after, place_of};
+use qm_kinds::{Entry, EntryState, Mark, Name};
+use std::alloc::{AllocError, Global};
+use std::marker::Model;
+
+/// Entries, each under its number. Contracts see a `Kept`: the entries in order of their numbers, and how many more have
+/// room, which is one or none.
+///
+/// Only `reserve` takes memory: a place of 8 bytes, and the box of the entry that comes next. Each other call asks a
+/// logarithm of the entries. `remove` also moves the places that stand behind, 8 bytes each; a new entry goes behind the
+/// others, so `insert` moves none. No entry is moved when another one comes, is changed or goes.
+#[derive(Drop)]
+pub struct EntryTable {
+    alloc: Global,
+    boxes: Vec<Box<Entry>>,
+    // The box of the entry that comes next. There is a place for it.
+    ready: Option<Box<Entry>>,
+}
+
+impl Model for EntryTable {
+    ghost use Rattle.std.specs.Prelude.{◌<◌, if◌then◌else◌, is_some, IsSome, vec_len, vec_capacity};
+    ghost use Rattle.std.specs.Ordering.{nat_cmp};
+    ghost use Rattle.qm_model.specs.Consistent.{IsInOrder};
+    ghost use Rattle.qm_entries.specs.Entries.{Kept};
+    ghost use Rattle.qm_entries.specs.Boxed.{contents};
+
+    ghost Value = { Kept };
+
+    ghost view = { λ t. record { entries = contents t.boxes.items; spare = if is_some t.ready then 1 else 0 } };
+
+    ghost invariant = { λ t. IsInOrder nat_cmp (λ e. e.number) (contents t.boxes.items) × (IsSome t.ready → vec_len t.boxes < vec_capacity t.boxes) };
+}
+
+impl EntryTable {
+    /// No entry, and room for none. It takes no memory.
+    pub fn new(alloc: Global) -> EntryTable
+        ensures { result ≡ record { entries = []; spare = 0 } }
+    {
+        EntryTable {
+            alloc,
+            boxes: Vec::new(alloc),
+            ready: None,
+        }
+    }
+
+    /// Makes room for one entry more. Where there is room it takes no memory, and succeeds.
+    pub fn reserve(&mut self) -> Result<(), AllocError>
+        ensures ok { OnOk result (self.new.spare ≡ 1) }
+        ensures err { OnErr result (self.old.spare ≡ 0) }
+        ensures no_less { self.old.spare ≤ self.new.spare }
+        ensures entries { self.new.entries ≡ self.old.entries }
+    {
+        if self.ready.is_some() {
+            return Ok(());
+        }
+        self.boxes.reserve(1)?;
+        let ready = Box::new(self.alloc, filler())?;
+        self.ready = Some(ready);
+        Ok(())
+    }
+
+    /// Puts in an entry, for which there is room. Its number is greater than all others.
+    pub fn insert(&mut self, entry: Entry)
+        requires room { 0 < self.old.spare }
+        requires last { All (λ e. e.number < entry.number) self.old.entries }
+        ensures { self.new ≡ record { entries = self.old.entries ++ entry ∷ []; spare = self.old.spare - 1 } }
+    {
+        boxed::put_last(&mut self.boxes, &mut self.ready, &entry);
+    }
+
+    /// The entry of a number.
+    pub fn get(&self, number: u32) -> Option<&Entry>
+        ensures found { option_copied result ≡ entry_numbered number self.now.entries }
+        ensures in_order { IsInOrder nat_cmp (λ e. e.number) self.now.entries }
+    {
+        let Ok(place) = place_of(&self.boxes, number) else {
+            return None;
+        };
+        boxed::at(&self.boxes, place)
+    }
+
+    // Sets a field of the entry of a number, and says whether there is one. Where there is none, nothing changes.
+    fn change(&mut self, number: u32, change: &Change) -> bool
+        ensures found { result ≡ is_some (entry_numbered number self.old.entries) }
+        ensures entries { self.new ≡ record self.old { entries = with_entry number (λ e. Some (changed_by change.now e)) self.old.entries } }
+    {
+        let Ok(place) = place_of(&self.boxes, number) else {
+            return false;
+        };
+        change_at(&mut self.boxes, place, change);
+        true
+    }
+
+    /// Sets the state of the entry of a number, and says whether there is one. Where there is none, nothing changes.
+    pub fn set_state(&mut self, number: u32, state: EntryState) -> bool
+        ensures found { result ≡ is_some (entry_numbered number self.old.entries) }
+        ensures entries { self.new ≡ record self.old { entries = with_entry number (λ e. Some (record e { state = state })) self.old.entries } }
+    {
+        self.change(number, &Change::State(state))
+    }
+
+    /// Sets the last checkpoint of the entry of a number, and says whether there is one. Where there is none, nothing changes.
+    pub fn set_mark(&mut self, number: u32, mark: Mark) -> bool
+        ensures found { result ≡ is_some (entry_numbered number self.old.entries) }
+        ensures entries { self.new ≡ record self.old { entries = with_entry number (λ e. Some (record e { mark = mark })) self.old.entries } }
+    {
+        self.change(number, &Change::Mark(mark))
+    }
+
+    /// Keeps that the job of a number was put back into its queue after a run, and says whether there is one. Where there
+    /// is none, nothing changes.
+    pub fn set_again(&mut self, number: u32) -> bool
+        ensures found { result ≡ is_some (entry_numbered number self.old.entries) }
+        ensures entries { self.new ≡ record self.old { entries = with_entry number (λ e. Some (record e { again = true })) self.old.entries } }
+    {
+        self.change(number, &Change::Again)
+    }
+
+    /// Sets the home of the entry of a number, and says whether there is one. Where there is none, nothing changes.
+    pub fn set_home(&mut self, number: u32, home: Name) -> bool
+        ensures found { result ≡ is_some (entry_numbered number self.old.entries) }
+        ensures entries { self.new ≡ record self.old { entries = with_entry number (λ e. Some (record e { home = home })) self.old.entries } }
+    {
+        self.change(number, &Change::Home(home))
+    }
+
+    /// Puts an entry in the place of the one of its number, and gives that. Where there is none, nothing changes.
+    pub fn replace(&mut self, entry: Entry) -> Option<Entry>
+        ensures replaced { result ≡ entry_numbered entry.number self.old.entries }
+        ensures entries { self.new ≡ record self.old { entries = with_entry entry.number (λ e. Some entry) self.old.entries } }
+    {
+        let Ok(place) = place_of(&self.boxes, entry.number) else {
+            return None;
+        };
+        Some(boxed::replace(&mut self.boxes, place, entry))
+    }
+
+    /// Takes out the entry of a number, and gives it. Where there is none, nothing changes.
+    pub fn remove(&mut self, number: u32) -> Option<Entry>
+        ensures removed { result ≡ entry_numbered number self.old.entries }
+        ensures entries { self.new ≡ record self.old { entries = with_entry number (λ e. None) self.old.entries } }
+    {
+        let Ok(place) = place_of(&self.boxes, number) else {
+            return None;
+        };
+        Some(boxed::take(&mut self.boxes, place))
+    }
+
+    /// The entry of the least number that is greater than this one.
+    pub fn after(&self, number: u32) -> Option<&Entry>
+        ensures next { option_copied result ≡ entry_after number self.now.entries }
+        ensures in_order { IsInOrder nat_cmp (λ e. e.number) self.now.entries }
+    {
+        boxed::at(&self.boxes, place_after(&self.boxes, number))
+    }
+}

@@ -1,0 +1,122 @@
+// The queues in order of their names.
+ghost use Rattle.std.specs.Prelude.{◌≡◌, ◌+◌, ◌-◌, ◌<◌, ◌≤◌, [], if◌then◌else◌, is_some, OnErr, OnOk};
+ghost use Rattle.std.specs.Option.{option_copied};
+ghost use Rattle.qm_model.specs.Consistent.{IsInOrder};
+ghost use Rattle.qm_model.specs.Find.{name_cmp, queue_named};
+ghost use Rattle.qm_model.specs.Queues.{without_queue};
+ghost use Rattle.qm_model.specs.Standing.{with_queue};
+ghost use Rattle.qm_queues.specs.Queues.{with_queue_put, queue_after};
+
+use crate::places::{place_after, place_of, put, replace, set_state};
+use qm_kinds::{Name, Queue, QueueState};
+use std::alloc::{AllocError, Global};
+use std::marker::Model;
+
+/// Queues, each under its name. Contracts see a `Kept`: the queues in order of their names, and how many more have room.
+///
+/// Only `reserve` takes memory. Each other call asks a logarithm of the queues. A new queue and a removal also move the
+/// queues that stand behind.
+#[derive(Drop)]
+pub struct QueueTable {
+    queues: Vec<Queue>,
+}
+
+impl Model for QueueTable {
+    ghost use Rattle.std.specs.Prelude.{◌-◌, vec_len, vec_capacity};
+    ghost use Rattle.qm_model.specs.Consistent.{IsInOrder};
+    ghost use Rattle.qm_model.specs.Find.{name_cmp};
+    ghost use Rattle.qm_queues.specs.Queues.{Kept};
+
+    ghost Value = { Kept };
+
+    ghost view = { λ t. record { queues = t.queues.items; spare = vec_capacity t.queues - vec_len t.queues } };
+
+    ghost invariant = { λ t. IsInOrder name_cmp (λ q. q.name) t.queues.items };
+}
+
+impl QueueTable {
+    /// No queue, and room for none. It takes no memory.
+    pub fn new(alloc: Global) -> QueueTable
+        ensures { result ≡ record { queues = []; spare = 0 } }
+    {
+        QueueTable {
+            queues: Vec::new(alloc),
+        }
+    }
+
+    /// Makes room for one queue more. Where there is room it takes no memory, and succeeds.
+    pub fn reserve(&mut self) -> Result<(), AllocError>
+        ensures ok { OnOk result (0 < self.new.spare) }
+        ensures err { OnErr result (self.old.spare ≡ 0) }
+        ensures no_less { self.old.spare ≤ self.new.spare }
+        ensures queues { self.new.queues ≡ self.old.queues }
+    {
+        self.queues.reserve(1)
+    }
+
+    /// Puts a queue in its place, for which there is room, and gives the queue of its name that it replaces.
+    pub fn put(&mut self, queue: Queue) -> Option<Queue>
+        requires room { 0 < self.old.spare }
+        ensures replaced { result ≡ queue_named queue.name self.old.queues }
+        ensures queues { self.new ≡ record {
+          queues = with_queue_put queue self.old.queues;
+          spare = if is_some result then self.old.spare else self.old.spare - 1;
+        } }
+    {
+        match place_of(&self.queues, &queue.name) {
+            Ok(place) => Some(replace(&mut self.queues, place, queue)),
+            Err(place) => {
+                put(&mut self.queues, place, queue);
+                None
+            }
+        }
+    }
+
+    /// The queue of a name.
+    pub fn get(&self, name: &Name) -> Option<&Queue>
+        ensures found { option_copied result ≡ queue_named name.now self.now.queues }
+        ensures in_order { IsInOrder name_cmp (λ q. q.name) self.now.queues }
+    {
+        let Ok(place) = place_of(&self.queues, name) else {
+            return None;
+        };
+        Some(&self.queues[place])
+    }
+
+    /// Sets the state of the queue of a name, and says whether there is one. Where there is none, nothing changes.
+    pub fn set_state(&mut self, name: &Name, state: QueueState) -> bool
+        ensures found { result ≡ is_some (queue_named name.now self.old.queues) }
+        ensures queues { self.new ≡ record self.old { queues = with_queue name.now (λ q. record q { state = state }) self.old.queues } }
+    {
+        let Ok(place) = place_of(&self.queues, name) else {
+            return false;
+        };
+        set_state(&mut self.queues, place, state);
+        true
+    }
+
+    /// Takes out the queue of a name, and gives it. Where there is none, nothing changes.
+    pub fn remove(&mut self, name: &Name) -> Option<Queue>
+        ensures removed { result ≡ queue_named name.now self.old.queues }
+        ensures queues { self.new ≡ record {
+          queues = without_queue name.now self.old.queues;
+          spare = if is_some result then self.old.spare + 1 else self.old.spare;
+        } }
+    {
+        let Ok(place) = place_of(&self.queues, name) else {
+            return None;
+        };
+        Some(self.queues.remove(place))
+    }
+
+    /// The queue of the least name that is greater than this one, or of the least name where none is given.
+    pub fn after(&self, name: Option<&Name>) -> Option<&Queue>
+        ensures next { option_copied result ≡ queue_after (option_copied name.entry) self.now.queues }
+        ensures in_order { IsInOrder name_cmp (λ q. q.name) self.now.queues }
+    {
+        match name {
+            None => self.queues.first(),
+            Some(name) => self.queues.get(place_after(&self.queues, name)),
+        }
+    }
+}

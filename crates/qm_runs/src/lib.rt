@@ -1,0 +1,10 @@
+//! Runs: which jobs run, in which queues and on which nodes. `Runs` keeps them in order of their numbers, and gives each
+//! new one the next number.
+#![tactic(auto)]
+
+mod places;
+mod runs;
+#[cfg(test)]
+mod tests;
+
+pub use runs::Runs;
