@@ -1,0 +1,89 @@
+// The tests by which a queue can start a job, each by itself.
+ghost use Rattle.std.specs.Prelude.{◌≡◌, false, not, ◌||◌};
+ghost use Rattle.std.specs.Option.{option_map_or};
+ghost use Rattle.std.specs.Str.{bytes_eq};
+ghost use Rattle.qm_model.specs.Fitting.{is_started, is_of_kind, passes_on_to, has_characteristics, has_size};
+ghost use Rattle.qm_model.specs.JobStates.{is_pending};
+ghost use Rattle.qm_model.specs.Kinds.{is_generic, is_print};
+
+use qm_kinds::{Entry, EntryState, JobKind, Name, Queue, QueueKind, QueueState};
+
+/// Whether a job waits for nothing but its start.
+pub(crate) fn is_pending(state: &EntryState) -> bool
+    ensures { result ≡ is_pending state.now }
+{
+    matches!(state, EntryState::Pending)
+}
+
+/// Whether a queue is an execution queue for jobs of this one's kind.
+pub(crate) fn is_of_kind(entry: &Entry, queue: &Queue) -> bool
+    ensures { result ≡ is_of_kind entry.now queue.now }
+{
+    matches!(
+        (entry.kind, queue.kind),
+        (JobKind::Batch, QueueKind::Batch) | (JobKind::Print, QueueKind::Print)
+    )
+}
+
+/// Whether a queue in this state starts jobs.
+pub(crate) fn is_started(state: QueueState) -> bool
+    ensures { result ≡ is_started state }
+{
+    matches!(state, QueueState::Started)
+}
+
+fn is_generic(kind: QueueKind) -> bool
+    ensures { result ≡ is_generic kind }
+{
+    matches!(kind, QueueKind::GenericBatch | QueueKind::GenericPrint)
+}
+
+// Whether a queue is a generic one that is started and names the queue of this name.
+fn passes_on_to(generic: &Queue, name: &Name) -> bool
+    ensures { result ≡ passes_on_to name.now generic.now }
+{
+    is_generic(generic.kind)
+        && is_started(generic.state)
+        && generic.targets.as_slice().contains(name)
+}
+
+/// Whether the jobs of a home reach a queue: it is their home, or is named by it.
+pub(crate) fn is_reached(entry: &Entry, home: &Queue, queue: &Queue) -> bool
+    ensures { result ≡ (bytes_eq entry.now.home queue.now.name || passes_on_to queue.now.name home.now) }
+{
+    entry.home == queue.name || passes_on_to(home, &queue.name)
+}
+
+/// Whether a queue has each characteristic that a job asks for.
+pub(crate) fn has_characteristics(entry: &Entry, queue: &Queue) -> bool
+    ensures { result ≡ has_characteristics entry.now queue.now }
+{
+    entry.characteristics.is_subset(queue.characteristics)
+}
+
+/// Whether a job prints, so that stock and size count.
+pub(crate) fn is_print(kind: JobKind) -> bool
+    ensures { result ≡ is_print kind }
+{
+    matches!(kind, JobKind::Print)
+}
+
+/// Whether a job's stock is there, and the one that is mounted.
+pub(crate) fn has_stock(entry: &Entry, stocks: Option<(Name, Name)>) -> bool
+    ensures { result ≡ (not (is_print entry.now.kind) || option_map_or (λ pair. bytes_eq pair.0 pair.1) stocks false) }
+{
+    !is_print(entry.kind) || is_same_stock(stocks)
+}
+
+fn is_same_stock(stocks: Option<(Name, Name)>) -> bool
+    ensures { result ≡ option_map_or (λ pair. bytes_eq pair.0 pair.1) stocks false }
+{
+    stocks.is_some_and(|(wanted, mounted)| wanted == mounted)
+}
+
+/// Whether a print job's size lies within the queue's limits, both ends included.
+pub(crate) fn has_size(entry: &Entry, queue: &Queue) -> bool
+    ensures { result ≡ has_size entry.now queue.now }
+{
+    !is_print(entry.kind) || (queue.lower <= entry.size && entry.size <= queue.upper)
+}
