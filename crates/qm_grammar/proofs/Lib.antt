@@ -1,0 +1,4 @@
+pub mod Spelling
+pub mod ConflictPlaces
+pub mod RuleLemmas
+pub mod PartLemmas

@@ -1,0 +1,73 @@
+-- Which command the tokens behind a verb make of it, and what stands behind its /.
+use Rattle.std.specs.Prelude.{ℕ, Bool, true, false, ◌&&◌, if◌then◌else◌, is_some, find, List, [], ◌∷◌, Option, None, Some}
+use Rattle.std.specs.Option.{option_or}
+use Rattle.qm_lex.specs.declared.token.Token.{Token}
+use Rattle.qm_lex.specs.declared.token.TokenKind.{TokenKind}
+use Rattle.qm_lex.specs.declared.token.TokenKind.TheVariants as kinds
+use Rattle.qm_grammar.specs.declared.table.Verb.{Verb}
+use Rattle.qm_grammar.specs.declared.table.Command.{Command}
+use Rattle.qm_grammar.specs.declared.table.Row.{Row}
+use Rattle.qm_grammar.specs.declared.rules.Takes.{Takes}
+use Rattle.qm_grammar.specs.declared.word.Word.{Word}
+use Rattle.qm_grammar.specs.Words.{verb_spelling, spelling}
+use Rattle.qm_grammar.specs.Spelled.{is_spelled, is_text}
+use Rattle.qm_grammar.specs.Table.{rows_of, verbs}
+use Rattle.qm_grammar.specs.Rules.{rules_of}
+use Rattle.qm_grammar.specs.Conflicts.{counting_place}
+
+-- the verb that a token is
+abbrev pub verb_of : List ℕ → Token → Option Verb
+verb_of text token = find (λ verb. is_spelled text (verb_spelling verb) token) verbs
+
+-- behind these tokens a word or a quoted string is a parameter: it is no name behind a / and no value
+abbrev pub lets_follow : TokenKind → Bool
+lets_follow kinds.Word = true
+lets_follow kinds.Quoted = true
+lets_follow kinds.Close = true
+lets_follow kinds.Slash = false
+lets_follow kinds.Equals = false
+lets_follow kinds.Open = false
+lets_follow kinds.Comma = false
+
+-- the first parameter, behind a token that lets one follow or doesn't
+abbrev pub parameter_behind : Bool → List Token → Option Token
+parameter_behind follows [] = None
+parameter_behind follows (token ∷ tokens) = if follows && is_text token.kind then Some token else parameter_behind (lets_follow token.kind) tokens
+
+-- the first parameter of a verb
+abbrev pub first_parameter : List Token → Option Token
+first_parameter tokens = parameter_behind true tokens
+
+-- the option that is the first parameter is this one, if there is to be one
+abbrev pub has_object : List ℕ → Option Word → Option Token → Bool
+has_object text None parameter = true
+has_object text (Some word) None = false
+has_object text (Some word) (Some token) = is_spelled text (spelling word) token
+
+-- the option behind a / is given, if there is to be one
+abbrev pub has_option : List ℕ → List Token → Option Word → Bool
+has_option text tokens None = true
+has_option text tokens (Some word) = is_some (counting_place text tokens word)
+
+-- the tokens behind the verb name this command
+abbrev pub is_named : List ℕ → List Token → Row → Bool
+is_named text tokens row =
+    has_object text row.object (first_parameter tokens) && has_option text tokens row.option && has_option text tokens row.further
+
+-- the command that the tokens behind a verb name
+abbrev pub row_of : List ℕ → List Token → Verb → Option Row
+row_of text tokens verb = find (is_named text tokens) (rows_of verb)
+
+-- what a token says behind a / in a command
+abbrev pub rule_in : List ℕ → Token → Command → Option (Word × Takes)
+rule_in text token command = find (λ rule. is_spelled text (spelling rule.0) token) (rules_of command)
+
+-- what it says in the first of these commands that has it
+abbrev pub rule_among : List ℕ → Token → List Row → Option (Word × Takes)
+rule_among text token [] = None
+rule_among text token (row ∷ rows) = option_or (rule_in text token row.command) (rule_among text token rows)
+
+-- what it says in the command, or in any one of the verb where none is named
+abbrev pub rule_for : List ℕ → Token → Verb → Option Row → Option (Word × Takes)
+rule_for text token verb None = rule_among text token (rows_of verb)
+rule_for text token verb (Some row) = rule_in text token row.command

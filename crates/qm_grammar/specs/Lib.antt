@@ -1,0 +1,11 @@
+pub mod Words
+pub mod Spelled
+pub mod Table
+pub mod Rules
+pub mod Conflicts
+pub mod Finding
+pub mod Places
+pub mod Steps
+pub mod Reading
+pub mod Parts
+pub mod Parsed

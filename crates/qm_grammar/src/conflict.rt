@@ -1,0 +1,155 @@
+// Which options and qualifiers exclude each other.
+ghost use Rattle.std.specs.Prelude.{◌≡◌};
+ghost use Rattle.qm_grammar.specs.Rules.{exclusions_of};
+ghost use Rattle.qm_grammar.specs.Conflicts.{slash_place, is_word_given, place_with, counting_place, conflict_of, earlier, first_conflict};
+
+use crate::table::Verb;
+use crate::token::is_spelled;
+use crate::word::{Word, spelling, undone_by};
+use qm_lex::{Token, TokenKind};
+
+// Two words that exclude each other.
+type Exclusion = (Word, Word);
+
+const INITIALIZE: [Exclusion; 1] = [(Word::Generic, Word::On)];
+
+const SET: [Exclusion; 2] = [(Word::Release, Word::Hold), (Word::Release, Word::After)];
+
+const STOP: [Exclusion; 8] = [
+    (Word::Next, Word::Reset),
+    (Word::Next, Word::Abort),
+    (Word::Next, Word::Requeue),
+    (Word::Reset, Word::Abort),
+    (Word::Reset, Word::Requeue),
+    (Word::Abort, Word::Requeue),
+    (Word::Entry, Word::Next),
+    (Word::Entry, Word::Reset),
+];
+
+const DELETE: [Exclusion; 6] = [
+    (Word::Queue, Word::Form),
+    (Word::Queue, Word::Characteristic),
+    (Word::Queue, Word::Entry),
+    (Word::Form, Word::Characteristic),
+    (Word::Form, Word::Entry),
+    (Word::Characteristic, Word::Entry),
+];
+
+const DEFINE: [Exclusion; 2] = [
+    (Word::Form, Word::Characteristic),
+    (Word::Wrap, Word::Truncate),
+];
+
+const SHOW: [Exclusion; 3] = [
+    (Word::Form, Word::Characteristics),
+    (Word::Form, Word::Managers),
+    (Word::Characteristics, Word::Managers),
+];
+
+// Which exclude each other, options among them.
+fn exclusions_of(verb: Verb) -> &'static [Exclusion]
+    ensures { result.now ≡ exclusions_of verb }
+{
+    match verb {
+        Verb::Initialize => &INITIALIZE,
+        Verb::Set => &SET,
+        Verb::Stop => &STOP,
+        Verb::Delete => &DELETE,
+        Verb::Define => &DEFINE,
+        Verb::Show => &SHOW,
+        Verb::Start | Verb::Assign | Verb::Submit | Verb::Print => &[],
+    }
+}
+
+// The place of a `/`.
+fn slash_place(token: Token) -> Option<usize>
+    ensures { result ≡ slash_place token.kind token.start }
+{
+    match token.kind {
+        TokenKind::Slash => Some(token.start),
+        _ => None,
+    }
+}
+
+// Whether a token is spelled like the word, if there is one.
+fn is_word_given(text: &[u8], word: Option<Word>, token: Token) -> bool
+    ensures { result ≡ is_word_given text.now word token }
+{
+    match word {
+        Some(word) => is_spelled(text, spelling(word), token),
+        None => false,
+    }
+}
+
+// Where a qualifier was given that counts, once one more token has come, and behind which `/` that stands.
+fn place_with(
+    text: &[u8],
+    word: Word,
+    slash: Option<usize>,
+    so_far: Option<usize>,
+    token: Token,
+) -> Option<usize>
+    ensures { result ≡ place_with text.now word slash so_far token }
+{
+    if slash.is_none() {
+        return so_far;
+    }
+    if is_spelled(text, spelling(word), token) {
+        slash
+    } else if is_word_given(text, undone_by(word), token) {
+        None
+    } else {
+        so_far
+    }
+}
+
+/// The `/` of a qualifier that counts: it is given, and its other form doesn't undo it.
+pub(crate) fn counting_place(text: &[u8], tokens: &[Token], word: Word) -> Option<usize>
+    ensures { result ≡ counting_place text.now tokens.now word }
+{
+    let mut slash = None;
+    let mut place = None;
+    let mut rest = tokens;
+    while let [token, behind @ ..] = rest {
+        place = place_with(text, word, slash, place, *token);
+        slash = slash_place(*token);
+        rest = behind;
+    }
+    place
+}
+
+// The conflict of two that exclude each other, at the later of them.
+fn conflict_of(text: &[u8], tokens: &[Token], pair: Exclusion) -> Option<usize>
+    ensures { result ≡ conflict_of text.now tokens.now pair }
+{
+    let first = counting_place(text, tokens, pair.0);
+    let second = counting_place(text, tokens, pair.1);
+    match (first, second) {
+        (Some(first), Some(second)) => Some(if first < second { second } else { first }),
+        _ => None,
+    }
+}
+
+// The earlier of two places, or the only one.
+fn earlier(first: Option<usize>, second: Option<usize>) -> Option<usize>
+    ensures { result ≡ earlier first second }
+{
+    match (first, second) {
+        (Some(first), Some(second)) => Some(if first < second { first } else { second }),
+        (None, second) => second,
+        (first, None) => first,
+    }
+}
+
+/// The first place of a conflict among the qualifiers and options of a verb.
+pub(crate) fn first_conflict(text: &[u8], tokens: &[Token], verb: Verb) -> Option<usize>
+    ensures { result ≡ first_conflict text.now tokens.now (exclusions_of verb) }
+{
+    let mut place = None;
+    let mut rest = exclusions_of(verb);
+    while let [pair, behind @ ..] = rest {
+        place = earlier(place, conflict_of(text, tokens, *pair));
+        rest = behind;
+    }
+    place
+}

@@ -1,0 +1,133 @@
+// Which command the tokens behind a verb make of it, and what stands behind its `/`.
+ghost use Rattle.std.specs.Prelude.{◌≡◌, find};
+ghost use Rattle.qm_grammar.specs.Finding.{verb_of, lets_follow, first_parameter, has_object, has_option, is_named, row_of, rule_in, rule_among, rule_for};
+ghost use Rattle.qm_grammar.specs.Table.{rows_of};
+ghost use Rattle.qm_grammar.specs.Spelled.{is_spelled};
+ghost use Rattle.qm_grammar.specs.Words.{spelling};
+
+use crate::conflict::counting_place;
+use crate::rules::{Rule, own_rules, settings};
+use crate::table::{Command, Row, VERBS, Verb, rows_of};
+use crate::token::{is_spelled, is_text};
+use crate::word::{Word, spelling, verb_spelling};
+use qm_lex::{Token, TokenKind};
+
+/// The verb that a token is.
+pub(crate) fn verb_of(text: &[u8], token: Token) -> Option<Verb>
+    ensures { result ≡ verb_of text.now token }
+{
+    VERBS
+        .iter()
+        .copied()
+        .find(|verb| is_spelled(text, verb_spelling(*verb), token))
+}
+
+// Whether a word or a quoted string behind this token is a parameter: it is no name behind a `/` and no value.
+fn lets_follow(token: Token) -> bool
+    ensures { result ≡ lets_follow token.kind }
+{
+    match token.kind {
+        TokenKind::Word | TokenKind::Quoted | TokenKind::Close => true,
+        _ => false,
+    }
+}
+
+// The first parameter of a verb.
+fn first_parameter(tokens: &[Token]) -> Option<Token>
+    ensures { result ≡ first_parameter tokens.now }
+{
+    let mut follows = true;
+    let mut rest = tokens;
+    while let [token, behind @ ..] = rest {
+        if follows && is_text(*token) {
+            return Some(*token);
+        }
+        follows = lets_follow(*token);
+        rest = behind;
+    }
+    None
+}
+
+// Whether the option that is the first parameter is this one, if there is to be one.
+fn has_object(text: &[u8], object: Option<Word>, parameter: Option<Token>) -> bool
+    ensures { result ≡ has_object text.now object parameter }
+{
+    match (object, parameter) {
+        (None, _) => true,
+        (Some(_), None) => false,
+        (Some(word), Some(token)) => is_spelled(text, spelling(word), token),
+    }
+}
+
+// Whether the option behind a `/` is given, if there is to be one.
+fn has_option(text: &[u8], tokens: &[Token], option: Option<Word>) -> bool
+    ensures { result ≡ has_option text.now tokens.now option }
+{
+    match option {
+        None => true,
+        Some(word) => counting_place(text, tokens, word).is_some(),
+    }
+}
+
+// Whether the tokens behind the verb name this command.
+fn is_named(text: &[u8], tokens: &[Token], row: &Row) -> bool
+    ensures { result ≡ is_named text.now tokens.now row.now }
+{
+    has_object(text, row.object, first_parameter(tokens))
+        && has_option(text, tokens, row.option)
+        && has_option(text, tokens, row.further)
+}
+
+/// The command that the tokens behind a verb name.
+pub(crate) fn row_of(text: &[u8], tokens: &[Token], verb: Verb) -> Option<Row>
+    ensures { result ≡ row_of text.now tokens.now verb }
+{
+    rows_of(verb)
+        .iter()
+        .copied()
+        .find(|row| is_named(text, tokens, row))
+}
+
+// What a token says behind a `/`, by these rules.
+fn rule_by(text: &[u8], token: Token, rules: &[Rule]) -> Option<Rule>
+    ensures { result ≡ find (λ rule. is_spelled text.now (spelling rule.0) token) rules.now }
+{
+    rules
+        .iter()
+        .copied()
+        .find(|rule| is_spelled(text, spelling(rule.0), token))
+}
+
+// What a token says behind a `/` in a command.
+fn rule_in(text: &[u8], token: Token, command: Command) -> Option<Rule>
+    ensures { result ≡ rule_in text.now token command }
+{
+    match rule_by(text, token, own_rules(command)) {
+        Some(rule) => Some(rule),
+        None => rule_by(text, token, settings(command)),
+    }
+}
+
+/// What a token says behind a `/` in the first command of a verb that has it.
+pub(crate) fn rule_among(text: &[u8], token: Token, verb: Verb) -> Option<Rule>
+    ensures { result ≡ rule_among text.now token (rows_of verb) }
+{
+    let mut rest = rows_of(verb);
+    while let [row, behind @ ..] = rest {
+        if let Some(rule) = rule_in(text, token, row.command) {
+            return Some(rule);
+        }
+        rest = behind;
+    }
+    None
+}
+
+/// What a token says behind a `/` in the command, or in any one of the verb where none is named.
+pub(crate) fn rule_for(text: &[u8], token: Token, verb: Verb, row: Option<Row>) -> Option<Rule>
+    ensures { result ≡ rule_for text.now token verb row }
+{
+    match row {
+        Some(row) => rule_in(text, token, row.command),
+        None => rule_among(text, token, verb),
+    }
+}

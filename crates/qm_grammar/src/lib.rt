@@ -1,0 +1,24 @@
+//! The grammar of commands: a table of verbs, options, parameters and qualifiers, written once for all commands, and the
+//! reader of texts by it. `parse` tells which command a text is and which parts it has, exactly as the grammar in `specs/`
+//! says, or what is wrong and where. The meaning of a command isn't told here, nor what a value says.
+#![tactic(auto)]
+
+mod conflict;
+mod fault;
+mod finding;
+mod part;
+mod place;
+mod reader;
+mod reading;
+mod rules;
+mod step;
+mod table;
+mod token;
+mod word;
+
+pub use fault::Fault;
+pub use part::{Part, parts_of};
+pub use reader::{ParseFault, Parsed, parse};
+pub use reading::command_of;
+pub use table::{Command, is_built};
+pub use word::Word;

@@ -1,0 +1,295 @@
+// One token further.
+ghost use Rattle.std.specs.Prelude.{◌≡◌};
+ghost use Rattle.qm_grammar.specs.Places.{is_owing, misplaced, is_joined, one_more};
+ghost use Rattle.qm_grammar.specs.Steps.{unknown_kind, named_by, with_value, is_no_object, with_parameter, with_name, with_text, with_word, with_slash, with_equals, with_open, with_close, with_comma, with_token};
+
+use crate::fault::{Fault, fault_at};
+use crate::finding::{rule_among, rule_for};
+use crate::place::{Place, State, is_awaited, moved};
+use crate::rules::{Rule, may_have_key, most_values, needs_value};
+use crate::table::{Row, Verb, takes_object, takes_option};
+use qm_kinds::ParseKind;
+use qm_lex::{Token, TokenKind};
+
+/// Whether a value, or the end of a list, is missing, if nothing more of this qualifier comes.
+pub(crate) fn is_owing(s: &State) -> bool
+    ensures { result ≡ is_owing s.now }
+{
+    s.owed || is_awaited(s.place, s.takes, s.in_list)
+}
+
+// What is wrong where a token isn't in place. A `/` without a name, and a `=` where no value is taken, are at fault themselves.
+fn misplaced(s: &State, at: usize) -> Fault
+    ensures { result ≡ misplaced s.now.place s.now at }
+{
+    match s.place {
+        Place::VerbSlash | Place::Slash => fault_at(s.start, ParseKind::Qualifier),
+        Place::Equals => {
+            let place = if needs_value(s.takes) { at } else { s.start };
+            fault_at(place, ParseKind::Form)
+        }
+        _ => fault_at(at, ParseKind::Form),
+    }
+}
+
+// Whether a token stands directly behind a word or a quoted string: parameters are parted by blanks.
+fn is_joined(s: &State, token: Token) -> bool
+    ensures { result ≡ is_joined s.now.place s.now.end token.start }
+{
+    match s.place {
+        Place::Close => false,
+        _ => s.end == token.start,
+    }
+}
+
+// One more parameter, where the command takes it.
+fn one_more(row: Option<Row>, parameters: usize) -> Option<usize>
+    ensures { result ≡ one_more row parameters }
+{
+    match row {
+        None => Some(1),
+        Some(row) => {
+            if parameters < row.most {
+                Some(parameters + 1)
+            } else {
+                None
+            }
+        }
+    }
+}
+
+// What is wrong with a name behind a `/` that isn't one of the command.
+fn unknown_kind(text: &[u8], token: Token, verb: Verb, place: Place) -> ParseKind
+    ensures { result ≡ unknown_kind text.now token verb place }
+{
+    match place {
+        Place::VerbSlash => {
+            if takes_option(verb) && rule_among(text, token, verb).is_none() {
+                ParseKind::Word
+            } else {
+                ParseKind::Qualifier
+            }
+        }
+        _ => ParseKind::Qualifier,
+    }
+}
+
+// Behind the name of a qualifier or an option, or what is wrong with it.
+fn named_by(
+    text: &[u8],
+    verb: Verb,
+    s: &State,
+    token: Token,
+    rule: Option<Rule>,
+) -> Result<State, Fault>
+    ensures { result ≡ named_by text.now verb s.now token rule }
+{
+    match rule {
+        None => Err(fault_at(s.start, unknown_kind(text, token, verb, s.place))),
+        Some(rule) => Ok(State {
+            place: Place::Name,
+            takes: rule.1,
+            in_list: false,
+            values: 0,
+            parameters: s.parameters,
+            qualified: true,
+            owed: s.owed,
+            start: token.start,
+            end: token.end,
+        }),
+    }
+}
+
+// Behind a value of a qualifier, unless it has them all.
+fn with_value(s: &State, token: Token) -> Result<State, Fault>
+    ensures { result ≡ with_value s.now token }
+{
+    if s.values < most_values(s.takes) {
+        Ok(State {
+            place: Place::Value,
+            values: s.values + 1,
+            start: token.start,
+            end: token.end,
+            ..*s
+        })
+    } else {
+        Err(fault_at(token.start, ParseKind::Value))
+    }
+}
+
+// Whether a parameter is the first one of a verb whose option this is, and names no command.
+fn is_no_object(verb: Verb, row: Option<Row>, parameters: usize) -> bool
+    ensures { result ≡ is_no_object verb row parameters }
+{
+    match row {
+        None => takes_object(verb) && parameters == 0,
+        Some(_) => false,
+    }
+}
+
+// Behind a parameter, or what is wrong with it.
+fn with_parameter(verb: Verb, row: Option<Row>, s: &State, token: Token) -> Result<State, Fault>
+    ensures { result ≡ with_parameter verb row s.now token }
+{
+    if is_joined(s, token) {
+        return Err(fault_at(token.start, ParseKind::Form));
+    }
+    if is_no_object(verb, row, s.parameters) {
+        return Err(fault_at(token.start, ParseKind::Word));
+    }
+    match one_more(row, s.parameters) {
+        None => Err(fault_at(token.start, ParseKind::Extra)),
+        Some(parameters) => Ok(State {
+            place: Place::Parameter,
+            parameters,
+            owed: is_owing(s),
+            in_list: false,
+            start: token.start,
+            end: token.end,
+            ..*s
+        }),
+    }
+}
+
+// Behind a name, or what is wrong with it.
+fn with_name(
+    text: &[u8],
+    verb: Verb,
+    row: Option<Row>,
+    s: &State,
+    token: Token,
+) -> Result<State, Fault>
+    ensures { result ≡ with_name text.now verb row s.now token }
+{
+    if token.kind == TokenKind::Word {
+        named_by(text, verb, s, token, rule_for(text, token, verb, row))
+    } else {
+        Err(misplaced(s, token.start))
+    }
+}
+
+// Behind a word or a quoted string that is no name.
+fn with_text(verb: Verb, row: Option<Row>, s: &State, token: Token) -> Result<State, Fault>
+    ensures { result ≡ with_text verb row s.now token s.now.place }
+{
+    match s.place {
+        Place::Equals | Place::Open | Place::Comma => with_value(s, token),
+        Place::Key => Ok(moved(s, Place::KeyValue, token)),
+        Place::Value | Place::KeyValue if s.in_list => {
+            Err(fault_at(token.start, ParseKind::Form))
+        }
+        _ => with_parameter(verb, row, s, token),
+    }
+}
+
+// Behind a word or a quoted string.
+fn with_word(
+    text: &[u8],
+    verb: Verb,
+    row: Option<Row>,
+    s: &State,
+    token: Token,
+) -> Result<State, Fault>
+    ensures { result ≡ with_word text.now verb row s.now token s.now.place }
+{
+    match s.place {
+        Place::VerbSlash | Place::Slash => with_name(text, verb, row, s, token),
+        _ => with_text(verb, row, s, token),
+    }
+}
+
+// Behind `/`, which begins a qualifier or an option.
+fn with_slash(s: &State, token: Token) -> Result<State, Fault>
+    ensures { result ≡ with_slash s.now token s.now.place }
+{
+    match s.place {
+        Place::VerbSlash | Place::Slash => Err(misplaced(s, token.start)),
+        Place::Equals if !needs_value(s.takes) => Err(misplaced(s, token.start)),
+        Place::Verb => Ok(moved(s, Place::VerbSlash, token)),
+        _ => Ok(State {
+            place: Place::Slash,
+            owed: is_owing(s),
+            in_list: false,
+            start: token.start,
+            end: token.end,
+            ..*s
+        }),
+    }
+}
+
+// Behind `=`, which follows a name, or a value that may have one of its own.
+fn with_equals(s: &State, token: Token) -> Result<State, Fault>
+    ensures { result ≡ with_equals s.now token s.now.place }
+{
+    match s.place {
+        Place::Name => Ok(moved(s, Place::Equals, token)),
+        Place::Value if may_have_key(s.takes) => Ok(moved(s, Place::Key, token)),
+        _ => Err(misplaced(s, token.start)),
+    }
+}
+
+// Behind `(`, which begins a list; no value of a list is one.
+fn with_open(s: &State, token: Token) -> Result<State, Fault>
+    ensures { result ≡ with_open s.now token s.now.place }
+{
+    match s.place {
+        Place::Equals if needs_value(s.takes) => Ok(State {
+            place: Place::Open,
+            in_list: true,
+            start: token.start,
+            end: token.end,
+            ..*s
+        }),
+        Place::Equals | Place::Open | Place::Comma | Place::Key => {
+            Err(fault_at(token.start, ParseKind::Value))
+        }
+        _ => Err(misplaced(s, token.start)),
+    }
+}
+
+// Behind `)`, which ends a list that isn't empty.
+fn with_close(s: &State, token: Token) -> Result<State, Fault>
+    ensures { result ≡ with_close s.now token s.now.place }
+{
+    match s.place {
+        Place::Value | Place::KeyValue if s.in_list => Ok(State {
+            place: Place::Close,
+            in_list: false,
+            start: token.start,
+            end: token.end,
+            ..*s
+        }),
+        Place::Open => Err(fault_at(s.start, ParseKind::Value)),
+        _ => Err(misplaced(s, token.start)),
+    }
+}
+
+// Behind a comma, which stands between the values of a list.
+fn with_comma(s: &State, token: Token) -> Result<State, Fault>
+    ensures { result ≡ with_comma s.now token s.now.place }
+{
+    match s.place {
+        Place::Value | Place::KeyValue if s.in_list => Ok(moved(s, Place::Comma, token)),
+        _ => Err(misplaced(s, token.start)),
+    }
+}
+
+/// Behind one more token, or what is wrong with it.
+pub(crate) fn with_token(
+    text: &[u8],
+    verb: Verb,
+    row: Option<Row>,
+    s: &State,
+    token: Token,
+) -> Result<State, Fault>
+    ensures { result ≡ with_token text.now verb row s.now token token.kind }
+{
+    match token.kind {
+        TokenKind::Word | TokenKind::Quoted => with_word(text, verb, row, s, token),
+        TokenKind::Slash => with_slash(s, token),
+        TokenKind::Equals => with_equals(s, token),
+        TokenKind::Open => with_open(s, token),
+        TokenKind::Close => with_close(s, token),
+        TokenKind::Comma => with_comma(s, token),
+    }
+}

@@ -1,0 +1,117 @@
+// What users type, and which command it is, or what is wrong and where.
+use qm_grammar::{Command, Fault, ParseFault, Part, Word, parse};
+use qm_kinds::ParseKind;
+use qm_lex::{Token, TokenKind};
+use std::alloc::Global;
+use std::test::Fail;
+
+// Texts that are commands.
+const COMMANDS: [(&str, Command); 13] = [
+    ("SUBMIT A.COM", Command::Submit),
+    ("submit/hold a.com /queue = b ! a job", Command::Submit),
+    ("SUBMIT A/NAME=(B)/RETAIN=UNTIL=TOMORROW", Command::Submit),
+    ("PRINT A/COPIES=2/FORM=DEFAULT", Command::Print),
+    ("SHOW ENTRY 5", Command::ShowEntry),
+    ("SHOW/ALL_JOBS QUEUE *", Command::ShowQueue),
+    ("SHOW QUEUE/FORM", Command::ShowForms),
+    ("START/MANAGER/QUEUE/ON=(A,B)", Command::StartManager),
+    ("START X/QUEUE/JOB_LIMIT=3", Command::StartQueue),
+    ("STOP/QUEUE X/ENTRY=5/REQUEUE", Command::StopQueue),
+    ("DELETE/ENTRY=5", Command::DeleteEntry),
+    ("DEFINE/FORM A 5/MARGIN=(TOP=1,LEFT=2)", Command::DefineForm),
+    ("SET ENTRY 5/AFTER=X/RELEASE/NOAFTER", Command::SetEntry),
+];
+
+// Texts that aren't, with the byte at which they go wrong, and how.
+const FAULTS: [(&str, usize, ParseKind); 29] = [
+    ("", 0, ParseKind::Missing),
+    ("  SUBMIT", 8, ParseKind::Missing),
+    ("FROB", 0, ParseKind::Word),
+    ("/HOLD SUBMIT A", 0, ParseKind::Qualifier),
+    ("START/BAD X", 5, ParseKind::Word),
+    ("START/QUEUE/BAD X", 11, ParseKind::Qualifier),
+    ("START X", 7, ParseKind::Missing),
+    ("SET FROB", 4, ParseKind::Word),
+    ("SET QUEUE X", 11, ParseKind::Missing),
+    ("SUBMIT A B", 9, ParseKind::Extra),
+    ("SUBMIT A\"B\"", 8, ParseKind::Form),
+    ("SUBMIT A,B", 8, ParseKind::Form),
+    ("SUBMIT A/BAD/WORSE", 8, ParseKind::Qualifier),
+    ("SUBMIT A/", 8, ParseKind::Qualifier),
+    ("SHOW ENTRY/FORM", 10, ParseKind::Qualifier),
+    ("SUBMIT A/HOLD=5", 14, ParseKind::Value),
+    ("SUBMIT A/HOLD=", 13, ParseKind::Form),
+    ("SUBMIT A/NAME", 13, ParseKind::Missing),
+    ("SUBMIT A/NAME=(B,C)", 17, ParseKind::Value),
+    ("SUBMIT A/NAME=()", 14, ParseKind::Value),
+    ("SUBMIT A/NAME=((B))", 15, ParseKind::Value),
+    ("SUBMIT A/NAME=(B", 16, ParseKind::Missing),
+    ("SUBMIT A/NAME=B=C", 15, ParseKind::Form),
+    ("DELETE/QUEUE/FORM X", 12, ParseKind::Conflict),
+    ("STOP/QUEUE X/NEXT/RESET/NEXT", 23, ParseKind::Conflict),
+    ("SET ENTRY 5/AFTER=X/RELEASE/BAD", 19, ParseKind::Conflict),
+    ("SUBMIT A/BAD/HOLD=5", 8, ParseKind::Qualifier),
+    ("SUBMIT A/NAME=\"B", 14, ParseKind::Form),
+    ("SUBMIT A/BAD \"B", 8, ParseKind::Qualifier),
+];
+
+// Which command a text is.
+fn told(alloc: Global, text: &str) -> Result<Command, ParseFault> {
+    match parse(alloc, text.as_bytes()) {
+        Ok(parsed) => Ok(parsed.command),
+        Err(fault) => Err(fault),
+    }
+}
+
+#[test]
+fn texts_are_commands(rt: HostRuntime) {
+    for (text, command) in COMMANDS {
+        assert_eq!(rt; told(rt.alloc(), text), Ok(command), "{text}");
+    }
+}
+
+#[test]
+fn a_fault_is_told_at_its_place(rt: HostRuntime) {
+    for (text, place, kind) in FAULTS {
+        let fault = ParseFault::At(Fault { place, kind });
+        assert_eq!(rt; told(rt.alloc(), text), Err(fault), "{text}");
+    }
+}
+
+// A word from one byte to another.
+fn word(start: usize, end: usize) -> Token {
+    Token {
+        kind: TokenKind::Word,
+        start,
+        end,
+    }
+}
+
+#[test]
+fn parts_stand_in_order(rt: HostRuntime) -> Result<(), Fail> {
+    let parsed = parse(rt.alloc(), b"PRINT/COPIES=2 A /RETAIN=UNTIL=+1:0")?;
+    let parts = [
+        Part::Qualifier {
+            word: Word::Copies,
+            place: 5,
+        },
+        Part::Value {
+            token: word(13, 14),
+        },
+        Part::Parameter {
+            token: word(15, 16),
+        },
+        Part::Qualifier {
+            word: Word::Retain,
+            place: 17,
+        },
+        Part::Value {
+            token: word(25, 30),
+        },
+        Part::KeyValue {
+            token: word(31, 35),
+        },
+    ];
+    assert_eq!(rt; parsed.parts.as_slice(), parts.as_slice());
+    Ok(())
+}

@@ -1,0 +1,5 @@
+//! Worked cases of the grammar of commands.
+#![tactic(auto)]
+
+#[cfg(test)]
+mod commands;
