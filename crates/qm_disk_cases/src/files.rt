@@ -13,34 +13,49 @@ fn opened(alloc: Global, disk: MemoryDisk) -> Result<usize, OpenFault> {
     }
 }
 
+// How many records a log has, or why it can't be opened.
+fn logged(alloc: Global, mut disk: MemoryDisk) -> Result<usize, OpenFault> {
+    match qm_glog::open(alloc, &mut disk, 1, GREATEST_CAP) {
+        Ok(log) => Ok(log.count()),
+        Err(fault) => Err(fault),
+    }
+}
+
+const UNFORMATTED: Result<usize, OpenFault> = Err(OpenFault::Unformatted { byte: 0 });
+
+const DAMAGED: Result<usize, OpenFault> = Err(OpenFault::Damaged { file: 1, place: 0 });
+
+const DAMAGED_AT_6: Result<usize, OpenFault> = Err(OpenFault::Damaged { file: 1, place: 6 });
+
+// The bytes of a file, and what is told of it as a log, and as a queue file.
+type Case = (
+    &'static [u8],
+    Result<usize, OpenFault>,
+    Result<usize, OpenFault>,
+);
+
+const FILES: [Case; 7] = [
+    (b"", UNFORMATTED, UNFORMATTED),
+    (b"\x00", Ok(0), UNFORMATTED),
+    (
+        b"\x07\x01\x02\x03",
+        Ok(0),
+        Err(OpenFault::Unformatted { byte: 7 }),
+    ),
+    (b"\x01", DAMAGED, DAMAGED),
+    (b"\x01\x02\x00\x00\x00\x09", DAMAGED, DAMAGED),
+    (b"\x01\x01\x00\x00\x00\x09", DAMAGED_AT_6, DAMAGED_AT_6),
+    (b"\x01\x01\x00\x00\x00\x09\xff", Ok(1), Ok(1)),
+];
+
 #[test]
 fn files_are_judged_at_their_gates(rt: HostRuntime) -> Result<(), Fail> {
     let alloc = rt.alloc();
-    let files: [(&[u8], Result<usize, OpenFault>, Result<usize, OpenFault>); 7] = [
-        (&[], unformatted(0), unformatted(0)),
-        (&[0], Ok(0), unformatted(0)),
-        (&[7, 1, 2, 3], Ok(0), unformatted(7)),
-        (&[1], damaged(0), damaged(0)),
-        (&[1, 2, 0, 0, 0, 9], damaged(0), damaged(0)),
-        (&[1, 1, 0, 0, 0, 9], damaged(6), damaged(6)),
-        (&[1, 1, 0, 0, 0, 9, 255], Ok(1), Ok(1)),
-    ];
-    for (bytes, of_log, of_store) in files {
-        let log = qm_glog::open(alloc, &mut disk_of(alloc, bytes, &[])?, 1, GREATEST_CAP);
-        assert_eq!(rt; log.map(|log| log.count()), of_log, "the log {bytes:?}");
-        assert_eq!(rt;
-            opened(alloc, disk_of(alloc, bytes, &[])?),
-            of_store,
-            "the queue file {bytes:?}"
-        );
+    for (bytes, of_log, of_store) in FILES {
+        let log = logged(alloc, disk_of(alloc, bytes, &[])?);
+        assert_eq!(rt; log, of_log, "the log {bytes:?}");
+        let store = opened(alloc, disk_of(alloc, bytes, &[])?);
+        assert_eq!(rt; store, of_store, "the queue file {bytes:?}");
     }
     Ok(())
-}
-
-fn unformatted(byte: u8) -> Result<usize, OpenFault> {
-    Err(OpenFault::Unformatted { byte })
-}
-
-fn damaged(place: u64) -> Result<usize, OpenFault> {
-    Err(OpenFault::Damaged { file: 1, place })
 }

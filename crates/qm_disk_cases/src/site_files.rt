@@ -3,7 +3,7 @@ ghost use Rattle.std.specs.Prelude.{◌≤◌};
 
 use qm_disk::Disk;
 use qm_files::{FileDisk, SiteFile};
-use std::alloc::{AllocError, Allocator};
+use std::alloc::{AllocError, Allocator, Global};
 use std::cell::RefCell;
 use std::fs::{File, Files, Metadata, OpenFile, OpenOptions};
 use std::io::{ErrorKind, Read, Seek, SeekFrom, Write};
@@ -336,46 +336,75 @@ enum Leaving {
     Dropped,
 }
 
+const READ: &str = "read qm_files_test/lock\n";
+
+// Runs one behind the other: how each lets the disk go, and what it asks for.
+const RUNS: [(Leaving, [&str; 6]); 4] = [
+    (
+        Leaving::Closed,
+        [LOOKED, MARKED, NOTHING_RENEWED, OPENED, CALLED, MARKED],
+    ),
+    (Leaving::Dropped, [LOOKED, READ, MARKED, OPENED, CALLED, ""]),
+    (
+        Leaving::Closed,
+        [LOOKED, READ, MARKED, RENEWED, CALLED_ANEW, MARKED],
+    ),
+    (
+        Leaving::Closed,
+        [LOOKED, READ, MARKED, OPENED, CALLED, MARKED],
+    ),
+];
+
+// These texts one behind the other.
+fn joined(alloc: Global, parts: &[&str]) -> Result<String, AllocError> {
+    let mut whole = String::new(alloc);
+    for part in parts {
+        whole.push_str(part)?;
+    }
+    Ok(whole)
+}
+
+// Whether one call of each kind holds in a run that lets the disk go so, and what the run asks for.
+fn asked_by(rt: &HostRuntime, leaving: Leaving) -> Result<(bool, String), AllocError> {
+    let calls = Calls::new(rt, 0, 3);
+    let mut disk = disk_watched(rt, &calls)?;
+    let holds = each_call(&mut disk) == [true; 5];
+    match leaving {
+        Leaving::Closed => disk.close(),
+        Leaving::Dropped => drop(disk),
+    }
+    Ok((holds, calls.into_inner().lines))
+}
+
+// Whether a file of the folder has these bytes.
+fn has(rt: &HostRuntime, path: &str, bytes: &[u8]) -> bool {
+    match fs::read(rt, path) {
+        Ok(held) => held.as_slice() == bytes,
+        Err(_) => false,
+    }
+}
+
 #[test]
 fn the_system_is_asked_in_this_order(rt: HostRuntime) -> Result<(), Fail> {
     new_folder(&rt)?;
-    // Runs one behind the other: what each asks for.
-    let read = "read qm_files_test/lock\n";
-    let runs: [(Leaving, [&str; 6]); 4] = [
-        (
-            Leaving::Closed,
-            [LOOKED, MARKED, NOTHING_RENEWED, OPENED, CALLED, MARKED],
-        ),
-        (Leaving::Dropped, [LOOKED, read, MARKED, OPENED, CALLED, ""]),
-        (
-            Leaving::Closed,
-            [LOOKED, read, MARKED, RENEWED, CALLED_ANEW, MARKED],
-        ),
-        (
-            Leaving::Closed,
-            [LOOKED, read, MARKED, OPENED, CALLED, MARKED],
-        ),
-    ];
-    for (leaving, asked) in runs {
-        let calls = Calls::new(&rt, 0, 3);
-        let mut disk = disk_watched(&rt, &calls)?;
-        assert_eq!(rt; each_call(&mut disk), [true; 5]);
-        match leaving {
-            Leaving::Closed => disk.close(),
-            Leaving::Dropped => drop(disk),
-        }
-        let mut wanted = String::new(rt.alloc());
-        for part in asked {
-            wanted.push_str(part)?;
-        }
-        let calls = calls.into_inner();
-        assert_eq!(rt; calls.lines.as_str(), wanted.as_str());
-        assert_eq!(rt;
-            fs::read(&rt, "qm_files_test/one")?.as_slice(),
-            b"a".as_slice()
-        );
+    for (leaving, parts) in RUNS {
+        let (holds, asked) = asked_by(&rt, leaving)?;
+        assert!(rt; holds && has(&rt, "qm_files_test/one", b"a"));
+        assert_eq!(rt; asked.as_str(), joined(rt.alloc(), &parts)?.as_str());
     }
     Ok(())
+}
+
+// Whether the calls that held stand before all that failed, and none holds behind a fault.
+fn fails_for_good(disk: &mut FileDisk<Watched>, held: [bool; 5]) -> bool {
+    let mut failed = false;
+    for holds in held {
+        if failed && holds {
+            return false;
+        }
+        failed = !holds;
+    }
+    !failed || each_call(disk) == [false; 5]
 }
 
 #[test]
@@ -385,59 +414,55 @@ fn behind_a_call_that_failed_each_is_a_fault(rt: HostRuntime) -> Result<(), Fail
         let calls = Calls::new(&rt, failing, 1);
         let mut disk = disk_watched(&rt, &calls)?;
         let held = each_call(&mut disk);
-        let mut failed = false;
-        for holds in held {
-            assert!(rt; !failed || !holds, "call {failing}");
-            failed = !holds;
-        }
-        assert!(rt;
-            !failed || each_call(&mut disk) == [false; 5],
-            "call {failing}"
-        );
+        let is_whole = held == [true; 5];
+        assert!(rt; fails_for_good(&mut disk, held), "call {failing}");
         assert!(rt; !disk.is_in_use());
         disk.close();
-        let ended = match fs::read(&rt, "qm_files_test/lock") {
-            Ok(mark) => mark.as_slice() == b"ended\n".as_slice(),
-            Err(_) => false,
-        };
-        assert!(rt; !failed || !ended, "call {failing}");
         // The numbers 1 and 2 were free: the folder has them, and was opened a third time, and a fourth to be synced;
         // beside it the lock and the file were opened.
-        assert!(rt; failed || calls.into_inner().number == 1 + 4 + 2);
+        let is_right = if is_whole {
+            calls.into_inner().number == 1 + 4 + 2
+        } else {
+            !has(&rt, "qm_files_test/lock", b"ended\n")
+        };
+        assert!(rt; is_right, "call {failing}");
     }
     Ok(())
 }
 
+// Changes a file, and lets the disk go.
+fn leave_changed(mut disk: FileDisk<Watched>, file: u8) -> bool
+    requires { file ≤ 2 }
+{
+    let changed = match file {
+        1 => disk.write(file, 0, b"b"),
+        _ => disk.cut(file, 0),
+    };
+    disk.close();
+    changed.is_ok()
+}
+
+// The calls of each kind on a file, and its change, as they are written down.
+fn calls_on(alloc: Global, name: &str, change: &str) -> Result<String, AllocError> {
+    let mut wanted = String::new(alloc);
+    for what in ["write", "size", "read", "cut", "sync", change] {
+        let line = joined(alloc, &[what, " qm_files_test/", name, "\n"])?;
+        wanted.push_str(line.as_str())?;
+    }
+    Ok(wanted)
+}
+
 #[test]
 fn each_file_is_asked_by_its_own_name_and_has_to_be_synced(rt: HostRuntime) -> Result<(), Fail> {
-    let names = ["master", "one", "two"];
-    for file in 0..3u8 {
+    for (file, name, change) in [(0, "master", "cut"), (1, "one", "write"), (2, "two", "cut")] {
         new_folder(&rt)?;
         let calls = Calls::new(&rt, 0, 3);
         let mut disk = disk_watched(&rt, &calls)?;
         assert_eq!(rt; each_call_on(&mut disk, file), [true; 5]);
         // What isn't synced keeps the end from being marked.
-        let changed = match file {
-            1 => disk.write(file, 0, b"b"),
-            _ => disk.cut(file, 0),
-        };
-        assert!(rt; changed.is_ok());
-        disk.close();
-        assert_eq!(rt;
-            fs::read(&rt, "qm_files_test/lock")?.as_slice(),
-            b"begun
-"
-                .as_slice()
-        );
-        let last = if file == 1 { "write" } else { "cut" };
-        let mut wanted = String::new(rt.alloc());
-        for what in ["write", "size", "read", "cut", "sync", last] {
-            for part in [what, " qm_files_test/", names[file as usize], "\n"] {
-                wanted.push_str(part)?;
-            }
-        }
-        let calls = calls.into_inner();
-        assert!(rt; calls.lines.as_str().ends_with(wanted.as_str()));
+        assert!(rt; leave_changed(disk, file) && has(&rt, "qm_files_test/lock", b"begun\n"));
+        let wanted = calls_on(rt.alloc(), name, change)?;
+        assert!(rt; calls.into_inner().lines.as_str().ends_with(wanted.as_str()));
     }
     Ok(())
 }

@@ -11,6 +11,7 @@ use qm_kinds::{
 };
 use qm_manager::{AskFault, Manager, init};
 use std::alloc::{AllocError, Global};
+use std::process::Abort;
 use std::test::Fail;
 
 fn node() -> Name
@@ -158,28 +159,48 @@ fn what_is_refused_leaves_no_record(rt: HostRuntime) -> Result<(), Fail> {
     Ok(())
 }
 
+// How many bytes the file has when one more line is appended, after the crash of each kind.
+fn check_crashes<R: Abort + AllocGlobal>(
+    rt: &R,
+    disk: &MemoryDisk,
+    call: u64,
+    found: [u32; 3],
+) -> Result<(), Fail> {
+    let alloc = rt.alloc();
+    for (pick, bytes) in [(0, found[0]), (1, found[1]), (2, found[2])] {
+        let (_disk, answer) = ask_for_file(alloc, disk.after_crash(pick)?)?;
+        assert_eq!(rt; act_of(answer), filed(bytes), "call {call}, crash {pick}");
+    }
+    Ok(())
+}
+
 // Opening makes a number of calls on the disk; the four behind them are those of the append: the record, its sync, the
-// gate, its sync.
+// gate, its sync. Behind each, how many bytes the file has after each crash, and one more line.
+const FAILING: [(u64, [u32; 3]); 4] = [
+    (1, [9, 9, 9]),
+    (2, [9, 9, 9]),
+    (3, [9, 18, 9]),
+    (4, [9, 18, 9]),
+];
+
 #[test]
 fn a_disk_that_fails_within_an_append(rt: HostRuntime) -> Result<(), Fail> {
     let alloc = rt.alloc();
     let opening = calls_of_opening(alloc)?;
-    // How many bytes the file has when one more line is appended, after the crash of each kind.
-    let found: [[u32; 3]; 4] = [[9, 9, 9], [9, 9, 9], [9, 18, 9], [9, 18, 9]];
-    for step in 0..4 {
-        let fail = opening.saturating_add(1 + step as u64);
-        let (disk, answer) = ask_for_file(alloc, new_site(alloc, &[fail])?)?;
-        assert_eq!(rt; act_of(answer), Err(AskFault::Disk), "call {step}");
-        for pick in 0..3 {
-            let (_disk, answer) = ask_for_file(alloc, disk.after_crash(pick)?)?;
-            assert_eq!(rt;
-                act_of(answer),
-                filed(found[step][pick as usize]),
-                "call {step}, crash {pick}"
-            );
-        }
+    for (call, found) in FAILING {
+        let site = new_site(alloc, &[opening.saturating_add(call)])?;
+        let (disk, answer) = ask_for_file(alloc, site)?;
+        assert_eq!(rt; act_of(answer), Err(AskFault::Disk), "call {call}");
+        check_crashes(&rt, &disk, call, found)?;
     }
-    let (_disk, answer) = ask_for_file(alloc, new_site(alloc, &[opening.saturating_add(5)])?)?;
+    Ok(())
+}
+
+#[test]
+fn an_append_makes_no_other_call(rt: HostRuntime) -> Result<(), Fail> {
+    let alloc = rt.alloc();
+    let behind = calls_of_opening(alloc)?.saturating_add(5);
+    let (_disk, answer) = ask_for_file(alloc, new_site(alloc, &[behind])?)?;
     assert_eq!(rt; act_of(answer), filed(9));
     Ok(())
 }

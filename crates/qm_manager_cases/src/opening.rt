@@ -9,38 +9,36 @@ use qm_manager::{MakeFault, Manager, OpenFault, init};
 use std::alloc::{AllocError, Global};
 use std::test::Fail;
 
-// The places of the gates of the rows of a new site of node N1, and of the one behind them.
-const FORM: usize = 47;
+// The records of a new site of the node N1, each behind its gate: its head, the form DEFAULT, and the queue SYS$BATCH.
+const HEAD: &[u8] =
+    b"\x01\x2a\x00\x00\x00\x01\x21\x00\x00\x00\x00\x00\x00\x00\x00\x00\x01\x00\x02N1\x01\x01\x00\x02N1\x01\x00\x00\x00\x01\x00\x00\x00\x00\x00\x00\x00\x00\x00\x00\x00\x00\x00\x00\x00";
 
-const QUEUE: usize = 88;
+const FORM: &[u8] =
+    b"\x01\x24\x00\x00\x00\x01\x22\x00\x00\x00\x00\x00\x00\x00\x00\x00\x07DEFAULT\x00\x00\x07DEFAULT\x42\x84\x00\x06\x00\x00\x00";
 
-const END: usize = 161;
+const QUEUE: &[u8] =
+    b"\x01\x44\x00\x00\x00\x01\x25\x00\x00\x00\x00\x00\x00\x00\x00\x00\x09SYS$BATCH\x01\x01\x01\x02N1\x01\x09SYS$BATCH\x01\x00\x00\x00\x00\x00\x00\x00\x00\x00\x00\x00\x00\x00\x00\x00\x00\x00\x01\x00\x00\x00\xff\xff\xff\xff\x01\x00\x00\x00";
 
 // F gets a byte, at moment 5.
-const APPEND: [u8; 24] = [
-    1, 19, 0, 0, 0, 1, 1, 5, 0, 0, 0, 0, 0, 0, 0, 0, 1, b'F', 0, 1, 0, 0, 0, b'x',
-];
+const APPEND: &[u8] =
+    b"\x01\x13\x00\x00\x00\x01\x01\x05\x00\x00\x00\x00\x00\x00\x00\x00\x01F\x00\x01\x00\x00\x00x";
 
 // The same at moment 4.
-const EARLIER: [u8; 24] = [
-    1, 19, 0, 0, 0, 1, 1, 4, 0, 0, 0, 0, 0, 0, 0, 0, 1, b'F', 0, 1, 0, 0, 0, b'x',
-];
+const EARLIER: &[u8] =
+    b"\x01\x13\x00\x00\x00\x01\x01\x04\x00\x00\x00\x00\x00\x00\x00\x00\x01F\x00\x01\x00\x00\x00x";
 
 // The same of the node with number 1.
-const OF_NODE_1: [u8; 24] = [
-    1, 19, 0, 0, 0, 1, 1, 5, 0, 0, 0, 0, 0, 0, 0, 1, 1, b'F', 0, 1, 0, 0, 0, b'x',
-];
+const OF_NODE_1: &[u8] =
+    b"\x01\x13\x00\x00\x00\x01\x01\x05\x00\x00\x00\x00\x00\x00\x00\x01\x01F\x00\x01\x00\x00\x00x";
 
-const TICK: [u8; 16] = [1, 11, 0, 0, 0, 1, 20, 5, 0, 0, 0, 0, 0, 0, 0, 0];
+const TICK: &[u8] = b"\x01\x0b\x00\x00\x00\x01\x14\x05\x00\x00\x00\x00\x00\x00\x00\x00";
 
 // No record: its version is 2.
-const OTHER_VERSION: [u8; 16] = [1, 11, 0, 0, 0, 2, 20, 5, 0, 0, 0, 0, 0, 0, 0, 0];
+const OTHER_VERSION: &[u8] = b"\x01\x0b\x00\x00\x00\x02\x14\x05\x00\x00\x00\x00\x00\x00\x00\x00";
 
 // F is submitted to SYS$BATCH as the batch job J of user U, at moment 5.
-const SUBMIT: [u8; 44] = [
-    1, 39, 0, 0, 0, 1, 15, 5, 0, 0, 0, 0, 0, 0, 0, 0, 1, b'U', 1, 9, b'S', b'Y', b'S', b'$', b'B',
-    b'A', b'T', b'C', b'H', 1, b'F', 0, 1, b'J', 100, 0, 0, 0, 0, 0, 0, 0, 1, 0,
-];
+const SUBMIT: &[u8] =
+    b"\x01\x27\x00\x00\x00\x01\x0f\x05\x00\x00\x00\x00\x00\x00\x00\x00\x01U\x01\x09SYS$BATCH\x01F\x00\x01J\x64\x00\x00\x00\x00\x00\x00\x00\x01\x00";
 
 fn node() -> Name
     ensures { length result ≤ NODE_NAME_BYTES }
@@ -64,15 +62,6 @@ fn new_site(alloc: Global) -> Result<MemoryDisk, Fail> {
     match init(alloc, disk_with(alloc, &[9, 9], &[])?, node()) {
         Ok(disk) => Ok(disk),
         Err((_, fault)) => Err(fault.into()),
-    }
-}
-
-// The bytes from one place up to another.
-fn piece(file: &[u8], from: usize, to: usize) -> &[u8] {
-    if from <= to && to <= file.len() {
-        &file[from..to]
-    } else {
-        &[]
     }
 }
 
@@ -117,13 +106,6 @@ fn told(alloc: Global, disk: MemoryDisk) -> Result<usize, OpenFault> {
     }
 }
 
-fn damaged_at(place: usize) -> Result<usize, OpenFault> {
-    Err(OpenFault::Damaged {
-        file: 1,
-        place: place as u64,
-    })
-}
-
 #[test]
 fn a_new_site_is_found(rt: HostRuntime) -> Result<(), Fail> {
     let alloc = rt.alloc();
@@ -134,88 +116,88 @@ fn a_new_site_is_found(rt: HostRuntime) -> Result<(), Fail> {
     assert!(rt; manager.node() == node());
     let disk = manager.give_back();
     assert_eq!(rt; disk.held(0), [3].as_slice());
-    assert_eq!(rt; disk.held(1).len(), END + 1);
+    assert_eq!(rt; disk.held(1), disk_of(alloc, &[HEAD, FORM, QUEUE])?.held(1));
     assert_eq!(rt; disk.held(2), [5, 5].as_slice());
-    assert_eq!(rt; told(alloc, disk), Ok(0));
     Ok(())
 }
+
+// Files that begin with no record, and the byte that is told.
+const UNFORMATTED: [(&[u8], u8); 3] = [(b"", 0), (b"\x00", 0), (b"\x07\x01\x02", 7)];
 
 #[test]
 fn files_without_a_record_are_unformatted(rt: HostRuntime) -> Result<(), Fail> {
     let alloc = rt.alloc();
-    let files: [(&[u8], u8); 3] = [(&[], 0), (&[0], 0), (&[7, 1, 2], 7)];
-    for (file, byte) in files {
-        assert_eq!(rt;
-            told(alloc, disk_with(alloc, file, &[])?),
-            Err(OpenFault::Unformatted { byte })
-        );
+    for (file, byte) in UNFORMATTED {
+        let told = told(alloc, disk_with(alloc, file, &[])?);
+        assert_eq!(rt; told, Err(OpenFault::Unformatted { byte }));
     }
     Ok(())
 }
 
-#[test]
-fn rows_of_a_new_site_stand_first(rt: HostRuntime) -> Result<(), Fail> {
-    let alloc = rt.alloc();
-    let site = new_site(alloc)?;
-    let head = piece(site.held(1), 0, FORM);
-    let form = piece(site.held(1), FORM, QUEUE);
-    let queue = piece(site.held(1), QUEUE, END);
-    let files: [(&[&[u8]], Result<usize, OpenFault>); 8] = [
-        (&[head, form, queue], Ok(0)),
-        (&[form, head, queue], damaged_at(0)),
-        (&[&TICK], damaged_at(0)),
-        (&[&OTHER_VERSION], damaged_at(0)),
-        (&[head, queue, form], damaged_at(FORM)),
-        (&[head, form, form], damaged_at(QUEUE)),
-        (&[head, form], damaged_at(QUEUE)),
-        (&[head], damaged_at(FORM)),
-    ];
-    for (records, want) in files {
-        assert_eq!(rt; told(alloc, disk_of(alloc, records)?), want);
-    }
-    Ok(())
-}
+// Files of these records, and how many rows the first entry has in each.
+const FOUND: [(&[&[u8]], usize); 3] = [
+    (&[HEAD, FORM, QUEUE], 0),
+    (&[HEAD, FORM, QUEUE, APPEND], 0),
+    (&[HEAD, FORM, QUEUE, EARLIER, APPEND, SUBMIT], 1),
+];
 
 #[test]
 fn requests_are_done_again(rt: HostRuntime) -> Result<(), Fail> {
     let alloc = rt.alloc();
-    let site = new_site(alloc)?;
-    let rows = piece(site.held(1), 0, END);
-    let head = piece(site.held(1), 0, FORM);
-    let files: [(&[&[u8]], Result<usize, OpenFault>); 9] = [
-        (&[rows, &APPEND], Ok(0)),
-        (&[rows, &EARLIER, &APPEND, &SUBMIT], Ok(1)),
-        (&[rows, &SUBMIT], damaged_at(END)),
-        (&[rows, &TICK], damaged_at(END)),
-        (&[rows, head], damaged_at(END)),
-        (&[rows, &OTHER_VERSION], damaged_at(END)),
-        (&[rows, &OF_NODE_1], damaged_at(END)),
-        (&[rows, &APPEND, &EARLIER], damaged_at(END + 24)),
-        (
-            &[rows, &APPEND, &SUBMIT, &SUBMIT, &TICK],
-            damaged_at(END + 112),
-        ),
-    ];
-    for (records, want) in files {
-        assert_eq!(rt; told(alloc, disk_of(alloc, records)?), want);
+    for (records, rows) in FOUND {
+        assert_eq!(rt; told(alloc, disk_of(alloc, records)?), Ok(rows));
+    }
+    Ok(())
+}
+
+// Files of these records, and the place of the damage: the gate of the first one that can't stand, or of the end. The rows
+// stand first, at 0, 47 and 88, and end at 161.
+const DAMAGED: [(&[&[u8]], u64); 14] = [
+    (&[FORM, HEAD, QUEUE], 0),
+    (&[TICK], 0),
+    (&[OTHER_VERSION], 0),
+    (&[HEAD, QUEUE, FORM], 47),
+    (&[HEAD, FORM, FORM], 88),
+    (&[HEAD, FORM], 88),
+    (&[HEAD], 47),
+    (&[HEAD, FORM, QUEUE, SUBMIT], 161),
+    (&[HEAD, FORM, QUEUE, TICK], 161),
+    (&[HEAD, FORM, QUEUE, HEAD], 161),
+    (&[HEAD, FORM, QUEUE, OTHER_VERSION], 161),
+    (&[HEAD, FORM, QUEUE, OF_NODE_1], 161),
+    (&[HEAD, FORM, QUEUE, APPEND, EARLIER], 185),
+    (&[HEAD, FORM, QUEUE, APPEND, SUBMIT, SUBMIT, TICK], 273),
+];
+
+#[test]
+fn a_record_that_cannot_stand_is_damage(rt: HostRuntime) -> Result<(), Fail> {
+    let alloc = rt.alloc();
+    for (records, place) in DAMAGED {
+        let told = told(alloc, disk_of(alloc, records)?);
+        assert_eq!(rt; told, Err(OpenFault::Damaged { file: 1, place }));
     }
     Ok(())
 }
 
 #[test]
-fn each_call_of_the_disk_may_fail(rt: HostRuntime) -> Result<(), Fail> {
+fn each_call_of_making_may_fail(rt: HostRuntime) -> Result<(), Fail> {
     let alloc = rt.alloc();
-    let site = new_site(alloc)?;
     for number in 1..=3 {
         match init(alloc, disk_with(alloc, &[], &[number])?, node()) {
             Ok(_) => assert!(rt; false, "made though call {number} failed"),
             Err((_, fault)) => assert_eq!(rt; fault, MakeFault::Disk, "making, call {number}"),
         }
-        assert_eq!(rt;
-            told(alloc, disk_with(alloc, site.held(1), &[number])?),
-            Err(OpenFault::Disk),
-            "opening, call {number}"
-        );
+    }
+    Ok(())
+}
+
+#[test]
+fn each_call_of_opening_may_fail(rt: HostRuntime) -> Result<(), Fail> {
+    let alloc = rt.alloc();
+    let site = new_site(alloc)?;
+    for number in 1..=3 {
+        let disk = disk_with(alloc, site.held(1), &[number])?;
+        assert_eq!(rt; told(alloc, disk), Err(OpenFault::Disk), "call {number}");
     }
     Ok(())
 }

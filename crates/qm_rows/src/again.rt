@@ -52,26 +52,28 @@ const SUBMIT_AFTER_7: Body = &[
 // One byte at the end of the file LOG.LIS, in a record behind its moment.
 const LOG_LINE: &[u8] = b"\x00\x03LOG\x01\x03LIS\x01\x00\x00\x00x";
 
+// Changes at moments up to that, and behind it; and how the job is listed then.
+const CHANGES: [(Body, &[u8]); 4] = [
+    (&[b"\x01\x01", AT_0, LOG_LINE], WAITING),
+    (
+        &[b"\x01\x01\x06\x00\x00\x00\x00\x00\x00\x00", LOG_LINE],
+        WAITING,
+    ),
+    (
+        &[b"\x01\x01\x07\x00\x00\x00\x00\x00\x00\x00", LOG_LINE],
+        PENDING,
+    ),
+    (
+        &[b"\x01\x01\x08\x00\x00\x00\x00\x00\x00\x00", LOG_LINE],
+        PENDING,
+    ),
+];
+
 // A run that changes nothing writes nothing, whatever moments have passed.
 #[test]
 fn a_job_waits_for_its_moment(rt: HostRuntime) -> Result<(), Fail> {
     let alloc = rt.alloc();
-    let changes: [(Body, &[u8]); 4] = [
-        (&[b"\x01\x01", AT_0, LOG_LINE], WAITING),
-        (
-            &[b"\x01\x01\x06\x00\x00\x00\x00\x00\x00\x00", LOG_LINE],
-            WAITING,
-        ),
-        (
-            &[b"\x01\x01\x07\x00\x00\x00\x00\x00\x00\x00", LOG_LINE],
-            PENDING,
-        ),
-        (
-            &[b"\x01\x01\x08\x00\x00\x00\x00\x00\x00\x00", LOG_LINE],
-            PENDING,
-        ),
-    ];
-    for (change, printed) in changes {
+    for (change, printed) in CHANGES {
         let file = site_and(alloc, &[APPEND, SUBMIT_AFTER_7, change])?;
         let ran = serve(alloc, b"A $ SHOW ENTRY 1\n", device(alloc, &file, &[])?)?;
         check(&rt, change, &ran, End::Ok, printed);

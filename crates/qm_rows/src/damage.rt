@@ -6,6 +6,7 @@ use crate::by_hand::{
 use crate::run::{Ran, check, device, serve};
 use qm_program::End;
 use std::alloc::{AllocError, Global};
+use std::process::Abort;
 use std::test::Fail;
 
 // A run over a device whose queue file holds these bytes.
@@ -39,27 +40,24 @@ fn a_file_that_begins_with_no_record_is_unformatted(rt: HostRuntime) -> Result<(
     Ok(())
 }
 
-// The gates of a new site, a file and a job for it are at these places.
+// The gates of a new site, a file and a job for it, each with the next; the last is closed.
+const GATES: [(usize, usize); 6] = [
+    (0, 45),
+    (45, 86),
+    (86, 158),
+    (158, 196),
+    (196, 253),
+    (253, 254),
+];
+
 #[test]
 fn a_file_that_was_cut_is_damaged_at_its_last_gate(rt: HostRuntime) -> Result<(), Fail> {
     let alloc = rt.alloc();
     let file = site_and(alloc, &[APPEND, SUBMIT])?;
-    for (gate, next) in [
-        (0, 45),
-        (45, 86),
-        (86, 158),
-        (158, 196),
-        (196, 253),
-        (253, 254),
-    ] {
-        for size in gate..next {
+    for (gate, next) in GATES {
+        for size in gate.max(1)..next {
             let ran = over(alloc, file.get(..size).unwrap_or(&[]))?;
-            let end = if size == 0 {
-                End::Unformatted { byte: 0 }
-            } else {
-                damaged(gate as u64)
-            };
-            check(&rt, size, &ran, end, NOTHING);
+            check(&rt, size, &ran, damaged(gate as u64), NOTHING);
         }
     }
     check(&rt, 254, &over(alloc, &file)?, End::Ok, PENDING);
@@ -91,73 +89,104 @@ fn raised(alloc: Global, bytes: &[u8], place: usize) -> Result<Vec<u8>, AllocErr
     Ok(wrong)
 }
 
-// The file of a new site and two requests, with the bytes from one place to another raised by one, each alone.
-#[test]
-fn each_byte_may_be_wrong(rt: HostRuntime) -> Result<(), Fail> {
+// Runs over the file of a new site and two requests, with the bytes from one place to another raised by one, each alone.
+fn check_raised<R: Abort + AllocGlobal>(
+    rt: &R,
+    (first, last): (usize, usize),
+    end: End,
+    printed: &[u8],
+) -> Result<(), Fail> {
     let alloc = rt.alloc();
     let file = site_and(alloc, &[APPEND, SUBMIT])?;
-    for (first, last, end, printed) in [
-        // The first gate, and the head.
-        (0, 0, End::Unformatted { byte: 2 }, NOTHING),
-        (1, 44, damaged(0), NOTHING),
-        // The form, and the queue. A gate that is closed leaves them out.
-        (45, 85, damaged(45), NOTHING),
-        (86, 157, damaged(86), NOTHING),
-        // APPEND: its gate; then its length, version and number.
-        (158, 158, End::Ok, NO_ENTRY),
-        (159, 164, damaged(158), NOTHING),
-        // Its moment, behind which that of SUBMIT goes back, or which is past the last one; its node.
-        (165, 170, damaged(196), NOTHING),
-        (171, 173, damaged(158), NOTHING),
-        // Lengths, and names of a file that SUBMIT doesn't name.
-        (174, 174, damaged(158), NOTHING),
-        (175, 177, damaged(196), NOTHING),
-        (178, 179, damaged(158), NOTHING),
-        (180, 182, damaged(196), NOTHING),
-        (183, 186, damaged(158), NOTHING),
-        // The bytes of the file.
-        (187, 195, End::Ok, PENDING),
-        // SUBMIT: its gate; then its length, with which a gate is wanted where the file ends, or beyond.
-        (196, 196, End::Ok, NO_ENTRY),
-        (197, 197, damaged(254), NOTHING),
-        (198, 202, damaged(196), NOTHING),
-        // Its moment; then its node, and the length of the user.
-        (203, 208, End::Ok, PENDING),
-        (209, 212, damaged(196), NOTHING),
-        // The kind, the queue and the file: there is no other.
-        (219, 239, damaged(196), NOTHING),
-        // The priority, which isn't listed.
-        (243, 243, End::Ok, PENDING),
-        // A moment for which it waits, which isn't there.
-        (244, 244, damaged(196), NOTHING),
-        // Held; retention and restart, which aren't listed.
-        (245, 245, End::Ok, HOLDING),
-        (246, 247, End::Ok, PENDING),
-        // Characteristics and a form that aren't there, copies and a flag page of a batch job.
-        (248, 252, damaged(196), NOTHING),
-        // The closed gate.
-        (253, 253, damaged(253), NOTHING),
-    ] {
-        for place in first..=last {
-            let ran = over(alloc, &raised(alloc, &file, place)?)?;
-            check(&rt, place, &ran, end, printed);
-        }
-    }
-    // The letters of the user and of the job's name are listed.
-    for (place, listed) in [
-        (213, 42),
-        (214, 43),
-        (215, 44),
-        (216, 45),
-        (217, 46),
-        (218, 47),
-        (240, 25),
-        (241, 26),
-        (242, 27),
-    ] {
+    for place in first..=last {
         let ran = over(alloc, &raised(alloc, &file, place)?)?;
-        let printed = raised(alloc, PENDING, listed)?;
-        check(&rt, place, &ran, End::Ok, &printed);
+        check(rt, place, &ran, end, printed);
+    }
+    Ok(())
+}
+
+// The bytes that spoil the file, and the gate at which it is damaged then.
+const SPOILING: [((usize, usize), u64); 18] = [
+    // The head behind the first gate, the form, and the queue. A gate that is closed leaves them out.
+    ((1, 44), 0),
+    ((45, 85), 45),
+    ((86, 157), 86),
+    // APPEND, behind its gate: its length, version and number.
+    ((159, 164), 158),
+    // Its moment, behind which that of SUBMIT goes back, or which is past the last one; its node.
+    ((165, 170), 196),
+    ((171, 173), 158),
+    // Lengths, and names of a file that SUBMIT doesn't name.
+    ((174, 174), 158),
+    ((175, 177), 196),
+    ((178, 179), 158),
+    ((180, 182), 196),
+    ((183, 186), 158),
+    // SUBMIT, behind its gate: its length, with which a gate is wanted where the file ends, or beyond.
+    ((197, 197), 254),
+    ((198, 202), 196),
+    // The end of its moment; its node, and the length of the user.
+    ((209, 212), 196),
+    // The kind, the queue and the file: there is no other.
+    ((219, 239), 196),
+    // A moment for which it waits, which isn't there.
+    ((244, 244), 196),
+    // Characteristics and a form that aren't there, copies and a flag page of a batch job.
+    ((248, 252), 196),
+    // The closed gate.
+    ((253, 253), 253),
+];
+
+#[test]
+fn most_bytes_spoil_the_file(rt: HostRuntime) -> Result<(), Fail> {
+    check_raised(&rt, (0, 0), End::Unformatted { byte: 2 }, NOTHING)?;
+    for (places, gate) in SPOILING {
+        check_raised(&rt, places, damaged(gate), NOTHING)?;
+    }
+    Ok(())
+}
+
+// The bytes that may be others, and what is listed of the entry then.
+const FREE: [((usize, usize), &[u8]); 7] = [
+    // The gates of APPEND and SUBMIT. One that is closed leaves out what stands behind it.
+    ((158, 158), NO_ENTRY),
+    ((196, 196), NO_ENTRY),
+    // The bytes of the file.
+    ((187, 195), PENDING),
+    // The front of the moment of SUBMIT, and its priority, which isn't listed.
+    ((203, 208), PENDING),
+    ((243, 243), PENDING),
+    // Held; retention and restart, which aren't listed.
+    ((245, 245), HOLDING),
+    ((246, 247), PENDING),
+];
+
+#[test]
+fn some_bytes_may_be_others(rt: HostRuntime) -> Result<(), Fail> {
+    for (places, listed) in FREE {
+        check_raised(&rt, places, End::Ok, listed)?;
+    }
+    Ok(())
+}
+
+// The letters of the user and of the job's name, and where they are listed.
+const LETTERS: [(usize, usize); 9] = [
+    (213, 42),
+    (214, 43),
+    (215, 44),
+    (216, 45),
+    (217, 46),
+    (218, 47),
+    (240, 25),
+    (241, 26),
+    (242, 27),
+];
+
+#[test]
+fn letters_are_listed(rt: HostRuntime) -> Result<(), Fail> {
+    for (place, listed) in LETTERS {
+        let printed = raised(rt.alloc(), PENDING, listed)?;
+        check_raised(&rt, (place, place), End::Ok, &printed)?;
     }
     Ok(())
 }

@@ -20,6 +20,11 @@ const NODE: End = End::Script {
     kind: ScriptKind::Node,
 };
 
+const LONG: End = End::Script {
+    line: 0,
+    kind: ScriptKind::Long,
+};
+
 // Words that ask for neither a run nor a site.
 const OTHER_WORDS: [&[&str]; 17] = [
     &[],
@@ -116,11 +121,7 @@ fn a_script_has_16_mib_at_most(rt: HostRuntime) -> Result<(), Fail> {
     let mut script = vec![in alloc; b'\n'; 16_777_216]?;
     check(&rt, "16 MiB", &run(&rt, &script)?, End::Ok, NOTHING);
     script.push(b'\n')?;
-    let end = End::Script {
-        line: 0,
-        kind: ScriptKind::Long,
-    };
-    check(&rt, "one byte more", &run(&rt, &script)?, end, NOTHING);
+    check(&rt, "one byte more", &run(&rt, &script)?, LONG, NOTHING);
     Ok(())
 }
 
@@ -129,16 +130,18 @@ const FIRST: &[u8] = b"A 1: file J.COM, 2 bytes\n";
 const BOTH: &[u8] = b"A 1: file J.COM, 2 bytes\nA 2: file J.COM, 4 bytes\n";
 
 // The script is read by two calls, and each line's answer is written by one: what is told is a front of the transcript.
+const FAILING: [(u64, u64, End, &[u8]); 5] = [
+    (1, 9, End::Read, NOTHING),
+    (2, 9, End::Read, NOTHING),
+    (3, 1, End::Write, NOTHING),
+    (3, 2, End::Write, FIRST),
+    (3, 3, End::Ok, BOTH),
+];
+
 #[test]
 fn a_source_or_a_sink_that_fails_is_told(rt: HostRuntime) -> Result<(), Fail> {
     let alloc = rt.alloc();
-    for (read, write, end, printed) in [
-        (1, 9, End::Read, NOTHING),
-        (2, 9, End::Read, NOTHING),
-        (3, 1, End::Write, NOTHING),
-        (3, 2, End::Write, FIRST),
-        (3, 3, End::Ok, BOTH),
-    ] {
+    for (read, write, end, printed) in FAILING {
         let script = b"A ! LINE J.COM -\nA ! LINE J.COM y\n";
         let ran = run_with(alloc, &["run"], script, &[read], &[write], site(&rt)?)?;
         check(&rt, (read, write), &ran, end, printed);
@@ -160,34 +163,29 @@ fn what_was_done_stays_where_its_answer_is_lost(rt: HostRuntime) -> Result<(), F
     Ok(())
 }
 
+// Ends, the line that each prints, and its status.
+const LINES: [(End, &str, u8); 11] = [
+    (End::Ok, "", 0),
+    (End::Usage, "usage", 2),
+    (FORM, "script line 0: form", 3),
+    (NODE, "script line 0: node", 3),
+    (LONG, "script line 0: long", 3),
+    (End::Read, "read failed", 4),
+    (End::Write, "write failed", 5),
+    (End::Journal, "journal failed", 6),
+    (End::Unformatted { byte: 7 }, "unformatted, byte 7", 7),
+    (
+        End::Damaged { file: 1, place: 12 },
+        "damaged, file 1, byte 12",
+        8,
+    ),
+    (End::NoMemory, "no memory", 10),
+];
+
 #[test]
 fn each_end_has_its_line(rt: HostRuntime) -> Result<(), Fail> {
-    let alloc = rt.alloc();
-    for (end, line, status) in [
-        (End::Ok, "", 0),
-        (End::Usage, "usage", 2),
-        (FORM, "script line 0: form", 3),
-        (NODE, "script line 0: node", 3),
-        (
-            End::Script {
-                line: 0,
-                kind: ScriptKind::Long,
-            },
-            "script line 0: long",
-            3,
-        ),
-        (End::Read, "read failed", 4),
-        (End::Write, "write failed", 5),
-        (End::Journal, "journal failed", 6),
-        (End::Unformatted { byte: 7 }, "unformatted, byte 7", 7),
-        (
-            End::Damaged { file: 1, place: 12 },
-            "damaged, file 1, byte 12",
-            8,
-        ),
-        (End::NoMemory, "no memory", 10),
-    ] {
-        assert_eq!(rt; format!(in alloc; "{end}")?.as_str(), line);
+    for (end, line, status) in LINES {
+        assert_eq!(rt; format!(in rt.alloc(); "{end}")?.as_str(), line);
         assert_eq!(rt; end.status(), status);
     }
     Ok(())

@@ -1,5 +1,5 @@
 // Runs of the program over memory.
-use qm_disk::MemoryDisk;
+use qm_disk::{Disk, MemoryDisk};
 use qm_io::{MemorySink, MemorySource};
 use qm_program::{End, Outcome, qman};
 use std::alloc::{AllocError, Global};
@@ -51,6 +51,22 @@ pub(crate) fn device(
     ))
 }
 
+/// Calls the program with these words: how it ended, what it printed, and the device that it handed back.
+pub(crate) fn call<D: Disk + Drop>(
+    alloc: Global,
+    words: &[&str],
+    mut source: MemorySource,
+    mut sink: MemorySink,
+    disk: D,
+) -> Result<(End, Vec<u8>, D), AllocError> {
+    let mut owned = Vec::new(alloc);
+    for word in words {
+        owned.push(String::from_str(alloc, word)?)?;
+    }
+    let Outcome { end, disk, .. } = qman(alloc, &owned, &mut source, &mut sink, disk);
+    Ok((end, sink.held().to_vec(alloc)?, disk))
+}
+
 /// Runs the program with these words over a text and a device. The source and the sink fail at the calls that are listed,
 /// counted from 1.
 pub(crate) fn run_with(
@@ -61,16 +77,12 @@ pub(crate) fn run_with(
     writes_that_fail: &[u64],
     disk: MemoryDisk,
 ) -> Result<Ran, AllocError> {
-    let mut owned = Vec::new(alloc);
-    for word in words {
-        owned.push(String::from_str(alloc, word)?)?;
-    }
-    let mut source = MemorySource::new(script.to_vec(alloc)?, reads_that_fail.to_vec(alloc)?);
-    let mut sink = MemorySink::new(alloc, writes_that_fail.to_vec(alloc)?);
-    let Outcome { end, disk, .. } = qman(alloc, &owned, &mut source, &mut sink, disk);
+    let source = MemorySource::new(script.to_vec(alloc)?, reads_that_fail.to_vec(alloc)?);
+    let sink = MemorySink::new(alloc, writes_that_fail.to_vec(alloc)?);
+    let (end, transcript, disk) = call(alloc, words, source, sink, disk)?;
     Ok(Ran {
         end,
-        transcript: sink.held().to_vec(alloc)?,
+        transcript,
         disk,
     })
 }

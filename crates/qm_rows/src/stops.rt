@@ -71,18 +71,17 @@ fn check_images<R: Abort + AllocGlobal>(
     Ok(())
 }
 
-// Runs on a device that fails at this call: how they end and what they print, and what is found on the device that was
-// given back, and after a crash of each kind.
+// What a run prints on a device that fails at this call, and what is found on the device that was given back, and after a
+// crash of each kind.
 fn check_stop<R: Abort + AllocGlobal>(
     rt: &R,
     call: u64,
-    end: End,
     printed: &[u8],
     given_back: &[u8],
     after_crash: [&[u8]; 3],
 ) -> Result<(), Fail> {
     let ran = stopped(rt, call)?;
-    check(rt, call, &ran, end, printed);
+    check(rt, call, &ran, End::Journal, printed);
     check_images(rt, &ran, call, after_crash)?;
     let later = ran.then(rt.alloc(), LOOK)?;
     check(rt, call, &later, End::Ok, given_back);
@@ -92,27 +91,38 @@ fn check_stop<R: Abort + AllocGlobal>(
 #[test]
 fn opening_may_fail_at_each_call(rt: HostRuntime) -> Result<(), Fail> {
     for call in 1..=9 {
-        check_stop(&rt, call, End::Journal, b"", NONE, [NONE, NONE, NONE])?;
+        check_stop(&rt, call, b"", NONE, [NONE, NONE, NONE])?;
     }
     Ok(())
 }
 
+// A call of the two lines; what is printed where it fails; and what is found then on the device that was given back, and
+// after a crash of each kind.
+type Stop = (u64, &'static [u8], &'static [u8], [&'static [u8]; 3]);
+
 // Before the gate opens the line is in no image. A write of the gate that fails, or isn't synced, may have been made or not;
-// the third image has half of that one byte, and so none of it. Past the last call nothing fails.
+// the third image has half of that one byte, and so none of it.
+const STOPS: [Stop; 8] = [
+    (10, FIRST_FAILS, NONE, [NONE, NONE, NONE]),
+    (11, FIRST_FAILS, NONE, [NONE, NONE, NONE]),
+    (12, FIRST_FAILS, NONE, [NONE, ONE, NONE]),
+    (13, FIRST_FAILS, ONE, [NONE, ONE, NONE]),
+    (14, SECOND_FAILS, ONE, [ONE, ONE, ONE]),
+    (15, SECOND_FAILS, ONE, [ONE, ONE, ONE]),
+    (16, SECOND_FAILS, ONE, [ONE, BOTH, ONE]),
+    (17, SECOND_FAILS, BOTH, [ONE, BOTH, ONE]),
+];
+
 #[test]
 fn a_line_may_fail_at_each_call(rt: HostRuntime) -> Result<(), Fail> {
-    for (call, end, printed, given_back, after_crash) in [
-        (10, End::Journal, FIRST_FAILS, NONE, [NONE, NONE, NONE]),
-        (11, End::Journal, FIRST_FAILS, NONE, [NONE, NONE, NONE]),
-        (12, End::Journal, FIRST_FAILS, NONE, [NONE, ONE, NONE]),
-        (13, End::Journal, FIRST_FAILS, ONE, [NONE, ONE, NONE]),
-        (14, End::Journal, SECOND_FAILS, ONE, [ONE, ONE, ONE]),
-        (15, End::Journal, SECOND_FAILS, ONE, [ONE, ONE, ONE]),
-        (16, End::Journal, SECOND_FAILS, ONE, [ONE, BOTH, ONE]),
-        (17, End::Journal, SECOND_FAILS, BOTH, [ONE, BOTH, ONE]),
-    ] {
-        check_stop(&rt, call, end, printed, given_back, after_crash)?;
+    for (call, printed, given_back, after_crash) in STOPS {
+        check_stop(&rt, call, printed, given_back, after_crash)?;
     }
+    Ok(())
+}
+
+#[test]
+fn past_the_last_call_nothing_fails(rt: HostRuntime) -> Result<(), Fail> {
     let ran = stopped(&rt, 18)?;
     check(&rt, "past the last call", &ran, End::Ok, NONE_FAILS);
     check_images(&rt, &ran, 18, [BOTH, BOTH, BOTH])
@@ -130,22 +140,24 @@ fn a_failure_that_cannot_be_told_is_a_failed_write(rt: HostRuntime) -> Result<()
 // One crash after another. Each run goes on from the image that the one before left; its line is there where the gate was
 // written (the third and the fourth call behind opening) and the image has that write. Opening is two calls more for each
 // line that is there.
+const CRASHES: [(u64, u8, End); 9] = [
+    (13, 1, End::Journal),
+    (12, 1, End::Journal),
+    (14, 1, End::Journal),
+    (16, 0, End::Journal),
+    (15, 2, End::Journal),
+    (17, 2, End::Journal),
+    (17, 1, End::Journal),
+    (18, 2, End::Journal),
+    (20, 0, End::Ok),
+];
+
 #[test]
 fn a_site_goes_on_from_crash_to_crash(rt: HostRuntime) -> Result<(), Fail> {
     let alloc = rt.alloc();
     let line = b"A ! LINE LOG.LIS one line\n";
     let mut file = site(&rt)?.held(1).to_vec(alloc)?;
-    for (call, pick, end) in [
-        (13, 1, End::Journal),
-        (12, 1, End::Journal),
-        (14, 1, End::Journal),
-        (16, 0, End::Journal),
-        (15, 2, End::Journal),
-        (17, 2, End::Journal),
-        (17, 1, End::Journal),
-        (18, 2, End::Journal),
-        (20, 0, End::Ok),
-    ] {
+    for (call, pick, end) in CRASHES {
         let ran = serve(alloc, line, device(alloc, &file, &[call])?)?;
         assert_eq!(rt; ran.end, end, "call {call}, image {pick}");
         file = ran.disk.after_crash(pick)?.held(1).to_vec(alloc)?;

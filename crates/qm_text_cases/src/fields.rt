@@ -39,20 +39,30 @@ fn fields_are_written_as_they_are_read(rt: HostRuntime) -> Result<(), Fail> {
     Ok(())
 }
 
+// Places of numbers, and what is taken there.
+const NUMBERS: [(usize, Width, Option<u64>); 3] = [
+    (1, Width::Two, Some(513)),
+    (1, Width::One, Some(1)),
+    (FIELDS.len(), Width::One, None),
+];
+
 #[test]
-fn numbers_and_names_are_taken_at_a_place(rt: HostRuntime) {
-    for (at, width, number) in [
-        (1, Width::Two, Some(513)),
-        (1, Width::One, Some(1)),
-        (FIELDS.len(), Width::One, None),
-    ] {
+fn numbers_are_taken_at_a_place(rt: HostRuntime) {
+    for (at, width, number) in NUMBERS {
         let found = match take_number(FIELDS, at, width) {
             Some((found, _next)) => Some(found),
             None => None,
         };
         assert_eq!(rt; found, number);
     }
-    for (at, next) in [(3, Some(9)), (0, None), (4, None)] {
+}
+
+// Places of names, and the place behind each.
+const NAMES: [(usize, Option<usize>); 3] = [(3, Some(9)), (0, None), (4, None)];
+
+#[test]
+fn names_are_taken_at_a_place(rt: HostRuntime) {
+    for (at, next) in NAMES {
         let found = match take_name(FIELDS, at) {
             Some((_name, found)) => Some(found),
             None => None,
@@ -69,30 +79,42 @@ fn left_by<T: Drop>(outcome: Result<T, BadField>) -> Option<usize> {
     }
 }
 
+// Bytes that begin with no name, and how many are left where that shows.
+const NO_NAMES: [(&[u8], usize); 4] = [
+    (b"\x03LlP", 2),
+    (b"\x03L", 0),
+    (b"\x28L", 2),
+    (b"\x00L", 2),
+];
+
+// The same of moments.
+const NO_MOMENTS: [(&[u8], usize); 2] = [
+    (b"\xff\xff\xff\xff\xff\x17\x00\x00", 3),
+    (b"\x00\x00\x00\x00\x00\x00\x01\x00", 2),
+];
+
 #[test]
-fn a_reader_stops_at_the_first_byte_that_no_spelling_has(rt: HostRuntime) {
-    for (bytes, left) in [
-        (b"\x03LlP".as_slice(), 2),
-        (b"\x03L".as_slice(), 0),
-        (b"\x28L".as_slice(), 2),
-        (b"\0L".as_slice(), 2),
-    ] {
+fn a_reader_of_names_stops_at_the_first_byte_that_none_has(rt: HostRuntime) {
+    for (bytes, left) in NO_NAMES {
         let mut rest = bytes;
         assert_eq!(rt; left_by(read_name(&mut rest)), Some(left));
     }
-    for (bytes, left) in [
-        (b"\xff\xff\xff\xff\xff\x17\0\0".as_slice(), 3),
-        (b"\0\0\0\0\0\0\x01\0".as_slice(), 2),
-    ] {
+}
+
+#[test]
+fn a_reader_of_moments_stops_at_the_first_byte_that_none_has(rt: HostRuntime) {
+    for (bytes, left) in NO_MOMENTS {
         let mut rest = bytes;
         assert_eq!(rt; left_by(read_moment(&mut rest)), Some(left));
     }
-    let mut rest = b"\0\x03".as_slice();
-    assert_eq!(rt;
-        left_by(read_number_up_to(&mut rest, Width::Two, 512)),
-        Some(1)
-    );
-    let mut rest = b"\x02\0\0\0\x07".as_slice();
+}
+
+#[test]
+fn readers_of_numbers_and_texts_stop_there_too(rt: HostRuntime) {
+    let mut rest = b"\x00\x03".as_slice();
+    let number = left_by(read_number_up_to(&mut rest, Width::Two, 512));
+    assert_eq!(rt; number, Some(1));
+    let mut rest = b"\x02\x00\x00\x00\x07".as_slice();
     assert_eq!(rt; left_by(read_long_bytes(rt.alloc(), &mut rest)), Some(0));
     let mut rest = b"\x02\x09".as_slice();
     assert_eq!(rt; left_by(read_byte(&mut rest, 0, 1)), Some(2));
