@@ -1,5 +1,5 @@
 -- Which command the tokens behind a verb make of it, and what stands behind its /.
-use Rattle.std.specs.Prelude.{ℕ, Bool, true, false, ◌&&◌, if◌then◌else◌, is_some, find, List, [], ◌∷◌, Option, None, Some}
+use Rattle.std.specs.Prelude.{ℕ, Bool, true, false, ◌&&◌, ◌||◌, not, if◌then◌else◌, is_some, find, List, [], ◌∷◌, Option, None, Some}
 use Rattle.std.specs.Option.{option_or}
 use Rattle.qm_lex.specs.declared.token.Token.{Token}
 use Rattle.qm_lex.specs.declared.token.TokenKind.{TokenKind}
@@ -9,15 +9,19 @@ use Rattle.qm_grammar.specs.declared.table.Command.{Command}
 use Rattle.qm_grammar.specs.declared.table.Row.{Row}
 use Rattle.qm_grammar.specs.declared.rules.Takes.{Takes}
 use Rattle.qm_grammar.specs.declared.word.Word.{Word}
-use Rattle.qm_grammar.specs.Words.{verb_spelling, spelling}
+use Rattle.qm_grammar.specs.Words.{verb_spelling, short_spelling, spelling}
 use Rattle.qm_grammar.specs.Spelled.{is_spelled, is_text}
 use Rattle.qm_grammar.specs.Table.{rows_of, verbs}
 use Rattle.qm_grammar.specs.Rules.{rules_of}
 use Rattle.qm_grammar.specs.Conflicts.{counting_place}
 
+-- a token spells the verb, in full or in its short form
+abbrev pub is_verb : List ℕ → Token → Verb → Bool
+is_verb text token verb = is_spelled text (verb_spelling verb) token || is_spelled text (short_spelling verb) token
+
 -- the verb that a token is
 abbrev pub verb_of : List ℕ → Token → Option Verb
-verb_of text token = find (λ verb. is_spelled text (verb_spelling verb) token) verbs
+verb_of text token = find (is_verb text token) verbs
 
 -- behind these tokens a word or a quoted string is a parameter: it is no name behind a / and no value
 abbrev pub lets_follow : TokenKind → Bool
@@ -29,14 +33,26 @@ lets_follow kinds.Equals = false
 lets_follow kinds.Open = false
 lets_follow kinds.Comma = false
 
--- the first parameter, behind a token that lets one follow or doesn't
-abbrev pub parameter_behind : Bool → List Token → Option Token
-parameter_behind follows [] = None
-parameter_behind follows (token ∷ tokens) = if follows && is_text token.kind then Some token else parameter_behind (lets_follow token.kind) tokens
+-- whether a list is open behind a token: ) ends it, and so does a / where that lacks
+abbrev pub stays_open : Bool → TokenKind → Bool
+stays_open in_list kinds.Open = true
+stays_open in_list kinds.Close = false
+stays_open in_list kinds.Slash = false
+stays_open in_list kinds.Word = in_list
+stays_open in_list kinds.Quoted = in_list
+stays_open in_list kinds.Equals = in_list
+stays_open in_list kinds.Comma = in_list
+
+-- the first parameter, within a list or not, and behind a token that lets one follow or doesn't
+abbrev pub parameter_behind : Bool → Bool → List Token → Option Token
+parameter_behind in_list follows [] = None
+parameter_behind in_list follows (token ∷ tokens) =
+    if not in_list && follows && is_text token.kind then Some token
+    else parameter_behind (stays_open in_list token.kind) (lets_follow token.kind) tokens
 
 -- the first parameter of a verb
 abbrev pub first_parameter : List Token → Option Token
-first_parameter tokens = parameter_behind true tokens
+first_parameter tokens = parameter_behind false true tokens
 
 -- the option that is the first parameter is this one, if there is to be one
 abbrev pub has_object : List ℕ → Option Word → Option Token → Bool

@@ -1,7 +1,8 @@
 -- Which command a text is, with its parts; or what is wrong and where.
-use Rattle.std.specs.Prelude.{◌≡◌, ℕ, if◌then◌else◌, nat_lt, List, [], take, Result, Ok, Err}
+use Rattle.std.specs.Prelude.{◌≡◌, ℕ, if◌then◌else◌, nat_lt, List, [], ◌∷◌, ◌++◌, take, Result, Ok, Err}
 use Rattle.qm_kinds.specs.declared.refusal.ParseKind.TheVariants.{Form}
 use Rattle.qm_lex.specs.declared.token.Token.{Token}
+use Rattle.qm_lex.specs.declared.token.TokenKind.TheVariants.{Quoted}
 use Rattle.qm_lex.specs.Tokens.{tokens_of}
 use Rattle.qm_grammar.specs.declared.fault.Fault.{Fault}
 use Rattle.qm_grammar.specs.declared.reader.ParseFault.{ParseFault}
@@ -17,9 +18,13 @@ abbrev pub or_unreadable : ℕ → Result Command Fault → Result Command Fault
 or_unreadable place (Ok command) = Err (fault_at place Form)
 or_unreadable place (Err f) = if nat_lt f.place place then Err f else Err (fault_at place Form)
 
--- what is wrong with a text of which the token at this place can't be read, by the tokens in front of it
+-- a quote without its end, which stands where a quoted string would
+abbrev pub unreadable : ℕ → Token
+unreadable place = record { kind = Quoted; start = place; end = place }
+
+-- what is wrong with a text of which the token at this place can't be read, by the tokens up to it
 abbrev pub in_front : List ℕ → ℕ → Result (List Token) ℕ → Result Command Fault
-in_front text place (Ok tokens) = or_unreadable place (command_of text tokens)
+in_front text place (Ok tokens) = or_unreadable place (command_of text (tokens ++ unreadable place ∷ []))
 in_front text place (Err other) = Err (fault_at place Form)
 
 abbrev pub command_by : List ℕ → Result (List Token) ℕ → Result Command Fault

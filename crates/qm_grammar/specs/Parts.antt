@@ -30,6 +30,7 @@ text_part slash rule token place.Equals = Some (Value token)
 text_part slash rule token place.Open = Some (Value token)
 text_part slash rule token place.Comma = Some (Value token)
 text_part slash rule token place.Key = Some (KeyValue token)
+text_part slash rule token place.KeyOpen = Some (KeyValue token)
 text_part slash rule token _ = Some (Parameter token)
 
 -- which part a token is; a sign is none

@@ -7,7 +7,7 @@ use Rattle.qm_grammar.specs.declared.table.Row.{Row}
 use Rattle.qm_grammar.specs.declared.rules.Takes.{Takes}
 use Rattle.qm_grammar.specs.declared.rules.Takes.TheVariants as takes
 use Rattle.qm_grammar.specs.declared.place.Place.{Place}
-use Rattle.qm_grammar.specs.declared.place.Place.TheVariants.{Verb, Parameter, VerbSlash, Slash, Name, Equals, Open, Comma, Value, Key, KeyValue, Close}
+use Rattle.qm_grammar.specs.declared.place.Place.TheVariants.{Verb, Parameter, VerbSlash, Slash, Name, Equals, Open, Comma, Value, Key, KeyOpen, KeyValue, Close}
 use Rattle.qm_grammar.specs.declared.place.State.{State}
 use Rattle.qm_grammar.specs.Rules.{needs_value}
 
@@ -41,6 +41,7 @@ is_awaited Open takes in_list = true
 is_awaited Comma takes in_list = true
 is_awaited Value takes in_list = in_list
 is_awaited Key takes in_list = true
+is_awaited KeyOpen takes in_list = true
 is_awaited KeyValue takes in_list = in_list
 is_awaited Close takes in_list = false
 

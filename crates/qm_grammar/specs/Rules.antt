@@ -118,11 +118,14 @@ own_rules command.Print =
     (words.Form, takes.One) ∷ (words.Copies, takes.One) ∷ (words.Flag, takes.Nothing)
     ∷ (words.NoFlag, takes.Nothing) ∷ []
 own_rules command.ShowForms =
-    (words.Form, takes.Nothing) ∷ (words.Characteristics, takes.Nothing) ∷ (words.Managers, takes.Nothing) ∷ []
+    (words.Form, takes.Nothing) ∷ (words.ShownCharacteristics, takes.Nothing) ∷ (words.Managers, takes.Nothing)
+    ∷ (words.Manager, takes.Nothing) ∷ []
 own_rules command.ShowCharacteristics =
-    (words.Form, takes.Nothing) ∷ (words.Characteristics, takes.Nothing) ∷ (words.Managers, takes.Nothing) ∷ []
+    (words.Form, takes.Nothing) ∷ (words.ShownCharacteristics, takes.Nothing) ∷ (words.Managers, takes.Nothing)
+    ∷ (words.Manager, takes.Nothing) ∷ []
 own_rules command.ShowManagers =
-    (words.Form, takes.Nothing) ∷ (words.Characteristics, takes.Nothing) ∷ (words.Managers, takes.Nothing) ∷ []
+    (words.Form, takes.Nothing) ∷ (words.ShownCharacteristics, takes.Nothing) ∷ (words.Managers, takes.Nothing)
+    ∷ (words.Manager, takes.Nothing) ∷ []
 own_rules command.ShowQueue =
     (words.AllJobs, takes.Nothing) ∷ (words.Batch, takes.Nothing) ∷ (words.Device, takes.Nothing)
     ∷ (words.Generic, takes.Nothing) ∷ []
@@ -147,4 +150,6 @@ exclusions_of verb.Assign = []
 exclusions_of verb.Define = (words.Form, words.Characteristic) ∷ (words.Wrap, words.Truncate) ∷ []
 exclusions_of verb.Submit = []
 exclusions_of verb.Print = []
-exclusions_of verb.Show = (words.Form, words.Characteristics) ∷ (words.Form, words.Managers) ∷ (words.Characteristics, words.Managers) ∷ []
+exclusions_of verb.Show =
+    (words.Form, words.ShownCharacteristics) ∷ (words.Form, words.Managers) ∷ (words.Form, words.Manager)
+    ∷ (words.ShownCharacteristics, words.Managers) ∷ (words.ShownCharacteristics, words.Manager) ∷ []

@@ -10,6 +10,7 @@ use Rattle.qm_grammar.specs.declared.fault.Fault.{Fault}
 use Rattle.qm_grammar.specs.declared.table.Verb.{Verb}
 use Rattle.qm_grammar.specs.declared.table.Row.{Row}
 use Rattle.qm_grammar.specs.declared.rules.Takes.{Takes}
+use Rattle.qm_grammar.specs.declared.rules.Takes.TheVariants.{One}
 use Rattle.qm_grammar.specs.declared.word.Word.{Word}
 use Rattle.qm_grammar.specs.declared.place.Place.{Place}
 use Rattle.qm_grammar.specs.declared.place.Place.TheVariants as place
@@ -67,6 +68,7 @@ with_text verb row s token place.Equals = with_value s token
 with_text verb row s token place.Open = with_value s token
 with_text verb row s token place.Comma = with_value s token
 with_text verb row s token place.Key = Ok (moved s place.KeyValue token)
+with_text verb row s token place.KeyOpen = Ok (moved s place.KeyValue token)
 with_text verb row s token place.Value = if s.in_list then Err (fault_at token.start fault.Form) else with_parameter verb row s token
 with_text verb row s token place.KeyValue = if s.in_list then Err (fault_at token.start fault.Form) else with_parameter verb row s token
 with_text verb row s token _ = with_parameter verb row s token
@@ -95,13 +97,19 @@ with_equals s token place.Name = Ok (moved s place.Equals token)
 with_equals s token place.Value = if may_have_key s.takes then Ok (moved s place.Key token) else Err (misplaced s.place s token.start)
 with_equals s token _ = Err (misplaced s.place s token.start)
 
+-- ( behind the = of a value, which may enclose this one value where no list is open
+abbrev pub with_key_open : State → Token → Result State Fault
+with_key_open s token =
+    if s.in_list then Err (fault_at token.start fault.Value)
+    else Ok (record s { place = place.KeyOpen; takes = One; in_list = true; start = token.start; end = token.end })
+
 -- (, which begins a list; no value of a list is one
 abbrev pub with_open : State → Token → Place → Result State Fault
-with_open s token place.Equals =
-    if needs_value s.takes then Ok (record s { place = place.Open; in_list = true; start = token.start; end = token.end }) else Err (fault_at token.start fault.Value)
+with_open s token place.Equals = Ok (record s { place = place.Open; in_list = true; start = token.start; end = token.end })
 with_open s token place.Open = Err (fault_at token.start fault.Value)
 with_open s token place.Comma = Err (fault_at token.start fault.Value)
-with_open s token place.Key = Err (fault_at token.start fault.Value)
+with_open s token place.Key = with_key_open s token
+with_open s token place.KeyOpen = Err (fault_at token.start fault.Value)
 with_open s token _ = Err (misplaced s.place s token.start)
 
 -- a list ends
@@ -114,6 +122,7 @@ abbrev pub with_close : State → Token → Place → Result State Fault
 with_close s token place.Value = with_end s token
 with_close s token place.KeyValue = with_end s token
 with_close s token place.Open = Err (fault_at s.start fault.Value)
+with_close s token place.KeyOpen = Err (fault_at s.start fault.Value)
 with_close s token _ = Err (misplaced s.place s token.start)
 
 -- a comma, which stands between the values of a list

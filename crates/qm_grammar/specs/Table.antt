@@ -27,8 +27,8 @@ rows_of verb.Initialize =
     row command.InitializeQueue (Some words.Queue) None 1 1
     ∷ []
 rows_of verb.Set =
-    object_row command.SetQueue words.Queue None 2 2 true
-    ∷ object_row command.SetEntry words.Entry None 2 2 true
+    object_row command.SetEntry words.Entry None 2 2 true
+    ∷ object_row command.SetQueue words.Queue None 2 2 true
     ∷ []
 rows_of verb.Start =
     row command.StartManager (Some words.Queue) (Some words.Manager) 0 0
@@ -58,8 +58,9 @@ rows_of verb.Print =
     ∷ []
 rows_of verb.Show =
     object_row command.ShowForms words.Queue (Some words.Form) 1 2 false
-    ∷ object_row command.ShowCharacteristics words.Queue (Some words.Characteristics) 1 2 false
+    ∷ object_row command.ShowCharacteristics words.Queue (Some words.ShownCharacteristics) 1 2 false
     ∷ object_row command.ShowManagers words.Queue (Some words.Managers) 1 1 false
+    ∷ object_row command.ShowManagers words.Queue (Some words.Manager) 1 1 false
     ∷ object_row command.ShowQueue words.Queue None 1 2 false
     ∷ object_row command.ShowEntry words.Entry None 1 2 false
     ∷ []

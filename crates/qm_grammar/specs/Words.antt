@@ -19,6 +19,11 @@ verb_spelling verbs.Submit = codes "SUBMIT"
 verb_spelling verbs.Print = codes "PRINT"
 verb_spelling verbs.Show = codes "SHOW"
 
+-- the short form of a verb, or the full one where there is none
+abbrev pub short_spelling : Verb → List ℕ
+short_spelling verbs.Initialize = codes "INIT"
+short_spelling verb = verb_spelling verb
+
 -- the name of an option or of a qualifier
 abbrev pub spelling : Word → List ℕ
 spelling words.Queue = codes "QUEUE"
@@ -28,6 +33,7 @@ spelling words.Merge = codes "MERGE"
 spelling words.Form = codes "FORM"
 spelling words.Characteristic = codes "CHARACTERISTIC"
 spelling words.Characteristics = codes "CHARACTERISTICS"
+spelling words.ShownCharacteristics = codes "CHARACTERISTICS"
 spelling words.Entry = codes "ENTRY"
 spelling words.Batch = codes "BATCH"
 spelling words.Device = codes "DEVICE"

@@ -40,10 +40,12 @@ const DEFINE: [Exclusion; 2] = [
     (Word::Wrap, Word::Truncate),
 ];
 
-const SHOW: [Exclusion; 3] = [
-    (Word::Form, Word::Characteristics),
+const SHOW: [Exclusion; 5] = [
+    (Word::Form, Word::ShownCharacteristics),
     (Word::Form, Word::Managers),
-    (Word::Characteristics, Word::Managers),
+    (Word::Form, Word::Manager),
+    (Word::ShownCharacteristics, Word::Managers),
+    (Word::ShownCharacteristics, Word::Manager),
 ];
 
 // Which exclude each other, options among them.

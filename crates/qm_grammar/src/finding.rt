@@ -1,6 +1,6 @@
 // Which command the tokens behind a verb make of it, and what stands behind its `/`.
 ghost use Rattle.std.specs.Prelude.{◌≡◌, find};
-ghost use Rattle.qm_grammar.specs.Finding.{verb_of, lets_follow, first_parameter, has_object, has_option, is_named, row_of, rule_in, rule_among, rule_for};
+ghost use Rattle.qm_grammar.specs.Finding.{is_verb, verb_of, lets_follow, stays_open, first_parameter, has_object, has_option, is_named, row_of, rule_in, rule_among, rule_for};
 ghost use Rattle.qm_grammar.specs.Table.{rows_of};
 ghost use Rattle.qm_grammar.specs.Spelled.{is_spelled};
 ghost use Rattle.qm_grammar.specs.Words.{spelling};
@@ -9,8 +9,15 @@ use crate::conflict::counting_place;
 use crate::rules::{Rule, own_rules, settings};
 use crate::table::{Command, Row, VERBS, Verb, rows_of};
 use crate::token::{is_spelled, is_text};
-use crate::word::{Word, spelling, verb_spelling};
+use crate::word::{Word, short_spelling, spelling, verb_spelling};
 use qm_lex::{Token, TokenKind};
+
+// Whether a token spells the verb, in full or in its short form.
+fn is_verb(text: &[u8], token: Token, verb: Verb) -> bool
+    ensures { result ≡ is_verb text.now token verb }
+{
+    is_spelled(text, verb_spelling(verb), token) || is_spelled(text, short_spelling(verb), token)
+}
 
 /// The verb that a token is.
 pub(crate) fn verb_of(text: &[u8], token: Token) -> Option<Verb>
@@ -19,7 +26,7 @@ pub(crate) fn verb_of(text: &[u8], token: Token) -> Option<Verb>
     VERBS
         .iter()
         .copied()
-        .find(|verb| is_spelled(text, verb_spelling(*verb), token))
+        .find(|verb| is_verb(text, token, *verb))
 }
 
 // Whether a word or a quoted string behind this token is a parameter: it is no name behind a `/` and no value.
@@ -32,16 +39,29 @@ fn lets_follow(token: Token) -> bool
     }
 }
 
+// Whether a list is open behind a token: `)` ends it, and so does a `/` where that lacks.
+fn stays_open(in_list: bool, token: Token) -> bool
+    ensures { result ≡ stays_open in_list token.kind }
+{
+    match token.kind {
+        TokenKind::Open => true,
+        TokenKind::Close | TokenKind::Slash => false,
+        _ => in_list,
+    }
+}
+
 // The first parameter of a verb.
 fn first_parameter(tokens: &[Token]) -> Option<Token>
     ensures { result ≡ first_parameter tokens.now }
 {
+    let mut in_list = false;
     let mut follows = true;
     let mut rest = tokens;
     while let [token, behind @ ..] = rest {
-        if follows && is_text(*token) {
+        if !in_list && follows && is_text(*token) {
             return Some(*token);
         }
+        in_list = stays_open(in_list, *token);
         follows = lets_follow(*token);
         rest = behind;
     }

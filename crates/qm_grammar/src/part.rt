@@ -46,7 +46,7 @@ fn text_part(s: &State, rule: Option<Rule>, token: Token) -> Option<Part>
     match s.place {
         Place::VerbSlash | Place::Slash => qualifier_part(s, rule),
         Place::Equals | Place::Open | Place::Comma => Some(Part::Value { token }),
-        Place::Key => Some(Part::KeyValue { token }),
+        Place::Key | Place::KeyOpen => Some(Part::KeyValue { token }),
         _ => Some(Part::Parameter { token }),
     }
 }

@@ -28,6 +28,8 @@ pub(crate) enum Place {
     Value,
     /// `=` behind a value.
     Key,
+    /// `(` behind that.
+    KeyOpen,
     /// The value behind that.
     KeyValue,
     /// `)` at the end of a list.
@@ -63,7 +65,7 @@ pub(crate) fn is_awaited(place: Place, takes: Takes, in_list: bool) -> bool
 {
     match place {
         Place::Verb | Place::Parameter | Place::VerbSlash | Place::Slash | Place::Close => false,
-        Place::Equals | Place::Open | Place::Comma | Place::Key => true,
+        Place::Equals | Place::Open | Place::Comma | Place::Key | Place::KeyOpen => true,
         Place::Value | Place::KeyValue => in_list,
         Place::Name => needs_value(takes),
     }

@@ -3,14 +3,14 @@ ghost use Rattle.std.specs.Prelude.{◌≡◌, take, Ok, Err, IfOk, IfErr};
 ghost use Rattle.qm_lex.specs.Tokens.{tokens_of};
 ghost use Rattle.qm_grammar.specs.Reading.{command_of};
 ghost use Rattle.qm_grammar.specs.Parts.{parts_of};
-ghost use Rattle.qm_grammar.specs.Parsed.{or_unreadable, in_front, command_in, parts_in, Explains};
+ghost use Rattle.qm_grammar.specs.Parsed.{or_unreadable, unreadable, in_front, command_in, parts_in, Explains};
 
 use crate::fault::{Fault, fault_at};
 use crate::part::{Part, parts_of};
 use crate::reading::command_of;
 use crate::table::Command;
 use qm_kinds::ParseKind;
-use qm_lex::{LexFault, Token, lex};
+use qm_lex::{LexFault, Token, TokenKind, lex};
 use std::alloc::Global;
 use std::error::Error;
 use std::fmt;
@@ -78,12 +78,26 @@ fn or_unreadable(place: usize, read: Result<Command, Fault>) -> Fault
     }
 }
 
+// A quote without its end, which stands where a quoted string would.
+fn unreadable(place: usize) -> Token
+    ensures { result ≡ unreadable place }
+{
+    Token {
+        kind: TokenKind::Quoted,
+        start: place,
+        end: place,
+    }
+}
+
 // What is wrong with a text of which the token at this place can't be read.
 fn in_front(alloc: Global, text: &[u8], place: usize) -> ParseFault
     ensures { Explains (in_front text.now place (tokens_of (take place text.now))) result }
 {
     match lex(alloc, front(text, place)) {
-        Ok(tokens) => ParseFault::At(or_unreadable(place, command_of(text, &tokens))),
+        Ok(mut tokens) => match tokens.push(unreadable(place)) {
+            Ok(()) => ParseFault::At(or_unreadable(place, command_of(text, &tokens))),
+            Err(_) => ParseFault::NoMemory,
+        },
         Err(LexFault::Unreadable { .. }) => ParseFault::At(fault_at(place, ParseKind::Form)),
         Err(LexFault::NoMemory) => ParseFault::NoMemory,
     }

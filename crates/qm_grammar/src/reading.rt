@@ -86,7 +86,7 @@ fn no_verb(kind: TokenKind) -> ParseKind
 
 /// The command that the tokens of a text are.
 ///
-/// Words are spelled in full and in any case. Options behind a `/` and qualifiers stand anywhere behind the verb; the option
+/// Words are spelled in full and in any case; `INIT` is taken for `INITIALIZE`, and `MANAGER` for `MANAGERS`. Options behind a `/` and qualifiers stand anywhere behind the verb; the option
 /// of `SET` and `SHOW` is the first parameter. What a value says isn't judged here.
 ///
 /// Errors: the fault with the least place. `Word` at a first word that is no verb, at a first parameter of `SET` or `SHOW` that

@@ -130,10 +130,11 @@ const PRINT: [Rule; 4] = [
     (Word::NoFlag, Takes::Nothing),
 ];
 
-const SHOW_LISTS: [Rule; 3] = [
+const SHOW_LISTS: [Rule; 4] = [
     (Word::Form, Takes::Nothing),
-    (Word::Characteristics, Takes::Nothing),
+    (Word::ShownCharacteristics, Takes::Nothing),
     (Word::Managers, Takes::Nothing),
+    (Word::Manager, Takes::Nothing),
 ];
 
 const SHOW_QUEUE: [Rule; 4] = [

@@ -1,12 +1,12 @@
 // One token further.
 ghost use Rattle.std.specs.Prelude.{◌≡◌};
 ghost use Rattle.qm_grammar.specs.Places.{is_owing, misplaced, is_joined, one_more};
-ghost use Rattle.qm_grammar.specs.Steps.{unknown_kind, named_by, with_value, is_no_object, with_parameter, with_name, with_text, with_word, with_slash, with_equals, with_open, with_close, with_comma, with_token};
+ghost use Rattle.qm_grammar.specs.Steps.{unknown_kind, named_by, with_value, is_no_object, with_parameter, with_name, with_text, with_word, with_slash, with_equals, with_key_open, with_open, with_close, with_comma, with_token};
 
 use crate::fault::{Fault, fault_at};
 use crate::finding::{rule_among, rule_for};
 use crate::place::{Place, State, is_awaited, moved};
-use crate::rules::{Rule, may_have_key, most_values, needs_value};
+use crate::rules::{Rule, Takes, may_have_key, most_values, needs_value};
 use crate::table::{Row, Verb, takes_object, takes_option};
 use qm_kinds::ParseKind;
 use qm_lex::{Token, TokenKind};
@@ -174,7 +174,7 @@ fn with_text(verb: Verb, row: Option<Row>, s: &State, token: Token) -> Result<St
 {
     match s.place {
         Place::Equals | Place::Open | Place::Comma => with_value(s, token),
-        Place::Key => Ok(moved(s, Place::KeyValue, token)),
+        Place::Key | Place::KeyOpen => Ok(moved(s, Place::KeyValue, token)),
         Place::Value | Place::KeyValue if s.in_list => {
             Err(fault_at(token.start, ParseKind::Form))
         }
@@ -228,21 +228,37 @@ fn with_equals(s: &State, token: Token) -> Result<State, Fault>
     }
 }
 
+// Behind `(` after the `=` of a value, which may enclose this one value where no list is open.
+fn with_key_open(s: &State, token: Token) -> Result<State, Fault>
+    ensures { result ≡ with_key_open s.now token }
+{
+    if s.in_list {
+        return Err(fault_at(token.start, ParseKind::Value));
+    }
+    Ok(State {
+        place: Place::KeyOpen,
+        takes: Takes::One,
+        in_list: true,
+        start: token.start,
+        end: token.end,
+        ..*s
+    })
+}
+
 // Behind `(`, which begins a list; no value of a list is one.
 fn with_open(s: &State, token: Token) -> Result<State, Fault>
     ensures { result ≡ with_open s.now token s.now.place }
 {
     match s.place {
-        Place::Equals if needs_value(s.takes) => Ok(State {
+        Place::Equals => Ok(State {
             place: Place::Open,
             in_list: true,
             start: token.start,
             end: token.end,
             ..*s
         }),
-        Place::Equals | Place::Open | Place::Comma | Place::Key => {
-            Err(fault_at(token.start, ParseKind::Value))
-        }
+        Place::Open | Place::Comma | Place::KeyOpen => Err(fault_at(token.start, ParseKind::Value)),
+        Place::Key => with_key_open(s, token),
         _ => Err(misplaced(s, token.start)),
     }
 }
@@ -259,7 +275,7 @@ fn with_close(s: &State, token: Token) -> Result<State, Fault>
             end: token.end,
             ..*s
         }),
-        Place::Open => Err(fault_at(s.start, ParseKind::Value)),
+        Place::Open | Place::KeyOpen => Err(fault_at(s.start, ParseKind::Value)),
         _ => Err(misplaced(s, token.start)),
     }
 }

@@ -56,7 +56,7 @@ pub enum Command {
     ShowForms,
     /// `SHOW QUEUE/CHARACTERISTICS [pattern]`
     ShowCharacteristics,
-    /// `SHOW QUEUE/MANAGERS`
+    /// `SHOW QUEUE/MANAGERS`, or `/MANAGER`
     ShowManagers,
     /// `SHOW QUEUE [pattern]`
     ShowQueue,
@@ -94,8 +94,8 @@ const INITIALIZE: [Row; 1] = [Row {
 
 const SET: [Row; 2] = [
     Row {
-        command: Command::SetQueue,
-        object: Some(Word::Queue),
+        command: Command::SetEntry,
+        object: Some(Word::Entry),
         option: None,
         further: None,
         least: 2,
@@ -103,8 +103,8 @@ const SET: [Row; 2] = [
         must_set: true,
     },
     Row {
-        command: Command::SetEntry,
-        object: Some(Word::Entry),
+        command: Command::SetQueue,
+        object: Some(Word::Queue),
         option: None,
         further: None,
         least: 2,
@@ -234,7 +234,7 @@ const PRINT: [Row; 1] = [Row {
     must_set: false,
 }];
 
-const SHOW: [Row; 5] = [
+const SHOW: [Row; 6] = [
     Row {
         command: Command::ShowForms,
         object: Some(Word::Queue),
@@ -247,7 +247,7 @@ const SHOW: [Row; 5] = [
     Row {
         command: Command::ShowCharacteristics,
         object: Some(Word::Queue),
-        option: Some(Word::Characteristics),
+        option: Some(Word::ShownCharacteristics),
         further: None,
         least: 1,
         most: 2,
@@ -257,6 +257,15 @@ const SHOW: [Row; 5] = [
         command: Command::ShowManagers,
         object: Some(Word::Queue),
         option: Some(Word::Managers),
+        further: None,
+        least: 1,
+        most: 1,
+        must_set: false,
+    },
+    Row {
+        command: Command::ShowManagers,
+        object: Some(Word::Queue),
+        option: Some(Word::Manager),
         further: None,
         least: 1,
         most: 1,
@@ -335,7 +344,7 @@ pub(crate) fn takes_object(verb: Verb) -> bool
     }
 }
 
-/// Whether a command is built: what it asks for can be answered.
+/// Whether some form of the command is built; which of its qualifiers are is for whoever gives it its meaning.
 pub fn is_built(command: Command) -> bool
     ensures { result ≡ is_built command }
 {

@@ -1,6 +1,6 @@
 // The words of the grammar.
 ghost use Rattle.std.specs.Prelude.{◌≡◌};
-ghost use Rattle.qm_grammar.specs.Words.{spelling, verb_spelling, undone_by};
+ghost use Rattle.qm_grammar.specs.Words.{spelling, verb_spelling, short_spelling, undone_by};
 
 use crate::table::Verb;
 
@@ -13,7 +13,10 @@ pub enum Word {
     Merge,
     Form,
     Characteristic,
+    /// The qualifier.
     Characteristics,
+    /// The option of `SHOW QUEUE`, which no other form undoes.
+    ShownCharacteristics,
     Entry,
     Batch,
     Device,
@@ -77,6 +80,16 @@ pub(crate) fn verb_spelling(verb: Verb) -> &'static [u8]
     }
 }
 
+/// The short form of a verb, or the full one where there is none.
+pub(crate) fn short_spelling(verb: Verb) -> &'static [u8]
+    ensures { result.now ≡ short_spelling verb }
+{
+    match verb {
+        Verb::Initialize => b"INIT",
+        _ => verb_spelling(verb),
+    }
+}
+
 /// How the name of an option or a qualifier is spelled.
 pub(crate) fn spelling(word: Word) -> &'static [u8]
     ensures { result.now ≡ spelling word }
@@ -88,7 +101,7 @@ pub(crate) fn spelling(word: Word) -> &'static [u8]
         Word::Merge => b"MERGE",
         Word::Form => b"FORM",
         Word::Characteristic => b"CHARACTERISTIC",
-        Word::Characteristics => b"CHARACTERISTICS",
+        Word::Characteristics | Word::ShownCharacteristics => b"CHARACTERISTICS",
         Word::Entry => b"ENTRY",
         Word::Batch => b"BATCH",
         Word::Device => b"DEVICE",

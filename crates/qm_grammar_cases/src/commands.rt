@@ -6,7 +6,7 @@ use std::alloc::Global;
 use std::test::Fail;
 
 // Texts that are commands.
-const COMMANDS: [(&str, Command); 13] = [
+const COMMANDS: [(&str, Command); 16] = [
     ("SUBMIT A.COM", Command::Submit),
     ("submit/hold a.com /queue = b ! a job", Command::Submit),
     ("SUBMIT A/NAME=(B)/RETAIN=UNTIL=TOMORROW", Command::Submit),
@@ -20,10 +20,13 @@ const COMMANDS: [(&str, Command); 13] = [
     ("DELETE/ENTRY=5", Command::DeleteEntry),
     ("DEFINE/FORM A 5/MARGIN=(TOP=1,LEFT=2)", Command::DefineForm),
     ("SET ENTRY 5/AFTER=X/RELEASE/NOAFTER", Command::SetEntry),
+    ("SUBMIT A/RETAIN=UNTIL=(TOMORROW)", Command::Submit),
+    ("INIT/QUEUE/START/BATCH X", Command::InitializeQueue),
+    ("SHOW QUEUE/MANAGER", Command::ShowManagers),
 ];
 
 // Texts that aren't, with the byte at which they go wrong, and how.
-const FAULTS: [(&str, usize, ParseKind); 29] = [
+const FAULTS: [(&str, usize, ParseKind); 36] = [
     ("", 0, ParseKind::Missing),
     ("  SUBMIT", 8, ParseKind::Missing),
     ("FROB", 0, ParseKind::Word),
@@ -53,6 +56,25 @@ const FAULTS: [(&str, usize, ParseKind); 29] = [
     ("SUBMIT A/BAD/HOLD=5", 8, ParseKind::Qualifier),
     ("SUBMIT A/NAME=\"B", 14, ParseKind::Form),
     ("SUBMIT A/BAD \"B", 8, ParseKind::Qualifier),
+    ("SET/RETAIN=UNTIL=TOMORROW", 25, ParseKind::Missing),
+    (
+        "SHOW QUEUE/CHARACTERISTICS/NOCHARACTERISTICS",
+        26,
+        ParseKind::Qualifier,
+    ),
+    (
+        "SHOW QUEUE/FORM/CHARACTERISTICS/NOCHARACTERISTICS",
+        15,
+        ParseKind::Conflict,
+    ),
+    ("SUBMIT A/HOLD=\"B", 14, ParseKind::Form),
+    (
+        "SET/PRIORITY=5/CHARACTERISTICS=(A B) QUEUE X",
+        3,
+        ParseKind::Qualifier,
+    ),
+    ("SUBMIT A/HOLD=(5)", 15, ParseKind::Value),
+    ("DEFINE/FORM A 5/MARGIN=(TOP=(1))", 28, ParseKind::Value),
 ];
 
 // Which command a text is.
