@@ -1,7 +1,7 @@
 use qm_kinds::{Duty, Input, Moment, Name, Refusal, Reply, Report, Row, Seq, Start};
 
 /// What a node asks of the queue manager in one turn.
-#[derive(Debug, Drop)]
+#[derive(Drop)]
 pub enum Call {
     /// A line of the script, by its number, counted from 1.
     Line { line: u32, input: Input },
@@ -14,7 +14,7 @@ pub enum Call {
 }
 
 /// The node became queue manager, or tried to and learned what had become of a record in doubt.
-#[derive(Debug, Drop)]
+#[derive(Drop)]
 pub struct Takeover {
     /// The epoch that begins, or that was tried.
     pub epoch: u64,
@@ -25,7 +25,7 @@ pub struct Takeover {
 }
 
 /// What a call is answered.
-#[derive(Debug, Drop)]
+#[derive(Drop)]
 pub enum Answer {
     Done {
         took: Option<Takeover>,

@@ -1,7 +1,7 @@
 use qm_kinds::{Input, Moment, Name, Refusal, Reply, Request, Seq};
 
 /// What happened in a turn. Each event names its node by its place in the cluster, counted from 0.
-#[derive(Debug, Drop)]
+#[derive(Drop)]
 pub enum Event {
     /// The request's record is in the log.
     Done {

@@ -12,7 +12,7 @@ pub enum Why {
 }
 
 /// One call of a node and what came of it.
-#[derive(Debug, Drop)]
+#[derive(Drop)]
 pub struct Turn {
     /// The node's place in the cluster, counted from 0.
     pub node: u8,

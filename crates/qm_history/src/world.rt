@@ -10,7 +10,7 @@ pub struct Role {
 }
 
 /// A queue system on disk, and what its nodes are about, between two turns.
-#[derive(Debug, Drop)]
+#[derive(Drop)]
 pub struct World {
     /// The records that are there whatever comes.
     pub log: Seq<Record>,

@@ -4,14 +4,14 @@ use crate::mark::Mark;
 use crate::moment::Moment;
 use crate::name::Name;
 
-#[derive(Clone, Copy, Debug, PartialEq, Eq)]
+#[derive(Clone, Copy, PartialEq, Eq)]
 pub enum JobKind {
     Batch,
     Print,
 }
 
 /// Whether a job is kept in its queue's listing after it ends.
-#[derive(Clone, Copy, Debug, PartialEq, Eq)]
+#[derive(Clone, Copy, PartialEq, Eq)]
 pub enum JobRetain {
     /// As the queue says.
     Default,
@@ -54,7 +54,7 @@ pub enum EntryState {
 
 /// A job in a queue. It stands in its home, the queue to which it was submitted or moved, or, while its run lasts,
 /// in the queue where it runs.
-#[derive(Clone, Copy, Debug, PartialEq, Eq)]
+#[derive(Clone, Copy, PartialEq, Eq)]
 pub struct Entry {
     /// Entries are numbered from 1 on, and no number is used again.
     pub number: u32,

@@ -7,7 +7,7 @@ use crate::seq::Seq;
 use std::fmt;
 
 /// The name of a file, with its type where it has one.
-#[derive(Clone, Copy, Debug, PartialEq, Eq, PartialOrd, Ord)]
+#[derive(Clone, Copy, PartialEq, Eq, PartialOrd, Ord)]
 pub struct FileName {
     pub name: Name,
     pub extension: Option<Name>,
@@ -67,7 +67,7 @@ impl fmt::Display for FileName {
 }
 
 /// A file that jobs can name, with its bytes.
-#[derive(Debug, Drop)]
+#[derive(Drop)]
 pub struct File {
     pub name: FileName,
     pub bytes: Seq<u8>,

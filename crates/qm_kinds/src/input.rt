@@ -5,7 +5,7 @@ use crate::request::Request;
 use crate::seq::Seq;
 
 /// What a line of a script asks for.
-#[derive(Debug, Drop)]
+#[derive(Drop)]
 pub enum Input {
     Ask(Request),
     Show(Query),

@@ -20,7 +20,7 @@ pub enum Listing {
 }
 
 /// The kinds of queue that are listed.
-#[derive(Clone, Copy, Debug, PartialEq, Eq)]
+#[derive(Clone, Copy, PartialEq, Eq)]
 pub struct Kinds {
     pub batch: bool,
     pub print: bool,
@@ -29,14 +29,14 @@ pub struct Kinds {
 }
 
 /// The last row that a listing gave.
-#[derive(Clone, Copy, Debug, PartialEq, Eq)]
+#[derive(Clone, Copy, PartialEq, Eq)]
 pub enum After {
     Name(Name),
     Number(u32),
 }
 
 /// What is asked for, without a change.
-#[derive(Clone, Copy, Debug, PartialEq, Eq)]
+#[derive(Clone, Copy, PartialEq, Eq)]
 pub struct Query {
     pub listing: Listing,
     pub pattern: Pattern,
@@ -53,7 +53,7 @@ pub struct Query {
 }
 
 /// A row of a listing.
-#[derive(Debug, Drop)]
+#[derive(Drop)]
 pub enum Row {
     Queue(Queue),
     Entry(Entry),

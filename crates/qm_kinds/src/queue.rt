@@ -9,7 +9,7 @@ use std::fmt;
 
 /// What a queue is for. The first two are execution queues, which stand on one node. The others are generic:
 /// they name execution queues of their kind, to which they pass their jobs on.
-#[derive(Clone, Copy, Debug, PartialEq, Eq)]
+#[derive(Clone, Copy, PartialEq, Eq)]
 pub enum QueueKind {
     Batch,
     Print,
@@ -53,7 +53,7 @@ impl fmt::Display for QueueState {
 }
 
 /// Which jobs a queue keeps in its listing after they end, where the job itself doesn't say.
-#[derive(Clone, Copy, Debug, PartialEq, Eq)]
+#[derive(Clone, Copy, PartialEq, Eq)]
 pub enum QueueRetain {
     Nothing,
     Failed,
@@ -61,7 +61,7 @@ pub enum QueueRetain {
 }
 
 /// A queue and its settings. An execution queue has a node and a device, a generic one neither.
-#[derive(Debug, Drop, Clone)]
+#[derive(Drop, Clone)]
 pub struct Queue {
     pub name: Name,
     pub kind: QueueKind,
@@ -84,7 +84,7 @@ pub struct Queue {
 }
 
 /// Settings of a queue that a request gives.
-#[derive(Debug, Drop)]
+#[derive(Drop)]
 pub struct QueueChange {
     pub limit: Option<u8>,
     pub characteristics: Option<Seq<NameOrNumber>>,
@@ -96,7 +96,7 @@ pub struct QueueChange {
 }
 
 /// A queue that is made, and the settings that are given for it. What is none has its default.
-#[derive(Debug, Drop)]
+#[derive(Drop)]
 pub struct NewQueue {
     pub name: Name,
     pub kind: QueueKind,

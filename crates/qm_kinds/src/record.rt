@@ -9,7 +9,7 @@ use crate::seq::Seq;
 use crate::system::Node;
 
 /// A record of a queue file: a request that was accepted, or a row of an image.
-#[derive(Debug, Drop)]
+#[derive(Drop)]
 pub struct Record {
     /// The moment at which the request acted. A row has the base of the system time.
     pub moment: Moment,
@@ -19,7 +19,7 @@ pub struct Record {
 }
 
 /// What a record says.
-#[derive(Debug, Drop)]
+#[derive(Drop)]
 pub enum Body {
     Ask(Request),
     /// The first row of an image: what the system has once.

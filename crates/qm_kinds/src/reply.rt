@@ -7,7 +7,7 @@ use crate::run::Start;
 use crate::seq::Seq;
 
 /// What an accepted request did.
-#[derive(Clone, Copy, Debug, PartialEq, Eq)]
+#[derive(Clone, Copy, PartialEq, Eq)]
 pub enum Act {
     /// The file has so many bytes.
     Filed {
@@ -93,7 +93,7 @@ pub enum Act {
 }
 
 /// What an accepted request did, and the jobs that were started then, in order.
-#[derive(Debug, Drop)]
+#[derive(Drop)]
 pub struct Reply {
     pub act: Act,
     pub started: Seq<Start>,

@@ -15,7 +15,7 @@ pub enum NameOrNumber {
 }
 
 /// How a queue is stopped.
-#[derive(Clone, Copy, Debug, PartialEq, Eq)]
+#[derive(Clone, Copy, PartialEq, Eq)]
 pub enum StopMode {
     /// Its runs wait.
     Pause,
@@ -26,7 +26,7 @@ pub enum StopMode {
 }
 
 /// What a user asks for who submits a job.
-#[derive(Debug, Drop)]
+#[derive(Drop)]
 pub struct Job {
     pub user: Name,
     pub kind: JobKind,
@@ -51,7 +51,7 @@ pub struct Job {
 }
 
 /// What is changed of an entry. What is none stays as it is.
-#[derive(Debug, Drop)]
+#[derive(Drop)]
 pub struct EntryChange {
     /// Whether it waits no longer, neither held nor for a moment.
     pub release: bool,
@@ -68,7 +68,7 @@ pub struct EntryChange {
 }
 
 /// What can be asked of the queue manager that changes the system.
-#[derive(Debug, Drop)]
+#[derive(Drop)]
 pub enum Request {
     Append {
         file: FileName,

@@ -1,7 +1,7 @@
 use crate::name::Name;
 
 /// A run of a job in a queue on a node. Runs are numbered from 1 on.
-#[derive(Clone, Copy, Debug, PartialEq, Eq)]
+#[derive(Clone, Copy, PartialEq, Eq)]
 pub struct Run {
     pub run: u64,
     pub entry: u32,
@@ -10,7 +10,7 @@ pub struct Run {
 }
 
 /// A job that was started: its home, and the queue where it runs.
-#[derive(Clone, Copy, Debug, PartialEq, Eq)]
+#[derive(Clone, Copy, PartialEq, Eq)]
 pub struct Start {
     pub entry: u32,
     pub name: Name,

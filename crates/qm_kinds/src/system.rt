@@ -7,14 +7,14 @@ use crate::queue::Queue;
 use crate::seq::Seq;
 
 /// A node of the cluster.
-#[derive(Clone, Copy, Debug, PartialEq, Eq)]
+#[derive(Clone, Copy, PartialEq, Eq)]
 pub struct Node {
     pub name: Name,
     pub up: bool,
 }
 
 /// All that the queue manager keeps.
-#[derive(Debug, Drop)]
+#[derive(Drop)]
 pub struct System {
     pub nodes: Seq<Node>,
     /// The nodes on which the queue manager may run.

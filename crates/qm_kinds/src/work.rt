@@ -5,7 +5,7 @@ use crate::name::Name;
 use crate::seq::Seq;
 
 /// What a run needs: its job, and what it prints or executes.
-#[derive(Debug, Drop)]
+#[derive(Drop)]
 pub struct Work {
     pub run: u64,
     pub entry: u32,
@@ -27,7 +27,7 @@ pub struct Work {
 }
 
 /// A run of a node: it goes on, waits, or is to be cut short.
-#[derive(Debug, Drop)]
+#[derive(Drop)]
 pub struct Duty {
     pub run: u64,
     /// Whether it is to be cut short.
@@ -39,7 +39,7 @@ pub struct Duty {
 }
 
 /// How far a run is.
-#[derive(Clone, Copy, Debug, PartialEq, Eq)]
+#[derive(Clone, Copy, PartialEq, Eq)]
 pub struct Place {
     /// The blocks that a print job handed over, or the number of a batch job's next line, from 1.
     pub at: u32,
@@ -48,7 +48,7 @@ pub struct Place {
 }
 
 /// What a run reports.
-#[derive(Clone, Copy, Debug)]
+#[derive(Clone, Copy)]
 pub enum Report {
     /// A checkpoint, and where the run goes on.
     Mark { value: Mark, next: Place },
