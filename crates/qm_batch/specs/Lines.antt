@@ -1,6 +1,6 @@
 -- What a line that was read means.
 use Rattle.std.specs.Prelude.{◌≤◌, ℕ, List, length, if◌then◌else◌, Option, None, Some}
-use Rattle.qm_model.specs.Command.{value_of}
+use Rattle.qm_model.specs.Texts.{value_of}
 use Rattle.qm_model.specs.Batch.{BatchLine, is_status}
 use Rattle.qm_model.specs.Batch as batch
 use Rattle.qm_batch.specs.declared.line.Line.{Line}

@@ -4,7 +4,7 @@ use Rattle.std.specs.Prelude.{ℕ, nat_le, ◌&&◌, if◌then◌else◌, List, 
 use Rattle.std.specs.Option.{option_and_then}
 use Rattle.std.specs.Str.{bytes_eq}
 use Rattle.qm_kinds.specs.Names.{system_user}
-use Rattle.qm_model.specs.Command.{cut_at_blank, value_of}
+use Rattle.qm_model.specs.Texts.{cut_at_blank, value_of}
 use Rattle.qm_model.specs.Script.{ScriptLine, Sort, Command, Site}
 
 -- a line of a script, and the user who asks

@@ -249,3 +249,12 @@ stays_consistent s now node r a h of is =
     let h1 = sound_of t (due_is_consistent (at_moment now s) now at) in
     let sound = change_sound s now at h1 node r of none in
     subst (λ (b : Accepted). IsConsistent b.system) same (settled_is_consistent (stopped_when_idle change.system) (idle_is_consistent change.system sound))
+
+-- before any job is started
+pub change_is_consistent : (s : System) (now node : ℕ) (r : Request) → IsConsistent s → IsLawful s node r → first_refusal_of s (node_at node s.nodes) r ≡ None
+    → IsConsistent (stopped_when_idle (change_of (due now (at_moment now s)) now (node_at node s.nodes) r).system)
+change_is_consistent s now node r h of clear =
+    let name = node_at node s.nodes in
+    let at = at_moment_sound s now h in
+    let h1 = sound_of (due now (at_moment now s)) (due_is_consistent (at_moment now s) now at) in
+    idle_is_consistent (change_of (due now (at_moment now s)) now name r).system (change_sound s now at h1 node r of (numbers_left (asks_for_numbers r && are_numbers_spent s) (refusal_of s name r) clear))

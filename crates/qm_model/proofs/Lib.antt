@@ -9,7 +9,7 @@ pub mod Scans
 pub mod Restarts
 pub mod Duties
 pub mod SettlingLemmas
-pub mod IdleLemmas
+pub mod StayingLemmas
 pub mod MovingLemmas
 pub mod ListLemmas
 pub mod InsertLemmas
@@ -39,3 +39,4 @@ pub mod Texts
 pub mod TwoRefusals
 pub mod Limits
 pub mod Waiting
+pub mod BuiltLemmas

@@ -18,7 +18,6 @@ use Rattle.qm_kinds.specs.declared.system.System.{System}
 use Rattle.qm_model.specs.Appending.{bytes_of, is_spool_full}
 use Rattle.qm_model.specs.Applied.{first_refusal_of}
 use Rattle.qm_model.specs.Batch.{is_label, is_status, is_mark}
-use Rattle.qm_model.specs.Command.{entry_number}
 use Rattle.qm_model.specs.Consistent.{spooled}
 use Rattle.qm_model.specs.Find.{file_named}
 use Rattle.qm_model.specs.First.{first_system, first_queue}
@@ -140,9 +139,6 @@ marks = refl
 
 pub statuses : map is_status (codes "0" ∷ codes "4294967295" ∷ codes "4294967296" ∷ codes "01" ∷ []) ≡ true ∷ true ∷ false ∷ false ∷ []
 statuses = refl
-
-pub entry_numbers : map entry_number (codes "4294967295" ∷ codes "4294967296" ∷ []) ≡ Some 4294967295 ∷ None ∷ []
-entry_numbers = refl
 
 pub node_names : map (λ n. is_some (node_name_of (replicate n 65))) (0 ∷ 1 ∷ 6 ∷ 7 ∷ []) ≡ false ∷ true ∷ true ∷ false ∷ []
 node_names = refl

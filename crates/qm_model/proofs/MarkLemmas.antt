@@ -9,7 +9,7 @@ use Rattle.std.proofs.lemmas.Fmt.{digits_decimal, digits_value-decimal}
 use Rattle.std.proofs.lemmas.List.FromFn.{length-map-range_with_len}
 use Rattle.std.proofs.lemmas.Str.Parse.{IsDigitsTest, IsNumeralModel, numerals_by_fold}
 use Rattle.qm_kinds.specs.declared.entry.JobKind.TheVariants.{Print}
-use Rattle.qm_model.specs.Command.{value_of}
+use Rattle.qm_model.specs.Texts.{value_of}
 use Rattle.qm_kinds.specs.declared.work.Work.{Work}
 use Rattle.qm_kinds.specs.declared.work.Place.{Place}
 use Rattle.qm_kinds.specs.declared.work.Report.{Report}

@@ -3,7 +3,7 @@ use Rattle.std.proofs.Common.{◌≡◌, ℕ, ◌+◌, ◌≤◌, Bool, true, fa
 use Rattle.std.specs.Option.{option_map_or}
 use Rattle.qm_kinds.specs.declared.entry.Entry.{Entry}
 use Rattle.qm_kinds.specs.declared.request.Request.{Request}
-use Rattle.qm_kinds.specs.declared.request.Request.TheVariants.{Append, Submit, SetEntry, DeleteEntry, Mark, Done, NodeUp, NodeLost, Took}
+use Rattle.qm_kinds.specs.declared.request.Request.TheVariants.{Append, InitializeQueue, SetQueue, StartQueue, StopQueue, AbortJob, DeleteQueue, Submit, SetEntry, DeleteEntry, Mark, Done, NodeUp, NodeLost, Took}
 use Rattle.qm_kinds.specs.declared.system.Node.{Node}
 use Rattle.qm_kinds.specs.declared.system.System.{System}
 use Rattle.qm_kinds.specs.declared.entry.EntryState.TheVariants.{Pending}
@@ -118,9 +118,25 @@ names_are_kept s now node request a is =
     let same : completed change ≡ a = accepted_is (first_refusal_of s name request) (completed change) a is in
     ap (λ (b : Accepted). names b.system) (sym same) ∙ ap names (rest_stays (stopped_when_idle change.system)) ∙ change_names found now name request
 
+either_nodes : (s : System) (b : Bool) (x y : Accepted) → x.system.nodes ≡ s.nodes → y.system.nodes ≡ s.nodes → (cond b x y).system.nodes ≡ s.nodes
+either_nodes s true x y h k = h
+either_nodes s false x y h k = k
+
+option_nodes : (s : System) (f : Entry → Accepted) (o : Option Entry) (d : Accepted) → ((e : Entry) → (f e).system.nodes ≡ s.nodes) → d.system.nodes ≡ s.nodes → (option_map_or f o d).system.nodes ≡ s.nodes
+option_nodes s f None d h k = k
+option_nodes s f (Some e) d h k = h e
+
 built_nodes : (s : System) (now : ℕ) (node : List ℕ) (request : Request) → is_built request ≡ true → (change_of s now node request).system.nodes ≡ s.nodes
 built_nodes s now node (Append file bytes) built = refl
+built_nodes s now node (InitializeQueue new) built = refl
+built_nodes s now node (SetQueue name change) built = refl
+built_nodes s now node (StartQueue name change) built = refl
+built_nodes s now node (StopQueue name how) built = refl
+built_nodes s now node (AbortJob queue entry requeue) built = refl
+built_nodes s now node (DeleteQueue name) built = refl
 built_nodes s now node (Submit job) built = refl
+built_nodes s now node (DeleteEntry entry) built = either_nodes s (option_map_or is_executing (entry_numbered entry s.entries) false) _ _ refl refl
+built_nodes s now node (Done run status) built = option_nodes s (reported_of s now run (EndReport status)) (entry_of_run s node run) _ (λ e. refl) refl
 built_nodes s now node _ built = cc
 
 pub nodes_are_kept : (s : System) (now node : ℕ) (request : Request) (a : Accepted) → is_built request ≡ true → applied s now node request ≡ Ok a → a.system.nodes ≡ s.nodes

@@ -1,4 +1,4 @@
--- Each refusal that can come so far, on literals.
+-- Refusals of requests on literals.
 use Rattle.std.proofs.Common.{◌≡◌, [], ◌∷◌, ◌++◌, true, false, Some, None, Err, refl, replicate}
 use Rattle.std.specs.Prelude.{codes}
 use Rattle.qm_kinds.specs.declared.entry.JobKind.TheVariants.{Batch, Print}

@@ -6,7 +6,7 @@ use Rattle.std.specs.Option.{option_map, option_map_or, option_and_then}
 use Rattle.std.specs.Char.{is_ascii_digit}
 use Rattle.std.specs.Str.{bytes_eq}
 use Rattle.qm_kinds.specs.Text.{is_name_byte}
-use Rattle.qm_model.specs.Command.{value_of}
+use Rattle.qm_model.specs.Texts.{value_of}
 
 -- what a line asks for
 pub data BatchLine : Type 0 where

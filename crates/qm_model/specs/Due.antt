@@ -32,3 +32,13 @@ entry_at now e = record e { state = state_at now e.state }
 -- the system as the moment finds it
 abbrev pub due : ℕ → System → System
 due now s = record s { entries = map (entry_at now) (filter (λ e. not (is_over now e.state)) s.entries) }
+
+-- the moment that the job waits for, or until which it is kept, has come
+abbrev pub is_due : ℕ → EntryState → Bool
+is_due now Pending = false
+is_due now Holding = false
+is_due now (Timed at) = nat_le at now
+is_due now (Running queue node run) = false
+is_due now (Aborting queue node run fate) = false
+is_due now (Retained status None) = false
+is_due now (Retained status (Some until)) = nat_le until now

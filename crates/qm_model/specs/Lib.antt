@@ -7,7 +7,7 @@ pub mod Wanted
 pub mod Appending
 pub mod Submitting
 pub mod Listing
-pub mod Command
+pub mod Texts
 pub mod Script
 pub mod First
 pub mod Calendar
@@ -46,5 +46,4 @@ pub mod Pages
 pub mod Batch
 pub mod Reports
 pub mod Built
-pub mod Idle
 pub mod Lawful

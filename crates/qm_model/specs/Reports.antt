@@ -9,7 +9,7 @@ use Rattle.qm_kinds.specs.declared.work.Work.{Work}
 use Rattle.qm_kinds.specs.declared.work.Place.{Place}
 use Rattle.qm_kinds.specs.declared.work.Report.{Report}
 use Rattle.qm_kinds.specs.declared.work.Report.TheVariants as report
-use Rattle.qm_model.specs.Command.{value_of}
+use Rattle.qm_model.specs.Texts.{value_of}
 use Rattle.qm_model.specs.Pages.{page_blocks, lines}
 use Rattle.qm_model.specs.Batch.{BatchMove, GoOn, Output, SaveMark, EndRun, move_at, normal_status, line_limit_status}
 

@@ -1,6 +1,6 @@
 -- A script: lines for the nodes of a site.
 -- This site's own: the form of a script. OpenVMS User's Manual, on command procedures, for the `$` in front of a command.
-use Rattle.std.specs.Prelude.{ℕ, nat_eq, ◌==◌, ◌+◌, nat_lt, nat_le, Bool, ◌&&◌, not, if◌then◌else◌, List, [], ◌∷◌, ◌++◌, length, Option, None, Some, Result, Err, codes, ok_or}
+use Rattle.std.specs.Prelude.{ℕ, nat_eq, ◌==◌, ◌+◌, nat_lt, nat_le, Bool, ◌&&◌, ◌||◌, not, if◌then◌else◌, List, [], ◌∷◌, ◌++◌, length, Option, None, Some, Result, Err, codes, ok_or}
 use Rattle.std.specs.List.{list_all, slice_split, ends_with}
 use Rattle.std.specs.Option.{option_map, option_and_then}
 use Rattle.std.specs.Str.{bytes_eq}
@@ -8,13 +8,13 @@ use Rattle.qm_kinds.specs.Files.{name_of, file_name_of}
 use Rattle.qm_kinds.specs.declared.file.FileName.{FileName}
 use Rattle.qm_kinds.specs.declared.input.Input.{Input}
 use Rattle.qm_kinds.specs.declared.input.Input.TheVariants.{Ask, Fault}
-use Rattle.qm_kinds.specs.declared.request.Request.TheVariants.{Append}
+use Rattle.qm_kinds.specs.declared.request.Request.TheVariants.{Append, Done}
 use Rattle.qm_kinds.specs.declared.name.TheConstants.{NODE_NAME_BYTES}
 use Rattle.qm_kinds.specs.declared.script.ScriptKind.{ScriptKind}
 use Rattle.qm_kinds.specs.declared.script.ScriptKind.TheVariants.{Form, Long}
-use Rattle.qm_kinds.specs.Names.{system_user}
 use Rattle.qm_kinds.specs.declared.refusal.ParseKind.TheVariants as parse
-use Rattle.qm_model.specs.Command.{command_of, cut_at_blank}
+use Rattle.qm_model.specs.Texts.{cut_at_blank, value_of}
+use Rattle.qm_model.specs.Batch.{is_number}
 
 -- a command, or an act at the site
 pub data Sort : Type 0 where
@@ -79,21 +79,29 @@ abbrev pub line_act : Option (List ℕ × List ℕ) → Input
 line_act None = Fault 0 parse.Form
 line_act (Some parts) = append_to (file_name_of parts.0) parts.1
 
+-- the number that digits say, without a 0 in front of others, where it isn't above the most
+abbrev pub act_number : ℕ → List ℕ → Option ℕ
+act_number most text = if is_number text && nat_le (value_of text) most then Some (value_of text) else None
+
+-- a run of 64 bits has ended with a status of 32
+abbrev pub done_by : Option ℕ → Option ℕ → Input
+done_by None status = Fault 0 parse.Form
+done_by (Some run) None = Fault 0 parse.Form
+done_by (Some run) (Some status) = Ask (Done run status)
+
+-- DONE run status
+abbrev pub done_act : Option (List ℕ × List ℕ) → Input
+done_act None = Fault 0 parse.Form
+done_act (Some parts) = done_by (act_number 18446744073709551615 parts.0) (act_number 4294967295 parts.1)
+
 -- the acts that are built: a word, and behind a blank what it takes
 abbrev pub act_from : List ℕ → Option (List ℕ × List ℕ) → Input
-act_from text None = if bytes_eq text (codes "LINE") then Fault 0 parse.Form else Fault 0 parse.NotBuilt
-act_from text (Some parts) = if bytes_eq parts.0 (codes "LINE") then line_act (cut_at_blank parts.1) else Fault 0 parse.NotBuilt
+act_from text None = if bytes_eq text (codes "LINE") || bytes_eq text (codes "DONE") then Fault 0 parse.Form else Fault 0 parse.NotBuilt
+act_from text (Some parts) =
+    if bytes_eq parts.0 (codes "LINE") then line_act (cut_at_blank parts.1)
+    else if bytes_eq parts.0 (codes "DONE") then done_act (cut_at_blank parts.1)
+    else Fault 0 parse.NotBuilt
 
 -- what the text of an act asks for
 abbrev pub act_of : List ℕ → Input
 act_of text = act_from text (cut_at_blank text)
-
--- a command that isn't built is a fault at its first byte
-abbrev pub or_not_built : Option Input → Input
-or_not_built None = Fault 0 parse.NotBuilt
-or_not_built (Some input) = input
-
--- what a line asks for
-abbrev pub input_of : Sort → List ℕ → Input
-input_of Command text = or_not_built (command_of system_user text)
-input_of Site text = act_of text

@@ -7,7 +7,7 @@ ghost use Rattle.qm_kinds.specs.declared.name.TheConstants.{NODE_NAME_BYTES};
 ghost use Rattle.qm_model.specs.Consistent.{IsConsistent};
 ghost use Rattle.qm_model.specs.First.{first_system};
 
-mod idle;
+mod due;
 mod listing;
 mod moving;
 mod order;
@@ -17,10 +17,7 @@ mod sound;
 mod standing;
 mod tables;
 
-pub use idle::{
-    idle_entries_stay_in_place, idle_requests_start_nothing, idle_systems_stay_idle,
-    what_is_not_due_stays,
-};
+pub use due::what_is_not_due_stays;
 pub use listing::{listings_end_by_name, one_entry_is_listed};
 pub use moving::{nodes_keep_their_names, requests_move_on};
 pub use order::{fits_without_a_reason, order_is_strict_and_total};
@@ -30,8 +27,8 @@ pub use settle::{
     settling_is_done_once,
 };
 pub use sound::{
-    built_requests_keep_consistent, due_keeps_consistent, requests_keep_consistent,
-    settling_keeps_consistent,
+    built_changes_keep_consistent, built_requests_keep_consistent, due_keeps_consistent,
+    requests_keep_consistent, settling_keeps_consistent,
 };
 pub use standing::entries_stand_in_one_queue;
 pub use tables::{job_retention, queue_states};

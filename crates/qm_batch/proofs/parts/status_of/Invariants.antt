@@ -1,7 +1,7 @@
 use Rattle.std.proofs.Common.{◌≡◌, take, min, true}
 use Rattle.std.specs.List.{list_all}
 use Rattle.std.specs.Char.{is_ascii_digit}
-use Rattle.qm_model.specs.Command.{value_of}
+use Rattle.qm_model.specs.Texts.{value_of}
 use Rattle.qm_batch.proofs.parts.status_of.Given as goal
 
 -- the digits so far, and their value up to one more than a status has

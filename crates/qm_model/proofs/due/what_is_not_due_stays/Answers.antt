@@ -1,5 +1,5 @@
-use Rattle.qm_model.proofs.IdleLemmas.{nothing_due, entries_stay}
-use Rattle.qm_model.proofs.idle.what_is_not_due_stays.Goals as goal
+use Rattle.qm_model.proofs.StayingLemmas.{nothing_due, entries_stay}
+use Rattle.qm_model.proofs.due.what_is_not_due_stays.Goals as goal
 
 pub returns-clause-system : goal.returns-clause-system
 returns-clause-system c = nothing_due
