@@ -1,0 +1,11 @@
+//! The forms and characteristics of a site. `FormTable` keeps both in order of their numbers, and finds each by its name
+//! or by its number.
+#![tactic(auto)]
+
+mod places;
+mod table;
+#[cfg(test)]
+mod tests;
+mod wanted;
+
+pub use table::FormTable;

@@ -1,0 +1,46 @@
+// What no clause says: that memory suffices where it is ample.
+use crate::FormTable;
+use qm_kinds::{
+    Characteristic, Form, Name, NameOrNumber, Shape, batch_queue, print_queue, system_user,
+};
+use std::test::Fail;
+
+fn form(name: Name, number: u16) -> Form {
+    Form {
+        name,
+        number,
+        stock: print_queue(),
+        shape: Shape {
+            length: 66,
+            width: 132,
+            top: 0,
+            bottom: 0,
+            left: 0,
+            right: 0,
+            wrap: false,
+        },
+    }
+}
+
+#[test]
+fn forms_are_found(rt: HostRuntime) -> Result<(), Fail> {
+    let (name, other) = (batch_queue(), system_user());
+    let mut table = FormTable::new(rt.alloc());
+    table.reserve_form()?;
+    table.define_form(form(name, 7));
+    table.reserve_characteristic()?;
+    table.define_characteristic(Characteristic { name, number: 5 });
+    let wanted = [NameOrNumber::Name(name), NameOrNumber::Number(5)];
+    assert!(rt; table.form(&NameOrNumber::Number(7)).is_some());
+    assert!(rt; table.stock_of(&name) == Some(print_queue()));
+    assert!(rt; table.characteristic(&wanted[1]).is_some());
+    assert!(rt; table.refused_characteristics(&wanted).is_none());
+    assert!(rt; table.set_of(&wanted).contains(5));
+    table.delete_form(&other);
+    assert!(rt; table.forms().len() == 1);
+    table.delete_form(&name);
+    assert!(rt; table.forms().is_empty());
+    table.delete_characteristic(&name);
+    assert!(rt; table.characteristics().is_empty());
+    Ok(())
+}
