@@ -1,0 +1,5 @@
+pub mod FileNames
+pub mod Replacing
+pub mod NamedRows
+pub mod Spooling
+pub mod Counting
