@@ -1,10 +1,22 @@
 -- What lies in boxes, and what an edit of the boxes makes of that.
-use Rattle.std.proofs.Common.{◌≡◌, ◌∙◌, ℕ, zero, suc, ◌<◌, ◌≤◌, List, [], ◌∷◌, ◌++◌, length, get_or, take, drop, set, Some, None, refl, sym, ap, arith}
-use Rattle.std.specs.List.{remove, slice_get}
+use Rattle.std.proofs.Common.{◌≡◌, ◌∙◌, ℕ, zero, suc, ◌+◌, ◌<◌, ◌≤◌, List, [], ◌∷◌, ◌++◌, length, get_or, map, take, drop, set, Some, None, refl, sym, ap, arith, Bool, true, false, cond}
+use Rattle.std.specs.List.{filter, remove, slice_get}
 use Rattle.std.specs.Prelude.{Box}
 use Rattle.std.specs.Box.{with_value}
+use Rattle.std.proofs.lemmas.List.Edits.{map_over_more}
 use Rattle.std.proofs.lemmas.List.{map-append, map-set, map_push, take-map, drop-map, get_or-map, length-map}
 use Rattle.qm_entries.specs.Boxed.{contents}
+
+module _ {X Z : Type 0} (test : X → Bool) where
+  kept_one : (b : Box X Z) (boxes : List (Box X Z)) (answer : Bool) → contents (filter (λ x. test x.value) boxes) ≡ filter test (contents boxes)
+      → contents (cond answer (b ∷ filter (λ x. test x.value) boxes) (filter (λ x. test x.value) boxes)) ≡ cond answer (b.value ∷ filter test (contents boxes)) (filter test (contents boxes))
+  kept_one b boxes true rest = ap (λ (xs : List X). b.value ∷ xs) rest
+  kept_one b boxes false rest = rest
+
+  -- what lies in the boxes that are kept
+  pub contents_kept : (boxes : List (Box X Z)) → contents (filter (λ b. test b.value) boxes) ≡ filter test (contents boxes)
+  contents_kept [] = refl
+  contents_kept (b ∷ boxes) = kept_one b boxes (test b.value) (contents_kept boxes)
 
 module _ {X Z : Type 0} where
   abbrev pub value_of : Box X Z → X
@@ -32,6 +44,16 @@ module _ {X Z : Type 0} where
 
     pub contents_removed : (i : ℕ) → contents (remove boxes i) ≡ remove (contents boxes) i
     contents_removed i = rw (take-map value_of i boxes, drop-map value_of (suc i) boxes) (map-append value_of (take i boxes) (drop (suc i) boxes))
+
+    -- a loop that changes each value in turn, at its next step
+    pub contents_more : (change : X → X) (boxes₀ : List (Box X Z)) (i : ℕ) (b : Box X Z) (x y : X) → i < length boxes₀ → length boxes ≡ length boxes₀
+        → contents boxes ≡ map change (take i (contents boxes₀)) ++ drop i (contents boxes₀) → b ≡ get_or boxes i b → x ≡ b.value → y ≡ change x
+        → contents (set boxes i (with_value (get_or boxes i b) y)) ≡ map change (take (i + 1) (contents boxes₀)) ++ drop (i + 1) (contents boxes₀)
+    contents_more change boxes₀ i b x y within same before read is changed =
+        let size = length-map boxes₀ value_of in
+        contents_set i (with_value (get_or boxes i b) y)
+        ∙ ap (set (contents boxes) i) (changed ∙ ap change is)
+        ∙ map_over_more change (contents boxes₀) (contents boxes) i b.value (omega (arith, within, size)) before (ap value_of read ∙ sym (get_or-map value_of boxes i b b.value (omega (arith, within, same))))
 
     -- a value that was read is written back changed
     pub contents_changed : (change : X → X) (i : ℕ) (b : Box X Z) (x : X) → i < length boxes → b ≡ get_or boxes i b → x ≡ b.value → (d : X) → contents (set boxes i (with_value b (change x))) ≡ set (contents boxes) i (change (get_or (contents boxes) i d))

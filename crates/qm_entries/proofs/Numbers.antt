@@ -1,11 +1,12 @@
 -- What a place by number says of entries.
-use Rattle.std.proofs.Common.{◌≡◌, ◌∙◌, ℕ, suc, is_some, arith, ◌+◌, ◌<◌, ◌==◌, nat_lt, cond, Bool, true, false, List, [], ◌∷◌, ◌++◌, length, get_or, set, Option, Some, None, refl, sym, ap}
-use Rattle.std.specs.List.{All, remove, slice_get}
+use Rattle.std.proofs.Common.{◌≡◌, ◌∙◌, ℕ, suc, is_some, arith, ◌+◌, ◌<◌, ◌==◌, nat_lt, cond, Bool, true, false, List, [], ◌∷◌, ◌++◌, length, get_or, map, set, Option, Some, None, refl, sym, ap}
+use Rattle.std.specs.List.{All, filter, remove, slice_get}
 use Rattle.std.specs.Ordering.{nat_cmp}
 use Rattle.std.specs.Cmp.{nat_cmp_total, unsigned_ties}
 use Rattle.std.specs.declared.cmp.Ordering.TheVariants.{Less, Equal, Greater}
 use Rattle.std.proofs.lemmas.Bool.{lt-ltb}
-use Rattle.std.proofs.lemmas.List.{set_split}
+use Rattle.std.proofs.lemmas.List.{get_or-map, length-map, set_split}
+use Rattle.std.proofs.lemmas.List.Kept.{AllPairs-filter}
 use Rattle.qm_kinds.specs.declared.entry.Entry.{Entry}
 use Rattle.qm_model.specs.Consistent.{IsInOrder}
 use Rattle.qm_model.specs.Find.{entry_numbered}
@@ -83,6 +84,17 @@ replaced_is entries e i stands = changed entries e.number i (λ x. e) e stands
 
 pub order_less : (entries : List Entry) (i : ℕ) → IsInOrder nat_cmp number_of entries → IsInOrder nat_cmp number_of (remove entries i)
 order_less entries i order = order_removed nat_cmp_total number_of entries order i
+
+-- fewer entries, or others of the same numbers
+pub order_kept : (test : Entry → Bool) (entries : List Entry) → IsInOrder nat_cmp number_of entries → IsInOrder nat_cmp number_of (filter test entries)
+order_kept test entries order = AllPairs-filter (λ (a : Entry) (b : Entry). nat_cmp a.number b.number ≡ Less) test entries order
+
+pub order_mapped : (change : Entry → Entry) (entries : List Entry) → ((e : Entry) → (change e).number ≡ e.number) → IsInOrder nat_cmp number_of entries → IsInOrder nat_cmp number_of (map change entries)
+order_mapped change entries keeps order = λ i j d low within.
+    let size = length-map entries change in
+    let first : get_or (map change entries) i d ≡ change (get_or entries i d) = get_or-map change entries i d d (omega (arith, low, within, size)) in
+    let second : get_or (map change entries) j d ≡ change (get_or entries j d) = get_or-map change entries j d d (omega (arith, within, size)) in
+    rw (first, second, keeps (get_or entries i d), keeps (get_or entries j d)) (order i j d low (omega (arith, within, size)))
 
 -- an entry of a greater number goes behind the others
 pub order_inserted : (entries : List Entry) (e : Entry) → IsInOrder nat_cmp number_of entries → All (λ x. x.number < e.number) entries → IsInOrder nat_cmp number_of (entries ++ e ∷ [])

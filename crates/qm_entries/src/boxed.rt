@@ -27,14 +27,14 @@ pub(crate) fn put_last<T: Copy>(boxes: &mut Vec<Box<T>>, ready: &mut Option<Box<
 }
 
 /// Puts a value in the place of another one, and gives that.
-pub(crate) fn replace<T>(boxes: &mut Vec<Box<T>>, place: usize, value: T) -> T
+pub(crate) fn replace<T: Copy>(boxes: &mut Vec<Box<T>>, place: usize, value: &T) -> T
     requires { place < vec_len boxes.old }
     ensures replaced { Some result ≡ slice_get (contents boxes.old.items) place }
-    ensures contents { contents boxes.new.items ≡ slice_set (contents boxes.old.items) place value }
+    ensures contents { contents boxes.new.items ≡ slice_set (contents boxes.old.items) place value.now }
     ensures len { vec_len boxes.new ≡ vec_len boxes.old }
     ensures capacity { vec_capacity boxes.new ≡ vec_capacity boxes.old }
 {
-    Box::replace(&mut boxes[place], value)
+    Box::replace(&mut boxes[place], *value)
 }
 
 /// Takes the value at a place out, and frees its box.

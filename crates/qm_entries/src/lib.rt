@@ -4,6 +4,8 @@
 mod boxed;
 mod change;
 mod places;
+mod shelf;
+mod sweep;
 mod table;
 #[cfg(test)]
 mod tests;

@@ -1,17 +1,21 @@
 // The entries in order of their numbers.
-ghost use Rattle.std.specs.Prelude.{◌≡◌, ◌+◌, ◌-◌, ◌<◌, ◌≤◌, ◌++◌, ◌∷◌, [], All, is_some, Some, None, true, OnErr, OnOk};
+ghost use Rattle.std.specs.Prelude.{◌≡◌, ◌+◌, ◌-◌, ◌<◌, ◌≤◌, ◌++◌, ◌∷◌, [], All, length, not, map, filter, is_some, Some, None, true, OnErr, OnOk};
 ghost use Rattle.std.specs.Option.{option_copied};
 ghost use Rattle.std.specs.Ordering.{nat_cmp};
+ghost use Rattle.std.specs.Str.{bytes_eq};
 ghost use Rattle.qm_model.specs.Consistent.{IsInOrder};
+ghost use Rattle.qm_model.specs.Due.{is_over, entry_at};
 ghost use Rattle.qm_model.specs.Find.{entry_numbered};
 ghost use Rattle.qm_model.specs.Standing.{with_entry};
+ghost use Rattle.qm_entries.specs.Boxed.{contents};
 ghost use Rattle.qm_entries.specs.Entries.{entry_after};
 ghost use Rattle.qm_entries.specs.Changes.{changed_by};
 
 use crate::boxed;
 use crate::change::Change;
-use crate::places::{change_at, filler, place_after, place_of};
-use qm_kinds::{Entry, EntryState, Mark, Name};
+use crate::places::{filler, place_after, place_of};
+use crate::shelf::Shelf;
+use qm_kinds::{Entry, EntryState, Mark, Moment, Name};
 use std::alloc::{AllocError, Global};
 use std::marker::Model;
 
@@ -19,28 +23,28 @@ use std::marker::Model;
 /// room, which is one or none.
 ///
 /// Only `reserve` takes memory: a place of 8 bytes, and the box of the entry that comes next. Each other call asks a
-/// logarithm of the entries. `remove` also moves the places that stand behind, 8 bytes each; a new entry goes behind the
-/// others, so `insert` moves none. No entry is moved when another one comes, is changed or goes.
+/// logarithm of the entries. A new entry goes behind the others, so `insert` moves none. `remove` also moves the places that
+/// stand behind, 8 bytes each, but not where it takes out the first entry: its place and its box stay until an eighth of all
+/// have gone so, and are freed together then. No entry is moved when another one comes, is changed or goes.
 #[derive(Drop)]
 pub struct EntryTable {
     alloc: Global,
-    boxes: Vec<Box<Entry>>,
+    shelf: Shelf,
     // The box of the entry that comes next. There is a place for it.
     ready: Option<Box<Entry>>,
 }
 
 impl Model for EntryTable {
-    ghost use Rattle.std.specs.Prelude.{◌<◌, if◌then◌else◌, is_some, IsSome, vec_len, vec_capacity};
+    ghost use Rattle.std.specs.Prelude.{◌<◌, if◌then◌else◌, is_some, IsSome};
     ghost use Rattle.std.specs.Ordering.{nat_cmp};
     ghost use Rattle.qm_model.specs.Consistent.{IsInOrder};
     ghost use Rattle.qm_entries.specs.Entries.{Kept};
-    ghost use Rattle.qm_entries.specs.Boxed.{contents};
 
     ghost Value = { Kept };
 
-    ghost view = { λ t. record { entries = contents t.boxes.items; spare = if is_some t.ready then 1 else 0 } };
+    ghost view = { λ t. record { entries = t.shelf.entries; spare = if is_some t.ready then 1 else 0 } };
 
-    ghost invariant = { λ t. IsInOrder nat_cmp (λ e. e.number) (contents t.boxes.items) × (IsSome t.ready → vec_len t.boxes < vec_capacity t.boxes) };
+    ghost invariant = { λ t. IsInOrder nat_cmp (λ e. e.number) t.shelf.entries × (IsSome t.ready → 0 < t.shelf.room) };
 }
 
 impl EntryTable {
@@ -50,7 +54,7 @@ impl EntryTable {
     {
         EntryTable {
             alloc,
-            boxes: Vec::new(alloc),
+            shelf: Shelf::new(alloc),
             ready: None,
         }
     }
@@ -65,7 +69,7 @@ impl EntryTable {
         if self.ready.is_some() {
             return Ok(());
         }
-        self.boxes.reserve(1)?;
+        self.shelf.reserve()?;
         let ready = Box::new(self.alloc, filler())?;
         self.ready = Some(ready);
         Ok(())
@@ -77,7 +81,15 @@ impl EntryTable {
         requires last { All (λ e. e.number < entry.number) self.old.entries }
         ensures { self.new ≡ record { entries = self.old.entries ++ entry ∷ []; spare = self.old.spare - 1 } }
     {
-        boxed::put_last(&mut self.boxes, &mut self.ready, &entry);
+        self.shelf.put_last(&mut self.ready, &entry);
+    }
+
+    /// How many entries there are.
+    pub fn len(&self) -> usize
+        ensures count { result ≡ length self.now.entries }
+        ensures in_order { IsInOrder nat_cmp (λ e. e.number) self.now.entries }
+    {
+        self.shelf.as_slice().len()
     }
 
     /// The entry of a number.
@@ -85,10 +97,11 @@ impl EntryTable {
         ensures found { option_copied result ≡ entry_numbered number self.now.entries }
         ensures in_order { IsInOrder nat_cmp (λ e. e.number) self.now.entries }
     {
-        let Ok(place) = place_of(&self.boxes, number) else {
+        let entries = self.shelf.as_slice();
+        let Ok(place) = place_of(entries, number) else {
             return None;
         };
-        boxed::at(&self.boxes, place)
+        boxed::at(entries, place)
     }
 
     // Sets a field of the entry of a number, and says whether there is one. Where there is none, nothing changes.
@@ -96,10 +109,10 @@ impl EntryTable {
         ensures found { result ≡ is_some (entry_numbered number self.old.entries) }
         ensures entries { self.new ≡ record self.old { entries = with_entry number (λ e. Some (changed_by change.now e)) self.old.entries } }
     {
-        let Ok(place) = place_of(&self.boxes, number) else {
+        let Ok(place) = place_of(self.shelf.as_slice(), number) else {
             return false;
         };
-        change_at(&mut self.boxes, place, change);
+        self.shelf.change_at(place, change);
         true
     }
 
@@ -141,10 +154,10 @@ impl EntryTable {
         ensures replaced { result ≡ entry_numbered entry.number self.old.entries }
         ensures entries { self.new ≡ record self.old { entries = with_entry entry.number (λ e. Some entry) self.old.entries } }
     {
-        let Ok(place) = place_of(&self.boxes, entry.number) else {
+        let Ok(place) = place_of(self.shelf.as_slice(), entry.number) else {
             return None;
         };
-        Some(boxed::replace(&mut self.boxes, place, entry))
+        Some(self.shelf.replace(place, &entry))
     }
 
     /// Takes out the entry of a number, and gives it. Where there is none, nothing changes.
@@ -152,10 +165,38 @@ impl EntryTable {
         ensures removed { result ≡ entry_numbered number self.old.entries }
         ensures entries { self.new ≡ record self.old { entries = with_entry number (λ e. None) self.old.entries } }
     {
-        let Ok(place) = place_of(&self.boxes, number) else {
+        let Ok(place) = place_of(self.shelf.as_slice(), number) else {
             return None;
         };
-        Some(boxed::take(&mut self.boxes, place))
+        Some(self.shelf.take(place))
+    }
+
+    /// The entries in order of their numbers.
+    pub fn as_slice(&self) -> &[Box<Entry>]
+        ensures { contents result.now ≡ self.now.entries }
+    {
+        self.shelf.as_slice()
+    }
+
+    /// Takes out the entries that are retained until a moment that has come. It looks at each entry once.
+    pub fn remove_over(&mut self, now: Moment)
+        ensures { self.new ≡ record self.old { entries = filter (λ e. not (is_over now e.state)) self.old.entries } }
+    {
+        self.shelf.remove_over(now);
+    }
+
+    /// Makes each entry what the moment finds: a job that waited until then becomes pending. It looks at each entry once.
+    pub fn wake(&mut self, now: Moment)
+        ensures { self.new ≡ record self.old { entries = map (entry_at now) self.old.entries } }
+    {
+        self.shelf.wake(now);
+    }
+
+    /// Takes out the entries that have this queue as their home. It looks at each entry once.
+    pub fn remove_of_home(&mut self, home: &Name)
+        ensures { self.new ≡ record self.old { entries = filter (λ e. not (bytes_eq e.home home.now)) self.old.entries } }
+    {
+        self.shelf.remove_of_home(home);
     }
 
     /// The entry of the least number that is greater than this one.
@@ -163,6 +204,7 @@ impl EntryTable {
         ensures next { option_copied result ≡ entry_after number self.now.entries }
         ensures in_order { IsInOrder nat_cmp (λ e. e.number) self.now.entries }
     {
-        boxed::at(&self.boxes, place_after(&self.boxes, number))
+        let entries = self.shelf.as_slice();
+        boxed::at(entries, place_after(entries, number))
     }
 }

@@ -3,7 +3,7 @@ ghost use Rattle.std.specs.Prelude.{◌≡◌};
 
 use crate::EntryTable;
 use crate::places::filler;
-use qm_kinds::{Entry, EntryState, Mark, print_queue};
+use qm_kinds::{Entry, EntryState, Mark, Moment, print_queue, system_user};
 use std::test::Fail;
 
 fn entry(number: u32) -> Entry
@@ -35,5 +35,61 @@ fn entries_stand_by_number(rt: HostRuntime) -> Result<(), Fail> {
     assert!(rt; table.remove(7).is_some());
     assert!(rt; table.remove(7).is_none());
     assert!(rt; table.get(5).map(|entry| entry.state) == Some(EntryState::Holding));
+    Ok(())
+}
+
+#[test]
+fn first_entries_go_while_others_come(rt: HostRuntime) -> Result<(), Fail> {
+    let mut table = EntryTable::new(rt.alloc());
+    table.reserve()?;
+    table.insert(entry(1));
+    table.reserve()?;
+    table.insert(entry(2));
+    table.reserve()?;
+    table.insert(entry(3));
+    assert!(rt; table.remove(1).is_some());
+    table.reserve()?;
+    table.insert(entry(4));
+    assert!(rt; table.after(0).map(|entry| entry.number) == Some(2));
+    assert!(rt; table.set_home(4, print_queue()));
+    assert!(rt; table.remove(3).is_some());
+    assert!(rt; table.remove(2).is_some());
+    table.reserve()?;
+    table.insert(entry(5));
+    assert!(rt; table.get(1).is_none());
+    assert!(rt; table.as_slice().len() == 2);
+    assert!(rt; table.get(4).map(|entry| entry.home) == Some(print_queue()));
+    assert!(rt; table.remove(4).is_some());
+    assert!(rt; table.after(0).map(|entry| entry.number) == Some(5));
+    assert!(rt; table.remove(5).is_some());
+    assert!(rt; table.as_slice().is_empty());
+    Ok(())
+}
+
+#[test]
+fn a_moment_and_the_end_of_a_queue_sweep_the_entries(rt: HostRuntime) -> Result<(), Fail> {
+    let due = Moment::BASE;
+    let mut table = EntryTable::new(rt.alloc());
+    table.reserve()?;
+    table.insert(Entry {
+        state: EntryState::Timed { at: due },
+        ..entry(1)
+    });
+    table.reserve()?;
+    table.insert(Entry {
+        state: EntryState::Retained {
+            status: 1,
+            until: Some(due),
+        },
+        ..entry(2)
+    });
+    table.remove_over(due);
+    table.wake(due);
+    assert!(rt; table.get(1).map(|entry| entry.state) == Some(EntryState::Pending));
+    assert!(rt; table.as_slice().len() == 1);
+    table.remove_of_home(&print_queue());
+    assert!(rt; table.as_slice().len() == 1);
+    table.remove_of_home(&system_user());
+    assert!(rt; table.as_slice().is_empty());
     Ok(())
 }

@@ -2,8 +2,10 @@
 #![tactic(auto)]
 
 mod places;
+mod settings;
 mod table;
 #[cfg(test)]
 mod tests;
 
+pub use settings::Settings;
 pub use table::QueueTable;

@@ -5,7 +5,9 @@ ghost use Rattle.qm_model.specs.Consistent.{IsInOrder};
 ghost use Rattle.qm_keyed.specs.Places.{IsPlace};
 ghost use Rattle.qm_kinds.specs.declared.queue.Queue.{Queue as AnyQueue};
 ghost use Rattle.qm_queues.specs.Queues.{queue_after};
+ghost use Rattle.qm_queues.specs.Settings.{with_settings_and_state};
 
+use crate::settings::Settings;
 use qm_kinds::{Name, Queue, QueueState};
 use std::mem;
 
@@ -61,4 +63,21 @@ pub(crate) fn set_state(queues: &mut Vec<Queue>, place: usize, state: QueueState
 {
     let queue = &mut queues[place];
     queue.state = state;
+}
+
+/// Sets what is given of the queue at a place.
+pub(crate) fn set(
+    queues: &mut Vec<Queue>,
+    place: usize,
+    settings: &Settings,
+    state: Option<QueueState>,
+)
+    requires { place < vec_len queues.old }
+    ensures items { (d : AnyQueue) → queues.new.items ≡ slice_set queues.old.items place (with_settings_and_state settings.now state (slice_index_or queues.old.items place d)) }
+    ensures len { vec_len queues.new ≡ vec_len queues.old }
+    ensures capacity { vec_capacity queues.new ≡ vec_capacity queues.old }
+{
+    let queue = &mut queues[place];
+    settings.apply(queue);
+    queue.state = state.unwrap_or(queue.state);
 }

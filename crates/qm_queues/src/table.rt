@@ -6,8 +6,10 @@ ghost use Rattle.qm_model.specs.Find.{name_cmp, queue_named};
 ghost use Rattle.qm_model.specs.Queues.{without_queue};
 ghost use Rattle.qm_model.specs.Standing.{with_queue};
 ghost use Rattle.qm_queues.specs.Queues.{with_queue_put, queue_after};
+ghost use Rattle.qm_queues.specs.Settings.{with_settings_and_state};
 
-use crate::places::{place_after, place_of, put, replace, set_state};
+use crate::places::{place_after, place_of, put, replace, set, set_state};
+use crate::settings::Settings;
 use qm_kinds::{Name, Queue, QueueState};
 use std::alloc::{AllocError, Global};
 use std::marker::Model;
@@ -42,6 +44,14 @@ impl QueueTable {
         QueueTable {
             queues: Vec::new(alloc),
         }
+    }
+
+    /// These queues, in order of their names. It takes no memory.
+    pub fn of(queues: Vec<Queue>) -> QueueTable
+        requires { IsInOrder name_cmp (λ q. q.name) queues.items }
+        ensures { result.queues ≡ queues.items }
+    {
+        QueueTable { queues }
     }
 
     /// Makes room for one queue more. Where there is room it takes no memory, and succeeds.
@@ -83,6 +93,14 @@ impl QueueTable {
         Some(&self.queues[place])
     }
 
+    /// The queues, in order of their names.
+    pub fn as_slice(&self) -> &[Queue]
+        ensures queues { result.now ≡ self.now.queues }
+        ensures in_order { IsInOrder name_cmp (λ q. q.name) self.now.queues }
+    {
+        self.queues.as_slice()
+    }
+
     /// Sets the state of the queue of a name, and says whether there is one. Where there is none, nothing changes.
     pub fn set_state(&mut self, name: &Name, state: QueueState) -> bool
         ensures found { result ≡ is_some (queue_named name.now self.old.queues) }
@@ -92,6 +110,19 @@ impl QueueTable {
             return false;
         };
         set_state(&mut self.queues, place, state);
+        true
+    }
+
+    /// Sets what is given of the queue of a name, and its state where one is given, and says whether there is such a queue.
+    /// Where there is none, nothing changes.
+    pub fn set(&mut self, name: &Name, settings: &Settings, state: Option<QueueState>) -> bool
+        ensures found { result ≡ is_some (queue_named name.now self.old.queues) }
+        ensures queues { self.new ≡ record self.old { queues = with_queue name.now (with_settings_and_state settings.now state) self.old.queues } }
+    {
+        let Ok(place) = place_of(&self.queues, name) else {
+            return false;
+        };
+        set(&mut self.queues, place, settings, state);
         true
     }
 

@@ -1,5 +1,5 @@
 // What no clause says: that memory suffices where it is ample.
-use crate::QueueTable;
+use crate::{QueueTable, Settings};
 use qm_kinds::{
     CharacteristicSet, Name, Queue, QueueKind, QueueRetain, QueueState, Seq, batch_queue,
     print_queue, system_user,
@@ -41,6 +41,17 @@ fn queues_stand_by_name(rt: HostRuntime) -> Result<(), Fail> {
         assert!(rt; replaced.is_some() == is_there);
     }
     assert!(rt; table.set_state(&print, QueueState::Started));
+    let settings = Settings {
+        limit: None,
+        characteristics: None,
+        mounted: None,
+        sizes: Some((2, 9)),
+        by_size: None,
+        retain: None,
+    };
+    assert!(rt; table.set(&print, &settings, None));
+    assert!(rt; table.get(&print).map(|queue| queue.upper) == Some(9));
+    assert!(rt; table.as_slice().len() == 3);
     let table_of_next = [
         (None, Some(batch)),
         (Some(&batch), Some(print)),

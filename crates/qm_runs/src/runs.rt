@@ -13,7 +13,7 @@ use std::marker::Model;
 /// The runs that have begun and haven't ended, and the number of the next one. Contracts see a `Begun`: the runs in
 /// order of their numbers, that number, and how many more have room.
 ///
-/// Only `reserve` takes memory. `find`, `put` and `end` ask a logarithm of the runs, and the latter two also move those
+/// Only `reserve` and `reserve_for` take memory. `find`, `put` and `end` ask a logarithm of the runs, and the latter two also move those
 /// that stand behind. A start puts its run behind the others. `in_use` looks at each run.
 #[derive(Drop)]
 pub struct Runs {
@@ -61,6 +61,20 @@ impl Runs {
             return Err(AllocError);
         }
         self.runs.reserve(1)
+    }
+
+    /// Makes room for so many runs more. Where there is room it takes no memory, and succeeds. It fails for want of memory,
+    /// and where there would be more than 4,294,967,295 runs.
+    pub fn reserve_for(&mut self, count: usize) -> Result<(), AllocError>
+        ensures ok { OnOk result (count ≤ self.new.spare) }
+        ensures err { OnErr result (self.old.spare < count) }
+        ensures no_less { self.old.spare ≤ self.new.spare }
+        ensures runs { self.new ≡ record self.old { spare = self.new.spare } }
+    {
+        if MOST_RUNS < self.runs.len() || MOST_RUNS - self.runs.len() < count {
+            return Err(AllocError);
+        }
+        self.runs.reserve(count)
     }
 
     /// Puts in a run that has begun, for which there is room. Its number is below the next one, and no run has it.
@@ -128,6 +142,14 @@ impl Runs {
             return None;
         };
         Some(&self.runs[place])
+    }
+
+    /// The runs, in order of their numbers.
+    pub fn as_slice(&self) -> &[Run]
+        ensures runs { result.now ≡ self.now.runs }
+        ensures in_order { IsInOrder nat_cmp (λ r. r.run) self.now.runs }
+    {
+        self.runs.as_slice()
     }
 
     /// The number of the next run.

@@ -1,5 +1,4 @@
 use Rattle.std.proofs.Common.{◌≡◌, false, true}
-use Rattle.qm_entries.specs.Boxed.{contents}
 use Rattle.qm_entries.proofs.Numbers.{order_inserted}
 use Rattle.qm_entries.proofs.table.EntryTable.insert.Goals as goal
 
@@ -7,6 +6,6 @@ use Rattle.qm_entries.proofs.table.EntryTable.insert.Goals as goal
 pub invariant_of-self : goal.invariant_of-self
 invariant_of-self c =
     let last = rw (← c.self.view_is) at c.requires.last in (
-      rw c.put_last.ensures.contents (order_inserted (contents c.self.inside.boxes.items) c.args.entry c.self.invariant.0 last),
+      rw c.put_last.ensures.entries (order_inserted c.self.inside.shelf.entries c.args.entry c.self.invariant.0 last),
       λ ready. let never : false ≡ true = rw c.put_last.ensures.ready at ready in absurd (cc),
     )

@@ -3,35 +3,34 @@ use Rattle.std.specs.Ordering.{nat_cmp}
 use Rattle.qm_kinds.specs.declared.entry.Entry.{Entry}
 use Rattle.qm_model.specs.Standing.{with_entry}
 use Rattle.qm_keyed.specs.Places.{StandsAt, BelongsAt}
-use Rattle.qm_entries.specs.Boxed.{contents}
 use Rattle.qm_entries.specs.Entries.{Kept}
 use Rattle.qm_entries.proofs.Numbers.{number_of, found, absent, replaced_is, unchanged, order_replaced, kept_is}
 use Rattle.qm_entries.proofs.table.EntryTable.replace.Goals as goal
 
 pub returns-in_default-clause-replaced : goal.returns-in_default-clause-replaced
 returns-in_default-clause-replaced c =
-    let belongs : BelongsAt nat_cmp number_of c.args.entry.number (contents c.self.inside.boxes.items) c.in_default.field-0 = rw c.deref.ensures.value at c.in_default.ensures in
-    rw (← c.self.view_is) (sym (absent (contents c.self.inside.boxes.items) c.args.entry.number c.in_default.field-0 belongs))
+    let belongs : BelongsAt nat_cmp number_of c.args.entry.number c.self.inside.shelf.entries c.in_default.field-0 = rw c.as_slice.ensures at c.in_default.ensures in
+    rw (← c.self.view_is) (sym (absent c.self.inside.shelf.entries c.args.entry.number c.in_default.field-0 belongs))
 
 pub returns-in_default-clause-entries : goal.returns-in_default-clause-entries
 returns-in_default-clause-entries c =
-    let belongs : BelongsAt nat_cmp number_of c.args.entry.number (contents c.self.inside.boxes.items) c.in_default.field-0 = rw c.deref.ensures.value at c.in_default.ensures in
-    rw (← c.self.view_is) (kept_is _ _ _ _ (unchanged (contents c.self.inside.boxes.items) c.args.entry.number c.in_default.field-0 (λ (e : Entry). Some c.args.entry) belongs) refl)
+    let belongs : BelongsAt nat_cmp number_of c.args.entry.number c.self.inside.shelf.entries c.in_default.field-0 = rw c.as_slice.ensures at c.in_default.ensures in
+    rw (← c.self.view_is) (kept_is _ _ _ _ (unchanged c.self.inside.shelf.entries c.args.entry.number c.in_default.field-0 (λ (e : Entry). Some c.args.entry) belongs) refl)
 
 pub invariant_of-self : goal.invariant_of-self
 invariant_of-self c =
-    let stands : StandsAt nat_cmp number_of c.args.entry.number (contents c.self.inside.boxes.items) c.in-Ok.place = rw c.deref.ensures.value at c.in-Ok.ensures in (
-      rw c.replace.ensures.contents (order_replaced (contents c.self.inside.boxes.items) c.args.entry c.in-Ok.place stands c.self.invariant.0),
-      λ ready. omega (arith, c.self.invariant.1 ready, c.replace.ensures.len, c.replace.ensures.capacity),
+    let stands : StandsAt nat_cmp number_of c.args.entry.number c.self.inside.shelf.entries c.in-Ok.place = rw c.as_slice.ensures at c.in-Ok.ensures in (
+      rw c.replace.ensures.entries (order_replaced c.self.inside.shelf.entries c.args.entry c.in-Ok.place stands c.self.invariant.0),
+      λ ready. omega (arith, c.self.invariant.1 ready, c.replace.ensures.room),
     )
 
 pub returns-clause-replaced : goal.returns-clause-replaced
 returns-clause-replaced c =
-    let stands : StandsAt nat_cmp number_of c.args.entry.number (contents c.self.inside.boxes.items) c.in-Ok.place = rw c.deref.ensures.value at c.in-Ok.ensures in
-    rw (← c.self.view_is) (c.replace.ensures.replaced ∙ sym (found (contents c.self.inside.boxes.items) c.args.entry.number c.in-Ok.place stands))
+    let stands : StandsAt nat_cmp number_of c.args.entry.number c.self.inside.shelf.entries c.in-Ok.place = rw c.as_slice.ensures at c.in-Ok.ensures in
+    rw (← c.self.view_is) (c.replace.ensures.replaced ∙ sym (found c.self.inside.shelf.entries c.args.entry.number c.in-Ok.place stands))
 
 pub returns-clause-entries : goal.returns-clause-entries
 returns-clause-entries c =
-    let stands : StandsAt nat_cmp number_of c.args.entry.number (contents c.self.inside.boxes.items) c.in-Ok.place = rw c.deref.ensures.value at c.in-Ok.ensures in
-    let entries = c.replace.ensures.contents ∙ replaced_is (contents c.self.inside.boxes.items) c.args.entry c.in-Ok.place stands in
+    let stands : StandsAt nat_cmp number_of c.args.entry.number c.self.inside.shelf.entries c.in-Ok.place = rw c.as_slice.ensures at c.in-Ok.ensures in
+    let entries = c.replace.ensures.entries ∙ replaced_is c.self.inside.shelf.entries c.args.entry c.in-Ok.place stands in
     kept_is _ _ _ _ (entries ∙ ap (λ (w : Kept). with_entry c.args.entry.number (λ (e : Entry). Some c.args.entry) w.entries) c.self.view_is) (ap (λ (w : Kept). w.spare) c.self.view_is)

@@ -1,0 +1,65 @@
+// Entries in boxes that a moment, or the end of their queue, changes or takes away: one pass each, which moves no entry
+// and takes no memory.
+ghost use Rattle.std.specs.Prelude.{◌≡◌, ◌≤◌, not, map, filter, vec_len, vec_capacity};
+ghost use Rattle.std.specs.Str.{bytes_eq};
+ghost use Rattle.qm_model.specs.Due.{state_at, is_over, entry_at};
+ghost use Rattle.qm_entries.specs.Boxed.{contents};
+
+use qm_kinds::{Entry, EntryState, Moment, Name};
+
+// Whether a job is retained until a moment that has come.
+fn is_over(now: Moment, state: &EntryState) -> bool
+    ensures { result ≡ is_over now state.now }
+{
+    match *state {
+        EntryState::Retained {
+            until: Some(until),
+            ..
+        } => until <= now,
+        _ => false,
+    }
+}
+
+// The state as the moment finds it.
+fn state_at(now: Moment, state: &EntryState) -> EntryState
+    ensures { result ≡ state_at now state.now }
+{
+    match *state {
+        EntryState::Timed { at } if at <= now => EntryState::Pending,
+        same => same,
+    }
+}
+
+// Makes the entry what the moment finds.
+fn wake_one(now: Moment, entry: &mut Entry)
+    ensures { entry.new ≡ entry_at now entry.old }
+{
+    entry.state = state_at(now, &entry.state);
+}
+
+/// Takes out the entries whose time is up, and frees their boxes.
+pub(crate) fn remove_over(boxes: &mut Vec<Box<Entry>>, now: Moment)
+    ensures contents { contents boxes.new.items ≡ filter (λ e. not (is_over now e.state)) (contents boxes.old.items) }
+    ensures len { vec_len boxes.new ≤ vec_len boxes.old }
+    ensures capacity { vec_capacity boxes.new ≡ vec_capacity boxes.old }
+{
+    boxes.retain(|entry| !is_over(now, &entry.state));
+}
+
+/// Takes out the entries of a home, and frees their boxes.
+pub(crate) fn remove_of_home(boxes: &mut Vec<Box<Entry>>, home: &Name)
+    ensures contents { contents boxes.new.items ≡ filter (λ e. not (bytes_eq e.home home.now)) (contents boxes.old.items) }
+    ensures len { vec_len boxes.new ≤ vec_len boxes.old }
+    ensures capacity { vec_capacity boxes.new ≡ vec_capacity boxes.old }
+{
+    boxes.retain(|entry| entry.home != *home);
+}
+
+/// Makes each entry what the moment finds.
+pub(crate) fn wake(boxes: &mut [Box<Entry>], now: Moment)
+    ensures { contents boxes.new ≡ map (entry_at now) (contents boxes.old) }
+{
+    for entry in boxes.iter_mut() {
+        wake_one(now, entry.as_mut());
+    }
+}
