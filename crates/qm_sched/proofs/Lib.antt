@@ -1,0 +1,15 @@
+pub mod Counts
+pub mod Ordered
+pub mod Least
+pub mod Mirrored
+pub mod Asked
+pub mod Swept
+pub mod Left
+pub mod Resets
+pub mod Stops
+pub mod FewStarts
+pub mod Chosen
+pub mod Steps
+pub mod Walk
+pub mod Starting
+pub mod Progress

@@ -1,0 +1,18 @@
+use Rattle.std.proofs.Common.{◌≡◌, ◌+◌, length, vec_capacity, count_by}
+use Rattle.qm_queues.specs.Queues.{comes_after}
+use Rattle.qm_sched.proofs.Progress.{Progress}
+use Rattle.qm_sched.proofs.settling.settle.Given as goal
+
+abbrev pub invariant-loop-queue : goal.invariant-loop-queue
+invariant-loop-queue l =
+    record {
+      progress : Progress l.fn.parts l.parts l.out.items l.behind;
+      runs : l.parts.spare_runs + length l.out.items ≡ l.fn.parts.spare_runs;
+      capacity : vec_capacity l.out ≡ vec_capacity l.fn.out;
+      spare_entries : l.parts.spare_entries ≡ l.fn.parts.spare_entries;
+      spare_queues : l.parts.spare_queues ≡ l.fn.parts.spare_queues;
+    }
+
+-- a start takes room for a run, and a queue that starts nothing is passed
+abbrev pub decreases-loop-queue : goal.decreases-loop-queue
+decreases-loop-queue l = l.parts.spare_runs + count_by (comes_after l.behind) l.parts.queues

@@ -1,0 +1,4 @@
+pub mod Tables
+pub mod Mirror
+pub mod Choosing
+pub mod Starts

@@ -1,0 +1,31 @@
+-- The tables that belong together: what their callers see.
+use Rattle.std.specs.Prelude.{ℕ, List}
+use Rattle.qm_kinds.specs.declared.entry.Entry.{Entry}
+use Rattle.qm_kinds.specs.declared.form.Characteristic.{Characteristic}
+use Rattle.qm_kinds.specs.declared.form.Form.{Form}
+use Rattle.qm_kinds.specs.declared.queue.Queue.{Queue}
+use Rattle.qm_kinds.specs.declared.system.Node.{Node}
+use Rattle.qm_kinds.specs.declared.system.System.{System}
+
+-- the queues by name, the entries by number, the number of the next run, and how many more of each have room
+pub record Tables : Type 0 where
+  pub nodes : List Node
+  pub forms : List Form
+  pub characteristics : List Characteristic
+  pub queues : List Queue
+  pub entries : List Entry
+  pub next_run : ℕ
+  pub spare_queues : ℕ
+  pub spare_entries : ℕ
+  pub spare_runs : ℕ
+
+-- the system with what the tables hold in place of its own
+abbrev pub with_tables : System → Tables → System
+with_tables s t = record s {
+  nodes = t.nodes;
+  forms = t.forms;
+  characteristics = t.characteristics;
+  queues = t.queues;
+  entries = t.entries;
+  next_run = t.next_run;
+}

@@ -1,0 +1,58 @@
+// Starting the jobs that can start.
+ghost use Rattle.std.specs.Prelude.{◌≡◌, ◌-◌, ◌<◌, ◌≤◌, ◌∷◌, [], length, vec_capacity};
+ghost use Rattle.std.specs.Ordering.{nat_cmp};
+ghost use Rattle.qm_kinds.specs.declared.system.System.{System};
+ghost use Rattle.qm_model.specs.Consistent.{IsInOrder};
+ghost use Rattle.qm_model.specs.Settling.{AreStarts, settled};
+ghost use Rattle.qm_sched.specs.Tables.{with_tables};
+ghost use Rattle.qm_sched.specs.Choosing.{IsNextStart};
+
+use crate::choosing::{next_start, see_entries};
+use crate::parts::Parts;
+use qm_kinds::{Name, Start};
+
+// Starts what is to be started next, for which there is room.
+fn start_next(parts: &mut Parts, start: &Start)
+    requires next { (s : System) → IsNextStart (with_tables s parts.old) start.now }
+    requires room { 0 < parts.old.spare_runs }
+    ensures in_order { IsInOrder nat_cmp (λ e. e.number) parts.old.entries }
+    ensures starts { (s : System) → AreStarts (with_tables s parts.old) (start.now ∷ []) (with_tables s parts.new) }
+    ensures rest { parts.new ≡ record parts.old { entries = parts.new.entries; next_run = parts.new.next_run; spare_runs = parts.old.spare_runs - 1 } }
+{
+    let Some(queue) = parts.queue(&start.queue) else {
+        unreachable!()
+    };
+    let Some(node) = queue.node else {
+        unreachable!()
+    };
+    see_entries(parts);
+    parts.start(start.entry, start.queue, node);
+}
+
+/// Starts the jobs that can start, one by one, and puts each start behind the others. There is room for all starts, among
+/// the runs too, so it takes no memory.
+///
+/// The queues are gone through once by name. At each it stays as long as the queue can start a job: a start never lets a
+/// queue start a job that couldn't. It looks at no queue's jobs unless the queue is started, its node is up and it has a
+/// place. Such a queue costs a look at each entry for each job that it starts, and one more if a place is left. A queue that
+/// is started on a node that is up costs a look at each run, once and once more for each start.
+pub fn settle(parts: &mut Parts, out: &mut Vec<Start>)
+    requires empty { out.old.items ≡ [] }
+    requires room { (s : System) → length (settled (with_tables s parts.old)).started ≤ vec_capacity out.old }
+    requires runs { (s : System) → length (settled (with_tables s parts.old)).started ≤ parts.old.spare_runs }
+    ensures settled { (s : System) → settled (with_tables s parts.old) ≡ record { system = with_tables s parts.new; started = out.new.items } }
+    ensures spare_entries { parts.new.spare_entries ≡ parts.old.spare_entries }
+    ensures spare_queues { parts.new.spare_queues ≡ parts.old.spare_queues }
+{
+    let mut behind: Option<Name> = None;
+    while let Some(queue) = parts.queue_after(behind.as_ref()) {
+        let name = queue.name;
+        match next_start(parts, queue) {
+            None => behind = Some(name),
+            Some(start) => {
+                start_next(parts, &start);
+                out.push_reserved(start);
+            }
+        }
+    }
+}

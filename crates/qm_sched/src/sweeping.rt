@@ -1,0 +1,32 @@
+// What a moment makes of entries, and what goes with a queue. It concerns no entry that has a run.
+ghost use Rattle.std.specs.Prelude.{◌≡◌, not, map, filter, find, None};
+ghost use Rattle.std.specs.Str.{bytes_eq};
+ghost use Rattle.qm_model.specs.Due.{is_over, entry_at};
+ghost use Rattle.qm_model.specs.Queues.{runs_for};
+
+use crate::parts::Parts;
+use qm_kinds::{Moment, Name};
+
+impl Parts {
+    /// Takes out the entries that are retained until a moment that has come. It looks at each entry once.
+    pub fn remove_over(&mut self, now: Moment)
+        ensures { self.new ≡ record self.old { entries = filter (λ e. not (is_over now e.state)) self.old.entries } }
+    {
+        self.entries.remove_over(now);
+    }
+
+    /// Makes each entry what the moment finds: a job that waited until then becomes pending. It looks at each entry once.
+    pub fn wake(&mut self, now: Moment)
+        ensures { self.new ≡ record self.old { entries = map (entry_at now) self.old.entries } }
+    {
+        self.entries.wake(now);
+    }
+
+    /// Takes out the entries that have this queue as their home, none of which has a run. It looks at each entry once.
+    pub fn remove_of_home(&mut self, home: &Name)
+        requires { find (runs_for home.now) self.old.entries ≡ None }
+        ensures { self.new ≡ record self.old { entries = filter (λ e. not (bytes_eq e.home home.now)) self.old.entries } }
+    {
+        self.entries.remove_of_home(home);
+    }
+}

@@ -1,0 +1,8 @@
+//! Worked cases of the tables that belong together, as tests: that memory suffices where it is ample, that a job's run
+//! comes and goes with it, and that jobs start while there are places.
+#![tactic(auto)]
+
+#[cfg(test)]
+mod parts;
+#[cfg(test)]
+mod settling;
