@@ -1,26 +1,29 @@
 -- Each reader of a body reads the fields of its records.
-use Rattle.std.proofs.Common.{◌≡◌, ℕ, true, false, List, [], ◌∷◌, Option, Some, None, refl, sym, ap, subst, ◌∙◌, arith}
+use Rattle.std.proofs.Common.{◌≡◌, ℕ, Bool, true, false, List, [], ◌∷◌, ◌++◌, Option, Some, None, refl, sym, ap, subst, ◌∙◌, arith}
 use Rattle.qm_kinds.specs.declared.request.Request.{Request}
 use Rattle.qm_kinds.specs.declared.request.Request.TheVariants as ask
 use Rattle.qm_kinds.specs.declared.request.Job.{Job}
 use Rattle.qm_kinds.specs.declared.file.FileName.{FileName}
 use Rattle.qm_kinds.specs.declared.queue.Queue.{Queue}
+use Rattle.qm_kinds.specs.declared.queue.QueueChange.{QueueChange}
+use Rattle.qm_kinds.specs.declared.queue.NewQueue.{NewQueue}
+use Rattle.qm_kinds.specs.declared.request.StopMode.{StopMode}
 use Rattle.qm_kinds.specs.declared.form.Form.{Form}
 use Rattle.qm_kinds.specs.declared.system.Node.{Node}
 use Rattle.qm_bytes.specs.Reading.{Reader, ◌>>=◌, pure}
 use Rattle.qm_bytes.specs.Laws.{Spells, IsReader}
-use Rattle.qm_bytes.specs.Spelling.{low_first, fields, byte, truth, optional, list, short_bytes, long_bytes, file_name, moment}
+use Rattle.qm_bytes.specs.Spelling.{low_first, fields, byte, truth, optional, list, short_bytes, long_bytes, file_name, moment, IsName}
 use Rattle.qm_bytes.proofs.Readers.{made, after, last, said}
-use Rattle.qm_bytes.proofs.Fields.{truth_reader, optional_reader, list_reader, name_reader, file_name_reader, long_bytes_reader, moment_reader}
+use Rattle.qm_bytes.proofs.Fields.{truth_reader, optional_reader, list_reader, name_reader, file_name_reader, long_bytes_reader, mark_reader, moment_reader}
 use Rattle.qm_kinds.specs.declared.record.Body.{Body}
 use Rattle.qm_kinds.specs.declared.record.Body.TheVariants as body
 use Rattle.qm_record.specs.declared.kind.RecordKind.{RecordKind}
 use Rattle.qm_record.specs.declared.kind.RecordKind.TheVariants as record_kind
 use Rattle.qm_record.specs.Kinds.{number_of, is_row_kind}
-use Rattle.qm_record.specs.Spelling.{job_kind_code, job_retain, name_or_number, job_text, head, form, queue, request_parts, body_parts, is_row, JobFits, FormFits, QueueFits, RequestFits, BodyFits}
-use Rattle.qm_record.specs.Reading.{append_at, job_at, head_at, body_at}
-use Rattle.qm_record.proofs.Codes.{job_kind_reader}
-use Rattle.qm_record.proofs.Fields.{one_byte_reader, u32_reader, u64_reader, name_or_number_reader, job_retain_reader, node_reader, form_reader, queue_reader}
+use Rattle.qm_record.specs.Spelling.{job_kind_code, job_retain, name_or_number, stop_mode_code, queue_change, new_queue, job_text, head, form, queue, request_parts, body_parts, fields_in, is_row, IsEntryNumber, JobFits, FormFits, QueueFits, NewQueueFits, RequestFits, BodyFits}
+use Rattle.qm_record.specs.Reading.{append_at, initialize_at, set_queue_at, start_queue_at, stop_queue_at, abort_job_at, delete_queue_at, job_at, submit_at, delete_entry_at, run_mark_at, done_at, head_at, body_at}
+use Rattle.qm_record.proofs.Codes.{job_kind_reader, stop_mode_reader}
+use Rattle.qm_record.proofs.Fields.{one_byte_reader, u32_reader, u64_reader, name_or_number_reader, job_retain_reader, node_reader, form_reader, queue_reader, change_reader, new_queue_reader}
 
 abbrev Parts : Type 0
 Parts = RecordKind × List ℕ
@@ -69,7 +72,16 @@ wrapped {A} {Fits} {spelling} {read} {k} {wrap} r w =
 -- the kind of a request is no row's
 request_is_no_row : (r : Request) (k : RecordKind) (text : List ℕ) → request_parts r ≡ Some (k, text) → false ≡ is_row_kind k
 request_is_no_row (ask.Append file bytes) k text e = ap is_row_kind (same_kind _ _ _ _ e)
+request_is_no_row (ask.InitializeQueue new) k text e = ap is_row_kind (same_kind _ _ _ _ e)
+request_is_no_row (ask.SetQueue name change) k text e = ap is_row_kind (same_kind _ _ _ _ e)
+request_is_no_row (ask.StartQueue name change) k text e = ap is_row_kind (same_kind _ _ _ _ e)
+request_is_no_row (ask.StopQueue name how) k text e = ap is_row_kind (same_kind _ _ _ _ e)
+request_is_no_row (ask.AbortJob queue_name entry requeue) k text e = ap is_row_kind (same_kind _ _ _ _ e)
+request_is_no_row (ask.DeleteQueue name) k text e = ap is_row_kind (same_kind _ _ _ _ e)
 request_is_no_row (ask.Submit j) k text e = ap is_row_kind (same_kind _ _ _ _ e)
+request_is_no_row (ask.DeleteEntry entry) k text e = ap is_row_kind (same_kind _ _ _ _ e)
+request_is_no_row (ask.Mark run value) k text e = ap is_row_kind (same_kind _ _ _ _ e)
+request_is_no_row (ask.Done run status) k text e = ap is_row_kind (same_kind _ _ _ _ e)
 request_is_no_row ask.Tick k text e = ap is_row_kind (same_kind _ _ _ _ e)
 request_is_no_row r k text e = absurd cc
 
@@ -116,6 +128,145 @@ append_reader =
     (λ b text h. rw h.next.next.same (record { fits = (h.fits, h.next.fits); is = rw (h.parts, h.next.parts, h.next.next.nothing) refl }))
     (λ b text s. let p = append_parts b text s.is in let fits : BodyFits (body.Ask (ask.Append p.file p.bytes)) = subst BodyFits p.same s.fits in
     record { first = p.file; fits = fits.0; others = fields (long_bytes p.bytes ∷ []); next = record { first = p.bytes; fits = fits.1; others = []; next = record { same = p.same; nothing = refl }; parts = refl }; parts = p.text_is })
+
+initialize_wraps : IsWrap NewQueueFits new_queue record_kind.InitializeQueue (λ n. body.Ask (ask.InitializeQueue n))
+initialize_wraps = record { fits = λ n fits. fits; fitted = λ n fits. fits; parts_are = λ n. refl; unwrap = unwrap } where
+  unwrap : (b : Body) (text : List ℕ) → body_parts b ≡ Some (record_kind.InitializeQueue, text) → (n : NewQueue) × (b ≡ body.Ask (ask.InitializeQueue n))
+  unwrap (body.Ask (ask.InitializeQueue n)) text e = (n, refl)
+  unwrap b text e = absurd (omega (arith, ap number_in e))
+
+initialize_body_reader : IsReader (BodyAt record_kind.InitializeQueue) initialize_at
+unfolding initialize_at
+initialize_body_reader = wrapped new_queue_reader initialize_wraps
+
+record SetQueueParts (b : Body) (text : List ℕ) : Type 0 where
+  name : List ℕ
+  change : QueueChange
+  same : b ≡ body.Ask (ask.SetQueue name change)
+  text_is : text ≡ short_bytes name ++ queue_change change
+
+set_queue_parts : (b : Body) (text : List ℕ) → body_parts b ≡ Some (record_kind.SetQueue, text) → SetQueueParts b text
+set_queue_parts (body.Ask (ask.SetQueue name change)) text e = record { name = name; change = change; same = refl; text_is = sym (same_text _ _ _ _ e) }
+set_queue_parts b text e = absurd (omega (arith, ap number_in e))
+
+set_queue_reader : IsReader (BodyAt record_kind.SetQueue) set_queue_at
+unfolding set_queue_at
+set_queue_reader =
+    said (after name_reader (λ name name_fits. last change_reader))
+    (λ b text h. rw h.next.same (record { fits = (h.fits, h.next.fits); is = rw (h.parts, h.next.parts) refl }))
+    (λ b text s. let p = set_queue_parts b text s.is in let fits : BodyFits (body.Ask (ask.SetQueue p.name p.change)) = subst BodyFits p.same s.fits in
+    record { first = p.name; fits = fits.0; others = queue_change p.change; next = record { first = p.change; fits = fits.1; same = p.same; parts = refl }; parts = p.text_is })
+
+record StartQueueParts (b : Body) (text : List ℕ) : Type 0 where
+  name : List ℕ
+  change : QueueChange
+  same : b ≡ body.Ask (ask.StartQueue name change)
+  text_is : text ≡ short_bytes name ++ queue_change change
+
+start_queue_parts : (b : Body) (text : List ℕ) → body_parts b ≡ Some (record_kind.StartQueue, text) → StartQueueParts b text
+start_queue_parts (body.Ask (ask.StartQueue name change)) text e = record { name = name; change = change; same = refl; text_is = sym (same_text _ _ _ _ e) }
+start_queue_parts b text e = absurd (omega (arith, ap number_in e))
+
+start_queue_reader : IsReader (BodyAt record_kind.StartQueue) start_queue_at
+unfolding start_queue_at
+start_queue_reader =
+    said (after name_reader (λ name name_fits. last change_reader))
+    (λ b text h. rw h.next.same (record { fits = (h.fits, h.next.fits); is = rw (h.parts, h.next.parts) refl }))
+    (λ b text s. let p = start_queue_parts b text s.is in let fits : BodyFits (body.Ask (ask.StartQueue p.name p.change)) = subst BodyFits p.same s.fits in
+    record { first = p.name; fits = fits.0; others = queue_change p.change; next = record { first = p.change; fits = fits.1; same = p.same; parts = refl }; parts = p.text_is })
+
+record StopQueueParts (b : Body) (text : List ℕ) : Type 0 where
+  name : List ℕ
+  how : StopMode
+  same : b ≡ body.Ask (ask.StopQueue name how)
+  text_is : text ≡ short_bytes name ++ byte (stop_mode_code how)
+
+stop_queue_parts : (b : Body) (text : List ℕ) → body_parts b ≡ Some (record_kind.StopQueue, text) → StopQueueParts b text
+stop_queue_parts (body.Ask (ask.StopQueue name how)) text e = record { name = name; how = how; same = refl; text_is = sym (same_text _ _ _ _ e) }
+stop_queue_parts b text e = absurd (omega (arith, ap number_in e))
+
+stop_queue_reader : IsReader (BodyAt record_kind.StopQueue) stop_queue_at
+unfolding stop_queue_at
+stop_queue_reader =
+    said (after name_reader (λ name name_fits. last stop_mode_reader))
+    (λ b text h. rw h.next.same (record { fits = h.fits; is = rw (h.parts, h.next.parts) refl }))
+    (λ b text s. let p = stop_queue_parts b text s.is in let fits : BodyFits (body.Ask (ask.StopQueue p.name p.how)) = subst BodyFits p.same s.fits in
+    record { first = p.name; fits = fits; others = byte (stop_mode_code p.how); next = record { first = p.how; fits = tt; same = p.same; parts = refl }; parts = p.text_is })
+
+record AbortJobParts (b : Body) (text : List ℕ) : Type 0 where
+  queue_name : List ℕ
+  entry : Option ℕ
+  requeue : Bool
+  same : b ≡ body.Ask (ask.AbortJob queue_name entry requeue)
+  text_is : text ≡ fields (short_bytes queue_name ∷ optional (low_first 4) entry ∷ truth requeue ∷ [])
+
+abort_job_parts : (b : Body) (text : List ℕ) → body_parts b ≡ Some (record_kind.AbortJob, text) → AbortJobParts b text
+abort_job_parts (body.Ask (ask.AbortJob queue_name entry requeue)) text e = record { queue_name = queue_name; entry = entry; requeue = requeue; same = refl; text_is = sym (same_text _ _ _ _ e) }
+abort_job_parts b text e = absurd (omega (arith, ap number_in e))
+
+abort_job_reader : IsReader (BodyAt record_kind.AbortJob) abort_job_at
+unfolding abort_job_at
+abort_job_reader =
+    said (after name_reader (λ queue_name queue_name_fits. after (optional_reader u32_reader) (λ entry entry_fits. after truth_reader (λ requeue requeue_fits. made (body.Ask (ask.AbortJob queue_name entry requeue))))))
+    (λ b text h. rw h.next.next.next.same (record { fits = (h.fits, h.next.fits); is = rw (h.parts, h.next.parts, h.next.next.parts, h.next.next.next.nothing) refl }))
+    (λ b text s. let p = abort_job_parts b text s.is in let fits : BodyFits (body.Ask (ask.AbortJob p.queue_name p.entry p.requeue)) = subst BodyFits p.same s.fits in
+    record { first = p.queue_name; fits = fits.0; others = fields (optional (low_first 4) p.entry ∷ truth p.requeue ∷ []); next = record { first = p.entry; fits = fits.1; others = fields (truth p.requeue ∷ []); next = record { first = p.requeue; fits = tt; others = []; next = record { same = p.same; nothing = refl }; parts = refl }; parts = refl }; parts = p.text_is })
+
+delete_queue_wraps : IsWrap IsName short_bytes record_kind.DeleteQueue (λ name. body.Ask (ask.DeleteQueue name))
+delete_queue_wraps = record { fits = λ name fits. fits; fitted = λ name fits. fits; parts_are = λ name. refl; unwrap = unwrap } where
+  unwrap : (b : Body) (text : List ℕ) → body_parts b ≡ Some (record_kind.DeleteQueue, text) → (name : List ℕ) × (b ≡ body.Ask (ask.DeleteQueue name))
+  unwrap (body.Ask (ask.DeleteQueue name)) text e = (name, refl)
+  unwrap b text e = absurd (omega (arith, ap number_in e))
+
+delete_queue_body_reader : IsReader (BodyAt record_kind.DeleteQueue) delete_queue_at
+unfolding delete_queue_at
+delete_queue_body_reader = wrapped name_reader delete_queue_wraps
+
+delete_entry_wraps : IsWrap IsEntryNumber (low_first 4) record_kind.DeleteEntry (λ entry. body.Ask (ask.DeleteEntry entry))
+delete_entry_wraps = record { fits = λ entry fits. fits; fitted = λ entry fits. fits; parts_are = λ entry. refl; unwrap = unwrap } where
+  unwrap : (b : Body) (text : List ℕ) → body_parts b ≡ Some (record_kind.DeleteEntry, text) → (entry : ℕ) × (b ≡ body.Ask (ask.DeleteEntry entry))
+  unwrap (body.Ask (ask.DeleteEntry entry)) text e = (entry, refl)
+  unwrap b text e = absurd (omega (arith, ap number_in e))
+
+delete_entry_body_reader : IsReader (BodyAt record_kind.DeleteEntry) delete_entry_at
+unfolding delete_entry_at
+delete_entry_body_reader = wrapped u32_reader delete_entry_wraps
+
+record RunMarkParts (b : Body) (text : List ℕ) : Type 0 where
+  run : ℕ
+  value : List ℕ
+  same : b ≡ body.Ask (ask.Mark run value)
+  text_is : text ≡ low_first 8 run ++ short_bytes value
+
+run_mark_parts : (b : Body) (text : List ℕ) → body_parts b ≡ Some (record_kind.Mark, text) → RunMarkParts b text
+run_mark_parts (body.Ask (ask.Mark run value)) text e = record { run = run; value = value; same = refl; text_is = sym (same_text _ _ _ _ e) }
+run_mark_parts b text e = absurd (omega (arith, ap number_in e))
+
+run_mark_reader : IsReader (BodyAt record_kind.Mark) run_mark_at
+unfolding run_mark_at
+run_mark_reader =
+    said (after u64_reader (λ run run_fits. last mark_reader))
+    (λ b text h. rw h.next.same (record { fits = (h.fits, h.next.fits); is = rw (h.parts, h.next.parts) refl }))
+    (λ b text s. let p = run_mark_parts b text s.is in let fits : BodyFits (body.Ask (ask.Mark p.run p.value)) = subst BodyFits p.same s.fits in
+    record { first = p.run; fits = fits.0; others = short_bytes p.value; next = record { first = p.value; fits = fits.1; same = p.same; parts = refl }; parts = p.text_is })
+
+record DoneParts (b : Body) (text : List ℕ) : Type 0 where
+  run : ℕ
+  status : ℕ
+  same : b ≡ body.Ask (ask.Done run status)
+  text_is : text ≡ low_first 8 run ++ low_first 4 status
+
+done_parts : (b : Body) (text : List ℕ) → body_parts b ≡ Some (record_kind.Done, text) → DoneParts b text
+done_parts (body.Ask (ask.Done run status)) text e = record { run = run; status = status; same = refl; text_is = sym (same_text _ _ _ _ e) }
+done_parts b text e = absurd (omega (arith, ap number_in e))
+
+done_reader : IsReader (BodyAt record_kind.Done) done_at
+unfolding done_at
+done_reader =
+    said (after u64_reader (λ run run_fits. last u32_reader))
+    (λ b text h. rw h.next.same (record { fits = (h.fits, h.next.fits); is = rw (h.parts, h.next.parts) refl }))
+    (λ b text s. let p = done_parts b text s.is in let fits : BodyFits (body.Ask (ask.Done p.run p.status)) = subst BodyFits p.same s.fits in
+    record { first = p.run; fits = fits.0; others = low_first 4 p.status; next = record { first = p.status; fits = fits.1; same = p.same; parts = refl }; parts = p.text_is })
 
 record TickParts (b : Body) (text : List ℕ) : Type 0 where
   same : b ≡ body.Ask ask.Tick
@@ -171,19 +322,27 @@ queue_wraps = record { fits = λ q fits. fits; fitted = λ q fits. fits; parts_a
 
 -- ---- the body of each kind
 
+submit_reader : IsReader (BodyAt record_kind.Submit) submit_at
+unfolding submit_at
+submit_reader = wrapped job_reader job_wraps
+
 reader_of : (k : RecordKind) → IsReader (BodyAt k) (body_at k)
 unfolding body_at
 reader_of record_kind.Append = append_reader
-reader_of record_kind.Submit = wrapped job_reader job_wraps
+reader_of record_kind.InitializeQueue = initialize_body_reader
+reader_of record_kind.SetQueue = set_queue_reader
+reader_of record_kind.StartQueue = start_queue_reader
+reader_of record_kind.StopQueue = stop_queue_reader
+reader_of record_kind.AbortJob = abort_job_reader
+reader_of record_kind.DeleteQueue = delete_queue_body_reader
+reader_of record_kind.Submit = submit_reader
+reader_of record_kind.DeleteEntry = delete_entry_body_reader
+reader_of record_kind.Mark = run_mark_reader
+reader_of record_kind.Done = done_reader
 reader_of record_kind.Tick = tick_reader
 reader_of record_kind.Head = head_reader
 reader_of record_kind.Form = wrapped form_reader form_wraps
 reader_of record_kind.Queue = wrapped queue_reader queue_wraps
-
--- the text of the fields
-abbrev pub fields_in : Option Parts → List ℕ
-fields_in None = []
-fields_in (Some x) = x.1
 
 -- a body of this kind
 pub record BodyFor (k : RecordKind) (b : Body) : Type 0 where
@@ -199,7 +358,16 @@ body_reader k =
 -- a body that has a spelling has parts
 request_has_parts : (r : Request) → RequestFits r → (x : Parts) × (request_parts r ≡ Some x)
 request_has_parts (ask.Append file bytes) fits = (_, refl)
+request_has_parts (ask.InitializeQueue new) fits = (_, refl)
+request_has_parts (ask.SetQueue name change) fits = (_, refl)
+request_has_parts (ask.StartQueue name change) fits = (_, refl)
+request_has_parts (ask.StopQueue name how) fits = (_, refl)
+request_has_parts (ask.AbortJob queue_name entry requeue) fits = (_, refl)
+request_has_parts (ask.DeleteQueue name) fits = (_, refl)
 request_has_parts (ask.Submit j) fits = (_, refl)
+request_has_parts (ask.DeleteEntry entry) fits = (_, refl)
+request_has_parts (ask.Mark run value) fits = (_, refl)
+request_has_parts (ask.Done run status) fits = (_, refl)
 request_has_parts ask.Tick fits = (_, refl)
 request_has_parts r fits = absurd fits
 

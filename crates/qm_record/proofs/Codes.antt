@@ -8,12 +8,14 @@ use Rattle.qm_kinds.specs.declared.queue.QueueState.{QueueState}
 use Rattle.qm_kinds.specs.declared.queue.QueueState.TheVariants as state
 use Rattle.qm_kinds.specs.declared.queue.QueueRetain.{QueueRetain}
 use Rattle.qm_kinds.specs.declared.queue.QueueRetain.TheVariants as keep
+use Rattle.qm_kinds.specs.declared.request.StopMode.{StopMode}
+use Rattle.qm_kinds.specs.declared.request.StopMode.TheVariants as stop
 use Rattle.qm_bytes.specs.Reading.{between}
 use Rattle.qm_bytes.specs.Laws.{Spells, IsReader}
 use Rattle.qm_bytes.specs.Spelling.{byte}
 use Rattle.qm_bytes.proofs.Fields.{coded_reader, lies_between}
-use Rattle.qm_record.specs.Spelling.{job_kind_code, queue_kind_code, queue_state_code, queue_retain_code}
-use Rattle.qm_record.specs.Reading.{job_kind_of, queue_kind_of, queue_state_of, queue_retain_of, job_kind_at, queue_kind_at, queue_state_at, queue_retain_at}
+use Rattle.qm_record.specs.Spelling.{job_kind_code, queue_kind_code, queue_state_code, queue_retain_code, stop_mode_code}
+use Rattle.qm_record.specs.Reading.{job_kind_of, queue_kind_of, queue_state_of, queue_retain_of, stop_mode_of, job_kind_at, queue_kind_at, queue_state_at, queue_retain_at, stop_mode_at}
 
 job_kind_back : (b : ℕ) → between 1 2 b ≡ true → job_kind_code (job_kind_of b) ≡ b
 job_kind_back zero h = absurd (omega (arith, (lies_between 1 2 0 h).0))
@@ -100,3 +102,24 @@ queue_retain_passes keep.All = refl
 pub queue_retain_reader : IsReader (Spells (λ x. Unit {0}) (λ x. byte (queue_retain_code x))) queue_retain_at
 unfolding queue_retain_at
 queue_retain_reader = coded_reader (between 0 2) queue_retain_code queue_retain_of keep.Nothing (record { back = queue_retain_back; again = queue_retain_again; passes = queue_retain_passes })
+
+stop_mode_back : (b : ℕ) → between 1 3 b ≡ true → stop_mode_code (stop_mode_of b) ≡ b
+stop_mode_back zero h = absurd (omega (arith, (lies_between 1 3 0 h).0))
+stop_mode_back (suc zero) h = refl
+stop_mode_back (suc (suc zero)) h = refl
+stop_mode_back (suc (suc (suc zero))) h = refl
+stop_mode_back (suc (suc (suc (suc b)))) h = absurd (omega (arith, (lies_between 1 3 (suc (suc (suc (suc b)))) h).1))
+
+stop_mode_again : (x : StopMode) → stop_mode_of (stop_mode_code x) ≡ x
+stop_mode_again stop.Pause = refl
+stop_mode_again stop.Next = refl
+stop_mode_again stop.Reset = refl
+
+stop_mode_passes : (x : StopMode) → between 1 3 (stop_mode_code x) ≡ true
+stop_mode_passes stop.Pause = refl
+stop_mode_passes stop.Next = refl
+stop_mode_passes stop.Reset = refl
+
+pub stop_mode_reader : IsReader (Spells (λ x. Unit {0}) (λ x. byte (stop_mode_code x))) stop_mode_at
+unfolding stop_mode_at
+stop_mode_reader = coded_reader (between 1 3) stop_mode_code stop_mode_of stop.Pause (record { back = stop_mode_back; again = stop_mode_again; passes = stop_mode_passes })

@@ -1,16 +1,16 @@
 -- Each reader of a field reads the field's spelling.
-use Rattle.std.proofs.Common.{◌≡◌, ℕ, zero, suc, ◌^◌, ◌<◌, ◌≤◌, Bool, true, false, cond, eqb, List, [], ◌∷◌, refl, ◌∙◌, arith}
+use Rattle.std.proofs.Common.{◌≡◌, ℕ, zero, suc, ◌^◌, ◌<◌, ◌≤◌, Bool, true, false, cond, eqb, List, [], ◌∷◌, Option, None, Some, refl, ◌∙◌, arith}
 use Rattle.qm_kinds.specs.declared.request.NameOrNumber.{NameOrNumber}
 use Rattle.qm_kinds.specs.declared.request.NameOrNumber.TheVariants.{Name, Number}
 use Rattle.qm_kinds.specs.declared.entry.JobRetain.{JobRetain}
 use Rattle.qm_kinds.specs.declared.entry.JobRetain.TheVariants as retain
 use Rattle.qm_bytes.specs.Reading.{Reader, between, number_at}
 use Rattle.qm_bytes.specs.Laws.{Spells, IsReader}
-use Rattle.qm_bytes.specs.Spelling.{low_first, fields, byte, truth, optional, list, set, short_bytes, moment, IsName, IsMoment}
+use Rattle.qm_bytes.specs.Spelling.{low_first, fields, byte, truth, optional, list, set, short_bytes, moment, IsName, IsMoment, AllOf}
 use Rattle.qm_bytes.proofs.Readers.{Then, Made, Last, Passes, made, after, last, said, byte_reader}
 use Rattle.qm_bytes.proofs.Fields.{lies_between, passes_between, number_reader, truth_reader, optional_reader, list_reader, name_reader, set_reader, moment_reader}
-use Rattle.qm_record.specs.Spelling.{IsByte, queue_kind_code, queue_state_code, queue_retain_code, job_retain, name_or_number, node, shape, form, queue, RetainFits, NameOrNumberFits, NodeFits, ShapeFits, FormFits, QueueFits}
-use Rattle.qm_record.specs.Reading.{byte_at, plain_retain_of, job_retain_at, name_or_number_at, node_at, shape_at, form_at, queue_at}
+use Rattle.qm_record.specs.Spelling.{IsByte, queue_kind_code, queue_state_code, queue_retain_code, job_retain, name_or_number, node, shape, form, queue, queue_retain, limits, queue_change, new_queue, RetainFits, NameOrNumberFits, NodeFits, ShapeFits, FormFits, QueueFits, LimitsFit, ChangeFits, NewQueueFits}
+use Rattle.qm_record.specs.Reading.{byte_at, plain_retain_of, job_retain_at, name_or_number_at, node_at, shape_at, form_at, queue_at, queue_retain_at, limits_at, change_at, new_queue_at}
 use Rattle.qm_record.proofs.Codes.{queue_kind_reader, queue_state_reader, queue_retain_reader}
 
 -- ---- numbers
@@ -114,3 +114,34 @@ queue_reader =
     said (after name_reader (λ name name_fits. after queue_kind_reader (λ kind kind_fits. after queue_state_reader (λ state state_fits. after (optional_reader name_reader) (λ node_name node_name_fits. after (optional_reader name_reader) (λ device device_fits. after one_byte_reader (λ limit limit_fits. after set_reader (λ characteristics characteristics_fits. after (optional_reader name_reader) (λ mounted mounted_fits. after u32_reader (λ lower lower_fits. after u32_reader (λ upper upper_fits. after truth_reader (λ by_size by_size_fits. after queue_retain_reader (λ retain_value retain_value_fits. after (list_reader name_reader) (λ targets targets_fits. made (record { name = name; kind = kind; state = state; node = node_name; device = device; limit = limit; characteristics = characteristics; mounted = mounted; lower = lower; upper = upper; by_size = by_size; retain = retain_value; targets = targets })))))))))))))))
     (λ x text h. rw h.next.next.next.next.next.next.next.next.next.next.next.next.next.same (record { fits = record { name_fits = h.fits; node_fits = h.next.next.next.fits; device_fits = h.next.next.next.next.fits; limit_fits = h.next.next.next.next.next.fits; characteristics_fit = h.next.next.next.next.next.next.fits; mounted_fits = h.next.next.next.next.next.next.next.fits; lower_fits = h.next.next.next.next.next.next.next.next.fits; upper_fits = h.next.next.next.next.next.next.next.next.next.fits; targets_fit = h.next.next.next.next.next.next.next.next.next.next.next.next.fits }; is = rw (h.parts, h.next.parts, h.next.next.parts, h.next.next.next.parts, h.next.next.next.next.parts, h.next.next.next.next.next.parts, h.next.next.next.next.next.next.parts, h.next.next.next.next.next.next.next.parts, h.next.next.next.next.next.next.next.next.parts, h.next.next.next.next.next.next.next.next.next.parts, h.next.next.next.next.next.next.next.next.next.next.parts, h.next.next.next.next.next.next.next.next.next.next.next.parts, h.next.next.next.next.next.next.next.next.next.next.next.next.parts, h.next.next.next.next.next.next.next.next.next.next.next.next.next.nothing) refl }))
     (λ x text s. record { first = x.name; fits = s.fits.name_fits; others = fields (byte (queue_kind_code x.kind) ∷ byte (queue_state_code x.state) ∷ optional short_bytes x.node ∷ optional short_bytes x.device ∷ byte x.limit ∷ set x.characteristics ∷ optional short_bytes x.mounted ∷ low_first 4 x.lower ∷ low_first 4 x.upper ∷ truth x.by_size ∷ byte (queue_retain_code x.retain) ∷ list short_bytes x.targets ∷ []); next = record { first = x.kind; fits = tt; others = fields (byte (queue_state_code x.state) ∷ optional short_bytes x.node ∷ optional short_bytes x.device ∷ byte x.limit ∷ set x.characteristics ∷ optional short_bytes x.mounted ∷ low_first 4 x.lower ∷ low_first 4 x.upper ∷ truth x.by_size ∷ byte (queue_retain_code x.retain) ∷ list short_bytes x.targets ∷ []); next = record { first = x.state; fits = tt; others = fields (optional short_bytes x.node ∷ optional short_bytes x.device ∷ byte x.limit ∷ set x.characteristics ∷ optional short_bytes x.mounted ∷ low_first 4 x.lower ∷ low_first 4 x.upper ∷ truth x.by_size ∷ byte (queue_retain_code x.retain) ∷ list short_bytes x.targets ∷ []); next = record { first = x.node; fits = s.fits.node_fits; others = fields (optional short_bytes x.device ∷ byte x.limit ∷ set x.characteristics ∷ optional short_bytes x.mounted ∷ low_first 4 x.lower ∷ low_first 4 x.upper ∷ truth x.by_size ∷ byte (queue_retain_code x.retain) ∷ list short_bytes x.targets ∷ []); next = record { first = x.device; fits = s.fits.device_fits; others = fields (byte x.limit ∷ set x.characteristics ∷ optional short_bytes x.mounted ∷ low_first 4 x.lower ∷ low_first 4 x.upper ∷ truth x.by_size ∷ byte (queue_retain_code x.retain) ∷ list short_bytes x.targets ∷ []); next = record { first = x.limit; fits = s.fits.limit_fits; others = fields (set x.characteristics ∷ optional short_bytes x.mounted ∷ low_first 4 x.lower ∷ low_first 4 x.upper ∷ truth x.by_size ∷ byte (queue_retain_code x.retain) ∷ list short_bytes x.targets ∷ []); next = record { first = x.characteristics; fits = s.fits.characteristics_fit; others = fields (optional short_bytes x.mounted ∷ low_first 4 x.lower ∷ low_first 4 x.upper ∷ truth x.by_size ∷ byte (queue_retain_code x.retain) ∷ list short_bytes x.targets ∷ []); next = record { first = x.mounted; fits = s.fits.mounted_fits; others = fields (low_first 4 x.lower ∷ low_first 4 x.upper ∷ truth x.by_size ∷ byte (queue_retain_code x.retain) ∷ list short_bytes x.targets ∷ []); next = record { first = x.lower; fits = s.fits.lower_fits; others = fields (low_first 4 x.upper ∷ truth x.by_size ∷ byte (queue_retain_code x.retain) ∷ list short_bytes x.targets ∷ []); next = record { first = x.upper; fits = s.fits.upper_fits; others = fields (truth x.by_size ∷ byte (queue_retain_code x.retain) ∷ list short_bytes x.targets ∷ []); next = record { first = x.by_size; fits = tt; others = fields (byte (queue_retain_code x.retain) ∷ list short_bytes x.targets ∷ []); next = record { first = x.retain; fits = tt; others = fields (list short_bytes x.targets ∷ []); next = record { first = x.targets; fits = s.fits.targets_fit; others = []; next = record { same = refl; nothing = refl }; parts = refl }; parts = refl }; parts = refl }; parts = refl }; parts = refl }; parts = refl }; parts = refl }; parts = refl }; parts = refl }; parts = refl }; parts = refl }; parts = refl }; parts = s.is })
+
+-- ---- settings of queues
+
+pub limits_reader : IsReader (Spells LimitsFit limits) limits_at
+unfolding limits_at
+limits_reader =
+    said (after u32_reader (λ lower lower_fits. last u32_reader))
+    (λ l text h. rw h.next.same (record { fits = (h.fits, h.next.fits); is = h.parts ∙ rw h.next.parts refl }))
+    (λ l text s. record { first = l.0; fits = s.fits.0; others = low_first 4 l.1; next = record { first = l.1; fits = s.fits.1; same = refl; parts = refl }; parts = s.is })
+
+retain_reader : IsReader (Spells (λ x. Unit {0}) queue_retain) queue_retain_at
+retain_reader = queue_retain_reader
+
+-- each value fits where nothing is asked
+anything : {A : Type 0} (x : Option A) → AllOf (λ y. Unit {0}) x
+anything None = tt
+anything (Some x) = tt
+
+pub change_reader : IsReader (Spells ChangeFits queue_change) change_at
+unfolding change_at
+change_reader =
+    said (after (optional_reader one_byte_reader) (λ limit limit_fits. after (optional_reader (list_reader name_or_number_reader)) (λ characteristics characteristics_fits. after (optional_reader name_or_number_reader) (λ form_wanted form_wanted_fits. after (optional_reader limits_reader) (λ blocks blocks_fits. after (optional_reader truth_reader) (λ by_size by_size_fits. after (optional_reader retain_reader) (λ retain_wanted retain_wanted_fits. made (record { limit = limit; characteristics = characteristics; form = form_wanted; blocks = blocks; by_size = by_size; retain = retain_wanted }))))))))
+    (λ c text h. rw h.next.next.next.next.next.next.same (record { fits = record { limit_fits = h.fits; characteristics_fit = h.next.fits; form_fits = h.next.next.fits; blocks_fit = h.next.next.next.fits }; is = rw (h.parts, h.next.parts, h.next.next.parts, h.next.next.next.parts, h.next.next.next.next.parts, h.next.next.next.next.next.parts, h.next.next.next.next.next.next.nothing) refl }))
+    (λ c text s. record { first = c.limit; fits = s.fits.limit_fits; others = fields (optional (list name_or_number) c.characteristics ∷ optional name_or_number c.form ∷ optional limits c.blocks ∷ optional truth c.by_size ∷ optional queue_retain c.retain ∷ []); next = record { first = c.characteristics; fits = s.fits.characteristics_fit; others = fields (optional name_or_number c.form ∷ optional limits c.blocks ∷ optional truth c.by_size ∷ optional queue_retain c.retain ∷ []); next = record { first = c.form; fits = s.fits.form_fits; others = fields (optional limits c.blocks ∷ optional truth c.by_size ∷ optional queue_retain c.retain ∷ []); next = record { first = c.blocks; fits = s.fits.blocks_fit; others = fields (optional truth c.by_size ∷ optional queue_retain c.retain ∷ []); next = record { first = c.by_size; fits = anything c.by_size; others = fields (optional queue_retain c.retain ∷ []); next = record { first = c.retain; fits = anything c.retain; others = []; next = record { same = refl; nothing = refl }; parts = refl }; parts = refl }; parts = refl }; parts = refl }; parts = refl }; parts = s.is })
+
+pub new_queue_reader : IsReader (Spells NewQueueFits new_queue) new_queue_at
+unfolding new_queue_at
+new_queue_reader =
+    said (after name_reader (λ name name_fits. after queue_kind_reader (λ kind kind_fits. after (optional_reader name_reader) (λ node_name node_name_fits. after (optional_reader name_reader) (λ device device_fits. after (list_reader name_reader) (λ targets targets_fits. after change_reader (λ change change_fits. after truth_reader (λ start start_fits. made (record { name = name; kind = kind; node = node_name; device = device; targets = targets; change = change; start = start })))))))))
+    (λ n text h. rw h.next.next.next.next.next.next.next.same (record { fits = record { name_fits = h.fits; node_fits = h.next.next.fits; device_fits = h.next.next.next.fits; targets_fit = h.next.next.next.next.fits; change_fits = h.next.next.next.next.next.fits }; is = rw (h.parts, h.next.parts, h.next.next.parts, h.next.next.next.parts, h.next.next.next.next.parts, h.next.next.next.next.next.parts, h.next.next.next.next.next.next.parts, h.next.next.next.next.next.next.next.nothing) refl }))
+    (λ n text s. record { first = n.name; fits = s.fits.name_fits; others = fields (byte (queue_kind_code n.kind) ∷ optional short_bytes n.node ∷ optional short_bytes n.device ∷ list short_bytes n.targets ∷ queue_change n.change ∷ truth n.start ∷ []); next = record { first = n.kind; fits = tt; others = fields (optional short_bytes n.node ∷ optional short_bytes n.device ∷ list short_bytes n.targets ∷ queue_change n.change ∷ truth n.start ∷ []); next = record { first = n.node; fits = s.fits.node_fits; others = fields (optional short_bytes n.device ∷ list short_bytes n.targets ∷ queue_change n.change ∷ truth n.start ∷ []); next = record { first = n.device; fits = s.fits.device_fits; others = fields (list short_bytes n.targets ∷ queue_change n.change ∷ truth n.start ∷ []); next = record { first = n.targets; fits = s.fits.targets_fit; others = fields (queue_change n.change ∷ truth n.start ∷ []); next = record { first = n.change; fits = s.fits.change_fits; others = fields (truth n.start ∷ []); next = record { first = n.start; fits = tt; others = []; next = record { same = refl; nothing = refl }; parts = refl }; parts = refl }; parts = refl }; parts = refl }; parts = refl }; parts = refl }; parts = s.is })

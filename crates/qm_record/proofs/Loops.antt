@@ -1,9 +1,11 @@
 -- Elements one after the other, as loops read and write them.
-use Rattle.std.proofs.Common.{◌≡◌, ℕ, suc, ◌-◌, ◌+◌, ◌≤◌, ◌<◌, List, [], ◌∷◌, ◌++◌, length, take, get_or, Result, Ok, Err, refl, sym, ap, ◌∙◌, append_assoc, arith}
+use Rattle.std.proofs.Common.{◌≡◌, ℕ, suc, ◌-◌, ◌+◌, ◌≤◌, ◌<◌, List, [], ◌∷◌, ◌++◌, length, take, get_or, Option, None, Some, Result, Ok, Err, refl, sym, ap, ◌∙◌, append_assoc, arith}
 use Rattle.std.specs.List.{AllByRecursion}
 use Rattle.std.proofs.lemmas.List.{append-nil, take_more}
 use Rattle.qm_bytes.specs.Reading.{Reader, onward, pure, repeat_at, IsThere, GivesKept}
 use Rattle.qm_bytes.specs.Spelling.{each}
+use Rattle.qm_record.specs.declared.kind.RecordKind.{RecordKind}
+use Rattle.qm_record.specs.Spelling.{front as front_text, fields_in, text_of}
 
 -- what was read before, and what is still read
 abbrev pub with_front : {A : Type 0} → List A → Result (List A × List ℕ) ℕ → Result (List A × List ℕ) ℕ
@@ -94,3 +96,13 @@ finish old text e = e ∙ ap (λ (x : List ℕ). old ++ x) (sym (append-nil text
 
 pub before : (older text rest : List ℕ) {old final : List ℕ} → old ≡ older ++ text → final ≡ old ++ rest → final ≡ older ++ (text ++ rest)
 before older text rest e f = f ∙ ap (λ (x : List ℕ). x ++ rest) e ∙ append_assoc older text rest
+
+kind_in : RecordKind → Option (RecordKind × List ℕ) → RecordKind
+kind_in k None = k
+kind_in k (Some parts) = parts.0
+
+-- what stands before the fields, and they, are the text
+pub parts_text : (m n : ℕ) (k : RecordKind) (o : Option (RecordKind × List ℕ)) → o ≡ Some (k, fields_in o) → front_text k m n ++ fields_in o ≡ text_of m n o
+unfolding kind_in
+parts_text m n k None e = absurd cc
+parts_text m n k (Some (other, text)) e = let same : other ≡ k = ap (kind_in k) e in rw same refl

@@ -1,9 +1,11 @@
 -- Records: what is read is spelled so, what is spelled so is read, and a fault is the first one.
 use Rattle.std.proofs.Common.{◌≡◌, ℕ, suc, ◌+◌, ◌-◌, ◌^◌, ◌<◌, ◌≤◌, Bool, true, false, cond, eqb, List, [], ◌∷◌, ◌++◌, length, take, Option, None, Some, Result, Ok, Err, refl, sym, ap, subst, ◌∙◌, append_assoc, arith, lit<}
+use Rattle.std.specs.Prelude.{IfOk}
 use Rattle.std.proofs.lemmas.List.{append-nil, take_at, length-append}
 use Rattle.std.proofs.lemmas.Bool.Decides.{nat_tests}
 use Rattle.qm_kinds.specs.declared.moment.TheConstants.{LAST_MOMENT}
-use Rattle.qm_bytes.specs.Reading.{between}
+use Rattle.qm_bytes.specs.declared.fault.BadField.{BadField}
+use Rattle.qm_bytes.specs.Reading.{Reader, ◌>>=◌, pure, between, GivesKept}
 use Rattle.qm_bytes.specs.Laws.{Spells, IsReader}
 use Rattle.qm_bytes.specs.Spelling.{low_first, moment}
 use Rattle.qm_bytes.proofs.Readers.{after, last, said, byte_reader, same_value, same_rest, found}
@@ -11,14 +13,14 @@ use Rattle.qm_bytes.proofs.Fields.{lies_between, passes_between, number_up_to_re
 use Rattle.qm_kinds.specs.declared.record.Record.{Record}
 use Rattle.qm_kinds.specs.declared.record.Body.{Body}
 use Rattle.qm_record.specs.declared.fault.RecordFault.{RecordFault}
-use Rattle.qm_record.specs.declared.fault.RecordFault.TheVariants.{Bad}
+use Rattle.qm_record.specs.declared.fault.RecordFault.TheVariants.{Bad, NoMemory}
 use Rattle.qm_record.specs.declared.kind.RecordKind.{RecordKind}
 use Rattle.qm_record.specs.declared.kind.RecordKind.TheVariants.{Tick}
 use Rattle.qm_record.specs.Kinds.{number_of, is_row_kind}
-use Rattle.qm_record.specs.Spelling.{body_parts, text_of, record_text, HasSpelling}
-use Rattle.qm_record.specs.Reading.{record_at, last_moment, last_node, ended, whole_at, TellsWhole}
-use Rattle.qm_record.specs.Faults.{Begins, IsFirstFault, IsRecord}
-use Rattle.qm_record.proofs.Bodies.{BodyFor, fields_in, body_reader, has_parts, row_by_kind}
+use Rattle.qm_record.specs.Spelling.{body_parts, fields_in, text_of, record_text, HasSpelling}
+use Rattle.qm_record.specs.Reading.{record_at, body_at, last_moment, last_node, ended, whole_at, left_by, TellsWhole}
+use Rattle.qm_record.specs.Faults.{Begins, IsFirstFault, IsRecord, IsRead}
+use Rattle.qm_record.proofs.Bodies.{BodyFor, body_reader, has_parts, row_by_kind}
 use Rattle.qm_record.proofs.Numbers.{kind_reader}
 
 limit_fits : (row : Bool) → cond row 0 LAST_MOMENT < 256 ^ 8
@@ -237,15 +239,85 @@ bad place = Err (Bad place)
 same_place : (m n : ℕ) → bad m ≡ bad n → m ≡ n
 same_place m n e = cc
 
-pub first_told : (bytes : List ℕ) (left : ℕ) → whole_at bytes ≡ Err left → (place : ℕ) → bad (length bytes - left) ≡ bad place → IsFirstFault bytes place
-first_told bytes left read place told = subst (λ n. IsFirstFault bytes n) (same_place (length bytes - left) place told) (fault_is_first bytes left read).1
+-- what is told of the whole, once a body was read behind its front
 
--- what is told where the whole was read, and kept or not
+-- the body of this kind, behind this moment and this node
+abbrev pub behind : ℕ → ℕ → RecordKind → Reader Record
+behind m n k = body_at k >>= λ b. pure (record_of m n b)
 
-pub told_read : {E : Type 0} (whole : Result Record E) (r : Record) (read : Result Record ℕ) → whole ≡ Ok r → TellsWhole (Ok whole) read → read ≡ Ok r
-told_read (Ok other) r read is told = let same : other ≡ r = cc in told ∙ ap done same
-told_read (Err e) r read is told = absurd cc
+pub whole_stops : (bytes : List ℕ) (left : ℕ) → record_at bytes ≡ Err left → whole_at bytes ≡ Err left
+unfolding whole_at
+whole_stops bytes left e = rw e refl
 
-pub told_there : {E : Type 0} (whole : Result Record E) (e : E) (bytes : List ℕ) → whole ≡ Err e → TellsWhole (Ok whole) (whole_at bytes) → IsRecord bytes
-told_there (Ok other) e bytes is told = absurd cc
-told_there (Err other) e bytes is told = record { value = told.0; spells = read_is_spelled bytes told.0 told.1 }
+abbrev number_left : ℕ → Option ℕ
+number_left n = Some n
+
+same_number : (m n : ℕ) → number_left m ≡ number_left n → m ≡ n
+same_number m n e = cc
+
+-- what is left behind a record that was read
+ended_before : (r : Record) (rest : List ℕ) (left : ℕ) → cond (eqb (length rest) 0) None (Some (length rest)) ≡ Some left → ended (Ok (r, rest)) ≡ Err left
+ended_before r [] left h = absurd cc
+ended_before r (b ∷ bs) left h =
+    let e : number_left (suc (length bs)) ≡ number_left left = rw (more_than_none (length bs)) at h in
+    rw (more_than_none (length bs)) (ap failed (same_number (suc (length bs)) left e))
+
+ended_there : (r : Record) (rest : List ℕ) → cond (eqb (length rest) 0) None (Some (length rest)) ≡ None → ended (Ok (r, rest)) ≡ Ok r
+ended_there r [] h = refl
+ended_there r (b ∷ bs) h =
+    let e : number_left (suc (length bs)) ≡ None = rw (more_than_none (length bs)) at h in
+    absurd cc
+
+-- a value, or some value
+made_behind : (m n : ℕ) (k : RecordKind) (middle rest : List ℕ) (b : Body) → body_at k middle ≡ Ok (b, rest) → behind m n k middle ≡ Ok (record_of m n b, rest)
+made_behind m n k middle rest b e = rw e refl
+
+pub whole_left : {E : Type 0} (bytes middle rest : List ℕ) (m n : ℕ) (k : RecordKind) (read : Result (Result Body E) BadField) (left : ℕ) → record_at bytes ≡ behind m n k middle → GivesKept read rest (body_at k middle)
+    → left_by read rest ≡ Some left → whole_at bytes ≡ Err left
+unfolding whole_at
+whole_left bytes middle rest m n k (Ok (Ok b)) left e g h = rw (e, g) (ended_before (record_of m n b) rest left h)
+whole_left bytes middle rest m n k (Ok (Err no_memory)) left e g h = rw (e, g.1) (ended_before (record_of m n g.0) rest left h)
+whole_left bytes middle rest m n k (Err fault) left e g h = rw (e, g) (ap failed (same_number fault.left left h))
+
+pub whole_kept : {E : Type 0} (bytes middle rest : List ℕ) (m n : ℕ) (k : RecordKind) (b : Body) (read : Result (Result Body E) BadField) → record_at bytes ≡ behind m n k middle → GivesKept read rest (body_at k middle)
+    → left_by read rest ≡ None → read ≡ Ok (Ok b) → whole_at bytes ≡ Ok (record_of m n b)
+unfolding whole_at
+whole_kept bytes middle rest m n k b (Ok (Ok other)) e g h is = let same : other ≡ b = cc in rw (e, g) (ended_there (record_of m n other) rest h ∙ ap (λ x. done (record_of m n x)) same)
+whole_kept bytes middle rest m n k b (Ok (Err no_memory)) e g h is = absurd cc
+whole_kept bytes middle rest m n k b (Err fault) e g h is = absurd cc
+
+pub whole_lost : {E : Type 0} (bytes middle rest : List ℕ) (m n : ℕ) (k : RecordKind) (read : Result (Result Body E) BadField) → record_at bytes ≡ behind m n k middle → GivesKept read rest (body_at k middle)
+    → left_by read rest ≡ None → (r : Record) × (whole_at bytes ≡ Ok r)
+unfolding whole_at
+whole_lost bytes middle rest m n k (Ok (Ok b)) e g h = (record_of m n b, rw (e, g) (ended_there (record_of m n b) rest h))
+whole_lost bytes middle rest m n k (Ok (Err no_memory)) e g h = (record_of m n g.0, rw (e, g.1) (ended_there (record_of m n g.0) rest h))
+whole_lost bytes middle rest m n k (Err fault) e g h = absurd cc
+
+-- a fault at its place
+
+pub left_is_within : (bytes : List ℕ) (left : ℕ) → whole_at bytes ≡ Err left → left ≤ length bytes
+left_is_within bytes left e = (fault_is_first bytes left e).0
+
+pub bad_told : (fault : RecordFault) (bytes : List ℕ) (left : ℕ) → fault ≡ Bad (length bytes - left) → whole_at bytes ≡ Err left → TellsWhole (Err fault) bytes (whole_at bytes)
+bad_told fault bytes left is e = rw is (left, e, refl)
+
+-- what is told of a record
+
+pub found_told : (result : Result Record RecordFault) (bytes : List ℕ) → TellsWhole result bytes (whole_at bytes) → IfOk result (λ r. Spells HasSpelling record_text r bytes)
+found_told (Ok r) bytes told = read_is_spelled bytes r told
+found_told (Err fault) bytes told = tt
+
+pub only_told : (result : Result Record RecordFault) (bytes : List ℕ) → TellsWhole result bytes (whole_at bytes) → (r : Record) → HasSpelling r → bytes ≡ record_text r → IsRead r result
+only_told (Ok x) bytes told r fits is = only_one bytes x r told fits is
+only_told (Err (Bad place)) bytes told r fits is = none_spelled bytes told.0 r told.1 fits is
+only_told (Err NoMemory) bytes told r fits is = tt
+
+pub first_told : (result : Result Record RecordFault) (bytes : List ℕ) → TellsWhole result bytes (whole_at bytes) → (place : ℕ) → result ≡ bad place → IsFirstFault bytes place
+first_told (Ok r) bytes told place is = absurd cc
+first_told (Err (Bad other)) bytes told place is = subst (λ n. IsFirstFault bytes n) (sym told.2 ∙ same_place other place is) (fault_is_first bytes told.0 told.1).1
+first_told (Err NoMemory) bytes told place is = absurd cc
+
+pub there_told : (result : Result Record RecordFault) (bytes : List ℕ) → TellsWhole result bytes (whole_at bytes) → result ≡ Err NoMemory → IsRecord bytes
+there_told (Ok r) bytes told is = absurd cc
+there_told (Err (Bad place)) bytes told is = absurd cc
+there_told (Err NoMemory) bytes told is = record { value = told.0; spells = read_is_spelled bytes told.0 told.1 }

@@ -1,12 +1,21 @@
 -- The kinds of records and their numbers.
 use Rattle.std.specs.Prelude.{ℕ, ◌==◌, Bool, true, false, if◌then◌else◌, Option, None, Some}
 use Rattle.qm_record.specs.declared.kind.RecordKind.{RecordKind}
-use Rattle.qm_record.specs.declared.kind.RecordKind.TheVariants.{Append, Submit, Tick, Head, Form, Queue}
+use Rattle.qm_record.specs.declared.kind.RecordKind.TheVariants.{Append, InitializeQueue, SetQueue, StartQueue, StopQueue, AbortJob, DeleteQueue, Submit, DeleteEntry, Mark, Done, Tick, Head, Form, Queue}
 
 -- the number of each kind: of requests up to 32, of the rows of an image from 33 on
 abbrev pub number_of : RecordKind → ℕ
 number_of Append = 1
+number_of InitializeQueue = 8
+number_of SetQueue = 9
+number_of StartQueue = 10
+number_of StopQueue = 11
+number_of AbortJob = 12
+number_of DeleteQueue = 13
 number_of Submit = 15
+number_of DeleteEntry = 17
+number_of Mark = 18
+number_of Done = 19
 number_of Tick = 20
 number_of Head = 33
 number_of Form = 34
@@ -16,7 +25,16 @@ number_of Queue = 37
 abbrev pub kind_of : ℕ → Option RecordKind
 kind_of n =
     if n == 1 then Some Append else
+    if n == 8 then Some InitializeQueue else
+    if n == 9 then Some SetQueue else
+    if n == 10 then Some StartQueue else
+    if n == 11 then Some StopQueue else
+    if n == 12 then Some AbortJob else
+    if n == 13 then Some DeleteQueue else
     if n == 15 then Some Submit else
+    if n == 17 then Some DeleteEntry else
+    if n == 18 then Some Mark else
+    if n == 19 then Some Done else
     if n == 20 then Some Tick else
     if n == 33 then Some Head else
     if n == 34 then Some Form else
@@ -26,7 +44,16 @@ kind_of n =
 -- the rows of an image
 abbrev pub is_row_kind : RecordKind → Bool
 is_row_kind Append = false
+is_row_kind InitializeQueue = false
+is_row_kind SetQueue = false
+is_row_kind StartQueue = false
+is_row_kind StopQueue = false
+is_row_kind AbortJob = false
+is_row_kind DeleteQueue = false
 is_row_kind Submit = false
+is_row_kind DeleteEntry = false
+is_row_kind Mark = false
+is_row_kind Done = false
 is_row_kind Tick = false
 is_row_kind Head = true
 is_row_kind Form = true

@@ -1,5 +1,5 @@
 -- Reading records.
-use Rattle.std.specs.Prelude.{◌≡◌, ℕ, suc, ◌==◌, if◌then◌else◌, List, [], ◌∷◌, length, Option, None, Some, Result, Ok, Err}
+use Rattle.std.specs.Prelude.{◌≡◌, ℕ, suc, ◌-◌, ◌==◌, if◌then◌else◌, List, [], ◌∷◌, length, Option, None, Some, Result, Ok, Err}
 use Rattle.qm_kinds.specs.declared.request.Request.TheVariants as ask
 use Rattle.qm_kinds.specs.declared.request.Job.{Job}
 use Rattle.qm_kinds.specs.declared.request.NameOrNumber.{NameOrNumber}
@@ -15,17 +15,24 @@ use Rattle.qm_kinds.specs.declared.queue.QueueState.TheVariants as state
 use Rattle.qm_kinds.specs.declared.queue.QueueRetain.{QueueRetain}
 use Rattle.qm_kinds.specs.declared.queue.QueueRetain.TheVariants as keep
 use Rattle.qm_kinds.specs.declared.queue.Queue.{Queue}
+use Rattle.qm_kinds.specs.declared.queue.QueueChange.{QueueChange}
+use Rattle.qm_kinds.specs.declared.queue.NewQueue.{NewQueue}
+use Rattle.qm_kinds.specs.declared.request.StopMode.{StopMode}
+use Rattle.qm_kinds.specs.declared.request.StopMode.TheVariants as stop
 use Rattle.qm_kinds.specs.declared.form.Form.{Form}
 use Rattle.qm_kinds.specs.declared.form.Shape.{Shape}
 use Rattle.qm_kinds.specs.declared.system.Node.{Node}
 use Rattle.qm_kinds.specs.declared.moment.TheConstants.{LAST_MOMENT}
 use Rattle.qm_bytes.specs.declared.fault.BadField.{BadField}
-use Rattle.qm_bytes.specs.Reading.{Reader, IsThere, ◌>>=◌, pure, byte_where, between, number_at, number_up_to, truth_at, optional_at, list_at, name_at, file_name_at, long_bytes_at, set_at, moment_at}
+use Rattle.qm_bytes.specs.Reading.{Reader, IsThere, ◌>>=◌, pure, byte_where, between, number_at, number_up_to, truth_at, optional_at, list_at, name_at, file_name_at, long_bytes_at, mark_at, set_at, moment_at}
 use Rattle.qm_kinds.specs.declared.record.Record.{Record}
 use Rattle.qm_kinds.specs.declared.record.Body.{Body}
 use Rattle.qm_kinds.specs.declared.record.Body.TheVariants as body
 use Rattle.qm_record.specs.declared.kind.RecordKind.{RecordKind}
 use Rattle.qm_record.specs.declared.kind.RecordKind.TheVariants as record_kind
+use Rattle.qm_record.specs.declared.fault.RecordFault.{RecordFault}
+use Rattle.qm_record.specs.declared.fault.RecordFault.TheVariants.{Bad, NoMemory}
+use Rattle.qm_record.specs.declared.reading.Front.{Front}
 use Rattle.qm_record.specs.Kinds.{kind_of, is_row_kind}
 
 abbrev pub byte_at : Reader ℕ
@@ -53,6 +60,9 @@ queue_retain_of n = if n == 0 then keep.Nothing else if n == 1 then keep.Failed 
 abbrev pub plain_retain_of : ℕ → JobRetain
 plain_retain_of n = if n == 0 then retain.Default else if n == 1 then retain.Always else retain.Failed
 
+abbrev pub stop_mode_of : ℕ → StopMode
+stop_mode_of n = if n == 1 then stop.Pause else if n == 2 then stop.Next else stop.Reset
+
 unfoldable pub job_kind_at : Reader JobKind
 job_kind_at = byte_where (between 1 2) >>= λ n. pure (job_kind_of n)
 
@@ -64,6 +74,9 @@ queue_state_at = byte_where (between 1 4) >>= λ n. pure (queue_state_of n)
 
 unfoldable pub queue_retain_at : Reader QueueRetain
 queue_retain_at = byte_where (between 0 2) >>= λ n. pure (queue_retain_of n)
+
+unfoldable pub stop_mode_at : Reader StopMode
+stop_mode_at = byte_where (between 1 3) >>= λ n. pure (stop_mode_of n)
 
 -- ---- fields
 
@@ -101,6 +114,33 @@ form_at = do
   stock ← name_at
   shape ← shape_at
   pure (record { name = name; number = number; stock = stock; shape = shape })
+
+unfoldable pub limits_at : Reader (ℕ × ℕ)
+limits_at = do
+  lower ← number_at 4
+  upper ← number_at 4
+  pure (lower, upper)
+
+unfoldable pub change_at : Reader QueueChange
+change_at = do
+  limit ← optional_at byte_at
+  characteristics ← optional_at (list_at name_or_number_at)
+  form ← optional_at name_or_number_at
+  blocks ← optional_at limits_at
+  by_size ← optional_at truth_at
+  retain ← optional_at queue_retain_at
+  pure (record { limit = limit; characteristics = characteristics; form = form; blocks = blocks; by_size = by_size; retain = retain })
+
+unfoldable pub new_queue_at : Reader NewQueue
+new_queue_at = do
+  name ← name_at
+  kind ← queue_kind_at
+  node ← optional_at name_at
+  device ← optional_at name_at
+  targets ← list_at name_at
+  change ← change_at
+  start ← truth_at
+  pure (record { name = name; kind = kind; node = node; device = device; targets = targets; change = change; start = start })
 
 unfoldable pub queue_at : Reader Queue
 queue_at = do
@@ -154,6 +194,55 @@ job_at = do
   flag ← truth_at
   pure (record { user = user; kind = kind; queue = queue; file = file; name = name; priority = priority; after = after; hold = hold; retain = retain; restart = restart; characteristics = characteristics; form = form; copies = copies; flag = flag })
 
+unfoldable pub submit_at : Reader Body
+submit_at = job_at >>= λ j. pure (body.Ask (ask.Submit j))
+
+unfoldable pub initialize_at : Reader Body
+initialize_at = new_queue_at >>= λ n. pure (body.Ask (ask.InitializeQueue n))
+
+unfoldable pub set_queue_at : Reader Body
+set_queue_at = do
+  name ← name_at
+  change ← change_at
+  pure (body.Ask (ask.SetQueue name change))
+
+unfoldable pub start_queue_at : Reader Body
+start_queue_at = do
+  name ← name_at
+  change ← change_at
+  pure (body.Ask (ask.StartQueue name change))
+
+unfoldable pub stop_queue_at : Reader Body
+stop_queue_at = do
+  name ← name_at
+  how ← stop_mode_at
+  pure (body.Ask (ask.StopQueue name how))
+
+unfoldable pub abort_job_at : Reader Body
+abort_job_at = do
+  queue ← name_at
+  entry ← optional_at (number_at 4)
+  requeue ← truth_at
+  pure (body.Ask (ask.AbortJob queue entry requeue))
+
+unfoldable pub delete_queue_at : Reader Body
+delete_queue_at = name_at >>= λ name. pure (body.Ask (ask.DeleteQueue name))
+
+unfoldable pub delete_entry_at : Reader Body
+delete_entry_at = number_at 4 >>= λ entry. pure (body.Ask (ask.DeleteEntry entry))
+
+unfoldable pub run_mark_at : Reader Body
+run_mark_at = do
+  run ← number_at 8
+  value ← mark_at
+  pure (body.Ask (ask.Mark run value))
+
+unfoldable pub done_at : Reader Body
+done_at = do
+  run ← number_at 8
+  status ← number_at 4
+  pure (body.Ask (ask.Done run status))
+
 unfoldable pub head_at : Reader Body
 head_at = do
   nodes ← list_at node_at
@@ -166,7 +255,16 @@ head_at = do
 -- the fields of a record of each kind
 unfoldable pub body_at : RecordKind → Reader Body
 body_at record_kind.Append = append_at
-body_at record_kind.Submit = job_at >>= λ j. pure (body.Ask (ask.Submit j))
+body_at record_kind.InitializeQueue = initialize_at
+body_at record_kind.SetQueue = set_queue_at
+body_at record_kind.StartQueue = start_queue_at
+body_at record_kind.StopQueue = stop_queue_at
+body_at record_kind.AbortJob = abort_job_at
+body_at record_kind.DeleteQueue = delete_queue_at
+body_at record_kind.Submit = submit_at
+body_at record_kind.DeleteEntry = delete_entry_at
+body_at record_kind.Mark = run_mark_at
+body_at record_kind.Done = done_at
 body_at record_kind.Tick = pure (body.Ask ask.Tick)
 body_at record_kind.Head = head_at
 body_at record_kind.Form = form_at >>= λ f. pure (body.Form f)
@@ -196,8 +294,18 @@ ended (Err left) = Err left
 unfoldable pub whole_at : List ℕ → Result Record ℕ
 whole_at bytes = ended (record_at bytes)
 
--- What a function returned is what reading the whole gives. Where memory ran out there is a record.
-abbrev pub TellsWhole : {E : Type 0} → Result (Result Record E) BadField → Result Record ℕ → Type 0
-TellsWhole (Ok (Ok r)) read = read ≡ Ok r
-TellsWhole (Ok (Err no_memory)) read = (r : Record) × (read ≡ Ok r)
-TellsWhole (Err fault) read = read ≡ Err fault.left
+-- What stands in front was read, and what is left is the body of this kind; or reading stopped.
+abbrev pub GivesFront : Result Front BadField → List ℕ → Result (Record × List ℕ) ℕ → Type 0
+GivesFront (Ok front) rest read = read ≡ (body_at front.kind >>= λ b. pure (record { moment = front.moment; node = front.node; body = b })) rest
+GivesFront (Err fault) rest read = read ≡ Err fault.left
+
+-- How many bytes are left where no record goes on, once a body was read: none where nothing stands behind it.
+abbrev pub left_by : {X : Type 0} → Result X BadField → List ℕ → Option ℕ
+left_by (Ok x) rest = if length rest == 0 then None else Some (length rest)
+left_by (Err fault) rest = Some fault.left
+
+-- What is told of the whole, at its place in the bytes. Where memory ran out there is a record.
+abbrev pub TellsWhole : Result Record RecordFault → List ℕ → Result Record ℕ → Type 0
+TellsWhole (Ok r) bytes read = read ≡ Ok r
+TellsWhole (Err (Bad place)) bytes read = (left : ℕ) × (read ≡ Err left) × (place ≡ length bytes - left)
+TellsWhole (Err NoMemory) bytes read = (r : Record) × (read ≡ Ok r)

@@ -16,10 +16,14 @@ use Rattle.qm_kinds.specs.declared.queue.QueueState.TheVariants as state
 use Rattle.qm_kinds.specs.declared.queue.QueueRetain.{QueueRetain}
 use Rattle.qm_kinds.specs.declared.queue.QueueRetain.TheVariants as keep
 use Rattle.qm_kinds.specs.declared.queue.Queue.{Queue}
+use Rattle.qm_kinds.specs.declared.queue.QueueChange.{QueueChange}
+use Rattle.qm_kinds.specs.declared.queue.NewQueue.{NewQueue}
+use Rattle.qm_kinds.specs.declared.request.StopMode.{StopMode}
+use Rattle.qm_kinds.specs.declared.request.StopMode.TheVariants as stop
 use Rattle.qm_kinds.specs.declared.form.Form.{Form}
 use Rattle.qm_kinds.specs.declared.form.Shape.{Shape}
 use Rattle.qm_kinds.specs.declared.system.Node.{Node}
-use Rattle.qm_bytes.specs.Spelling.{low_first, fields, byte, truth, optional, list, long_bytes, short_bytes, file_name, set, moment, IsName, IsMoment, AreLongBytes, IsFileName, IsSet, IsList, AllOf}
+use Rattle.qm_bytes.specs.Spelling.{low_first, fields, byte, truth, optional, list, long_bytes, short_bytes, file_name, set, moment, IsName, IsMark, IsMoment, AreLongBytes, IsFileName, IsSet, IsList, AllOf}
 use Rattle.qm_kinds.specs.declared.record.Record.{Record}
 use Rattle.qm_kinds.specs.declared.record.Body.{Body}
 use Rattle.qm_kinds.specs.declared.record.Body.TheVariants as body
@@ -51,7 +55,19 @@ queue_retain_code keep.Nothing = 0
 queue_retain_code keep.Failed = 1
 queue_retain_code keep.All = 2
 
+abbrev pub stop_mode_code : StopMode → ℕ
+stop_mode_code stop.Pause = 1
+stop_mode_code stop.Next = 2
+stop_mode_code stop.Reset = 3
+
 -- ---- fields
+
+abbrev pub queue_retain : QueueRetain → List ℕ
+queue_retain r = byte (queue_retain_code r)
+
+-- the least and the greatest size of a job, in blocks
+abbrev pub limits : ℕ × ℕ → List ℕ
+limits l = low_first 4 l.0 ++ low_first 4 l.1
 
 -- a job is kept as its queue says, always, after a failure, or until a moment
 abbrev pub job_retain : JobRetain → List ℕ
@@ -80,6 +96,18 @@ queue q = fields (
     low_first 4 q.lower ∷ low_first 4 q.upper ∷ truth q.by_size ∷ byte (queue_retain_code q.retain) ∷
     list short_bytes q.targets ∷ [])
 
+-- the settings of a queue that are given
+abbrev pub queue_change : QueueChange → List ℕ
+queue_change c = fields (
+    optional byte c.limit ∷ optional (list name_or_number) c.characteristics ∷ optional name_or_number c.form ∷
+    optional limits c.blocks ∷ optional truth c.by_size ∷ optional queue_retain c.retain ∷ [])
+
+-- a queue that is made
+abbrev pub new_queue : NewQueue → List ℕ
+new_queue n = fields (
+    short_bytes n.name ∷ byte (queue_kind_code n.kind) ∷ optional short_bytes n.node ∷ optional short_bytes n.device ∷
+    list short_bytes n.targets ∷ queue_change n.change ∷ truth n.start ∷ [])
+
 -- ---- records
 
 -- the fields of a job, in their order
@@ -103,18 +131,18 @@ request_parts (ask.DefineForm f) = None
 request_parts (ask.DeleteForm name) = None
 request_parts (ask.DefineCharacteristic c) = None
 request_parts (ask.DeleteCharacteristic name) = None
-request_parts (ask.InitializeQueue new) = None
-request_parts (ask.SetQueue name change) = None
-request_parts (ask.StartQueue name change) = None
-request_parts (ask.StopQueue name how) = None
-request_parts (ask.AbortJob queue_name entry requeue) = None
-request_parts (ask.DeleteQueue name) = None
+request_parts (ask.InitializeQueue new) = Some (record_kind.InitializeQueue, new_queue new)
+request_parts (ask.SetQueue name change) = Some (record_kind.SetQueue, short_bytes name ++ queue_change change)
+request_parts (ask.StartQueue name change) = Some (record_kind.StartQueue, short_bytes name ++ queue_change change)
+request_parts (ask.StopQueue name how) = Some (record_kind.StopQueue, short_bytes name ++ byte (stop_mode_code how))
+request_parts (ask.AbortJob queue_name entry requeue) = Some (record_kind.AbortJob, fields (short_bytes queue_name ∷ optional (low_first 4) entry ∷ truth requeue ∷ []))
+request_parts (ask.DeleteQueue name) = Some (record_kind.DeleteQueue, short_bytes name)
 request_parts (ask.Merge to from) = None
 request_parts (ask.Submit j) = Some (record_kind.Submit, job_text j)
 request_parts (ask.SetEntry entry change) = None
-request_parts (ask.DeleteEntry entry) = None
-request_parts (ask.Mark run value) = None
-request_parts (ask.Done run status) = None
+request_parts (ask.DeleteEntry entry) = Some (record_kind.DeleteEntry, low_first 4 entry)
+request_parts (ask.Mark run value) = Some (record_kind.Mark, low_first 8 run ++ short_bytes value)
+request_parts (ask.Done run status) = Some (record_kind.Done, low_first 8 run ++ low_first 4 status)
 request_parts ask.Tick = Some (record_kind.Tick, [])
 request_parts ask.NodeUp = None
 request_parts (ask.NodeLost nodes) = None
@@ -133,6 +161,11 @@ body_parts (body.Entry e) = None
 -- the version, the number, the moment and the node
 abbrev pub front : RecordKind → ℕ → ℕ → List ℕ
 front kind m n = 1 ∷ number_of kind ∷ (moment m ++ byte n)
+
+-- the fields alone
+abbrev pub fields_in : Option (RecordKind × List ℕ) → List ℕ
+fields_in None = []
+fields_in (Some parts) = parts.1
 
 -- these, and the fields behind them; nothing for what isn't spelled so far
 abbrev pub text_of : ℕ → ℕ → Option (RecordKind × List ℕ) → List ℕ
@@ -201,9 +234,37 @@ pub record JobFits (j : Job) : Type 0 where
   pub form_fits : AllOf NameOrNumberFits j.form
   pub copies_fits : IsByte j.copies
 
+abbrev pub LimitsFit : ℕ × ℕ → Type 0
+LimitsFit l = (l.0 < 2 ^ 32) × (l.1 < 2 ^ 32)
+
+pub record ChangeFits (c : QueueChange) : Type 0 where
+  pub limit_fits : AllOf IsByte c.limit
+  pub characteristics_fit : AllOf (IsList NameOrNumberFits) c.characteristics
+  pub form_fits : AllOf NameOrNumberFits c.form
+  pub blocks_fit : AllOf LimitsFit c.blocks
+
+pub record NewQueueFits (n : NewQueue) : Type 0 where
+  pub name_fits : IsName n.name
+  pub node_fits : AllOf IsName n.node
+  pub device_fits : AllOf IsName n.device
+  pub targets_fit : IsList IsName n.targets
+  pub change_fits : ChangeFits n.change
+
+abbrev pub IsEntryNumber : ℕ → Type 0
+IsEntryNumber n = n < 2 ^ 32
+
 abbrev pub RequestFits : Request → Type 0
 RequestFits (ask.Append file bytes) = IsFileName file × AreLongBytes bytes
+RequestFits (ask.InitializeQueue new) = NewQueueFits new
+RequestFits (ask.SetQueue name change) = IsName name × ChangeFits change
+RequestFits (ask.StartQueue name change) = IsName name × ChangeFits change
+RequestFits (ask.StopQueue name how) = IsName name
+RequestFits (ask.AbortJob queue_name entry requeue) = IsName queue_name × AllOf IsEntryNumber entry
+RequestFits (ask.DeleteQueue name) = IsName name
 RequestFits (ask.Submit j) = JobFits j
+RequestFits (ask.DeleteEntry entry) = IsEntryNumber entry
+RequestFits (ask.Mark run value) = (run < 2 ^ 64) × IsMark value
+RequestFits (ask.Done run status) = (run < 2 ^ 64) × (status < 2 ^ 32)
 RequestFits ask.Tick = Unit {0}
 RequestFits other = ⊥
 
@@ -234,9 +295,20 @@ pub record HasSpelling (r : Record) : Type 0 where
 
 -- ---- what a value's type doesn't say of it
 
+-- the characteristics that are given fit their count
+abbrev pub IsShortChange : QueueChange → Type 0
+IsShortChange c = AllOf (λ (xs : List NameOrNumber). length xs < 2 ^ 16) c.characteristics
+
+pub record IsShortQueue (n : NewQueue) : Type 0 where
+  pub targets : length n.targets < 2 ^ 16
+  pub change : IsShortChange n.change
+
 -- the lists of a request fit their counts
 abbrev pub AreListsShort : Request → Type 0
 AreListsShort (ask.Append file bytes) = length bytes < 2 ^ 32
+AreListsShort (ask.InitializeQueue new) = IsShortQueue new
+AreListsShort (ask.SetQueue name change) = IsShortChange change
+AreListsShort (ask.StartQueue name change) = IsShortChange change
 AreListsShort (ask.Submit j) = length j.characteristics < 2 ^ 16
 AreListsShort other = Unit {0}
 

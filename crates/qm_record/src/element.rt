@@ -1,14 +1,19 @@
 // What lists and optional fields are made of.
 ghost use Rattle.std.specs.Prelude.{◌≡◌, ◌<◌, ◌^◌, ◌++◌, ℕ, List, length, OnOk, IfOk};
 ghost use Rattle.std.specs.List.{AllByRecursion};
-ghost use Rattle.qm_bytes.specs.Spelling.{short_bytes, each, list, optional, IsName, IsList, AllOf};
-ghost use Rattle.qm_bytes.specs.Reading.{Reader, Gives, GivesKept, name_at, list_at, optional_at, repeat_at};
-ghost use Rattle.qm_record.specs.Spelling.{node, name_or_number, NodeFits, NameOrNumberFits};
-ghost use Rattle.qm_record.specs.Reading.{Passes, node_at, name_or_number_at};
+ghost use Rattle.qm_bytes.specs.Spelling.{short_bytes, low_first, byte, truth, each, list, optional, IsName, IsList, AllOf};
+ghost use Rattle.qm_bytes.specs.Reading.{Reader, Gives, GivesKept, name_at, number_at, truth_at, list_at, optional_at, repeat_at};
+ghost use Rattle.qm_record.specs.Spelling.{node, name_or_number, queue_retain, limits, IsByte, IsEntryNumber, NodeFits, NameOrNumberFits, LimitsFit};
+ghost use Rattle.qm_record.specs.Reading.{Passes, byte_at, node_at, name_or_number_at, queue_retain_at, limits_at};
 
-use crate::field::{put_name_or_number, put_node, read_name_or_number, read_node};
-use qm_bytes::{BadField, Width, put_name, put_number, read_byte, read_name, read_number};
-use qm_kinds::{Name, NameOrNumber, Node, Seq};
+use crate::field::{
+    put_limits, put_name_or_number, put_node, queue_retain_code, read_limits, read_name_or_number,
+    read_node, read_queue_retain,
+};
+use qm_bytes::{
+    BadField, Width, put_name, put_number, put_truth, read_byte, read_name, read_number, read_truth,
+};
+use qm_kinds::{Name, NameOrNumber, Node, QueueRetain, Seq};
 use std::alloc::{AllocError, Global};
 
 /// A value that is read and written as a field.
@@ -74,6 +79,89 @@ impl Element for NameOrNumber {
 
     fn put(&self, out: &mut Vec<u8>) -> Result<(), AllocError> {
         put_name_or_number(out, self)
+    }
+}
+
+impl Element for u8 {
+    ghost fits = { IsByte };
+
+    ghost spelling = { byte };
+
+    ghost reading = { byte_at };
+
+    fn read(bytes: &mut &[u8]) -> Result<u8, BadField> {
+        read_byte(bytes, 0, 255)
+    }
+
+    fn put(&self, out: &mut Vec<u8>) -> Result<(), AllocError> {
+        out.push(*self)?;
+        Ok(())
+    }
+}
+
+impl Element for u32 {
+    ghost fits = { IsEntryNumber };
+
+    ghost spelling = { low_first 4 };
+
+    ghost reading = { number_at 4 };
+
+    fn read(bytes: &mut &[u8]) -> Result<u32, BadField> {
+        let number = read_number(bytes, Width::Four)?;
+        Ok(number as u32)
+    }
+
+    fn put(&self, out: &mut Vec<u8>) -> Result<(), AllocError> {
+        put_number(out, Width::Four, u64::from(*self))
+    }
+}
+
+impl Element for bool {
+    ghost fits = { λ x. Unit {0} };
+
+    ghost spelling = { truth };
+
+    ghost reading = { truth_at };
+
+    fn read(bytes: &mut &[u8]) -> Result<bool, BadField> {
+        read_truth(bytes)
+    }
+
+    fn put(&self, out: &mut Vec<u8>) -> Result<(), AllocError> {
+        put_truth(out, *self)
+    }
+}
+
+impl Element for QueueRetain {
+    ghost fits = { λ x. Unit {0} };
+
+    ghost spelling = { queue_retain };
+
+    ghost reading = { queue_retain_at };
+
+    fn read(bytes: &mut &[u8]) -> Result<QueueRetain, BadField> {
+        read_queue_retain(bytes)
+    }
+
+    fn put(&self, out: &mut Vec<u8>) -> Result<(), AllocError> {
+        out.push(queue_retain_code(*self))?;
+        Ok(())
+    }
+}
+
+impl Element for (u32, u32) {
+    ghost fits = { LimitsFit };
+
+    ghost spelling = { limits };
+
+    ghost reading = { limits_at };
+
+    fn read(bytes: &mut &[u8]) -> Result<(u32, u32), BadField> {
+        read_limits(bytes)
+    }
+
+    fn put(&self, out: &mut Vec<u8>) -> Result<(), AllocError> {
+        put_limits(out, self.0, self.1)
     }
 }
 
@@ -168,4 +256,40 @@ pub(crate) fn read_optional<T: Element>(bytes: &mut &[u8]) -> Result<Option<T>, 
     }
     let value = T::read(bytes)?;
     Ok(Some(value))
+}
+
+/// Appends a list where there is one.
+pub(crate) fn put_optional_list<T: Element>(
+    out: &mut Vec<u8>,
+    items: &Option<Seq<T>>,
+) -> Result<(), AllocError>
+    requires { AllOf (λ xs. length xs < 2 ^ 16) items.now }
+    ensures ok { OnOk result (out.new.items ≡ out.old.items ++ optional (list T.spelling) items.now) }
+    ensures lawful { OnOk result (AllOf (IsList T.fits) items.now) }
+{
+    match items {
+        None => out.push(0)?,
+        Some(items) => {
+            out.push(1)?;
+            put_list(out, items)?;
+        }
+    }
+    Ok(())
+}
+
+/// Reads a list, or none. An error in it says that memory ran out for it, behind which reading goes on.
+#[tactic(auto, unfolding(qm_bytes::specs::Reading::optional_at))]
+pub(crate) fn read_optional_list<T: Element>(
+    alloc: Global,
+    bytes: &mut &[u8],
+) -> Result<Result<Option<Seq<T>>, AllocError>, BadField>
+    ensures { GivesKept result bytes.new.now (optional_at (list_at T.reading) bytes.old.now) }
+{
+    if read_byte(bytes, 0, 1)? == 0 {
+        return Ok(Ok(None));
+    }
+    match read_list(alloc, bytes)? {
+        Ok(items) => Ok(Ok(Some(items))),
+        Err(fault) => Ok(Err(fault)),
+    }
 }

@@ -1,14 +1,14 @@
 // The fields of which several records are made.
 ghost use Rattle.std.specs.Prelude.{◌≡◌, ◌++◌, OnOk};
 ghost use Rattle.qm_bytes.specs.Reading.{Gives};
-ghost use Rattle.qm_record.specs.Spelling.{job_kind_code, job_retain, name_or_number, node as node_text, shape as shape_text, RetainFits, NameOrNumberFits, NodeFits, ShapeFits};
-ghost use Rattle.qm_record.specs.Reading.{job_kind_at, job_retain_at, name_or_number_at, node_at, shape_at};
+ghost use Rattle.qm_record.specs.Spelling.{job_kind_code, job_retain, name_or_number, node as node_text, shape as shape_text, queue_kind_code, queue_retain_code, stop_mode_code, limits as limits_text, RetainFits, NameOrNumberFits, NodeFits, ShapeFits, LimitsFit};
+ghost use Rattle.qm_record.specs.Reading.{job_kind_at, job_retain_at, name_or_number_at, node_at, shape_at, queue_kind_at, queue_retain_at, stop_mode_at, limits_at};
 
 use qm_bytes::{
     BadField, Width, put_moment, put_name, put_number, put_truth, read_byte, read_moment,
     read_name, read_number, read_truth,
 };
-use qm_kinds::{JobKind, JobRetain, NameOrNumber, Node, Shape};
+use qm_kinds::{JobKind, JobRetain, NameOrNumber, Node, QueueKind, QueueRetain, Shape, StopMode};
 use std::alloc::AllocError;
 
 /// The code of a kind of job.
@@ -149,4 +149,94 @@ pub(crate) fn read_shape(bytes: &mut &[u8]) -> Result<Shape, BadField>
         right,
         wrap,
     })
+}
+
+/// The code of a kind of queue.
+pub(crate) fn queue_kind_code(kind: QueueKind) -> u8
+    ensures { result ≡ queue_kind_code kind }
+{
+    match kind {
+        QueueKind::Batch => 1,
+        QueueKind::Print => 2,
+        QueueKind::GenericBatch => 3,
+        QueueKind::GenericPrint => 4,
+    }
+}
+
+/// Reads a kind of queue.
+#[tactic(auto, unfolding(crate::specs::Reading::queue_kind_at))]
+pub(crate) fn read_queue_kind(bytes: &mut &[u8]) -> Result<QueueKind, BadField>
+    ensures { Gives result bytes.new.now (queue_kind_at bytes.old.now) }
+{
+    match read_byte(bytes, 1, 4)? {
+        1 => Ok(QueueKind::Batch),
+        2 => Ok(QueueKind::Print),
+        3 => Ok(QueueKind::GenericBatch),
+        _ => Ok(QueueKind::GenericPrint),
+    }
+}
+
+/// The code of what a queue retains.
+pub(crate) fn queue_retain_code(retain: QueueRetain) -> u8
+    ensures { result ≡ queue_retain_code retain }
+{
+    match retain {
+        QueueRetain::Nothing => 0,
+        QueueRetain::Failed => 1,
+        QueueRetain::All => 2,
+    }
+}
+
+/// Reads what a queue retains.
+#[tactic(auto, unfolding(crate::specs::Reading::queue_retain_at))]
+pub(crate) fn read_queue_retain(bytes: &mut &[u8]) -> Result<QueueRetain, BadField>
+    ensures { Gives result bytes.new.now (queue_retain_at bytes.old.now) }
+{
+    match read_byte(bytes, 0, 2)? {
+        0 => Ok(QueueRetain::Nothing),
+        1 => Ok(QueueRetain::Failed),
+        _ => Ok(QueueRetain::All),
+    }
+}
+
+/// The code of how a queue is stopped.
+pub(crate) fn stop_mode_code(how: StopMode) -> u8
+    ensures { result ≡ stop_mode_code how }
+{
+    match how {
+        StopMode::Pause => 1,
+        StopMode::Next => 2,
+        StopMode::Reset => 3,
+    }
+}
+
+/// Reads how a queue is stopped.
+#[tactic(auto, unfolding(crate::specs::Reading::stop_mode_at))]
+pub(crate) fn read_stop_mode(bytes: &mut &[u8]) -> Result<StopMode, BadField>
+    ensures { Gives result bytes.new.now (stop_mode_at bytes.old.now) }
+{
+    match read_byte(bytes, 1, 3)? {
+        1 => Ok(StopMode::Pause),
+        2 => Ok(StopMode::Next),
+        _ => Ok(StopMode::Reset),
+    }
+}
+
+/// Appends the least and the greatest size of a job.
+pub(crate) fn put_limits(out: &mut Vec<u8>, lower: u32, upper: u32) -> Result<(), AllocError>
+    ensures ok { OnOk result (out.new.items ≡ out.old.items ++ limits_text (lower, upper)) }
+    ensures lawful { OnOk result (LimitsFit (lower, upper)) }
+{
+    put_number(out, Width::Four, u64::from(lower))?;
+    put_number(out, Width::Four, u64::from(upper))
+}
+
+/// Reads the least and the greatest size of a job.
+#[tactic(auto, unfolding(crate::specs::Reading::limits_at))]
+pub(crate) fn read_limits(bytes: &mut &[u8]) -> Result<(u32, u32), BadField>
+    ensures { Gives result bytes.new.now (limits_at bytes.old.now) }
+{
+    let lower = read_number(bytes, Width::Four)?;
+    let upper = read_number(bytes, Width::Four)?;
+    Ok((lower as u32, upper as u32))
 }

@@ -6,7 +6,16 @@ ghost use Rattle.qm_record.specs.Kinds.{number_of, kind_of, is_row_kind};
 #[derive(Clone, Copy, Debug)]
 pub enum RecordKind {
     Append,
+    InitializeQueue,
+    SetQueue,
+    StartQueue,
+    StopQueue,
+    AbortJob,
+    DeleteQueue,
     Submit,
+    DeleteEntry,
+    Mark,
+    Done,
     Tick,
     Head,
     Form,
@@ -20,7 +29,16 @@ impl RecordKind {
     {
         match self {
             RecordKind::Append => 1,
+            RecordKind::InitializeQueue => 8,
+            RecordKind::SetQueue => 9,
+            RecordKind::StartQueue => 10,
+            RecordKind::StopQueue => 11,
+            RecordKind::AbortJob => 12,
+            RecordKind::DeleteQueue => 13,
             RecordKind::Submit => 15,
+            RecordKind::DeleteEntry => 17,
+            RecordKind::Mark => 18,
+            RecordKind::Done => 19,
             RecordKind::Tick => 20,
             RecordKind::Head => 33,
             RecordKind::Form => 34,
@@ -34,7 +52,16 @@ impl RecordKind {
     {
         match number {
             1 => Some(RecordKind::Append),
+            8 => Some(RecordKind::InitializeQueue),
+            9 => Some(RecordKind::SetQueue),
+            10 => Some(RecordKind::StartQueue),
+            11 => Some(RecordKind::StopQueue),
+            12 => Some(RecordKind::AbortJob),
+            13 => Some(RecordKind::DeleteQueue),
             15 => Some(RecordKind::Submit),
+            17 => Some(RecordKind::DeleteEntry),
+            18 => Some(RecordKind::Mark),
+            19 => Some(RecordKind::Done),
             20 => Some(RecordKind::Tick),
             33 => Some(RecordKind::Head),
             34 => Some(RecordKind::Form),
@@ -48,8 +75,8 @@ impl RecordKind {
         ensures { result ≡ is_row_kind self }
     {
         match self {
-            RecordKind::Append | RecordKind::Submit | RecordKind::Tick => false,
             RecordKind::Head | RecordKind::Form | RecordKind::Queue => true,
+            _ => false,
         }
     }
 }

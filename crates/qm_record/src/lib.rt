@@ -6,6 +6,7 @@ mod fault;
 mod field;
 mod kind;
 mod laws;
+mod queue_request;
 mod reading;
 mod request;
 mod row;

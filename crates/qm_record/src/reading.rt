@@ -1,15 +1,19 @@
-ghost use Rattle.std.specs.Prelude.{◌≡◌, ◌≤◌, ◌++◌, [], ℕ, List, IfOk, IsErrOf};
+ghost use Rattle.std.specs.Prelude.{◌≡◌, ◌-◌, ◌≤◌, ◌++◌, [], ℕ, List, length, IfOk, IsErrOf};
 ghost use Rattle.qm_bytes.specs.Reading.{Gives, GivesKept};
 ghost use Rattle.qm_bytes.specs.Laws.{Spells};
 ghost use Rattle.qm_kinds.specs.declared.moment.TheConstants.{LAST_MOMENT};
 ghost use Rattle.qm_kinds.specs.declared.record.Record.{Record as AnyRecord};
 ghost use Rattle.qm_record.specs.Spelling.{record_text, HasSpelling};
-ghost use Rattle.qm_record.specs.Reading.{record_kind_at, body_at, record_at, whole_at, TellsWhole, last_moment, last_node};
+ghost use Rattle.qm_record.specs.Reading.{record_kind_at, body_at, record_at, whole_at, GivesFront, left_by, TellsWhole, last_moment, last_node};
 ghost use Rattle.qm_record.specs.Faults.{IsRead, IsRecord, IsFirstFault};
 
 use crate::fault::RecordFault;
 use crate::kind::RecordKind;
-use crate::request::{read_append, read_submit};
+use crate::queue_request::{
+    read_abort_job, read_delete_queue, read_initialize, read_set_queue, read_start_queue,
+    read_stop_queue,
+};
+use crate::request::{read_append, read_delete_entry, read_done, read_run_mark, read_submit};
 use crate::row::{read_form, read_head, read_queue};
 use qm_bytes::{BadField, Width, read_byte, read_number_up_to};
 use qm_kinds::{Body, LAST_MOMENT, Moment, Record, Request};
@@ -44,10 +48,16 @@ fn read_body(
 {
     match kind {
         RecordKind::Append => read_append(alloc, bytes),
-        RecordKind::Submit => match read_submit(alloc, bytes)? {
-            Ok(job) => Ok(Ok(Body::Ask(Request::Submit(job)))),
-            Err(fault) => Ok(Err(fault)),
-        },
+        RecordKind::InitializeQueue => read_initialize(alloc, bytes),
+        RecordKind::SetQueue => read_set_queue(alloc, bytes),
+        RecordKind::StartQueue => read_start_queue(alloc, bytes),
+        RecordKind::StopQueue => read_stop_queue(bytes),
+        RecordKind::AbortJob => read_abort_job(bytes),
+        RecordKind::DeleteQueue => read_delete_queue(bytes),
+        RecordKind::Submit => read_submit(alloc, bytes),
+        RecordKind::DeleteEntry => read_delete_entry(bytes),
+        RecordKind::Mark => read_run_mark(bytes),
+        RecordKind::Done => read_done(bytes),
         RecordKind::Tick => Ok(Ok(Body::Ask(Request::Tick))),
         RecordKind::Head => read_head(alloc, bytes),
         RecordKind::Form => {
@@ -76,10 +86,18 @@ fn last_node(kind: RecordKind) -> u8
     if kind.is_row() { 0 } else { 255 }
 }
 
-// Reads a record, whatever stands behind it.
+// What stands before the fields of each record.
+#[derive(Clone, Copy)]
+struct Front {
+    kind: RecordKind,
+    moment: Moment,
+    node: u8,
+}
+
+// Reads what stands before the fields of a record.
 #[tactic(auto, unfolding(crate::specs::Reading::record_at))]
-fn read_front(alloc: Global, bytes: &mut &[u8]) -> Result<Result<Record, AllocError>, BadField>
-    ensures { GivesKept result bytes.new.now (record_at bytes.old.now) }
+fn read_front(bytes: &mut &[u8]) -> Result<Front, BadField>
+    ensures { GivesFront result bytes.new.now (record_at bytes.old.now) }
 {
     read_byte(bytes, 1, 1)?;
     let kind = read_kind(bytes)?;
@@ -88,23 +106,52 @@ fn read_front(alloc: Global, bytes: &mut &[u8]) -> Result<Result<Record, AllocEr
         unreachable!()
     };
     let node = read_byte(bytes, 0, last_node(kind))?;
-    match read_body(alloc, bytes, kind)? {
-        Ok(body) => Ok(Ok(Record { moment, node, body })),
-        Err(fault) => Ok(Err(fault)),
+    Ok(Front { kind, moment, node })
+}
+
+// The fault where so many bytes are left of these.
+fn fault_at(bytes: &[u8], left: usize) -> RecordFault
+    requires { left ≤ length bytes.now }
+    ensures { result ≡ RecordFault.Bad (length bytes.now - left) }
+{
+    RecordFault::Bad {
+        place: bytes.len() - left,
     }
 }
 
-// Reads a record behind which nothing stands.
-#[tactic(auto, unfolding(crate::specs::Reading::whole_at))]
-fn read_whole(alloc: Global, bytes: &[u8]) -> Result<Result<Record, AllocError>, BadField>
-    ensures { TellsWhole result (whole_at bytes.now) }
+// How many bytes are left where no record goes on, once a body was read.
+fn left_by(read: &Result<Result<Body, AllocError>, BadField>, rest: &[u8]) -> Option<usize>
+    ensures { result ≡ left_by read.now rest.now }
+{
+    match read {
+        Ok(_) => {
+            if rest.is_empty() {
+                None
+            } else {
+                Some(rest.len())
+            }
+        }
+        Err(fault) => Some(fault.left),
+    }
+}
+
+// Reads a record behind which nothing stands. A record is large, so it is made at its place, and its body is moved once.
+fn read_whole(alloc: Global, bytes: &[u8]) -> Result<Record, RecordFault>
+    ensures { TellsWhole result bytes.now (whole_at bytes.now) }
 {
     let mut rest = bytes;
-    let record = read_front(alloc, &mut rest)?;
-    if !rest.is_empty() {
-        return Err(BadField { left: rest.len() });
+    let Front { kind, moment, node } = match read_front(&mut rest) {
+        Ok(front) => front,
+        Err(fault) => return Err(fault_at(bytes, fault.left)),
+    };
+    let read = read_body(alloc, &mut rest, kind);
+    if let Some(left) = left_by(&read, rest) {
+        return Err(fault_at(bytes, left));
     }
-    Ok(record)
+    match read {
+        Ok(Ok(body)) => Ok(Record { moment, node, body }),
+        _ => Err(RecordFault::NoMemory),
+    }
 }
 
 /// The record that the bytes spell, all of the bytes.
@@ -118,15 +165,7 @@ pub fn read_record(alloc: Global, bytes: &[u8]) -> Result<Record, RecordFault>
     // Memory runs out for a record alone, and in place of no fault.
     ensures no_memory { IsErrOf result RecordFault.NoMemory → IsRecord bytes.now }
 {
-    match read_whole(alloc, bytes) {
-        Ok(record) => match record {
-            Ok(record) => Ok(record),
-            Err(_) => Err(RecordFault::NoMemory),
-        },
-        Err(fault) => Err(RecordFault::Bad {
-            place: bytes.len() - fault.left,
-        }),
-    }
+    read_whole(alloc, bytes)
 }
 
 /// No record's spelling begins another's.

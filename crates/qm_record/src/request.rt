@@ -1,18 +1,21 @@
 // The records of requests.
-ghost use Rattle.std.specs.Prelude.{◌≡◌, ◌<◌, ◌^◌, ◌++◌, length, OnOk};
-ghost use Rattle.qm_bytes.specs.Spelling.{IsMoment};
+ghost use Rattle.std.specs.Prelude.{◌≡◌, ◌<◌, ◌^◌, ◌++◌, [], ◌∷◌, true, Some, length, OnOk};
+ghost use Rattle.qm_bytes.specs.Spelling.{fields, file_name, long_bytes, short_bytes, low_first, IsMoment, IsFileName, AreLongBytes, IsMark};
 ghost use Rattle.qm_bytes.specs.Reading.{Gives, GivesKept};
-ghost use Rattle.qm_record.specs.Spelling.{job_text, front, text_of, request_parts, JobFits, RequestFits, CanBeRecorded};
-ghost use Rattle.qm_record.specs.Reading.{append_at, job_at};
+ghost use Rattle.qm_model.specs.Built.{has_record};
+ghost use Rattle.qm_record.specs.Spelling.{job_text, front, fields_in, text_of, request_parts, JobFits, RequestFits, CanBeRecorded};
+ghost use Rattle.qm_record.specs.Reading.{append_at, submit_at, delete_entry_at, run_mark_at, done_at};
 
 use crate::element::{put_list, put_optional, read_list, read_optional};
 use crate::field::{job_kind_code, put_job_retain, read_job_kind, read_job_retain};
 use crate::kind::RecordKind;
+use crate::queue_request::{put_abort, put_new_queue, put_settings, put_stop};
 use qm_bytes::{
-    BadField, put_file_name, put_long_bytes, put_moment, put_name, put_optional_moment, put_truth,
-    read_byte, read_file_name, read_long_bytes, read_name, read_optional_moment, read_truth,
+    BadField, Width, put_file_name, put_long_bytes, put_mark, put_moment, put_name, put_number,
+    put_optional_moment, put_truth, read_byte, read_file_name, read_long_bytes, read_mark,
+    read_name, read_number, read_optional_moment, read_truth,
 };
-use qm_kinds::{Body, Job, Moment, Request};
+use qm_kinds::{Body, FileName, Job, Mark, Moment, Request};
 use std::alloc::{AllocError, Global};
 
 /// Appends what stands before the fields of each record: the version, the number, the moment and the node.
@@ -32,6 +35,28 @@ pub(crate) fn put_front(
     Ok(())
 }
 
+// The kind of a request that has a record.
+fn kind_of(request: &Request) -> RecordKind
+    requires { has_record request.now ≡ true }
+    ensures { request_parts request.now ≡ Some (result, fields_in (request_parts request.now)) }
+{
+    match request {
+        Request::Append { .. } => RecordKind::Append,
+        Request::InitializeQueue(_) => RecordKind::InitializeQueue,
+        Request::SetQueue { .. } => RecordKind::SetQueue,
+        Request::StartQueue { .. } => RecordKind::StartQueue,
+        Request::StopQueue { .. } => RecordKind::StopQueue,
+        Request::AbortJob { .. } => RecordKind::AbortJob,
+        Request::DeleteQueue { .. } => RecordKind::DeleteQueue,
+        Request::Submit(_) => RecordKind::Submit,
+        Request::DeleteEntry { .. } => RecordKind::DeleteEntry,
+        Request::Mark { .. } => RecordKind::Mark,
+        Request::Done { .. } => RecordKind::Done,
+        Request::Tick => RecordKind::Tick,
+        _ => unreachable!(),
+    }
+}
+
 /// Appends the record of a request.
 pub(crate) fn put_request(
     out: &mut Vec<u8>,
@@ -44,21 +69,69 @@ pub(crate) fn put_request(
     ensures moment { OnOk result (IsMoment moment) }
     ensures lawful { OnOk result (RequestFits request.now) }
 {
+    put_front(out, kind_of(request), moment, node)?;
+    put_fields(out, request)?;
+    Ok(())
+}
+
+// Appends the fields of a request.
+fn put_fields(out: &mut Vec<u8>, request: &Request) -> Result<(), AllocError>
+    requires { CanBeRecorded request.now }
+    ensures ok { OnOk result (out.new.items ≡ out.old.items ++ fields_in (request_parts request.now)) }
+    ensures lawful { OnOk result (RequestFits request.now) }
+{
     match request {
-        Request::Append { file, bytes } => {
-            put_front(out, RecordKind::Append, moment, node)?;
-            put_file_name(out, file)?;
-            put_long_bytes(out, bytes.as_slice())?;
-            Ok(())
+        Request::Append { file, bytes } => put_append(out, file, bytes.as_slice()),
+        Request::InitializeQueue(new) => put_new_queue(out, new),
+        Request::SetQueue { name, change } | Request::StartQueue { name, change } => {
+            put_settings(out, name, change)
         }
-        Request::Submit(job) => {
-            put_front(out, RecordKind::Submit, moment, node)?;
-            put_submit(out, job)?;
-            Ok(())
-        }
-        Request::Tick => put_front(out, RecordKind::Tick, moment, node),
+        Request::StopQueue { name, how } => put_stop(out, name, *how),
+        Request::AbortJob {
+            queue,
+            entry,
+            requeue,
+        } => put_abort(out, queue, entry, *requeue),
+        Request::DeleteQueue { name } => put_name(out, name),
+        Request::Submit(job) => put_submit(out, job),
+        Request::DeleteEntry { entry } => put_number(out, Width::Four, u64::from(*entry)),
+        Request::Mark { run, value } => put_run_mark(out, *run, value),
+        Request::Done { run, status } => put_done(out, *run, *status),
+        Request::Tick => Ok(()),
         _ => unreachable!(),
     }
+}
+
+// Appends the fields of a request to append to a file.
+fn put_append(out: &mut Vec<u8>, file: &FileName, bytes: &[u8]) -> Result<(), AllocError>
+    requires { length bytes.now < 2 ^ 32 }
+    ensures ok { OnOk result (out.new.items ≡ out.old.items ++ fields (file_name file.now ∷ long_bytes bytes.now ∷ [])) }
+    ensures file { OnOk result (IsFileName file.now) }
+    ensures bytes { OnOk result (AreLongBytes bytes.now) }
+{
+    put_file_name(out, file)?;
+    put_long_bytes(out, bytes)?;
+    Ok(())
+}
+
+// Appends a run and its mark.
+fn put_run_mark(out: &mut Vec<u8>, run: u64, value: &Mark) -> Result<(), AllocError>
+    ensures ok { OnOk result (out.new.items ≡ out.old.items ++ (low_first 8 run ++ short_bytes value.now)) }
+    ensures run { OnOk result (run < 2 ^ 64) }
+    ensures value { OnOk result (IsMark value.now) }
+{
+    put_number(out, Width::Eight, run)?;
+    put_mark(out, value)
+}
+
+// Appends a run and the status with which it ended.
+fn put_done(out: &mut Vec<u8>, run: u64, status: u32) -> Result<(), AllocError>
+    ensures ok { OnOk result (out.new.items ≡ out.old.items ++ (low_first 8 run ++ low_first 4 status)) }
+    ensures run { OnOk result (run < 2 ^ 64) }
+    ensures status { OnOk result (status < 2 ^ 32) }
+{
+    put_number(out, Width::Eight, run)?;
+    put_number(out, Width::Four, u64::from(status))
 }
 
 // Appends the fields of a job.
@@ -99,13 +172,13 @@ pub(crate) fn read_append(
     }
 }
 
-/// Reads the fields of a job.
-#[tactic(auto, unfolding(crate::specs::Reading::job_at))]
+/// Reads the fields of a request to submit a job. The job is built at its place in the body: it is large.
+#[tactic(auto, unfolding(crate::specs::Reading::submit_at, crate::specs::Reading::job_at))]
 pub(crate) fn read_submit(
     alloc: Global,
     bytes: &mut &[u8],
-) -> Result<Result<Job, AllocError>, BadField>
-    ensures { GivesKept result bytes.new.now (job_at bytes.old.now) }
+) -> Result<Result<Body, AllocError>, BadField>
+    ensures { GivesKept result bytes.new.now (submit_at bytes.old.now) }
 {
     let user = read_name(bytes)?;
     let kind = read_job_kind(bytes)?;
@@ -122,7 +195,7 @@ pub(crate) fn read_submit(
     let copies = read_byte(bytes, 0, 255)?;
     let flag = read_truth(bytes)?;
     match characteristics {
-        Ok(characteristics) => Ok(Ok(Job {
+        Ok(characteristics) => Ok(Ok(Body::Ask(Request::Submit(Job {
             user,
             kind,
             queue,
@@ -137,7 +210,41 @@ pub(crate) fn read_submit(
             form,
             copies,
             flag,
-        })),
+        })))),
         Err(fault) => Ok(Err(fault)),
     }
+}
+
+/// Reads the fields of a request to delete an entry.
+#[tactic(auto, unfolding(crate::specs::Reading::delete_entry_at))]
+pub(crate) fn read_delete_entry(bytes: &mut &[u8]) -> Result<Result<Body, AllocError>, BadField>
+    ensures { GivesKept result bytes.new.now (delete_entry_at bytes.old.now) }
+{
+    let entry = read_number(bytes, Width::Four)?;
+    Ok(Ok(Body::Ask(Request::DeleteEntry {
+        entry: entry as u32,
+    })))
+}
+
+/// Reads the fields of the report of a mark.
+#[tactic(auto, unfolding(crate::specs::Reading::run_mark_at))]
+pub(crate) fn read_run_mark(bytes: &mut &[u8]) -> Result<Result<Body, AllocError>, BadField>
+    ensures { GivesKept result bytes.new.now (run_mark_at bytes.old.now) }
+{
+    let run = read_number(bytes, Width::Eight)?;
+    let value = read_mark(bytes)?;
+    Ok(Ok(Body::Ask(Request::Mark { run, value })))
+}
+
+/// Reads the fields of the report that a run has ended.
+#[tactic(auto, unfolding(crate::specs::Reading::done_at))]
+pub(crate) fn read_done(bytes: &mut &[u8]) -> Result<Result<Body, AllocError>, BadField>
+    ensures { GivesKept result bytes.new.now (done_at bytes.old.now) }
+{
+    let run = read_number(bytes, Width::Eight)?;
+    let status = read_number(bytes, Width::Four)?;
+    Ok(Ok(Body::Ask(Request::Done {
+        run,
+        status: status as u32,
+    })))
 }

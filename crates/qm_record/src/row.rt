@@ -2,16 +2,18 @@
 ghost use Rattle.std.specs.Prelude.{◌≡◌, ◌<◌, ◌^◌, ◌++◌, ℕ, List, length, OnOk};
 ghost use Rattle.qm_bytes.specs.Spelling.{fields, list, short_bytes, low_first, moment, IsList, IsName, IsMoment};
 ghost use Rattle.qm_bytes.specs.Reading.{Gives, GivesKept};
-ghost use Rattle.qm_record.specs.Spelling.{head as head_text, NodeFits, form as form_text, queue as queue_text, queue_kind_code, queue_state_code, queue_retain_code, FormFits, QueueFits};
-ghost use Rattle.qm_record.specs.Reading.{form_at, queue_at, queue_kind_at, queue_state_at, queue_retain_at, head_at};
+ghost use Rattle.qm_record.specs.Spelling.{head as head_text, NodeFits, form as form_text, queue as queue_text, queue_state_code, FormFits, QueueFits};
+ghost use Rattle.qm_record.specs.Reading.{form_at, queue_at, queue_state_at, head_at};
 
 use crate::element::{put_list, read_list};
-use crate::field::{put_shape, read_shape};
+use crate::field::{
+    put_shape, queue_kind_code, queue_retain_code, read_queue_kind, read_queue_retain, read_shape,
+};
 use qm_bytes::{
     BadField, Width, put_moment, put_name, put_number, put_optional_name, put_set, put_truth,
     read_byte, read_moment, read_name, read_number, read_optional_name, read_set, read_truth,
 };
-use qm_kinds::{Body, Form, Moment, Name, Node, Queue, QueueKind, QueueRetain, QueueState, Seq};
+use qm_kinds::{Body, Form, Moment, Name, Node, Queue, QueueState, Seq};
 use std::alloc::{AllocError, Global};
 
 /// Reads the first row of an image.
@@ -91,29 +93,6 @@ pub(crate) fn read_form(bytes: &mut &[u8]) -> Result<Form, BadField>
     })
 }
 
-fn queue_kind_code(kind: QueueKind) -> u8
-    ensures { result ≡ queue_kind_code kind }
-{
-    match kind {
-        QueueKind::Batch => 1,
-        QueueKind::Print => 2,
-        QueueKind::GenericBatch => 3,
-        QueueKind::GenericPrint => 4,
-    }
-}
-
-#[tactic(auto, unfolding(crate::specs::Reading::queue_kind_at))]
-fn read_queue_kind(bytes: &mut &[u8]) -> Result<QueueKind, BadField>
-    ensures { Gives result bytes.new.now (queue_kind_at bytes.old.now) }
-{
-    match read_byte(bytes, 1, 4)? {
-        1 => Ok(QueueKind::Batch),
-        2 => Ok(QueueKind::Print),
-        3 => Ok(QueueKind::GenericBatch),
-        _ => Ok(QueueKind::GenericPrint),
-    }
-}
-
 fn queue_state_code(state: QueueState) -> u8
     ensures { result ≡ queue_state_code state }
 {
@@ -134,27 +113,6 @@ fn read_queue_state(bytes: &mut &[u8]) -> Result<QueueState, BadField>
         2 => Ok(QueueState::Started),
         3 => Ok(QueueState::Paused),
         _ => Ok(QueueState::Stopping),
-    }
-}
-
-fn queue_retain_code(retain: QueueRetain) -> u8
-    ensures { result ≡ queue_retain_code retain }
-{
-    match retain {
-        QueueRetain::Nothing => 0,
-        QueueRetain::Failed => 1,
-        QueueRetain::All => 2,
-    }
-}
-
-#[tactic(auto, unfolding(crate::specs::Reading::queue_retain_at))]
-fn read_queue_retain(bytes: &mut &[u8]) -> Result<QueueRetain, BadField>
-    ensures { Gives result bytes.new.now (queue_retain_at bytes.old.now) }
-{
-    match read_byte(bytes, 0, 2)? {
-        0 => Ok(QueueRetain::Nothing),
-        1 => Ok(QueueRetain::Failed),
-        _ => Ok(QueueRetain::All),
     }
 }
 

@@ -1,8 +1,8 @@
 // Records, as they stand in a queue file.
 use crate::names::name;
 use qm_kinds::{
-    Body, FileName, Form, Job, JobKind, JobRetain, Moment, NameOrNumber, Record, Request, Seq,
-    Shape,
+    Body, FileName, Form, Job, JobKind, JobRetain, Moment, NameOrNumber, NewQueue, QueueChange,
+    QueueKind, QueueRetain, Record, Request, Seq, Shape,
 };
 use qm_record::{RecordFault, read_record, write_record, write_request};
 use std::test::Fail;
@@ -14,6 +14,30 @@ const SUBMIT: &[u8] =
     b"\x01\x0f\x00\x00\x00\x00\x00\x00\x00\x00\x00\x05\x53\x4d\x49\x54\x48\x02\x02\x4c\x50\x01\x41\x00\x01\x41\x64\x01\x07\x00\x00\x00\x00\x00\x00\x00\x01\x03\x07\x00\x00\x00\x00\x00\x00\x00\x00\x02\x00\x00\x04\x46\x41\x53\x54\x01\x03\x00\x01\x01\x01\x02\x02\x01";
 
 const TICK: &[u8] = b"\x01\x14\x00\x00\x00\x00\x00\x00\x00\x00\x00";
+
+const INITIALIZE_QUEUE: &[u8] =
+    b"\x01\x08\x00\x00\x00\x00\x00\x00\x00\x00\x00\x02\x4c\x50\x02\x01\x01\x41\x00\x00\x00\x00\x01\x02\x00\x00\x04\x46\x41\x53\x54\x01\x03\x00\x01\x00\x06\x4c\x45\x54\x54\x45\x52\x01\x01\x00\x00\x00\xff\xff\xff\xff\x01\x00\x01\x02\x01";
+
+const SET_QUEUE: &[u8] =
+    b"\x01\x09\x00\x00\x00\x00\x00\x00\x00\x00\x00\x01\x51\x01\x05\x00\x00\x00\x01\x01\x00";
+
+const START_QUEUE: &[u8] =
+    b"\x01\x0a\x00\x00\x00\x00\x00\x00\x00\x00\x00\x01\x51\x00\x00\x00\x00\x00\x00";
+
+const STOP_QUEUE: &[u8] = b"\x01\x0b\x00\x00\x00\x00\x00\x00\x00\x00\x00\x01\x51\x03";
+
+const ABORT_JOB: &[u8] =
+    b"\x01\x0c\x00\x00\x00\x00\x00\x00\x00\x00\x00\x01\x51\x01\x07\x00\x00\x00\x01";
+
+const DELETE_QUEUE: &[u8] = b"\x01\x0d\x00\x00\x00\x00\x00\x00\x00\x00\x00\x01\x51";
+
+const DELETE_ENTRY: &[u8] = b"\x01\x11\x00\x00\x00\x00\x00\x00\x00\x00\x00\x07\x00\x00\x00";
+
+const MARK: &[u8] =
+    b"\x01\x12\x00\x00\x00\x00\x00\x00\x00\x00\x00\x01\x00\x00\x00\x00\x00\x00\x00\x02\x68\x69";
+
+const DONE: &[u8] =
+    b"\x01\x13\x00\x00\x00\x00\x00\x00\x00\x00\x00\x01\x00\x00\x00\x00\x00\x00\x00\x2c\x00\x00\x00";
 
 const HEAD: &[u8] =
     b"\x01\x21\x00\x00\x00\x00\x00\x00\x00\x00\x00\x01\x00\x02\x4e\x31\x01\x01\x00\x02\x4e\x31\x01\x00\x00\x00\x07\x00\x00\x00\x00\x00\x00\x00\x00\x00\x00\x00\x00\x00\x00\x00";
@@ -28,7 +52,16 @@ const QUEUE: &[u8] =
 fn number(body: &Body) -> u8 {
     match body {
         Body::Ask(Request::Append { .. }) => 1,
+        Body::Ask(Request::InitializeQueue(_)) => 8,
+        Body::Ask(Request::SetQueue { .. }) => 9,
+        Body::Ask(Request::StartQueue { .. }) => 10,
+        Body::Ask(Request::StopQueue { .. }) => 11,
+        Body::Ask(Request::AbortJob { .. }) => 12,
+        Body::Ask(Request::DeleteQueue { .. }) => 13,
         Body::Ask(Request::Submit(_)) => 15,
+        Body::Ask(Request::DeleteEntry { .. }) => 17,
+        Body::Ask(Request::Mark { .. }) => 18,
+        Body::Ask(Request::Done { .. }) => 19,
         Body::Ask(Request::Tick) => 20,
         Body::Head { .. } => 33,
         Body::Form(_) => 34,
@@ -45,7 +78,23 @@ fn place_in<R: AllocGlobal>(rt: &R, bytes: &[u8]) -> Option<usize> {
     }
 }
 
-const RECORDS: [&[u8]; 6] = [APPEND, SUBMIT, TICK, HEAD, FORM, QUEUE];
+const RECORDS: [&[u8]; 15] = [
+    APPEND,
+    INITIALIZE_QUEUE,
+    SET_QUEUE,
+    START_QUEUE,
+    STOP_QUEUE,
+    ABORT_JOB,
+    DELETE_QUEUE,
+    SUBMIT,
+    DELETE_ENTRY,
+    MARK,
+    DONE,
+    TICK,
+    HEAD,
+    FORM,
+    QUEUE,
+];
 
 #[test]
 fn a_record_that_was_cut_is_none(rt: HostRuntime) {
@@ -66,7 +115,7 @@ fn records_are_read(rt: HostRuntime) -> Result<(), Fail> {
 }
 
 // Bytes that are no record, and the place that is told.
-const FAULTS: [(&str, usize); 8] = [
+const FAULTS: [(&str, usize); 10] = [
     ("\x02\x14\0\0\0\0\0\0\0\0\0", 0),
     ("\x01\x63\0\0\0\0\0\0\0\0\0", 1),
     // A moment past the last.
@@ -80,6 +129,10 @@ const FAULTS: [(&str, usize); 8] = [
     ("\x01\x01\0\0\0\0\0\0\0\0\0\x01A\x02", 13),
     // A small letter.
     ("\x01\x01\0\0\0\0\0\0\0\0\0\x01a\0", 12),
+    // No way to stop a queue.
+    ("\x01\x0b\0\0\0\0\0\0\0\0\0\x01Q\x04", 13),
+    // What a queue retains, behind five settings that aren't given.
+    ("\x01\x09\0\0\0\0\0\0\0\0\0\x01Q\0\0\0\0\0\x01\x03", 19),
 ];
 
 #[test]
@@ -127,6 +180,30 @@ fn a_job_is_written(rt: HostRuntime) -> Result<(), Fail> {
     });
     let text = write_request(rt.alloc(), Moment::BASE, 0, &request)?;
     assert_eq!(rt; text.as_slice(), SUBMIT);
+    Ok(())
+}
+
+#[test]
+fn a_queue_is_written(rt: HostRuntime) -> Result<(), Fail> {
+    let wanted = vec![in rt.alloc(); NameOrNumber::Name(name(b"FAST")), NameOrNumber::Number(3)]?;
+    let request = Request::InitializeQueue(NewQueue {
+        name: name(b"LP"),
+        kind: QueueKind::Print,
+        node: Some(name(b"A")),
+        device: None,
+        targets: Seq::of(Vec::new(rt.alloc())),
+        change: QueueChange {
+            limit: None,
+            characteristics: Some(Seq::of(wanted)),
+            form: Some(NameOrNumber::Name(name(b"LETTER"))),
+            blocks: Some((1, u32::MAX)),
+            by_size: Some(false),
+            retain: Some(QueueRetain::All),
+        },
+        start: true,
+    });
+    let text = write_request(rt.alloc(), Moment::BASE, 0, &request)?;
+    assert_eq!(rt; text.as_slice(), INITIALIZE_QUEUE);
     Ok(())
 }
 

@@ -1,10 +1,10 @@
 use Rattle.qm_record.proofs.Loops.{kept_is_there}
-use Rattle.qm_record.proofs.There.{job_there}
+use Rattle.qm_record.proofs.There.{submit_there}
 use Rattle.qm_record.proofs.request.read_submit.Goals as goal
 
 pub returns-in-Err : goal.returns-in-Err
 returns-in-Err c =
-    job_there
+    submit_there
     c.args.bytes.now.now
     c.in_ok-user.user c.read_name.new.bytes.now c.in_ok-user.ensures
     c.in_ok-kind.kind c.read_job_kind.new.bytes.now c.in_ok-kind.ensures
