@@ -1,6 +1,7 @@
 -- Which command the tokens behind a verb make of it, and what stands behind its /.
 use Rattle.std.specs.Prelude.{ℕ, Bool, true, false, ◌&&◌, ◌||◌, not, if◌then◌else◌, is_some, find, List, [], ◌∷◌, Option, None, Some}
-use Rattle.std.specs.Option.{option_or}
+use Rattle.std.specs.Option.{option_or, option_map}
+use Rattle.std.specs.List.{list_any}
 use Rattle.qm_lex.specs.declared.token.Token.{Token}
 use Rattle.qm_lex.specs.declared.token.TokenKind.{TokenKind}
 use Rattle.qm_lex.specs.declared.token.TokenKind.TheVariants as kinds
@@ -10,7 +11,7 @@ use Rattle.qm_grammar.specs.declared.table.Row.{Row}
 use Rattle.qm_grammar.specs.declared.rules.Takes.{Takes}
 use Rattle.qm_grammar.specs.declared.word.Word.{Word}
 use Rattle.qm_grammar.specs.Words.{verb_spelling, short_spelling, spelling}
-use Rattle.qm_grammar.specs.Spelled.{is_spelled, is_text}
+use Rattle.qm_grammar.specs.Spelled.{is_spelled, begins, is_text}
 use Rattle.qm_grammar.specs.Table.{rows_of, verbs}
 use Rattle.qm_grammar.specs.Rules.{rules_of}
 use Rattle.qm_grammar.specs.Conflicts.{counting_place}
@@ -74,9 +75,26 @@ is_named text tokens row =
 abbrev pub row_of : List ℕ → List Token → Verb → Option Row
 row_of text tokens verb = find (is_named text tokens) (rows_of verb)
 
+abbrev pub named_behind : List ℕ → List Token → Option Verb → Option Command
+named_behind text tokens None = None
+named_behind text tokens (Some verb) = option_map (λ (row : Row). row.command) (row_of text tokens verb)
+
+-- the command that the tokens of a text name, whatever else is wrong with them
+abbrev pub named_command : List ℕ → List Token → Option Command
+named_command text [] = None
+named_command text (token ∷ tokens) = named_behind text tokens (verb_of text token)
+
 -- what a token says behind a / in a command
 abbrev pub rule_in : List ℕ → Token → Command → Option (Word × Takes)
 rule_in text token command = find (λ rule. is_spelled text (spelling rule.0) token) (rules_of command)
+
+-- the option or the qualifier of a command that a token names behind a /
+abbrev pub word_in : List ℕ → Token → Command → Option Word
+word_in text token command = option_map (λ (rule : Word × Takes). rule.0) (rule_in text token command)
+
+-- a name behind a / of the command begins with a token
+abbrev pub begins_name : List ℕ → Token → Command → Bool
+begins_name text token command = list_any (λ rule. begins text (spelling rule.0) token) (rules_of command)
 
 -- what it says in the first of these commands that has it
 abbrev pub rule_among : List ℕ → Token → List Row → Option (Word × Takes)

@@ -1,6 +1,6 @@
 -- What tokens say.
 -- OpenVMS User's Manual, on entering commands: what isn't quoted is raised to upper case.
-use Rattle.std.specs.Prelude.{ℕ, Bool, true, false, ◌&&◌, if◌then◌else◌, nat_le, List, [], length, map, slice_range}
+use Rattle.std.specs.Prelude.{ℕ, Bool, true, false, ◌&&◌, if◌then◌else◌, nat_le, List, [], length, map, take, slice_range}
 use Rattle.std.specs.Char.{to_ascii_uppercase}
 use Rattle.std.specs.Str.{bytes_eq}
 use Rattle.qm_lex.specs.declared.token.Token.{Token}
@@ -38,3 +38,8 @@ is_text Comma = false
 -- the token is a word outside quotes that is spelled so, in any case
 abbrev pub is_spelled : List ℕ → List ℕ → Token → Bool
 is_spelled text spelling token = is_word token.kind && is_raised_to spelling (bytes_of text token)
+
+-- the token is a word outside quotes with which this spelling begins, in any case
+abbrev pub begins : List ℕ → List ℕ → Token → Bool
+begins text spelling token =
+    is_word token.kind && nat_le (length (bytes_of text token)) (length spelling) && is_raised_to (take (length (bytes_of text token)) spelling) (bytes_of text token)

@@ -90,9 +90,3 @@ takes_object verb.Define = false
 takes_object verb.Submit = false
 takes_object verb.Print = false
 takes_object verb.Show = true
-
--- the commands that are built
-abbrev pub is_built : Command → Bool
-is_built command.Submit = true
-is_built command.ShowEntry = true
-is_built _ = false

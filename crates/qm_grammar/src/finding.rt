@@ -1,14 +1,15 @@
 // Which command the tokens behind a verb make of it, and what stands behind its `/`.
 ghost use Rattle.std.specs.Prelude.{◌≡◌, find};
-ghost use Rattle.qm_grammar.specs.Finding.{is_verb, verb_of, lets_follow, stays_open, first_parameter, has_object, has_option, is_named, row_of, rule_in, rule_among, rule_for};
+ghost use Rattle.std.specs.List.{list_any};
+ghost use Rattle.qm_grammar.specs.Finding.{is_verb, verb_of, lets_follow, stays_open, first_parameter, has_object, has_option, is_named, row_of, named_command, rule_in, word_in, begins_name, rule_among, rule_for};
 ghost use Rattle.qm_grammar.specs.Table.{rows_of};
-ghost use Rattle.qm_grammar.specs.Spelled.{is_spelled};
+ghost use Rattle.qm_grammar.specs.Spelled.{is_spelled, begins};
 ghost use Rattle.qm_grammar.specs.Words.{spelling};
 
 use crate::conflict::counting_place;
 use crate::rules::{Rule, own_rules, settings};
 use crate::table::{Command, Row, VERBS, Verb, rows_of};
-use crate::token::{is_spelled, is_text};
+use crate::token::{begins, is_spelled, is_text};
 use crate::word::{Word, short_spelling, spelling, verb_spelling};
 use qm_lex::{Token, TokenKind};
 
@@ -108,6 +109,18 @@ pub(crate) fn row_of(text: &[u8], tokens: &[Token], verb: Verb) -> Option<Row>
         .find(|row| is_named(text, tokens, row))
 }
 
+/// The command that the tokens of a text name, whatever else is wrong with them: its verb, and its option, where it has one.
+pub fn named_command(text: &[u8], tokens: &[Token]) -> Option<Command>
+    ensures { result ≡ named_command text.now tokens.now }
+{
+    let [first, behind @ ..] = tokens else {
+        return None;
+    };
+    let verb = verb_of(text, *first)?;
+    let row = row_of(text, behind, verb)?;
+    Some(row.command)
+}
+
 // What a token says behind a `/`, by these rules.
 fn rule_by(text: &[u8], token: Token, rules: &[Rule]) -> Option<Rule>
     ensures { result ≡ find (λ rule. is_spelled text.now (spelling rule.0) token) rules.now }
@@ -126,6 +139,30 @@ fn rule_in(text: &[u8], token: Token, command: Command) -> Option<Rule>
         Some(rule) => Some(rule),
         None => rule_by(text, token, settings(command)),
     }
+}
+
+/// The option or the qualifier of a command that a token names behind a `/`.
+pub fn word_in(text: &[u8], token: Token, command: Command) -> Option<Word>
+    ensures { result ≡ word_in text.now token command }
+{
+    let rule = rule_in(text, token, command)?;
+    Some(rule.0)
+}
+
+// Whether one of these names begins with a token.
+fn begins_one(text: &[u8], token: Token, rules: &[Rule]) -> bool
+    ensures { result ≡ list_any (λ rule. begins text.now (spelling rule.0) token) rules.now }
+{
+    rules
+        .iter()
+        .any(|rule| begins(text, spelling(rule.0), token))
+}
+
+/// Whether the name of an option or a qualifier of a command begins with a token.
+pub fn begins_name(text: &[u8], token: Token, command: Command) -> bool
+    ensures { result ≡ begins_name text.now token command }
+{
+    begins_one(text, token, own_rules(command)) || begins_one(text, token, settings(command))
 }
 
 /// What a token says behind a `/` in the first command of a verb that has it.

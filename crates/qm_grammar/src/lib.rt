@@ -17,8 +17,10 @@ mod token;
 mod word;
 
 pub use fault::Fault;
+pub use finding::{begins_name, named_command, word_in};
 pub use part::{Part, parts_of};
-pub use reader::{ParseFault, Parsed, parse};
+pub use reader::{Parsed, parse};
 pub use reading::command_of;
-pub use table::{Command, is_built};
+pub use table::Command;
+pub use token::bytes_of;
 pub use word::Word;

@@ -1,6 +1,6 @@
 // The table of commands: verbs, options and parameters.
 ghost use Rattle.std.specs.Prelude.{◌≡◌};
-ghost use Rattle.qm_grammar.specs.Table.{rows_of, takes_option, takes_object, is_built};
+ghost use Rattle.qm_grammar.specs.Table.{rows_of, takes_option, takes_object};
 
 use crate::word::Word;
 
@@ -340,16 +340,6 @@ pub(crate) fn takes_object(verb: Verb) -> bool
 {
     match verb {
         Verb::Set | Verb::Show => true,
-        _ => false,
-    }
-}
-
-/// Whether some form of the command is built; which of its qualifiers are is for whoever gives it its meaning.
-pub fn is_built(command: Command) -> bool
-    ensures { result ≡ is_built command }
-{
-    match command {
-        Command::Submit | Command::ShowEntry => true,
         _ => false,
     }
 }

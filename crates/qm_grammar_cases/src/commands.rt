@@ -1,8 +1,7 @@
 // What users type, and which command it is, or what is wrong and where.
-use qm_grammar::{Command, Fault, ParseFault, Part, Word, parse};
+use qm_grammar::{Command, Fault, Part, Word, named_command, parse};
 use qm_kinds::ParseKind;
 use qm_lex::{Token, TokenKind};
-use std::alloc::Global;
 use std::test::Fail;
 
 // Texts that are commands.
@@ -77,27 +76,46 @@ const FAULTS: [(&str, usize, ParseKind); 36] = [
     ("DEFINE/FORM A 5/MARGIN=(TOP=(1))", 28, ParseKind::Value),
 ];
 
-// Which command a text is.
-fn told(alloc: Global, text: &str) -> Result<Command, ParseFault> {
-    match parse(alloc, text.as_bytes()) {
-        Ok(parsed) => Ok(parsed.command),
-        Err(fault) => Err(fault),
-    }
-}
+// Texts, with the command that they name, whatever else is wrong with them.
+const NAMED: [(&str, Option<Command>); 7] = [
+    ("SUBMIT", Some(Command::Submit)),
+    ("SUBMIT A/NAME=\"B", Some(Command::Submit)),
+    ("STOP/BAD=(X/QUEUE", Some(Command::StopQueue)),
+    ("STOP \"X/QUEUE", None),
+    ("STOP X", None),
+    ("show entry/bad", Some(Command::ShowEntry)),
+    ("\"SHOW ENTRY", None),
+];
 
 #[test]
-fn texts_are_commands(rt: HostRuntime) {
+fn texts_are_commands(rt: HostRuntime) -> Result<(), Fail> {
     for (text, command) in COMMANDS {
-        assert_eq!(rt; told(rt.alloc(), text), Ok(command), "{text}");
+        let parsed = parse(rt.alloc(), text.as_bytes())?;
+        assert_eq!(rt; parsed.command, Ok(command), "{text}");
     }
+    Ok(())
 }
 
 #[test]
-fn a_fault_is_told_at_its_place(rt: HostRuntime) {
+fn a_fault_is_told_at_its_place(rt: HostRuntime) -> Result<(), Fail> {
     for (text, place, kind) in FAULTS {
-        let fault = ParseFault::At(Fault { place, kind });
-        assert_eq!(rt; told(rt.alloc(), text), Err(fault), "{text}");
+        let parsed = parse(rt.alloc(), text.as_bytes())?;
+        assert_eq!(rt; parsed.command, Err(Fault { place, kind }), "{text}");
     }
+    Ok(())
+}
+
+#[test]
+fn a_wrong_text_may_name_a_command(rt: HostRuntime) -> Result<(), Fail> {
+    for (text, command) in NAMED {
+        let parsed = parse(rt.alloc(), text.as_bytes())?;
+        assert_eq!(rt;
+            named_command(text.as_bytes(), &parsed.tokens),
+            command,
+            "{text}"
+        );
+    }
+    Ok(())
 }
 
 // A word from one byte to another.
