@@ -1,2 +1,4 @@
-pub mod Spelling
-pub mod Words
+pub mod Digits
+pub mod ShortNames
+pub mod EachAsked
+pub mod FirstFault

@@ -1,11 +1,11 @@
 -- What a fault says of a text.
-use Rattle.std.specs.Prelude.{◌≡◌, Option, None}
+use Rattle.std.specs.Prelude.{◌≡◌, Result, Err}
 use Rattle.qm_kinds.specs.declared.input.Input.{Input}
-use Rattle.qm_kinds.specs.declared.refusal.ParseKind.TheVariants.{NotBuilt}
+use Rattle.qm_grammar.specs.declared.fault.Fault.{Fault}
 use Rattle.qm_dcl.specs.declared.fault.DclFault.{DclFault}
+use Rattle.qm_dcl.specs.declared.fault.DclFault.TheVariants.{At, NoMemory}
 
--- The text means nothing, and the command isn't built.
-pub record Explains (meant : Option Input) (fault : DclFault) : Type 0 where
-  pub nothing : meant ≡ None
-  pub place : fault.place ≡ 0
-  pub kind : fault.kind ≡ NotBuilt
+-- what is wrong with the text; of want of memory nothing is told
+abbrev pub Explains : Result Input Fault → DclFault → Type 0
+Explains read (At place kind) = read ≡ Err (record { place = place; kind = kind })
+Explains read NoMemory = Unit {0}

@@ -1,1 +1,9 @@
+pub mod Values
+pub mod Built
+pub mod Settings
+pub mod Submitting
+pub mod Showing
+pub mod Queues
+pub mod Command
+pub mod Lines
 pub mod Faults

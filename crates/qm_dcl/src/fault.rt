@@ -1,18 +1,23 @@
+// Why a command can't be read.
 use qm_kinds::ParseKind;
 use std::error::Error;
 use std::fmt;
 
-/// Why a command can't be read: the text is no command that is built. `place` is the byte at which it goes wrong, counted
-/// from 0.
+/// Why a command can't be read.
 #[derive(Clone, Copy, Debug, PartialEq, Eq)]
-pub struct DclFault {
-    pub place: usize,
-    pub kind: ParseKind,
+pub enum DclFault {
+    /// What is wrong with the text, and the byte at which it stands, counted from 0.
+    At { place: usize, kind: ParseKind },
+    /// Memory ran out.
+    NoMemory,
 }
 
 impl fmt::Display for DclFault {
     fn fmt<W: fmt::Write>(&self, f: &mut fmt::Formatter<W>) -> fmt::Result {
-        write!(f, "byte {}: {}", self.place, self.kind)
+        match self {
+            DclFault::At { place, kind } => write!(f, "byte {place}: {kind}"),
+            DclFault::NoMemory => f.write_str("out of memory"),
+        }
     }
 }
 

@@ -1,13 +1,18 @@
-//! The reader of the commands that users type. `read_command` gives what a text asks for, exactly where the model's
-//! grammar gives it (`command_of`), and else a fault. It takes time in the length of the text, and no
-//! memory.
+//! The reader of the commands that users type. `read_command` gives what a text asks for, and else the first fault, exactly as
+//! `command_of` in `specs/` says: the grammar tells which command the text is and which parts it has, and here is said what
+//! the values of these mean. It takes time in the length of the text, and memory for its tokens and parts.
 #![tactic(auto)]
 
+mod built;
 mod command;
 mod fault;
+mod laws;
+mod queue;
+mod settings;
 mod show;
 mod submit;
-mod word;
+mod value;
 
 pub use command::read_command;
 pub use fault::DclFault;
+pub use laws::{no_fault_is_told_behind_the_first, what_is_asked_is_a_command};

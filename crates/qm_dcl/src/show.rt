@@ -1,6 +1,6 @@
 // SHOW ENTRY number.
 ghost use Rattle.std.specs.Prelude.{◌≡◌, ◌∷◌, []};
-ghost use Rattle.qm_model.specs.Command.{query_of};
+ghost use Rattle.qm_dcl.specs.Showing.{query_of};
 
 use qm_kinds::{Kinds, Listing, Pattern, Query};
 

@@ -1,7 +1,7 @@
 use Rattle.std.proofs.Common.{◌≡◌, ◌∙◌, ap, arith, take_all}
-use Rattle.qm_model.specs.Command.{value_of}
-use Rattle.qm_dcl.proofs.Spelling.{value_grows, value_more}
-use Rattle.qm_dcl.proofs.word.value_of.Goals as goal
+use Rattle.qm_model.specs.Texts.{value_of}
+use Rattle.qm_dcl.proofs.Digits.{value_grows, value_more}
+use Rattle.qm_dcl.proofs.value.value_of.Goals as goal
 
 pub loop-digit-preserved : goal.loop-digit-preserved
 loop-digit-preserved c =

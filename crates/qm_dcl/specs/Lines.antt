@@ -1,0 +1,18 @@
+-- What a line of a script asks for.
+use Rattle.std.specs.Prelude.{ℕ, List, Result, Ok, Err}
+use Rattle.qm_kinds.specs.Names.{system_user}
+use Rattle.qm_kinds.specs.declared.input.Input.{Input}
+use Rattle.qm_kinds.specs.declared.input.Input.TheVariants as input
+use Rattle.qm_grammar.specs.declared.fault.Fault.{Fault}
+use Rattle.qm_model.specs.Script.{Sort, Command, Site, act_of}
+use Rattle.qm_dcl.specs.Command.{command_of}
+
+-- a command that can't be read is a fault at its place
+abbrev pub or_fault : Result Input Fault → Input
+or_fault (Ok asked) = asked
+or_fault (Err f) = input.Fault f.place f.kind
+
+-- what a line asks for: a command, or an act at the site
+abbrev pub input_of : Sort → List ℕ → Input
+input_of Command text = or_fault (command_of system_user text)
+input_of Site text = act_of text
