@@ -1,7 +1,7 @@
-pub mod Spool
-pub mod Listed
+pub mod Settings
 pub mod Due
+pub mod Leaving
+pub mod Ending
 pub mod Refusing
 pub mod Image
 pub mod Preparing
-pub mod Appending

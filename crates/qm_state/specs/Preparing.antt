@@ -1,22 +1,33 @@
 -- Changes that are decided, and for which memory is taken.
-use Rattle.std.specs.Prelude.{◌≡◌, ◌<◌, ◌≤◌, ◌+◌, ◌^◌, ℕ, List, [], ◌∷◌, ◌++◌, length, map, false, None, Ok, Err, vec_len, vec_capacity}
-use Rattle.std.specs.List.{HoldsAt}
-use Rattle.qm_kinds.specs.declared.file.FileName.{FileName}
+use Rattle.std.specs.Prelude.{◌≡◌, ◌<◌, ◌≤◌, ◌+◌, ◌^◌, ℕ, false, List, [], ◌∷◌, ◌++◌, length, find, Option, None, IfSome, IsSome, vec_capacity}
 use Rattle.qm_kinds.specs.declared.entry.Entry.{Entry}
-use Rattle.qm_kinds.specs.declared.reply.Act.TheVariants.{Submitted}
+use Rattle.qm_kinds.specs.declared.file.FileName.{FileName}
+use Rattle.qm_kinds.specs.declared.queue.Queue.{Queue}
+use Rattle.qm_kinds.specs.declared.reply.Act.TheVariants.{Submitted, EntryDeleted}
 use Rattle.qm_kinds.specs.declared.system.System.{System}
+use Rattle.qm_model.specs.Appending.{appended, is_spool_full}
+use Rattle.qm_model.specs.Applied.{at_moment, completed}
+use Rattle.qm_model.specs.Consistent.{IsConsistent}
+use Rattle.qm_model.specs.Due.{due}
+use Rattle.qm_model.specs.Find.{file_named}
+use Rattle.qm_model.specs.JobStates.{run_of}
 use Rattle.qm_model.specs.Outcome.{Accepted}
-use Rattle.qm_model.specs.Appending.{appended}
-use Rattle.qm_model.specs.Applied.{at_moment}
-use Rattle.qm_model.specs.Due.{due, entry_at}
-use Rattle.qm_model.specs.JobStates.{is_kept_until_a_moment}
+use Rattle.qm_model.specs.Queues.{queue_deleted, runs_for}
+use Rattle.qm_model.specs.Replying.{replied, replied_with_queue}
+use Rattle.qm_model.specs.Runs.{EndReport, run_reported}
+use Rattle.qm_model.specs.Settling.{settled}
+use Rattle.qm_model.specs.Standing.{with_entry, with_queue}
+use Rattle.qm_model.specs.States.{stopped_when_idle}
+use Rattle.qm_model.specs.Stopping.{queue_stopped, entry_aborting}
+use Rattle.qm_queues.specs.Queues.{with_queue_put}
+use Rattle.qm_queues.specs.Settings.{with_settings_and_state}
+use Rattle.qm_spool.specs.Kept.{HasRoomFor}
 use Rattle.qm_state.specs.declared.image.Image.{Image}
-use Rattle.qm_state.specs.declared.limits.TheConstants.{FILE_LIMIT, FILES_LIMIT, SPOOL_LIMIT, ENTRIES_LIMIT}
+use Rattle.qm_state.specs.declared.limits.TheConstants.{ENTRIES_LIMIT}
 use Rattle.qm_state.specs.declared.prepared.Prepared.{Prepared}
 use Rattle.qm_state.specs.declared.prepared.Change.{Change}
-use Rattle.qm_state.specs.declared.prepared.Change.TheVariants.{NewFile, MoreBytes, NewEntry}
+use Rattle.qm_state.specs.declared.prepared.Change.TheVariants.{NewFile, MoreBytes, NewEntry, PutQueue, SetQueue, StopQueue, CutShort, RemoveQueue, RemoveEntry, EndRun}
 use Rattle.qm_state.specs.Image.{system_of}
-use Rattle.qm_state.specs.Spool.{least_naming, IsPlace}
 
 -- the entry stands behind the others, and its number isn't given again
 abbrev pub entered : System → Entry → Accepted
@@ -25,71 +36,88 @@ entered s entry = record {
   reply = record { act = Submitted entry.name entry.home entry.number entry.state; started = [] };
 }
 
--- what the change makes of the system that the moment finds
-abbrev pub outcome_of : Change → System → Accepted
-outcome_of (NewFile place name bytes) s = appended s name bytes.items
-outcome_of (MoreBytes place name bytes) s = appended s name bytes.now
-outcome_of (NewEntry place entry) s = entered s entry
+-- the queue stands in its place by name
+abbrev pub queue_put : System → Queue → Accepted
+queue_put s queue = replied_with_queue (record s { queues = with_queue_put queue s.queues }) queue.name
+
+-- the entry goes
+abbrev pub entry_removed : System → ℕ → Accepted
+entry_removed s number = replied (record s { entries = with_entry number (λ e. None) s.entries }) (EntryDeleted number)
+
+-- what the change makes of the system that the acting moment finds, for the node that serves it; queues that are stopping
+-- haven't been stopped then, and no job is started
+abbrev pub outcome_of : Change → ℕ → List ℕ → System → Accepted
+outcome_of (NewFile name bytes) now node s = appended s name bytes.items
+outcome_of (MoreBytes name bytes) now node s = appended s name bytes.now
+outcome_of (NewEntry entry) now node s = entered s entry
+outcome_of (PutQueue queue) now node s = queue_put s queue
+outcome_of (SetQueue name settings state) now node s = replied_with_queue (record s { queues = with_queue name (with_settings_and_state settings state) s.queues }) name
+outcome_of (StopQueue name how) now node s = queue_stopped s name how
+outcome_of (CutShort entry fate) now node s = entry_aborting s fate entry
+outcome_of (RemoveQueue name) now node s = queue_deleted s name
+outcome_of (RemoveEntry entry) now node s = entry_removed s entry
+outcome_of (EndRun run status) now node s = run_reported s now node run (EndReport status)
 
 -- the system as the acting moment finds it
 abbrev pub found : ℕ → System → System
 found now s = due now (at_moment now s)
 
--- what the change makes of a system at its moment
-unfoldable pub made : Prepared → System → Accepted
-made prepared s = outcome_of prepared.change (found prepared.at s)
+-- what is prepared makes of a system, before queues that are stopping are stopped and jobs are started
+unfoldable pub changed : Prepared → System → Accepted
+changed prepared s = outcome_of prepared.change prepared.at prepared.node (found prepared.at s)
 
--- there is room for the file where it belongs, and it passes no limit
-pub record IsNewFile (image : Image) (place : ℕ) (name : FileName) (bytes : List ℕ) : Type 0 where
-  pub stands : IsPlace name image.files.items (Err place)
-  pub unnamed : least_naming image.entries.items name ≡ None
-  pub few : vec_len image.files < FILES_LIMIT
-  pub room : vec_len image.files < vec_capacity image.files
-  pub small : length bytes ≤ FILE_LIMIT
-  pub limit : image.spool_size + length bytes ≤ SPOOL_LIMIT
+-- what is prepared makes of a system
+unfoldable pub made : Prepared → System → Accepted
+made prepared s = completed (changed prepared s)
+
+-- there is room for a new file of these bytes, and it passes no limit
+pub record CanInsert (image : Image) (name : FileName) (bytes : List ℕ) : Type 0 where
+  pub room : 0 < image.spool.spare
+  pub absent : file_named name image.spool.files ≡ None
+  pub fits : is_spool_full name (length bytes) image.spool.files ≡ false
 
 -- there is room for the bytes in the file, and they pass no limit
-pub record AreMoreBytes (image : Image) (place : ℕ) (name : FileName) (bytes : List ℕ) : Type 0 where
-  pub stands : IsPlace name image.files.items (Ok place)
-  pub room : HoldsAt (λ f. vec_len f.bytes + length bytes ≤ vec_capacity f.bytes) image.files.items place
-  pub small : HoldsAt (λ f. vec_len f.bytes + length bytes ≤ FILE_LIMIT) image.files.items place
-  pub limit : image.spool_size + length bytes ≤ SPOOL_LIMIT
+abbrev pub CanAppend : Image → FileName → List ℕ → Type 0
+CanAppend image name bytes = HasRoomFor image.spool name bytes
 
--- there is room for the entry, which has the next number, and its file is there
-pub record IsNewEntry (image : Image) (place : ℕ) (entry : Entry) : Type 0 where
-  pub file : IsPlace entry.file image.files.items (Ok place)
+-- there is room for the entry, which has the next number and no run, and its file is there
+pub record IsNewEntry (image : Image) (entry : Entry) : Type 0 where
   pub number : entry.number ≡ image.next_entry
-  pub lasts : is_kept_until_a_moment entry.state ≡ false
+  pub idle : run_of entry.state ≡ None
   pub next : image.next_entry + 1 < 2 ^ 32
-  pub few : vec_len image.entries < ENTRIES_LIMIT
-  pub room : vec_len image.entries < vec_capacity image.entries
+  pub few : length image.parts.entries < ENTRIES_LIMIT
+  pub room : 0 < image.parts.spare_entries
+  pub file : IsSome (file_named entry.file image.spool.files)
 
--- the change can be made on the image, and there is room for it
+-- how many jobs start behind a change of the system that the moment finds
+abbrev pub starts_behind : Change → ℕ → List ℕ → System → ℕ
+starts_behind change now node s = length (settled (stopped_when_idle (outcome_of change now node (found now s)).system)).started
+
+-- The change can be made on the image: for what comes there is room, a new entry has the next number and no run, its file is
+-- there and may be named once more, and no job runs for a queue that goes.
 abbrev pub IsReady : Image → Change → Type 0
-IsReady image (NewFile place name bytes) = IsNewFile image place name bytes.items
-IsReady image (MoreBytes place name bytes) = AreMoreBytes image place name bytes.now
-IsReady image (NewEntry place entry) = IsNewEntry image place entry
+IsReady image (NewFile name bytes) = CanInsert image name bytes.items
+IsReady image (MoreBytes name bytes) = CanAppend image name bytes.now
+IsReady image (NewEntry entry) = IsNewEntry image entry
+IsReady image (PutQueue queue) = 0 < image.parts.spare_queues
+IsReady image (SetQueue name settings state) = Unit {0}
+IsReady image (StopQueue name how) = Unit {0}
+IsReady image (CutShort entry fate) = Unit {0}
+IsReady image (RemoveQueue name) = find (runs_for name) image.parts.entries ≡ None
+IsReady image (RemoveEntry entry) = Unit {0}
+IsReady image (EndRun run status) = Unit {0}
 
--- the change can be made on the image, and its memory is taken
-unfoldable pub IsPrepared : Image → Prepared → Type 0
-IsPrepared image prepared = IsReady image prepared.change
+-- What is prepared can be made on the image: the change can, it leaves a consistent system before any job is started, and there
+-- is room for the jobs that start behind it.
+pub record IsPrepared (image : Image) (prepared : Prepared) : Type 0 where
+  pub ready : IsReady image prepared.change
+  pub sound : IsConsistent (stopped_when_idle (changed prepared (system_of image)).system)
+  pub none_yet : prepared.started.items ≡ []
+  pub started_room : length (made prepared (system_of image)).reply.started ≤ vec_capacity prepared.started
+  pub run_room : length (made prepared (system_of image)).reply.started ≤ image.parts.spare_runs
 
--- the image as the acting moment finds it, with the room that was taken
-pub record IsReached (now : ℕ) (old new : Image) : Type 0 where
-  pub rows : system_of new ≡ found now (system_of old)
-  pub entries : new.entries.items ≡ map (entry_at now) old.entries.items
-  pub files : new.files ≡ old.files
-  pub size : new.spool_size ≡ old.spool_size
-  pub next : new.next_entry ≡ old.next_entry
-  pub room : vec_capacity new.entries ≡ vec_capacity old.entries
-
--- the places for files and entries are those that were there
-pub record KeepsRoom (old new : Image) : Type 0 where
-  pub files : vec_capacity new.files ≡ vec_capacity old.files
-  pub entries : vec_capacity new.entries ≡ vec_capacity old.entries
-
--- a new file has the very bytes for which memory was taken, and no copy of them
-abbrev pub HasItsBytes : Image → Change → Type 0
-HasItsBytes image (NewFile place name bytes) = HoldsAt (λ f. f.bytes ≡ bytes) image.files.items place
-HasItsBytes image (MoreBytes place name bytes) = Unit {0}
-HasItsBytes image (NewEntry place entry) = Unit {0}
+-- what a run leaves of the entry of a number: it has no run any more, or keeps its own, and names the same file
+pub record IsLeftOf (left : Entry) (number : ℕ) (old : Option Entry) : Type 0 where
+  pub number_stays : left.number ≡ number
+  pub file_stays : IfSome old (λ e. e.file ≡ left.file)
+  pub idle : run_of left.state ≡ None

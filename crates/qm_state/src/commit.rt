@@ -1,88 +1,63 @@
-ghost use Rattle.std.specs.Prelude.{◌≡◌, []};
-ghost use Rattle.qm_model.specs.Appending.{appended};
+ghost use Rattle.std.specs.Prelude.{◌≡◌, ◌≤◌, []};
+ghost use Rattle.qm_model.specs.Consistent.{IsConsistent};
 ghost use Rattle.qm_state.specs.Image.{system_of};
-ghost use Rattle.qm_state.specs.Preparing.{made, entered, IsPrepared, IsNewFile, AreMoreBytes, IsNewEntry, KeepsRoom, HasItsBytes};
-ghost use Rattle.std.specs.List.{HoldsAt};
+ghost use Rattle.qm_state.specs.Preparing.{made, outcome_of, IsPrepared, IsReady};
 
-use crate::due::earliest;
 use crate::image::Image;
-use crate::listed::{push_copy, submitted};
 use crate::prepared::{Change, Prepared};
-use crate::spooled::{Spooled, extend_file, insert_file, name_file};
-use qm_kinds::{Act, Entry, FileName, Reply, Seq};
+use qm_kinds::{Act, Moment, Name, Reply, Seq};
+use qm_model::due_keeps_consistent;
+use qm_sched::settle;
 
 impl Image {
-    /// Makes the change that was prepared, at its moment, and says what was done. It takes no memory: what was prepared has
-    /// the bytes of a new file, and the places for files, entries and bytes were taken with it.
-    #[tactic(auto, unfolding(crate::specs::Image::system_of, crate::specs::Preparing::made, crate::specs::Preparing::IsPrepared))]
+    /// Makes the change that was prepared, at its moment, starts the jobs that can start then, and says what was done. It
+    /// takes no memory: all was taken with what was prepared.
+    #[tactic(auto, unfolding(crate::specs::Image::system_of, crate::specs::Preparing::made, crate::specs::Preparing::changed))]
     pub fn commit(&mut self, prepared: Prepared) -> Reply
-        requires { IsPrepared self.old prepared }
+        requires sound { IsConsistent (system_of self.old) }
+        requires prepared { IsPrepared self.old prepared }
         ensures done { made prepared.entry (system_of self.old) ≡ record { system = system_of self.new; reply = result } }
-        ensures room { KeepsRoom self.old self.new }
-        ensures bytes { HasItsBytes self.new prepared.entry.change }
     {
-        let Prepared { at, change } = prepared;
+        due_keeps_consistent();
+        let Prepared {
+            at,
+            node,
+            change,
+            mut started,
+        } = prepared;
         self.reach(at);
-        let act = match change {
-            Change::NewFile { place, name, bytes } => self.commit_file(place, &name, bytes),
-            Change::MoreBytes { place, name, bytes } => self.commit_bytes(place, name, bytes),
-            Change::NewEntry { place, entry } => self.commit_entry(place, &entry),
-        };
+        let act = self.make(at, &node, change);
+        self.parts.stop_idle();
+        settle(&mut self.parts, &mut started);
         Reply {
             act,
-            started: Seq::new(self.alloc),
+            started: Seq::of(started),
         }
     }
 
-    // The new file stands where it belongs.
+    // Makes a change of the rows that the moment finds.
     #[tactic(auto, unfolding(crate::specs::Image::system_of))]
-    fn commit_file(&mut self, place: usize, name: &FileName, bytes: Vec<u8>) -> Act
-        requires { IsNewFile self.old place name.now bytes.items }
-        ensures room { KeepsRoom self.old self.new }
-        ensures bytes { HoldsAt (λ f. f.bytes ≡ bytes) self.new.files.items place }
-        ensures done { appended (system_of self.old) name.now bytes.items ≡ record { system = system_of self.new; reply = record { act = result; started = [] } } }
+    fn make(&mut self, now: Moment, node: &Name, change: Change) -> Act
+        requires sound { IsConsistent (system_of self.old) }
+        requires ready { IsReady self.old change }
+        ensures done { outcome_of change.entry now node.now (system_of self.old) ≡ record { system = system_of self.new; reply = record { act = result; started = [] } } }
+        ensures room { self.old.parts.spare_runs ≤ self.new.parts.spare_runs }
     {
-        let size = bytes.len() as u32;
-        let file = Spooled {
-            name: *name,
-            bytes,
-            named_by: None,
-        };
-        insert_file(&mut self.files, place, file);
-        self.spool_size += size;
-        Act::Filed {
-            file: *name,
-            bytes: size,
+        match change {
+            Change::NewFile { name, bytes } => self.make_file(&name, bytes),
+            Change::MoreBytes { name, bytes } => self.extend_file(&name, bytes),
+            Change::NewEntry { entry } => self.enter(entry),
+            Change::PutQueue { queue } => self.put_queue(queue),
+            Change::SetQueue {
+                name,
+                settings,
+                state,
+            } => self.set_queue(&name, &settings, state),
+            Change::StopQueue { name, how } => self.stop_queue(&name, how),
+            Change::CutShort { entry, fate } => self.cut_short(entry, fate),
+            Change::RemoveQueue { name } => self.remove_queue(&name),
+            Change::RemoveEntry { entry } => self.remove_entry(entry),
+            Change::EndRun { run, status } => self.end_run(now, node, run, status),
         }
-    }
-
-    // The bytes stand behind those of the file.
-    #[tactic(auto, unfolding(crate::specs::Image::system_of))]
-    fn commit_bytes(&mut self, place: usize, name: FileName, bytes: &[u8]) -> Act
-        requires { AreMoreBytes self.old place name bytes.now }
-        ensures room { KeepsRoom self.old self.new }
-        ensures done { appended (system_of self.old) name bytes.now ≡ record { system = system_of self.new; reply = record { act = result; started = [] } } }
-    {
-        let size = (self.files[place].bytes.len() + bytes.len()) as u32;
-        extend_file(&mut self.files, place, bytes);
-        self.spool_size += bytes.len() as u32;
-        Act::Filed {
-            file: name,
-            bytes: size,
-        }
-    }
-
-    // The entry stands behind the others, and its file is kept.
-    #[tactic(auto, unfolding(crate::specs::Image::system_of))]
-    fn commit_entry(&mut self, place: usize, entry: &Entry) -> Act
-        requires { IsNewEntry self.old place entry.now }
-        ensures room { KeepsRoom self.old self.new }
-        ensures done { entered (system_of self.old) entry.now ≡ record { system = system_of self.new; reply = record { act = result; started = [] } } }
-    {
-        name_file(&mut self.files, place, entry.number);
-        push_copy(&mut self.entries, entry);
-        self.next_due = earliest(self.next_due, &entry.state);
-        self.next_entry += 1;
-        submitted(entry)
     }
 }

@@ -1,31 +1,29 @@
-// What is due at a moment: jobs that wait for it become pending.
-ghost use Rattle.std.specs.Prelude.{◌≡◌, All, map, nat_le, true, false};
+// What is due at a moment: jobs that wait for it become pending, and those that are retained until then go.
+ghost use Rattle.std.specs.Prelude.{◌≡◌, ◌≤◌, All, Bool, length, filter, not, nat_le, true, false};
 ghost use Rattle.std.specs.Option.{option_map_or};
+ghost use Rattle.qm_entries.specs.Boxed.{contents};
 ghost use Rattle.qm_kinds.specs.declared.entry.EntryState.{EntryState as AnyState};
-ghost use Rattle.qm_model.specs.Due.{state_at, entry_at};
-ghost use Rattle.qm_state.specs.Due.{waits_from};
+ghost use Rattle.qm_state.specs.Due.{is_due_from};
+ghost use Rattle.qm_state.specs.Image.{system_of};
+ghost use Rattle.qm_state.specs.Preparing.{found};
 
 use crate::image::Image;
+use crate::leaving::{Leaving, leave_files};
 use qm_kinds::{Entry, EntryState, Moment};
-use qm_model::idle_entries_stay_in_place;
+use qm_model::what_is_not_due_stays;
 
-// The state as the moment finds it.
-fn state_at(now: Moment, state: &EntryState) -> EntryState
-    ensures { result ≡ state_at now state.now }
-{
-    match *state {
-        EntryState::Timed { at } if at <= now => EntryState::Pending,
-        same => same,
-    }
-}
-
-/// The earlier of a moment, where there is one, and the one that a state waits for.
+/// The earlier of a moment, where there is one, and the one at which a state is due.
 pub(crate) fn earliest(next: Option<Moment>, state: &EntryState) -> Option<Moment>
-    ensures here { waits_from result state.now ≡ true }
-    ensures others { (other : AnyState) → waits_from next other ≡ true → waits_from result other ≡ true }
+    ensures here { is_due_from result state.now ≡ true }
+    ensures others { (other : AnyState) → is_due_from next other ≡ true → is_due_from result other ≡ true }
 {
-    let EntryState::Timed { at } = *state else {
-        return next;
+    let at = match *state {
+        EntryState::Timed { at } => at,
+        EntryState::Retained {
+            until: Some(until),
+            ..
+        } => until,
+        _ => return next,
     };
     match next {
         Some(next) if next <= at => Some(next),
@@ -43,38 +41,35 @@ fn is_reached(next: Option<Moment>, now: Moment) -> bool
     }
 }
 
-/// The first moment that an entry waits for, if one does.
-pub(crate) fn first_due(entries: &[Entry]) -> Option<Moment>
-    ensures { All (λ e. waits_from result e.state ≡ true) entries.now }
+/// The first moment at which an entry is due, if one is.
+pub(crate) fn first_due(entries: &[Box<Entry>]) -> Option<Moment>
+    ensures { All (λ e. is_due_from result e.state ≡ true) (contents entries.now) }
 {
     let mut next = None;
-    for entry in entries {
+    for boxed in entries {
+        let entry = boxed.as_ref();
         next = earliest(next, &entry.state);
     }
     next
 }
 
-// Makes the entries those that the moment finds.
-fn wake(entries: &mut [Entry], now: Moment)
-    ensures { entries.new ≡ map (entry_at now) entries.old }
-{
-    for entry in entries.iter_mut() {
-        entry.state = state_at(now, &entry.state);
-    }
-}
-
 impl Image {
-    ghost use Rattle.qm_state.specs.Preparing.{IsReached};
-
     /// Makes the rows those that the acting moment finds. The entries are looked at only where one can be due.
+    #[tactic(auto, unfolding(crate::specs::Image::system_of))]
     pub(crate) fn reach(&mut self, now: Moment)
-        ensures { IsReached now self.old self.new }
+        ensures rows { system_of self.new ≡ found now (system_of self.old) }
+        ensures rooms { self.new.spool ≡ record self.old.spool { counts = self.new.spool.counts } }
+        ensures queues { self.new.parts.spare_queues ≡ self.old.parts.spare_queues }
+        ensures entries { self.new.parts.spare_entries ≡ self.old.parts.spare_entries }
+        ensures runs { self.new.parts.spare_runs ≡ self.old.parts.spare_runs }
     {
-        idle_entries_stay_in_place();
+        what_is_not_due_stays();
         self.last = now;
         if is_reached(self.next_due, now) {
-            wake(self.entries.as_mut_slice(), now);
-            self.next_due = first_due(self.entries.as_slice());
+            leave_files(&mut self.spool, self.parts.entries(), &Leaving::Over(now));
+            self.parts.remove_over(now);
+            self.parts.wake(now);
+            self.next_due = first_due(self.parts.entries());
         }
     }
 }

@@ -10,7 +10,7 @@ impl Image {
     pub fn nodes(&self) -> &[Node]
         ensures { result.now ≡ (system_of self.now).nodes }
     {
-        self.nodes.as_slice()
+        self.parts.nodes()
     }
 
     /// The moment of the last change.

@@ -1,26 +1,31 @@
-ghost use Rattle.std.specs.Prelude.{◌≡◌, ◌<◌, ◌≤◌, IfOk, Ok, length, true};
-ghost use Rattle.qm_model.specs.Applied.{applied};
+ghost use Rattle.std.specs.Prelude.{◌≡◌, ◌<◌, ◌≤◌, ℕ, List, IfOk, Ok, length, true};
+ghost use Rattle.qm_model.specs.Applied.{applied, change_of, refusal_of};
 ghost use Rattle.qm_model.specs.Built.{is_built};
+ghost use Rattle.qm_model.specs.Consistent.{IsConsistent};
+ghost use Rattle.qm_model.specs.Standing.{node_at};
 ghost use Rattle.qm_state.specs.Image.{system_of};
-ghost use Rattle.qm_state.specs.Preparing.{made, IsPrepared};
-ghost use Rattle.qm_state.specs.Refusing.{Refuses, KeepsRefused};
+ghost use Rattle.qm_state.specs.Preparing.{found, made, outcome_of, IsPrepared, IsReady};
+ghost use Rattle.qm_state.specs.Refusing.{Decides, Refuses, KeepsRefused};
 
 use crate::image::Image;
 use crate::limits::RUNS_LIMIT;
-use crate::prepared::Prepared;
+use crate::prepared::{Change, Prepared};
 use crate::refused::Refused;
-use qm_kinds::{Moment, Refusal, Request};
-use qm_model::idle_requests_start_nothing;
+use qm_kinds::{Moment, Name, Refusal, Request};
+use qm_model::built_changes_keep_consistent;
+use std::alloc::AllocError;
 
 impl Image {
-    /// Decides on a request that a node serves at the acting moment, and takes the memory for its change. No row is
-    /// changed. Where the request is refused, it is refused before memory is asked for, and the image is as it was.
+    /// Decides on a request that a node serves at the acting moment, and takes the memory for its change and for the jobs that
+    /// start behind it. No row is changed. Where the request is refused, it is refused before memory is asked for, and the
+    /// image is as it was.
     pub fn prepare<'a>(
         &mut self,
         now: Moment,
         node: u8,
         request: &'a Request,
     ) -> Result<Prepared<'a>, Refused>
+        requires sound { IsConsistent (system_of self.old) }
         requires built { is_built request.now ≡ true }
         requires later { (system_of self.old).last ≤ now }
         requires serves { node < length (system_of self.old).nodes }
@@ -33,13 +38,61 @@ impl Image {
         ensures ready { IfOk result (IsPrepared self.new) }
         ensures accepted { IfOk result (λ prepared. applied (system_of self.old) now node request.now ≡ Ok (made prepared (system_of self.old))) }
     {
-        idle_requests_start_nothing();
-        if self.next_run >= RUNS_LIMIT {
+        built_changes_keep_consistent();
+        if self.parts.next_run() >= RUNS_LIMIT {
             return Err(Refused::By(Refusal::NumbersSpent));
         }
+        let name = self.node_name(node);
+        let change = self.prepare_change(now, &name, request)?;
+        match self.reserve_starts(&change) {
+            Ok(started) => Ok(Prepared {
+                at: now,
+                node: name,
+                change,
+                started,
+            }),
+            Err(AllocError) => Err(Refused::NoMemory),
+        }
+    }
+
+    // The name of the node at a place.
+    #[tactic(auto, unfolding(crate::specs::Image::system_of))]
+    fn node_name(&self, node: u8) -> Name
+        requires { node < length (system_of self.now).nodes }
+        ensures { result ≡ node_at node (system_of self.now).nodes }
+    {
+        self.parts.nodes()[usize::from(node)].name
+    }
+
+    // Decides on a request that a node serves, and takes the memory for its change.
+    fn prepare_change<'a>(
+        &mut self,
+        now: Moment,
+        node: &Name,
+        request: &'a Request,
+    ) -> Result<Change<'a>, Refused>
+        requires { is_built request.now ≡ true }
+        ensures rows { system_of self.new ≡ system_of self.old }
+        ensures decided { Decides (refusal_of (system_of self.old) node.now request.now) result }
+        ensures untouched { KeepsRefused self.old self.new result }
+        ensures ready { IfOk result (IsReady self.new) }
+        ensures made { IfOk result (λ change. outcome_of change now node.now (found now (system_of self.old)) ≡ change_of (found now (system_of self.old)) now node.now request.now) }
+    {
         match request {
-            Request::Append { file, bytes } => self.prepare_append(now, file, bytes.as_slice()),
+            Request::Append { file, bytes } => self.prepare_append(file, bytes.as_slice()),
+            Request::InitializeQueue(new) => self.prepare_initialize(node, new),
+            Request::SetQueue { name, change } => self.prepare_set(name, change),
+            Request::StartQueue { name, change } => self.prepare_start(name, change),
+            Request::StopQueue { name, how } => self.prepare_stop(name, *how),
+            Request::AbortJob {
+                queue,
+                entry,
+                requeue,
+            } => self.prepare_abort(queue, *entry, *requeue),
+            Request::DeleteQueue { name } => self.prepare_delete_queue(name),
             Request::Submit(job) => self.prepare_submit(now, job),
+            Request::DeleteEntry { entry } => self.prepare_delete_entry(*entry),
+            Request::Done { run, status } => self.prepare_end(node, *run, *status),
             _ => unreachable!(),
         }
     }

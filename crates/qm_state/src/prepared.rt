@@ -1,28 +1,66 @@
-use qm_kinds::{Entry, FileName, Moment};
+use qm_kinds::{Entry, Fate, FileName, Moment, Name, Queue, QueueState, Start, StopMode};
+use qm_queues::Settings;
 
 /// A change that was decided on, with the memory that it takes. Bytes for a file that is there are still the request's.
 #[derive(Drop)]
 pub struct Prepared<'a> {
     /// The acting moment.
     pub(crate) at: Moment,
+    /// The node that serves the request.
+    pub(crate) node: Name,
     pub(crate) change: Change<'a>,
+    /// Empty, with room for the jobs that start behind the change.
+    pub(crate) started: Vec<Start>,
 }
 
-/// What changes. A place is that of a file in the image's list.
+/// What changes.
 #[derive(Drop)]
 pub(crate) enum Change<'a> {
+    /// A file is made.
     NewFile {
-        place: usize,
         name: FileName,
         bytes: Vec<u8>,
     },
+    /// Bytes go behind those of a file.
     MoreBytes {
-        place: usize,
         name: FileName,
         bytes: &'a [u8],
     },
+    /// An entry comes.
     NewEntry {
-        place: usize,
         entry: Entry,
+    },
+    /// A queue comes, in the place of any other of its name.
+    PutQueue {
+        queue: Queue,
+    },
+    /// A queue gets settings, and a state where one is given.
+    SetQueue {
+        name: Name,
+        settings: Settings,
+        state: Option<QueueState>,
+    },
+    /// A queue is stopped.
+    StopQueue {
+        name: Name,
+        how: StopMode,
+    },
+    /// The run of an entry is to be cut short.
+    CutShort {
+        entry: u32,
+        fate: Fate,
+    },
+    /// A queue goes, with its entries.
+    RemoveQueue {
+        name: Name,
+    },
+    /// An entry goes.
+    RemoveEntry {
+        entry: u32,
+    },
+    /// A run has ended.
+    EndRun {
+        run: u64,
+        status: u32,
     },
 }

@@ -1,15 +1,24 @@
-ghost use Rattle.std.specs.Prelude.{◌≡◌, ◌<◌, ◌≤◌, ◌^◌, IfOk, [], None, All, is_some, true};
-ghost use Rattle.qm_model.specs.Find.{file_named};
+// The image of a system's rows, and back.
+ghost use Rattle.std.specs.Prelude.{◌≡◌, IfOk, OnOk, [], ◌∷◌, ◌++◌, ◌<◌, ◌+◌, false, All, IfSome, IsSome};
+ghost use Rattle.std.specs.List.{list_any};
+ghost use Rattle.qm_entries.specs.Boxed.{contents};
+ghost use Rattle.qm_forms.specs.Numbered.{AreKept};
 ghost use Rattle.qm_model.specs.Consistent.{IsConsistent};
-ghost use Rattle.qm_model.specs.Idle.{IsIdle};
+ghost use Rattle.qm_model.specs.Find.{file_named};
+ghost use Rattle.qm_model.specs.Standing.{has_run};
+ghost use Rattle.qm_sched.specs.Mirror.{run_of_entry};
+ghost use Rattle.qm_sched.specs.Tables.{with_tables};
+ghost use Rattle.qm_spool.specs.Kept.{count_of};
+ghost use Rattle.qm_spool.specs.Counts.{CountsOf, IsCountedAs};
 ghost use Rattle.qm_state.specs.Image.{system_of};
-ghost use Rattle.qm_state.specs.Spool.{files_of, file_of, spool_size, IsSpool};
 
 use crate::due::first_due;
 use crate::image::Image;
-use crate::limits::SPOOL_LIMIT;
-use crate::spooled::{Spooled, find_file, name_file};
-use qm_kinds::{Entry, File, Queue, Seq, System};
+use qm_forms::FormTable;
+use qm_kinds::{Characteristic, Entry, Form, Queue, Seq, System};
+use qm_queues::QueueTable;
+use qm_sched::Parts;
+use qm_spool::Spool;
 use std::alloc::{AllocError, Global};
 
 // A copy of a queue.
@@ -43,109 +52,113 @@ fn copy_queues(alloc: Global, queues: &[Queue]) -> Result<Vec<Queue>, AllocError
     Ok(copies)
 }
 
-// A file as the image keeps it, named by no entry so far.
-fn keep_file(alloc: Global, file: &File) -> Result<Spooled, AllocError>
-    ensures rows { IfOk result (λ kept. file_of kept ≡ file.now) }
-    ensures unnamed { IfOk result (λ kept. kept.named_by ≡ None) }
-{
-    Ok(Spooled {
-        name: file.name,
-        bytes: Vec::from_slice(alloc, file.bytes.as_slice())?,
-        named_by: None,
-    })
-}
-
-fn keep_files(alloc: Global, files: &[File]) -> Result<Vec<Spooled>, AllocError>
-    ensures rows { IfOk result (λ kept. files_of kept.items ≡ files.now) }
-    ensures unnamed { IfOk result (λ kept. All (λ f. f.named_by ≡ None) kept.items) }
-{
-    let mut kept = Vec::new(alloc);
-    for file in files {
-        kept.push(keep_file(alloc, file)?)?;
-    }
-    Ok(kept)
-}
-
-fn copy_file(alloc: Global, file: &Spooled) -> Result<File, AllocError>
-    ensures { IfOk result (λ copy. copy ≡ file_of file.now) }
-{
-    Ok(File {
-        name: file.name,
-        bytes: Seq::of(Vec::from_slice(alloc, file.bytes.as_slice())?),
-    })
-}
-
-fn copy_files(alloc: Global, files: &[Spooled]) -> Result<Vec<File>, AllocError>
-    ensures { IfOk result (λ copies. copies.items ≡ files_of files.now) }
+// Copies of what lies in boxes.
+fn copy_boxed<T: Copy>(alloc: Global, boxes: &[Box<T>]) -> Result<Vec<T>, AllocError>
+    ensures { IfOk result (λ copies. copies.items ≡ contents boxes.now) }
 {
     let mut copies = Vec::new(alloc);
-    for file in files {
-        copies.push(copy_file(alloc, file)?)?;
+    for boxed in boxes {
+        copies.push(**boxed)?;
     }
     Ok(copies)
 }
 
-// How many bytes all files have.
-fn size_of_all(files: &[Spooled]) -> u32
-    requires { spool_size files.now ≤ SPOOL_LIMIT }
-    ensures { result ≡ spool_size files.now }
+fn copy_entries(alloc: Global, entries: &[Box<Entry>]) -> Result<Vec<Entry>, AllocError>
+    ensures { IfOk result (λ copies. copies.items ≡ contents entries.now) }
 {
-    let mut size = 0u32;
-    for file in files {
-        size += file.bytes.as_slice().len() as u32;
-    }
-    size
+    copy_boxed(alloc, entries)
 }
 
-// Keeps which entry is the least that names each file.
-fn name_files(files: &mut Vec<Spooled>, entries: &[Entry], size: u32)
-    requires spool { IsSpool files.old.items [] size }
-    requires known { All (λ e. is_some (file_named e.file (files_of files.old.items)) ≡ true) entries.now }
-    ensures rows { files_of files.new.items ≡ files_of files.old.items }
-    ensures spool { IsSpool files.new.items entries.now size }
+// The table of these forms and characteristics.
+fn form_table(
+    alloc: Global,
+    forms: &[Form],
+    characteristics: &[Characteristic],
+) -> Result<FormTable, AllocError>
+    requires { AreKept forms.now characteristics.now }
+    ensures forms { IfOk result (λ table. table.forms ≡ forms.now) }
+    ensures characteristics { IfOk result (λ table. table.characteristics ≡ characteristics.now) }
 {
-    for entry in entries {
-        let Ok(place) = find_file(files.as_slice(), &entry.file) else {
-            unreachable!()
-        };
-        name_file(files, place, entry.number);
+    let forms = Vec::from_slice(alloc, forms)?;
+    let characteristics = Vec::from_slice(alloc, characteristics)?;
+    Ok(FormTable::of(forms, characteristics))
+}
+
+// The tables of a system without its entries.
+fn tables_of(alloc: Global, system: &System) -> Result<Parts, AllocError>
+    requires { IsConsistent system.now }
+    ensures tables { IfOk result (λ parts. with_tables system.now parts ≡ record system.now { entries = [] }) }
+{
+    let nodes = Seq::of(Vec::from_slice(alloc, system.nodes.as_slice())?);
+    let forms = form_table(
+        alloc,
+        system.forms.as_slice(),
+        system.characteristics.as_slice(),
+    )?;
+    let queues = QueueTable::of(copy_queues(alloc, system.queues.as_slice())?);
+    Ok(Parts::new(alloc, nodes, forms, queues, system.next_run))
+}
+
+// Puts one entry more into tables, and counts that it names its file.
+fn restore_one(parts: &mut Parts, spool: &mut Spool, entry: &Entry) -> Result<(), AllocError>
+    requires there { IsSome (file_named entry.now.file spool.old.files) }
+    requires few { count_of entry.now.file spool.old.counts < 65536 }
+    requires last { All (λ e. e.number < entry.now.number) parts.old.entries }
+    requires run { IfSome (run_of_entry entry.now) (λ r. (r.run < parts.old.next_run) × (list_any (has_run r.run) parts.old.entries ≡ false)) }
+    ensures entries { OnOk result (parts.new.entries ≡ parts.old.entries ++ entry.now ∷ []) }
+    ensures tables { parts.new ≡ record parts.old { entries = parts.new.entries; spare_entries = parts.new.spare_entries; spare_runs = parts.new.spare_runs } }
+    ensures files { spool.new ≡ record spool.old { counts = spool.new.counts } }
+    ensures counts { OnOk result (IsCountedAs entry.now.file (count_of entry.now.file spool.old.counts + 1) spool.old.counts spool.new.counts) }
+{
+    parts.reserve_entry()?;
+    parts.reserve_runs(1)?;
+    spool.enter(&entry.file);
+    parts.restore_entry(*entry);
+    Ok(())
+}
+
+// Puts the entries of a system into its tables, and counts which files they name.
+fn restore_entries(parts: &mut Parts, spool: &mut Spool, system: &System) -> Result<(), AllocError>
+    requires consistent { IsConsistent system.now }
+    requires tables { with_tables system.now parts.old ≡ record system.now { entries = [] } }
+    requires files { spool.old.files ≡ system.now.files }
+    requires unnamed { CountsOf [] spool.old.counts }
+    ensures tables { OnOk result (with_tables system.now parts.new ≡ system.now) }
+    ensures files { spool.new.files ≡ spool.old.files }
+    ensures counts { OnOk result (CountsOf parts.new.entries spool.new.counts) }
+{
+    for entry in system.entries.as_slice() {
+        restore_one(parts, spool, entry)?;
     }
+    Ok(())
 }
 
 // The number of the next entry.
 fn next_number(system: &System) -> u32
-    ensures value { result ≡ system.now.next_entry }
-    ensures fits { result < 2 ^ 32 }
+    ensures { result ≡ system.now.next_entry }
 {
     system.next_entry
 }
 
 impl Image {
-    /// The image of a system in which every queue is stopped, and no job is kept until a moment. Where there is no memory for
-    /// it, there is none.
+    /// The image of a system. Where there is no memory for it, there is none.
+    #[tactic(auto, unfolding(crate::specs::Image::system_of))]
     pub fn from_rows(alloc: Global, system: &System) -> Result<Image, AllocError>
-        requires consistent { IsConsistent system.now }
-        requires idle { IsIdle system.now }
+        requires { IsConsistent system.now }
         ensures { IfOk result (λ image. system_of image ≡ system.now) }
     {
-        let next_entry = next_number(system);
-        let mut files = keep_files(alloc, system.files.as_slice())?;
-        let spool_size = size_of_all(files.as_slice());
-        name_files(&mut files, system.entries.as_slice(), spool_size);
-        let next_due = first_due(system.entries.as_slice());
+        let mut parts = tables_of(alloc, system)?;
+        let mut spool = Spool::from_files(alloc, system.files.as_slice())?;
+        let may = Seq::of(Vec::from_slice(alloc, system.may.as_slice())?);
+        restore_entries(&mut parts, &mut spool, system)?;
+        let next_due = first_due(parts.entries());
         Ok(Image {
             alloc,
-            nodes: Vec::from_slice(alloc, system.nodes.as_slice())?,
-            may: Vec::from_slice(alloc, system.may.as_slice())?,
-            forms: Vec::from_slice(alloc, system.forms.as_slice())?,
-            characteristics: Vec::from_slice(alloc, system.characteristics.as_slice())?,
-            files,
-            spool_size,
-            queues: copy_queues(alloc, system.queues.as_slice())?,
-            entries: Vec::from_slice(alloc, system.entries.as_slice())?,
+            parts,
+            spool,
+            may,
             next_due,
-            next_entry,
-            next_run: system.next_run,
+            next_entry: next_number(system),
             last: system.last,
         })
     }
@@ -156,16 +169,17 @@ impl Image {
         ensures { IfOk result (λ rows. rows ≡ system_of self.now) }
     {
         let alloc = self.alloc;
+        let forms = self.parts.form_table();
         Ok(System {
-            nodes: Seq::of(Vec::from_slice(alloc, self.nodes.as_slice())?),
+            nodes: Seq::of(Vec::from_slice(alloc, self.parts.nodes())?),
             may: Seq::of(Vec::from_slice(alloc, self.may.as_slice())?),
-            forms: Seq::of(Vec::from_slice(alloc, self.forms.as_slice())?),
-            characteristics: Seq::of(Vec::from_slice(alloc, self.characteristics.as_slice())?),
-            files: Seq::of(copy_files(alloc, self.files.as_slice())?),
-            queues: Seq::of(copy_queues(alloc, self.queues.as_slice())?),
-            entries: Seq::of(Vec::from_slice(alloc, self.entries.as_slice())?),
+            forms: Seq::of(Vec::from_slice(alloc, forms.forms())?),
+            characteristics: Seq::of(Vec::from_slice(alloc, forms.characteristics())?),
+            files: self.spool.files(alloc)?,
+            queues: Seq::of(copy_queues(alloc, self.parts.queues())?),
+            entries: Seq::of(copy_entries(alloc, self.parts.entries())?),
             next_entry: self.next_entry,
-            next_run: self.next_run,
+            next_run: self.parts.next_run(),
             last: self.last,
         })
     }

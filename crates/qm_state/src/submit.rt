@@ -1,24 +1,27 @@
-ghost use Rattle.std.specs.Prelude.{◌≡◌, ◌<◌, [], ◌∷◌, is_none, false, IfOk, Ok, vec_len, vec_capacity, OnOk};
+// A job is submitted.
+ghost use Rattle.std.specs.Prelude.{◌≡◌, ◌<◌, ◌^◌, ℕ, List, [], ◌∷◌, is_none, is_some, false, IfOk, Ok, IsSome, length};
 ghost use Rattle.std.specs.Option.{option_and_then, option_map_or};
-ghost use Rattle.qm_kinds.specs.declared.system.System.{System};
-ghost use Rattle.qm_model.specs.Find.{queue_named};
+ghost use Rattle.qm_kinds.specs.Sizes.{blocks_of};
+ghost use Rattle.qm_model.specs.Appending.{bytes_of};
+ghost use Rattle.qm_model.specs.Consistent.{IsConsistent};
+ghost use Rattle.qm_model.specs.Find.{queue_named, file_named};
 ghost use Rattle.qm_model.specs.Kinds.{is_other_kind};
 ghost use Rattle.qm_model.specs.Outcome.{first_refusal, refused_where};
 ghost use Rattle.qm_model.specs.Submitting.{submit_refusal, has_bad_value, state_of, form_of, entry_of, submitted};
 ghost use Rattle.qm_model.specs.Wanted.{refused_form};
 ghost use Rattle.qm_state.specs.Image.{system_of};
-ghost use Rattle.qm_state.specs.Preparing.{made, found, entered, outcome_of, IsPrepared, IsReady};
+ghost use Rattle.qm_state.specs.Preparing.{found, entered, outcome_of, IsNewEntry, IsReady};
 ghost use Rattle.qm_state.specs.Refusing.{Decides, KeepsRefused};
-ghost use Rattle.qm_state.specs.Spool.{IsPlace};
 
+use crate::due::earliest;
 use crate::image::Image;
+use crate::kinds::is_other_kind;
 use crate::limits::ENTRIES_LIMIT;
-use crate::prepared::{Change, Prepared};
+use crate::prepared::Change;
+use crate::refusals::{first_refusal, refused_where};
 use crate::refused::Refused;
-use crate::spooled::find_file;
-use crate::wanted::{find_form, find_queue, is_other_kind, refused_characteristics, set_of};
 use qm_kinds::{
-    CharacteristicSet, Entry, EntryState, Job, JobKind, Mark, Moment, Name, NameOrNumber, Refusal,
+    Act, Entry, EntryState, FileName, Job, JobKind, Mark, Moment, Name, NameOrNumber, Refusal,
     blocks, default_form,
 };
 use std::alloc::AllocError;
@@ -42,23 +45,16 @@ fn state_of(hold: bool, after: Option<Moment>, now: Moment) -> EntryState
     }
 }
 
-// The first refusal of a list, in which each place is a refusal or none.
-fn first_refusal(refusals: &[Option<Refusal>]) -> Option<Refusal>
-    ensures { result ≡ first_refusal refusals.now }
+// What is replied of an entry that was submitted.
+fn submitted(entry: &Entry) -> Act
+    ensures { result ≡ Act.Submitted entry.now.name entry.now.home entry.now.number entry.now.state }
 {
-    for refusal in refusals {
-        if refusal.is_some() {
-            return *refusal;
-        }
+    Act::Submitted {
+        name: entry.name,
+        home: entry.home,
+        entry: entry.number,
+        state: entry.state,
     }
-    None
-}
-
-// The refusal, where the test holds.
-fn refused_where(test: bool, refusal: Refusal) -> Option<Refusal>
-    ensures { result ≡ refused_where test refusal }
-{
-    if test { Some(refusal) } else { None }
 }
 
 impl Image {
@@ -67,7 +63,7 @@ impl Image {
     fn refused_queue(&self, kind: JobKind, name: &Name) -> Option<Refusal>
         ensures { result ≡ first_refusal (refused_where (is_none (queue_named name.now (system_of self.now).queues)) (Refusal.NoSuchQueue name.now) ∷ refused_where (option_map_or (is_other_kind kind) (queue_named name.now (system_of self.now).queues) false) Refusal.WrongKind ∷ []) }
     {
-        match find_queue(self.queues.as_slice(), name) {
+        match self.parts.queue(name) {
             None => Some(Refusal::NoSuchQueue { name: *name }),
             Some(queue) if is_other_kind(kind, queue) => Some(Refusal::WrongKind),
             Some(_) => None,
@@ -80,7 +76,7 @@ impl Image {
         ensures { result ≡ option_and_then (refused_form (system_of self.now)) form }
     {
         let wanted = form?;
-        match find_form(self.forms.as_slice(), &wanted) {
+        match self.parts.form_table().form(&wanted) {
             None => Some(Refusal::NoSuchForm { wanted }),
             Some(_) => None,
         }
@@ -95,37 +91,63 @@ impl Image {
             (JobKind::Batch, _) => None,
             (JobKind::Print, None) => Some(default_form()),
             (JobKind::Print, Some(wanted)) => {
-                find_form(self.forms.as_slice(), &wanted).map(|form| form.name)
+                self.parts.form_table().form(&wanted).map(|form| form.name)
             }
         }
     }
 
-    // Why a job is refused, if it is. The place is its file's.
+    // Whether the file is there.
+    fn has_file(&self, name: &FileName) -> bool
+        ensures { result ≡ is_some (file_named name.now self.now.spool.files) }
+    {
+        match self.spool.bytes(name) {
+            None => false,
+            Some(_) => true,
+        }
+    }
+
+    // The number of the next entry.
+    fn next_number(&self) -> u32
+        ensures value { result ≡ self.now.next_entry }
+        ensures fits { result < 2 ^ 32 }
+    {
+        self.next_entry
+    }
+
+    // Why a job is refused, if it is.
     #[tactic(auto, unfolding(crate::specs::Image::system_of))]
-    fn submit_refusal(&self, job: &Job, place: Result<usize, usize>) -> Option<Refusal>
-        requires { IsPlace job.now.file self.now.files.items place }
+    fn submit_refusal(&self, job: &Job) -> Option<Refusal>
         ensures { result ≡ submit_refusal (system_of self.now) job.now }
     {
         let refusals = [
             self.refused_queue(job.kind, &job.queue),
-            refused_where(place.is_err(), Refusal::NoSuchFile),
+            refused_where(!self.has_file(&job.file), Refusal::NoSuchFile),
             refused_where(has_bad_value(job), Refusal::BadValue),
             self.refused_form(job.form),
-            refused_characteristics(
-                self.characteristics.as_slice(),
-                job.characteristics.as_slice(),
+            self.parts
+                .form_table()
+                .refused_characteristics(job.characteristics.as_slice()),
+            refused_where(
+                self.parts.entry_count() >= ENTRIES_LIMIT,
+                Refusal::EntriesFull,
             ),
-            refused_where(self.entries.len() >= ENTRIES_LIMIT, Refusal::EntriesFull),
             refused_where(self.next_entry == u32::MAX, Refusal::NumbersSpent),
         ];
         first_refusal(&refusals)
     }
 
-    // The entry of a job whose file is in the place.
+    // How many blocks a file has, at least 1.
     #[tactic(auto, unfolding(crate::specs::Image::system_of))]
-    fn entry_of(&self, now: Moment, job: &Job, place: usize, mark: Mark) -> Entry
-        requires stands { IsPlace job.now.file self.now.files.items (Ok place) }
-        requires unmarked { mark ≡ [] }
+    fn file_blocks(&self, name: &FileName) -> u32
+        ensures { result ≡ blocks_of (length (bytes_of name.now (system_of self.now).files)) }
+    {
+        blocks(self.file_size(name) as u64) as u32
+    }
+
+    // The entry of a job.
+    #[tactic(auto, unfolding(crate::specs::Image::system_of))]
+    fn entry_of(&self, now: Moment, job: &Job, mark: Mark) -> Entry
+        requires { mark ≡ [] }
         ensures { result ≡ entry_of (system_of self.now) now job.now }
     {
         Entry {
@@ -135,16 +157,16 @@ impl Image {
             name: job.name,
             user: job.user,
             file: job.file,
-            size: blocks(self.files[place].bytes.len() as u64) as u32,
+            size: self.file_blocks(&job.file),
             priority: job.priority,
             after: job.after,
             held: job.hold,
             retain: job.retain,
             restart: job.restart,
-            characteristics: CharacteristicSet(set_of(
-                self.characteristics.as_slice(),
-                job.characteristics.as_slice(),
-            )),
+            characteristics: self
+                .parts
+                .form_table()
+                .set_of(job.characteristics.as_slice()),
             form: self.form_of(job.kind, job.form),
             copies: job.copies,
             flag: job.flag,
@@ -154,59 +176,55 @@ impl Image {
         }
     }
 
-    // Takes room for one more entry.
-    #[tactic(auto, unfolding(crate::specs::Image::system_of))]
-    fn take_entry(&mut self) -> Result<(), AllocError>
-        ensures rows { system_of self.new ≡ system_of self.old }
-        ensures room { OnOk result (vec_len self.new.entries < vec_capacity self.new.entries) }
-        ensures files { self.new.files ≡ self.old.files }
-        ensures entries { self.new.entries.items ≡ self.old.entries.items }
-        ensures next { self.new.next_entry ≡ self.old.next_entry }
-    {
-        self.entries.reserve(1)?;
-        Ok(())
-    }
-
     // Takes the memory for the entry of a job that isn't refused.
-    fn take_job<'a>(
-        &mut self,
-        now: Moment,
-        place: usize,
-        job: &Job,
-    ) -> Result<Change<'a>, AllocError>
-        requires stands { IsPlace job.now.file self.old.files.items (Ok place) }
-        requires accepted { submit_refusal (system_of self.old) job.now ≡ None }
+    #[tactic(auto, unfolding(crate::specs::Image::system_of))]
+    fn take_job<'a>(&mut self, now: Moment, job: &Job) -> Result<Change<'a>, AllocError>
+        requires { submit_refusal (system_of self.old) job.now ≡ None }
         ensures rows { system_of self.new ≡ system_of self.old }
         ensures ready { IfOk result (IsReady self.new) }
-        ensures enters { IfOk result (λ change. (s : System) → outcome_of change s ≡ entered s (entry_of (system_of self.old) now job.now)) }
+        ensures made { IfOk result (λ change. (node : List ℕ) → outcome_of change now node (found now (system_of self.old)) ≡ submitted (found now (system_of self.old)) now job.now) }
     {
+        let _number = self.next_number();
         let mark = Mark::new(&[]).unwrap();
-        let entry = self.entry_of(now, job, place, mark);
-        self.take_entry()?;
-        Ok(Change::NewEntry { place, entry })
+        let entry = self.entry_of(now, job, mark);
+        self.parts.reserve_entry()?;
+        Ok(Change::NewEntry { entry })
     }
 
     /// Decides on a job, and takes the memory for its entry.
-    #[tactic(auto, unfolding(crate::specs::Preparing::made, crate::specs::Preparing::IsPrepared))]
     pub(crate) fn prepare_submit<'a>(
         &mut self,
         now: Moment,
         job: &Job,
-    ) -> Result<Prepared<'a>, Refused>
+    ) -> Result<Change<'a>, Refused>
         ensures rows { system_of self.new ≡ system_of self.old }
         ensures decided { Decides (submit_refusal (system_of self.old) job.now) result }
         ensures untouched { KeepsRefused self.old self.new result }
-        ensures ready { IfOk result (IsPrepared self.new) }
-        ensures made { IfOk result (λ prepared. made prepared (system_of self.old) ≡ submitted (found now (system_of self.old)) now job.now) }
+        ensures ready { IfOk result (IsReady self.new) }
+        ensures made { IfOk result (λ change. (node : List ℕ) → outcome_of change now node (found now (system_of self.old)) ≡ submitted (found now (system_of self.old)) now job.now) }
     {
-        let place = find_file(self.files.as_slice(), &job.file);
-        if let Some(refusal) = self.submit_refusal(job, place) {
+        if let Some(refusal) = self.submit_refusal(job) {
             return Err(Refused::By(refusal));
         }
-        let Ok(place) = place else { unreachable!() };
-        match self.take_job(now, place, job) {
-            Ok(change) => Ok(Prepared { at: now, change }),
+        match self.take_job(now, job) {
+            Ok(change) => Ok(change),
             Err(AllocError) => Err(Refused::NoMemory),
         }
+    }
+
+    /// The entry stands behind the others, and names its file.
+    #[tactic(auto, unfolding(crate::specs::Image::system_of))]
+    pub(crate) fn enter(&mut self, entry: Entry) -> Act
+        requires sound { IsConsistent (system_of self.old) }
+        requires new { IsNewEntry self.old entry }
+        ensures done { entered (system_of self.old) entry ≡ record { system = system_of self.new; reply = record { act = result; started = [] } } }
+        ensures room { self.new.parts.spare_runs ≡ self.old.parts.spare_runs }
+    {
+        let act = submitted(&entry);
+        self.next_due = earliest(self.next_due, &entry.state);
+        self.next_entry += 1;
+        self.spool.enter(&entry.file);
+        self.parts.insert_entry(entry);
+        act
     }
 }

@@ -4,7 +4,6 @@ ghost use Rattle.qm_state.specs.Image.{system_of};
 ghost use Rattle.qm_state.specs.Refusing.{Refuses};
 
 use crate::image::Image;
-use crate::listed::find_entry;
 use crate::refused::Refused;
 use qm_kinds::{Query, Refusal, Row};
 
@@ -17,7 +16,7 @@ impl Image {
         ensures refused { Refuses result (rows_of (system_of self.now) query.now) }
     {
         let number = query.number.unwrap();
-        match find_entry(self.entries.as_slice(), number) {
+        match self.parts.entry(number) {
             None => Err(Refused::By(Refusal::NoSuchEntry { number })),
             Some(entry) => {
                 let mut rows = Vec::new(self.alloc);

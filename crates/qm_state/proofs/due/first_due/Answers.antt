@@ -1,14 +1,23 @@
-use Rattle.std.proofs.Common.{◌≡◌, ◌∙◌, true, get_or, below_more, ap, sym, arith}
-use Rattle.std.proofs.lemmas.List.{get_or_default}
+use Rattle.std.proofs.Common.{◌≡◌, ◌∙◌, List, true, take, ap, sym, subst, arith}
+use Rattle.std.specs.List.{All}
+use Rattle.std.specs.Prelude.{Box}
+use Rattle.std.proofs.Common.{Global}
+use Rattle.std.proofs.lemmas.List.{take_all}
+use Rattle.std.proofs.lemmas.List.Elements.{All-more, All-weaker, All-map}
 use Rattle.qm_kinds.specs.declared.entry.Entry.{Entry}
-use Rattle.qm_state.specs.Due.{waits_from}
+use Rattle.qm_state.specs.Due.{is_due_from}
 use Rattle.qm_state.proofs.due.first_due.Goals as goal
 
-pub loop-entry-preserved : goal.loop-entry-preserved
-loop-entry-preserved c =
-    below_more (λ k. (d : Entry) → waits_from c.earliest-next.result (get_or c.args.entries.now k d).state ≡ true) c.loop-entry.entry-index
-    (λ k below d. c.earliest-next.ensures.others (get_or c.args.entries.now k d).state (c.loop-entry.invariant k below d))
-    (λ d. ap (λ (e : Entry). waits_from c.earliest-next.result e.state) (get_or_default c.args.entries.now c.loop-entry.entry-index d c.entry-item.result c.loop-entry-test.true ∙ sym c.entry-item.is) ∙ c.earliest-next.ensures.here)
+pub loop-boxed-preserved : goal.loop-boxed-preserved
+loop-boxed-preserved c =
+    All-more (λ (b : Box Entry Global). is_due_from c.earliest-next.result b.value.state ≡ true) c.args.entries.now c.loop-boxed.boxed-index c.boxed-item.result c.loop-boxed-test.true
+    (All-weaker (λ (b : Box Entry Global). is_due_from c.loop-boxed.next b.value.state ≡ true) (λ (b : Box Entry Global). is_due_from c.earliest-next.result b.value.state ≡ true)
+    (λ b. c.earliest-next.ensures.others b.value.state) (take c.loop-boxed.boxed-index c.args.entries.now) c.loop-boxed.invariant)
+    (ap (λ (b : Box Entry Global). is_due_from c.earliest-next.result b.value.state) (sym c.boxed-item.is)
+    ∙ ap (λ (e : Entry). is_due_from c.earliest-next.result e.state) (sym c.as_ref-entry.ensures) ∙ c.earliest-next.ensures.here)
 
 pub returns : goal.returns
-returns c = λ k d within. c.loop-entry.invariant k (omega (arith, within)) d
+returns c =
+    All-map (λ (e : Entry). is_due_from c.loop-boxed.next e.state ≡ true) (λ (b : Box Entry Global). b.value) c.args.entries.now
+    (subst (λ (bs : List (Box Entry Global)). All (λ (b : Box Entry Global). is_due_from c.loop-boxed.next b.value.state ≡ true) bs)
+    (take_all c.loop-boxed.boxed-index c.args.entries.now (omega (arith, c.loop-boxed-test.false))) c.loop-boxed.invariant)

@@ -1,8 +1,8 @@
-use Rattle.std.proofs.Common.{◌≡◌, ◌<◌, ℕ, true, get_or}
-use Rattle.qm_kinds.specs.declared.entry.Entry.{Entry}
-use Rattle.qm_state.specs.Due.{waits_from}
+use Rattle.std.proofs.Common.{◌≡◌, true, take}
+use Rattle.std.specs.List.{All}
+use Rattle.qm_state.specs.Due.{is_due_from}
 use Rattle.qm_state.proofs.due.first_due.Given as goal
 
--- no entry so far waits for an earlier moment
-abbrev pub invariant-loop-entry : goal.invariant-loop-entry
-invariant-loop-entry l = (k : ℕ) → k < l.entry-index → (d : Entry) → waits_from l.next (get_or l.entries k d).state ≡ true
+-- no entry so far is due before the moment
+abbrev pub invariant-loop-boxed : goal.invariant-loop-boxed
+invariant-loop-boxed l = All (λ b. is_due_from l.next b.value.state ≡ true) (take l.boxed-index l.entries)

@@ -1,12 +1,46 @@
-use Rattle.std.proofs.Common.{subst}
-use Rattle.qm_state.specs.Preparing.{IsPrepared, IsReady}
-use Rattle.qm_state.proofs.Reaching.{file_ready, entry_ready}
+use Rattle.std.proofs.Common.{◌≡◌, ◌≤◌, length, List, ap, sym, subst, arith}
+use Rattle.qm_kinds.specs.declared.entry.Entry.{Entry}
+use Rattle.qm_sched.specs.Tables.{Tables}
+use Rattle.qm_spool.specs.Counts.{CountsOf}
+use Rattle.qm_state.proofs.Committed.{sound_found, ready_found, few_starts, is_done, settled_counts, settled_waits}
+use Rattle.qm_state.proofs.Entries.{Waits}
+use Rattle.qm_state.specs.Image.{system_of}
+use Rattle.qm_state.specs.Preparing.{made}
 use Rattle.qm_state.proofs.image.Image.commit.Goals as goal
 
-pub commit_file-act-requires : goal.commit_file-act-requires
-unfolding IsPrepared
-commit_file-act-requires c = file_ready c.args.self.now c.reach.new.self c.args.prepared.at c.in-NewFile.place c.reach.ensures c.in-NewFile.name c.in-NewFile.bytes.items (subst (IsReady c.args.self.now) c.in-NewFile.is c.requires)
+pub make-act-requires-clause-sound : goal.make-act-requires-clause-sound
+make-act-requires-clause-sound c =
+    sound_found c.due_keeps_consistent.ensures c.args.prepared.at (system_of c.args.self.now) (system_of c.reach.new.self) c.reach.ensures.rows c.requires.sound
 
-pub commit_entry-act-requires : goal.commit_entry-act-requires
-unfolding IsPrepared
-commit_entry-act-requires c = entry_ready c.args.self.now c.reach.new.self c.args.prepared.at c.in-NewEntry.place c.reach.ensures c.in-NewEntry.entry (subst (IsReady c.args.self.now) c.in-NewEntry.is c.requires)
+pub make-act-requires-clause-ready : goal.make-act-requires-clause-ready
+make-act-requires-clause-ready c =
+    ready_found c.args.prepared.at c.args.self.now c.reach.new.self c.reach.ensures.rows c.reach.ensures.rooms c.reach.ensures.queues c.reach.ensures.entries c.args.prepared.change c.requires.prepared.ready
+
+pub settle-requires-clause-room : goal.settle-requires-clause-room
+settle-requires-clause-room c =
+    few_starts c.args.prepared c.args.self.now c.reach.new.self c.make-act.new.self c.make-act.result c.stop_idle.new.self c.reach.ensures.rows c.make-act.ensures.done c.stop_idle.ensures
+    _ c.requires.prepared.started_room
+
+pub settle-requires-clause-runs : goal.settle-requires-clause-runs
+settle-requires-clause-runs c =
+    let room : length (made c.args.prepared (system_of c.args.self.now)).reply.started ≤ c.stop_idle.new.self.spare_runs =
+    omega (arith, c.requires.prepared.run_room, c.reach.ensures.runs, c.make-act.ensures.room, ap (λ (t : Tables). t.spare_runs) c.stop_idle.ensures) in
+    few_starts c.args.prepared c.args.self.now c.reach.new.self c.make-act.new.self c.make-act.result c.stop_idle.new.self c.reach.ensures.rows c.make-act.ensures.done c.stop_idle.ensures
+    c.stop_idle.new.self.spare_runs room
+
+pub invariant_of-self : goal.invariant_of-self
+invariant_of-self c =
+    let same : c.make-act.new.self.parts.entries ≡ c.stop_idle.new.self.entries = sym (ap (λ (t : Tables). t.entries) c.stop_idle.ensures) in
+    record {
+      counted = settled_counts c.make-act.new.self.spool.counts (system_of c.make-act.new.self) c.stop_idle.new.self c.settle.new.out.items c.settle.new.parts (c.settle.ensures.settled (system_of c.make-act.new.self))
+          (subst (λ (es : List Entry). CountsOf es c.make-act.new.self.spool.counts) same c.make-act.new.self.counted);
+      waits = settled_waits c.make-act.new.self.next_due (system_of c.make-act.new.self) c.stop_idle.new.self c.settle.new.out.items c.settle.new.parts (c.settle.ensures.settled (system_of c.make-act.new.self))
+          (subst (λ (es : List Entry). Waits c.make-act.new.self.next_due es) same c.make-act.new.self.waits);
+    }
+
+pub returns : goal.returns
+unfolding system_of
+returns c = record {
+  done = is_done c.args.prepared c.args.self.now c.reach.new.self c.make-act.new.self c.make-act.result c.stop_idle.new.self c.reach.ensures.rows c.make-act.ensures.done c.stop_idle.ensures
+      c.settle.new.parts c.settle.new.out.items c.of.result (c.settle.ensures.settled (system_of c.make-act.new.self)) (sym c.of.ensures);
+}

@@ -1,44 +1,64 @@
-use Rattle.std.proofs.Common.{◌≡◌, ◌∙◌, Ok, ap, sym, subst}
-use Rattle.std.specs.Result.{IfOk}
-use Rattle.qm_kinds.specs.declared.request.Request.TheVariants.{Append}
-use Rattle.qm_model.specs.Appending.{append_refusal, appended}
-use Rattle.qm_model.specs.Applied.{applied}
-use Rattle.qm_model.specs.Submitting.{submit_refusal, submitted}
+use Rattle.std.proofs.Common.{◌∙◌, ◌≤◌, ◌<◌, ℕ, length, vec_capacity, Result, IsOk, refl, sym, subst}
+use Rattle.qm_kinds.specs.declared.system.System.{System}
+use Rattle.qm_model.specs.Applied.{change_of, completed, refusal_of}
+use Rattle.qm_model.specs.Outcome.{Accepted}
 use Rattle.qm_state.specs.Image.{system_of}
-use Rattle.qm_state.specs.Preparing.{found, made}
+use Rattle.qm_state.specs.Preparing.{changed, found, made, starts_behind}
 use Rattle.qm_state.specs.Refusing.{Refuses}
-use Rattle.qm_state.proofs.Applying.{spent, append_is, submit_is, refuses, accepts}
+use Rattle.qm_state.proofs.Asking.{spent, decided, accepted, refuses, ready_stays, sound_after}
 use Rattle.qm_state.proofs.image.Image.prepare.Goals as goal
 
-pub returns-then-self-ge-RUNS_LIMIT-clause-refused : goal.returns-then-self-ge-RUNS_LIMIT-clause-refused
-returns-then-self-ge-RUNS_LIMIT-clause-refused c = spent c.idle_requests_start_nothing.ensures c.args.self.now c.args.now c.args.node c.args.request.now c.requires.built c.if-self-ge-RUNS_LIMIT.true
+pub returns-then-next_run-ge-RUNS_LIMIT-clause-refused : goal.returns-then-next_run-ge-RUNS_LIMIT-clause-refused
+unfolding system_of
+returns-then-next_run-ge-RUNS_LIMIT-clause-refused c =
+    spent (system_of c.args.self.now) c.args.now c.args.node c.args.request.now c.requires.built
+    (subst (λ (n : ℕ). 4611686018427387904 ≤ n) c.next_run.ensures c.if-next_run-ge-RUNS_LIMIT.true)
 
-pub returns-in-Append-clause-refused : goal.returns-in-Append-clause-refused
-returns-in-Append-clause-refused c =
+pub returns-in_err-change-clause-refused : goal.returns-in_err-change-clause-refused
+unfolding system_of
+returns-in_err-change-clause-refused c =
     let s = system_of c.args.self.now in
-    let bytes = c.as_slice.result.now in
-    let is = ap (applied s c.args.now c.args.node) (c.in-Append.is ∙ ap (Append c.in-Append.file) (sym c.as_slice.ensures))
-    ∙ append_is c.idle_requests_start_nothing.ensures c.args.self.now c.args.now c.args.node c.in-Append.file bytes c.if-self-ge-RUNS_LIMIT.false in
-    subst (Refuses c.prepare_append.result) (sym is) (refuses c.prepare_append.result (append_refusal s c.in-Append.file bytes) (appended (found c.args.now s) c.in-Append.file bytes) c.prepare_append.ensures.decided)
+    let name = c.node_name-name.result in
+    let below = subst (λ (n : ℕ). n < 4611686018427387904) c.next_run.ensures c.if-next_run-ge-RUNS_LIMIT.false in
+    subst (Refuses c.from_residual.result) (sym (decided s c.args.now c.args.node name c.args.request.now c.node_name-name.ensures c.requires.built below))
+    (refuses c.prepare_change.result c.from_residual.result c.in_err-change.field-0.0 (refusal_of s name c.args.request.now) (completed (change_of (found c.args.now s) c.args.now name c.args.request.now))
+    c.in_err-change.was c.from_residual.ensures c.prepare_change.ensures.decided)
 
-pub returns-in-Append-clause-accepted : goal.returns-in-Append-clause-accepted
-returns-in-Append-clause-accepted c =
-    let s = system_of c.args.self.now in
-    let bytes = c.as_slice.result.now in
-    let is = ap (applied s c.args.now c.args.node) (c.in-Append.is ∙ ap (Append c.in-Append.file) (sym c.as_slice.ensures))
-    ∙ append_is c.idle_requests_start_nothing.ensures c.args.self.now c.args.now c.args.node c.in-Append.file bytes c.if-self-ge-RUNS_LIMIT.false in
-    subst (λ model. IfOk c.prepare_append.result (λ prepared. model ≡ Ok (made prepared s))) (sym is)
-    (accepts s c.prepare_append.result (append_refusal s c.in-Append.file bytes) (appended (found c.args.now s) c.in-Append.file bytes) c.prepare_append.ensures.decided c.prepare_append.ensures.made)
+pub reserve_starts-requires : goal.reserve_starts-requires
+unfolding system_of
+reserve_starts-requires c = subst (λ (s : System). length s.queues ≤ 256) (sym c.in_ok-change.ensures.rows) c.requires.sound.queues.few
 
-pub returns-in-Submit-clause-refused : goal.returns-in-Submit-clause-refused
-returns-in-Submit-clause-refused c =
-    let s = system_of c.args.self.now in
-    let is = ap (applied s c.args.now c.args.node) c.in-Submit.is ∙ submit_is c.idle_requests_start_nothing.ensures c.args.self.now c.args.now c.args.node c.in-Submit.job c.if-self-ge-RUNS_LIMIT.false in
-    subst (Refuses c.prepare_submit.result) (sym is) (refuses c.prepare_submit.result (submit_refusal s c.in-Submit.job) (submitted (found c.args.now s) c.args.now c.in-Submit.job) c.prepare_submit.ensures.decided)
+pub returns-in-Ok-clause-refused : goal.returns-in-Ok-clause-refused
+unfolding system_of
+returns-in-Ok-clause-refused c =
+    subst (λ (model : Result Accepted _). IsOk model)
+    (sym (accepted (system_of c.args.self.now) c.args.now c.args.node c.node_name-name.result c.args.request.now c.in_ok-change.change c.node_name-name.ensures c.requires.built
+    (subst (λ (n : ℕ). n < 4611686018427387904) c.next_run.ensures c.if-next_run-ge-RUNS_LIMIT.false) c.in_ok-change.ensures.decided c.in_ok-change.ensures.made)) refl
 
-pub returns-in-Submit-clause-accepted : goal.returns-in-Submit-clause-accepted
-returns-in-Submit-clause-accepted c =
-    let s = system_of c.args.self.now in
-    let is = ap (applied s c.args.now c.args.node) c.in-Submit.is ∙ submit_is c.idle_requests_start_nothing.ensures c.args.self.now c.args.now c.args.node c.in-Submit.job c.if-self-ge-RUNS_LIMIT.false in
-    subst (λ model. IfOk c.prepare_submit.result (λ prepared. model ≡ Ok (made prepared s))) (sym is)
-    (accepts s c.prepare_submit.result (submit_refusal s c.in-Submit.job) (submitted (found c.args.now s) c.args.now c.in-Submit.job) c.prepare_submit.ensures.decided c.prepare_submit.ensures.made)
+pub returns-in-Ok-clause-ready : goal.returns-in-Ok-clause-ready
+unfolding system_of made changed
+returns-in-Ok-clause-ready c =
+    let rows = c.in-Ok.ensures.rows in
+    let below = subst (λ (n : ℕ). n < 4611686018427387904) c.next_run.ensures c.if-next_run-ge-RUNS_LIMIT.false in
+    record {
+      ready = ready_stays c.prepare_change.new.self c.reserve_starts.new.self c.in_ok-change.change c.in-Ok.ensures.spool c.in-Ok.ensures.entries c.in-Ok.ensures.spare_queues c.in-Ok.ensures.spare_entries
+          c.in-Ok.ensures.next c.in_ok-change.ensures.ready;
+      sound = sound_after c.built_changes_keep_consistent.ensures (system_of c.args.self.now) (system_of c.reserve_starts.new.self) c.args.now c.args.node c.node_name-name.result c.args.request.now
+          c.in_ok-change.change (rows ∙ c.in_ok-change.ensures.rows) c.node_name-name.ensures c.requires.sound c.requires.serves c.requires.built below c.in_ok-change.ensures.decided c.in_ok-change.ensures.made;
+      none_yet = c.in-Ok.ensures.empty;
+      started_room = subst (λ (s : System). starts_behind c.in_ok-change.change c.args.now c.node_name-name.result s ≤ vec_capacity c.in-Ok.started) (sym rows) (c.in-Ok.ensures.room c.args.now c.node_name-name.result);
+      run_room = subst (λ (s : System). starts_behind c.in_ok-change.change c.args.now c.node_name-name.result s ≤ c.reserve_starts.new.self.parts.spare_runs) (sym rows) (c.in-Ok.ensures.runs c.args.now c.node_name-name.result);
+    }
+
+pub returns-in-Ok-clause-accepted : goal.returns-in-Ok-clause-accepted
+unfolding system_of made changed
+returns-in-Ok-clause-accepted c =
+    accepted (system_of c.args.self.now) c.args.now c.args.node c.node_name-name.result c.args.request.now c.in_ok-change.change c.node_name-name.ensures c.requires.built
+    (subst (λ (n : ℕ). n < 4611686018427387904) c.next_run.ensures c.if-next_run-ge-RUNS_LIMIT.false) c.in_ok-change.ensures.decided c.in_ok-change.ensures.made
+
+pub returns-clause-refused : goal.returns-clause-refused
+unfolding system_of
+returns-clause-refused c =
+    subst (λ (model : Result Accepted _). IsOk model)
+    (sym (accepted (system_of c.args.self.now) c.args.now c.args.node c.node_name-name.result c.args.request.now c.in_ok-change.change c.node_name-name.ensures c.requires.built
+    (subst (λ (n : ℕ). n < 4611686018427387904) c.next_run.ensures c.if-next_run-ge-RUNS_LIMIT.false) c.in_ok-change.ensures.decided c.in_ok-change.ensures.made)) refl

@@ -1,0 +1,67 @@
+-- What an acting moment leaves of what holds of the entries.
+use Rattle.std.proofs.Common.{◌≡◌, ◌∙◌, ℕ, Bool, true, false, cond, not, ◌&&◌, ◌||◌, List, [], ◌∷◌, filter, find, map, nat_le, Option, None, Some, refl, ap, arith}
+use Rattle.std.specs.List.{All}
+use Rattle.std.specs.Option.{option_map_or}
+use Rattle.std.specs.Str.{bytes_eq}
+use Rattle.std.proofs.lemmas.Bool.Decides.{nat_tests}
+use Rattle.std.proofs.lemmas.List.Elements.{All-weaker}
+use Rattle.qm_kinds.specs.declared.entry.Entry.{Entry}
+use Rattle.qm_kinds.specs.declared.entry.EntryState.{EntryState}
+use Rattle.qm_kinds.specs.declared.entry.EntryState.TheVariants.{Pending, Holding, Timed, Running, Aborting, Retained}
+use Rattle.qm_model.specs.Due.{state_at, is_over, entry_at, is_due}
+use Rattle.qm_model.specs.JobStates.{run_of, runs_in}
+use Rattle.qm_model.specs.Queues.{runs_for}
+use Rattle.qm_state.specs.Due.{is_due_from}
+
+-- ---- nothing is due at a moment before the first one
+
+abbrev is_reached : Option ℕ → ℕ → Bool
+is_reached next now = option_map_or (λ n. nat_le n now) next false
+
+later_stays : (next now at : ℕ) → nat_le next now ≡ false → nat_le next at ≡ true → nat_le at now ≡ false
+later_stays next now at early from = grind (arith, nat_tests)
+
+not_due : (next : Option ℕ) (now : ℕ) (state : EntryState) → is_reached next now ≡ false → is_due_from next state ≡ true → is_due now state ≡ false
+not_due next now Pending early from = refl
+not_due next now Holding early from = refl
+not_due None now (Timed at) early from = cc
+not_due (Some n) now (Timed at) early from = later_stays n now at early from
+not_due next now (Running queue node run) early from = refl
+not_due next now (Aborting queue node run fate) early from = refl
+not_due next now (Retained status None) early from = refl
+not_due None now (Retained status (Some until)) early from = cc
+not_due (Some n) now (Retained status (Some until)) early from = later_stays n now until early from
+
+pub none_due : (next : Option ℕ) (now : ℕ) (es : List Entry) → is_reached next now ≡ false → All (λ e. is_due_from next e.state ≡ true) es → All (λ e. is_due now e.state ≡ false) es
+none_due next now es early waits =
+    All-weaker (λ (e : Entry). is_due_from next e.state ≡ true) (λ (e : Entry). is_due now e.state ≡ false) (λ e from. not_due next now e.state early from) es waits
+
+-- ---- what isn't found still isn't
+
+module _ {X : Type 0} (p q : X → Bool) (f : X → X) (same : (x : X) → p (f x) ≡ p x) where
+  none_left : (xs : List X) → find p xs ≡ None → find p (map f (filter q xs)) ≡ None
+  none_left [] none = refl
+  none_left (x ∷ xs) none = step (p x) refl (q x) none (λ rest. none_left xs rest)
+    where
+      step : (b : Bool) → p x ≡ b → (c : Bool) → cond b (Some x) (find p xs) ≡ None → (find p xs ≡ None → find p (map f (filter q xs)) ≡ None) → find p (map f (cond c (x ∷ filter q xs) (filter q xs))) ≡ None
+      step true is c h later = absurd (cc)
+      step false is true h later = ap (λ (b : Bool). cond b (Some (f x)) (find p (map f (filter q xs)))) (same x ∙ is) ∙ later h
+      step false is false h later = later h
+
+abbrev runs_here : List ℕ → List ℕ → EntryState → Bool
+runs_here name home state = option_map_or (λ (run : ℕ). true) (run_of state) false && (option_map_or (λ (queue : List ℕ). bytes_eq queue name) (runs_in state) false || bytes_eq home name)
+
+runs_at : (name home : List ℕ) (now : ℕ) (state : EntryState) → runs_here name home (state_at now state) ≡ runs_here name home state
+runs_at name home now Pending = refl
+runs_at name home now Holding = refl
+runs_at name home now (Timed at) = either (nat_le at now)
+  where
+    either : (b : Bool) → runs_here name home (cond b Pending (Timed at)) ≡ false
+    either true = refl
+    either false = refl
+runs_at name home now (Running queue node run) = refl
+runs_at name home now (Aborting queue node run fate) = refl
+runs_at name home now (Retained status until) = refl
+
+pub no_run_found : (name : List ℕ) (now : ℕ) (es : List Entry) → find (runs_for name) es ≡ None → find (runs_for name) (map (entry_at now) (filter (λ e. not (is_over now e.state)) es)) ≡ None
+no_run_found name now es none = none_left (runs_for name) (λ (e : Entry). not (is_over now e.state)) (entry_at now) (λ e. runs_at name e.home now e.state) es none

@@ -1,0 +1,27 @@
+use Rattle.std.proofs.Common.{◌∙◌, sym, ap, refl, false, if◌then◌else◌}
+use Rattle.std.specs.Option.{option_copied, option_map_or}
+use Rattle.qm_kinds.specs.declared.entry.Entry.{Entry}
+use Rattle.qm_kinds.specs.declared.entry.Fate.TheVariants.{Remove}
+use Rattle.qm_model.specs.Standing.{is_executing}
+use Rattle.qm_model.specs.Stopping.{entry_aborting}
+use Rattle.qm_state.specs.Image.{system_of}
+use Rattle.qm_state.specs.Preparing.{found, entry_removed}
+use Rattle.qm_sched.proofs.Ordered.{once}
+use Rattle.qm_state.proofs.Found.{executing_found}
+use Rattle.qm_state.proofs.image.Image.prepare_delete_entry.Goals as goal
+
+pub returns-then-is_executing-clause-made : goal.returns-then-is_executing-clause-made
+unfolding system_of
+returns-then-is_executing-clause-made c now node =
+    let s = found now (system_of c.args.self.now) in
+    let had = executing_found c.args.number now c.args.self.now.parts.entries (once (λ (e : Entry). e.number) c.args.number c.args.self.now.parts.entries c.entry.ensures.in_order)
+    ∙ ap (λ o. option_map_or is_executing o false) (sym c.entry.ensures.found ∙ ap option_copied c.in-Some.is) ∙ sym (c.is_executing.ensures c.in-Some.entry.now refl) ∙ c.if-is_executing.true in
+    λ t. if sym had t then entry_aborting s Remove c.args.number else entry_removed s c.args.number
+
+pub returns-clause-made : goal.returns-clause-made
+unfolding system_of
+returns-clause-made c now node =
+    let s = found now (system_of c.args.self.now) in
+    let had = executing_found c.args.number now c.args.self.now.parts.entries (once (λ (e : Entry). e.number) c.args.number c.args.self.now.parts.entries c.entry.ensures.in_order)
+    ∙ ap (λ o. option_map_or is_executing o false) (sym c.entry.ensures.found ∙ ap option_copied c.in-Some.is) ∙ sym (c.is_executing.ensures c.in-Some.entry.now refl) ∙ c.if-is_executing.false in
+    λ t. if sym had t then entry_aborting s Remove c.args.number else entry_removed s c.args.number

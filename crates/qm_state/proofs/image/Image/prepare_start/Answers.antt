@@ -1,0 +1,15 @@
+use Rattle.std.proofs.Common.{sym}
+use Rattle.qm_kinds.specs.declared.queue.Queue.{Queue}
+use Rattle.qm_kinds.specs.declared.queue.QueueState.TheVariants.{Started}
+use Rattle.qm_model.specs.Replying.{replied_with_queue}
+use Rattle.qm_model.specs.Standing.{with_queue}
+use Rattle.qm_state.specs.Image.{system_of}
+use Rattle.qm_state.specs.Preparing.{found}
+use Rattle.qm_state.proofs.image.Image.prepare_start.Goals as goal
+
+pub returns-clause-made : goal.returns-clause-made
+unfolding system_of
+returns-clause-made c now node =
+    let s = found now (system_of c.args.self.now) in
+    let same = c.settings_of.ensures (system_of c.args.self.now) (record { forms_are = sym c.form_table.ensures.forms; characteristics_are = sym c.form_table.ensures.characteristics }) in
+    λ t. replied_with_queue (record s { queues = with_queue c.args.name.now (λ (q : Queue). record (same q t) { state = Started }) s.queues }) c.args.name.now

@@ -1,0 +1,20 @@
+use Rattle.std.proofs.Common.{◌≡◌, ◌∙◌, not, List, filter, ap, sym, subst, true}
+use Rattle.std.specs.Str.{bytes_eq}
+use Rattle.std.proofs.lemmas.List.Elements.{All-filter}
+use Rattle.qm_kinds.specs.declared.entry.Entry.{Entry}
+use Rattle.qm_sched.specs.Tables.{Tables}
+use Rattle.qm_spool.specs.Counts.{CountsOf}
+use Rattle.qm_state.proofs.Entries.{Waits}
+use Rattle.qm_state.specs.Due.{is_due_from}
+use Rattle.qm_state.proofs.image.Image.remove_queue.Goals as goal
+
+pub invariant_of-self : goal.invariant_of-self
+invariant_of-self c =
+    let left : c.remove_queue.new.self.entries ≡ filter (λ (e : Entry). not (bytes_eq e.home c.args.name.now)) c.args.self.now.parts.entries =
+    ap (λ (t : Tables). t.entries) c.remove_queue.ensures ∙ ap (λ (t : Tables). t.entries) c.remove_of_home.ensures in
+    record {
+      counted = subst (λ (es : List Entry). CountsOf es c.leave_files.new.spool.counts)
+          (ap (λ (es : List Entry). filter (λ (e : Entry). not (bytes_eq e.home c.args.name.now)) es) c.entries.ensures ∙ sym left) c.leave_files.ensures.counts;
+      waits = subst (λ (es : List Entry). Waits c.args.self.now.next_due es) (sym left)
+          (All-filter (λ (e : Entry). not (bytes_eq e.home c.args.name.now)) (λ (e : Entry). is_due_from c.args.self.now.next_due e.state ≡ true) c.args.self.now.parts.entries c.args.self.now.waits);
+    }

@@ -1,0 +1,12 @@
+use Rattle.std.proofs.Common.{◌≡◌, take}
+use Rattle.qm_sched.specs.Tables.{with_tables}
+use Rattle.qm_spool.specs.Counts.{CountsOf}
+use Rattle.qm_state.proofs.rows.restore_entries.Given as goal
+
+-- the entries so far are in the tables, and counted
+abbrev pub invariant-loop-entry : goal.invariant-loop-entry
+invariant-loop-entry l = record {
+  tables : with_tables l.system l.parts ≡ record l.system { entries = take l.entry-index l.system.entries };
+  files : l.spool.files ≡ l.fn.spool.files;
+  counts : CountsOf l.parts.entries l.spool.counts;
+}

@@ -1,0 +1,158 @@
+// Queues are made, set, started, stopped and deleted: what is decided.
+ghost use Rattle.std.specs.Prelude.{◌≡◌, ℕ, List, IfOk, is_none};
+ghost use Rattle.qm_model.specs.Queues.{initialize_refusal, initialized, set_queue_refusal, queue_set, queue_started, delete_queue_refusal, queue_deleted};
+ghost use Rattle.qm_model.specs.Stopping.{stop_refusal, queue_stopped};
+ghost use Rattle.qm_state.specs.Image.{system_of};
+ghost use Rattle.qm_state.specs.Preparing.{found, outcome_of, IsReady};
+ghost use Rattle.qm_state.specs.Refusing.{Decides, KeepsRefused};
+
+use crate::image::Image;
+use crate::initializing::{initialize_refusal, new_queue};
+use crate::prepared::Change;
+use crate::refused::Refused;
+use crate::settings::{set_queue_refusal, settings_of};
+use crate::stopping::{delete_queue_refusal, refused_by_queue};
+use qm_kinds::{Name, NewQueue, QueueChange, QueueState, Refusal, StopMode};
+use std::alloc::AllocError;
+
+impl Image {
+    // Why INITIALIZE/QUEUE is refused, if it is.
+    #[tactic(auto, unfolding(crate::specs::Image::system_of))]
+    fn initialize_refusal(&self, new: &NewQueue) -> Option<Refusal>
+        ensures { result ≡ initialize_refusal (system_of self.now) new.now }
+    {
+        initialize_refusal(
+            self.parts.nodes(),
+            self.parts.form_table(),
+            self.parts.queue_table(),
+            new,
+        )
+    }
+
+    // Takes the memory for a queue.
+    #[tactic(auto, unfolding(crate::specs::Image::system_of))]
+    fn take_queue<'a>(&mut self, node: &Name, new: &NewQueue) -> Result<Change<'a>, AllocError>
+        ensures rows { system_of self.new ≡ system_of self.old }
+        ensures ready { IfOk result (IsReady self.new) }
+        ensures made { IfOk result (λ change. (now : ℕ) → outcome_of change now node.now (found now (system_of self.old)) ≡ initialized (found now (system_of self.old)) node.now new.now) }
+    {
+        let queue = new_queue(self.alloc, self.parts.form_table(), node, new)?;
+        self.parts.reserve_queue()?;
+        Ok(Change::PutQueue { queue })
+    }
+
+    /// Decides on a queue that is made, and takes the memory for it.
+    pub(crate) fn prepare_initialize<'a>(
+        &mut self,
+        node: &Name,
+        new: &NewQueue,
+    ) -> Result<Change<'a>, Refused>
+        ensures rows { system_of self.new ≡ system_of self.old }
+        ensures decided { Decides (initialize_refusal (system_of self.old) new.now) result }
+        ensures untouched { KeepsRefused self.old self.new result }
+        ensures ready { IfOk result (IsReady self.new) }
+        ensures made { IfOk result (λ change. (now : ℕ) → outcome_of change now node.now (found now (system_of self.old)) ≡ initialized (found now (system_of self.old)) node.now new.now) }
+    {
+        if let Some(refusal) = self.initialize_refusal(new) {
+            return Err(Refused::By(refusal));
+        }
+        match self.take_queue(node, new) {
+            Ok(change) => Ok(change),
+            Err(AllocError) => Err(Refused::NoMemory),
+        }
+    }
+
+    // Why SET QUEUE or START/QUEUE is refused, if it is.
+    #[tactic(auto, unfolding(crate::specs::Image::system_of))]
+    fn set_queue_refusal(&self, name: &Name, change: &QueueChange) -> Option<Refusal>
+        ensures { result ≡ set_queue_refusal (system_of self.now) name.now change.now }
+    {
+        set_queue_refusal(
+            self.parts.form_table(),
+            self.parts.queue_table(),
+            name,
+            change,
+        )
+    }
+
+    /// Decides on settings for a queue.
+    #[tactic(auto, unfolding(crate::specs::Image::system_of))]
+    pub(crate) fn prepare_set<'a>(
+        &self,
+        name: &Name,
+        change: &QueueChange,
+    ) -> Result<Change<'a>, Refused>
+        ensures decided { Decides (set_queue_refusal (system_of self.now) name.now change.now) result }
+        ensures ready { IfOk result (IsReady self.now) }
+        ensures made { IfOk result (λ prepared. (now : ℕ) (node : List ℕ) → outcome_of prepared now node (found now (system_of self.now)) ≡ queue_set (found now (system_of self.now)) name.now change.now) }
+    {
+        if let Some(refusal) = self.set_queue_refusal(name, change) {
+            return Err(Refused::By(refusal));
+        }
+        Ok(Change::SetQueue {
+            name: *name,
+            settings: settings_of(self.parts.form_table(), change),
+            state: None,
+        })
+    }
+
+    /// Decides on settings for a queue that is started.
+    #[tactic(auto, unfolding(crate::specs::Image::system_of))]
+    pub(crate) fn prepare_start<'a>(
+        &self,
+        name: &Name,
+        change: &QueueChange,
+    ) -> Result<Change<'a>, Refused>
+        ensures decided { Decides (set_queue_refusal (system_of self.now) name.now change.now) result }
+        ensures ready { IfOk result (IsReady self.now) }
+        ensures made { IfOk result (λ prepared. (now : ℕ) (node : List ℕ) → outcome_of prepared now node (found now (system_of self.now)) ≡ queue_started (found now (system_of self.now)) name.now change.now) }
+    {
+        if let Some(refusal) = self.set_queue_refusal(name, change) {
+            return Err(Refused::By(refusal));
+        }
+        Ok(Change::SetQueue {
+            name: *name,
+            settings: settings_of(self.parts.form_table(), change),
+            state: Some(QueueState::Started),
+        })
+    }
+
+    /// Decides on how a queue is stopped.
+    #[tactic(auto, unfolding(crate::specs::Image::system_of))]
+    pub(crate) fn prepare_stop<'a>(&self, name: &Name, how: StopMode) -> Result<Change<'a>, Refused>
+        ensures decided { Decides (stop_refusal (system_of self.now) name.now) result }
+        ensures ready { IfOk result (IsReady self.now) }
+        ensures made { IfOk result (λ prepared. (now : ℕ) (node : List ℕ) → outcome_of prepared now node (found now (system_of self.now)) ≡ queue_stopped (found now (system_of self.now)) name.now how) }
+    {
+        if self.parts.queue(name).is_none() {
+            return Err(Refused::By(Refusal::NoSuchQueue { name: *name }));
+        }
+        Ok(Change::StopQueue { name: *name, how })
+    }
+
+    // Why DELETE/QUEUE is refused, if it is.
+    #[tactic(auto, unfolding(crate::specs::Image::system_of))]
+    fn delete_queue_refusal(&self, name: &Name) -> Option<Refusal>
+        ensures { result ≡ delete_queue_refusal (system_of self.now) name.now }
+    {
+        delete_queue_refusal(
+            self.parts.queue_table(),
+            name,
+            refused_by_queue(self.parts.queues(), name),
+            self.parts.first_run_for(name),
+        )
+    }
+
+    /// Decides on a queue that is deleted.
+    #[tactic(auto, unfolding(crate::specs::Image::system_of))]
+    pub(crate) fn prepare_delete_queue<'a>(&self, name: &Name) -> Result<Change<'a>, Refused>
+        ensures decided { Decides (delete_queue_refusal (system_of self.now) name.now) result }
+        ensures ready { IfOk result (IsReady self.now) }
+        ensures made { IfOk result (λ prepared. (now : ℕ) (node : List ℕ) → outcome_of prepared now node (found now (system_of self.now)) ≡ queue_deleted (found now (system_of self.now)) name.now) }
+    {
+        if let Some(refusal) = self.delete_queue_refusal(name) {
+            return Err(Refused::By(refusal));
+        }
+        Ok(Change::RemoveQueue { name: *name })
+    }
+}

@@ -1,0 +1,111 @@
+// How queues are stopped and deleted, and jobs cut short. Nothing is changed here: each function says what becomes of a
+// queue or an entry, or why nothing does.
+ghost use Rattle.std.specs.Prelude.{◌≡◌, ℕ, find, Option};
+ghost use Rattle.std.specs.List.{list_any};
+ghost use Rattle.std.specs.Option.{option_copied, option_map};
+ghost use Rattle.std.specs.Str.{bytes_eq};
+ghost use Rattle.qm_kinds.specs.declared.system.System.{System};
+ghost use Rattle.qm_model.specs.Queues.{refused_unless_stopped, runs_for, delete_queue_refusal};
+ghost use Rattle.qm_model.specs.Referring.{refused_by_queue};
+ghost use Rattle.qm_model.specs.States.{state_on_stop, state_when_idle};
+ghost use Rattle.qm_model.specs.Stopping.{job_to_abort, abort_refusal};
+
+use crate::kinds::is_generic;
+use qm_kinds::{Entry, Holder, Name, Queue, QueueState, Refusal, StopMode};
+use qm_queues::QueueTable;
+
+/// The state of a queue after STOP/QUEUE, STOP/QUEUE/NEXT or STOP/QUEUE/RESET.
+pub(crate) fn state_on_stop(how: StopMode, state: QueueState) -> QueueState
+    ensures { result ≡ state_on_stop how state }
+{
+    match (how, state) {
+        (_, QueueState::Stopped) | (StopMode::Reset, _) => QueueState::Stopped,
+        (StopMode::Pause, QueueState::Started | QueueState::Paused) => QueueState::Paused,
+        (StopMode::Pause, QueueState::Stopping) | (StopMode::Next, _) => QueueState::Stopping,
+    }
+}
+
+/// The state of a queue after a request: one that is stopping is stopped once it has no run.
+pub(crate) fn state_when_idle(has_run: bool, state: QueueState) -> QueueState
+    ensures { result ≡ state_when_idle has_run state }
+{
+    if state == QueueState::Stopping && !has_run {
+        QueueState::Stopped
+    } else {
+        state
+    }
+}
+
+/// The queue isn't stopped.
+pub(crate) fn refused_unless_stopped(queue: &Queue) -> Option<Refusal>
+    ensures { result ≡ refused_unless_stopped queue.now }
+{
+    match queue.state {
+        QueueState::Stopped => None,
+        state => Some(Refusal::QueueNotStopped { state }),
+    }
+}
+
+/// Why no job of a queue can be cut short so. The job that is meant is the one of the number that is given, or the only one
+/// that runs there.
+pub(crate) fn abort_refusal(
+    queues: &QueueTable,
+    name: &Name,
+    meant: Option<&Entry>,
+    requeue: bool,
+) -> Option<Refusal>
+    ensures { (s : System) (number : Option ℕ) → s.queues ≡ queues.now.queues → job_to_abort s name.now number ≡ option_copied meant.entry → result ≡ abort_refusal s name.now number requeue }
+{
+    let Some(queue) = queues.get(name) else {
+        return Some(Refusal::NoSuchQueue { name: *name });
+    };
+    if is_generic(queue.kind) {
+        return Some(Refusal::WrongKind);
+    }
+    match meant {
+        None => Some(Refusal::NotRunning),
+        Some(entry) if requeue && !entry.restart => Some(Refusal::NotRestartable),
+        Some(_) => None,
+    }
+}
+
+// Whether a queue passes its jobs on to the one of this name.
+fn has_target(queue: &Queue, name: &Name) -> bool
+    ensures { result ≡ list_any (bytes_eq name.now) queue.now.targets }
+{
+    queue.targets.as_slice().contains(name)
+}
+
+/// The first queue by name that passes its jobs on to the one of this name makes that stay.
+pub(crate) fn refused_by_queue(queues: &[Queue], name: &Name) -> Option<Refusal>
+    ensures { result ≡ refused_by_queue (λ q. list_any (bytes_eq name.now) q.targets) queues.now }
+{
+    let queue = queues.iter().find(|queue| has_target(queue, name))?;
+    Some(Refusal::Referenced {
+        by: Holder::Queue(queue.name),
+    })
+}
+
+/// Why a queue can't be deleted, where it is known which queue makes it stay, and which is the least entry that runs for it.
+pub(crate) fn delete_queue_refusal(
+    queues: &QueueTable,
+    name: &Name,
+    by_queue: Option<Refusal>,
+    runs: Option<u32>,
+) -> Option<Refusal>
+    ensures { (s : System) → s.queues ≡ queues.now.queues → refused_by_queue (λ q. list_any (bytes_eq name.now) q.targets) s.queues ≡ by_queue → option_map (λ e. e.number) (find (runs_for name.now) s.entries) ≡ runs → result ≡ delete_queue_refusal s name.now }
+{
+    let Some(queue) = queues.get(name) else {
+        return Some(Refusal::NoSuchQueue { name: *name });
+    };
+    if let Some(refusal) = refused_unless_stopped(queue) {
+        return Some(refusal);
+    }
+    if by_queue.is_some() {
+        return by_queue;
+    }
+    let entry = runs?;
+    Some(Refusal::Referenced {
+        by: Holder::Entry(entry),
+    })
+}
