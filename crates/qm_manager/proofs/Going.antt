@@ -1,5 +1,6 @@
 -- A queue file that goes on, record by record.
-use Rattle.std.proofs.Common.{◌≡◌, ℕ, ◌+◌, ◌<◌, ◌≤◌, List, [], ◌∷◌, ◌++◌, length, map, take, drop, Some, None, Err, sym, ap, subst, ◌∙◌, arith, append_assoc}
+use Rattle.std.proofs.Common.{◌≡◌, ℕ, ◌+◌, ◌<◌, ◌≤◌, List, [], ◌∷◌, ◌++◌, length, map, take, drop, Some, None, Result, Ok, Err, sym, ap, subst, ◌∙◌, arith, append_assoc}
+use Rattle.std.specs.Prelude.{IfOk, IfErr, OnOk}
 use Rattle.std.specs.List.{AllByRecursion, slice_get}
 use Rattle.std.specs.Option.{option_and_then}
 use Rattle.std.proofs.lemmas.List.{take_more, take_all, map-append, append-nil}
@@ -9,8 +10,12 @@ use Rattle.qm_kinds.specs.declared.system.System.{System}
 use Rattle.qm_model.specs.First.{first_system}
 use Rattle.qm_bytes.specs.Laws.{Spells}
 use Rattle.qm_record.specs.Spelling.{HasSpelling, record_text}
+use Rattle.qm_record.specs.Faults.{IsRead as IsReadSo}
+use Rattle.qm_record.specs.declared.fault.RecordFault.{RecordFault}
+use Rattle.qm_record.specs.declared.fault.RecordFault.TheVariants.{Bad}
+use Rattle.qm_record.specs.declared.fault.RecordFault.TheVariants as fault
 use Rattle.qm_manager.specs.QueueFile.{first_rows, after_record, replayed, IsQueueFile, IsFirstUnlawful}
-use Rattle.qm_manager.specs.Restoring.{BeginsWithRows, Judges, Leaves, LeavesNothing, IsRefused, IsRead, IsAt}
+use Rattle.qm_manager.specs.Restoring.{BeginsWithRows, Judges, Leaves, LeavesNothing, LeavesBy, IsRefused, RefusesRead}
 use Rattle.qm_manager.specs.declared.restoring.RestoreEnd.{RestoreEnd}
 use Rattle.qm_manager.specs.declared.restoring.RestoreEnd.TheVariants.{Unlawful, NoMemory}
 use Rattle.qm_manager.proofs.Beginning.{new_site_file}
@@ -169,8 +174,22 @@ read_leaves body r s t spells only leaves = record {
 pub read_leaves_nothing : (body : List ℕ) (r : Record) (s : System) → ((other : Record) → HasSpelling other → body ≡ record_text other → r ≡ other) → after_record s r ≡ None → LeavesNothing body s
 read_leaves_nothing body r s only leaves other fits is = ap (after_record s) (sym (only other fits is)) ∙ leaves
 
--- a record that can't be read is refused
-pub unread_is_refused : (bodies : List (List ℕ)) (index : ℕ) (body : List ℕ) (s : System) (end : RestoreEnd) → slice_get bodies index ≡ Some body → IsAt index end
-    → ((text : List ℕ) (r : Record) → slice_get bodies index ≡ Some text → HasSpelling r → text ≡ record_text r → IsRead r (Err end)) → IsRefused index body s end
-unread_is_refused bodies index body s (Unlawful i) there at only = (at, λ other fits is. absurd (only body other there fits is))
-unread_is_refused bodies index body s NoMemory there at only = tt
+pub on_ok : {X E P Q : Type 0} (result : Result X E) → (P → Q) → OnOk result P → OnOk result Q
+on_ok (Ok x) step holds = step holds
+on_ok (Err e) step holds = tt
+
+pub if_err : {X E : Type 0} {P Q : E → Type 0} (result : Result X E) → ((e : E) → P e → Q e) → IfErr result P → IfErr result Q
+if_err (Ok x) step holds = tt
+if_err (Err e) step holds = step e holds
+
+pub record_leaves : (read : Result Record RecordFault) (body : List ℕ) (s t : System) → IfOk read (λ r. Spells HasSpelling record_text r body)
+    → ((other : Record) → HasSpelling other → body ≡ record_text other → IsReadSo other read) → LeavesBy read s t → Leaves body s t
+record_leaves (Ok r) body s t spells only leaves = read_leaves body r s t spells only leaves
+record_leaves (Err fault) body s t spells only leaves = absurd leaves
+
+pub record_is_refused : (index : ℕ) (read : Result Record RecordFault) (body : List ℕ) (s : System) (end : RestoreEnd) → ((other : Record) → HasSpelling other → body ≡ record_text other → IsReadSo other read)
+    → RefusesRead index read s end → IsRefused index body s end
+record_is_refused index (Ok r) body s (Unlawful i) only refused = (refused.0, read_leaves_nothing body r s only refused.1)
+record_is_refused index (Err (Bad place)) body s (Unlawful i) only refused = (refused, λ other fits is. absurd (only other fits is))
+record_is_refused index (Err fault.NoMemory) body s (Unlawful i) only refused = absurd refused
+record_is_refused index read body s NoMemory only refused = tt

@@ -4,3 +4,4 @@ pub mod Going
 pub mod Asked
 pub mod OneSite
 pub mod Faults
+pub mod Consistent

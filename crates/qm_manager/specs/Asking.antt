@@ -7,19 +7,23 @@ use Rattle.qm_kinds.specs.declared.record.Body.TheVariants.{Ask}
 use Rattle.qm_kinds.specs.declared.refusal.Refusal.{Refusal}
 use Rattle.qm_kinds.specs.declared.reply.Reply.{Reply}
 use Rattle.qm_kinds.specs.declared.request.Request.{Request}
-use Rattle.qm_kinds.specs.declared.request.Request.TheVariants.{Submit}
+use Rattle.qm_kinds.specs.declared.request.Request.TheVariants.{InitializeQueue, SetQueue, StartQueue, Submit}
 use Rattle.qm_kinds.specs.declared.system.System.{System}
 use Rattle.qm_model.specs.Applied.{applied}
 use Rattle.qm_model.specs.Outcome.{Accepted}
 use Rattle.qm_glog.specs.Log.{need_of}
-use Rattle.qm_record.specs.Spelling.{record_text}
+use Rattle.qm_record.specs.Spelling.{record_text, IsShortQueue, IsShortChange}
 use Rattle.qm_store.specs.declared.store.TheConstants.{QUEUE_CAP}
 use Rattle.qm_manager.specs.Site.{Site, BeforeOrAfter}
 use Rattle.qm_manager.specs.declared.fault.AskFault.{AskFault}
 use Rattle.qm_manager.specs.declared.fault.AskFault.TheVariants as fault
 
--- A job's list of characteristics is short enough for its record. The other lists of requests are bounded by the rules.
+-- The lists of characteristics and of targets are short enough for their record. The other lists of requests are bounded by
+-- the rules.
 abbrev pub HasShortLists : Request → Type 0
+HasShortLists (InitializeQueue new) = IsShortQueue new
+HasShortLists (SetQueue name change) = IsShortChange change
+HasShortLists (StartQueue name change) = IsShortChange change
 HasShortLists (Submit job) = length job.characteristics < 2 ^ 16
 HasShortLists _ = Unit {0}
 

@@ -9,6 +9,9 @@ use Rattle.qm_kinds.specs.declared.record.Body.TheVariants.{Head}
 use Rattle.qm_kinds.specs.declared.system.Node.{Node}
 use Rattle.qm_kinds.specs.declared.system.System.{System}
 use Rattle.qm_record.specs.Spelling.{HasSpelling, record_text}
+use Rattle.qm_record.specs.declared.fault.RecordFault.{RecordFault}
+use Rattle.qm_record.specs.declared.fault.RecordFault.TheVariants.{Bad}
+use Rattle.qm_record.specs.declared.fault.RecordFault.TheVariants as fault
 use Rattle.qm_manager.specs.QueueFile.{first_rows, after_record, IsQueueFile, IsFirstUnlawful}
 use Rattle.qm_manager.specs.declared.restoring.RestoreEnd.{RestoreEnd}
 use Rattle.qm_manager.specs.declared.restoring.RestoreEnd.TheVariants.{Unlawful, NoMemory}
@@ -63,6 +66,18 @@ pub record Leaves (body : List ℕ) (old new : System) : Type 0 where
 -- it makes nothing of it
 abbrev pub LeavesNothing : List ℕ → System → Type 0
 LeavesNothing body old = (other : Record) → HasSpelling other → body ≡ record_text other → after_record old other ≡ None
+
+-- what was read of a record makes this of a system
+abbrev pub LeavesBy : Result Record RecordFault → System → System → Type 0
+LeavesBy (Ok r) old new = after_record old r ≡ Some new
+LeavesBy (Err fault) old new = ⊥
+
+-- what was read of the record with this index makes nothing of it
+abbrev pub RefusesRead : ℕ → Result Record RecordFault → System → RestoreEnd → Type 0
+RefusesRead index (Ok r) s (Unlawful i) = (i ≡ index) × (after_record s r ≡ None)
+RefusesRead index (Err (Bad place)) s (Unlawful i) = i ≡ index
+RefusesRead index (Err fault.NoMemory) s (Unlawful i) = ⊥
+RefusesRead index read s NoMemory = Unit {0}
 
 -- this record was read, unless memory ran out
 abbrev pub IsRead : Record → Result Record RestoreEnd → Type 0

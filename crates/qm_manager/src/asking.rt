@@ -7,7 +7,9 @@ use crate::fault::AskFault;
 use crate::manager::Manager;
 use qm_disk::Disk;
 use qm_kinds::{Reply, Request};
-use qm_model::nodes_keep_their_names;
+use qm_model::{
+    built_requests_keep_consistent, first_system_is_consistent, nodes_keep_their_names,
+};
 use qm_record::write_request;
 use qm_state::Refused;
 use qm_store::AppendFault;
@@ -38,6 +40,8 @@ impl<D: Disk> Manager<D> {
         ensures device { LeavesDevice D.meaning (disk_of self.old) (disk_of self.new) result }
     {
         nodes_keep_their_names();
+        first_system_is_consistent();
+        built_requests_keep_consistent();
         let moment = self.image.last();
         let prepared = match self.image.prepare(moment, NODE, request) {
             Ok(prepared) => prepared,

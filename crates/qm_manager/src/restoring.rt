@@ -6,16 +6,19 @@ ghost use Rattle.qm_bytes.specs.Spelling.{IsName};
 ghost use Rattle.qm_record.specs.Spelling.{record_text, CanBeWritten, HasSpelling};
 ghost use Rattle.qm_record.specs.Faults.{IsRecord};
 ghost use Rattle.qm_model.specs.Built.{is_built};
+ghost use Rattle.qm_model.specs.Consistent.{IsConsistent};
 ghost use Rattle.qm_state.specs.Image.{system_of};
 ghost use Rattle.qm_store.specs.Store.{bodies_of};
 ghost use Rattle.qm_manager.specs.declared.restoring.RestoreEnd.TheVariants.{NoMemory};
 ghost use Rattle.qm_manager.specs.QueueFile.{first_rows, after_record, IsQueueFile};
-ghost use Rattle.qm_manager.specs.Restoring.{named_by, IsOf, BeginsWithRows, Judges, Leaves, IsRead, IsRefused, IsAt, HasNode};
+ghost use Rattle.qm_manager.specs.Restoring.{named_by, IsOf, BeginsWithRows, Judges, Leaves, LeavesBy, IsRead, IsRefused, RefusesRead, IsAt, HasNode};
 
 use crate::site::{first_rows, first_system};
 use qm_disk::Disk;
 use qm_kinds::{Body, Moment, NODE_NAME_BYTES, Name, Record, Request};
-use qm_model::{first_system_is_consistent, idle_systems_stay_idle, nodes_keep_their_names};
+use qm_model::{
+    built_requests_keep_consistent, first_system_is_consistent, nodes_keep_their_names,
+};
 use qm_record::{RecordFault, write_record};
 use qm_state::{Image, Refused, is_built};
 use qm_store::Open;
@@ -129,6 +132,8 @@ fn can_act(image: &Image, moment: Moment, node: u8, request: &Request) -> bool
 
 // Does what a record says, if it can stand there.
 fn replay(image: &mut Image, what: &Record) -> Result<bool, AllocError>
+    requires { IsConsistent (system_of image.old) }
+    ensures sound { IsConsistent (system_of image.new) }
     ensures nodes { (system_of image.new).nodes ≡ (system_of image.old).nodes }
     ensures done { IfOk result (λ done. after_record (system_of image.old) what.now ≡ (if done then Some (system_of image.new) else None)) }
     // Memory is wanted for what can stand there alone.
@@ -141,6 +146,7 @@ fn replay(image: &mut Image, what: &Record) -> Result<bool, AllocError>
         return Ok(false);
     }
     nodes_keep_their_names();
+    built_requests_keep_consistent();
     match image.prepare(what.moment, what.node, request) {
         Ok(prepared) => {
             image.commit(prepared);
@@ -151,23 +157,46 @@ fn replay(image: &mut Image, what: &Record) -> Result<bool, AllocError>
     }
 }
 
-// Does what the record of this index says.
+// Does what the record of this index says, as it was read.
+fn replay_read(
+    image: &mut Image,
+    index: usize,
+    read: &Result<Record, RecordFault>,
+) -> Result<(), RestoreEnd>
+    requires { IsConsistent (system_of image.old) }
+    ensures sound { IsConsistent (system_of image.new) }
+    ensures leaves { OnOk result (LeavesBy read.now (system_of image.old) (system_of image.new)) }
+    ensures refused { IfErr result (RefusesRead index read.now (system_of image.old)) }
+    ensures nodes { (system_of image.new).nodes ≡ (system_of image.old).nodes }
+{
+    match read {
+        Ok(record) => {
+            if replay(image, record)? {
+                Ok(())
+            } else {
+                Err(RestoreEnd::Unlawful { index })
+            }
+        }
+        Err(RecordFault::Bad { .. }) => Err(RestoreEnd::Unlawful { index }),
+        Err(RecordFault::NoMemory) => Err(RestoreEnd::NoMemory),
+    }
+}
+
+// Does what the record of this index says. It stays where it was read: it is large.
 fn restore_record<D: Disk>(
     store: &Open<D>,
     index: usize,
     image: &mut Image,
 ) -> Result<(), RestoreEnd>
-    requires { index < length (bodies_of store.now) }
+    requires within { index < length (bodies_of store.now) }
+    requires sound { IsConsistent (system_of image.old) }
+    ensures sound { IsConsistent (system_of image.new) }
     ensures leaves { OnOk result ((body : List ℕ) → slice_get (bodies_of store.now) index ≡ Some body → Leaves body (system_of image.old) (system_of image.new)) }
     ensures refused { IfErr result (λ end. (body : List ℕ) → slice_get (bodies_of store.now) index ≡ Some body → IsRefused index body (system_of image.old) end) }
     ensures nodes { (system_of image.new).nodes ≡ (system_of image.old).nodes }
 {
-    let record = read_at(store, index)?;
-    if replay(image, &record)? {
-        Ok(())
-    } else {
-        Err(RestoreEnd::Unlawful { index })
-    }
+    let read = store.record(index);
+    replay_read(image, index, &read)
 }
 
 /// The one node and the image of the system for which the records stand; or the first record that can't stand there.
@@ -178,7 +207,6 @@ pub(crate) fn restore<D: Disk>(alloc: Global, store: &Open<D>) -> Result<(Name, 
 {
     let node = read_rows(alloc, store)?;
     first_system_is_consistent();
-    idle_systems_stay_idle();
     let mut image = Image::from_rows(alloc, &first_system(alloc, node)?)?;
     for index in 3..store.count() {
         restore_record(store, index, &mut image)?;

@@ -2,6 +2,7 @@ use Rattle.std.proofs.Common.{◌≡◌, ◌<◌, ◌∙◌, ℕ, List, [], sym,
 use Rattle.std.proofs.lemmas.Option.{slice_get-get_or}
 use Rattle.std.proofs.lemmas.Result.{err_from_is_err_and}
 use Rattle.qm_kinds.specs.declared.system.System.{System}
+use Rattle.qm_model.specs.Consistent.{IsConsistent}
 use Rattle.qm_model.specs.First.{first_system}
 use Rattle.qm_state.specs.Image.{system_of}
 use Rattle.qm_store.specs.Store.{bodies_of}
@@ -14,6 +15,7 @@ loop-index-init g c =
     let first : system_of c.in_ok-image.image ≡ first_system c.in_ok-node.node = c.in_ok-image.ensures ∙ c.in_ok-first_system.ensures in
     record {
       stands = subst (λ (s : System). Stands (take 3 (bodies_of c.args.store.now)) s) (sym first) (rows_stand (bodies_of c.args.store.now) c.in_ok-node.node c.in_ok-node.ensures.rows);
+      sound = subst IsConsistent (sym first) (c.first_system_is_consistent.ensures c.in_ok-node.node c.in_ok-node.ensures.rows.short);
       node = subst (HasNode c.in_ok-node.node) (sym first) refl;
     }
 
@@ -36,5 +38,6 @@ loop-index-preserved g c =
     let leaves = c.in_ok-restore_record.ensures.leaves body there in
     record {
       stands = next_stands (bodies_of c.args.store.now) index body (system_of c.loop-index.image) (system_of c.restore_record.new.image) there c.loop-index.invariant.stands leaves;
+      sound = c.restore_record.ensures.sound;
       node = c.restore_record.ensures.nodes ∙ c.loop-index.invariant.node;
     }

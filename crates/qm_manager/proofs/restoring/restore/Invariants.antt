@@ -1,4 +1,5 @@
 use Rattle.std.proofs.Common.{take}
+use Rattle.qm_model.specs.Consistent.{IsConsistent}
 use Rattle.qm_state.specs.Image.{system_of}
 use Rattle.qm_store.specs.Store.{bodies_of}
 use Rattle.qm_manager.specs.Restoring.{HasNode}
@@ -9,5 +10,6 @@ use Rattle.qm_manager.proofs.restoring.restore.Given as goal
 abbrev pub invariant-loop-index : goal.invariant-loop-index
 invariant-loop-index g l = record {
   stands : Stands (take l.index (bodies_of l.store)) (system_of l.image);
+  sound : IsConsistent (system_of l.image);
   node : HasNode l.node (system_of l.image);
 }

@@ -1,5 +1,6 @@
-use Rattle.std.proofs.Common.{◌∙◌, sym, ap, refl}
+use Rattle.std.proofs.Common.{◌∙◌, sym, ap, refl, subst}
 use Rattle.qm_kinds.specs.declared.system.System.{System}
+use Rattle.qm_model.specs.Consistent.{IsConsistent}
 use Rattle.qm_model.specs.Outcome.{Accepted}
 use Rattle.qm_state.specs.Image.{system_of}
 use Rattle.qm_state.specs.Preparing.{made}
@@ -8,7 +9,19 @@ use Rattle.qm_manager.specs.Asking.{asked, site_after}
 use Rattle.qm_manager.specs.Manager.{site_of, disk_of}
 use Rattle.qm_manager.specs.Sites.{steps_nowhere}
 use Rattle.qm_manager.proofs.Asked.{steps_appending, appended_is_lawful}
+use Rattle.qm_manager.proofs.Consistent.{queue_files_are_consistent}
 use Rattle.qm_manager.proofs.manager.Manager.ask.Goals as goal
+
+pub prepare-requires-clause-sound : goal.prepare-requires-clause-sound
+prepare-requires-clause-sound g c =
+    let site = site_of c.args.self.now in
+    queue_files_are_consistent c.built_requests_keep_consistent.ensures c.first_system_is_consistent.ensures site.bodies site.system c.requires.ready.lawful
+
+pub commit-requires-clause-sound : goal.commit-requires-clause-sound
+commit-requires-clause-sound g c =
+    let site = site_of c.args.self.now in
+    subst IsConsistent (sym c.prepare.ensures.rows)
+    (queue_files_are_consistent c.built_requests_keep_consistent.ensures c.first_system_is_consistent.ensures site.bodies site.system c.requires.ready.lawful)
 
 pub returns-in-Err-By-clause-steps : goal.returns-in-Err-By-clause-steps
 returns-in-Err-By-clause-steps g c =
