@@ -1,5 +1,5 @@
 -- What lines ask for can be asked here, and what answering leaves of the manager.
-use Rattle.std.proofs.Common.{◌≡◌, inl, ℕ, Bool, true, false, cond, lit<, List, [], ◌∷◌, ◌&&◌, codes, Option, None, Some, Result, Ok, Err, refl, sym, ◌∙◌, subst, IfSome}
+use Rattle.std.proofs.Common.{◌≡◌, inl, ℕ, Bool, true, false, cond, lit<, List, [], ◌∷◌, ◌&&◌, ◌||◌, codes, Option, None, Some, Result, Ok, Err, refl, sym, ◌∙◌, ap, subst, IfSome, IfOk}
 use Rattle.std.specs.Option.{option_map}
 use Rattle.std.specs.Result.{IsErrAnd}
 use Rattle.std.specs.Str.{bytes_eq}
@@ -11,8 +11,13 @@ use Rattle.qm_kinds.specs.declared.input.Input.TheVariants.{Ask, Show, Fault}
 use Rattle.qm_kinds.specs.declared.query.Row.{Row}
 use Rattle.qm_kinds.specs.declared.refusal.ParseKind.TheVariants as parse
 use Rattle.qm_kinds.specs.declared.refusal.Refusal.{Refusal}
-use Rattle.qm_model.specs.Command.{command_from, words_of, cut_at_blank, is_word, entry_number, submit_of, query_of}
-use Rattle.qm_model.specs.Script.{Sort, Command, Site as AtSite, input_of, or_not_built, act_from, line_act, append_to}
+use Rattle.qm_kinds.specs.Names.{system_user}
+use Rattle.qm_model.specs.Texts.{cut_at_blank}
+use Rattle.qm_grammar.specs.declared.fault.Fault.{Fault as TextFault}
+use Rattle.qm_dcl.specs.Command.{command_of}
+use Rattle.qm_dcl.specs.Lines.{input_of, or_fault}
+use Rattle.qm_dcl.proofs.EachAsked.{OfEach, of_asked}
+use Rattle.qm_model.specs.Script.{Sort, Command, Site as AtSite, act_from, act_number, done_by, done_act, line_act, append_to}
 use Rattle.qm_manager.specs.declared.manager.Manager.{Manager}
 use Rattle.qm_manager.specs.Site.{Site}
 use Rattle.qm_manager.specs.Sites.{steps_nowhere}
@@ -25,26 +30,23 @@ use Rattle.qm_program.specs.declared.serve.AnswerFault.TheVariants as fault
 
 -- ---- what lines ask for
 
-option_askable : (o : Option Input) → IfSome o IsAskable → IsAskable (or_not_built o)
-option_askable None h = tt
-option_askable (Some input) h = h
+-- each form of a command that is built can be asked
+each_askable : (user : List ℕ) → OfEach IsAskable user
+each_askable user = record {
+  submits = λ file s. (refl, lit< tt);
+  shows = λ number. (refl, refl);
+  deletes_entry = λ number. (refl, tt);
+  initializes = λ name s short. (ap (λ b. b && true) short, record { targets = lit< tt; change = tt });
+  sets = λ name s. (refl, tt);
+  starts = λ name s. (refl, tt);
+  stops = λ name how. (refl, tt);
+  aborts = λ name entry requeue. (refl, tt);
+  deletes_queue = λ name. (refl, tt);
+}
 
-submits : (b : Bool) (user : List ℕ) (file : Option FileName) → IfSome (cond b (option_map (λ f. Ask (submit_of user f)) file) None) IsAskable
-submits true user None = tt
-submits true user (Some file) = (refl, lit< tt)
-submits false user file = tt
-
-shows : (b : Bool) (number : Option ℕ) → IfSome (cond b (option_map (λ n. Show (query_of n)) number) None) IsAskable
-shows true None = tt
-shows true (Some n) = (refl, refl)
-shows false number = tt
-
-command_askable : (user : List ℕ) (words : List (List ℕ)) → IfSome (command_from user words) IsAskable
-command_askable user [] = tt
-command_askable user (verb ∷ []) = tt
-command_askable user (verb ∷ file ∷ []) = submits (is_word (codes "SUBMIT") verb) user (file_name_of file)
-command_askable user (verb ∷ what ∷ number ∷ []) = shows (is_word (codes "SHOW") verb && is_word (codes "ENTRY") what) (entry_number number)
-command_askable user (verb ∷ what ∷ number ∷ more ∷ others) = tt
+command_askable : (read : Result Input TextFault) → IfOk read IsAskable → IsAskable (or_fault read)
+command_askable (Ok input) h = h
+command_askable (Err f) h = tt
 
 append_askable : (file : Option FileName) (text : List ℕ) → IsAskable (append_to file text)
 append_askable None text = tt
@@ -58,17 +60,28 @@ faulty : (b : Bool) → IsAskable (cond b (Fault 0 parse.Form) (Fault 0 parse.No
 faulty true = tt
 faulty false = tt
 
-line_or_not : (b : Bool) (rest : List ℕ) → IsAskable (cond b (line_act (cut_at_blank rest)) (Fault 0 parse.NotBuilt))
-line_or_not true rest = line_askable (cut_at_blank rest)
-line_or_not false rest = tt
+done_by_askable : (run status : Option ℕ) → IsAskable (done_by run status)
+done_by_askable None status = tt
+done_by_askable (Some run) None = tt
+done_by_askable (Some run) (Some status) = (refl, tt)
+
+done_askable : (parts : Option (List ℕ × List ℕ)) → IsAskable (done_act parts)
+done_askable None = tt
+done_askable (Some parts) = done_by_askable (act_number 18446744073709551615 parts.0) (act_number 4294967295 parts.1)
+
+act_or_not : (line done : Bool) (rest : List ℕ)
+    → IsAskable (cond line (line_act (cut_at_blank rest)) (cond done (done_act (cut_at_blank rest)) (Fault 0 parse.NotBuilt)))
+act_or_not true done rest = line_askable (cut_at_blank rest)
+act_or_not false true rest = done_askable (cut_at_blank rest)
+act_or_not false false rest = tt
 
 act_askable : (text : List ℕ) (parts : Option (List ℕ × List ℕ)) → IsAskable (act_from text parts)
-act_askable text None = faulty (bytes_eq text (codes "LINE"))
-act_askable text (Some parts) = line_or_not (bytes_eq parts.0 (codes "LINE")) parts.1
+act_askable text None = faulty (bytes_eq text (codes "LINE") || bytes_eq text (codes "DONE"))
+act_askable text (Some parts) = act_or_not (bytes_eq parts.0 (codes "LINE")) (bytes_eq parts.0 (codes "DONE")) parts.1
 
 -- what a line asks for can be asked
 pub input_askable : (sort : Sort) (text : List ℕ) → IsAskable (input_of sort text)
-input_askable Command text = option_askable _ (command_askable _ (words_of text))
+input_askable Command text = command_askable (command_of system_user text) (of_asked (each_askable system_user) text)
 input_askable AtSite text = act_askable text (cut_at_blank text)
 
 pub askable_as : (sort : Sort) (text : List ℕ) (input asked : Input) → input ≡ input_of sort text → input ≡ asked → IsAskable asked

@@ -8,7 +8,8 @@ use Rattle.qm_kinds.specs.declared.refusal.Refusal.{Refusal}
 use Rattle.qm_kinds.specs.declared.refusal.Refusal.TheVariants.{ParseFault}
 use Rattle.qm_model.specs.Listing.{rows_of}
 use Rattle.qm_model.specs.Words.{refusal_line}
-use Rattle.qm_model.specs.Script.{ScriptLine, input_of}
+use Rattle.qm_model.specs.Script.{ScriptLine}
+use Rattle.qm_dcl.specs.Lines.{input_of}
 use Rattle.qm_model.specs.Transcript.{reply_lines, row_lines, line_text, full_line, journal_line}
 use Rattle.qm_manager.specs.Site.{Site}
 use Rattle.qm_manager.specs.Asking.{Asked, Done, Refused, Full, asked}

@@ -1,28 +1,52 @@
 // What is done at the site of a node, in place of a user.
 ghost use Rattle.std.specs.Prelude.{◌≡◌, ◌++◌, ◌∷◌, [], IfOk, OnErr};
-ghost use Rattle.qm_model.specs.Command.{cut_at_blank};
-ghost use Rattle.qm_model.specs.Script.{act_of, line_act};
+ghost use Rattle.qm_model.specs.Texts.{cut_at_blank};
+ghost use Rattle.qm_model.specs.Script.{act_of, done_act, line_act};
 ghost use Rattle.qm_program.specs.Wanting.{WantsMemory};
 
+use crate::number::act_number;
 use crate::script::cut_at_blank;
 use qm_kinds::{FileName, Input, ParseKind, Request, Seq};
 use std::alloc::{AllocError, Global};
 
+const DONE: &[u8] = b"DONE";
+
 const LINE: &[u8] = b"LINE";
 
-/// What an act asks for: a word, and behind a blank what the word takes. The word that is built is `LINE`, which takes
-/// a file's name, a blank and a line of text for the end of that file. Another word isn't built, and what a word
-/// doesn't take is a fault of form. Memory is wanted for bytes that are added to a file alone.
+/// What an act asks for: a word, and behind a blank what the word takes. The words that are built are `LINE`, which takes
+/// a file's name, a blank and a line of text for the end of that file, and `DONE`, which takes the number of a run that has
+/// ended, a blank and its status. Another word isn't built, and what a word doesn't take is a fault of form. Memory is
+/// wanted for bytes that are added to a file alone.
 pub(crate) fn read_act(alloc: Global, text: &[u8]) -> Result<Input, AllocError>
     ensures input { IfOk result (λ input. input ≡ act_of text.now) }
     ensures no_memory { OnErr result (WantsMemory (act_of text.now)) }
 {
     match cut_at_blank(text) {
-        None if text == LINE => Ok(fault(ParseKind::Form)),
+        None if text == LINE || text == DONE => Ok(fault(ParseKind::Form)),
         None => Ok(fault(ParseKind::NotBuilt)),
         Some((word, rest)) if word == LINE => read_line_act(alloc, rest),
+        Some((word, rest)) if word == DONE => Ok(read_done_act(rest)),
         Some(_) => Ok(fault(ParseKind::NotBuilt)),
     }
+}
+
+// The number of a run, a blank and its status.
+fn read_done_act(text: &[u8]) -> Input
+    ensures { result ≡ done_act (cut_at_blank text.now) }
+{
+    let Some((run, status)) = cut_at_blank(text) else {
+        return fault(ParseKind::Form);
+    };
+    let Some(run) = act_number(u64::MAX, run) else {
+        return fault(ParseKind::Form);
+    };
+    let Some(status) = act_number(u64::from(u32::MAX), status) else {
+        return fault(ParseKind::Form);
+    };
+    Input::Ask(Request::Done {
+        run,
+        status: status as u32,
+    })
 }
 
 // A file's name, a blank and a line.

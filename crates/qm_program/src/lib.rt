@@ -5,6 +5,7 @@
 mod act;
 mod input;
 mod laws;
+mod number;
 mod outcome;
 mod script;
 mod serve;

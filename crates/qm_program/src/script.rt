@@ -4,7 +4,7 @@ ghost use Rattle.std.specs.List.{list_all, slice_split};
 ghost use Rattle.std.specs.Option.{option_map, option_copied};
 ghost use Rattle.std.specs.Str.{bytes_eq};
 ghost use Rattle.qm_kinds.specs.declared.script.ScriptKind.TheVariants.{Form};
-ghost use Rattle.qm_model.specs.Command.{cut_at_blank};
+ghost use Rattle.qm_model.specs.Texts.{cut_at_blank};
 ghost use Rattle.qm_model.specs.Script.{is_line_byte, node_name_of, sorted, line_of, script_of, are_of_node};
 ghost use Rattle.qm_program.specs.Lines.{line_view, lines_view, parts_view, CutsFirstLine, ReadsScript};
 ghost use Rattle.qm_program.specs.declared.script.ScriptEnd.TheVariants.{Fault, NoMemory};
