@@ -19,4 +19,6 @@ mod refusals;
 #[cfg(test)]
 mod run;
 #[cfg(test)]
+mod runs;
+#[cfg(test)]
 mod stops;
