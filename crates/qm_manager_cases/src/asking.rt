@@ -138,12 +138,12 @@ fn filed(bytes: u32) -> Result<Act, AskFault> {
 fn what_was_answered_survives_each_crash(rt: HostRuntime) -> Result<(), Fail> {
     let alloc = rt.alloc();
     let (disk, answer) = ask_for_file(alloc, new_site(alloc, &[])?)?;
-    assert_eq!(rt; act_of(answer), filed(9));
+    assert!(rt; act_of(answer) == filed(9));
     let (disk, answer) = ask_for_job(alloc, disk)?;
-    assert_eq!(rt; act_of(answer), pending(1));
+    assert!(rt; act_of(answer) == pending(1));
     for pick in 0..3 {
         let (_disk, answer) = ask_for_job(alloc, disk.after_crash(pick)?)?;
-        assert_eq!(rt; act_of(answer), pending(2), "crash of kind {pick}");
+        assert!(rt; act_of(answer) == pending(2), "crash of kind {pick}");
     }
     Ok(())
 }
@@ -154,7 +154,7 @@ fn what_is_refused_leaves_no_record(rt: HostRuntime) -> Result<(), Fail> {
     let site = new_site(alloc, &[])?;
     let before = site.held(1).to_vec(alloc)?;
     let (disk, answer) = ask_for_job(alloc, site)?;
-    assert_eq!(rt; act_of(answer), Err(AskFault::Refused(Refusal::NoSuchFile)));
+    assert!(rt; act_of(answer) == Err(AskFault::Refused(Refusal::NoSuchFile)));
     assert_eq!(rt; disk.held(1), before.as_slice());
     Ok(())
 }
@@ -169,7 +169,7 @@ fn check_crashes<R: Abort + AllocGlobal>(
     let alloc = rt.alloc();
     for (pick, bytes) in [(0, found[0]), (1, found[1]), (2, found[2])] {
         let (_disk, answer) = ask_for_file(alloc, disk.after_crash(pick)?)?;
-        assert_eq!(rt; act_of(answer), filed(bytes), "call {call}, crash {pick}");
+        assert!(rt; act_of(answer) == filed(bytes), "call {call}, crash {pick}");
     }
     Ok(())
 }
@@ -190,7 +190,7 @@ fn a_disk_that_fails_within_an_append(rt: HostRuntime) -> Result<(), Fail> {
     for (call, found) in FAILING {
         let site = new_site(alloc, &[opening.saturating_add(call)])?;
         let (disk, answer) = ask_for_file(alloc, site)?;
-        assert_eq!(rt; act_of(answer), Err(AskFault::Disk), "call {call}");
+        assert!(rt; act_of(answer) == Err(AskFault::Disk), "call {call}");
         check_crashes(&rt, &disk, call, found)?;
     }
     Ok(())
@@ -201,7 +201,7 @@ fn an_append_makes_no_other_call(rt: HostRuntime) -> Result<(), Fail> {
     let alloc = rt.alloc();
     let behind = calls_of_opening(alloc)?.saturating_add(5);
     let (_disk, answer) = ask_for_file(alloc, new_site(alloc, &[behind])?)?;
-    assert_eq!(rt; act_of(answer), filed(9));
+    assert!(rt; act_of(answer) == filed(9));
     Ok(())
 }
 
