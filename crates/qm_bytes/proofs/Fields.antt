@@ -38,7 +38,7 @@ low_of limit low high a b =
     let small = (lies_between 0 (min limit 255) low a).1 in
     (omega (arith, small, b), omega (arith, small), omega (arith, small))
 
-parts_of : (limit n : ℕ) → n ≤ limit → (between 0 (min limit 255) (n % 256) ≡ true) × (n / 256 ≤ (limit - n % 256) / 256) × (n ≡ n % 256 + 256 * (n / 256))
+pub parts_of : (limit n : ℕ) → n ≤ limit → (between 0 (min limit 255) (n % 256) ≡ true) × (n / 256 ≤ (limit - n % 256) / 256) × (n ≡ n % 256 + 256 * (n / 256))
 parts_of limit n le = (passes_between 0 (min limit 255) (n % 256) (omega arith) (omega (arith, le)), omega (arith, le), omega arith)
 
 pub number_up_to_reader : (count limit : ℕ) → limit < 256 ^ count → IsReader (Spells (λ n. n ≤ limit) (low_first count)) (number_up_to count limit)

@@ -9,6 +9,7 @@ use Rattle.qm_kinds.specs.declared.fault.NameFault.{NameFault}
 use Rattle.qm_kinds.specs.Text.{IsText, is_name_byte, text_of, text_unless}
 use Rattle.qm_bytes.specs.Reading.{◌>>=◌, onward, pure, byte_where, between, repeat_at, name_bytes_at, name_at}
 use Rattle.qm_bytes.specs.Spelling.{short_bytes, IsName}
+use Rattle.qm_bytes.specs.Splitting.{IsAhead, IsInFront}
 use Rattle.qm_bytes.proofs.Fields.{name_reader}
 
 pub no_bytes : (count : ℕ) (bytes : List ℕ) → count ≡ 0 → name_bytes_at count bytes ≡ Ok (take count bytes, bytes)
@@ -113,3 +114,23 @@ fails_not left read x fails is = let both : Err left ≡ Ok x = sym fails ∙ is
 pub none_there : (bytes rest : List ℕ) (at left : ℕ) → rest ≡ drop at bytes → name_at rest ≡ Err left → (name more : List ℕ) → IsName name → drop at bytes ≡ short_bytes name ++ more → ⊥
 none_there bytes rest at left is fails name more lawful parts =
     fails_not left (name_at rest) (name, more) fails (ap name_at (is ∙ parts) ∙ name_reader.again name (short_bytes name) more (record { fits = lawful; is = refl }))
+
+-- a name that stands in front is found
+pub front_found : (bytes name : List ℕ) → IsInFront name bytes → name_at bytes ≡ Ok (name, drop (length name + 1) bytes)
+front_found bytes name front =
+    ap name_at front.parts ∙ name_reader.again name (short_bytes name) (drop (length name + 1) bytes) (record { fits = front.lawful; is = refl })
+
+drop_one_more : (count b : ℕ) (xs : List ℕ) → drop (count + 1) (b ∷ xs) ≡ drop count xs
+drop_one_more count b xs = let more : count + 1 ≡ suc count = omega arith in ap (λ n. drop n (b ∷ xs)) more
+
+-- a name behind its length is spelled
+pub in_front : (size : ℕ) (name rest bytes : List ℕ) → bytes ≡ size ∷ rest → IsAhead size name rest → IsInFront name bytes
+in_front size name rest bytes parts ahead =
+    let whole : bytes ≡ short_bytes name ++ drop size rest = parts ∙ rw ahead.count_is (ap (λ (x : List ℕ). size ∷ x) ahead.parts) in
+    let dropped : drop (length name + 1) bytes ≡ drop size rest = rw (parts, ahead.count_is) (drop_one_more size size rest) in
+    record { parts = whole ∙ ap (λ (x : List ℕ). short_bytes name ++ x) (sym dropped); lawful = ahead.lawful }
+
+pub front_within : (name bytes : List ℕ) → IsInFront name bytes → length name + 1 ≤ length bytes
+front_within name bytes front =
+    let whole : length bytes ≡ length (short_bytes name) + length (drop (length name + 1) bytes) = ap length front.parts ∙ length-append (short_bytes name) (drop (length name + 1) bytes) in
+    omega (arith, whole)

@@ -2,3 +2,4 @@ pub mod Widths
 pub mod Spelling
 pub mod Reading
 pub mod Laws
+pub mod Splitting

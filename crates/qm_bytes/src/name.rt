@@ -2,6 +2,7 @@ ghost use Rattle.std.specs.Prelude.{◌≡◌, ◌+◌, ◌<◌, ◌≤◌, ◌+
 ghost use Rattle.qm_kinds.specs.Text.{is_name_byte};
 ghost use Rattle.qm_bytes.specs.Spelling.{short_bytes, IsName, file_name, IsFileName};
 ghost use Rattle.qm_bytes.specs.Reading.{Gives, Splits, byte_where, name_bytes_at, name_at, optional_at, file_name_at};
+ghost use Rattle.qm_bytes.specs.Splitting.{IsAhead, IsInFront};
 
 use crate::fault::BadField;
 use crate::number::byte_between;
@@ -42,8 +43,49 @@ pub fn take_name(bytes: &[u8], at: usize) -> Option<(Name, usize)>
     }
 }
 
+// The name that so many bytes in front are as they stand, if they are one.
+fn name_ahead(bytes: &[u8], count: usize) -> Option<Name>
+    ensures { IfSome result (λ name. IsAhead count name bytes.now) }
+{
+    if bytes.len() < count {
+        return None;
+    }
+    let (front, _) = bytes.split_at(count);
+    match Name::read(front) {
+        Ok(name) if name.as_bytes() == front => Some(name),
+        _ => None,
+    }
+}
+
+// The name whose spelling stands in front, if one does.
+fn spelled_name(bytes: &[u8]) -> Option<Name>
+    ensures front { IfSome result (λ name. IsInFront name bytes.now) }
+    ensures within { IfSome result (λ name. length name + 1 ≤ length bytes.now) }
+{
+    match bytes {
+        [] => None,
+        [size, rest @ ..] => name_ahead(rest, usize::from(*size)),
+    }
+}
+
 /// Reads a name.
 pub fn read_name(bytes: &mut &[u8]) -> Result<Name, BadField>
+    ensures { Gives result bytes.new.now (name_at bytes.old.now) }
+{
+    match spelled_name(bytes) {
+        Some(name) => {
+            let (_, rest) = bytes.split_at(name.as_bytes().len() + 1);
+            *bytes = rest;
+            Ok(name)
+        }
+        None => read_bytewise(bytes),
+    }
+}
+
+// Reads a name byte by byte, for the first that is wrong.
+#[cold]
+#[inline(never)]
+fn read_bytewise(bytes: &mut &[u8]) -> Result<Name, BadField>
     ensures { Gives result bytes.new.now (name_at bytes.old.now) }
 {
     match name_at(bytes) {

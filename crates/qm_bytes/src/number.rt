@@ -2,6 +2,7 @@ ghost use Rattle.std.specs.Prelude.{◌≡◌, ◌+◌, ◌^◌, ◌<◌, ◌≤
 ghost use Rattle.qm_bytes.specs.Spelling.{low_first};
 ghost use Rattle.qm_bytes.specs.Widths.{bytes_of};
 ghost use Rattle.qm_bytes.specs.Reading.{Gives, Splits, byte_where, between, number_up_to, number_at};
+ghost use Rattle.qm_bytes.specs.Splitting.{IsSplit};
 
 use crate::fault::BadField;
 use crate::width::Width;
@@ -50,12 +51,61 @@ pub(crate) fn byte_between(bytes: &[u8], low: u8, high: u8) -> Result<(u8, &[u8]
     }
 }
 
-// A number that is at most a limit.
+// The number that one byte spells, and the bytes behind it.
+fn split_one(bytes: &[u8]) -> Option<(u64, &[u8])>
+    ensures { IfSome result (λ x. IsSplit 1 bytes.now x.0 x.1.now) }
+{
+    match bytes {
+        [] => None,
+        [byte, rest @ ..] => Some((u64::from(*byte), rest)),
+    }
+}
+
+// The number that two bytes spell, and the bytes behind them.
+fn split_two(bytes: &[u8]) -> Option<(u64, &[u8])>
+    ensures { IfSome result (λ x. IsSplit 2 bytes.now x.0 x.1.now) }
+{
+    let (front, rest) = bytes.split_first_chunk::<2>()?;
+    Some((u64::from(u16::from_le_bytes(*front)), rest))
+}
+
+// The number that four bytes spell, and the bytes behind them.
+fn split_four(bytes: &[u8]) -> Option<(u64, &[u8])>
+    ensures { IfSome result (λ x. IsSplit 4 bytes.now x.0 x.1.now) }
+{
+    let (front, rest) = bytes.split_first_chunk::<4>()?;
+    Some((u64::from(u32::from_le_bytes(*front)), rest))
+}
+
+// The number that eight bytes spell, and the bytes behind them.
+fn split_eight(bytes: &[u8]) -> Option<(u64, &[u8])>
+    ensures { IfSome result (λ x. IsSplit 8 bytes.now x.0 x.1.now) }
+{
+    let (front, rest) = bytes.split_first_chunk::<8>()?;
+    Some((u64::from_le_bytes(*front), rest))
+}
+
+// The number that so many bytes spell, and the bytes behind them, where there are so many.
+fn split_number(bytes: &[u8], width: Width) -> Option<(u64, &[u8])>
+    ensures { IfSome result (λ x. IsSplit (bytes_of width) bytes.now x.0 x.1.now) }
+{
+    match width {
+        Width::One => split_one(bytes),
+        Width::Two => split_two(bytes),
+        Width::Four => split_four(bytes),
+        Width::Eight => split_eight(bytes),
+    }
+}
+
+// A number that is at most a limit. Where there is none, the bytes are gone through one by one for the first that is wrong.
 fn number_up_to(bytes: &[u8], width: Width, limit: u64) -> Result<(u64, &[u8]), BadField>
     ensures value { Splits (λ x. (x.0, x.1.now)) result (number_up_to (bytes_of width) limit bytes.now) }
     ensures within { IfOk result (λ x. x.0 ≤ limit) }
 {
-    low_bytes_up_to(bytes, width.bytes(), limit)
+    match split_number(bytes, width) {
+        Some((number, rest)) if number <= limit => Ok((number, rest)),
+        _ => low_bytes_up_to(bytes, width.bytes(), limit),
+    }
 }
 
 // The same of any number of bytes. The bytes behind the first are a number too, and stand for 256 times as much.
