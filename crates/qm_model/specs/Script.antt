@@ -8,7 +8,7 @@ use Rattle.qm_kinds.specs.Files.{name_of, file_name_of}
 use Rattle.qm_kinds.specs.declared.file.FileName.{FileName}
 use Rattle.qm_kinds.specs.declared.input.Input.{Input}
 use Rattle.qm_kinds.specs.declared.input.Input.TheVariants.{Ask, Fault}
-use Rattle.qm_kinds.specs.declared.request.Request.TheVariants.{Append, Done}
+use Rattle.qm_kinds.specs.declared.request.Request.TheVariants.{Append, Fill, Drop, Done}
 use Rattle.qm_kinds.specs.declared.name.TheConstants.{NODE_NAME_BYTES}
 use Rattle.qm_kinds.specs.declared.script.ScriptKind.{ScriptKind}
 use Rattle.qm_kinds.specs.declared.script.ScriptKind.TheVariants.{Form, Long}
@@ -94,11 +94,34 @@ abbrev pub done_act : Option (List ℕ × List ℕ) → Input
 done_act None = Fault 0 parse.Form
 done_act (Some parts) = done_by (act_number 18446744073709551615 parts.0) (act_number 4294967295 parts.1)
 
+-- so many lines of letters go to the end of the file: one at least
+abbrev pub filled_by : Option FileName → Option ℕ → Input
+filled_by None lines = Fault 0 parse.Form
+filled_by (Some file) None = Fault 0 parse.Form
+filled_by (Some file) (Some lines) = if lines == 0 then Fault 0 parse.Form else Ask (Fill file lines)
+
+-- FILL file n, with 1 to 1,024 lines
+abbrev pub fill_act : Option (List ℕ × List ℕ) → Input
+fill_act None = Fault 0 parse.Form
+fill_act (Some parts) = filled_by (file_name_of parts.0) (act_number 1024 parts.1)
+
+-- DROP file
+abbrev pub drop_act : Option FileName → Input
+drop_act None = Fault 0 parse.Form
+drop_act (Some file) = Ask (Drop file)
+
+-- the word of an act that is built
+abbrev pub is_act_word : List ℕ → Bool
+is_act_word word =
+    bytes_eq word (codes "LINE") || bytes_eq word (codes "FILL") || bytes_eq word (codes "DROP") || bytes_eq word (codes "DONE")
+
 -- the acts that are built: a word, and behind a blank what it takes
 abbrev pub act_from : List ℕ → Option (List ℕ × List ℕ) → Input
-act_from text None = if bytes_eq text (codes "LINE") || bytes_eq text (codes "DONE") then Fault 0 parse.Form else Fault 0 parse.NotBuilt
+act_from text None = if is_act_word text then Fault 0 parse.Form else Fault 0 parse.NotBuilt
 act_from text (Some parts) =
     if bytes_eq parts.0 (codes "LINE") then line_act (cut_at_blank parts.1)
+    else if bytes_eq parts.0 (codes "FILL") then fill_act (cut_at_blank parts.1)
+    else if bytes_eq parts.0 (codes "DROP") then drop_act (file_name_of parts.1)
     else if bytes_eq parts.0 (codes "DONE") then done_act (cut_at_blank parts.1)
     else Fault 0 parse.NotBuilt
 
