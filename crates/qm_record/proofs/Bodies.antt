@@ -1,5 +1,5 @@
 -- Each reader of a body reads the fields of its records.
-use Rattle.std.proofs.Common.{◌≡◌, ℕ, Bool, true, false, List, [], ◌∷◌, ◌++◌, Option, Some, None, refl, sym, ap, subst, ◌∙◌, arith}
+use Rattle.std.proofs.Common.{◌≡◌, ℕ, Bool, true, false, List, [], ◌∷◌, ◌++◌, ◌^◌, ◌<◌, Option, Some, None, refl, sym, ap, subst, ◌∙◌, arith}
 use Rattle.qm_kinds.specs.declared.request.Request.{Request}
 use Rattle.qm_kinds.specs.declared.request.Request.TheVariants as ask
 use Rattle.qm_kinds.specs.declared.request.Job.{Job}
@@ -9,10 +9,11 @@ use Rattle.qm_kinds.specs.declared.queue.QueueChange.{QueueChange}
 use Rattle.qm_kinds.specs.declared.queue.NewQueue.{NewQueue}
 use Rattle.qm_kinds.specs.declared.request.StopMode.{StopMode}
 use Rattle.qm_kinds.specs.declared.form.Form.{Form}
+use Rattle.qm_kinds.specs.declared.form.Characteristic.{Characteristic}
 use Rattle.qm_kinds.specs.declared.system.Node.{Node}
 use Rattle.qm_bytes.specs.Reading.{Reader, ◌>>=◌, pure}
 use Rattle.qm_bytes.specs.Laws.{Spells, IsReader}
-use Rattle.qm_bytes.specs.Spelling.{low_first, fields, byte, truth, optional, list, short_bytes, long_bytes, file_name, moment, IsName}
+use Rattle.qm_bytes.specs.Spelling.{low_first, fields, byte, truth, optional, list, short_bytes, long_bytes, file_name, moment, IsName, IsMark, IsFileName}
 use Rattle.qm_bytes.proofs.Readers.{made, after, last, said}
 use Rattle.qm_bytes.proofs.Fields.{truth_reader, optional_reader, list_reader, name_reader, file_name_reader, long_bytes_reader, mark_reader, moment_reader}
 use Rattle.qm_kinds.specs.declared.record.Body.{Body}
@@ -20,10 +21,10 @@ use Rattle.qm_kinds.specs.declared.record.Body.TheVariants as body
 use Rattle.qm_record.specs.declared.kind.RecordKind.{RecordKind}
 use Rattle.qm_record.specs.declared.kind.RecordKind.TheVariants as record_kind
 use Rattle.qm_record.specs.Kinds.{number_of, is_row_kind}
-use Rattle.qm_record.specs.Spelling.{job_kind_code, job_retain, name_or_number, stop_mode_code, queue_change, new_queue, job_text, head, form, queue, request_parts, body_parts, fields_in, is_row, IsEntryNumber, JobFits, FormFits, QueueFits, NewQueueFits, RequestFits, BodyFits}
-use Rattle.qm_record.specs.Reading.{append_at, initialize_at, set_queue_at, start_queue_at, stop_queue_at, abort_job_at, delete_queue_at, job_at, submit_at, delete_entry_at, run_mark_at, done_at, head_at, body_at}
+use Rattle.qm_record.specs.Spelling.{job_kind_code, job_retain, name_or_number, stop_mode_code, queue_change, new_queue, job_text, head, form, characteristic, queue, request_parts, body_parts, fields_in, is_row, IsEntryNumber, JobFits, FormFits, CharacteristicFits, QueueFits, ChangeFits, NewQueueFits, RequestFits, BodyFits}
+use Rattle.qm_record.specs.Reading.{append_at, fill_at, drop_at, define_form_at, delete_form_at, define_characteristic_at, delete_characteristic_at, initialize_at, set_queue_at, start_queue_at, stop_queue_at, abort_job_at, delete_queue_at, merge_at, job_at, submit_at, delete_entry_at, run_mark_at, done_at, head_at, form_row_at, queue_row_at, body_at}
 use Rattle.qm_record.proofs.Codes.{job_kind_reader, stop_mode_reader}
-use Rattle.qm_record.proofs.Fields.{one_byte_reader, u32_reader, u64_reader, name_or_number_reader, job_retain_reader, node_reader, form_reader, queue_reader, change_reader, new_queue_reader}
+use Rattle.qm_record.proofs.Fields.{one_byte_reader, u16_reader, u32_reader, u64_reader, name_or_number_reader, job_retain_reader, node_reader, form_reader, characteristic_reader, queue_reader, change_reader, new_queue_reader}
 
 abbrev Parts : Type 0
 Parts = RecordKind × List ℕ
@@ -67,17 +68,47 @@ wrapped {A} {Fits} {spelling} {read} {k} {wrap} r w =
     (λ b text s. let u = w.unwrap b text s.is in
     record { first = u.0; fits = w.fitted u.0 (subst BodyFits u.1 s.fits); same = u.1; parts = sym (same_text k k (spelling u.0) text (sym (w.parts_are u.0) ∙ ap body_parts (sym u.1) ∙ s.is)) })
 
+-- ---- a body of two values
+
+-- the bodies of a kind, each of two values
+pub record IsPair {A B : Type 0} (First : A → Type 0) (Second : B → Type 0) (first : A → List ℕ) (second : B → List ℕ) (k : RecordKind) (make : A → B → Body) : Type 0 where
+  pub fits : (x : A) (y : B) → First x → Second y → BodyFits (make x y)
+  pub fitted : (x : A) (y : B) → BodyFits (make x y) → First x × Second y
+  pub parts_are : (x : A) (y : B) → body_parts (make x y) ≡ Some (k, first x ++ second y)
+  pub split : (b : Body) (text : List ℕ) → body_parts b ≡ Some (k, text) → (x : A) × (y : B) × (b ≡ make x y)
+
+paired : {A B : Type 0} {First : A → Type 0} {Second : B → Type 0} {first : A → List ℕ} {second : B → List ℕ} {read : Reader A} {next : Reader B} {k : RecordKind} {make : A → B → Body}
+    → IsReader (Spells First first) read → IsReader (Spells Second second) next → IsPair First Second first second k make → IsReader (BodyAt k) (read >>= λ x. next >>= λ y. pure (make x y))
+paired {A} {B} {First} {Second} {first} {second} {read} {next} {k} {make} r s w =
+    said (after r (λ x fits. last s))
+    (λ b text h. rw h.next.same (record { fits = w.fits h.first h.next.first h.fits h.next.fits; is = w.parts_are h.first h.next.first ∙ ap (λ t. Some (k, t)) (sym (rw (h.parts, h.next.parts) refl)) }))
+    (λ b text t. let u = w.split b text t.is in let fits = w.fitted u.0 u.1 (subst BodyFits u.2 t.fits) in
+    record {
+      first = u.0;
+      fits = fits.0;
+      others = second u.1;
+      next = record { first = u.1; fits = fits.1; same = u.2; parts = refl };
+      parts = sym (same_text k k (first u.0 ++ second u.1) text (sym (w.parts_are u.0 u.1) ∙ ap body_parts (sym u.2) ∙ t.is));
+    })
+
 -- ---- rows and requests
 
 -- the kind of a request is no row's
 request_is_no_row : (r : Request) (k : RecordKind) (text : List ℕ) → request_parts r ≡ Some (k, text) → false ≡ is_row_kind k
 request_is_no_row (ask.Append file bytes) k text e = ap is_row_kind (same_kind _ _ _ _ e)
+request_is_no_row (ask.Fill file lines) k text e = ap is_row_kind (same_kind _ _ _ _ e)
+request_is_no_row (ask.Drop file) k text e = ap is_row_kind (same_kind _ _ _ _ e)
+request_is_no_row (ask.DefineForm f) k text e = ap is_row_kind (same_kind _ _ _ _ e)
+request_is_no_row (ask.DeleteForm name) k text e = ap is_row_kind (same_kind _ _ _ _ e)
+request_is_no_row (ask.DefineCharacteristic c) k text e = ap is_row_kind (same_kind _ _ _ _ e)
+request_is_no_row (ask.DeleteCharacteristic name) k text e = ap is_row_kind (same_kind _ _ _ _ e)
 request_is_no_row (ask.InitializeQueue new) k text e = ap is_row_kind (same_kind _ _ _ _ e)
 request_is_no_row (ask.SetQueue name change) k text e = ap is_row_kind (same_kind _ _ _ _ e)
 request_is_no_row (ask.StartQueue name change) k text e = ap is_row_kind (same_kind _ _ _ _ e)
 request_is_no_row (ask.StopQueue name how) k text e = ap is_row_kind (same_kind _ _ _ _ e)
 request_is_no_row (ask.AbortJob queue_name entry requeue) k text e = ap is_row_kind (same_kind _ _ _ _ e)
 request_is_no_row (ask.DeleteQueue name) k text e = ap is_row_kind (same_kind _ _ _ _ e)
+request_is_no_row (ask.Merge to from) k text e = ap is_row_kind (same_kind _ _ _ _ e)
 request_is_no_row (ask.Submit j) k text e = ap is_row_kind (same_kind _ _ _ _ e)
 request_is_no_row (ask.DeleteEntry entry) k text e = ap is_row_kind (same_kind _ _ _ _ e)
 request_is_no_row (ask.Mark run value) k text e = ap is_row_kind (same_kind _ _ _ _ e)
@@ -129,6 +160,66 @@ append_reader =
     (λ b text s. let p = append_parts b text s.is in let fits : BodyFits (body.Ask (ask.Append p.file p.bytes)) = subst BodyFits p.same s.fits in
     record { first = p.file; fits = fits.0; others = fields (long_bytes p.bytes ∷ []); next = record { first = p.bytes; fits = fits.1; others = []; next = record { same = p.same; nothing = refl }; parts = refl }; parts = p.text_is })
 
+fill_pairs : IsPair IsFileName (λ n. n < 2 ^ 16) file_name (low_first 2) record_kind.Fill (λ file lines. body.Ask (ask.Fill file lines))
+fill_pairs = record { fits = λ file lines file_fits lines_fits. (file_fits, lines_fits); fitted = λ file lines fits. fits; parts_are = λ file lines. refl; split = split } where
+  split : (b : Body) (text : List ℕ) → body_parts b ≡ Some (record_kind.Fill, text) → (file : FileName) × (lines : ℕ) × (b ≡ body.Ask (ask.Fill file lines))
+  split (body.Ask (ask.Fill file lines)) text e = (file, lines, refl)
+  split b text e = absurd (omega (arith, ap number_in e))
+
+fill_reader : IsReader (BodyAt record_kind.Fill) fill_at
+unfolding fill_at
+fill_reader = paired file_name_reader u16_reader fill_pairs
+
+drop_wraps : IsWrap IsFileName file_name record_kind.Drop (λ file. body.Ask (ask.Drop file))
+drop_wraps = record { fits = λ file fits. fits; fitted = λ file fits. fits; parts_are = λ file. refl; unwrap = unwrap } where
+  unwrap : (b : Body) (text : List ℕ) → body_parts b ≡ Some (record_kind.Drop, text) → (file : FileName) × (b ≡ body.Ask (ask.Drop file))
+  unwrap (body.Ask (ask.Drop file)) text e = (file, refl)
+  unwrap b text e = absurd (omega (arith, ap number_in e))
+
+drop_body_reader : IsReader (BodyAt record_kind.Drop) drop_at
+unfolding drop_at
+drop_body_reader = wrapped file_name_reader drop_wraps
+
+define_form_wraps : IsWrap FormFits form record_kind.DefineForm (λ f. body.Ask (ask.DefineForm f))
+define_form_wraps = record { fits = λ f fits. fits; fitted = λ f fits. fits; parts_are = λ f. refl; unwrap = unwrap } where
+  unwrap : (b : Body) (text : List ℕ) → body_parts b ≡ Some (record_kind.DefineForm, text) → (f : Form) × (b ≡ body.Ask (ask.DefineForm f))
+  unwrap (body.Ask (ask.DefineForm f)) text e = (f, refl)
+  unwrap b text e = absurd (omega (arith, ap number_in e))
+
+define_form_body_reader : IsReader (BodyAt record_kind.DefineForm) define_form_at
+unfolding define_form_at
+define_form_body_reader = wrapped form_reader define_form_wraps
+
+delete_form_wraps : IsWrap IsName short_bytes record_kind.DeleteForm (λ name. body.Ask (ask.DeleteForm name))
+delete_form_wraps = record { fits = λ name fits. fits; fitted = λ name fits. fits; parts_are = λ name. refl; unwrap = unwrap } where
+  unwrap : (b : Body) (text : List ℕ) → body_parts b ≡ Some (record_kind.DeleteForm, text) → (name : List ℕ) × (b ≡ body.Ask (ask.DeleteForm name))
+  unwrap (body.Ask (ask.DeleteForm name)) text e = (name, refl)
+  unwrap b text e = absurd (omega (arith, ap number_in e))
+
+delete_form_body_reader : IsReader (BodyAt record_kind.DeleteForm) delete_form_at
+unfolding delete_form_at
+delete_form_body_reader = wrapped name_reader delete_form_wraps
+
+define_characteristic_wraps : IsWrap CharacteristicFits characteristic record_kind.DefineCharacteristic (λ c. body.Ask (ask.DefineCharacteristic c))
+define_characteristic_wraps = record { fits = λ c fits. fits; fitted = λ c fits. fits; parts_are = λ c. refl; unwrap = unwrap } where
+  unwrap : (b : Body) (text : List ℕ) → body_parts b ≡ Some (record_kind.DefineCharacteristic, text) → (c : Characteristic) × (b ≡ body.Ask (ask.DefineCharacteristic c))
+  unwrap (body.Ask (ask.DefineCharacteristic c)) text e = (c, refl)
+  unwrap b text e = absurd (omega (arith, ap number_in e))
+
+define_characteristic_body_reader : IsReader (BodyAt record_kind.DefineCharacteristic) define_characteristic_at
+unfolding define_characteristic_at
+define_characteristic_body_reader = wrapped characteristic_reader define_characteristic_wraps
+
+delete_characteristic_wraps : IsWrap IsName short_bytes record_kind.DeleteCharacteristic (λ name. body.Ask (ask.DeleteCharacteristic name))
+delete_characteristic_wraps = record { fits = λ name fits. fits; fitted = λ name fits. fits; parts_are = λ name. refl; unwrap = unwrap } where
+  unwrap : (b : Body) (text : List ℕ) → body_parts b ≡ Some (record_kind.DeleteCharacteristic, text) → (name : List ℕ) × (b ≡ body.Ask (ask.DeleteCharacteristic name))
+  unwrap (body.Ask (ask.DeleteCharacteristic name)) text e = (name, refl)
+  unwrap b text e = absurd (omega (arith, ap number_in e))
+
+delete_characteristic_body_reader : IsReader (BodyAt record_kind.DeleteCharacteristic) delete_characteristic_at
+unfolding delete_characteristic_at
+delete_characteristic_body_reader = wrapped name_reader delete_characteristic_wraps
+
 initialize_wraps : IsWrap NewQueueFits new_queue record_kind.InitializeQueue (λ n. body.Ask (ask.InitializeQueue n))
 initialize_wraps = record { fits = λ n fits. fits; fitted = λ n fits. fits; parts_are = λ n. refl; unwrap = unwrap } where
   unwrap : (b : Body) (text : List ℕ) → body_parts b ≡ Some (record_kind.InitializeQueue, text) → (n : NewQueue) × (b ≡ body.Ask (ask.InitializeQueue n))
@@ -139,59 +230,35 @@ initialize_body_reader : IsReader (BodyAt record_kind.InitializeQueue) initializ
 unfolding initialize_at
 initialize_body_reader = wrapped new_queue_reader initialize_wraps
 
-record SetQueueParts (b : Body) (text : List ℕ) : Type 0 where
-  name : List ℕ
-  change : QueueChange
-  same : b ≡ body.Ask (ask.SetQueue name change)
-  text_is : text ≡ short_bytes name ++ queue_change change
-
-set_queue_parts : (b : Body) (text : List ℕ) → body_parts b ≡ Some (record_kind.SetQueue, text) → SetQueueParts b text
-set_queue_parts (body.Ask (ask.SetQueue name change)) text e = record { name = name; change = change; same = refl; text_is = sym (same_text _ _ _ _ e) }
-set_queue_parts b text e = absurd (omega (arith, ap number_in e))
+set_queue_pairs : IsPair IsName ChangeFits short_bytes queue_change record_kind.SetQueue (λ name change. body.Ask (ask.SetQueue name change))
+set_queue_pairs = record { fits = λ name change name_fits change_fits. (name_fits, change_fits); fitted = λ name change fits. fits; parts_are = λ name change. refl; split = split } where
+  split : (b : Body) (text : List ℕ) → body_parts b ≡ Some (record_kind.SetQueue, text) → (name : List ℕ) × (change : QueueChange) × (b ≡ body.Ask (ask.SetQueue name change))
+  split (body.Ask (ask.SetQueue name change)) text e = (name, change, refl)
+  split b text e = absurd (omega (arith, ap number_in e))
 
 set_queue_reader : IsReader (BodyAt record_kind.SetQueue) set_queue_at
 unfolding set_queue_at
-set_queue_reader =
-    said (after name_reader (λ name name_fits. last change_reader))
-    (λ b text h. rw h.next.same (record { fits = (h.fits, h.next.fits); is = rw (h.parts, h.next.parts) refl }))
-    (λ b text s. let p = set_queue_parts b text s.is in let fits : BodyFits (body.Ask (ask.SetQueue p.name p.change)) = subst BodyFits p.same s.fits in
-    record { first = p.name; fits = fits.0; others = queue_change p.change; next = record { first = p.change; fits = fits.1; same = p.same; parts = refl }; parts = p.text_is })
+set_queue_reader = paired name_reader change_reader set_queue_pairs
 
-record StartQueueParts (b : Body) (text : List ℕ) : Type 0 where
-  name : List ℕ
-  change : QueueChange
-  same : b ≡ body.Ask (ask.StartQueue name change)
-  text_is : text ≡ short_bytes name ++ queue_change change
-
-start_queue_parts : (b : Body) (text : List ℕ) → body_parts b ≡ Some (record_kind.StartQueue, text) → StartQueueParts b text
-start_queue_parts (body.Ask (ask.StartQueue name change)) text e = record { name = name; change = change; same = refl; text_is = sym (same_text _ _ _ _ e) }
-start_queue_parts b text e = absurd (omega (arith, ap number_in e))
+start_queue_pairs : IsPair IsName ChangeFits short_bytes queue_change record_kind.StartQueue (λ name change. body.Ask (ask.StartQueue name change))
+start_queue_pairs = record { fits = λ name change name_fits change_fits. (name_fits, change_fits); fitted = λ name change fits. fits; parts_are = λ name change. refl; split = split } where
+  split : (b : Body) (text : List ℕ) → body_parts b ≡ Some (record_kind.StartQueue, text) → (name : List ℕ) × (change : QueueChange) × (b ≡ body.Ask (ask.StartQueue name change))
+  split (body.Ask (ask.StartQueue name change)) text e = (name, change, refl)
+  split b text e = absurd (omega (arith, ap number_in e))
 
 start_queue_reader : IsReader (BodyAt record_kind.StartQueue) start_queue_at
 unfolding start_queue_at
-start_queue_reader =
-    said (after name_reader (λ name name_fits. last change_reader))
-    (λ b text h. rw h.next.same (record { fits = (h.fits, h.next.fits); is = rw (h.parts, h.next.parts) refl }))
-    (λ b text s. let p = start_queue_parts b text s.is in let fits : BodyFits (body.Ask (ask.StartQueue p.name p.change)) = subst BodyFits p.same s.fits in
-    record { first = p.name; fits = fits.0; others = queue_change p.change; next = record { first = p.change; fits = fits.1; same = p.same; parts = refl }; parts = p.text_is })
+start_queue_reader = paired name_reader change_reader start_queue_pairs
 
-record StopQueueParts (b : Body) (text : List ℕ) : Type 0 where
-  name : List ℕ
-  how : StopMode
-  same : b ≡ body.Ask (ask.StopQueue name how)
-  text_is : text ≡ short_bytes name ++ byte (stop_mode_code how)
-
-stop_queue_parts : (b : Body) (text : List ℕ) → body_parts b ≡ Some (record_kind.StopQueue, text) → StopQueueParts b text
-stop_queue_parts (body.Ask (ask.StopQueue name how)) text e = record { name = name; how = how; same = refl; text_is = sym (same_text _ _ _ _ e) }
-stop_queue_parts b text e = absurd (omega (arith, ap number_in e))
+stop_queue_pairs : IsPair IsName (λ how. Unit {0}) short_bytes (λ how. byte (stop_mode_code how)) record_kind.StopQueue (λ name how. body.Ask (ask.StopQueue name how))
+stop_queue_pairs = record { fits = λ name how name_fits how_fits. name_fits; fitted = λ name how fits. (fits, tt); parts_are = λ name how. refl; split = split } where
+  split : (b : Body) (text : List ℕ) → body_parts b ≡ Some (record_kind.StopQueue, text) → (name : List ℕ) × (how : StopMode) × (b ≡ body.Ask (ask.StopQueue name how))
+  split (body.Ask (ask.StopQueue name how)) text e = (name, how, refl)
+  split b text e = absurd (omega (arith, ap number_in e))
 
 stop_queue_reader : IsReader (BodyAt record_kind.StopQueue) stop_queue_at
 unfolding stop_queue_at
-stop_queue_reader =
-    said (after name_reader (λ name name_fits. last stop_mode_reader))
-    (λ b text h. rw h.next.same (record { fits = h.fits; is = rw (h.parts, h.next.parts) refl }))
-    (λ b text s. let p = stop_queue_parts b text s.is in let fits : BodyFits (body.Ask (ask.StopQueue p.name p.how)) = subst BodyFits p.same s.fits in
-    record { first = p.name; fits = fits; others = byte (stop_mode_code p.how); next = record { first = p.how; fits = tt; same = p.same; parts = refl }; parts = p.text_is })
+stop_queue_reader = paired name_reader stop_mode_reader stop_queue_pairs
 
 record AbortJobParts (b : Body) (text : List ℕ) : Type 0 where
   queue_name : List ℕ
@@ -222,6 +289,16 @@ delete_queue_body_reader : IsReader (BodyAt record_kind.DeleteQueue) delete_queu
 unfolding delete_queue_at
 delete_queue_body_reader = wrapped name_reader delete_queue_wraps
 
+merge_pairs : IsPair IsName IsName short_bytes short_bytes record_kind.Merge (λ to from. body.Ask (ask.Merge to from))
+merge_pairs = record { fits = λ to from to_fits from_fits. (to_fits, from_fits); fitted = λ to from fits. fits; parts_are = λ to from. refl; split = split } where
+  split : (b : Body) (text : List ℕ) → body_parts b ≡ Some (record_kind.Merge, text) → (to : List ℕ) × (from : List ℕ) × (b ≡ body.Ask (ask.Merge to from))
+  split (body.Ask (ask.Merge to from)) text e = (to, from, refl)
+  split b text e = absurd (omega (arith, ap number_in e))
+
+merge_reader : IsReader (BodyAt record_kind.Merge) merge_at
+unfolding merge_at
+merge_reader = paired name_reader name_reader merge_pairs
+
 delete_entry_wraps : IsWrap IsEntryNumber (low_first 4) record_kind.DeleteEntry (λ entry. body.Ask (ask.DeleteEntry entry))
 delete_entry_wraps = record { fits = λ entry fits. fits; fitted = λ entry fits. fits; parts_are = λ entry. refl; unwrap = unwrap } where
   unwrap : (b : Body) (text : List ℕ) → body_parts b ≡ Some (record_kind.DeleteEntry, text) → (entry : ℕ) × (b ≡ body.Ask (ask.DeleteEntry entry))
@@ -232,41 +309,25 @@ delete_entry_body_reader : IsReader (BodyAt record_kind.DeleteEntry) delete_entr
 unfolding delete_entry_at
 delete_entry_body_reader = wrapped u32_reader delete_entry_wraps
 
-record RunMarkParts (b : Body) (text : List ℕ) : Type 0 where
-  run : ℕ
-  value : List ℕ
-  same : b ≡ body.Ask (ask.Mark run value)
-  text_is : text ≡ low_first 8 run ++ short_bytes value
-
-run_mark_parts : (b : Body) (text : List ℕ) → body_parts b ≡ Some (record_kind.Mark, text) → RunMarkParts b text
-run_mark_parts (body.Ask (ask.Mark run value)) text e = record { run = run; value = value; same = refl; text_is = sym (same_text _ _ _ _ e) }
-run_mark_parts b text e = absurd (omega (arith, ap number_in e))
+run_mark_pairs : IsPair (λ n. n < 2 ^ 64) IsMark (low_first 8) short_bytes record_kind.Mark (λ run value. body.Ask (ask.Mark run value))
+run_mark_pairs = record { fits = λ run value run_fits value_fits. (run_fits, value_fits); fitted = λ run value fits. fits; parts_are = λ run value. refl; split = split } where
+  split : (b : Body) (text : List ℕ) → body_parts b ≡ Some (record_kind.Mark, text) → (run : ℕ) × (value : List ℕ) × (b ≡ body.Ask (ask.Mark run value))
+  split (body.Ask (ask.Mark run value)) text e = (run, value, refl)
+  split b text e = absurd (omega (arith, ap number_in e))
 
 run_mark_reader : IsReader (BodyAt record_kind.Mark) run_mark_at
 unfolding run_mark_at
-run_mark_reader =
-    said (after u64_reader (λ run run_fits. last mark_reader))
-    (λ b text h. rw h.next.same (record { fits = (h.fits, h.next.fits); is = rw (h.parts, h.next.parts) refl }))
-    (λ b text s. let p = run_mark_parts b text s.is in let fits : BodyFits (body.Ask (ask.Mark p.run p.value)) = subst BodyFits p.same s.fits in
-    record { first = p.run; fits = fits.0; others = short_bytes p.value; next = record { first = p.value; fits = fits.1; same = p.same; parts = refl }; parts = p.text_is })
+run_mark_reader = paired u64_reader mark_reader run_mark_pairs
 
-record DoneParts (b : Body) (text : List ℕ) : Type 0 where
-  run : ℕ
-  status : ℕ
-  same : b ≡ body.Ask (ask.Done run status)
-  text_is : text ≡ low_first 8 run ++ low_first 4 status
-
-done_parts : (b : Body) (text : List ℕ) → body_parts b ≡ Some (record_kind.Done, text) → DoneParts b text
-done_parts (body.Ask (ask.Done run status)) text e = record { run = run; status = status; same = refl; text_is = sym (same_text _ _ _ _ e) }
-done_parts b text e = absurd (omega (arith, ap number_in e))
+done_pairs : IsPair (λ n. n < 2 ^ 64) (λ n. n < 2 ^ 32) (low_first 8) (low_first 4) record_kind.Done (λ run status. body.Ask (ask.Done run status))
+done_pairs = record { fits = λ run status run_fits status_fits. (run_fits, status_fits); fitted = λ run status fits. fits; parts_are = λ run status. refl; split = split } where
+  split : (b : Body) (text : List ℕ) → body_parts b ≡ Some (record_kind.Done, text) → (run : ℕ) × (status : ℕ) × (b ≡ body.Ask (ask.Done run status))
+  split (body.Ask (ask.Done run status)) text e = (run, status, refl)
+  split b text e = absurd (omega (arith, ap number_in e))
 
 done_reader : IsReader (BodyAt record_kind.Done) done_at
 unfolding done_at
-done_reader =
-    said (after u64_reader (λ run run_fits. last u32_reader))
-    (λ b text h. rw h.next.same (record { fits = (h.fits, h.next.fits); is = rw (h.parts, h.next.parts) refl }))
-    (λ b text s. let p = done_parts b text s.is in let fits : BodyFits (body.Ask (ask.Done p.run p.status)) = subst BodyFits p.same s.fits in
-    record { first = p.run; fits = fits.0; others = low_first 4 p.status; next = record { first = p.status; fits = fits.1; same = p.same; parts = refl }; parts = p.text_is })
+done_reader = paired u64_reader u32_reader done_pairs
 
 record TickParts (b : Body) (text : List ℕ) : Type 0 where
   same : b ≡ body.Ask ask.Tick
@@ -313,12 +374,20 @@ form_wraps = record { fits = λ f fits. fits; fitted = λ f fits. fits; parts_ar
   unwrap (body.Ask r) text e = absurd (no_row r record_kind.Form text refl e)
   unwrap b text e = absurd (omega (arith, ap number_in e))
 
+form_row_reader : IsReader (BodyAt record_kind.Form) form_row_at
+unfolding form_row_at
+form_row_reader = wrapped form_reader form_wraps
+
 queue_wraps : IsWrap QueueFits queue record_kind.Queue (λ q. body.Queue q)
 queue_wraps = record { fits = λ q fits. fits; fitted = λ q fits. fits; parts_are = λ q. refl; unwrap = unwrap } where
   unwrap : (b : Body) (text : List ℕ) → body_parts b ≡ Some (record_kind.Queue, text) → (q : Queue) × (b ≡ body.Queue q)
   unwrap (body.Queue q) text e = (q, refl)
   unwrap (body.Ask r) text e = absurd (no_row r record_kind.Queue text refl e)
   unwrap b text e = absurd (omega (arith, ap number_in e))
+
+queue_row_reader : IsReader (BodyAt record_kind.Queue) queue_row_at
+unfolding queue_row_at
+queue_row_reader = wrapped queue_reader queue_wraps
 
 -- ---- the body of each kind
 
@@ -329,20 +398,27 @@ submit_reader = wrapped job_reader job_wraps
 reader_of : (k : RecordKind) → IsReader (BodyAt k) (body_at k)
 unfolding body_at
 reader_of record_kind.Append = append_reader
+reader_of record_kind.Fill = fill_reader
+reader_of record_kind.Drop = drop_body_reader
+reader_of record_kind.DefineForm = define_form_body_reader
+reader_of record_kind.DeleteForm = delete_form_body_reader
+reader_of record_kind.DefineCharacteristic = define_characteristic_body_reader
+reader_of record_kind.DeleteCharacteristic = delete_characteristic_body_reader
 reader_of record_kind.InitializeQueue = initialize_body_reader
 reader_of record_kind.SetQueue = set_queue_reader
 reader_of record_kind.StartQueue = start_queue_reader
 reader_of record_kind.StopQueue = stop_queue_reader
 reader_of record_kind.AbortJob = abort_job_reader
 reader_of record_kind.DeleteQueue = delete_queue_body_reader
+reader_of record_kind.Merge = merge_reader
 reader_of record_kind.Submit = submit_reader
 reader_of record_kind.DeleteEntry = delete_entry_body_reader
 reader_of record_kind.Mark = run_mark_reader
 reader_of record_kind.Done = done_reader
 reader_of record_kind.Tick = tick_reader
 reader_of record_kind.Head = head_reader
-reader_of record_kind.Form = wrapped form_reader form_wraps
-reader_of record_kind.Queue = wrapped queue_reader queue_wraps
+reader_of record_kind.Form = form_row_reader
+reader_of record_kind.Queue = queue_row_reader
 
 -- a body of this kind
 pub record BodyFor (k : RecordKind) (b : Body) : Type 0 where
@@ -358,12 +434,19 @@ body_reader k =
 -- a body that has a spelling has parts
 request_has_parts : (r : Request) → RequestFits r → (x : Parts) × (request_parts r ≡ Some x)
 request_has_parts (ask.Append file bytes) fits = (_, refl)
+request_has_parts (ask.Fill file lines) fits = (_, refl)
+request_has_parts (ask.Drop file) fits = (_, refl)
+request_has_parts (ask.DefineForm f) fits = (_, refl)
+request_has_parts (ask.DeleteForm name) fits = (_, refl)
+request_has_parts (ask.DefineCharacteristic c) fits = (_, refl)
+request_has_parts (ask.DeleteCharacteristic name) fits = (_, refl)
 request_has_parts (ask.InitializeQueue new) fits = (_, refl)
 request_has_parts (ask.SetQueue name change) fits = (_, refl)
 request_has_parts (ask.StartQueue name change) fits = (_, refl)
 request_has_parts (ask.StopQueue name how) fits = (_, refl)
 request_has_parts (ask.AbortJob queue_name entry requeue) fits = (_, refl)
 request_has_parts (ask.DeleteQueue name) fits = (_, refl)
+request_has_parts (ask.Merge to from) fits = (_, refl)
 request_has_parts (ask.Submit j) fits = (_, refl)
 request_has_parts (ask.DeleteEntry entry) fits = (_, refl)
 request_has_parts (ask.Mark run value) fits = (_, refl)

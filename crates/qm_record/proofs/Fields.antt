@@ -9,8 +9,8 @@ use Rattle.qm_bytes.specs.Laws.{Spells, IsReader}
 use Rattle.qm_bytes.specs.Spelling.{low_first, fields, byte, truth, optional, list, set, short_bytes, moment, IsName, IsMoment, AllOf}
 use Rattle.qm_bytes.proofs.Readers.{Then, Made, Last, Passes, made, after, last, said, byte_reader}
 use Rattle.qm_bytes.proofs.Fields.{lies_between, passes_between, number_reader, truth_reader, optional_reader, list_reader, name_reader, set_reader, moment_reader}
-use Rattle.qm_record.specs.Spelling.{IsByte, queue_kind_code, queue_state_code, queue_retain_code, job_retain, name_or_number, node, shape, form, queue, queue_retain, limits, queue_change, new_queue, RetainFits, NameOrNumberFits, NodeFits, ShapeFits, FormFits, QueueFits, LimitsFit, ChangeFits, NewQueueFits}
-use Rattle.qm_record.specs.Reading.{byte_at, plain_retain_of, job_retain_at, name_or_number_at, node_at, shape_at, form_at, queue_at, queue_retain_at, limits_at, change_at, new_queue_at}
+use Rattle.qm_record.specs.Spelling.{IsByte, queue_kind_code, queue_state_code, queue_retain_code, job_retain, name_or_number, node, shape, form, characteristic, queue, queue_retain, limits, queue_change, new_queue, RetainFits, NameOrNumberFits, NodeFits, ShapeFits, FormFits, CharacteristicFits, QueueFits, LimitsFit, ChangeFits, NewQueueFits}
+use Rattle.qm_record.specs.Reading.{byte_at, plain_retain_of, job_retain_at, name_or_number_at, node_at, shape_at, form_at, characteristic_at, queue_at, queue_retain_at, limits_at, change_at, new_queue_at}
 use Rattle.qm_record.proofs.Codes.{queue_kind_reader, queue_state_reader, queue_retain_reader}
 
 -- ---- numbers
@@ -107,6 +107,13 @@ form_reader =
     said (after name_reader (λ name name_fits. after u16_reader (λ number number_fits. after name_reader (λ stock stock_fits. after shape_reader (λ shape_value shape_value_fits. made (record { name = name; number = number; stock = stock; shape = shape_value }))))))
     (λ x text h. rw h.next.next.next.next.same (record { fits = record { name_fits = h.fits; number_fits = h.next.fits; stock_fits = h.next.next.fits; shape_fits = h.next.next.next.fits }; is = rw (h.parts, h.next.parts, h.next.next.parts, h.next.next.next.parts, h.next.next.next.next.nothing) refl }))
     (λ x text s. record { first = x.name; fits = s.fits.name_fits; others = fields (low_first 2 x.number ∷ short_bytes x.stock ∷ shape x.shape ∷ []); next = record { first = x.number; fits = s.fits.number_fits; others = fields (short_bytes x.stock ∷ shape x.shape ∷ []); next = record { first = x.stock; fits = s.fits.stock_fits; others = fields (shape x.shape ∷ []); next = record { first = x.shape; fits = s.fits.shape_fits; others = []; next = record { same = refl; nothing = refl }; parts = refl }; parts = refl }; parts = refl }; parts = s.is })
+
+pub characteristic_reader : IsReader (Spells CharacteristicFits characteristic) characteristic_at
+unfolding characteristic_at
+characteristic_reader =
+    said (after name_reader (λ name name_fits. last one_byte_reader))
+    (λ c text h. rw h.next.same (record { fits = record { name_fits = h.fits; number_fits = h.next.fits }; is = h.parts ∙ rw h.next.parts refl }))
+    (λ c text s. record { first = c.name; fits = s.fits.name_fits; others = byte c.number; next = record { first = c.number; fits = s.fits.number_fits; same = refl; parts = refl }; parts = s.is })
 
 pub queue_reader : IsReader (Spells QueueFits queue) queue_at
 unfolding queue_at

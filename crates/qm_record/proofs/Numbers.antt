@@ -1,23 +1,29 @@
 -- The kind of a record is read as its number is spelled.
-use Rattle.std.proofs.Common.{◌≡◌, ℕ, suc, Bool, true, false, eqb, List, [], ◌∷◌, ◌++◌, length, Option, Some, None, Ok, Err, refl, sym, ap, ◌∙◌}
+use Rattle.std.proofs.Common.{◌≡◌, ℕ, suc, Bool, true, false, cond, eqb, List, [], ◌∷◌, ◌++◌, length, Option, Some, None, Ok, Err, refl, sym, ap, ◌∙◌}
 use Rattle.std.proofs.lemmas.Bool.{eqb-true}
-use Rattle.std.specs.Prelude.{if◌then◌else◌}
 use Rattle.qm_bytes.specs.Laws.{Spells, Stops, IsReader}
 use Rattle.qm_bytes.specs.Spelling.{byte}
 use Rattle.qm_bytes.proofs.Readers.{same_value, same_rest}
 use Rattle.qm_record.specs.declared.kind.RecordKind.{RecordKind}
-use Rattle.qm_record.specs.declared.kind.RecordKind.TheVariants.{Append, InitializeQueue, SetQueue, StartQueue, StopQueue, AbortJob, DeleteQueue, Submit, DeleteEntry, Mark, Done, Tick, Head, Form, Queue}
+use Rattle.qm_record.specs.declared.kind.RecordKind.TheVariants.{Append, Fill, Drop, DefineForm, DeleteForm, DefineCharacteristic, DeleteCharacteristic, InitializeQueue, SetQueue, StartQueue, StopQueue, AbortJob, DeleteQueue, Merge, Submit, DeleteEntry, Mark, Done, Tick, Head, Form, Queue}
 use Rattle.qm_record.specs.Kinds.{number_of, kind_of}
 use Rattle.qm_record.specs.Reading.{told, record_kind_at}
 
 pub kind_again : (k : RecordKind) → kind_of (number_of k) ≡ Some k
 kind_again Append = refl
+kind_again Fill = refl
+kind_again Drop = refl
+kind_again DefineForm = refl
+kind_again DeleteForm = refl
+kind_again DefineCharacteristic = refl
+kind_again DeleteCharacteristic = refl
 kind_again InitializeQueue = refl
 kind_again SetQueue = refl
 kind_again StartQueue = refl
 kind_again StopQueue = refl
 kind_again AbortJob = refl
 kind_again DeleteQueue = refl
+kind_again Merge = refl
 kind_again Submit = refl
 kind_again DeleteEntry = refl
 kind_again Mark = refl
@@ -33,28 +39,42 @@ some_kind k = Some k
 same : (a b : RecordKind) → some_kind a ≡ some_kind b → a ≡ b
 same a b e = cc
 
--- the number by which a kind was found, one comparison after the other
-number_by : (n : ℕ) (k : RecordKind) (b1 b8 b9 b10 b11 b12 b13 b15 b17 b18 b19 b20 b33 b34 b37 : Bool) → eqb n 1 ≡ b1 → eqb n 8 ≡ b8 → eqb n 9 ≡ b9 → eqb n 10 ≡ b10 → eqb n 11 ≡ b11 → eqb n 12 ≡ b12 → eqb n 13 ≡ b13 → eqb n 15 ≡ b15 → eqb n 17 ≡ b17 → eqb n 18 ≡ b18 → eqb n 19 ≡ b19 → eqb n 20 ≡ b20 → eqb n 33 ≡ b33 → eqb n 34 ≡ b34 → eqb n 37 ≡ b37
-    → (if b1 then Some Append else if b8 then Some InitializeQueue else if b9 then Some SetQueue else if b10 then Some StartQueue else if b11 then Some StopQueue else if b12 then Some AbortJob else if b13 then Some DeleteQueue else if b15 then Some Submit else if b17 then Some DeleteEntry else if b18 then Some Mark else if b19 then Some Done else if b20 then Some Tick else if b33 then Some Head else if b34 then Some Form else if b37 then Some Queue else None) ≡ Some k → n ≡ number_of k
-number_by n k true b8 b9 b10 b11 b12 b13 b15 b17 b18 b19 b20 b33 b34 b37 h1 h8 h9 h10 h11 h12 h13 h15 h17 h18 h19 h20 h33 h34 h37 h = eqb-true n 1 h1 ∙ ap number_of (same Append k h)
-number_by n k false true b9 b10 b11 b12 b13 b15 b17 b18 b19 b20 b33 b34 b37 h1 h8 h9 h10 h11 h12 h13 h15 h17 h18 h19 h20 h33 h34 h37 h = eqb-true n 8 h8 ∙ ap number_of (same InitializeQueue k h)
-number_by n k false false true b10 b11 b12 b13 b15 b17 b18 b19 b20 b33 b34 b37 h1 h8 h9 h10 h11 h12 h13 h15 h17 h18 h19 h20 h33 h34 h37 h = eqb-true n 9 h9 ∙ ap number_of (same SetQueue k h)
-number_by n k false false false true b11 b12 b13 b15 b17 b18 b19 b20 b33 b34 b37 h1 h8 h9 h10 h11 h12 h13 h15 h17 h18 h19 h20 h33 h34 h37 h = eqb-true n 10 h10 ∙ ap number_of (same StartQueue k h)
-number_by n k false false false false true b12 b13 b15 b17 b18 b19 b20 b33 b34 b37 h1 h8 h9 h10 h11 h12 h13 h15 h17 h18 h19 h20 h33 h34 h37 h = eqb-true n 11 h11 ∙ ap number_of (same StopQueue k h)
-number_by n k false false false false false true b13 b15 b17 b18 b19 b20 b33 b34 b37 h1 h8 h9 h10 h11 h12 h13 h15 h17 h18 h19 h20 h33 h34 h37 h = eqb-true n 12 h12 ∙ ap number_of (same AbortJob k h)
-number_by n k false false false false false false true b15 b17 b18 b19 b20 b33 b34 b37 h1 h8 h9 h10 h11 h12 h13 h15 h17 h18 h19 h20 h33 h34 h37 h = eqb-true n 13 h13 ∙ ap number_of (same DeleteQueue k h)
-number_by n k false false false false false false false true b17 b18 b19 b20 b33 b34 b37 h1 h8 h9 h10 h11 h12 h13 h15 h17 h18 h19 h20 h33 h34 h37 h = eqb-true n 15 h15 ∙ ap number_of (same Submit k h)
-number_by n k false false false false false false false false true b18 b19 b20 b33 b34 b37 h1 h8 h9 h10 h11 h12 h13 h15 h17 h18 h19 h20 h33 h34 h37 h = eqb-true n 17 h17 ∙ ap number_of (same DeleteEntry k h)
-number_by n k false false false false false false false false false true b19 b20 b33 b34 b37 h1 h8 h9 h10 h11 h12 h13 h15 h17 h18 h19 h20 h33 h34 h37 h = eqb-true n 18 h18 ∙ ap number_of (same Mark k h)
-number_by n k false false false false false false false false false false true b20 b33 b34 b37 h1 h8 h9 h10 h11 h12 h13 h15 h17 h18 h19 h20 h33 h34 h37 h = eqb-true n 19 h19 ∙ ap number_of (same Done k h)
-number_by n k false false false false false false false false false false false true b33 b34 b37 h1 h8 h9 h10 h11 h12 h13 h15 h17 h18 h19 h20 h33 h34 h37 h = eqb-true n 20 h20 ∙ ap number_of (same Tick k h)
-number_by n k false false false false false false false false false false false false true b34 b37 h1 h8 h9 h10 h11 h12 h13 h15 h17 h18 h19 h20 h33 h34 h37 h = eqb-true n 33 h33 ∙ ap number_of (same Head k h)
-number_by n k false false false false false false false false false false false false false true b37 h1 h8 h9 h10 h11 h12 h13 h15 h17 h18 h19 h20 h33 h34 h37 h = eqb-true n 34 h34 ∙ ap number_of (same Form k h)
-number_by n k false false false false false false false false false false false false false false true h1 h8 h9 h10 h11 h12 h13 h15 h17 h18 h19 h20 h33 h34 h37 h = eqb-true n 37 h37 ∙ ap number_of (same Queue k h)
-number_by n k false false false false false false false false false false false false false false false h1 h8 h9 h10 h11 h12 h13 h15 h17 h18 h19 h20 h33 h34 h37 h = absurd cc
+-- the kind that one comparison finds, or those behind it
+found_by : (n : ℕ) (there k : RecordKind) (behind : Option RecordKind) (test : Bool) → eqb n (number_of there) ≡ test → (behind ≡ Some k → n ≡ number_of k) → cond test (Some there) behind ≡ Some k → n ≡ number_of k
+found_by n there k behind true is others h = eqb-true n (number_of there) is ∙ ap number_of (same there k h)
+found_by n there k behind false is others h = others h
+
+tells : (n : ℕ) (there k : RecordKind) {behind : Option RecordKind} → (behind ≡ Some k → n ≡ number_of k) → cond (eqb n (number_of there)) (Some there) behind ≡ Some k → n ≡ number_of k
+tells n there k {behind} others h = found_by n there k behind (eqb n (number_of there)) refl others h
+
+tells_none : (n : ℕ) (k : RecordKind) → None ≡ some_kind k → n ≡ number_of k
+tells_none n k h = absurd cc
 
 number_back : (n : ℕ) (k : RecordKind) → kind_of n ≡ Some k → n ≡ number_of k
-number_back n k h = number_by n k (eqb n 1) (eqb n 8) (eqb n 9) (eqb n 10) (eqb n 11) (eqb n 12) (eqb n 13) (eqb n 15) (eqb n 17) (eqb n 18) (eqb n 19) (eqb n 20) (eqb n 33) (eqb n 34) (eqb n 37) refl refl refl refl refl refl refl refl refl refl refl refl refl refl refl h
+number_back n k =
+    tells n Append k
+    (tells n Fill k
+    (tells n Drop k
+    (tells n DefineForm k
+    (tells n DeleteForm k
+    (tells n DefineCharacteristic k
+    (tells n DeleteCharacteristic k
+    (tells n InitializeQueue k
+    (tells n SetQueue k
+    (tells n StartQueue k
+    (tells n StopQueue k
+    (tells n AbortJob k
+    (tells n DeleteQueue k
+    (tells n Merge k
+    (tells n Submit k
+    (tells n DeleteEntry k
+    (tells n Mark k
+    (tells n Done k
+    (tells n Tick k
+    (tells n Head k
+    (tells n Form k
+    (tells n Queue k
+    (tells_none n k))))))))))))))))))))))
 
 abbrev pub KindSpelled : RecordKind → List ℕ → Type 0
 KindSpelled = Spells (λ k. Unit {0}) (λ k. byte (number_of k))

@@ -9,13 +9,11 @@ use Rattle.qm_kinds.specs.declared.queue.QueueKind.{QueueKind}
 use Rattle.qm_kinds.specs.declared.queue.QueueState.{QueueState}
 use Rattle.qm_kinds.specs.declared.queue.QueueRetain.{QueueRetain}
 use Rattle.qm_kinds.specs.declared.request.NameOrNumber.{NameOrNumber}
-use Rattle.qm_record.specs.declared.kind.RecordKind.{RecordKind}
-use Rattle.qm_record.specs.declared.kind.RecordKind.TheVariants as record_kind
 use Rattle.qm_kinds.specs.declared.file.FileName.{FileName}
 use Rattle.qm_kinds.specs.declared.record.Body.TheVariants as body
 use Rattle.qm_kinds.specs.declared.request.Request.TheVariants as ask
 use Rattle.qm_bytes.specs.Reading.{Reader, onward, pure, IsThere, byte_where, between, number_at, name_at, truth_at, optional_at, list_at, set_at, moment_at, file_name_at, long_bytes_at}
-use Rattle.qm_record.specs.Reading.{byte_at, job_kind_at, job_retain_at, name_or_number_at, node_at, queue_kind_at, queue_state_at, queue_retain_at, limits_at, change_at, new_queue_at, initialize_at, set_queue_at, start_queue_at, append_at, job_at, submit_at, queue_at, head_at, body_at}
+use Rattle.qm_record.specs.Reading.{byte_at, job_kind_at, job_retain_at, name_or_number_at, node_at, queue_kind_at, queue_state_at, queue_retain_at, limits_at, change_at, new_queue_at, initialize_at, set_queue_at, start_queue_at, append_at, job_at, submit_at, queue_at, queue_row_at, head_at}
 
 -- a value is made of what is there
 pub made_there : {A B : Type 0} (read : Result (A × List ℕ) ℕ) (make : A → B) (rest : List ℕ) → IsThere rest read → IsThere rest (onward read (λ x. pure (make x)))
@@ -41,9 +39,9 @@ pub head_there : (bytes : List ℕ) (b1 : List ℕ) → IsThere b1 (list_at node
 unfolding head_at
 head_there bytes b1 nodes_there b2 may_there next_entry b3 next_entry_is next_run b4 next_run_is last b5 last_is = (body.Head nodes_there.0 may_there.0 next_entry next_run last, rw (nodes_there.1, may_there.1, next_entry_is, next_run_is, last_is) refl)
 
-pub queue_row_there : (kind : RecordKind) (bytes rest : List ℕ) → kind ≡ record_kind.Queue → IsThere rest (queue_at bytes) → IsThere rest (body_at kind bytes)
-unfolding body_at
-queue_row_there kind bytes rest is there = rw is (made_there (queue_at bytes) (λ q. body.Queue q) rest there)
+pub queue_row_there : (bytes rest : List ℕ) → IsThere rest (queue_at bytes) → IsThere rest (queue_row_at bytes)
+unfolding queue_row_at
+queue_row_there bytes rest there = made_there (queue_at bytes) (λ q. body.Queue q) rest there
 
 pub change_there : (bytes : List ℕ) (limit : Option ℕ) (b1 : List ℕ) → optional_at byte_at bytes ≡ Ok (limit, b1) → (b2 : List ℕ) → IsThere b2 (optional_at (list_at name_or_number_at) b1) → (form : Option NameOrNumber) (b3 : List ℕ) → optional_at name_or_number_at b2 ≡ Ok (form, b3) → (blocks : Option (ℕ × ℕ)) (b4 : List ℕ) → optional_at limits_at b3 ≡ Ok (blocks, b4) → (by_size : Option Bool) (b5 : List ℕ) → optional_at truth_at b4 ≡ Ok (by_size, b5) → (retain : Option QueueRetain) (b6 : List ℕ) → optional_at queue_retain_at b5 ≡ Ok (retain, b6) → IsThere b6 (change_at bytes)
 unfolding change_at

@@ -21,6 +21,7 @@ use Rattle.qm_kinds.specs.declared.request.StopMode.{StopMode}
 use Rattle.qm_kinds.specs.declared.request.StopMode.TheVariants as stop
 use Rattle.qm_kinds.specs.declared.form.Form.{Form}
 use Rattle.qm_kinds.specs.declared.form.Shape.{Shape}
+use Rattle.qm_kinds.specs.declared.form.Characteristic.{Characteristic}
 use Rattle.qm_kinds.specs.declared.system.Node.{Node}
 use Rattle.qm_kinds.specs.declared.moment.TheConstants.{LAST_MOMENT}
 use Rattle.qm_bytes.specs.declared.fault.BadField.{BadField}
@@ -115,6 +116,12 @@ form_at = do
   shape ← shape_at
   pure (record { name = name; number = number; stock = stock; shape = shape })
 
+unfoldable pub characteristic_at : Reader Characteristic
+characteristic_at = do
+  name ← name_at
+  number ← byte_at
+  pure (record { name = name; number = number })
+
 unfoldable pub limits_at : Reader (ℕ × ℕ)
 limits_at = do
   lower ← number_at 4
@@ -176,6 +183,27 @@ append_at = do
   bytes ← long_bytes_at
   pure (body.Ask (ask.Append file bytes))
 
+unfoldable pub fill_at : Reader Body
+fill_at = do
+  file ← file_name_at
+  lines ← number_at 2
+  pure (body.Ask (ask.Fill file lines))
+
+unfoldable pub drop_at : Reader Body
+drop_at = file_name_at >>= λ file. pure (body.Ask (ask.Drop file))
+
+unfoldable pub define_form_at : Reader Body
+define_form_at = form_at >>= λ f. pure (body.Ask (ask.DefineForm f))
+
+unfoldable pub delete_form_at : Reader Body
+delete_form_at = name_at >>= λ name. pure (body.Ask (ask.DeleteForm name))
+
+unfoldable pub define_characteristic_at : Reader Body
+define_characteristic_at = characteristic_at >>= λ c. pure (body.Ask (ask.DefineCharacteristic c))
+
+unfoldable pub delete_characteristic_at : Reader Body
+delete_characteristic_at = name_at >>= λ name. pure (body.Ask (ask.DeleteCharacteristic name))
+
 unfoldable pub job_at : Reader Job
 job_at = do
   user ← name_at
@@ -228,6 +256,12 @@ abort_job_at = do
 unfoldable pub delete_queue_at : Reader Body
 delete_queue_at = name_at >>= λ name. pure (body.Ask (ask.DeleteQueue name))
 
+unfoldable pub merge_at : Reader Body
+merge_at = do
+  to ← name_at
+  from ← name_at
+  pure (body.Ask (ask.Merge to from))
+
 unfoldable pub delete_entry_at : Reader Body
 delete_entry_at = number_at 4 >>= λ entry. pure (body.Ask (ask.DeleteEntry entry))
 
@@ -252,23 +286,36 @@ head_at = do
   last ← moment_at
   pure (body.Head nodes may next_entry next_run last)
 
+unfoldable pub form_row_at : Reader Body
+form_row_at = form_at >>= λ f. pure (body.Form f)
+
+unfoldable pub queue_row_at : Reader Body
+queue_row_at = queue_at >>= λ q. pure (body.Queue q)
+
 -- the fields of a record of each kind
 unfoldable pub body_at : RecordKind → Reader Body
 body_at record_kind.Append = append_at
+body_at record_kind.Fill = fill_at
+body_at record_kind.Drop = drop_at
+body_at record_kind.DefineForm = define_form_at
+body_at record_kind.DeleteForm = delete_form_at
+body_at record_kind.DefineCharacteristic = define_characteristic_at
+body_at record_kind.DeleteCharacteristic = delete_characteristic_at
 body_at record_kind.InitializeQueue = initialize_at
 body_at record_kind.SetQueue = set_queue_at
 body_at record_kind.StartQueue = start_queue_at
 body_at record_kind.StopQueue = stop_queue_at
 body_at record_kind.AbortJob = abort_job_at
 body_at record_kind.DeleteQueue = delete_queue_at
+body_at record_kind.Merge = merge_at
 body_at record_kind.Submit = submit_at
 body_at record_kind.DeleteEntry = delete_entry_at
 body_at record_kind.Mark = run_mark_at
 body_at record_kind.Done = done_at
 body_at record_kind.Tick = pure (body.Ask ask.Tick)
 body_at record_kind.Head = head_at
-body_at record_kind.Form = form_at >>= λ f. pure (body.Form f)
-body_at record_kind.Queue = queue_at >>= λ q. pure (body.Queue q)
+body_at record_kind.Form = form_row_at
+body_at record_kind.Queue = queue_row_at
 
 -- the last moment and the last node of a record of a kind
 abbrev pub last_moment : RecordKind → ℕ

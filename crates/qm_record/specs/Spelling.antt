@@ -22,6 +22,7 @@ use Rattle.qm_kinds.specs.declared.request.StopMode.{StopMode}
 use Rattle.qm_kinds.specs.declared.request.StopMode.TheVariants as stop
 use Rattle.qm_kinds.specs.declared.form.Form.{Form}
 use Rattle.qm_kinds.specs.declared.form.Shape.{Shape}
+use Rattle.qm_kinds.specs.declared.form.Characteristic.{Characteristic}
 use Rattle.qm_kinds.specs.declared.system.Node.{Node}
 use Rattle.qm_bytes.specs.Spelling.{low_first, fields, byte, truth, optional, list, long_bytes, short_bytes, file_name, set, moment, IsName, IsMark, IsMoment, AreLongBytes, IsFileName, IsSet, IsList, AllOf}
 use Rattle.qm_kinds.specs.declared.record.Record.{Record}
@@ -89,6 +90,9 @@ shape s = fields (byte s.length ∷ byte s.width ∷ byte s.top ∷ byte s.botto
 abbrev pub form : Form → List ℕ
 form f = fields (short_bytes f.name ∷ low_first 2 f.number ∷ short_bytes f.stock ∷ shape f.shape ∷ [])
 
+abbrev pub characteristic : Characteristic → List ℕ
+characteristic c = short_bytes c.name ++ byte c.number
+
 abbrev pub queue : Queue → List ℕ
 queue q = fields (
     short_bytes q.name ∷ byte (queue_kind_code q.kind) ∷ byte (queue_state_code q.state) ∷ optional short_bytes q.node ∷
@@ -125,19 +129,19 @@ head nodes may next_entry next_run last = fields (
 -- The kind and the fields of a request that is spelled so far.
 abbrev pub request_parts : Request → Option (RecordKind × List ℕ)
 request_parts (ask.Append file bytes) = Some (record_kind.Append, fields (file_name file ∷ long_bytes bytes ∷ []))
-request_parts (ask.Fill file lines) = None
-request_parts (ask.Drop file) = None
-request_parts (ask.DefineForm f) = None
-request_parts (ask.DeleteForm name) = None
-request_parts (ask.DefineCharacteristic c) = None
-request_parts (ask.DeleteCharacteristic name) = None
+request_parts (ask.Fill file lines) = Some (record_kind.Fill, file_name file ++ low_first 2 lines)
+request_parts (ask.Drop file) = Some (record_kind.Drop, file_name file)
+request_parts (ask.DefineForm f) = Some (record_kind.DefineForm, form f)
+request_parts (ask.DeleteForm name) = Some (record_kind.DeleteForm, short_bytes name)
+request_parts (ask.DefineCharacteristic c) = Some (record_kind.DefineCharacteristic, characteristic c)
+request_parts (ask.DeleteCharacteristic name) = Some (record_kind.DeleteCharacteristic, short_bytes name)
 request_parts (ask.InitializeQueue new) = Some (record_kind.InitializeQueue, new_queue new)
 request_parts (ask.SetQueue name change) = Some (record_kind.SetQueue, short_bytes name ++ queue_change change)
 request_parts (ask.StartQueue name change) = Some (record_kind.StartQueue, short_bytes name ++ queue_change change)
 request_parts (ask.StopQueue name how) = Some (record_kind.StopQueue, short_bytes name ++ byte (stop_mode_code how))
 request_parts (ask.AbortJob queue_name entry requeue) = Some (record_kind.AbortJob, fields (short_bytes queue_name ∷ optional (low_first 4) entry ∷ truth requeue ∷ []))
 request_parts (ask.DeleteQueue name) = Some (record_kind.DeleteQueue, short_bytes name)
-request_parts (ask.Merge to from) = None
+request_parts (ask.Merge to from) = Some (record_kind.Merge, short_bytes to ++ short_bytes from)
 request_parts (ask.Submit j) = Some (record_kind.Submit, job_text j)
 request_parts (ask.SetEntry entry change) = None
 request_parts (ask.DeleteEntry entry) = Some (record_kind.DeleteEntry, low_first 4 entry)
@@ -211,6 +215,10 @@ pub record FormFits (f : Form) : Type 0 where
   pub stock_fits : IsName f.stock
   pub shape_fits : ShapeFits f.shape
 
+pub record CharacteristicFits (c : Characteristic) : Type 0 where
+  pub name_fits : IsName c.name
+  pub number_fits : IsByte c.number
+
 pub record QueueFits (q : Queue) : Type 0 where
   pub name_fits : IsName q.name
   pub node_fits : AllOf IsName q.node
@@ -255,12 +263,19 @@ IsEntryNumber n = n < 2 ^ 32
 
 abbrev pub RequestFits : Request → Type 0
 RequestFits (ask.Append file bytes) = IsFileName file × AreLongBytes bytes
+RequestFits (ask.Fill file lines) = IsFileName file × (lines < 2 ^ 16)
+RequestFits (ask.Drop file) = IsFileName file
+RequestFits (ask.DefineForm f) = FormFits f
+RequestFits (ask.DeleteForm name) = IsName name
+RequestFits (ask.DefineCharacteristic c) = CharacteristicFits c
+RequestFits (ask.DeleteCharacteristic name) = IsName name
 RequestFits (ask.InitializeQueue new) = NewQueueFits new
 RequestFits (ask.SetQueue name change) = IsName name × ChangeFits change
 RequestFits (ask.StartQueue name change) = IsName name × ChangeFits change
 RequestFits (ask.StopQueue name how) = IsName name
 RequestFits (ask.AbortJob queue_name entry requeue) = IsName queue_name × AllOf IsEntryNumber entry
 RequestFits (ask.DeleteQueue name) = IsName name
+RequestFits (ask.Merge to from) = IsName to × IsName from
 RequestFits (ask.Submit j) = JobFits j
 RequestFits (ask.DeleteEntry entry) = IsEntryNumber entry
 RequestFits (ask.Mark run value) = (run < 2 ^ 64) × IsMark value

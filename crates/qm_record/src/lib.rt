@@ -1,9 +1,11 @@
 //! The records of a queue file as bytes: each record has one spelling, which is written, and nothing else is read.
 #![tactic(auto)]
 
+mod definition_request;
 mod element;
 mod fault;
 mod field;
+mod file_request;
 mod kind;
 mod laws;
 mod queue_request;

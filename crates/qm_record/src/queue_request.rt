@@ -3,7 +3,7 @@ ghost use Rattle.std.specs.Prelude.{◌≡◌, ◌++◌, [], ◌∷◌, OnOk};
 ghost use Rattle.qm_bytes.specs.Spelling.{short_bytes, byte, fields, optional, low_first, truth, IsName, AllOf};
 ghost use Rattle.qm_bytes.specs.Reading.{GivesKept};
 ghost use Rattle.qm_record.specs.Spelling.{new_queue as new_queue_text, queue_change, stop_mode_code, NewQueueFits, ChangeFits, IsEntryNumber, IsShortQueue, IsShortChange};
-ghost use Rattle.qm_record.specs.Reading.{change_at, initialize_at, set_queue_at, start_queue_at, stop_queue_at, abort_job_at, delete_queue_at};
+ghost use Rattle.qm_record.specs.Reading.{change_at, initialize_at, set_queue_at, start_queue_at, stop_queue_at, abort_job_at, delete_queue_at, merge_at};
 
 use crate::element::{
     put_list, put_optional, put_optional_list, read_list, read_optional, read_optional_list,
@@ -75,6 +75,7 @@ pub(crate) fn put_new_queue(out: &mut Vec<u8>, new: &NewQueue) -> Result<(), All
 
 /// Reads the fields of a request to make a queue.
 #[tactic(auto, unfolding(crate::specs::Reading::initialize_at, crate::specs::Reading::new_queue_at))]
+#[inline(never)]
 pub(crate) fn read_initialize(
     alloc: Global,
     bytes: &mut &[u8],
@@ -119,6 +120,7 @@ pub(crate) fn put_settings(
 
 /// Reads the fields of a request to set a queue.
 #[tactic(auto, unfolding(crate::specs::Reading::set_queue_at))]
+#[inline(never)]
 pub(crate) fn read_set_queue(
     alloc: Global,
     bytes: &mut &[u8],
@@ -134,6 +136,7 @@ pub(crate) fn read_set_queue(
 
 /// Reads the fields of a request to start a queue.
 #[tactic(auto, unfolding(crate::specs::Reading::start_queue_at))]
+#[inline(never)]
 pub(crate) fn read_start_queue(
     alloc: Global,
     bytes: &mut &[u8],
@@ -159,6 +162,7 @@ pub(crate) fn put_stop(out: &mut Vec<u8>, name: &Name, how: StopMode) -> Result<
 
 /// Reads the fields of a request to stop a queue.
 #[tactic(auto, unfolding(crate::specs::Reading::stop_queue_at))]
+#[inline(never)]
 pub(crate) fn read_stop_queue(bytes: &mut &[u8]) -> Result<Result<Body, AllocError>, BadField>
     ensures { GivesKept result bytes.new.now (stop_queue_at bytes.old.now) }
 {
@@ -186,6 +190,7 @@ pub(crate) fn put_abort(
 
 /// Reads the fields of a request to cut a job short.
 #[tactic(auto, unfolding(crate::specs::Reading::abort_job_at))]
+#[inline(never)]
 pub(crate) fn read_abort_job(bytes: &mut &[u8]) -> Result<Result<Body, AllocError>, BadField>
     ensures { GivesKept result bytes.new.now (abort_job_at bytes.old.now) }
 {
@@ -201,9 +206,31 @@ pub(crate) fn read_abort_job(bytes: &mut &[u8]) -> Result<Result<Body, AllocErro
 
 /// Reads the fields of a request to delete a queue.
 #[tactic(auto, unfolding(crate::specs::Reading::delete_queue_at))]
+#[inline(never)]
 pub(crate) fn read_delete_queue(bytes: &mut &[u8]) -> Result<Result<Body, AllocError>, BadField>
     ensures { GivesKept result bytes.new.now (delete_queue_at bytes.old.now) }
 {
     let name = read_name(bytes)?;
     Ok(Ok(Body::Ask(Request::DeleteQueue { name })))
+}
+
+/// Appends the queue to which jobs are moved, and the one from which they come.
+pub(crate) fn put_merge(out: &mut Vec<u8>, to: &Name, from: &Name) -> Result<(), AllocError>
+    ensures ok { OnOk result (out.new.items ≡ out.old.items ++ (short_bytes to.now ++ short_bytes from.now)) }
+    ensures to { OnOk result (IsName to.now) }
+    ensures from { OnOk result (IsName from.now) }
+{
+    put_name(out, to)?;
+    put_name(out, from)
+}
+
+/// Reads the fields of a request to move a queue's jobs to another.
+#[tactic(auto, unfolding(crate::specs::Reading::merge_at))]
+#[inline(never)]
+pub(crate) fn read_merge(bytes: &mut &[u8]) -> Result<Result<Body, AllocError>, BadField>
+    ensures { GivesKept result bytes.new.now (merge_at bytes.old.now) }
+{
+    let to = read_name(bytes)?;
+    let from = read_name(bytes)?;
+    Ok(Ok(Body::Ask(Request::Merge { to, from })))
 }

@@ -7,14 +7,18 @@ ghost use Rattle.qm_record.specs.Spelling.{record_text, HasSpelling};
 ghost use Rattle.qm_record.specs.Reading.{record_kind_at, body_at, record_at, whole_at, GivesFront, left_by, TellsWhole, last_moment, last_node};
 ghost use Rattle.qm_record.specs.Faults.{IsRead, IsRecord, IsFirstFault};
 
+use crate::definition_request::{
+    read_define_characteristic, read_define_form, read_delete_characteristic, read_delete_form,
+};
 use crate::fault::RecordFault;
+use crate::file_request::{read_append, read_drop, read_fill};
 use crate::kind::RecordKind;
 use crate::queue_request::{
-    read_abort_job, read_delete_queue, read_initialize, read_set_queue, read_start_queue,
-    read_stop_queue,
+    read_abort_job, read_delete_queue, read_initialize, read_merge, read_set_queue,
+    read_start_queue, read_stop_queue,
 };
-use crate::request::{read_append, read_delete_entry, read_done, read_run_mark, read_submit};
-use crate::row::{read_form, read_head, read_queue};
+use crate::request::{read_delete_entry, read_done, read_run_mark, read_submit};
+use crate::row::{read_form_row, read_head, read_queue_row};
 use qm_bytes::{BadField, Width, read_byte, read_number_up_to};
 use qm_kinds::{Body, LAST_MOMENT, Moment, Record, Request};
 use std::alloc::{AllocError, Global};
@@ -37,7 +41,8 @@ fn read_kind(bytes: &mut &[u8]) -> Result<RecordKind, BadField>
     }
 }
 
-// Reads the fields of a record.
+// Reads the fields of a record. No reader is inlined here: a function clears all its locals when it is entered, and each
+// record would pay for those of all readers.
 #[tactic(auto, unfolding(crate::specs::Reading::body_at))]
 fn read_body(
     alloc: Global,
@@ -48,26 +53,27 @@ fn read_body(
 {
     match kind {
         RecordKind::Append => read_append(alloc, bytes),
+        RecordKind::Fill => read_fill(bytes),
+        RecordKind::Drop => read_drop(bytes),
+        RecordKind::DefineForm => read_define_form(bytes),
+        RecordKind::DeleteForm => read_delete_form(bytes),
+        RecordKind::DefineCharacteristic => read_define_characteristic(bytes),
+        RecordKind::DeleteCharacteristic => read_delete_characteristic(bytes),
         RecordKind::InitializeQueue => read_initialize(alloc, bytes),
         RecordKind::SetQueue => read_set_queue(alloc, bytes),
         RecordKind::StartQueue => read_start_queue(alloc, bytes),
         RecordKind::StopQueue => read_stop_queue(bytes),
         RecordKind::AbortJob => read_abort_job(bytes),
         RecordKind::DeleteQueue => read_delete_queue(bytes),
+        RecordKind::Merge => read_merge(bytes),
         RecordKind::Submit => read_submit(alloc, bytes),
         RecordKind::DeleteEntry => read_delete_entry(bytes),
         RecordKind::Mark => read_run_mark(bytes),
         RecordKind::Done => read_done(bytes),
         RecordKind::Tick => Ok(Ok(Body::Ask(Request::Tick))),
         RecordKind::Head => read_head(alloc, bytes),
-        RecordKind::Form => {
-            let form = read_form(bytes)?;
-            Ok(Ok(Body::Form(form)))
-        }
-        RecordKind::Queue => match read_queue(alloc, bytes)? {
-            Ok(queue) => Ok(Ok(Body::Queue(queue))),
-            Err(fault) => Ok(Err(fault)),
-        },
+        RecordKind::Form => read_form_row(bytes),
+        RecordKind::Queue => read_queue_row(alloc, bytes),
     }
 }
 

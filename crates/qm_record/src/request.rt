@@ -1,21 +1,24 @@
 // The records of requests.
-ghost use Rattle.std.specs.Prelude.{◌≡◌, ◌<◌, ◌^◌, ◌++◌, [], ◌∷◌, true, Some, length, OnOk};
-ghost use Rattle.qm_bytes.specs.Spelling.{fields, file_name, long_bytes, short_bytes, low_first, IsMoment, IsFileName, AreLongBytes, IsMark};
+ghost use Rattle.std.specs.Prelude.{◌≡◌, ◌<◌, ◌^◌, ◌++◌, true, Some, length, OnOk};
+ghost use Rattle.qm_bytes.specs.Spelling.{short_bytes, low_first, IsMoment, IsMark};
 ghost use Rattle.qm_bytes.specs.Reading.{Gives, GivesKept};
 ghost use Rattle.qm_model.specs.Built.{has_record};
 ghost use Rattle.qm_record.specs.Spelling.{job_text, front, fields_in, text_of, request_parts, JobFits, RequestFits, CanBeRecorded};
-ghost use Rattle.qm_record.specs.Reading.{append_at, submit_at, delete_entry_at, run_mark_at, done_at};
+ghost use Rattle.qm_record.specs.Reading.{submit_at, delete_entry_at, run_mark_at, done_at};
 
+use crate::definition_request::put_characteristic;
 use crate::element::{put_list, put_optional, read_list, read_optional};
 use crate::field::{job_kind_code, put_job_retain, read_job_kind, read_job_retain};
+use crate::file_request::{put_append, put_fill};
 use crate::kind::RecordKind;
-use crate::queue_request::{put_abort, put_new_queue, put_settings, put_stop};
+use crate::queue_request::{put_abort, put_merge, put_new_queue, put_settings, put_stop};
+use crate::row::put_form;
 use qm_bytes::{
-    BadField, Width, put_file_name, put_long_bytes, put_mark, put_moment, put_name, put_number,
-    put_optional_moment, put_truth, read_byte, read_file_name, read_long_bytes, read_mark,
-    read_name, read_number, read_optional_moment, read_truth,
+    BadField, Width, put_file_name, put_mark, put_moment, put_name, put_number,
+    put_optional_moment, put_truth, read_byte, read_file_name, read_mark, read_name, read_number,
+    read_optional_moment, read_truth,
 };
-use qm_kinds::{Body, FileName, Job, Mark, Moment, Request};
+use qm_kinds::{Body, Job, Mark, Moment, Request};
 use std::alloc::{AllocError, Global};
 
 /// Appends what stands before the fields of each record: the version, the number, the moment and the node.
@@ -42,12 +45,19 @@ fn kind_of(request: &Request) -> RecordKind
 {
     match request {
         Request::Append { .. } => RecordKind::Append,
+        Request::Fill { .. } => RecordKind::Fill,
+        Request::Drop { .. } => RecordKind::Drop,
+        Request::DefineForm(_) => RecordKind::DefineForm,
+        Request::DeleteForm { .. } => RecordKind::DeleteForm,
+        Request::DefineCharacteristic(_) => RecordKind::DefineCharacteristic,
+        Request::DeleteCharacteristic { .. } => RecordKind::DeleteCharacteristic,
         Request::InitializeQueue(_) => RecordKind::InitializeQueue,
         Request::SetQueue { .. } => RecordKind::SetQueue,
         Request::StartQueue { .. } => RecordKind::StartQueue,
         Request::StopQueue { .. } => RecordKind::StopQueue,
         Request::AbortJob { .. } => RecordKind::AbortJob,
         Request::DeleteQueue { .. } => RecordKind::DeleteQueue,
+        Request::Merge { .. } => RecordKind::Merge,
         Request::Submit(_) => RecordKind::Submit,
         Request::DeleteEntry { .. } => RecordKind::DeleteEntry,
         Request::Mark { .. } => RecordKind::Mark,
@@ -82,6 +92,13 @@ fn put_fields(out: &mut Vec<u8>, request: &Request) -> Result<(), AllocError>
 {
     match request {
         Request::Append { file, bytes } => put_append(out, file, bytes.as_slice()),
+        Request::Fill { file, lines } => put_fill(out, file, *lines),
+        Request::Drop { file } => put_file_name(out, file),
+        Request::DefineForm(form) => put_form(out, form),
+        Request::DefineCharacteristic(characteristic) => put_characteristic(out, characteristic),
+        Request::DeleteForm { name }
+        | Request::DeleteCharacteristic { name }
+        | Request::DeleteQueue { name } => put_name(out, name),
         Request::InitializeQueue(new) => put_new_queue(out, new),
         Request::SetQueue { name, change } | Request::StartQueue { name, change } => {
             put_settings(out, name, change)
@@ -92,7 +109,7 @@ fn put_fields(out: &mut Vec<u8>, request: &Request) -> Result<(), AllocError>
             entry,
             requeue,
         } => put_abort(out, queue, entry, *requeue),
-        Request::DeleteQueue { name } => put_name(out, name),
+        Request::Merge { to, from } => put_merge(out, to, from),
         Request::Submit(job) => put_submit(out, job),
         Request::DeleteEntry { entry } => put_number(out, Width::Four, u64::from(*entry)),
         Request::Mark { run, value } => put_run_mark(out, *run, value),
@@ -100,18 +117,6 @@ fn put_fields(out: &mut Vec<u8>, request: &Request) -> Result<(), AllocError>
         Request::Tick => Ok(()),
         _ => unreachable!(),
     }
-}
-
-// Appends the fields of a request to append to a file.
-fn put_append(out: &mut Vec<u8>, file: &FileName, bytes: &[u8]) -> Result<(), AllocError>
-    requires { length bytes.now < 2 ^ 32 }
-    ensures ok { OnOk result (out.new.items ≡ out.old.items ++ fields (file_name file.now ∷ long_bytes bytes.now ∷ [])) }
-    ensures file { OnOk result (IsFileName file.now) }
-    ensures bytes { OnOk result (AreLongBytes bytes.now) }
-{
-    put_file_name(out, file)?;
-    put_long_bytes(out, bytes)?;
-    Ok(())
 }
 
 // Appends a run and its mark.
@@ -157,23 +162,9 @@ fn put_submit(out: &mut Vec<u8>, job: &Job) -> Result<(), AllocError>
     Ok(())
 }
 
-/// Reads the fields of a request to append to a file.
-#[tactic(auto, unfolding(crate::specs::Reading::append_at))]
-pub(crate) fn read_append(
-    alloc: Global,
-    bytes: &mut &[u8],
-) -> Result<Result<Body, AllocError>, BadField>
-    ensures { GivesKept result bytes.new.now (append_at bytes.old.now) }
-{
-    let file = read_file_name(bytes)?;
-    match read_long_bytes(alloc, bytes)? {
-        Ok(text) => Ok(Ok(Body::Ask(Request::Append { file, bytes: text }))),
-        Err(fault) => Ok(Err(fault)),
-    }
-}
-
 /// Reads the fields of a request to submit a job. The job is built at its place in the body: it is large.
 #[tactic(auto, unfolding(crate::specs::Reading::submit_at, crate::specs::Reading::job_at))]
+#[inline(never)]
 pub(crate) fn read_submit(
     alloc: Global,
     bytes: &mut &[u8],
@@ -217,6 +208,7 @@ pub(crate) fn read_submit(
 
 /// Reads the fields of a request to delete an entry.
 #[tactic(auto, unfolding(crate::specs::Reading::delete_entry_at))]
+#[inline(never)]
 pub(crate) fn read_delete_entry(bytes: &mut &[u8]) -> Result<Result<Body, AllocError>, BadField>
     ensures { GivesKept result bytes.new.now (delete_entry_at bytes.old.now) }
 {
@@ -228,6 +220,7 @@ pub(crate) fn read_delete_entry(bytes: &mut &[u8]) -> Result<Result<Body, AllocE
 
 /// Reads the fields of the report of a mark.
 #[tactic(auto, unfolding(crate::specs::Reading::run_mark_at))]
+#[inline(never)]
 pub(crate) fn read_run_mark(bytes: &mut &[u8]) -> Result<Result<Body, AllocError>, BadField>
     ensures { GivesKept result bytes.new.now (run_mark_at bytes.old.now) }
 {
@@ -238,6 +231,7 @@ pub(crate) fn read_run_mark(bytes: &mut &[u8]) -> Result<Result<Body, AllocError
 
 /// Reads the fields of the report that a run has ended.
 #[tactic(auto, unfolding(crate::specs::Reading::done_at))]
+#[inline(never)]
 pub(crate) fn read_done(bytes: &mut &[u8]) -> Result<Result<Body, AllocError>, BadField>
     ensures { GivesKept result bytes.new.now (done_at bytes.old.now) }
 {

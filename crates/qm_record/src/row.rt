@@ -3,7 +3,7 @@ ghost use Rattle.std.specs.Prelude.{◌≡◌, ◌<◌, ◌^◌, ◌++◌, ℕ, 
 ghost use Rattle.qm_bytes.specs.Spelling.{fields, list, short_bytes, low_first, moment, IsList, IsName, IsMoment};
 ghost use Rattle.qm_bytes.specs.Reading.{Gives, GivesKept};
 ghost use Rattle.qm_record.specs.Spelling.{head as head_text, NodeFits, form as form_text, queue as queue_text, queue_state_code, FormFits, QueueFits};
-ghost use Rattle.qm_record.specs.Reading.{form_at, queue_at, queue_state_at, head_at};
+ghost use Rattle.qm_record.specs.Reading.{form_at, form_row_at, queue_row_at, queue_state_at, head_at};
 
 use crate::element::{put_list, read_list};
 use crate::field::{
@@ -18,6 +18,7 @@ use std::alloc::{AllocError, Global};
 
 /// Reads the first row of an image.
 #[tactic(auto, unfolding(crate::specs::Reading::head_at))]
+#[inline(never)]
 pub(crate) fn read_head(
     alloc: Global,
     bytes: &mut &[u8],
@@ -93,6 +94,16 @@ pub(crate) fn read_form(bytes: &mut &[u8]) -> Result<Form, BadField>
     })
 }
 
+/// Reads the row of a form.
+#[tactic(auto, unfolding(crate::specs::Reading::form_row_at))]
+#[inline(never)]
+pub(crate) fn read_form_row(bytes: &mut &[u8]) -> Result<Result<Body, AllocError>, BadField>
+    ensures { GivesKept result bytes.new.now (form_row_at bytes.old.now) }
+{
+    let form = read_form(bytes)?;
+    Ok(Ok(Body::Form(form)))
+}
+
 fn queue_state_code(state: QueueState) -> u8
     ensures { result ≡ queue_state_code state }
 {
@@ -138,13 +149,14 @@ pub(crate) fn put_queue(out: &mut Vec<u8>, queue: &Queue) -> Result<(), AllocErr
     Ok(())
 }
 
-/// Reads a queue.
-#[tactic(auto, unfolding(crate::specs::Reading::queue_at))]
-pub(crate) fn read_queue(
+/// Reads the row of a queue. The queue is built at its place in the body: it is large.
+#[tactic(auto, unfolding(crate::specs::Reading::queue_row_at, crate::specs::Reading::queue_at))]
+#[inline(never)]
+pub(crate) fn read_queue_row(
     alloc: Global,
     bytes: &mut &[u8],
-) -> Result<Result<Queue, AllocError>, BadField>
-    ensures { GivesKept result bytes.new.now (queue_at bytes.old.now) }
+) -> Result<Result<Body, AllocError>, BadField>
+    ensures { GivesKept result bytes.new.now (queue_row_at bytes.old.now) }
 {
     let name = read_name(bytes)?;
     let kind = read_queue_kind(bytes)?;
@@ -159,7 +171,7 @@ pub(crate) fn read_queue(
     let by_size = read_truth(bytes)?;
     let retain = read_queue_retain(bytes)?;
     match read_list(alloc, bytes)? {
-        Ok(targets) => Ok(Ok(Queue {
+        Ok(targets) => Ok(Ok(Body::Queue(Queue {
             name,
             kind,
             state,
@@ -173,7 +185,7 @@ pub(crate) fn read_queue(
             by_size,
             retain,
             targets,
-        })),
+        }))),
         Err(fault) => Ok(Err(fault)),
     }
 }

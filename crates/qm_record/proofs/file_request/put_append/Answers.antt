@@ -1,5 +1,5 @@
 use Rattle.qm_record.proofs.Loops.{before, finish}
-use Rattle.qm_record.proofs.request.put_append.Goals as goal
+use Rattle.qm_record.proofs.file_request.put_append.Goals as goal
 
 pub returns-clause-ok : goal.returns-clause-ok
 returns-clause-ok c =

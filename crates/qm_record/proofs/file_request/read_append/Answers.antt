@@ -1,6 +1,6 @@
 use Rattle.qm_record.proofs.Loops.{kept_is_there}
 use Rattle.qm_record.proofs.There.{append_there}
-use Rattle.qm_record.proofs.request.read_append.Goals as goal
+use Rattle.qm_record.proofs.file_request.read_append.Goals as goal
 
 pub returns-in-Err : goal.returns-in-Err
 returns-in-Err c =
