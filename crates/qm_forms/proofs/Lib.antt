@@ -1,2 +1,4 @@
 pub mod Rows
 pub mod Found
+pub mod Named
+pub mod Kept

@@ -2,6 +2,7 @@
 //! or by its number.
 #![tactic(auto)]
 
+mod names;
 mod places;
 mod table;
 #[cfg(test)]

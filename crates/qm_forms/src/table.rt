@@ -1,5 +1,5 @@
-// The forms and characteristics in order of their numbers.
-ghost use Rattle.std.specs.Prelude.{◌≡◌, ◌+◌, ◌-◌, ◌<◌, ◌≤◌, [], length, false, Some, OnErr, OnOk};
+// The forms and characteristics in order of their numbers, and the forms in order of their names too.
+ghost use Rattle.std.specs.Prelude.{◌≡◌, ◌+◌, ◌-◌, ◌<◌, ◌≤◌, [], length, false, Some, IfOk, OnErr, OnOk};
 ghost use Rattle.std.specs.Option.{option_copied};
 ghost use Rattle.qm_model.specs.Characteristics.{is_characteristic_taken};
 ghost use Rattle.qm_model.specs.Find.{form_wanted, characteristic_wanted};
@@ -10,6 +10,7 @@ ghost use Rattle.qm_model.specs.Wanted.{refused_characteristics, set_of};
 ghost use Rattle.qm_forms.specs.Forms.{without_form, without_characteristic};
 ghost use Rattle.qm_forms.specs.Numbered.{AreKept, AreKeptForms, AreKeptCharacteristics};
 
+use crate::names::{by_name, place_of_name, take_out};
 use crate::places::{place_of_characteristic, place_of_form, put};
 use crate::wanted::{find_characteristic, find_form, refused_characteristics, set_of};
 use qm_kinds::{Characteristic, CharacteristicSet, Form, Name, NameOrNumber, Refusal};
@@ -19,18 +20,23 @@ use std::marker::Model;
 /// The forms and characteristics of a site, each under a name and a number of its own. Contracts see a `Defined`: both in
 /// order of their numbers, and how many more of each have room.
 ///
-/// Only `reserve_form` and `reserve_characteristic` take memory. A look at a name or a number goes through the forms, or
-/// the characteristics, from the first on, of which there are at most 1,000 and 128; a definition asks a logarithm of
-/// them for its place, and moves those that stand behind it.
+/// Only `of`, `reserve_form` and `reserve_characteristic` take memory. A look at a form, by its name or by its number, asks
+/// a logarithm of the forms, of which a site has at most 1,000: they are kept in order of their names too. A look at a
+/// characteristic goes through them from the first on: there are at most 128, and only a request that names one looks. A
+/// definition asks a logarithm of the forms, or the characteristics, for its place, and moves those that stand behind it;
+/// a deletion goes through them.
 #[derive(Drop)]
 pub struct FormTable {
     forms: Vec<Form>,
+    // The same forms, in order of their names.
+    by_name: Vec<Form>,
     characteristics: Vec<Characteristic>,
 }
 
 impl Model for FormTable {
-    ghost use Rattle.std.specs.Prelude.{◌-◌, vec_len, vec_capacity};
+    ghost use Rattle.std.specs.Prelude.{◌-◌, min, vec_len, vec_capacity};
     ghost use Rattle.qm_forms.specs.Forms.{Defined};
+    ghost use Rattle.qm_forms.specs.Named.{AreByName};
     ghost use Rattle.qm_forms.specs.Numbered.{AreKept};
 
     ghost Value = { Defined };
@@ -38,11 +44,11 @@ impl Model for FormTable {
     ghost view = { λ t. record {
       forms = t.forms.items;
       characteristics = t.characteristics.items;
-      spare_forms = vec_capacity t.forms - vec_len t.forms;
+      spare_forms = min (vec_capacity t.forms - vec_len t.forms) (vec_capacity t.by_name - vec_len t.by_name);
       spare_characteristics = vec_capacity t.characteristics - vec_len t.characteristics;
     } };
 
-    ghost invariant = { λ t. AreKept t.forms.items t.characteristics.items };
+    ghost invariant = { λ t. AreKept t.forms.items t.characteristics.items × AreByName t.forms.items t.by_name.items };
 }
 
 impl FormTable {
@@ -52,20 +58,30 @@ impl FormTable {
     {
         FormTable {
             forms: Vec::new(alloc),
+            by_name: Vec::new(alloc),
             characteristics: Vec::new(alloc),
         }
     }
 
-    /// These forms and characteristics, each in order of their numbers and under names of their own. It takes no memory.
-    pub fn of(forms: Vec<Form>, characteristics: Vec<Characteristic>) -> FormTable
-        requires { AreKept forms.items characteristics.items }
-        ensures forms { result.forms ≡ forms.items }
-        ensures characteristics { result.characteristics ≡ characteristics.items }
+    /// A table of these forms and characteristics, each in order of their numbers and under names of their own. It copies
+    /// them.
+    pub fn of(
+        alloc: Global,
+        forms: &[Form],
+        characteristics: &[Characteristic],
+    ) -> Result<FormTable, AllocError>
+        requires { AreKept forms.now characteristics.now }
+        ensures forms { IfOk result (λ table. table.forms ≡ forms.now) }
+        ensures characteristics { IfOk result (λ table. table.characteristics ≡ characteristics.now) }
     {
-        FormTable {
+        let by_name = by_name(alloc, forms)?;
+        let forms = Vec::from_slice(alloc, forms)?;
+        let characteristics = Vec::from_slice(alloc, characteristics)?;
+        Ok(FormTable {
             forms,
+            by_name,
             characteristics,
-        }
+        })
     }
 
     /// Makes room for one form more. Where there is room it takes no memory, and succeeds.
@@ -75,6 +91,7 @@ impl FormTable {
         ensures no_less { self.old.spare_forms ≤ self.new.spare_forms }
         ensures defined { self.new ≡ record self.old { spare_forms = self.new.spare_forms } }
     {
+        self.by_name.reserve(1)?;
         self.forms.reserve(1)
     }
 
@@ -88,7 +105,7 @@ impl FormTable {
         self.characteristics.reserve(1)
     }
 
-    /// Puts a form in its place by number. There is room for it, and no form has its name or its number.
+    /// Puts a form in its place. There is room for it, and no form has its name or its number.
     pub fn define_form(&mut self, form: Form)
         requires room { 0 < self.old.spare_forms }
         requires free { is_form_taken self.old.forms form ≡ false }
@@ -97,7 +114,11 @@ impl FormTable {
         let Err(place) = place_of_form(&self.forms, form.number) else {
             unreachable!()
         };
+        let Err(place_by_name) = place_of_name(&self.by_name, &form.name) else {
+            unreachable!()
+        };
         put(&mut self.forms, place, form);
+        put(&mut self.by_name, place_by_name, form);
     }
 
     /// Puts a characteristic in its place by number, which is at most 127. There is room for it, and no characteristic has
@@ -123,7 +144,8 @@ impl FormTable {
         ensures forms { self.new ≡ record self.old { forms = without_form name.now self.old.forms; spare_forms = self.new.spare_forms } }
         ensures room { self.new.spare_forms + length self.new.forms ≡ self.old.spare_forms + length self.old.forms }
     {
-        self.forms.retain(|form| form.name != *name);
+        take_out(&mut self.forms, name);
+        take_out(&mut self.by_name, name);
     }
 
     /// Takes out the characteristic of a name. Where there is none, nothing changes. Its room stays.
@@ -142,7 +164,7 @@ impl FormTable {
     pub fn form(&self, wanted: &NameOrNumber) -> Option<&Form>
         ensures { option_copied result ≡ form_wanted wanted.now self.now.forms }
     {
-        find_form(&self.forms, wanted)
+        find_form(&self.forms, &self.by_name, wanted)
     }
 
     /// The characteristic of a name or a number.

@@ -36,6 +36,8 @@ fn forms_are_found(rt: HostRuntime) -> Result<(), Fail> {
     assert!(rt; table.characteristic(&wanted[1]).is_some());
     assert!(rt; table.refused_characteristics(&wanted).is_none());
     assert!(rt; table.set_of(&wanted).contains(5));
+    let copy = FormTable::of(rt.alloc(), table.forms(), &[])?;
+    assert!(rt; copy.form(&wanted[0]).is_some());
     table.delete_form(&other);
     assert!(rt; table.forms().len() == 1);
     table.delete_form(&name);

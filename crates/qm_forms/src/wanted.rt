@@ -1,26 +1,53 @@
 // The forms and characteristics that are asked for, by name or by number.
 ghost use Rattle.std.specs.Prelude.{◌≡◌, ◌≤◌, All};
 ghost use Rattle.std.specs.Option.{option_copied};
-ghost use Rattle.qm_model.specs.Find.{form_wanted, characteristic_wanted, is_form, is_characteristic};
+ghost use Rattle.std.specs.Ordering.{nat_cmp};
+ghost use Rattle.qm_kinds.specs.declared.request.NameOrNumber.TheVariants.{Name as Named, Number};
+ghost use Rattle.qm_model.specs.Consistent.{IsInOrder};
+ghost use Rattle.qm_model.specs.Find.{name_cmp, form_wanted, characteristic_wanted, is_characteristic};
 ghost use Rattle.qm_model.specs.Wanted.{refused_characteristics, set_of};
+ghost use Rattle.qm_forms.specs.Named.{AreByName};
 
-use qm_kinds::{Characteristic, Form, NameOrNumber, Refusal};
+use crate::names::place_of_name;
+use crate::places::place_of_form;
+use qm_kinds::{Characteristic, Form, Name, NameOrNumber, Refusal};
 
-// Whether the form is the one that is wanted.
-fn is_form(wanted: &NameOrNumber, form: &Form) -> bool
-    ensures { result ≡ is_form wanted.now form.now }
+// The form of a name, from the forms in order of their names.
+fn find_named<'a>(by_name: &'a [Form], name: &Name) -> Option<&'a Form>
+    requires { IsInOrder name_cmp (λ f. f.name) by_name.now }
+    ensures { option_copied result ≡ form_wanted (Named name.now) by_name.now }
 {
-    match wanted {
-        NameOrNumber::Name(name) => form.name == *name,
-        NameOrNumber::Number(number) => form.number == *number,
-    }
+    let Ok(place) = place_of_name(by_name, name) else {
+        return None;
+    };
+    Some(&by_name[place])
 }
 
-/// The form that is wanted.
-pub(crate) fn find_form<'a>(forms: &'a [Form], wanted: &NameOrNumber) -> Option<&'a Form>
+// The form of a number, from the forms in order of their numbers.
+fn find_numbered(forms: &[Form], number: u16) -> Option<&Form>
+    requires { IsInOrder nat_cmp (λ f. f.number) forms.now }
+    ensures { option_copied result ≡ form_wanted (Number number) forms.now }
+{
+    let Ok(place) = place_of_form(forms, number) else {
+        return None;
+    };
+    Some(&forms[place])
+}
+
+/// The form that is wanted, by name or by number. It asks a logarithm of the forms.
+pub(crate) fn find_form<'a>(
+    forms: &'a [Form],
+    by_name: &'a [Form],
+    wanted: &NameOrNumber,
+) -> Option<&'a Form>
+    requires numbers { IsInOrder nat_cmp (λ f. f.number) forms.now }
+    requires names { AreByName forms.now by_name.now }
     ensures { option_copied result ≡ form_wanted wanted.now forms.now }
 {
-    forms.iter().find(|form| is_form(wanted, form))
+    match wanted {
+        NameOrNumber::Name(name) => find_named(by_name, name),
+        NameOrNumber::Number(number) => find_numbered(forms, *number),
+    }
 }
 
 // Whether the characteristic is the one that is wanted.

@@ -25,12 +25,14 @@ pub invariant_of-self : goal.invariant_of-self
 invariant_of-self c =
     let belongs : BelongsAt nat_cmp number_of c.args.characteristic.number c.self.inside.characteristics.items c.in-Err.place = rw c.deref.ensures.value at c.in-Err.ensures in
     let unused : is_characteristic_taken c.self.inside.characteristics.items c.args.characteristic ≡ false = ap (λ (w : Defined). is_characteristic_taken w.characteristics c.args.characteristic) c.self.view_is ∙ c.requires.free in
-    let free = (or_false _ _ unused).0 in
-    record {
-      forms_stand = c.self.invariant.forms_stand;
-      characteristics_stand = rw c.put.ensures.items (numbered_put number_of name_of c.self.inside.characteristics.items c.args.characteristic c.in-Err.place c.self.invariant.characteristics_stand belongs free);
-      small = rw c.put.ensures.items (small_put c.self.inside.characteristics.items c.args.characteristic c.in-Err.place c.self.invariant.small c.requires.small);
-    }
+    let free = (or_false _ _ unused).0 in (
+      record {
+        forms_stand = c.self.invariant.0.forms_stand;
+        characteristics_stand = rw c.put.ensures.items (numbered_put number_of name_of c.self.inside.characteristics.items c.args.characteristic c.in-Err.place c.self.invariant.0.characteristics_stand belongs free);
+        small = rw c.put.ensures.items (small_put c.self.inside.characteristics.items c.args.characteristic c.in-Err.place c.self.invariant.0.small c.requires.small);
+      },
+      c.self.invariant.1,
+    )
 
 pub returns : goal.returns
 returns c =

@@ -1,11 +1,13 @@
 use Rattle.std.proofs.Common.{◌≡◌, ◌∙◌, ℕ, List, false, ap, arith}
 use Rattle.std.specs.Ordering.{nat_cmp}
 use Rattle.qm_kinds.specs.declared.form.Form.{Form}
+use Rattle.qm_model.specs.Find.{name_cmp}
 use Rattle.qm_model.specs.Forms.{is_form_taken}
 use Rattle.qm_model.specs.Inserting.{with_form}
 use Rattle.qm_keyed.specs.Places.{StandsAt, BelongsAt}
 use Rattle.qm_forms.specs.Forms.{Defined}
 use Rattle.qm_forms.proofs.Rows.{or_false, untaken, put_is, numbered_put, defined_is}
+use Rattle.qm_forms.proofs.Kept.{unused, by_name_put}
 use Rattle.qm_forms.proofs.table.FormTable.define_form.Goals as goal
 
 abbrev number_of : Form → ℕ
@@ -21,16 +23,26 @@ unreachable-requires c =
     let free : is_form_taken c.self.inside.forms.items c.args.form ≡ false = ap (λ (w : Defined). is_form_taken w.forms c.args.form) c.self.view_is ∙ c.requires.free in
     untaken number_of name_of c.self.inside.forms.items c.args.form c.in_default.field-0 stands (or_false _ _ free).1
 
+-- and no form has the name
+pub unreachable-requires-in_default-place_of_name : goal.unreachable-requires-in_default-place_of_name
+unreachable-requires-in_default-place_of_name c =
+    let stands : StandsAt name_cmp name_of c.args.form.name c.self.inside.by_name.items c.in_default-place_of_name.field-0 = rw c.deref-2.ensures.value at c.in_default-place_of_name.ensures in
+    let free : is_form_taken c.self.inside.forms.items c.args.form ≡ false = ap (λ (w : Defined). is_form_taken w.forms c.args.form) c.self.view_is ∙ c.requires.free in
+    unused c.self.inside.forms.items c.self.inside.by_name.items c.args.form c.in_default-place_of_name.field-0 c.self.invariant.1 stands (or_false _ _ free).0
+
 pub invariant_of-self : goal.invariant_of-self
 invariant_of-self c =
     let belongs : BelongsAt nat_cmp number_of c.args.form.number c.self.inside.forms.items c.in-Err.place = rw c.deref.ensures.value at c.in-Err.ensures in
-    let unused : is_form_taken c.self.inside.forms.items c.args.form ≡ false = ap (λ (w : Defined). is_form_taken w.forms c.args.form) c.self.view_is ∙ c.requires.free in
-    let free = (or_false _ _ unused).0 in
-    record {
-      forms_stand = rw c.put.ensures.items (numbered_put number_of name_of c.self.inside.forms.items c.args.form c.in-Err.place c.self.invariant.forms_stand belongs free);
-      characteristics_stand = c.self.invariant.characteristics_stand;
-      small = c.self.invariant.small;
-    }
+    let named : BelongsAt name_cmp name_of c.args.form.name c.self.inside.by_name.items c.in-Err-place_of_name.place_by_name = rw c.deref-2.ensures.value at c.in-Err-place_of_name.ensures in
+    let free_of : is_form_taken c.self.inside.forms.items c.args.form ≡ false = ap (λ (w : Defined). is_form_taken w.forms c.args.form) c.self.view_is ∙ c.requires.free in
+    let free = (or_false _ _ free_of).0 in (
+      record {
+        forms_stand = rw c.put.ensures.items (numbered_put number_of name_of c.self.inside.forms.items c.args.form c.in-Err.place c.self.invariant.0.forms_stand belongs free);
+        characteristics_stand = c.self.invariant.0.characteristics_stand;
+        small = c.self.invariant.0.small;
+      },
+      rw (c.put.ensures.items, c.put-2.ensures.items) (by_name_put c.self.inside.forms.items c.self.inside.by_name.items c.args.form c.in-Err.place c.in-Err-place_of_name.place_by_name c.self.invariant.1 belongs.within named),
+    )
 
 pub returns : goal.returns
 returns c =

@@ -9,12 +9,14 @@ use Rattle.qm_forms.proofs.table.FormTable.delete_characteristic.Goals as goal
 
 pub invariant_of-self : goal.invariant_of-self
 invariant_of-self c =
-    let rows : c.retain.new.self.items ≡ without_characteristic c.args.name.now c.self.inside.characteristics.items = filter_same _ _ _ (λ x b f' k. search rules) _ _ c.retain.ensures.filtered in
-    record {
-      forms_stand = c.self.invariant.forms_stand;
-      characteristics_stand = rw rows (numbered_kept (λ (c : Characteristic). c.number) (λ (c : Characteristic). c.name) (λ (d : Characteristic). not (bytes_eq d.name c.args.name.now)) c.self.inside.characteristics.items c.self.invariant.characteristics_stand);
-      small = rw rows (All-filter (λ (d : Characteristic). not (bytes_eq d.name c.args.name.now)) (λ (c : Characteristic). c.number ≤ 127) c.self.inside.characteristics.items c.self.invariant.small);
-    }
+    let rows : c.retain.new.self.items ≡ without_characteristic c.args.name.now c.self.inside.characteristics.items = filter_same _ _ _ (λ x b f' k. search rules) _ _ c.retain.ensures.filtered in (
+      record {
+        forms_stand = c.self.invariant.0.forms_stand;
+        characteristics_stand = rw rows (numbered_kept (λ (c : Characteristic). c.number) (λ (c : Characteristic). c.name) (λ (d : Characteristic). not (bytes_eq d.name c.args.name.now)) c.self.inside.characteristics.items c.self.invariant.0.characteristics_stand);
+        small = rw rows (All-filter (λ (d : Characteristic). not (bytes_eq d.name c.args.name.now)) (λ (c : Characteristic). c.number ≤ 127) c.self.inside.characteristics.items c.self.invariant.0.small);
+      },
+      c.self.invariant.1,
+    )
 
 pub returns-clause-characteristics : goal.returns-clause-characteristics
 returns-clause-characteristics c =
