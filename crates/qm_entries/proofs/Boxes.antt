@@ -4,7 +4,7 @@ use Rattle.std.specs.List.{filter, remove, slice_get}
 use Rattle.std.specs.Prelude.{Box}
 use Rattle.std.specs.Box.{with_value}
 use Rattle.std.proofs.lemmas.List.Edits.{map_over_more}
-use Rattle.std.proofs.lemmas.List.{map-append, map-set, map_push, take-map, drop-map, get_or-map, length-map}
+use Rattle.std.proofs.lemmas.List.{map-append, map-set, map_push, take-map, drop-map, get_or-map, get_or_at, length-map, length-take-le, drop_more}
 use Rattle.qm_entries.specs.Boxed.{contents}
 
 module _ {X Z : Type 0} (test : X → Bool) where
@@ -54,6 +54,19 @@ module _ {X Z : Type 0} where
         contents_set i (with_value (get_or boxes i b) y)
         ∙ ap (set (contents boxes) i) (changed ∙ ap change is)
         ∙ map_over_more change (contents boxes₀) (contents boxes) i b.value (omega (arith, within, size)) before (ap value_of read ∙ sym (get_or-map value_of boxes i b b.value (omega (arith, within, same))))
+
+    -- the value that such a loop reads is the one that was there
+    pub read_unchanged : (change : X → X) (boxes₀ : List (Box X Z)) (i : ℕ) (b : Box X Z) (x : X) → i < length boxes₀ → length boxes ≡ length boxes₀
+        → contents boxes ≡ map change (take i (contents boxes₀)) ++ drop i (contents boxes₀) → b ≡ get_or boxes i b → x ≡ b.value → get_or (contents boxes₀) i x ≡ x
+    read_unchanged change boxes₀ i b x within same before read is =
+        let size = length-map boxes₀ value_of in
+        let front = map change (take i (contents boxes₀)) in
+        let long : length front ≡ i = length-map (take i (contents boxes₀)) change ∙ length-take-le i (contents boxes₀) (omega (arith, within, size)) in
+        let parts : contents boxes ≡ front ++ get_or (contents boxes₀) i x ∷ drop (i + 1) (contents boxes₀) =
+        before ∙ ap (λ (rest : List X). front ++ rest) (drop_more (contents boxes₀) i x (omega (arith, within, size))) in
+        let there : get_or (contents boxes) i x ≡ x =
+        get_or-map value_of boxes i b x (omega (arith, within, same)) ∙ ap value_of (sym read) ∙ sym is in
+        sym (get_or_at front _ _ x i long) ∙ ap (λ (xs : List X). get_or xs i x) (sym parts) ∙ there
 
     -- a value that was read is written back changed
     pub contents_changed : (change : X → X) (i : ℕ) (b : Box X Z) (x : X) → i < length boxes → b ≡ get_or boxes i b → x ≡ b.value → (d : X) → contents (set boxes i (with_value b (change x))) ≡ set (contents boxes) i (change (get_or (contents boxes) i d))

@@ -10,6 +10,7 @@ use Rattle.std.proofs.lemmas.List.Kept.{AllPairs-filter}
 use Rattle.qm_kinds.specs.declared.entry.Entry.{Entry}
 use Rattle.qm_model.specs.Consistent.{IsInOrder}
 use Rattle.qm_model.specs.Find.{entry_numbered}
+use Rattle.qm_model.specs.Merging.{moved_to, waits_in}
 use Rattle.qm_model.specs.Standing.{with_entry}
 use Rattle.qm_keyed.specs.Places.{StandsAt, BelongsAt}
 use Rattle.qm_keyed.proofs.Rows.{PassesAt, passes, fails, find_at, find_is, find_none, filter_at, map_at, lesser_is, next_behind, next_from}
@@ -116,3 +117,11 @@ number_stays (State state) e = refl
 number_stays (Mark mark) e = refl
 number_stays Again e = refl
 number_stays (Home home) e = refl
+
+-- nor does a merge of queues
+number_stays_at : (b : Bool) (to : List ℕ) (e : Entry) → (cond b (record e { home = to }) e).number ≡ e.number
+number_stays_at true to e = refl
+number_stays_at false to e = refl
+
+pub number_stays_moved : (to from : List ℕ) (e : Entry) → (moved_to to from e).number ≡ e.number
+number_stays_moved to from e = number_stays_at (waits_in from e) to e

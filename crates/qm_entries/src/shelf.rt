@@ -1,8 +1,9 @@
 // Entries in boxes, one behind the other.
-ghost use Rattle.std.specs.Prelude.{◌≡◌, ◌≤◌, ◌<◌, ◌+◌, ◌-◌, ◌++◌, ◌∷◌, [], IsSome, None, Some, OnOk, length, not, map, filter, drop, vec_len, vec_capacity, slice_set, slice_get, slice_index_or, remove};
+ghost use Rattle.std.specs.Prelude.{◌≡◌, ◌≤◌, ◌<◌, ◌+◌, ◌-◌, ◌++◌, ◌∷◌, [], IsSome, None, Some, OnOk, length, not, map, filter, count_by, drop, vec_len, vec_capacity, slice_set, slice_get, slice_index_or, remove};
 ghost use Rattle.std.specs.Str.{bytes_eq};
 ghost use Rattle.qm_kinds.specs.declared.entry.Entry.{Entry as AnyEntry};
 ghost use Rattle.qm_model.specs.Due.{is_over, entry_at};
+ghost use Rattle.qm_model.specs.Merging.{moved_to, waits_in};
 ghost use Rattle.qm_entries.specs.Boxed.{contents};
 ghost use Rattle.qm_entries.specs.Changes.{changed_by};
 
@@ -131,6 +132,16 @@ impl Shelf {
     {
         free_gone(&mut self.boxes, &mut self.gone);
         sweep::wake(self.boxes.as_mut_slice(), now);
+    }
+
+    /// Gives each job that waits in a queue another home, and tells how many there were.
+    pub(crate) fn merge(&mut self, to: &Name, from: &Name) -> usize
+        ensures entries { self.new.entries ≡ map (moved_to to.now from.now) self.old.entries }
+        ensures moved { result ≡ count_by (waits_in from.now) self.old.entries }
+        ensures room { self.old.room ≤ self.new.room }
+    {
+        free_gone(&mut self.boxes, &mut self.gone);
+        sweep::merge(self.boxes.as_mut_slice(), to, from)
     }
 }
 

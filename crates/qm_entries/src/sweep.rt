@@ -1,8 +1,10 @@
-// Entries in boxes that a moment, or the end of their queue, changes or takes away: one pass each, which moves no entry
-// and takes no memory.
-ghost use Rattle.std.specs.Prelude.{◌≡◌, ◌≤◌, not, map, filter, vec_len, vec_capacity};
+// Entries in boxes that a moment, a merge of queues or the end of their queue changes or takes away: one pass each, which
+// moves no entry and takes no memory.
+ghost use Rattle.std.specs.Prelude.{◌≡◌, ◌≤◌, not, map, filter, count_by, vec_len, vec_capacity};
 ghost use Rattle.std.specs.Str.{bytes_eq};
 ghost use Rattle.qm_model.specs.Due.{state_at, is_over, entry_at};
+ghost use Rattle.qm_model.specs.JobStates.{is_waiting};
+ghost use Rattle.qm_model.specs.Merging.{moved_to, waits_in};
 ghost use Rattle.qm_entries.specs.Boxed.{contents};
 
 use qm_kinds::{Entry, EntryState, Moment, Name};
@@ -37,6 +39,28 @@ fn wake_one(now: Moment, entry: &mut Entry)
     entry.state = state_at(now, &entry.state);
 }
 
+// Whether a job in this state waits: for its start, for its release or for its moment.
+fn is_waiting(state: &EntryState) -> bool
+    ensures { result ≡ is_waiting state.now }
+{
+    matches!(
+        *state,
+        EntryState::Pending | EntryState::Holding | EntryState::Timed { .. }
+    )
+}
+
+// Gives the job another home, if it waits in this queue, and says whether it does.
+fn merge_one(entry: &mut Entry, to: &Name, from: &Name) -> bool
+    ensures waits { result ≡ waits_in from.now entry.old }
+    ensures entry { entry.new ≡ moved_to to.now from.now entry.old }
+{
+    if !is_waiting(&entry.state) || entry.home != *from {
+        return false;
+    }
+    entry.home = *to;
+    true
+}
+
 /// Takes out the entries whose time is up, and frees their boxes.
 pub(crate) fn remove_over(boxes: &mut Vec<Box<Entry>>, now: Moment)
     ensures contents { contents boxes.new.items ≡ filter (λ e. not (is_over now e.state)) (contents boxes.old.items) }
@@ -62,4 +86,18 @@ pub(crate) fn wake(boxes: &mut [Box<Entry>], now: Moment)
     for entry in boxes.iter_mut() {
         wake_one(now, entry.as_mut());
     }
+}
+
+/// Gives each job that waits in a queue another home, and tells how many there were.
+pub(crate) fn merge(boxes: &mut [Box<Entry>], to: &Name, from: &Name) -> usize
+    ensures contents { contents boxes.new ≡ map (moved_to to.now from.now) (contents boxes.old) }
+    ensures moved { result ≡ count_by (waits_in from.now) (contents boxes.old) }
+{
+    let mut moved = 0;
+    for entry in boxes.iter_mut() {
+        if merge_one(entry.as_mut(), to, from) {
+            moved += 1;
+        }
+    }
+    moved
 }

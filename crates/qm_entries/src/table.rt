@@ -1,11 +1,12 @@
 // The entries in order of their numbers.
-ghost use Rattle.std.specs.Prelude.{◌≡◌, ◌+◌, ◌-◌, ◌<◌, ◌≤◌, ◌++◌, ◌∷◌, [], All, length, not, map, filter, is_some, Some, None, true, OnErr, OnOk};
+ghost use Rattle.std.specs.Prelude.{◌≡◌, ◌+◌, ◌-◌, ◌<◌, ◌≤◌, ◌++◌, ◌∷◌, [], All, length, not, map, filter, count_by, is_some, Some, None, true, OnErr, OnOk};
 ghost use Rattle.std.specs.Option.{option_copied};
 ghost use Rattle.std.specs.Ordering.{nat_cmp};
 ghost use Rattle.std.specs.Str.{bytes_eq};
 ghost use Rattle.qm_model.specs.Consistent.{IsInOrder};
 ghost use Rattle.qm_model.specs.Due.{is_over, entry_at};
 ghost use Rattle.qm_model.specs.Find.{entry_numbered};
+ghost use Rattle.qm_model.specs.Merging.{moved_to, waits_in};
 ghost use Rattle.qm_model.specs.Standing.{with_entry};
 ghost use Rattle.qm_entries.specs.Boxed.{contents};
 ghost use Rattle.qm_entries.specs.Entries.{entry_after};
@@ -190,6 +191,15 @@ impl EntryTable {
         ensures { self.new ≡ record self.old { entries = map (entry_at now) self.old.entries } }
     {
         self.shelf.wake(now);
+    }
+
+    /// Gives each job that waits in the queue `from` the home `to`, and tells how many there were. It looks at each entry
+    /// once.
+    pub fn merge(&mut self, to: &Name, from: &Name) -> usize
+        ensures entries { self.new ≡ record self.old { entries = map (moved_to to.now from.now) self.old.entries } }
+        ensures moved { result ≡ count_by (waits_in from.now) self.old.entries }
+    {
+        self.shelf.merge(to, from)
     }
 
     /// Takes out the entries that have this queue as their home. It looks at each entry once.

@@ -67,7 +67,7 @@ fn first_entries_go_while_others_come(rt: HostRuntime) -> Result<(), Fail> {
 }
 
 #[test]
-fn a_moment_and_the_end_of_a_queue_sweep_the_entries(rt: HostRuntime) -> Result<(), Fail> {
+fn a_moment_a_merge_and_the_end_of_a_queue_sweep_the_entries(rt: HostRuntime) -> Result<(), Fail> {
     let due = Moment::BASE;
     let mut table = EntryTable::new(rt.alloc());
     table.reserve()?;
@@ -87,9 +87,10 @@ fn a_moment_and_the_end_of_a_queue_sweep_the_entries(rt: HostRuntime) -> Result<
     table.wake(due);
     assert!(rt; table.get(1).map(|entry| entry.state) == Some(EntryState::Pending));
     assert!(rt; table.as_slice().len() == 1);
-    table.remove_of_home(&print_queue());
-    assert!(rt; table.as_slice().len() == 1);
+    assert!(rt; table.merge(&print_queue(), &system_user()) == 1);
     table.remove_of_home(&system_user());
+    assert!(rt; table.as_slice().len() == 1);
+    table.remove_of_home(&print_queue());
     assert!(rt; table.as_slice().is_empty());
     Ok(())
 }

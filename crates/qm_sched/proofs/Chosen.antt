@@ -59,11 +59,16 @@ homeless_fits_nowhere s e q there none =
     let away : is_reached s e q ≡ false = rw (apart, none) refl in
     unreached (is_pending e.state) (is_of_kind e q) (is_open s q) (is_reached s e q) (has_characteristics e q) (has_stock s e q) (has_size e q) away
 
-waiting : (a b c d e f g : Bool) → a ≡ false → (a && b && c && d && e && f && g) ≡ false
-waiting a b c d e f g is = ap (λ x. x && b && c && d && e && f && g) is
+-- a job that doesn't suit a queue by what the two hold alone doesn't fit it
+unsuited : (a b c d e f g : Bool) → (a && b && e) ≡ false → (a && b && c && d && e && f && g) ≡ false
+unsuited false b c d e f g is = refl
+unsuited true false c d e f g is = refl
+unsuited true true false d e f g is = refl
+unsuited true true true false e f g is = refl
+unsuited true true true true e f g is = ap (λ x. x && f && g) is
 
-pub waiting_fits_nowhere : (s : System) (e : Entry) (q : Queue) → is_pending e.state ≡ false → fits s e q ≡ false
-waiting_fits_nowhere s e q is = waiting (is_pending e.state) (is_of_kind e q) (is_open s q) (is_reached s e q) (has_characteristics e q) (has_stock s e q) (has_size e q) is
+pub unsuited_fits_nowhere : (s : System) (e : Entry) (q : Queue) → (is_pending e.state && is_of_kind e q && has_characteristics e q) ≡ false → fits s e q ≡ false
+unsuited_fits_nowhere s e q is = unsuited (is_pending e.state) (is_of_kind e q) (is_open s q) (is_reached s e q) (has_characteristics e q) (has_stock s e q) (has_size e q) is
 
 -- a job fits no queue that isn't started, or whose node isn't up
 closed : (a b c d e f g : Bool) → c ≡ false → (a && b && c && d && e && f && g) ≡ false
@@ -123,6 +128,10 @@ first_pushed : (q : Queue) (es : List Entry) (e : Entry) → first_of q (es ++ e
 first_pushed q [] e = refl
 first_pushed q (x ∷ es) e = ap (λ (a : Entry). Some a) (fold_push (earlier q) x es e) ∙ taken (before q e (fold (earlier q) x es)) e (fold (earlier q) x es)
 
+either_way : (b : Bool) (o : Option Entry) → cond b o o ≡ o
+either_way true o = refl
+either_way false o = refl
+
 passed : (q : Queue) (b : Bool) (es : List Entry) (e : Entry) → first_of q (es ++ cond b (e ∷ []) []) ≡ cond b (first_with q e (first_of q es)) (first_of q es)
 passed q true es e = first_pushed q es e
 passed q false es e = ap (first_of q) (append-nil es)
@@ -141,8 +150,9 @@ module _ (q : Queue) (p : Entry → Bool) (es : List Entry) (i : ℕ) (e : Entry
   pub taken_now : p e ≡ true → option_map_or (before q e) o true ≡ true → Some e ≡ first_of q (filter p (take (i + 1) es))
   taken_now fit wins = sym (from_known ∙ ap (λ b. cond b (first_with q e o) o) fit ∙ ap (λ b. cond b (Some e) o) wins)
 
-  pub kept_before : p e ≡ true → option_map_or (before q e) o true ≡ false → o ≡ first_of q (filter p (take (i + 1) es))
-  kept_before fit loses = sym (from_known ∙ ap (λ b. cond b (first_with q e o) o) fit ∙ ap (λ b. cond b (Some e) o) loses)
+  -- a job that doesn't come before the first one so far leaves it, whether it fits or not
+  pub kept_before : option_map_or (before q e) o true ≡ false → o ≡ first_of q (filter p (take (i + 1) es))
+  kept_before loses = sym (from_known ∙ ap (λ b. cond (p e) (cond b (Some e) o) o) loses ∙ either_way (p e) o)
 
   pub kept_unfit : p e ≡ false → o ≡ first_of q (filter p (take (i + 1) es))
   kept_unfit unfit = sym (from_known ∙ ap (λ b. cond b (first_with q e o) o) unfit)

@@ -1,4 +1,4 @@
--- What a moment makes of entries, and what goes with a queue, leaves the runs.
+-- What a moment and a merge of queues make of entries, and what goes with a queue, leaves the runs.
 use Rattle.std.proofs.Common.{◌≡◌, ◌∙◌, ℕ, Bool, true, false, not, ◌&&◌, ◌||◌, cond, List, [], ◌∷◌, count_by, filter, find, map, nat_le, Option, None, Some, refl, sym, ap}
 use Rattle.std.specs.Option.{option_map_or}
 use Rattle.std.specs.Str.{bytes_eq}
@@ -8,6 +8,7 @@ use Rattle.qm_kinds.specs.declared.entry.EntryState.TheVariants.{Pending, Holdin
 use Rattle.qm_kinds.specs.declared.run.Run.{Run}
 use Rattle.qm_model.specs.Due.{state_at, is_over, entry_at}
 use Rattle.qm_model.specs.JobStates.{run_of}
+use Rattle.qm_model.specs.Merging.{moved_to, waits_in}
 use Rattle.qm_model.specs.Queues.{runs_for}
 use Rattle.qm_model.specs.Standing.{is_executing, occupies}
 use Rattle.qm_sched.specs.Mirror.{Mirrors, run_in_state, run_of_entry, runs_of}
@@ -65,6 +66,17 @@ runs_at now [] = refl
 runs_at now (e ∷ es) =
     runs_cons (entry_at now e) (map (entry_at now) es) ∙ ap (λ o. with_one o (runs_of (map (entry_at now) es))) (run_at now e.number e.state)
     ∙ ap (with_one (run_of_entry e)) (runs_at now es) ∙ sym (runs_cons e es)
+
+-- a merge of queues leaves each run: it changes no number and no state
+run_moved_at : (b : Bool) (to : List ℕ) (e : Entry) → run_of_entry (cond b (record e { home = to }) e) ≡ run_of_entry e
+run_moved_at true to e = refl
+run_moved_at false to e = refl
+
+pub runs_moved : (to from : List ℕ) (es : List Entry) → runs_of (map (moved_to to from) es) ≡ runs_of es
+runs_moved to from [] = refl
+runs_moved to from (e ∷ es) =
+    runs_cons (moved_to to from e) (map (moved_to to from) es) ∙ ap (λ o. with_one o (runs_of (map (moved_to to from) es))) (run_moved_at (waits_in from e) to e)
+    ∙ ap (with_one (run_of_entry e)) (runs_moved to from es) ∙ sym (runs_cons e es)
 
 -- no entry of a queue for which none runs has a run
 idle_without_run : (n : ℕ) (state : EntryState) → option_map_or (λ run. true) (run_of state) false ≡ false → run_in_state n state ≡ None

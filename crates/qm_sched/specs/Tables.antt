@@ -7,7 +7,8 @@ use Rattle.qm_kinds.specs.declared.queue.Queue.{Queue}
 use Rattle.qm_kinds.specs.declared.system.Node.{Node}
 use Rattle.qm_kinds.specs.declared.system.System.{System}
 
--- the queues by name, the entries by number, the number of the next run, and how many more of each have room
+-- the forms, the characteristics and the entries by number, the queues by name, the number of the next run, and how many more of each
+-- have room
 pub record Tables : Type 0 where
   pub nodes : List Node
   pub forms : List Form
@@ -15,6 +16,8 @@ pub record Tables : Type 0 where
   pub queues : List Queue
   pub entries : List Entry
   pub next_run : ℕ
+  pub spare_forms : ℕ
+  pub spare_characteristics : ℕ
   pub spare_queues : ℕ
   pub spare_entries : ℕ
   pub spare_runs : ℕ

@@ -5,6 +5,8 @@
 mod choosing;
 mod entries;
 mod fates;
+mod fitting;
+mod forms;
 mod laws;
 mod parts;
 mod queues;

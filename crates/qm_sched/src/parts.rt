@@ -18,7 +18,7 @@ use std::marker::Model;
 
 /// Nodes, forms, characteristics, queues, entries and runs. Contracts see `Tables`: each of the lists but that of the
 /// runs, which are just those of the entries that run or are aborting, the number of the next run, and how many more
-/// queues, entries and runs have room.
+/// forms, characteristics, queues, entries and runs have room.
 ///
 /// Only the calls named `reserve_..` take memory.
 #[derive(Drop)]
@@ -43,6 +43,8 @@ impl Model for Parts {
       queues = p.queues.queues;
       entries = p.entries.entries;
       next_run = p.runs.next;
+      spare_forms = p.forms.spare_forms;
+      spare_characteristics = p.forms.spare_characteristics;
       spare_queues = p.queues.spare;
       spare_entries = p.entries.spare;
       spare_runs = p.runs.spare;
@@ -67,6 +69,8 @@ impl Parts {
           queues = queues.queues;
           entries = [];
           next_run = next_run;
+          spare_forms = forms.spare_forms;
+          spare_characteristics = forms.spare_characteristics;
           spare_queues = queues.spare;
           spare_entries = 0;
           spare_runs = 0;

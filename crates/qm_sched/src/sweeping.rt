@@ -1,7 +1,8 @@
-// What a moment makes of entries, and what goes with a queue. It concerns no entry that has a run.
-ghost use Rattle.std.specs.Prelude.{◌≡◌, not, map, filter, find, None};
+// What a moment and a merge of queues make of entries, and what goes with a queue. It concerns no entry that has a run.
+ghost use Rattle.std.specs.Prelude.{◌≡◌, not, map, filter, find, count_by, None};
 ghost use Rattle.std.specs.Str.{bytes_eq};
 ghost use Rattle.qm_model.specs.Due.{is_over, entry_at};
+ghost use Rattle.qm_model.specs.Merging.{moved_to, waits_in};
 ghost use Rattle.qm_model.specs.Queues.{runs_for};
 
 use crate::parts::Parts;
@@ -20,6 +21,15 @@ impl Parts {
         ensures { self.new ≡ record self.old { entries = map (entry_at now) self.old.entries } }
     {
         self.entries.wake(now);
+    }
+
+    /// Gives each job that waits in the queue `from` the home `to`, and tells how many there were. It looks at each entry
+    /// once.
+    pub fn merge(&mut self, to: &Name, from: &Name) -> usize
+        ensures entries { self.new ≡ record self.old { entries = map (moved_to to.now from.now) self.old.entries } }
+        ensures moved { result ≡ count_by (waits_in from.now) self.old.entries }
+    {
+        self.entries.merge(to, from)
     }
 
     /// Takes out the entries that have this queue as their home, none of which has a run. It looks at each entry once.

@@ -5,8 +5,8 @@ ghost use Rattle.qm_kinds.specs.Names.{system_user};
 
 use qm_forms::FormTable;
 use qm_kinds::{
-    CharacteristicSet, Entry, EntryState, Fate, FileName, JobKind, JobRetain, Mark, Queue,
-    QueueKind, QueueRetain, QueueState, Seq, batch_queue, system_user,
+    Characteristic, CharacteristicSet, Entry, EntryState, Fate, FileName, JobKind, JobRetain, Mark,
+    Queue, QueueKind, QueueRetain, QueueState, Seq, batch_queue, system_user,
 };
 use qm_queues::QueueTable;
 use qm_sched::Parts;
@@ -64,7 +64,7 @@ fn pending_job(number: u32) -> Entry
     }
 }
 
-// A queue, and a job that runs in it as run 1.
+// A characteristic, a queue, and a job that runs in it as run 1.
 fn with_a_run(alloc: Global) -> Result<Parts, AllocError> {
     let mut parts = Parts::new(
         alloc,
@@ -73,6 +73,11 @@ fn with_a_run(alloc: Global) -> Result<Parts, AllocError> {
         QueueTable::new(alloc),
         1,
     );
+    parts.reserve_characteristic()?;
+    parts.define_characteristic(Characteristic {
+        name: batch_queue(),
+        number: 127,
+    });
     parts.reserve_queue()?;
     parts.put_queue(started_queue(alloc));
     parts.reserve_runs(1)?;
@@ -85,13 +90,15 @@ fn with_a_run(alloc: Global) -> Result<Parts, AllocError> {
 #[test]
 fn a_job_runs(rt: HostRuntime) -> Result<(), Fail> {
     let (name, node) = (batch_queue(), system_user());
-    let parts = with_a_run(rt.alloc())?;
+    let mut parts = with_a_run(rt.alloc())?;
     assert!(rt; parts.next_run() == 2);
     assert!(rt; parts.has_run(1));
     assert!(rt; parts.places_taken(&name) == 1);
     assert!(rt; parts.entry_of_run(1, &node).is_some());
     assert!(rt; parts.running_in(&name, None).is_some());
     assert!(rt; parts.first_run_for(&name) == Some(7));
+    // A job that runs isn't moved.
+    assert!(rt; parts.merge(&node, &name) == 0);
     Ok(())
 }
 

@@ -12,8 +12,8 @@ use qm_sched::{Parts, settle, starts_are_few};
 use std::alloc::{AllocError, Global};
 use std::test::Fail;
 
-// A started batch queue with places for two jobs.
-fn queue(alloc: Global, node: Name) -> Queue {
+/// A started batch queue with places for two jobs.
+pub(crate) fn queue(alloc: Global, node: Name) -> Queue {
     Queue {
         name: batch_queue(),
         kind: QueueKind::Batch,
@@ -31,7 +31,8 @@ fn queue(alloc: Global, node: Name) -> Queue {
     }
 }
 
-fn job(number: u32, priority: u8) -> Entry
+/// A pending batch job.
+pub(crate) fn job(number: u32, priority: u8) -> Entry
     ensures number { result.number ≡ number }
     ensures state { result.state ≡ Pending }
 {
@@ -61,8 +62,8 @@ fn job(number: u32, priority: u8) -> Entry
     }
 }
 
-// Takes memory for all the starts that there can be, and settles.
-fn settle_all(alloc: Global, parts: &mut Parts) -> Result<Vec<Start>, AllocError> {
+/// Takes memory for all the starts that there can be, and settles.
+pub(crate) fn settle_all(alloc: Global, parts: &mut Parts) -> Result<Vec<Start>, AllocError> {
     let count = parts.entry_count();
     parts.reserve_runs(count)?;
     let mut out = Vec::new(alloc);

@@ -8,7 +8,7 @@ use Rattle.qm_entries.specs.Boxed.{contents}
 use Rattle.qm_sched.specs.Tables.{with_tables}
 use Rattle.qm_sched.proofs.Chosen.{taken_now, kept_before, kept_unfit}
 use Rattle.qm_sched.proofs.choosing.first_of.Goals as goal
-use Rattle.qm_sched.proofs.choosing.first_of.Goals.{then-can_run+then-comes_first, else-can_run, else-can_run-via-then-can_run+else-comes_first, else-can_run-via-else-can_run}
+use Rattle.qm_sched.proofs.choosing.first_of.Goals.{then-comes_first+then-can_run, else-comes_first, else-comes_first-via-then-comes_first+else-can_run, else-comes_first-via-else-comes_first}
 
 pub loop-boxed-preserved : goal.loop-boxed-preserved
 loop-boxed-preserved c s =
@@ -22,15 +22,14 @@ loop-boxed-preserved c s =
     get_or-map (λ b. b.value) c.args.entries.now i c.boxed-item.result e c.loop-boxed-test.true ∙ ap (λ b. b.value) (sym c.boxed-item.is) ∙ sym c.as_ref-entry.ensures in
     let known = c.loop-boxed.invariant s in
     let o : Option Entry = option_copied c.loop-boxed.first in
-    elim c.if-can_run.branch [
-      | then-can_run+then-comes_first w ↦
+    elim c.if-comes_first.branch [
+      | then-comes_first+then-can_run w ↦
           ap option_copied w.first-is
-          ∙ taken_now q p es i e o within is known (sym (c.can_run.ensures s) ∙ w.if-can_run.true) (sym w.comes_first.ensures ∙ w.if-comes_first.true)
-      | else-can_run w ↦
-          ap option_copied w.first-is ∙ elim w.else-can_run.branch [
-            | else-can_run-via-then-can_run+else-comes_first w' ↦
-                kept_before q p es i e o within is known (sym (c.can_run.ensures s) ∙ w'.if-can_run.true) (sym w'.comes_first.ensures ∙ w'.if-comes_first.false)
-            | else-can_run-via-else-can_run w' ↦ kept_unfit q p es i e o within is known (sym (c.can_run.ensures s) ∙ w'.if-can_run.false)
+          ∙ taken_now q p es i e o within is known (sym (w.can_run.ensures s) ∙ w.if-can_run.true) (sym c.comes_first.ensures ∙ w.if-comes_first.true)
+      | else-comes_first w ↦
+          ap option_copied w.first-is ∙ elim w.else-comes_first.branch [
+            | else-comes_first-via-then-comes_first+else-can_run w' ↦ kept_unfit q p es i e o within is known (sym (w'.can_run.ensures s) ∙ w'.if-can_run.false)
+            | else-comes_first-via-else-comes_first w' ↦ kept_before q p es i e o within is known (sym c.comes_first.ensures ∙ w'.if-comes_first.false)
           ]
     ]
 
