@@ -19,7 +19,7 @@ use Rattle.qm_model.specs.Outcome.{first_refusal, refused_where}
 use Rattle.qm_model.specs.Submitting.{has_bad_value, submit_refusal, state_of}
 use Rattle.qm_model.specs.Wanted.{refused_form, refused_characteristics}
 use Rattle.qm_state.proofs.Found.{found_all}
-use Rattle.qm_state.proofs.Refusing.{none_first}
+use Rattle.qm_state.proofs.Refusing.{none_first, none_where}
 
 -- a file that is there has at most so many bytes
 bytes_at : (name : FileName) (files : List File) (bytes : List ℕ) (o : Option File) → AreFiles files → file_named name files ≡ o → Some bytes ≡ option_map (λ (f : File). f.bytes) o → length bytes ≤ 1048576
@@ -39,10 +39,6 @@ pub record IsAccepted (s : System) (j : Job) : Type 0 where
   pub there : IsSome (file_named j.file s.files)
   pub few : length s.entries < 65536
   pub number : (s.next_entry == 4294967295) ≡ false
-
-none_where : (b : Bool) (r : Refusal) → refused_where b r ≡ None → b ≡ false
-none_where true r h = cc
-none_where false r h = refl
 
 some_is : (o : Option File) → is_none o ≡ false → IsSome o
 some_is None h = cc

@@ -16,9 +16,10 @@ use Rattle.qm_model.specs.Standing.{node_at}
 use Rattle.qm_model.specs.States.{stopped_when_idle}
 use Rattle.qm_state.specs.declared.image.Image.{Image}
 use Rattle.qm_state.specs.declared.prepared.Change.{Change}
-use Rattle.qm_state.specs.declared.prepared.Change.TheVariants.{NewFile, MoreBytes, NewEntry, PutQueue, SetQueue, StopQueue, CutShort, RemoveQueue, RemoveEntry, EndRun}
+use Rattle.qm_state.specs.declared.prepared.Change.TheVariants.{NewFile, MoreBytes, MoreLines, RemoveFile, NewForm, RemoveForm, NewCharacteristic, RemoveCharacteristic, NewEntry, PutQueue, SetQueue, StopQueue, CutShort, RemoveQueue, Merge, RemoveEntry, EndRun}
 use Rattle.qm_state.specs.declared.refused.Refused.{Refused}
 use Rattle.qm_state.specs.declared.refused.Refused.TheVariants.{By, NoMemory}
+use Rattle.qm_state.specs.Image.{system_of}
 use Rattle.qm_state.specs.Preparing.{found, outcome_of, IsReady}
 use Rattle.qm_state.specs.Refusing.{Decides, Refuses}
 
@@ -100,23 +101,47 @@ sound_after law s t now node name r change same named sound within built below n
     subst (λ (u : System). IsConsistent (stopped_when_idle (outcome_of change now name (found now u)).system)) (sym same)
     (subst (λ (a : Accepted). IsConsistent (stopped_when_idle a.system)) (sym is) kept)
 
--- a change stays ready while files, entries and what has room stay
-pub ready_stays : (old new : Image) (change : Change) → new.spool ≡ old.spool → new.parts.entries ≡ old.parts.entries → new.parts.spare_queues ≡ old.parts.spare_queues
-    → new.parts.spare_entries ≡ old.parts.spare_entries → new.next_entry ≡ old.next_entry → IsReady old change → IsReady new change
-ready_stays old new (NewFile name bytes) spool entries spare_queues spare_entries next ready = record { room = rw spool ready.room; absent = rw spool ready.absent; fits = rw spool ready.fits }
-ready_stays old new (MoreBytes name bytes) spool entries spare_queues spare_entries next ready = rw spool ready
-ready_stays old new (NewEntry entry) spool entries spare_queues spare_entries next ready = record {
-  number = ready.number ∙ sym next;
-  idle = ready.idle;
-  next = rw next ready.next;
-  few = rw entries ready.few;
-  room = rw spare_entries ready.room;
-  file = rw spool ready.file;
-}
-ready_stays old new (PutQueue queue) spool entries spare_queues spare_entries next ready = rw spare_queues ready
-ready_stays old new (SetQueue name settings state) spool entries spare_queues spare_entries next ready = tt
-ready_stays old new (StopQueue name how) spool entries spare_queues spare_entries next ready = tt
-ready_stays old new (CutShort entry fate) spool entries spare_queues spare_entries next ready = tt
-ready_stays old new (RemoveQueue name) spool entries spare_queues spare_entries next ready = rw entries ready
-ready_stays old new (RemoveEntry entry) spool entries spare_queues spare_entries next ready = tt
-ready_stays old new (EndRun run status) spool entries spare_queues spare_entries next ready = tt
+-- a change stays ready while the rows, the files and what has room stay
+module _ (old new : Image) (rows : system_of new ≡ system_of old) (spool : new.spool ≡ old.spool) (spare_queues : new.parts.spare_queues ≡ old.parts.spare_queues)
+    (spare_forms : new.parts.spare_forms ≡ old.parts.spare_forms) (spare_characteristics : new.parts.spare_characteristics ≡ old.parts.spare_characteristics) (spare_entries : new.parts.spare_entries ≡ old.parts.spare_entries) where
+  entries : new.parts.entries ≡ old.parts.entries
+  unfolding system_of
+  entries = ap (λ (s : System). s.entries) rows
+
+  forms : new.parts.forms ≡ old.parts.forms
+  unfolding system_of
+  forms = ap (λ (s : System). s.forms) rows
+
+  characteristics : new.parts.characteristics ≡ old.parts.characteristics
+  unfolding system_of
+  characteristics = ap (λ (s : System). s.characteristics) rows
+
+  next : new.next_entry ≡ old.next_entry
+  unfolding system_of
+  next = ap (λ (s : System). s.next_entry) rows
+
+  pub ready_stays : (change : Change) → IsReady old change → IsReady new change
+  ready_stays (NewFile name bytes) ready = record { room = rw spool ready.room; absent = rw spool ready.absent; fits = rw spool ready.fits }
+  ready_stays (MoreBytes name bytes) ready = rw spool ready
+  ready_stays (MoreLines name bytes) ready = rw spool ready
+  ready_stays (RemoveFile name) ready = record { there = rw spool ready.there; unnamed = rw entries ready.unnamed }
+  ready_stays (NewForm form) ready = record { room = rw spare_forms ready.room; free = rw forms ready.free }
+  ready_stays (RemoveForm name) ready = tt
+  ready_stays (NewCharacteristic characteristic) ready = record { room = rw spare_characteristics ready.room; small = ready.small; free = rw characteristics ready.free }
+  ready_stays (RemoveCharacteristic name) ready = tt
+  ready_stays (NewEntry entry) ready = record {
+    number = ready.number ∙ sym next;
+    idle = ready.idle;
+    next = rw next ready.next;
+    few = rw entries ready.few;
+    room = rw spare_entries ready.room;
+    file = rw spool ready.file;
+  }
+  ready_stays (PutQueue queue) ready = rw spare_queues ready
+  ready_stays (SetQueue name settings state) ready = tt
+  ready_stays (StopQueue name how) ready = tt
+  ready_stays (CutShort entry fate) ready = tt
+  ready_stays (RemoveQueue name) ready = rw entries ready
+  ready_stays (Merge to from) ready = tt
+  ready_stays (RemoveEntry entry) ready = tt
+  ready_stays (EndRun run status) ready = tt

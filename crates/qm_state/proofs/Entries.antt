@@ -15,6 +15,7 @@ use Rattle.qm_kinds.specs.declared.entry.Entry.{Entry}
 use Rattle.qm_kinds.specs.declared.entry.Fate.{Fate}
 use Rattle.qm_kinds.specs.declared.entry.EntryState.{EntryState}
 use Rattle.qm_kinds.specs.declared.entry.EntryState.TheVariants.{Pending, Holding, Timed, Running, Aborting, Retained}
+use Rattle.qm_model.specs.Merging.{moved_to, waits_in}
 use Rattle.qm_model.specs.Standing.{with_entry}
 use Rattle.qm_model.specs.Stopping.{is_running_in, state_with_fate, with_fate, reset_fate, reset_in}
 use Rattle.qm_spool.specs.Kept.{Counted, count_of}
@@ -72,6 +73,23 @@ file_of_reset e false = refl
 
 pub counts_reset : (name : List ℕ) (es : List Entry) (counts : List Counted) → CountsOf es counts → CountsOf (map (reset_in name) es) counts
 counts_reset name es counts of = counts_kept es (reset_in name) counts (λ e. file_of_reset e (is_running_in name e.state)) of
+
+-- jobs that are moved to another queue
+file_of_moved : (to : List ℕ) (e : Entry) (b : Bool) → (cond b (record e { home = to }) e).file ≡ e.file
+file_of_moved to e true = refl
+file_of_moved to e false = refl
+
+pub counts_moved : (to from : List ℕ) (es : List Entry) (counts : List Counted) → CountsOf es counts → CountsOf (map (moved_to to from) es) counts
+counts_moved to from es counts of = counts_kept es (moved_to to from) counts (λ e. file_of_moved to e (waits_in from e)) of
+
+moved_waits : (next : Option ℕ) (to : List ℕ) (e : Entry) (b : Bool) → is_due_from next e.state ≡ true → is_due_from next (cond b (record e { home = to }) e).state ≡ true
+moved_waits next to e true h = h
+moved_waits next to e false h = h
+
+pub waits_moved : (next : Option ℕ) (to from : List ℕ) (es : List Entry) → Waits next es → Waits next (map (moved_to to from) es)
+waits_moved next to from es waits =
+    All-map (λ (e : Entry). is_due_from next e.state ≡ true) (moved_to to from) es
+    (All-weaker (λ (e : Entry). is_due_from next e.state ≡ true) (λ (e : Entry). is_due_from next (moved_to to from e).state ≡ true) (λ e h. moved_waits next to e (waits_in from e) h) es waits)
 
 -- an entry that goes
 pub waits_without : (next : Option ℕ) (number : ℕ) (es : List Entry) → Waits next es → Waits next (with_entry number (λ e. None) es)

@@ -2,6 +2,7 @@ pub mod Given
 pub mod Found
 pub mod Refusing
 pub mod Entries
+pub mod Filling
 pub mod Ended
 pub mod Stopped
 pub mod Boxed

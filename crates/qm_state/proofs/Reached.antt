@@ -8,8 +8,10 @@ use Rattle.std.proofs.lemmas.List.Elements.{All-weaker}
 use Rattle.qm_kinds.specs.declared.entry.Entry.{Entry}
 use Rattle.qm_kinds.specs.declared.entry.EntryState.{EntryState}
 use Rattle.qm_kinds.specs.declared.entry.EntryState.TheVariants.{Pending, Holding, Timed, Running, Aborting, Retained}
+use Rattle.qm_kinds.specs.declared.file.FileName.{FileName}
 use Rattle.qm_model.specs.Due.{state_at, is_over, entry_at, is_due}
 use Rattle.qm_model.specs.JobStates.{run_of, runs_in}
+use Rattle.qm_model.specs.Find.{same_file_name}
 use Rattle.qm_model.specs.Queues.{runs_for}
 use Rattle.qm_state.specs.Due.{is_due_from}
 
@@ -65,3 +67,7 @@ runs_at name home now (Retained status until) = refl
 
 pub no_run_found : (name : List ℕ) (now : ℕ) (es : List Entry) → find (runs_for name) es ≡ None → find (runs_for name) (map (entry_at now) (filter (λ e. not (is_over now e.state)) es)) ≡ None
 no_run_found name now es none = none_left (runs_for name) (λ (e : Entry). not (is_over now e.state)) (entry_at now) (λ e. runs_at name e.home now e.state) es none
+
+-- no entry that is left names a file that none named
+pub unnamed_found : (name : FileName) (now : ℕ) (es : List Entry) → find (λ e. same_file_name e.file name) es ≡ None → find (λ e. same_file_name e.file name) (map (entry_at now) (filter (λ e. not (is_over now e.state)) es)) ≡ None
+unnamed_found name now es none = none_left (λ (e : Entry). same_file_name e.file name) (λ (e : Entry). not (is_over now e.state)) (entry_at now) (λ e. refl) es none

@@ -8,7 +8,7 @@ use Rattle.qm_model.specs.States.{stopped_when_idle}
 use Rattle.qm_queues.specs.declared.settings.Settings.{Settings}
 use Rattle.qm_sched.specs.Starts.{start_places}
 use Rattle.qm_state.specs.declared.prepared.Change.{Change}
-use Rattle.qm_state.specs.declared.prepared.Change.TheVariants.{NewFile, MoreBytes, NewEntry, PutQueue, SetQueue, StopQueue, CutShort, RemoveQueue, RemoveEntry, EndRun}
+use Rattle.qm_state.specs.declared.prepared.Change.TheVariants.{NewFile, MoreBytes, MoreLines, RemoveFile, NewForm, RemoveForm, NewCharacteristic, RemoveCharacteristic, NewEntry, PutQueue, SetQueue, StopQueue, CutShort, RemoveQueue, Merge, RemoveEntry, EndRun}
 use Rattle.qm_state.specs.Preparing.{found, outcome_of, starts_behind}
 use Rattle.qm_state.proofs.Bounds.{idle_places, stop_places, without_places, reported_queues, fewer_found}
 
@@ -18,12 +18,19 @@ places_after : (change : Change) → ((x : Queue) → change ≡ PutQueue x → 
     → (now : ℕ) (node : List ℕ) (s : System) → start_places (outcome_of change now node s).system.queues ≤ start_places s.queues
 places_after (NewFile name bytes) not_put not_set now node s = omega arith
 places_after (MoreBytes name bytes) not_put not_set now node s = omega arith
+places_after (MoreLines name bytes) not_put not_set now node s = omega arith
+places_after (RemoveFile name) not_put not_set now node s = omega arith
+places_after (NewForm form) not_put not_set now node s = omega arith
+places_after (RemoveForm name) not_put not_set now node s = omega arith
+places_after (NewCharacteristic characteristic) not_put not_set now node s = omega arith
+places_after (RemoveCharacteristic name) not_put not_set now node s = omega arith
 places_after (NewEntry entry) not_put not_set now node s = omega arith
 places_after (PutQueue queue) not_put not_set now node s = absurd (not_put queue refl)
 places_after (SetQueue name settings state) not_put not_set now node s = absurd (not_set name settings state refl)
 places_after (StopQueue name how) not_put not_set now node s = stop_places how name s.queues
 places_after (CutShort entry fate) not_put not_set now node s = omega arith
 places_after (RemoveQueue name) not_put not_set now node s = without_places name s.queues
+places_after (Merge to from) not_put not_set now node s = omega arith
 places_after (RemoveEntry entry) not_put not_set now node s = omega arith
 places_after (EndRun run status) not_put not_set now node s = omega (arith, ap start_places (reported_queues s now node run status))
 

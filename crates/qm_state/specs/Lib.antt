@@ -4,4 +4,5 @@ pub mod Leaving
 pub mod Ending
 pub mod Refusing
 pub mod Image
+pub mod Naming
 pub mod Preparing

@@ -2,6 +2,8 @@
 use Rattle.std.specs.Prelude.{◌≡◌, ◌<◌, ◌≤◌, ◌+◌, ◌^◌, ℕ, false, List, [], ◌∷◌, ◌++◌, length, find, Option, None, IfSome, IsSome, vec_capacity}
 use Rattle.qm_kinds.specs.declared.entry.Entry.{Entry}
 use Rattle.qm_kinds.specs.declared.file.FileName.{FileName}
+use Rattle.qm_kinds.specs.declared.form.Characteristic.{Characteristic}
+use Rattle.qm_kinds.specs.declared.form.Form.{Form}
 use Rattle.qm_kinds.specs.declared.queue.Queue.{Queue}
 use Rattle.qm_kinds.specs.declared.reply.Act.TheVariants.{Submitted, EntryDeleted}
 use Rattle.qm_kinds.specs.declared.system.System.{System}
@@ -9,8 +11,12 @@ use Rattle.qm_model.specs.Appending.{appended, is_spool_full}
 use Rattle.qm_model.specs.Applied.{at_moment, completed}
 use Rattle.qm_model.specs.Consistent.{IsConsistent}
 use Rattle.qm_model.specs.Due.{due}
-use Rattle.qm_model.specs.Find.{file_named}
+use Rattle.qm_model.specs.Characteristics.{is_characteristic_taken, characteristic_defined, characteristic_deleted}
+use Rattle.qm_model.specs.Filing.{dropped}
+use Rattle.qm_model.specs.Find.{file_named, same_file_name}
+use Rattle.qm_model.specs.Forms.{is_form_taken, form_defined, form_deleted}
 use Rattle.qm_model.specs.JobStates.{run_of}
+use Rattle.qm_model.specs.Merging.{merged}
 use Rattle.qm_model.specs.Outcome.{Accepted}
 use Rattle.qm_model.specs.Queues.{queue_deleted, runs_for}
 use Rattle.qm_model.specs.Replying.{replied, replied_with_queue}
@@ -26,7 +32,7 @@ use Rattle.qm_state.specs.declared.image.Image.{Image}
 use Rattle.qm_state.specs.declared.limits.TheConstants.{ENTRIES_LIMIT}
 use Rattle.qm_state.specs.declared.prepared.Prepared.{Prepared}
 use Rattle.qm_state.specs.declared.prepared.Change.{Change}
-use Rattle.qm_state.specs.declared.prepared.Change.TheVariants.{NewFile, MoreBytes, NewEntry, PutQueue, SetQueue, StopQueue, CutShort, RemoveQueue, RemoveEntry, EndRun}
+use Rattle.qm_state.specs.declared.prepared.Change.TheVariants.{NewFile, MoreBytes, MoreLines, RemoveFile, NewForm, RemoveForm, NewCharacteristic, RemoveCharacteristic, NewEntry, PutQueue, SetQueue, StopQueue, CutShort, RemoveQueue, Merge, RemoveEntry, EndRun}
 use Rattle.qm_state.specs.Image.{system_of}
 
 -- the entry stands behind the others, and its number isn't given again
@@ -49,12 +55,19 @@ entry_removed s number = replied (record s { entries = with_entry number (λ e. 
 abbrev pub outcome_of : Change → ℕ → List ℕ → System → Accepted
 outcome_of (NewFile name bytes) now node s = appended s name bytes.items
 outcome_of (MoreBytes name bytes) now node s = appended s name bytes.now
+outcome_of (MoreLines name bytes) now node s = appended s name bytes.items
+outcome_of (RemoveFile name) now node s = dropped s name
+outcome_of (NewForm form) now node s = form_defined s form
+outcome_of (RemoveForm name) now node s = form_deleted s name
+outcome_of (NewCharacteristic characteristic) now node s = characteristic_defined s characteristic
+outcome_of (RemoveCharacteristic name) now node s = characteristic_deleted s name
 outcome_of (NewEntry entry) now node s = entered s entry
 outcome_of (PutQueue queue) now node s = queue_put s queue
 outcome_of (SetQueue name settings state) now node s = replied_with_queue (record s { queues = with_queue name (with_settings_and_state settings state) s.queues }) name
 outcome_of (StopQueue name how) now node s = queue_stopped s name how
 outcome_of (CutShort entry fate) now node s = entry_aborting s fate entry
 outcome_of (RemoveQueue name) now node s = queue_deleted s name
+outcome_of (Merge to from) now node s = merged s to from
 outcome_of (RemoveEntry entry) now node s = entry_removed s entry
 outcome_of (EndRun run status) now node s = run_reported s now node run (EndReport status)
 
@@ -80,6 +93,22 @@ pub record CanInsert (image : Image) (name : FileName) (bytes : List ℕ) : Type
 abbrev pub CanAppend : Image → FileName → List ℕ → Type 0
 CanAppend image name bytes = HasRoomFor image.spool name bytes
 
+-- the file is there, and no entry names it
+pub record CanDrop (image : Image) (name : FileName) : Type 0 where
+  pub there : IsSome (file_named name image.spool.files)
+  pub unnamed : find (λ e. same_file_name e.file name) image.parts.entries ≡ None
+
+-- there is room for one form more, and no form has its name or its number
+pub record CanDefineForm (image : Image) (form : Form) : Type 0 where
+  pub room : 0 < image.parts.spare_forms
+  pub free : is_form_taken image.parts.forms form ≡ false
+
+-- there is room for one characteristic more, its number is at most 127, and none has its name or its number
+pub record CanDefineCharacteristic (image : Image) (characteristic : Characteristic) : Type 0 where
+  pub room : 0 < image.parts.spare_characteristics
+  pub small : characteristic.number ≤ 127
+  pub free : is_characteristic_taken image.parts.characteristics characteristic ≡ false
+
 -- there is room for the entry, which has the next number and no run, and its file is there
 pub record IsNewEntry (image : Image) (entry : Entry) : Type 0 where
   pub number : entry.number ≡ image.next_entry
@@ -93,17 +122,25 @@ pub record IsNewEntry (image : Image) (entry : Entry) : Type 0 where
 abbrev pub starts_behind : Change → ℕ → List ℕ → System → ℕ
 starts_behind change now node s = length (settled (stopped_when_idle (outcome_of change now node (found now s)).system)).started
 
--- The change can be made on the image: for what comes there is room, a new entry has the next number and no run, its file is
--- there and may be named once more, and no job runs for a queue that goes.
+-- The change can be made on the image: for what comes there is room, a new form or characteristic has a name and a number of its
+-- own, a new entry has the next number and no run, its file is there and may be named once more, no entry names a file that
+-- goes, and no job runs for a queue that goes.
 abbrev pub IsReady : Image → Change → Type 0
 IsReady image (NewFile name bytes) = CanInsert image name bytes.items
 IsReady image (MoreBytes name bytes) = CanAppend image name bytes.now
+IsReady image (MoreLines name bytes) = CanAppend image name bytes.items
+IsReady image (RemoveFile name) = CanDrop image name
+IsReady image (NewForm form) = CanDefineForm image form
+IsReady image (RemoveForm name) = Unit {0}
+IsReady image (NewCharacteristic characteristic) = CanDefineCharacteristic image characteristic
+IsReady image (RemoveCharacteristic name) = Unit {0}
 IsReady image (NewEntry entry) = IsNewEntry image entry
 IsReady image (PutQueue queue) = 0 < image.parts.spare_queues
 IsReady image (SetQueue name settings state) = Unit {0}
 IsReady image (StopQueue name how) = Unit {0}
 IsReady image (CutShort entry fate) = Unit {0}
 IsReady image (RemoveQueue name) = find (runs_for name) image.parts.entries ≡ None
+IsReady image (Merge to from) = Unit {0}
 IsReady image (RemoveEntry entry) = Unit {0}
 IsReady image (EndRun run status) = Unit {0}
 

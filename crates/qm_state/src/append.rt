@@ -25,17 +25,14 @@ impl Image {
         }
     }
 
-    // Why bytes for the file are refused.
+    /// Why so many bytes for the file are refused.
     #[tactic(auto, unfolding(crate::specs::Image::system_of))]
-    fn append_refusal(&self, name: &FileName, bytes: &[u8]) -> Option<Refusal>
-        ensures { result ≡ append_refusal (system_of self.now) name.now bytes.now }
+    pub(crate) fn append_refusal(&self, name: &FileName, more: usize) -> Option<Refusal>
+        ensures { (bytes : List ℕ) → length bytes ≡ more → result ≡ append_refusal (system_of self.now) name.now bytes }
     {
         let refusals = [
             self.refused_as_named(name),
-            refused_where(
-                self.spool.is_full_for(name, bytes.len()),
-                Refusal::SpoolFull,
-            ),
+            refused_where(self.spool.is_full_for(name, more), Refusal::SpoolFull),
         ];
         first_refusal(&refusals)
     }
@@ -53,6 +50,23 @@ impl Image {
         Ok(Change::MoreBytes { name: *name, bytes })
     }
 
+    /// Takes the memory of a new file that has these very bytes.
+    #[tactic(auto, unfolding(crate::specs::Image::system_of))]
+    pub(crate) fn take_file_of<'a>(
+        &mut self,
+        name: &FileName,
+        bytes: Vec<u8>,
+    ) -> Result<Change<'a>, AllocError>
+        requires absent { file_named name.now self.old.spool.files ≡ None }
+        requires accepted { append_refusal (system_of self.old) name.now bytes.items ≡ None }
+        ensures rows { system_of self.new ≡ system_of self.old }
+        ensures ready { IfOk result (IsReady self.new) }
+        ensures made { IfOk result (λ change. (now : ℕ) (node : List ℕ) → outcome_of change now node (found now (system_of self.old)) ≡ appended (found now (system_of self.old)) name.now bytes.items) }
+    {
+        self.spool.reserve_file()?;
+        Ok(Change::NewFile { name: *name, bytes })
+    }
+
     // Takes the memory of a new file of these bytes.
     #[tactic(auto, unfolding(crate::specs::Image::system_of))]
     fn take_file<'a>(&mut self, name: &FileName, bytes: &[u8]) -> Result<Change<'a>, AllocError>
@@ -63,8 +77,7 @@ impl Image {
         ensures made { IfOk result (λ change. (now : ℕ) (node : List ℕ) → outcome_of change now node (found now (system_of self.old)) ≡ appended (found now (system_of self.old)) name.now bytes.now) }
     {
         let bytes = Vec::from_slice(self.alloc, bytes)?;
-        self.spool.reserve_file()?;
-        Ok(Change::NewFile { name: *name, bytes })
+        self.take_file_of(name, bytes)
     }
 
     // Takes the memory for bytes that aren't refused.
@@ -82,6 +95,7 @@ impl Image {
     }
 
     /// Decides on bytes for a file, and takes the memory for them.
+    #[inline(never)]
     pub(crate) fn prepare_append<'a>(
         &mut self,
         name: &FileName,
@@ -93,7 +107,7 @@ impl Image {
         ensures ready { IfOk result (IsReady self.new) }
         ensures made { IfOk result (λ change. (now : ℕ) (node : List ℕ) → outcome_of change now node (found now (system_of self.old)) ≡ appended (found now (system_of self.old)) name.now bytes.now) }
     {
-        if let Some(refusal) = self.append_refusal(name, bytes) {
+        if let Some(refusal) = self.append_refusal(name, bytes.len()) {
             return Err(Refused::By(refusal));
         }
         match self.take_bytes(name, bytes) {
@@ -104,6 +118,7 @@ impl Image {
 
     /// The new file stands where it belongs.
     #[tactic(auto, unfolding(crate::specs::Image::system_of))]
+    #[inline(never)]
     pub(crate) fn make_file(&mut self, name: &FileName, bytes: Vec<u8>) -> Act
         requires { CanInsert self.old name.now bytes.items }
         ensures done { appended (system_of self.old) name.now bytes.items ≡ record { system = system_of self.new; reply = record { act = result; started = [] } } }
@@ -119,6 +134,7 @@ impl Image {
 
     /// The bytes stand behind those of the file.
     #[tactic(auto, unfolding(crate::specs::Image::system_of))]
+    #[inline(never)]
     pub(crate) fn extend_file(&mut self, name: &FileName, bytes: &[u8]) -> Act
         requires { CanAppend self.old name.now bytes.now }
         ensures done { appended (system_of self.old) name.now bytes.now ≡ record { system = system_of self.new; reply = record { act = result; started = [] } } }

@@ -35,7 +35,7 @@ impl Image {
         }
     }
 
-    // Makes a change of the rows that the moment finds.
+    // Makes a change of the rows that the moment finds. As in `prepare_change`, nothing is inlined here.
     #[tactic(auto, unfolding(crate::specs::Image::system_of))]
     fn make(&mut self, now: Moment, node: &Name, change: Change) -> Act
         requires sound { IsConsistent (system_of self.old) }
@@ -46,6 +46,14 @@ impl Image {
         match change {
             Change::NewFile { name, bytes } => self.make_file(&name, bytes),
             Change::MoreBytes { name, bytes } => self.extend_file(&name, bytes),
+            Change::MoreLines { name, bytes } => self.extend_file(&name, &bytes),
+            Change::RemoveFile { name } => self.remove_file(&name),
+            Change::NewForm { form } => self.define_form(form),
+            Change::RemoveForm { name } => self.remove_form(&name),
+            Change::NewCharacteristic { characteristic } => {
+                self.define_characteristic(characteristic)
+            }
+            Change::RemoveCharacteristic { name } => self.remove_characteristic(&name),
             Change::NewEntry { entry } => self.enter(entry),
             Change::PutQueue { queue } => self.put_queue(queue),
             Change::SetQueue {
@@ -56,6 +64,7 @@ impl Image {
             Change::StopQueue { name, how } => self.stop_queue(&name, how),
             Change::CutShort { entry, fate } => self.cut_short(entry, fate),
             Change::RemoveQueue { name } => self.remove_queue(&name),
+            Change::Merge { to, from } => self.merge(&to, &from),
             Change::RemoveEntry { entry } => self.remove_entry(entry),
             Change::EndRun { run, status } => self.end_run(now, node, run, status),
         }

@@ -60,6 +60,8 @@ impl Image {
         ensures rows { system_of self.new ≡ found now (system_of self.old) }
         ensures rooms { self.new.spool ≡ record self.old.spool { counts = self.new.spool.counts } }
         ensures queues { self.new.parts.spare_queues ≡ self.old.parts.spare_queues }
+        ensures forms { self.new.parts.spare_forms ≡ self.old.parts.spare_forms }
+        ensures characteristics { self.new.parts.spare_characteristics ≡ self.old.parts.spare_characteristics }
         ensures entries { self.new.parts.spare_entries ≡ self.old.parts.spare_entries }
         ensures runs { self.new.parts.spare_runs ≡ self.old.parts.spare_runs }
     {

@@ -35,6 +35,7 @@ fn is_executing(state: &EntryState) -> bool
 impl Image {
     /// Decides on a job that is cut short: the one of the number, or the only one that runs in the queue.
     #[tactic(auto, unfolding(crate::specs::Image::system_of))]
+    #[inline(never)]
     pub(crate) fn prepare_abort<'a>(
         &self,
         queue: &Name,
@@ -58,6 +59,7 @@ impl Image {
 
     /// Decides on an entry that is deleted. One that has a run goes once the run has ended.
     #[tactic(auto, unfolding(crate::specs::Image::system_of))]
+    #[inline(never)]
     pub(crate) fn prepare_delete_entry<'a>(&self, number: u32) -> Result<Change<'a>, Refused>
         ensures decided { Decides (delete_entry_refusal (system_of self.now) number) result }
         ensures ready { IfOk result (IsReady self.now) }
@@ -77,6 +79,7 @@ impl Image {
 
     /// Decides on the end of a run that a node reports.
     #[tactic(auto, unfolding(crate::specs::Image::system_of))]
+    #[inline(never)]
     pub(crate) fn prepare_end<'a>(
         &self,
         node: &Name,

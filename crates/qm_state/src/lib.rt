@@ -4,9 +4,12 @@
 
 mod append;
 mod built;
+mod characteristics;
 mod commit;
 mod due;
 mod ending;
+mod filing;
+mod forms;
 mod image;
 mod initializing;
 mod jobs;
@@ -15,6 +18,7 @@ mod leaving;
 mod limits;
 mod looks;
 mod making;
+mod merging;
 mod naming;
 mod prepare;
 mod prepared;

@@ -52,6 +52,7 @@ fn reset_jobs(parts: &mut Parts, name: &Name, how: StopMode)
 impl Image {
     /// The queue stands in its place by name, for which there is room.
     #[tactic(auto, unfolding(crate::specs::Image::system_of))]
+    #[inline(never)]
     pub(crate) fn put_queue(&mut self, queue: Queue) -> Act
         requires { 0 < self.old.parts.spare_queues }
         ensures done { queue_put (system_of self.old) queue ≡ record { system = system_of self.new; reply = record { act = result; started = [] } } }
@@ -64,6 +65,7 @@ impl Image {
 
     /// The queue gets the settings, and the state where one is given.
     #[tactic(auto, unfolding(crate::specs::Image::system_of))]
+    #[inline(never)]
     pub(crate) fn set_queue(
         &mut self,
         name: &Name,
@@ -79,6 +81,7 @@ impl Image {
 
     /// The queue is stopped, and its jobs are cut short by a reset.
     #[tactic(auto, unfolding(crate::specs::Image::system_of))]
+    #[inline(never)]
     pub(crate) fn stop_queue(&mut self, name: &Name, how: StopMode) -> Act
         ensures done { queue_stopped (system_of self.old) name.now how ≡ record { system = system_of self.new; reply = record { act = result; started = [] } } }
         ensures room { self.new.parts.spare_runs ≡ self.old.parts.spare_runs }
@@ -90,6 +93,7 @@ impl Image {
 
     /// The run of the entry is to be cut short.
     #[tactic(auto, unfolding(crate::specs::Image::system_of))]
+    #[inline(never)]
     pub(crate) fn cut_short(&mut self, entry: u32, fate: Fate) -> Act
         ensures done { entry_aborting (system_of self.old) fate entry ≡ record { system = system_of self.new; reply = record { act = result; started = [] } } }
         ensures room { self.new.parts.spare_runs ≡ self.old.parts.spare_runs }
@@ -100,6 +104,7 @@ impl Image {
 
     /// The queue goes, with its entries, none of which has a run.
     #[tactic(auto, unfolding(crate::specs::Image::system_of))]
+    #[inline(never)]
     pub(crate) fn remove_queue(&mut self, name: &Name) -> Act
         requires { find (runs_for name.now) self.old.parts.entries ≡ None }
         ensures done { queue_deleted (system_of self.old) name.now ≡ record { system = system_of self.new; reply = record { act = result; started = [] } } }
@@ -127,6 +132,7 @@ impl Image {
 
     /// The entry goes.
     #[tactic(auto, unfolding(crate::specs::Image::system_of))]
+    #[inline(never)]
     pub(crate) fn remove_entry(&mut self, entry: u32) -> Act
         ensures done { entry_removed (system_of self.old) entry ≡ record { system = system_of self.new; reply = record { act = result; started = [] } } }
         ensures room { self.old.parts.spare_runs ≤ self.new.parts.spare_runs }
@@ -154,6 +160,7 @@ impl Image {
 
     /// The run has ended on the node, with this status: what becomes of its entry takes its place.
     #[tactic(auto, unfolding(crate::specs::Image::system_of))]
+    #[inline(never)]
     pub(crate) fn end_run(&mut self, now: Moment, node: &Name, run: u64, status: u32) -> Act
         ensures done { run_reported (system_of self.old) now node.now run (EndReport status) ≡ record { system = system_of self.new; reply = record { act = result; started = [] } } }
         ensures room { self.old.parts.spare_runs ≤ self.new.parts.spare_runs }

@@ -1,25 +1,73 @@
-// What names a file.
+// What names a file, a form or a characteristic.
 ghost use Rattle.std.specs.Prelude.{◌≡◌, find};
 ghost use Rattle.std.specs.Option.{option_copied};
 ghost use Rattle.qm_entries.specs.Boxed.{contents};
 ghost use Rattle.qm_model.specs.Appending.{refused_as_named};
-ghost use Rattle.qm_model.specs.Find.{same_file_name};
+ghost use Rattle.qm_model.specs.Forms.{is_named};
+ghost use Rattle.qm_model.specs.Referring.{refused_by_entry};
 ghost use Rattle.qm_state.specs.Image.{system_of};
+ghost use Rattle.qm_state.specs.Naming.{has_one_of, names};
 
 use crate::image::Image;
-use qm_kinds::{Entry, FileName, Holder, Refusal};
+use qm_kinds::{CharacteristicSet, Entry, FileName, Holder, Name, Refusal};
 
-// The entry of the least number that names the file.
-fn first_naming<'a>(entries: &'a [Box<Entry>], name: &FileName) -> Option<&'a Entry>
-    ensures { option_copied result ≡ find (λ e. same_file_name e.file name.now) (contents entries.now) }
+/// What an entry may name.
+#[derive(Clone, Copy)]
+pub(crate) enum Named<'a> {
+    /// This file.
+    File(&'a FileName),
+    /// This form.
+    Form(&'a Name),
+    /// One of these characteristics.
+    Characteristics(CharacteristicSet),
+}
+
+/// Whether the form is the one of the name.
+pub(crate) fn is_named(name: &Name, form: Option<Name>) -> bool
+    ensures { result ≡ is_named name.now form }
+{
+    form.is_some_and(|form| *name == form)
+}
+
+/// Whether one of the characteristics is in the set.
+pub(crate) fn has_one_of(wanted: CharacteristicSet, set: CharacteristicSet) -> bool
+    ensures { result ≡ has_one_of wanted.0 set.0 }
+{
+    set.0 & wanted.0 != 0
+}
+
+// Whether an entry names it.
+fn names(named: &Named<'_>, entry: &Entry) -> bool
+    ensures { result ≡ names named.now entry.now }
+{
+    match named {
+        Named::File(name) => entry.file == **name,
+        Named::Form(name) => is_named(name, entry.form),
+        Named::Characteristics(wanted) => has_one_of(*wanted, entry.characteristics),
+    }
+}
+
+// The entry of the least number that names it.
+fn first_naming<'a>(entries: &'a [Box<Entry>], named: &Named<'_>) -> Option<&'a Entry>
+    ensures { option_copied result ≡ find (names named.now) (contents entries.now) }
 {
     for boxed in entries {
         let entry = boxed.as_ref();
-        if entry.file == *name {
+        if names(named, entry) {
             return Some(entry);
         }
     }
     None
+}
+
+/// The refusal that names the least entry of those that name it.
+pub(crate) fn refused_by_entry(entries: &[Box<Entry>], named: &Named<'_>) -> Option<Refusal>
+    ensures { result ≡ refused_by_entry (names named.now) (contents entries.now) }
+{
+    let entry = first_naming(entries, named)?;
+    Some(Refusal::Referenced {
+        by: Holder::Entry(entry.number),
+    })
 }
 
 impl Image {
@@ -31,9 +79,6 @@ impl Image {
         if self.spool.count(name) == 0 {
             return None;
         }
-        let entry = first_naming(self.parts.entries(), name)?;
-        Some(Refusal::Referenced {
-            by: Holder::Entry(entry.number),
-        })
+        refused_by_entry(self.parts.entries(), &Named::File(name))
     }
 }

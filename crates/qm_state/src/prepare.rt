@@ -64,7 +64,8 @@ impl Image {
         self.parts.nodes()[usize::from(node)].name
     }
 
-    // Decides on a request that a node serves, and takes the memory for its change.
+    // Decides on a request that a node serves, and takes the memory for its change. What prepares one request isn't inlined
+    // here: a function clears all its locals when it is entered, and each request would pay for those of all.
     fn prepare_change<'a>(
         &mut self,
         now: Moment,
@@ -80,6 +81,14 @@ impl Image {
     {
         match request {
             Request::Append { file, bytes } => self.prepare_append(file, bytes.as_slice()),
+            Request::Fill { file, lines } => self.prepare_fill(file, *lines),
+            Request::Drop { file } => self.prepare_drop(file),
+            Request::DefineForm(form) => self.prepare_define_form(form),
+            Request::DeleteForm { name } => self.prepare_delete_form(name),
+            Request::DefineCharacteristic(characteristic) => {
+                self.prepare_define_characteristic(characteristic)
+            }
+            Request::DeleteCharacteristic { name } => self.prepare_delete_characteristic(name),
             Request::InitializeQueue(new) => self.prepare_initialize(node, new),
             Request::SetQueue { name, change } => self.prepare_set(name, change),
             Request::StartQueue { name, change } => self.prepare_start(name, change),
@@ -90,6 +99,7 @@ impl Image {
                 requeue,
             } => self.prepare_abort(queue, *entry, *requeue),
             Request::DeleteQueue { name } => self.prepare_delete_queue(name),
+            Request::Merge { to, from } => self.prepare_merge(to, from),
             Request::Submit(job) => self.prepare_submit(now, job),
             Request::DeleteEntry { entry } => self.prepare_delete_entry(*entry),
             Request::Done { run, status } => self.prepare_end(node, *run, *status),

@@ -1,4 +1,6 @@
-use qm_kinds::{Entry, Fate, FileName, Moment, Name, Queue, QueueState, Start, StopMode};
+use qm_kinds::{
+    Characteristic, Entry, Fate, FileName, Form, Moment, Name, Queue, QueueState, Start, StopMode,
+};
 use qm_queues::Settings;
 
 /// A change that was decided on, with the memory that it takes. Bytes for a file that is there are still the request's.
@@ -25,6 +27,31 @@ pub(crate) enum Change<'a> {
     MoreBytes {
         name: FileName,
         bytes: &'a [u8],
+    },
+    /// Lines go behind the bytes of a file.
+    MoreLines {
+        name: FileName,
+        bytes: Vec<u8>,
+    },
+    /// A file goes.
+    RemoveFile {
+        name: FileName,
+    },
+    /// A form comes.
+    NewForm {
+        form: Form,
+    },
+    /// A form goes.
+    RemoveForm {
+        name: Name,
+    },
+    /// A characteristic comes.
+    NewCharacteristic {
+        characteristic: Characteristic,
+    },
+    /// A characteristic goes.
+    RemoveCharacteristic {
+        name: Name,
     },
     /// An entry comes.
     NewEntry {
@@ -53,6 +80,11 @@ pub(crate) enum Change<'a> {
     /// A queue goes, with its entries.
     RemoveQueue {
         name: Name,
+    },
+    /// The jobs that wait in one queue are moved to another.
+    Merge {
+        to: Name,
+        from: Name,
     },
     /// An entry goes.
     RemoveEntry {

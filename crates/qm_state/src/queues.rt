@@ -42,6 +42,7 @@ impl Image {
     }
 
     /// Decides on a queue that is made, and takes the memory for it.
+    #[inline(never)]
     pub(crate) fn prepare_initialize<'a>(
         &mut self,
         node: &Name,
@@ -77,6 +78,7 @@ impl Image {
 
     /// Decides on settings for a queue.
     #[tactic(auto, unfolding(crate::specs::Image::system_of))]
+    #[inline(never)]
     pub(crate) fn prepare_set<'a>(
         &self,
         name: &Name,
@@ -98,6 +100,7 @@ impl Image {
 
     /// Decides on settings for a queue that is started.
     #[tactic(auto, unfolding(crate::specs::Image::system_of))]
+    #[inline(never)]
     pub(crate) fn prepare_start<'a>(
         &self,
         name: &Name,
@@ -119,6 +122,7 @@ impl Image {
 
     /// Decides on how a queue is stopped.
     #[tactic(auto, unfolding(crate::specs::Image::system_of))]
+    #[inline(never)]
     pub(crate) fn prepare_stop<'a>(&self, name: &Name, how: StopMode) -> Result<Change<'a>, Refused>
         ensures decided { Decides (stop_refusal (system_of self.now) name.now) result }
         ensures ready { IfOk result (IsReady self.now) }
@@ -145,6 +149,7 @@ impl Image {
 
     /// Decides on a queue that is deleted.
     #[tactic(auto, unfolding(crate::specs::Image::system_of))]
+    #[inline(never)]
     pub(crate) fn prepare_delete_queue<'a>(&self, name: &Name) -> Result<Change<'a>, Refused>
         ensures decided { Decides (delete_queue_refusal (system_of self.now) name.now) result }
         ensures ready { IfOk result (IsReady self.now) }

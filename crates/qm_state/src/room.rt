@@ -64,6 +64,8 @@ impl Image {
         ensures spool { self.new.spool ≡ self.old.spool }
         ensures entries { self.new.parts.entries ≡ self.old.parts.entries }
         ensures spare_queues { self.new.parts.spare_queues ≡ self.old.parts.spare_queues }
+        ensures spare_forms { self.new.parts.spare_forms ≡ self.old.parts.spare_forms }
+        ensures spare_characteristics { self.new.parts.spare_characteristics ≡ self.old.parts.spare_characteristics }
         ensures spare_entries { self.new.parts.spare_entries ≡ self.old.parts.spare_entries }
         ensures next { self.new.next_entry ≡ self.old.next_entry }
     {

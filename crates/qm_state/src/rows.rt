@@ -2,7 +2,6 @@
 ghost use Rattle.std.specs.Prelude.{◌≡◌, IfOk, OnOk, [], ◌∷◌, ◌++◌, ◌<◌, ◌+◌, false, All, IfSome, IsSome};
 ghost use Rattle.std.specs.List.{list_any};
 ghost use Rattle.qm_entries.specs.Boxed.{contents};
-ghost use Rattle.qm_forms.specs.Numbered.{AreKept};
 ghost use Rattle.qm_model.specs.Consistent.{IsConsistent};
 ghost use Rattle.qm_model.specs.Find.{file_named};
 ghost use Rattle.qm_model.specs.Standing.{has_run};
@@ -15,7 +14,7 @@ ghost use Rattle.qm_state.specs.Image.{system_of};
 use crate::due::first_due;
 use crate::image::Image;
 use qm_forms::FormTable;
-use qm_kinds::{Characteristic, Entry, Form, Queue, Seq, System};
+use qm_kinds::{Entry, Queue, Seq, System};
 use qm_queues::QueueTable;
 use qm_sched::Parts;
 use qm_spool::Spool;
@@ -69,28 +68,13 @@ fn copy_entries(alloc: Global, entries: &[Box<Entry>]) -> Result<Vec<Entry>, All
     copy_boxed(alloc, entries)
 }
 
-// The table of these forms and characteristics.
-fn form_table(
-    alloc: Global,
-    forms: &[Form],
-    characteristics: &[Characteristic],
-) -> Result<FormTable, AllocError>
-    requires { AreKept forms.now characteristics.now }
-    ensures forms { IfOk result (λ table. table.forms ≡ forms.now) }
-    ensures characteristics { IfOk result (λ table. table.characteristics ≡ characteristics.now) }
-{
-    let forms = Vec::from_slice(alloc, forms)?;
-    let characteristics = Vec::from_slice(alloc, characteristics)?;
-    Ok(FormTable::of(forms, characteristics))
-}
-
 // The tables of a system without its entries.
 fn tables_of(alloc: Global, system: &System) -> Result<Parts, AllocError>
     requires { IsConsistent system.now }
     ensures tables { IfOk result (λ parts. with_tables system.now parts ≡ record system.now { entries = [] }) }
 {
     let nodes = Seq::of(Vec::from_slice(alloc, system.nodes.as_slice())?);
-    let forms = form_table(
+    let forms = FormTable::of(
         alloc,
         system.forms.as_slice(),
         system.characteristics.as_slice(),

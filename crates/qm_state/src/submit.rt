@@ -1,5 +1,5 @@
 // A job is submitted.
-ghost use Rattle.std.specs.Prelude.{◌≡◌, ◌<◌, ◌^◌, ℕ, List, [], ◌∷◌, is_none, is_some, false, IfOk, Ok, IsSome, length};
+ghost use Rattle.std.specs.Prelude.{◌≡◌, ◌<◌, ◌^◌, ℕ, List, [], ◌∷◌, is_none, is_some, false, IfOk, OnOk, Ok, IsSome, length};
 ghost use Rattle.std.specs.Option.{option_and_then, option_map_or};
 ghost use Rattle.qm_kinds.specs.Sizes.{blocks_of};
 ghost use Rattle.qm_model.specs.Appending.{bytes_of};
@@ -96,8 +96,8 @@ impl Image {
         }
     }
 
-    // Whether the file is there.
-    fn has_file(&self, name: &FileName) -> bool
+    /// Whether the file is there.
+    pub(crate) fn has_file(&self, name: &FileName) -> bool
         ensures { result ≡ is_some (file_named name.now self.now.spool.files) }
     {
         match self.spool.bytes(name) {
@@ -176,22 +176,33 @@ impl Image {
         }
     }
 
-    // Takes the memory for the entry of a job that isn't refused.
+    // Makes room for one entry more.
     #[tactic(auto, unfolding(crate::specs::Image::system_of))]
-    fn take_job<'a>(&mut self, now: Moment, job: &Job) -> Result<Change<'a>, AllocError>
-        requires { submit_refusal (system_of self.old) job.now ≡ None }
+    fn reserve_entry(&mut self) -> Result<(), AllocError>
         ensures rows { system_of self.new ≡ system_of self.old }
-        ensures ready { IfOk result (IsReady self.new) }
-        ensures made { IfOk result (λ change. (node : List ℕ) → outcome_of change now node (found now (system_of self.old)) ≡ submitted (found now (system_of self.old)) now job.now) }
+        ensures room { OnOk result (0 < self.new.parts.spare_entries) }
+    {
+        self.parts.reserve_entry()
+    }
+
+    // The change by which a job comes that isn't refused, and for which there is room. An entry is large, so it is made at its
+    // place.
+    #[tactic(auto, unfolding(crate::specs::Image::system_of))]
+    fn new_entry<'a>(&self, now: Moment, job: &Job) -> Change<'a>
+        requires accepted { submit_refusal (system_of self.now) job.now ≡ None }
+        requires room { 0 < self.now.parts.spare_entries }
+        ensures ready { IsReady self.now result }
+        ensures made { (node : List ℕ) → outcome_of result now node (found now (system_of self.now)) ≡ submitted (found now (system_of self.now)) now job.now }
     {
         let _number = self.next_number();
         let mark = Mark::new(&[]).unwrap();
-        let entry = self.entry_of(now, job, mark);
-        self.parts.reserve_entry()?;
-        Ok(Change::NewEntry { entry })
+        Change::NewEntry {
+            entry: self.entry_of(now, job, mark),
+        }
     }
 
     /// Decides on a job, and takes the memory for its entry.
+    #[inline(never)]
     pub(crate) fn prepare_submit<'a>(
         &mut self,
         now: Moment,
@@ -206,14 +217,15 @@ impl Image {
         if let Some(refusal) = self.submit_refusal(job) {
             return Err(Refused::By(refusal));
         }
-        match self.take_job(now, job) {
-            Ok(change) => Ok(change),
+        match self.reserve_entry() {
+            Ok(()) => Ok(self.new_entry(now, job)),
             Err(AllocError) => Err(Refused::NoMemory),
         }
     }
 
     /// The entry stands behind the others, and names its file.
     #[tactic(auto, unfolding(crate::specs::Image::system_of))]
+    #[inline(never)]
     pub(crate) fn enter(&mut self, entry: Entry) -> Act
         requires sound { IsConsistent (system_of self.old) }
         requires new { IsNewEntry self.old entry }

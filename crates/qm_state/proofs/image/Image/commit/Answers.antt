@@ -14,7 +14,7 @@ make-act-requires-clause-sound c =
 
 pub make-act-requires-clause-ready : goal.make-act-requires-clause-ready
 make-act-requires-clause-ready c =
-    ready_found c.args.prepared.at c.args.self.now c.reach.new.self c.reach.ensures.rows c.reach.ensures.rooms c.reach.ensures.queues c.reach.ensures.entries c.args.prepared.change c.requires.prepared.ready
+    ready_found c.args.prepared.at c.args.self.now c.reach.new.self c.reach.ensures.rows c.reach.ensures.rooms c.reach.ensures.queues c.reach.ensures.forms c.reach.ensures.characteristics c.reach.ensures.entries c.args.prepared.change c.requires.prepared.ready
 
 pub settle-requires-clause-room : goal.settle-requires-clause-room
 settle-requires-clause-room c =

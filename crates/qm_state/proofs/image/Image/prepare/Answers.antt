@@ -41,8 +41,8 @@ returns-in-Ok-clause-ready c =
     let rows = c.in-Ok.ensures.rows in
     let below = subst (λ (n : ℕ). n < 4611686018427387904) c.next_run.ensures c.if-next_run-ge-RUNS_LIMIT.false in
     record {
-      ready = ready_stays c.prepare_change.new.self c.reserve_starts.new.self c.in_ok-change.change c.in-Ok.ensures.spool c.in-Ok.ensures.entries c.in-Ok.ensures.spare_queues c.in-Ok.ensures.spare_entries
-          c.in-Ok.ensures.next c.in_ok-change.ensures.ready;
+      ready = ready_stays c.prepare_change.new.self c.reserve_starts.new.self rows c.in-Ok.ensures.spool c.in-Ok.ensures.spare_queues c.in-Ok.ensures.spare_forms c.in-Ok.ensures.spare_characteristics
+          c.in-Ok.ensures.spare_entries c.in_ok-change.change c.in_ok-change.ensures.ready;
       sound = sound_after c.built_changes_keep_consistent.ensures (system_of c.args.self.now) (system_of c.reserve_starts.new.self) c.args.now c.args.node c.node_name-name.result c.args.request.now
           c.in_ok-change.change (rows ∙ c.in_ok-change.ensures.rows) c.node_name-name.ensures c.requires.sound c.requires.serves c.requires.built below c.in_ok-change.ensures.decided c.in_ok-change.ensures.made;
       none_yet = c.in-Ok.ensures.empty;

@@ -7,18 +7,18 @@ use Rattle.qm_model.specs.JobStates.{run_of}
 use Rattle.qm_sched.specs.Tables.{Tables}
 use Rattle.qm_state.specs.Image.{system_of}
 use Rattle.qm_state.proofs.Accepting.{accepted, number_left, waits_at_first}
-use Rattle.qm_state.proofs.image.Image.take_job.Goals as goal
+use Rattle.qm_state.proofs.image.Image.new_entry.Goals as goal
 
 pub returns-clause-ready : goal.returns-clause-ready
 unfolding system_of
 returns-clause-ready c =
-    let holds = accepted (system_of c.args.self.now) c.args.job.now c.requires in
-    let e = c.entry_of-entry.ensures in
+    let holds = accepted (system_of c.args.self.now) c.args.job.now c.requires.accepted in
+    let e = c.entry_of.ensures in
     record {
       number = ap (λ (x : Entry). x.number) e;
       idle = ap (λ (x : Entry). run_of x.state) e ∙ waits_at_first c.args.job.now.hold c.args.job.now.after c.args.now;
       next = number_left c.args.self.now.next_entry (omega (arith, c.next_number-number.ensures.value, c.next_number-number.ensures.fits)) holds.number;
-      few = omega (arith, holds.few, ap (λ (t : Tables). length t.entries) c.reserve_entry.ensures.tables);
-      room = c.in_ok-reserve_entry.ensures.ok;
+      few = holds.few;
+      room = c.requires.room;
       file = subst (λ (n : FileName). IsSome (file_named n c.args.self.now.spool.files)) (sym (ap (λ (x : Entry). x.file) e)) holds.there;
     }

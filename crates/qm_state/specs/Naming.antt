@@ -1,0 +1,17 @@
+-- What entries and queues name.
+use Rattle.std.specs.Prelude.{ℕ, ◌==◌, Bool, not, bit_and}
+use Rattle.qm_kinds.specs.declared.entry.Entry.{Entry}
+use Rattle.qm_model.specs.Find.{same_file_name}
+use Rattle.qm_model.specs.Forms.{is_named}
+use Rattle.qm_state.specs.declared.naming.Named.{Named}
+use Rattle.qm_state.specs.declared.naming.Named.TheVariants.{File, Form, Characteristics}
+
+-- one set has something of the other
+abbrev pub has_one_of : ℕ → ℕ → Bool
+has_one_of wanted set = not (bit_and set wanted == 0)
+
+-- the entry has the file, the form, or one of the characteristics
+abbrev pub names : Named → Entry → Bool
+names (File name) e = same_file_name e.file name.now
+names (Form name) e = is_named name.now e.form
+names (Characteristics wanted) e = has_one_of wanted.0 e.characteristics.0

@@ -1,0 +1,158 @@
+// Characteristics are defined and deleted.
+ghost use Rattle.std.specs.Prelude.{◌≡◌, ℕ, List, [], None, IfOk};
+ghost use Rattle.qm_model.specs.Characteristics.{is_characteristic_taken, define_characteristic_refusal, characteristic_defined, delete_characteristic_refusal, characteristic_deleted};
+ghost use Rattle.qm_model.specs.Referring.{refused_by_queue};
+ghost use Rattle.qm_state.specs.Image.{system_of};
+ghost use Rattle.qm_state.specs.Naming.{has_one_of};
+ghost use Rattle.qm_state.specs.Preparing.{found, outcome_of, CanDefineCharacteristic, IsReady};
+ghost use Rattle.qm_state.specs.Refusing.{Decides, KeepsRefused};
+
+use crate::image::Image;
+use crate::limits::LAST_CHARACTERISTIC;
+use crate::naming::{Named, has_one_of, refused_by_entry};
+use crate::prepared::Change;
+use crate::refusals::{first_refusal, refused_where};
+use crate::refused::Refused;
+use qm_forms::FormTable;
+use qm_kinds::{
+    Act, Characteristic, CharacteristicSet, Holder, Name, NameOrNumber, Queue, Refusal,
+};
+use std::alloc::AllocError;
+
+// Whether a characteristic has the name or the number.
+fn is_characteristic_taken(forms: &FormTable, characteristic: &Characteristic) -> bool
+    ensures { result ≡ is_characteristic_taken forms.now.characteristics characteristic.now }
+{
+    let number = NameOrNumber::Number(u16::from(characteristic.number));
+    forms
+        .characteristic(&NameOrNumber::Name(characteristic.name))
+        .is_some()
+        || forms.characteristic(&number).is_some()
+}
+
+// The first queue by name that has one of the characteristics makes it stay.
+fn refused_as_set(queues: &[Queue], wanted: CharacteristicSet) -> Option<Refusal>
+    ensures { result ≡ refused_by_queue (λ q. has_one_of wanted.0 q.characteristics.0) queues.now }
+{
+    let queue = queues
+        .iter()
+        .find(|queue| has_one_of(wanted, queue.characteristics))?;
+    Some(Refusal::Referenced {
+        by: Holder::Queue(queue.name),
+    })
+}
+
+impl Image {
+    // Why a characteristic can't be defined.
+    #[tactic(auto, unfolding(crate::specs::Image::system_of))]
+    fn define_characteristic_refusal(&self, characteristic: &Characteristic) -> Option<Refusal>
+        ensures { result ≡ define_characteristic_refusal (system_of self.now) characteristic.now }
+    {
+        let refusals = [
+            refused_where(
+                characteristic.number > LAST_CHARACTERISTIC,
+                Refusal::BadValue,
+            ),
+            refused_where(
+                is_characteristic_taken(self.parts.form_table(), characteristic),
+                Refusal::DuplicateCharacteristic,
+            ),
+        ];
+        first_refusal(&refusals)
+    }
+
+    // Takes the memory for a characteristic that isn't refused.
+    #[tactic(auto, unfolding(crate::specs::Image::system_of))]
+    fn take_characteristic<'a>(
+        &mut self,
+        characteristic: &Characteristic,
+    ) -> Result<Change<'a>, AllocError>
+        requires { define_characteristic_refusal (system_of self.old) characteristic.now ≡ None }
+        ensures rows { system_of self.new ≡ system_of self.old }
+        ensures ready { IfOk result (IsReady self.new) }
+        ensures made { IfOk result (λ change. (now : ℕ) (node : List ℕ) → outcome_of change now node (found now (system_of self.old)) ≡ characteristic_defined (found now (system_of self.old)) characteristic.now) }
+    {
+        self.parts.reserve_characteristic()?;
+        Ok(Change::NewCharacteristic {
+            characteristic: *characteristic,
+        })
+    }
+
+    /// Decides on a characteristic that is defined, and takes the memory for it.
+    #[inline(never)]
+    pub(crate) fn prepare_define_characteristic<'a>(
+        &mut self,
+        characteristic: &Characteristic,
+    ) -> Result<Change<'a>, Refused>
+        ensures rows { system_of self.new ≡ system_of self.old }
+        ensures decided { Decides (define_characteristic_refusal (system_of self.old) characteristic.now) result }
+        ensures untouched { KeepsRefused self.old self.new result }
+        ensures ready { IfOk result (IsReady self.new) }
+        ensures made { IfOk result (λ change. (now : ℕ) (node : List ℕ) → outcome_of change now node (found now (system_of self.old)) ≡ characteristic_defined (found now (system_of self.old)) characteristic.now) }
+    {
+        if let Some(refusal) = self.define_characteristic_refusal(characteristic) {
+            return Err(Refused::By(refusal));
+        }
+        match self.take_characteristic(characteristic) {
+            Ok(change) => Ok(change),
+            Err(AllocError) => Err(Refused::NoMemory),
+        }
+    }
+
+    // Why a characteristic can't be deleted. The entries are looked at only where nothing else refuses it.
+    #[tactic(auto, unfolding(crate::specs::Image::system_of))]
+    fn delete_characteristic_refusal(&self, name: &Name) -> Option<Refusal>
+        ensures { result ≡ delete_characteristic_refusal (system_of self.now) name.now }
+    {
+        let wanted = NameOrNumber::Name(*name);
+        if self.parts.form_table().characteristic(&wanted).is_none() {
+            return Some(Refusal::NoSuchCharacteristic { wanted });
+        }
+        let set = self.parts.form_table().set_of(&[wanted]);
+        if let Some(refusal) = refused_as_set(self.parts.queues(), set) {
+            return Some(refusal);
+        }
+        refused_by_entry(self.parts.entries(), &Named::Characteristics(set))
+    }
+
+    /// Decides on a characteristic that is deleted.
+    #[tactic(auto, unfolding(crate::specs::Image::system_of))]
+    #[inline(never)]
+    pub(crate) fn prepare_delete_characteristic<'a>(
+        &self,
+        name: &Name,
+    ) -> Result<Change<'a>, Refused>
+        ensures decided { Decides (delete_characteristic_refusal (system_of self.now) name.now) result }
+        ensures ready { IfOk result (IsReady self.now) }
+        ensures made { IfOk result (λ prepared. (now : ℕ) (node : List ℕ) → outcome_of prepared now node (found now (system_of self.now)) ≡ characteristic_deleted (found now (system_of self.now)) name.now) }
+    {
+        if let Some(refusal) = self.delete_characteristic_refusal(name) {
+            return Err(Refused::By(refusal));
+        }
+        Ok(Change::RemoveCharacteristic { name: *name })
+    }
+
+    /// The characteristic stands in its place by number, for which there is room.
+    #[tactic(auto, unfolding(crate::specs::Image::system_of))]
+    #[inline(never)]
+    pub(crate) fn define_characteristic(&mut self, characteristic: Characteristic) -> Act
+        requires { CanDefineCharacteristic self.old characteristic }
+        ensures done { characteristic_defined (system_of self.old) characteristic ≡ record { system = system_of self.new; reply = record { act = result; started = [] } } }
+        ensures room { self.new.parts.spare_runs ≡ self.old.parts.spare_runs }
+    {
+        let name = characteristic.name;
+        self.parts.define_characteristic(characteristic);
+        Act::CharacteristicDefined { name }
+    }
+
+    /// The characteristic goes.
+    #[tactic(auto, unfolding(crate::specs::Image::system_of))]
+    #[inline(never)]
+    pub(crate) fn remove_characteristic(&mut self, name: &Name) -> Act
+        ensures done { characteristic_deleted (system_of self.old) name.now ≡ record { system = system_of self.new; reply = record { act = result; started = [] } } }
+        ensures room { self.new.parts.spare_runs ≡ self.old.parts.spare_runs }
+    {
+        self.parts.delete_characteristic(name);
+        Act::CharacteristicDeleted { name: *name }
+    }
+}

@@ -1,0 +1,124 @@
+// A file is filled with lines, or dropped.
+ghost use Rattle.std.specs.Prelude.{◌≡◌, ℕ, List, [], length, find, None, IfOk, IsSome};
+ghost use Rattle.qm_model.specs.Appending.{append_refusal, appended};
+ghost use Rattle.qm_model.specs.Filing.{filling, fill_refusal, filled, drop_refusal, dropped};
+ghost use Rattle.qm_model.specs.Find.{file_named};
+ghost use Rattle.qm_state.specs.Image.{system_of};
+ghost use Rattle.qm_state.specs.Preparing.{found, outcome_of, CanDrop, IsReady};
+ghost use Rattle.qm_state.specs.Refusing.{Decides, KeepsRefused};
+
+use crate::image::Image;
+use crate::prepared::Change;
+use crate::refused::Refused;
+use qm_kinds::{Act, FileName, Refusal};
+use std::alloc::{AllocError, Global};
+
+// A line of 63 letters.
+const LINE: &str = "xxxxxxxxxxxxxxxxxxxxxxxxxxxxxxxxxxxxxxxxxxxxxxxxxxxxxxxxxxxxxxx\n";
+
+// How many bytes so many lines have.
+fn filling_size(lines: u16) -> usize
+    ensures { result ≡ length (filling lines) }
+{
+    usize::from(lines) * LINE.len()
+}
+
+// So many lines.
+fn filling(alloc: Global, lines: u16) -> Result<Vec<u8>, AllocError>
+    ensures { IfOk result (λ bytes. bytes.items ≡ filling lines) }
+{
+    Ok(LINE.repeat(alloc, usize::from(lines))?.into_bytes())
+}
+
+impl Image {
+    // Takes room for more lines of a file that is there.
+    #[tactic(auto, unfolding(crate::specs::Image::system_of))]
+    fn take_more_lines<'a>(
+        &mut self,
+        name: &FileName,
+        bytes: Vec<u8>,
+    ) -> Result<Change<'a>, AllocError>
+        requires there { IsSome (file_named name.now self.old.spool.files) }
+        requires accepted { append_refusal (system_of self.old) name.now bytes.items ≡ None }
+        ensures rows { system_of self.new ≡ system_of self.old }
+        ensures ready { IfOk result (IsReady self.new) }
+        ensures made { IfOk result (λ change. (now : ℕ) (node : List ℕ) → outcome_of change now node (found now (system_of self.old)) ≡ appended (found now (system_of self.old)) name.now bytes.items) }
+    {
+        self.spool.reserve_bytes(name, bytes.len())?;
+        Ok(Change::MoreLines { name: *name, bytes })
+    }
+
+    // Takes the memory for lines that aren't refused.
+    fn take_lines<'a>(&mut self, name: &FileName, lines: u16) -> Result<Change<'a>, AllocError>
+        requires { fill_refusal (system_of self.old) name.now lines ≡ None }
+        ensures rows { system_of self.new ≡ system_of self.old }
+        ensures ready { IfOk result (IsReady self.new) }
+        ensures made { IfOk result (λ change. (now : ℕ) (node : List ℕ) → outcome_of change now node (found now (system_of self.old)) ≡ filled (found now (system_of self.old)) name.now lines) }
+    {
+        let bytes = filling(self.alloc, lines)?;
+        if self.spool.bytes(name).is_some() {
+            self.take_more_lines(name, bytes)
+        } else {
+            self.take_file_of(name, bytes)
+        }
+    }
+
+    /// Decides on lines for a file, and takes the memory for them.
+    #[inline(never)]
+    pub(crate) fn prepare_fill<'a>(
+        &mut self,
+        name: &FileName,
+        lines: u16,
+    ) -> Result<Change<'a>, Refused>
+        ensures rows { system_of self.new ≡ system_of self.old }
+        ensures decided { Decides (fill_refusal (system_of self.old) name.now lines) result }
+        ensures untouched { KeepsRefused self.old self.new result }
+        ensures ready { IfOk result (IsReady self.new) }
+        ensures made { IfOk result (λ change. (now : ℕ) (node : List ℕ) → outcome_of change now node (found now (system_of self.old)) ≡ filled (found now (system_of self.old)) name.now lines) }
+    {
+        if let Some(refusal) = self.append_refusal(name, filling_size(lines)) {
+            return Err(Refused::By(refusal));
+        }
+        match self.take_lines(name, lines) {
+            Ok(change) => Ok(change),
+            Err(AllocError) => Err(Refused::NoMemory),
+        }
+    }
+
+    // Why a file can't be dropped.
+    #[tactic(auto, unfolding(crate::specs::Image::system_of))]
+    fn drop_refusal(&self, name: &FileName) -> Option<Refusal>
+        ensures { result ≡ drop_refusal (system_of self.now) name.now }
+    {
+        if !self.has_file(name) {
+            return Some(Refusal::NoSuchFile);
+        }
+        self.refused_as_named(name)
+    }
+
+    /// Decides on a file that is dropped.
+    #[tactic(auto, unfolding(crate::specs::Image::system_of))]
+    #[inline(never)]
+    pub(crate) fn prepare_drop<'a>(&self, name: &FileName) -> Result<Change<'a>, Refused>
+        ensures decided { Decides (drop_refusal (system_of self.now) name.now) result }
+        ensures ready { IfOk result (IsReady self.now) }
+        ensures made { IfOk result (λ prepared. (now : ℕ) (node : List ℕ) → outcome_of prepared now node (found now (system_of self.now)) ≡ dropped (found now (system_of self.now)) name.now) }
+    {
+        if let Some(refusal) = self.drop_refusal(name) {
+            return Err(Refused::By(refusal));
+        }
+        Ok(Change::RemoveFile { name: *name })
+    }
+
+    /// The file goes, which no entry names.
+    #[tactic(auto, unfolding(crate::specs::Image::system_of))]
+    #[inline(never)]
+    pub(crate) fn remove_file(&mut self, name: &FileName) -> Act
+        requires { CanDrop self.old name.now }
+        ensures done { dropped (system_of self.old) name.now ≡ record { system = system_of self.new; reply = record { act = result; started = [] } } }
+        ensures room { self.new.parts.spare_runs ≡ self.old.parts.spare_runs }
+    {
+        self.spool.remove(name);
+        Act::Dropped { file: *name }
+    }
+}

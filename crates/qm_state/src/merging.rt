@@ -1,0 +1,73 @@
+// The waiting jobs of one queue are moved to another.
+ghost use Rattle.std.specs.Prelude.{◌≡◌, ◌≤◌, ℕ, List, [], IfOk};
+ghost use Rattle.qm_kinds.specs.declared.system.System.{System};
+ghost use Rattle.qm_model.specs.Consistent.{IsConsistent};
+ghost use Rattle.qm_model.specs.Merging.{merge_refusal, merged};
+ghost use Rattle.qm_state.specs.Image.{system_of};
+ghost use Rattle.qm_state.specs.Preparing.{found, outcome_of, IsReady};
+ghost use Rattle.qm_state.specs.Refusing.{Decides};
+
+use crate::image::Image;
+use crate::kinds::take_same_jobs;
+use crate::prepared::Change;
+use crate::refusals::refused_where;
+use crate::refused::Refused;
+use qm_kinds::{Act, Name, Refusal};
+use qm_queues::QueueTable;
+
+// Why the jobs of one queue can't be moved to another.
+fn merge_refusal(queues: &QueueTable, to: &Name, from: &Name) -> Option<Refusal>
+    ensures { (s : System) → s.queues ≡ queues.now.queues → result ≡ merge_refusal s to.now from.now }
+{
+    let Some(target) = queues.get(to) else {
+        return Some(Refusal::NoSuchQueue { name: *to });
+    };
+    let Some(source) = queues.get(from) else {
+        return Some(Refusal::NoSuchQueue { name: *from });
+    };
+    refused_where(
+        !take_same_jobs(target.kind, source.kind),
+        Refusal::WrongKind,
+    )
+}
+
+impl Image {
+    // Why ASSIGN/MERGE is refused, if it is.
+    #[tactic(auto, unfolding(crate::specs::Image::system_of))]
+    fn merge_refusal(&self, to: &Name, from: &Name) -> Option<Refusal>
+        ensures { result ≡ merge_refusal (system_of self.now) to.now from.now }
+    {
+        merge_refusal(self.parts.queue_table(), to, from)
+    }
+
+    /// Decides on jobs that are moved to another queue.
+    #[tactic(auto, unfolding(crate::specs::Image::system_of))]
+    #[inline(never)]
+    pub(crate) fn prepare_merge<'a>(&self, to: &Name, from: &Name) -> Result<Change<'a>, Refused>
+        ensures decided { Decides (merge_refusal (system_of self.now) to.now from.now) result }
+        ensures ready { IfOk result (IsReady self.now) }
+        ensures made { IfOk result (λ prepared. (now : ℕ) (node : List ℕ) → outcome_of prepared now node (found now (system_of self.now)) ≡ merged (found now (system_of self.now)) to.now from.now) }
+    {
+        if let Some(refusal) = self.merge_refusal(to, from) {
+            return Err(Refused::By(refusal));
+        }
+        Ok(Change::Merge {
+            to: *to,
+            from: *from,
+        })
+    }
+
+    /// The jobs that wait in the one queue have the other as their home.
+    #[tactic(auto, unfolding(crate::specs::Image::system_of))]
+    #[inline(never)]
+    pub(crate) fn merge(&mut self, to: &Name, from: &Name) -> Act
+        requires { IsConsistent (system_of self.old) }
+        ensures done { merged (system_of self.old) to.now from.now ≡ record { system = system_of self.new; reply = record { act = result; started = [] } } }
+        ensures room { self.new.parts.spare_runs ≡ self.old.parts.spare_runs }
+    {
+        let moved = self.parts.merge(to, from);
+        Act::Moved {
+            entries: moved as u32,
+        }
+    }
+}
