@@ -1,10 +1,18 @@
 -- What holds of each form of a command that is built holds of all that texts ask for.
-use Rattle.std.proofs.Common.{ℕ, Bool, true, false, cond, nat_lt, List, Option, None, Some, Result, Ok, Err, IfOk, IfSome}
-use Rattle.std.specs.Prelude.{option_map, option_and_then, ok_or}
+use Rattle.std.proofs.Common.{◌≡◌, lit<, ℕ, Bool, true, false, cond, ◌&&◌, nat_lt, List, [], Option, None, Some, Result, Ok, Err, IfOk, IfSome, refl}
+use Rattle.std.specs.Prelude.{option_map, option_and_then, ok_or, unwrap_or}
+use Rattle.std.specs.Option.{option_map_or}
+use Rattle.qm_kinds.specs.declared.entry.JobKind.{JobKind}
+use Rattle.qm_kinds.specs.declared.entry.JobKind.TheVariants.{Batch, Print}
 use Rattle.qm_kinds.specs.declared.file.FileName.{FileName}
+use Rattle.qm_kinds.specs.declared.form.Form.{Form}
+use Rattle.qm_kinds.specs.declared.form.Characteristic.{Characteristic}
 use Rattle.qm_kinds.specs.declared.input.Input.{Input}
 use Rattle.qm_kinds.specs.declared.input.Input.TheVariants.{Ask, Show}
-use Rattle.qm_kinds.specs.declared.request.Request.TheVariants.{InitializeQueue, SetQueue, StartQueue, StopQueue, AbortJob, DeleteQueue, DeleteEntry}
+use Rattle.qm_kinds.specs.declared.queue.NewQueue.{NewQueue}
+use Rattle.qm_kinds.specs.declared.queue.QueueChange.{QueueChange}
+use Rattle.qm_kinds.specs.declared.request.Job.{Job}
+use Rattle.qm_kinds.specs.declared.request.Request.TheVariants.{DefineForm, DeleteForm, DefineCharacteristic, DeleteCharacteristic, InitializeQueue, SetQueue, StartQueue, StopQueue, AbortJob, DeleteQueue, Merge, Submit, DeleteEntry}
 use Rattle.qm_kinds.specs.declared.request.StopMode.{StopMode}
 use Rattle.qm_kinds.specs.declared.request.StopMode.TheVariants as mode
 use Rattle.qm_grammar.specs.declared.fault.Fault.{Fault}
@@ -12,43 +20,90 @@ use Rattle.qm_grammar.specs.declared.table.Command.{Command}
 use Rattle.qm_grammar.specs.declared.table.Command.TheVariants as command
 use Rattle.qm_grammar.specs.Finding.{named_command}
 use Rattle.qm_grammar.specs.Parsed.{tokens_in, parts_in, command_in}
+use Rattle.qm_model.specs.Built.{is_short, is_built as is_built_request}
+use Rattle.qm_dcl.specs.declared.lists.Lists.{Lists}
 use Rattle.qm_dcl.specs.declared.settings.Settings.{Settings}
+use Rattle.qm_dcl.specs.declared.settings.Definition.{Definition}
 use Rattle.qm_dcl.specs.declared.settings.Stop.{Stop}
 use Rattle.qm_dcl.specs.declared.settings.Stop.TheVariants as stop
+use Rattle.qm_dcl.specs.declared.value.Location.{Location}
 use Rattle.qm_dcl.specs.Built.{is_built}
+use Rattle.qm_dcl.specs.Forms.{form_named}
 use Rattle.qm_dcl.specs.Settings.{settings_of}
-use Rattle.qm_dcl.specs.Submitting.{submit_of}
+use Rattle.qm_dcl.specs.Lists.{lists_of}
+use Rattle.qm_dcl.specs.Submitting.{job_of}
 use Rattle.qm_dcl.specs.Showing.{query_of}
-use Rattle.qm_dcl.specs.Queues.{change_of, batch_queue_of, stop_of, queue_request}
-use Rattle.qm_dcl.specs.Command.{asked, not_built, judged, asked_with, command_named, command_of}
-use Rattle.qm_dcl.proofs.ShortNames.{IsShort, HasShortName, settings_are_short}
+use Rattle.qm_dcl.specs.Queues.{change_of, new_queue_of, stop_of, queue_request}
+use Rattle.qm_dcl.specs.Command.{asked, not_built, judged, asked_with, meant, command_named, command_of}
+use Rattle.qm_dcl.proofs.FewValues.{HasFew, AreShort, lists_are_short}
+use Rattle.qm_dcl.proofs.ShortNames.{IsShort, IsDefinable, HasShortDevice, AreFit, settings_are_fit}
 
-later_or_first : (earlier : Bool) (value f : Fault) → IfOk (cond earlier (Err value) (Err f)) HasShortName
+later_or_first : (earlier : Bool) (value f : Fault) → IfOk (cond earlier (Err value) (Err f)) AreFit
 later_or_first true value f = tt
 later_or_first false value f = tt
 
-judged_short : (found : Result Command Fault) (given : Result Settings Fault) → IfOk given HasShortName → IfOk (judged found given) HasShortName
-judged_short (Ok c) given short = short
-judged_short (Err f) (Ok s) short = tt
-judged_short (Err f) (Err value) short = later_or_first (nat_lt value.place f.place) value f
+judged_fit : (found : Result Command Fault) (given : Result Settings Fault) → IfOk given AreFit → IfOk (judged found given) AreFit
+judged_fit (Ok c) given fit = fit
+judged_fit (Err f) (Ok s) fit = tt
+judged_fit (Err f) (Err value) fit = later_or_first (nat_lt value.place f.place) value f
+
+both : (a b : Bool) → a ≡ true → b ≡ true → (a && b) ≡ true
+both true b left right = right
+both false b left right = left
+
+first_of_both : (a b : Bool) → (a && b) ≡ true → a ≡ true
+first_of_both true b h = refl
+first_of_both false b h = h
+
+-- no list that is given has more values than its count can say
+abbrev pub HasFewIfGiven : {X : Type 0} → Option (List X) → Type 0
+HasFewIfGiven given = IfSome given HasFew
+
+or_empty : {X : Type 0} (given : Option (List X)) → HasFewIfGiven given → HasFew (unwrap_or given [])
+or_empty None few = lit< tt
+or_empty (Some xs) few = few
 
 -- it holds of each form that is built
-pub record OfEach (P : Input → Type 0) (user : List ℕ) : Type 0 where
-  pub submits : (file : FileName) (s : Settings) → P (Ask (submit_of user file s))
+pub record OfEach (P : Input → Type 0) : Type 0 where
   pub shows : (number : ℕ) → P (Show (query_of number))
+  pub submits : (job : Job) → HasFew job.characteristics → P (Ask (Submit job))
   pub deletes_entry : (number : ℕ) → P (Ask (DeleteEntry number))
-  pub initializes : (name : List ℕ) (s : Settings) → IsShort name → P (Ask (InitializeQueue (batch_queue_of name s)))
-  pub sets : (name : List ℕ) (s : Settings) → P (Ask (SetQueue name (change_of s)))
-  pub starts : (name : List ℕ) (s : Settings) → P (Ask (StartQueue name (change_of s)))
+  pub defines_form : (form : Form) → is_built_request (DefineForm form) ≡ true → P (Ask (DefineForm form))
+  pub deletes_form : (name : List ℕ) → P (Ask (DeleteForm name))
+  pub defines_characteristic : (c : Characteristic) → is_built_request (DefineCharacteristic c) ≡ true → P (Ask (DefineCharacteristic c))
+  pub deletes_characteristic : (name : List ℕ) → P (Ask (DeleteCharacteristic name))
+  pub initializes : (new : NewQueue) → is_built_request (InitializeQueue new) ≡ true → HasFew new.targets → HasFewIfGiven new.change.characteristics
+      → P (Ask (InitializeQueue new))
+  pub sets : (name : List ℕ) (change : QueueChange) → HasFewIfGiven change.characteristics → P (Ask (SetQueue name change))
+  pub starts : (name : List ℕ) (change : QueueChange) → HasFewIfGiven change.characteristics → P (Ask (StartQueue name change))
   pub stops : (name : List ℕ) (how : StopMode) → P (Ask (StopQueue name how))
   pub aborts : (name : List ℕ) (entry : Option ℕ) (requeue : Bool) → P (Ask (AbortJob name entry requeue))
   pub deletes_queue : (name : List ℕ) → P (Ask (DeleteQueue name))
+  pub merges : (to from : List ℕ) → P (Ask (Merge to from))
 
-module _ {P : Input → Type 0} {user : List ℕ} (each : OfEach P user) where
-  of_new : (batch : Bool) (name : List ℕ) (s : Settings) → IsShort name → IfSome (option_map Ask (cond batch (Some (InitializeQueue (batch_queue_of name s))) None)) P
-  of_new true name s short = each.initializes name s short
-  of_new false name s short = tt
+-- ---- what is new has a name that it can have
 
+own_or_stock : (name : List ℕ) (stock : Option (List ℕ)) → IsDefinable name → IfSome stock IsShort → is_short (unwrap_or stock name) ≡ true
+own_or_stock name None is short = first_of_both _ _ is
+own_or_stock name (Some stock) is short = short
+
+form_built : (d : Definition) (name : List ℕ) (number : ℕ) → IsDefinable name → IfSome d.stock IsShort → is_built_request (DefineForm (form_named d name number)) ≡ true
+form_built d name number is short = both _ _ is (own_or_stock name d.stock is short)
+
+device_short : (device : Option (List ℕ)) → IfSome device IsShort → option_map_or is_short device true ≡ true
+device_short None short = refl
+device_short (Some name) short = short
+
+device_built : (location : Option Location) → IfSome location HasShortDevice → option_map_or is_short (option_and_then (λ (l : Location). l.device) location) true ≡ true
+device_built None short = refl
+device_built (Some location) short = device_short location.device short
+
+new_built : (name : List ℕ) (s : Settings) (lists : Lists) → IsShort name → AreFit s → is_built_request (InitializeQueue (new_queue_of name s.queue_settings lists)) ≡ true
+new_built name s lists short fit = both _ _ short (device_built s.queue_settings.location fit.1)
+
+-- ---- command by command
+
+module _ {P : Input → Type 0} (each : OfEach P) (user : List ℕ) where
   of_stop : (name : List ℕ) (how : Option Stop) (entry : Option ℕ) → P (Ask (stop_of name how entry))
   of_stop name None None = each.stops name mode.Pause
   of_stop name None (Some entry) = each.aborts name (Some entry) false
@@ -57,53 +112,85 @@ module _ {P : Input → Type 0} {user : List ℕ} (each : OfEach P user) where
   of_stop name (Some stop.Abort) entry = each.aborts name entry false
   of_stop name (Some stop.Requeue) entry = each.aborts name entry true
 
-  of_request : (c : Command) (name : List ℕ) (s : Settings) → IsShort name → IfSome (option_map Ask (queue_request name c s)) P
-  of_request command.InitializeQueue name s short = of_new s.batch name s short
-  of_request command.SetQueue name s short = each.sets name s
-  of_request command.StartQueue name s short = each.starts name s
-  of_request command.StopQueue name s short = of_stop name s.stop s.entry
-  of_request command.DeleteQueue name s short = each.deletes_queue name
-  of_request _ name s short = tt
+  of_merge : (to : List ℕ) (from : Option (List ℕ)) → IfSome (option_map Ask (option_map (Merge to) from)) P
+  of_merge to None = tt
+  of_merge to (Some from) = each.merges to from
 
-  of_queue : (c : Command) (queue : Option (List ℕ)) (s : Settings) → IfSome queue IsShort → IfSome (option_map Ask (option_and_then (λ name. queue_request name c s) queue)) P
-  of_queue c None s short = tt
-  of_queue c (Some name) s short = of_request c name s short
+  of_form : (d : Definition) (name : Option (List ℕ)) (number : Option ℕ) → IfSome name IsDefinable → IfSome d.stock IsShort
+      → IfSome (option_map Ask (option_map DefineForm (option_and_then (λ n. option_map (form_named d n) number) name))) P
+  of_form d None number is short = tt
+  of_form d (Some name) None is short = tt
+  of_form d (Some name) (Some number) is short = each.defines_form (form_named d name number) (form_built d name number is short)
 
-  of_file : (file : Option FileName) (s : Settings) → IfSome (option_map (λ f. Ask (submit_of user f s)) file) P
-  of_file None s = tt
-  of_file (Some file) s = each.submits file s
+  of_characteristic : (name : Option (List ℕ)) (number : Option ℕ) → IfSome name IsDefinable
+      → IfSome (option_map Ask (option_map DefineCharacteristic (option_and_then (λ n. option_map (λ m. record { name = n; number = m }) number) name))) P
+  of_characteristic None number is = tt
+  of_characteristic (Some name) None is = tt
+  of_characteristic (Some name) (Some number) is = each.defines_characteristic (record { name = name; number = number }) is
+
+  of_form_name : (name : Option (List ℕ)) → IfSome (option_map Ask (option_map DeleteForm name)) P
+  of_form_name None = tt
+  of_form_name (Some name) = each.deletes_form name
+
+  of_characteristic_name : (name : Option (List ℕ)) → IfSome (option_map Ask (option_map DeleteCharacteristic name)) P
+  of_characteristic_name None = tt
+  of_characteristic_name (Some name) = each.deletes_characteristic name
+
+  of_entry : (number : Option ℕ) → IfSome (option_map Ask (option_map DeleteEntry number)) P
+  of_entry None = tt
+  of_entry (Some number) = each.deletes_entry number
 
   of_shown : (number : Option ℕ) → IfSome (option_map (λ n. Show (query_of n)) number) P
   of_shown None = tt
   of_shown (Some number) = each.shows number
 
-  of_entry : (number : Option ℕ) → IfSome (option_map (λ n. Ask (DeleteEntry n)) number) P
-  of_entry None = tt
-  of_entry (Some number) = each.deletes_entry number
+  module _ (s : Settings) (lists : Lists) (fit : AreFit s) (short : AreShort lists) where
+    of_file : (kind : JobKind) (file : Option FileName) → IfSome (option_map Ask (option_map (λ f. Submit (job_of user kind f s lists)) file)) P
+    of_file kind None = tt
+    of_file kind (Some file) = each.submits (job_of user kind file s lists) (or_empty lists.characteristics short.0)
 
-  of_command : (c : Command) (s : Settings) → HasShortName s → IfSome (asked user c s) P
-  of_command command.Submit s short = of_file s.file s
-  of_command command.ShowEntry s short = of_shown s.entry
-  of_command command.DeleteEntry s short = of_entry s.entry
-  of_command c s short = of_queue c s.queue s short
+    of_request : (c : Command) (name : List ℕ) → IsShort name → IfSome (option_map Ask (queue_request name c s lists)) P
+    of_request command.InitializeQueue name is =
+        each.initializes (new_queue_of name s.queue_settings lists) (new_built name s lists is fit) (or_empty lists.targets short.1) short.0
+    of_request command.SetQueue name is = each.sets name (change_of s.queue_settings lists.characteristics) short.0
+    of_request command.StartQueue name is = each.starts name (change_of s.queue_settings lists.characteristics) short.0
+    of_request command.StopQueue name is = of_stop name s.stop s.entry
+    of_request command.DeleteQueue name is = each.deletes_queue name
+    of_request command.AssignMerge name is = of_merge name s.source
+    of_request _ name is = tt
+
+    of_queue : (c : Command) (queue : Option (List ℕ)) → IfSome queue IsShort → IfSome (option_map Ask (option_and_then (λ name. queue_request name c s lists) queue)) P
+    of_queue c None is = tt
+    of_queue c (Some name) is = of_request c name is
+
+    of_command : (c : Command) → IfSome (asked user c s lists) P
+    of_command command.ShowEntry = of_shown s.entry
+    of_command command.Submit = of_file Batch s.file
+    of_command command.Print = of_file Print s.file
+    of_command command.DeleteEntry = of_entry s.entry
+    of_command command.DefineForm = of_form s.definition s.definition.name s.definition.form_number fit.2 fit.3
+    of_command command.DefineCharacteristic = of_characteristic s.definition.name s.definition.characteristic_number fit.2
+    of_command command.DeleteForm = of_form_name s.definition.name
+    of_command command.DeleteCharacteristic = of_characteristic_name s.definition.name
+    of_command c = of_queue c s.queue fit.0
 
   or_not_built : (o : Option Input) → IfSome o P → IfOk (ok_or o not_built) P
   or_not_built None h = tt
   or_not_built (Some input) h = h
 
-  of_given : (c : Command) (given : Result Settings Fault) → IfOk given HasShortName → IfOk (asked_with user c given) P
-  of_given c (Ok s) short = or_not_built (asked user c s) (of_command c s short)
-  of_given c (Err f) short = tt
+  of_given : (c : Command) (lists : Lists) (given : Result Settings Fault) → AreShort lists → IfOk given AreFit → IfOk (asked_with user c lists given) P
+  of_given c lists (Ok s) short fit = or_not_built (asked user c s lists) (of_command s lists fit short c)
+  of_given c lists (Err f) short fit = tt
 
-  of_built : (built : Bool) (c : Command) (given : Result Settings Fault) → IfOk given HasShortName → IfOk (cond built (asked_with user c given) (Err not_built)) P
-  of_built true c given short = of_given c given short
-  of_built false c given short = tt
+  of_built : (built : Bool) (text : List ℕ) (c : Command) → IfOk (cond built (meant user text c) (Err not_built)) P
+  of_built true text c =
+      of_given c (lists_of text (parts_in text)) (judged (command_in text) (settings_of text c (parts_in text))) (lists_are_short text)
+      (judged_fit (command_in text) (settings_of text c (parts_in text)) (settings_are_fit text c (parts_in text)))
+  of_built false text c = tt
 
   of_named : (text : List ℕ) (named : Option Command) → IfOk (command_named user text named) P
   of_named text None = tt
-  of_named text (Some c) =
-      of_built (is_built text (tokens_in text) c) c (judged (command_in text) (settings_of text c (parts_in text)))
-      (judged_short (command_in text) (settings_of text c (parts_in text)) (settings_are_short text c (parts_in text)))
+  of_named text (Some c) = of_built (is_built text (tokens_in text) c) text c
 
   -- it holds of what a text asks for
   pub of_asked : (text : List ℕ) → IfOk (command_of user text) P

@@ -6,10 +6,12 @@ use Rattle.qm_grammar.specs.declared.fault.Fault.{Fault}
 use Rattle.qm_grammar.specs.declared.table.Command.{Command}
 use Rattle.qm_grammar.specs.Finding.{named_command}
 use Rattle.qm_grammar.specs.Parsed.{tokens_in, parts_in, command_in}
+use Rattle.qm_dcl.specs.declared.lists.Lists.{Lists}
 use Rattle.qm_dcl.specs.declared.settings.Settings.{Settings}
 use Rattle.qm_dcl.specs.Built.{is_built}
 use Rattle.qm_dcl.specs.Settings.{settings_of}
-use Rattle.qm_dcl.specs.Command.{not_built, judged, asked_with, command_named, command_of}
+use Rattle.qm_dcl.specs.Lists.{lists_of}
+use Rattle.qm_dcl.specs.Command.{not_built, judged, asked_with, meant, command_named, command_of}
 
 whatever : (P : Type 0) → P → (r : Result Input Fault) → IfOk r (λ _. P)
 whatever P p (Ok input) = p
@@ -33,22 +35,22 @@ same_wrong f g h = cc
 not_wrong : (c : Command) (f : Fault) (read : Result Command Fault) → read ≡ Ok c → read ≡ wrong f → ⊥
 not_wrong c f read a b = cc
 
-module _ (user : List ℕ) (c : Command) where
+module _ (user : List ℕ) (c : Command) (lists : Lists) where
   -- one of two faults
-  one_told : (P : Type 0) (b : Bool) (f g : Fault) → IfOk (asked_with user c (cond b (Err f) (Err g))) (λ _. P)
+  one_told : (P : Type 0) (b : Bool) (f g : Fault) → IfOk (asked_with user c lists (cond b (Err f) (Err g))) (λ _. P)
   one_told P true f g = tt
   one_told P false f g = tt
 
-  right : (read : Result Command Fault) (given : Result Settings Fault) → IfOk (asked_with user c (judged read given)) (λ _. IsOk read)
-  right (Ok command) given = whatever (IsOk (lawful command)) refl (asked_with user c given)
+  right : (read : Result Command Fault) (given : Result Settings Fault) → IfOk (asked_with user c lists (judged read given)) (λ _. IsOk read)
+  right (Ok command) given = whatever (IsOk (lawful command)) refl (asked_with user c lists given)
   right (Err f) (Ok s) = tt
   right (Err f) (Err value) = one_told (IsOk (wrong f)) (nat_lt value.place f.place) value f
 
-  earlier : (b : Bool) (value f g : Fault) → nat_lt value.place f.place ≡ b → asked_with user c (cond b (Err value) (Err f)) ≡ told g → g.place ≤ f.place
+  earlier : (b : Bool) (value f g : Fault) → nat_lt value.place f.place ≡ b → asked_with user c lists (cond b (Err value) (Err f)) ≡ told g → g.place ≤ f.place
   earlier true value f g lt is = let same = same_told value g is in grind (arith, nat_tests)
   earlier false value f g lt is = let same = same_told f g is in grind (arith, nat_tests)
 
-  first : (read : Result Command Fault) (given : Result Settings Fault) (f g : Fault) → read ≡ wrong f → asked_with user c (judged read given) ≡ told g → g.place ≤ f.place
+  first : (read : Result Command Fault) (given : Result Settings Fault) (f g : Fault) → read ≡ wrong f → asked_with user c lists (judged read given) ≡ told g → g.place ≤ f.place
   first (Ok command) given f g wrong is = absurd (not_wrong command f (Ok command) refl wrong)
   first (Err e) (Ok s) f g wrong is = let a = same_wrong e f wrong in let b = same_told e g is in grind (arith, nat_tests)
   first (Err e) (Err value) f g wrong is =
@@ -57,14 +59,13 @@ module _ (user : List ℕ) (c : Command) where
       subst P a (earlier (nat_lt value.place e.place) value e g refl is)
 
 module _ (user text : List ℕ) where
-  right_built : (built : Bool) (c : Command) (given : Result Settings Fault)
-      → IfOk (cond built (asked_with user c (judged (command_in text) given)) (Err not_built)) (λ _. IsOk (command_in text))
-  right_built true c given = right user c (command_in text) given
-  right_built false c given = tt
+  right_built : (built : Bool) (c : Command) → IfOk (cond built (meant user text c) (Err not_built)) (λ _. IsOk (command_in text))
+  right_built true c = right user c (lists_of text (parts_in text)) (command_in text) (settings_of text c (parts_in text))
+  right_built false c = tt
 
   right_named : (named : Option Command) → IfOk (command_named user text named) (λ _. IsOk (command_in text))
   right_named None = tt
-  right_named (Some c) = right_built (is_built text (tokens_in text) c) c (settings_of text c (parts_in text))
+  right_named (Some c) = right_built (is_built text (tokens_in text) c) c
 
   -- only a command of the grammar asks for something
   pub is_command : IfOk (command_of user text) (λ _. IsOk (command_in text))
@@ -73,14 +74,14 @@ module _ (user text : List ℕ) where
   not_behind : (f g : Fault) → told not_built ≡ told g → g.place ≤ f.place
   not_behind f g is = let same = same_told not_built g is in let at : g.place ≡ 0 = ap (λ (x : Fault). x.place) (sym same) in omega (arith, at)
 
-  first_built : (built : Bool) (c : Command) (given : Result Settings Fault) (f g : Fault) → command_in text ≡ wrong f
-      → cond built (asked_with user c (judged (command_in text) given)) (Err not_built) ≡ told g → g.place ≤ f.place
-  first_built true c given f g wrong is = first user c (command_in text) given f g wrong is
-  first_built false c given f g wrong is = not_behind f g is
+  first_built : (built : Bool) (c : Command) (f g : Fault) → command_in text ≡ wrong f
+      → cond built (meant user text c) (Err not_built) ≡ told g → g.place ≤ f.place
+  first_built true c f g wrong is = first user c (lists_of text (parts_in text)) (command_in text) (settings_of text c (parts_in text)) f g wrong is
+  first_built false c f g wrong is = not_behind f g is
 
   first_named : (named : Option Command) (f g : Fault) → command_in text ≡ wrong f → command_named user text named ≡ told g → g.place ≤ f.place
   first_named None f g wrong is = not_behind f g is
-  first_named (Some c) f g wrong is = first_built (is_built text (tokens_in text) c) c (settings_of text c (parts_in text)) f g wrong is
+  first_named (Some c) f g wrong is = first_built (is_built text (tokens_in text) c) c f g wrong is
 
   -- no fault is told behind the first one of the grammar
   pub is_first : (f g : Fault) → command_in text ≡ wrong f → command_of user text ≡ told g → g.place ≤ f.place

@@ -1,4 +1,5 @@
 pub mod Digits
+pub mod FewValues
 pub mod ShortNames
 pub mod EachAsked
 pub mod FirstFault

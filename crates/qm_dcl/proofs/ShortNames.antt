@@ -1,8 +1,7 @@
--- The name of a queue that is given is short.
-use Rattle.std.proofs.Common.{◌≡◌, ℕ, Bool, true, false, cond, nat_le, List, [], ◌∷◌, length, Option, None, Some, Result, Ok, Err, IfOk, IfSome, refl}
-use Rattle.std.specs.Prelude.{option_map, option_and_then, ok_or}
+-- The names that are given are those that a queue, a device, a form, a characteristic and a stock can have.
+use Rattle.std.proofs.Common.{◌≡◌, ℕ, Bool, true, false, cond, ◌==◌, ◌+◌, List, [], ◌∷◌, take, drop, Option, None, Some, Result, Ok, Err, IfOk, IfSome, refl, sym, subst}
+use Rattle.std.specs.Prelude.{option_map, option_and_then, position}
 use Rattle.qm_kinds.specs.Files.{name_of, file_name_of}
-use Rattle.qm_kinds.specs.declared.name.TheConstants.{SHORT_NAME_BYTES}
 use Rattle.qm_lex.specs.declared.token.Token.{Token}
 use Rattle.qm_grammar.specs.declared.fault.Fault.{Fault}
 use Rattle.qm_grammar.specs.declared.table.Command.{Command}
@@ -11,95 +10,211 @@ use Rattle.qm_grammar.specs.declared.word.Word.{Word}
 use Rattle.qm_grammar.specs.declared.word.Word.TheVariants as words
 use Rattle.qm_grammar.specs.declared.part.Part.{Part}
 use Rattle.qm_grammar.specs.declared.part.Part.TheVariants.{Parameter, Qualifier, Value, KeyValue}
+use Rattle.qm_model.specs.Built.{is_short, is_definable}
 use Rattle.qm_dcl.specs.declared.settings.Settings.{Settings}
-use Rattle.qm_dcl.specs.Values.{said_by, are_digits, byte_said, entry_said, queue_said}
-use Rattle.qm_dcl.specs.Settings.{nothing_given, marked, with_word, entry_given, queue_given, valued, parametered, or_value_fault, with_parameter, with_part, on_settings, settings_from, settings_of}
+use Rattle.qm_dcl.specs.declared.settings.QueueSettings.{QueueSettings}
+use Rattle.qm_dcl.specs.declared.value.Location.{Location}
+use Rattle.qm_dcl.specs.declared.value.Side.{Side}
+use Rattle.qm_dcl.specs.Values.{said_by, raised_by, are_digits, byte_said, form_number_said, entry_said, blocks_said, if_passes, short_name_said, definable_name_said, node_said, form_said, characteristic_said, behind_colon, before_colon, device_said, has_equals, located, location_cut_at, location_said, schedule_said, side_said}
+use Rattle.qm_dcl.specs.Forms.{with_margin}
+use Rattle.qm_dcl.specs.Given.{queue_marked, with_word, with_job, with_queue_settings, with_definition, with_shape, queue_given, entry_given, blocks_with, valued, schedule_given, margin_given, definable_given, form_given, characteristic_given, merge_given, file_given, parametered}
+use Rattle.qm_dcl.specs.Settings.{nothing_given, or_value_fault, with_key, with_value, inner_value, with_part, on_settings, settings_from, settings_of}
 
 abbrev pub IsShort : List ℕ → Type 0
-IsShort name = nat_le (length name) SHORT_NAME_BYTES ≡ true
+IsShort name = is_short name ≡ true
 
--- the name of the queue, if one is given
-abbrev pub HasShortName : Settings → Type 0
-HasShortName s = IfSome s.queue IsShort
+abbrev pub IsDefinable : List ℕ → Type 0
+IsDefinable name = is_definable name ≡ true
 
-if_short : (name : List ℕ) (b : Bool) → nat_le (length name) SHORT_NAME_BYTES ≡ b → IfSome (cond b (Some name) None) IsShort
-if_short name true is = is
-if_short name false is = tt
+abbrev pub HasShortDevice : Location → Type 0
+HasShortDevice location = IfSome location.device IsShort
 
-name_short : (name : Option (List ℕ)) → IfSome (option_and_then (λ n. cond (nat_le (length n) SHORT_NAME_BYTES) (Some n) None) name) IsShort
-name_short None = tt
-name_short (Some name) = if_short name (nat_le (length name) SHORT_NAME_BYTES) refl
+-- the names that are given: of a queue, a device, a form or a characteristic, and a stock
+abbrev pub AreFit : Settings → Type 0
+AreFit s =
+    IfSome s.queue IsShort × IfSome s.queue_settings.location HasShortDevice × IfSome s.definition.name IsDefinable × IfSome s.definition.stock IsShort
 
-queue_short : (s : Settings) (name : Option (List ℕ)) → IfSome name IsShort → IfSome (option_map (λ n. record s { queue = Some n }) name) HasShortName
-queue_short s None short = tt
-queue_short s (Some name) short = short
+-- ---- what names say
 
-queue_given_short : (s : Settings) (said : List ℕ) → IfSome (queue_given s said) HasShortName
-queue_given_short s said = queue_short s (queue_said said) (name_short (name_of said))
+passing : (passes : List ℕ → Bool) (name : List ℕ) (b : Bool) → passes name ≡ b → IfSome (cond b (Some name) None) (λ n. passes n ≡ true)
+passing passes name true is = is
+passing passes name false is = tt
+
+if_passing : (passes : List ℕ → Bool) (name : Option (List ℕ)) → IfSome (option_and_then (if_passes passes) name) (λ n. passes n ≡ true)
+if_passing passes None = tt
+if_passing passes (Some name) = passing passes name (passes name) refl
+
+short_name : (said : List ℕ) → IfSome (short_name_said said) IsShort
+short_name said = if_passing is_short (name_of said)
+
+definable_name : (said : List ℕ) → IfSome (definable_name_said said) IsDefinable
+definable_name said = if_passing is_definable (name_of said)
+
+-- ---- where a queue stands
+
+some_short : (name : Option (List ℕ)) → IfSome name IsShort → IfSome (option_map Some name) (λ n. IfSome n IsShort)
+some_short None short = tt
+some_short (Some name) short = short
+
+named_device : (said : Option (List ℕ)) → IfSome (option_map Some (option_and_then short_name_said said)) (λ device. IfSome device IsShort)
+named_device None = tt
+named_device (Some said) = some_short (short_name_said said) (short_name said)
+
+short_device : (said : List ℕ) → IfSome (device_said said) (λ device. IfSome device IsShort)
+short_device [] = tt
+short_device (b ∷ rest) = named_device (before_colon (b ∷ rest))
+
+node_located : (node : Option (List ℕ)) (device : Option (List ℕ)) → IfSome device IsShort
+    → IfSome (option_map (λ n. record { node = n; device = device }) node) HasShortDevice
+node_located None device short = tt
+node_located (Some n) device short = short
+
+device_located : (node : List ℕ) (device : Option (Option (List ℕ))) → IfSome device (λ d. IfSome d IsShort)
+    → IfSome (option_and_then (located node) device) HasShortDevice
+device_located node None short = tt
+device_located node (Some device) short = node_located (node_said node) device short
+
+behind_located : (node : List ℕ) (behind : Option (List ℕ)) → IfSome (option_and_then (located node) (option_and_then device_said behind)) HasShortDevice
+behind_located node None = tt
+behind_located node (Some said) = device_located node (device_said said) (short_device said)
+
+cut_located : (place : Option ℕ) (said : List ℕ) → IfSome (location_cut_at place said) HasShortDevice
+cut_located None said = tt
+cut_located (Some place) said = behind_located (take place said) (behind_colon (drop (place + 1) said))
+
+location : (said : List ℕ) → IfSome (location_said said) HasShortDevice
+location said = cut_located (position (λ b. b == 58) said) said
+
+-- ---- what is given
+
+-- what is given of something that is fit
+giving : {X : Type 0} (Q : X → Type 0) (give : X → Settings) (given : Option X) → IfSome given Q → ((x : X) → Q x → AreFit (give x)) → IfSome (option_map give given) AreFit
+giving Q give None is fit = tt
+giving Q give (Some x) is fit = fit x is
 
 -- what gives something else
-kept : {X : Type 0} (give : X → Settings) (given : Option X) → ((x : X) → HasShortName (give x)) → IfSome (option_map give given) HasShortName
-kept give None short = tt
-kept give (Some x) short = short x
+kept : {X : Type 0} (give : X → Settings) (given : Option X) → ((x : X) → AreFit (give x)) → IfSome (option_map give given) AreFit
+kept give None fit = tt
+kept give (Some x) fit = fit x
 
-marked_short : (s : Settings) (word : Word) → HasShortName s → HasShortName (marked s word)
-marked_short s words.Restart short = short
-marked_short s words.NoRestart short = short
-marked_short s words.Batch short = short
-marked_short s words.Start short = short
-marked_short s words.Next short = short
-marked_short s words.Reset short = short
-marked_short s words.Abort short = short
-marked_short s words.Requeue short = short
-marked_short s _ short = short
+-- no qualifier by itself says where a queue stands
+marked_location : (queue : QueueSettings) (word : Word) → (queue_marked queue word).location ≡ queue.location
+marked_location queue words.Batch = refl
+marked_location queue words.Start = refl
+marked_location queue words.BlockLimit = refl
+marked_location queue words.NoBlockLimit = refl
+marked_location queue _ = refl
 
-valued_short : (s : Settings) (word : Option Word) (said : List ℕ) → HasShortName s → IfSome (valued s word said) HasShortName
-valued_short s None said short = tt
-valued_short s (Some words.Queue) said short = queue_given_short s said
-valued_short s (Some words.Name) said short = kept (λ name. record s { name = Some name }) (name_of said) (λ name. short)
-valued_short s (Some words.Priority) said short = kept (λ number. record s { priority = Some number }) (byte_said said) (λ number. short)
-valued_short s (Some words.JobLimit) said short = kept (λ number. record s { limit = Some number }) (byte_said said) (λ number. short)
-valued_short s (Some words.Entry) said short = kept (λ number. record s { entry = Some number }) (entry_said said) (λ number. short)
-valued_short s (Some _) said short = tt
+word_fit : (s : Settings) (word : Word) → AreFit s → AreFit (with_word s word)
+word_fit s word fit = (fit.0, subst (λ (l : Option Location). IfSome l HasShortDevice) (sym (marked_location s.queue_settings word)) fit.1, fit.2, fit.3)
 
-shown_short : (s : Settings) (said : List ℕ) (digits : Bool) → HasShortName s → IfSome (cond digits (entry_given s said) (Some s)) HasShortName
-shown_short s said true short = kept (λ number. record s { entry = Some number }) (entry_said said) (λ number. short)
-shown_short s said false short = short
+queue_fit : (s : Settings) (said : List ℕ) → AreFit s → IfSome (queue_given s said) AreFit
+queue_fit s said fit = giving IsShort (λ name. record s { queue = Some name }) (short_name_said said) (short_name said) (λ name short. (short, fit.1, fit.2, fit.3))
 
-parametered_short : (s : Settings) (c : Command) (said : List ℕ) → HasShortName s → IfSome (parametered s c said) HasShortName
-parametered_short s command.Submit said short = kept (λ file. record s { file = Some file }) (file_name_of said) (λ file. short)
-parametered_short s command.ShowEntry said short = shown_short s said (are_digits said) short
-parametered_short s command.InitializeQueue said short = queue_given_short s said
-parametered_short s command.SetQueue said short = queue_given_short s said
-parametered_short s command.StartQueue said short = queue_given_short s said
-parametered_short s command.StopQueue said short = queue_given_short s said
-parametered_short s command.DeleteQueue said short = queue_given_short s said
-parametered_short s _ said short = tt
+valued_fit : (s : Settings) (word : Option Word) (said : List ℕ) → AreFit s → IfSome (valued s word said) AreFit
+valued_fit s None said fit = tt
+valued_fit s (Some words.Queue) said fit = queue_fit s said fit
+valued_fit s (Some words.Entry) said fit = kept (λ number. record s { entry = Some number }) (entry_said said) (λ number. fit)
+valued_fit s (Some words.Name) said fit = kept (λ name. with_job s (record s.job { name = Some name })) (name_of said) (λ name. fit)
+valued_fit s (Some words.Priority) said fit = kept (λ number. with_job s (record s.job { priority = Some number })) (byte_said said) (λ number. fit)
+valued_fit s (Some words.Form) said fit = kept (λ form. with_job s (record s.job { form = Some form })) (form_said said) (λ form. fit)
+valued_fit s (Some words.Copies) said fit = kept (λ number. with_job s (record s.job { copies = number })) (byte_said said) (λ number. fit)
+valued_fit s (Some words.JobLimit) said fit = kept (λ number. with_queue_settings s (record s.queue_settings { limit = Some number })) (byte_said said) (λ number. fit)
+valued_fit s (Some words.FormMounted) said fit = kept (λ form. with_queue_settings s (record s.queue_settings { form = Some form })) (form_said said) (λ form. fit)
+valued_fit s (Some words.BlockLimit) said fit = kept (λ number. with_queue_settings s (record s.queue_settings { blocks = Some (blocks_with s.queue_settings.blocks number) })) (blocks_said said) (λ number. fit)
+valued_fit s (Some words.On) said fit =
+    giving HasShortDevice (λ l. with_queue_settings s (record s.queue_settings { location = Some l })) (location_said said) (location said) (λ l short. (fit.0, short, fit.2, fit.3))
+valued_fit s (Some words.Stock) said fit =
+    giving IsShort (λ name. with_definition s (record s.definition { stock = Some name })) (short_name_said said) (short_name said) (λ name short. (fit.0, fit.1, fit.2, short))
+valued_fit s (Some words.Length) said fit = kept (λ number. with_shape s (record s.definition.shape { length = number })) (byte_said said) (λ number. fit)
+valued_fit s (Some words.Width) said fit = kept (λ number. with_shape s (record s.definition.shape { width = number })) (byte_said said) (λ number. fit)
+valued_fit s (Some words.Characteristics) said fit = kept (λ characteristic. s) (characteristic_said said) (λ characteristic. fit)
+valued_fit s (Some words.Generic) said fit = kept (λ name. s) (short_name_said said) (λ name. fit)
+valued_fit s (Some _) said fit = tt
 
-or_fault_short : (token : Token) (given : Option Settings) → IfSome given HasShortName → IfOk (or_value_fault token given) HasShortName
-or_fault_short token None short = tt
-or_fault_short token (Some s) short = short
+definable_fit : (s : Settings) (said : List ℕ) → AreFit s → IfSome (definable_given s said) AreFit
+definable_fit s said fit =
+    giving IsDefinable (λ name. with_definition s (record s.definition { name = Some name })) (definable_name_said said) (definable_name said) (λ name is. (fit.0, fit.1, is, fit.3))
 
-parameter_short : (text : List ℕ) (c : Command) (s : Settings) (token : Token) (awaits : Bool) → HasShortName s
-    → IfOk (cond awaits (Ok (record s { awaits_object = false })) (or_value_fault token (parametered s c (said_by text token)))) HasShortName
-parameter_short text c s token true short = short
-parameter_short text c s token false short = or_fault_short token (parametered s c (said_by text token)) (parametered_short s c (said_by text token) short)
+form_fit : (s : Settings) (name : Option (List ℕ)) (said : List ℕ) → AreFit s → IfSome (form_given s name said) AreFit
+form_fit s None said fit = definable_fit s said fit
+form_fit s (Some name) said fit = kept (λ number. with_definition s (record s.definition { form_number = Some number })) (form_number_said said) (λ number. fit)
 
-part_short : (text : List ℕ) (c : Command) (s : Settings) (part : Part) → HasShortName s → IfOk (with_part text c s part) HasShortName
-part_short text c s (Parameter token) short = parameter_short text c s token s.awaits_object short
-part_short text c s (Qualifier word place) short = marked_short (record s { word = Some word }) word short
-part_short text c s (Value token) short = or_fault_short token (valued s s.word (said_by text token)) (valued_short s s.word (said_by text token) short)
-part_short text c s (KeyValue token) short = tt
+characteristic_fit : (s : Settings) (name : Option (List ℕ)) (said : List ℕ) → AreFit s → IfSome (characteristic_given s name said) AreFit
+characteristic_fit s None said fit = definable_fit s said fit
+characteristic_fit s (Some name) said fit = kept (λ number. with_definition s (record s.definition { characteristic_number = Some number })) (byte_said said) (λ number. fit)
 
-then_short : (given : Result Settings Fault) (go_on : Settings → Result Settings Fault) → IfOk given HasShortName
-    → ((s : Settings) → HasShortName s → IfOk (go_on s) HasShortName) → IfOk (on_settings given go_on) HasShortName
-then_short (Ok s) go_on short next = next s short
-then_short (Err f) go_on short next = tt
+merge_fit : (s : Settings) (name : Option (List ℕ)) (said : List ℕ) → AreFit s → IfSome (merge_given s name said) AreFit
+merge_fit s None said fit = queue_fit s said fit
+merge_fit s (Some target) said fit = kept (λ name. record s { source = Some name }) (short_name_said said) (λ name. fit)
 
-parts_short : (text : List ℕ) (c : Command) (s : Settings) (parts : List Part) → HasShortName s → IfOk (settings_from text c s parts) HasShortName
-parts_short text c s [] short = short
-parts_short text c s (part ∷ parts) short =
-    then_short (with_part text c s part) (λ t. settings_from text c t parts) (part_short text c s part short) (λ t short. parts_short text c t parts short)
+shown_fit : (s : Settings) (said : List ℕ) (digits : Bool) → AreFit s → IfSome (cond digits (entry_given s said) (Some s)) AreFit
+shown_fit s said true fit = kept (λ number. record s { entry = Some number }) (entry_said said) (λ number. fit)
+shown_fit s said false fit = fit
 
-pub settings_are_short : (text : List ℕ) (c : Command) (parts : List Part) → IfOk (settings_of text c parts) HasShortName
-settings_are_short text c parts = parts_short text c (nothing_given c) parts tt
+file_fit : (s : Settings) (said : List ℕ) → AreFit s → IfSome (file_given s said) AreFit
+file_fit s said fit = kept (λ file. record s { file = Some file }) (file_name_of said) (λ file. fit)
+
+parametered_fit : (s : Settings) (c : Command) (said : List ℕ) → AreFit s → IfSome (parametered s c said) AreFit
+parametered_fit s command.Submit said fit = file_fit s said fit
+parametered_fit s command.Print said fit = file_fit s said fit
+parametered_fit s command.ShowEntry said fit = shown_fit s said (are_digits said) fit
+parametered_fit s command.InitializeQueue said fit = queue_fit s said fit
+parametered_fit s command.SetQueue said fit = queue_fit s said fit
+parametered_fit s command.StartQueue said fit = queue_fit s said fit
+parametered_fit s command.StopQueue said fit = queue_fit s said fit
+parametered_fit s command.DeleteQueue said fit = queue_fit s said fit
+parametered_fit s command.AssignMerge said fit = merge_fit s s.queue said fit
+parametered_fit s command.DefineForm said fit = form_fit s s.definition.name said fit
+parametered_fit s command.DefineCharacteristic said fit = characteristic_fit s s.definition.name said fit
+parametered_fit s command.DeleteForm said fit = definable_fit s said fit
+parametered_fit s command.DeleteCharacteristic said fit = definable_fit s said fit
+parametered_fit s _ said fit = tt
+
+-- ---- the parts, one after the other
+
+or_fault_fit : (token : Token) (given : Option Settings) → IfSome given AreFit → IfOk (or_value_fault token given) AreFit
+or_fault_fit token None fit = tt
+or_fault_fit token (Some s) fit = fit
+
+parameter_fit : (text : List ℕ) (c : Command) (s : Settings) (token : Token) (awaits : Bool) → AreFit s
+    → IfOk (cond awaits (Ok (record s { awaits_object = false })) (or_value_fault token (parametered s c (said_by text token)))) AreFit
+parameter_fit text c s token true fit = fit
+parameter_fit text c s token false fit = or_fault_fit token (parametered s c (said_by text token)) (parametered_fit s c (said_by text token) fit)
+
+equals_fit : (s : Settings) (key : Token) (equals : Bool) → AreFit s → IfOk (cond equals (Ok s) (or_value_fault key None)) AreFit
+equals_fit s key true fit = fit
+equals_fit s key false fit = tt
+
+key_fit : (text : List ℕ) (s : Settings) (key : Token) (side : Option Side) (inner : Option Token) → AreFit s → IfOk (with_key text s key side inner) AreFit
+key_fit text s key (Some side) (Some number) fit =
+    or_fault_fit number (margin_given s side (said_by text number))
+    (kept (λ margin. with_shape s (with_margin s.definition.shape side margin)) (byte_said (said_by text number)) (λ margin. fit))
+key_fit text s key None inner fit = tt
+key_fit text s key (Some side) None fit = equals_fit s key (has_equals text key) fit
+
+value_fit : (text : List ℕ) (s : Settings) (word : Option Word) (token : Token) (inner : Option Token) → AreFit s → IfOk (with_value text s word token inner) AreFit
+value_fit text s (Some words.Margin) token inner fit = key_fit text s token (side_said (raised_by text token)) inner fit
+value_fit text s (Some words.Schedule) token inner fit =
+    or_fault_fit token (schedule_given s (raised_by text token))
+    (kept (λ by_size. with_queue_settings s (record s.queue_settings { by_size = Some by_size })) (schedule_said (raised_by text token)) (λ by_size. fit))
+value_fit text s word token inner fit = or_fault_fit token (valued s word (said_by text token)) (valued_fit s word (said_by text token) fit)
+
+part_fit : (text : List ℕ) (c : Command) (s : Settings) (part : Part) (behind : List Part) → AreFit s → IfOk (with_part text c s part behind) AreFit
+part_fit text c s (Parameter token) behind fit = parameter_fit text c s token s.awaits_object fit
+part_fit text c s (Qualifier word place) behind fit = word_fit s word fit
+part_fit text c s (Value token) behind fit = value_fit text s s.word token (inner_value behind) fit
+part_fit text c s (KeyValue token) behind fit = fit
+
+then_fit : (given : Result Settings Fault) (go_on : Settings → Result Settings Fault) → IfOk given AreFit
+    → ((s : Settings) → AreFit s → IfOk (go_on s) AreFit) → IfOk (on_settings given go_on) AreFit
+then_fit (Ok s) go_on fit next = next s fit
+then_fit (Err f) go_on fit next = tt
+
+parts_fit : (text : List ℕ) (c : Command) (s : Settings) (parts : List Part) → AreFit s → IfOk (settings_from text c s parts) AreFit
+parts_fit text c s [] fit = fit
+parts_fit text c s (part ∷ parts) fit =
+    then_fit (with_part text c s part parts) (λ t. settings_from text c t parts) (part_fit text c s part parts fit) (λ t fit. parts_fit text c t parts fit)
+
+pub settings_are_fit : (text : List ℕ) (c : Command) (parts : List Part) → IfOk (settings_of text c parts) AreFit
+settings_are_fit text c parts = parts_fit text c (nothing_given c) parts (tt, tt, tt, tt)

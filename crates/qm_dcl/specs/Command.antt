@@ -1,28 +1,42 @@
 -- What the text of a command asks for, or what is wrong and where.
--- DCL Dictionary, on the commands of queues and jobs. This site's own: which fault is told, and what isn't built.
+-- DCL Dictionary, on the commands of queues, jobs, forms and characteristics. This site's own: which fault is told, and what isn't built.
 use Rattle.std.specs.Prelude.{ℕ, nat_lt, if◌then◌else◌, List, Option, None, Some, option_map, option_and_then, Result, Ok, Err, ok_or}
 use Rattle.qm_kinds.specs.declared.input.Input.{Input}
 use Rattle.qm_kinds.specs.declared.input.Input.TheVariants.{Ask, Show}
 use Rattle.qm_kinds.specs.declared.refusal.ParseKind.TheVariants as fault
-use Rattle.qm_kinds.specs.declared.request.Request.TheVariants.{DeleteEntry}
+use Rattle.qm_kinds.specs.declared.entry.JobKind.TheVariants.{Batch, Print}
+use Rattle.qm_kinds.specs.declared.request.Request.{Request}
+use Rattle.qm_kinds.specs.declared.request.Request.TheVariants.{DefineForm, DeleteForm, DefineCharacteristic, DeleteCharacteristic, Submit, DeleteEntry}
 use Rattle.qm_grammar.specs.declared.fault.Fault.{Fault}
 use Rattle.qm_grammar.specs.declared.table.Command.{Command}
 use Rattle.qm_grammar.specs.declared.table.Command.TheVariants as command
 use Rattle.qm_grammar.specs.Finding.{named_command}
 use Rattle.qm_grammar.specs.Parsed.{tokens_in, parts_in, command_in}
+use Rattle.qm_dcl.specs.declared.lists.Lists.{Lists}
 use Rattle.qm_dcl.specs.declared.settings.Settings.{Settings}
 use Rattle.qm_dcl.specs.Built.{is_built}
+use Rattle.qm_dcl.specs.Forms.{form_of, characteristic_of}
 use Rattle.qm_dcl.specs.Settings.{settings_of}
-use Rattle.qm_dcl.specs.Submitting.{submit_of}
+use Rattle.qm_dcl.specs.Lists.{lists_of}
+use Rattle.qm_dcl.specs.Submitting.{job_of}
 use Rattle.qm_dcl.specs.Showing.{query_of}
 use Rattle.qm_dcl.specs.Queues.{queue_request}
 
+-- what a command changes, where this form of it is built
+abbrev pub request_of : List ℕ → Command → Settings → Lists → Option Request
+request_of user command.Submit s lists = option_map (λ file. Submit (job_of user Batch file s lists)) s.file
+request_of user command.Print s lists = option_map (λ file. Submit (job_of user Print file s lists)) s.file
+request_of user command.DeleteEntry s lists = option_map DeleteEntry s.entry
+request_of user command.DefineForm s lists = option_map DefineForm (form_of s.definition)
+request_of user command.DefineCharacteristic s lists = option_map DefineCharacteristic (characteristic_of s.definition)
+request_of user command.DeleteForm s lists = option_map DeleteForm s.definition.name
+request_of user command.DeleteCharacteristic s lists = option_map DeleteCharacteristic s.definition.name
+request_of user c s lists = option_and_then (λ name. queue_request name c s lists) s.queue
+
 -- what a command asks for, where this form of it is built
-abbrev pub asked : List ℕ → Command → Settings → Option Input
-asked user command.Submit s = option_map (λ file. Ask (submit_of user file s)) s.file
-asked user command.ShowEntry s = option_map (λ number. Show (query_of number)) s.entry
-asked user command.DeleteEntry s = option_map (λ number. Ask (DeleteEntry number)) s.entry
-asked user c s = option_map Ask (option_and_then (λ name. queue_request name c s) s.queue)
+abbrev pub asked : List ℕ → Command → Settings → Lists → Option Input
+asked user command.ShowEntry s lists = option_map (λ number. Show (query_of number)) s.entry
+asked user c s lists = option_map Ask (request_of user c s lists)
 
 -- the fault of a text that isn't built
 abbrev pub not_built : Fault
@@ -34,15 +48,18 @@ judged (Ok c) given = given
 judged (Err f) (Ok s) = Err f
 judged (Err f) (Err value) = if nat_lt value.place f.place then Err value else Err f
 
-abbrev pub asked_with : List ℕ → Command → Result Settings Fault → Result Input Fault
-asked_with user c (Ok s) = ok_or (asked user c s) not_built
-asked_with user c (Err f) = Err f
+abbrev pub asked_with : List ℕ → Command → Lists → Result Settings Fault → Result Input Fault
+asked_with user c lists (Ok s) = ok_or (asked user c s lists) not_built
+asked_with user c lists (Err f) = Err f
+
+-- what a text asks for that names a command which is built
+abbrev pub meant : List ℕ → List ℕ → Command → Result Input Fault
+meant user text c = asked_with user c (lists_of text (parts_in text)) (judged (command_in text) (settings_of text c (parts_in text)))
 
 -- what a text asks for that names a command
 abbrev pub command_named : List ℕ → List ℕ → Option Command → Result Input Fault
 command_named user text None = Err not_built
-command_named user text (Some c) =
-    if is_built text (tokens_in text) c then asked_with user c (judged (command_in text) (settings_of text c (parts_in text))) else Err not_built
+command_named user text (Some c) = if is_built text (tokens_in text) c then meant user text c else Err not_built
 
 -- What the text of a user asks for, or the fault with the least place. A text that names no command that is built, or has a
 -- qualifier of it that isn't, isn't built, whatever else is wrong with it; nor is another form of a command, where nothing is wrong.

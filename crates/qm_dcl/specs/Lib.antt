@@ -1,6 +1,9 @@
 pub mod Values
 pub mod Built
+pub mod Forms
+pub mod Given
 pub mod Settings
+pub mod Lists
 pub mod Submitting
 pub mod Showing
 pub mod Queues

@@ -13,12 +13,6 @@ fn is_built_command(command: Command) -> bool
     match command {
         Command::SetEntry
         | Command::StartManager
-        | Command::DeleteForm
-        | Command::DeleteCharacteristic
-        | Command::AssignMerge
-        | Command::DefineForm
-        | Command::DefineCharacteristic
-        | Command::Print
         | Command::ShowForms
         | Command::ShowCharacteristics
         | Command::ShowManagers
@@ -32,20 +26,25 @@ fn is_built_word(word: Word) -> bool
     ensures { result ≡ is_built_word word }
 {
     match word {
-        Word::Queue
-        | Word::Entry
-        | Word::Batch
-        | Word::Start
-        | Word::JobLimit
-        | Word::Next
-        | Word::Reset
-        | Word::Abort
-        | Word::Requeue
-        | Word::Name
-        | Word::Priority
-        | Word::Restart
-        | Word::NoRestart => true,
-        _ => false,
+        Word::Manager
+        | Word::Managers
+        | Word::ShownCharacteristics
+        | Word::Device
+        | Word::AllJobs
+        | Word::Retain
+        | Word::NoRetain
+        | Word::After
+        | Word::NoAfter
+        | Word::Hold
+        | Word::Release
+        | Word::Notify
+        | Word::NoNotify
+        | Word::Identify
+        | Word::NoIdentify
+        | Word::NoLogFile
+        | Word::NoPrinter
+        | Word::Keep => false,
+        _ => true,
     }
 }
 

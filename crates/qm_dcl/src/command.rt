@@ -1,17 +1,19 @@
 // Commands: what a text asks for.
-ghost use Rattle.std.specs.Prelude.{◌≡◌, Ok, IfOk, IfErr};
-ghost use Rattle.qm_dcl.specs.Command.{asked, not_built, judged, asked_with, command_of};
+ghost use Rattle.std.specs.Prelude.{◌≡◌, Ok, Err, IfOk, IfErr};
 ghost use Rattle.qm_grammar.specs.Parsed.{tokens_in, parts_in, command_in};
+ghost use Rattle.qm_dcl.specs.Command.{request_of, asked, judged, meant, command_of};
 ghost use Rattle.qm_dcl.specs.Faults.{Explains};
 
 use crate::built::is_built;
+use crate::define::{characteristic_of, form_of};
 use crate::fault::DclFault;
+use crate::lists::{Lists, lists_of};
 use crate::queue::queue_request;
 use crate::settings::{Settings, settings_of};
 use crate::show::query_of;
-use crate::submit::submit_of;
+use crate::submit::job_of;
 use qm_grammar::{Command, Fault, Parsed, named_command, parse};
-use qm_kinds::{Input, Name, ParseKind, Request};
+use qm_kinds::{Input, JobKind, Name, ParseKind, Request};
 use std::alloc::Global;
 
 const NOT_BUILT: Fault = Fault {
@@ -19,15 +21,43 @@ const NOT_BUILT: Fault = Fault {
     kind: ParseKind::NotBuilt,
 };
 
+// What a command changes, where this form of it is built.
+fn request_of(
+    alloc: Global,
+    user: Name,
+    command: Command,
+    s: &Settings,
+    lists: Lists,
+) -> Option<Request>
+    ensures { result ≡ request_of user command s.now lists }
+{
+    let definition = &s.definition;
+    let request = match command {
+        Command::Submit => Request::Submit(job_of(alloc, user, JobKind::Batch, s.file?, s, lists)),
+        Command::Print => Request::Submit(job_of(alloc, user, JobKind::Print, s.file?, s, lists)),
+        Command::DeleteEntry => Request::DeleteEntry { entry: s.entry? },
+        Command::DefineForm => Request::DefineForm(form_of(definition)?),
+        Command::DefineCharacteristic => {
+            Request::DefineCharacteristic(characteristic_of(definition)?)
+        }
+        Command::DeleteForm => Request::DeleteForm {
+            name: definition.name?,
+        },
+        Command::DeleteCharacteristic => Request::DeleteCharacteristic {
+            name: definition.name?,
+        },
+        _ => queue_request(alloc, s.queue?, command, s, lists)?,
+    };
+    Some(request)
+}
+
 // What a command asks for, where this form of it is built.
-fn asked(alloc: Global, user: Name, command: Command, s: &Settings) -> Option<Input>
-    ensures { result ≡ asked user command s.now }
+fn asked(alloc: Global, user: Name, command: Command, s: &Settings, lists: Lists) -> Option<Input>
+    ensures { result ≡ asked user command s.now lists }
 {
     match command {
-        Command::Submit => Some(Input::Ask(submit_of(alloc, user, s.file?, s))),
         Command::ShowEntry => Some(Input::Show(query_of(s.entry?))),
-        Command::DeleteEntry => Some(Input::Ask(Request::DeleteEntry { entry: s.entry? })),
-        _ => Some(Input::Ask(queue_request(alloc, s.queue?, command, s)?)),
+        _ => Some(Input::Ask(request_of(alloc, user, command, s, lists)?)),
     }
 }
 
@@ -42,55 +72,70 @@ fn judged(read: Result<Command, Fault>, given: Result<Settings, Fault>) -> Resul
     }
 }
 
-// What a command asks for, with what is given.
-fn asked_with(
-    alloc: Global,
-    user: Name,
-    command: Command,
-    given: Result<Settings, Fault>,
-) -> Result<Input, Fault>
-    ensures { result ≡ asked_with user command given }
+// The fault of a text.
+fn told(fault: Fault) -> DclFault
+    ensures { result ≡ DclFault.At fault.place fault.kind }
 {
-    match given {
-        Ok(s) => asked(alloc, user, command, &s).ok_or(NOT_BUILT),
-        Err(fault) => Err(fault),
+    DclFault::At {
+        place: fault.place,
+        kind: fault.kind,
     }
 }
 
-// What a text asks for, by what the grammar says of it.
-fn meant(alloc: Global, text: &[u8], user: Name, parsed: &Parsed) -> Result<Input, Fault>
-    requires tokens { parsed.now.tokens.items ≡ tokens_in text.now }
+// What a text asks for that names a command which is built.
+fn meant(
+    alloc: Global,
+    text: &[u8],
+    user: Name,
+    command: Command,
+    parsed: &Parsed,
+) -> Result<Input, DclFault>
     requires parts { parsed.now.parts.items ≡ parts_in text.now }
     requires command { parsed.now.command ≡ command_in text.now }
-    ensures { result ≡ command_of user text.now }
+    ensures read { IfOk result (λ input. meant user text.now command ≡ Ok input) }
+    ensures fault { IfErr result (Explains (meant user text.now command)) }
 {
-    let Some(command) = named_command(text, &parsed.tokens) else {
-        return Err(NOT_BUILT);
-    };
-    if !is_built(text, &parsed.tokens, command) {
-        return Err(NOT_BUILT);
-    }
     let given = settings_of(text, command, &parsed.parts);
-    asked_with(alloc, user, command, judged(parsed.command, given))
+    let s = match judged(parsed.command, given) {
+        Ok(s) => s,
+        Err(fault) => return Err(told(fault)),
+    };
+    let Ok(lists) = lists_of(alloc, text, &parsed.parts) else {
+        return Err(DclFault::NoMemory);
+    };
+    match asked(alloc, user, command, &s, lists) {
+        Some(input) => Ok(input),
+        None => Err(told(NOT_BUILT)),
+    }
 }
 
 /// What the command of a user asks for.
 ///
 /// Built are, with the options and qualifiers that are named here:
-/// - `SUBMIT file` with `/QUEUE=name`, `/NAME=name`, `/PRIORITY=0..255`, `/RESTART` and `/NORESTART`;
+/// - `SUBMIT file` and `PRINT file` with `/QUEUE=name`, `/NAME=name`, `/PRIORITY=0..255`, `/RESTART`, `/NORESTART` and
+///   `/CHARACTERISTICS=(name or 0..255, ..)`; `PRINT` also with `/FORM=name or 0..65535`, `/COPIES=0..255`, `/FLAG` and `/NOFLAG`;
 /// - `SHOW ENTRY number` and `DELETE/ENTRY=number`;
-/// - `INITIALIZE/QUEUE name` with `/BATCH`, which must be given, `/JOB_LIMIT=0..255` and `/START`;
-/// - `SET QUEUE name` and `START/QUEUE name` with `/JOB_LIMIT=0..255`;
+/// - `INITIALIZE/QUEUE name` with `/BATCH`, `/GENERIC=(name, ..)`, `/ON=node::` or `/ON=node::device:`, `/START` and what can be
+///   set for a queue: `/JOB_LIMIT=0..255`, `/CHARACTERISTICS=(name or 0..255, ..)`, `/NOCHARACTERISTICS`,
+///   `/FORM_MOUNTED=name or 0..65535`, `/BLOCK_LIMIT=upper` or `(lower, upper)` of 0 to 2 ^ 32 - 1, `/NOBLOCK_LIMIT`, and
+///   `/SCHEDULE=SIZE` or `NOSIZE`;
+/// - `SET QUEUE name` and `START/QUEUE name` with what can be set for a queue;
 /// - `STOP/QUEUE name` with `/NEXT`, `/RESET`, `/ABORT`, `/REQUEUE` and `/ENTRY=number`;
-/// - `DELETE/QUEUE name`.
+/// - `DELETE/QUEUE name`, and `ASSIGN/MERGE target source`;
+/// - `DEFINE/FORM name 0..65535` with `/STOCK=name`, `/LENGTH=0..255`, `/WIDTH=0..255`, `/MARGIN=(TOP=0..255, ..)` of `TOP`,
+///   `BOTTOM`, `LEFT` and `RIGHT`, `/WRAP` and `/TRUNCATE`, and `DELETE/FORM name`;
+/// - `DEFINE/CHARACTERISTIC name 0..255`, and `DELETE/CHARACTERISTIC name`.
 ///
-/// The name of a queue has 1 to 31 bytes, that of a job 1 to 39. A number is decimal digits, that of an entry below 2 ^ 32; zeros
-/// may stand in front. What is asked for has `None`, or an empty list, for what isn't given; a new queue's limit of 0 is read.
+/// The name of a queue, a form, a characteristic, a stock or a device has 1 to 31 bytes, that of a node 1 to 6, that of a job
+/// 1 to 39; that of a form or a characteristic isn't digits alone, which stand for its number. A number is decimal digits, that
+/// of an entry below 2 ^ 32; zeros may stand in front. A list has at most 65,535 values. What is asked for has `None`, or an
+/// empty list, for what isn't given, but a form has all its settings, and a job too; what the rules refuse is read, as a limit
+/// of 0.
 ///
 /// Errors: `At` with the fault of the least place: `NotBuilt` at byte 0 where no command that is built is named, or where a name
 /// of it that isn't built, or is cut, stands behind a `/`, whatever else is wrong, and where another form of a command has
-/// nothing wrong; `Value` at the first byte of a name, a number or a file that can't be read; and those of the grammar.
-/// `NoMemory`, where memory for the tokens and parts ran out.
+/// nothing wrong; `Value` at the first byte of a name, a number, a word or a file that can't be read; and those of the grammar.
+/// `NoMemory`, where memory for the tokens, the parts and the lists ran out.
 pub fn read_command(alloc: Global, text: &[u8], user: Name) -> Result<Input, DclFault>
     ensures read { IfOk result (λ input. command_of user text.now ≡ Ok input) }
     ensures fault { IfErr result (Explains (command_of user text.now)) }
@@ -98,8 +143,10 @@ pub fn read_command(alloc: Global, text: &[u8], user: Name) -> Result<Input, Dcl
     let Ok(parsed) = parse(alloc, text) else {
         return Err(DclFault::NoMemory);
     };
-    match meant(alloc, text, user, &parsed) {
-        Ok(input) => Ok(input),
-        Err(Fault { place, kind }) => Err(DclFault::At { place, kind }),
+    match named_command(text, &parsed.tokens) {
+        Some(command) if is_built(text, &parsed.tokens, command) => {
+            meant(alloc, text, user, command, &parsed)
+        }
+        _ => Err(told(NOT_BUILT)),
     }
 }

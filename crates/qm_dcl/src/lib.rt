@@ -1,12 +1,15 @@
 //! The reader of the commands that users type. `read_command` gives what a text asks for, and else the first fault, exactly as
 //! `command_of` in `specs/` says: the grammar tells which command the text is and which parts it has, and here is said what
-//! the values of these mean. It takes time in the length of the text, and memory for its tokens and parts.
+//! the values of these mean. It takes time in the length of the text, and memory for its tokens and parts, and for lists.
 #![tactic(auto)]
 
 mod built;
 mod command;
+mod define;
 mod fault;
+mod given;
 mod laws;
+mod lists;
 mod queue;
 mod settings;
 mod show;

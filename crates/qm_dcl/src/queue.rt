@@ -1,37 +1,59 @@
 // Commands of queues.
 ghost use Rattle.std.specs.Prelude.{◌≡◌};
-ghost use Rattle.qm_dcl.specs.Queues.{change_of, batch_queue_of, stop_of, queue_request};
+ghost use Rattle.qm_dcl.specs.Queues.{change_of, kind_of, new_queue_of, stop_of, queue_request};
 
-use crate::settings::{Settings, Stop};
+use crate::lists::Lists;
+use crate::settings::{QueueSettings, Settings, Stop};
 use qm_grammar::Command;
-use qm_kinds::{Name, NewQueue, QueueChange, QueueKind, Request, Seq, StopMode};
+use qm_kinds::{Name, NameOrNumber, NewQueue, QueueChange, QueueKind, Request, Seq, StopMode};
 use std::alloc::Global;
 
 // What is changed of a queue.
-fn change_of(s: &Settings) -> QueueChange
-    ensures { result ≡ change_of s.now }
+fn change_of(s: &QueueSettings, characteristics: Option<Seq<NameOrNumber>>) -> QueueChange
+    ensures { result ≡ change_of s.now characteristics }
 {
     QueueChange {
         limit: s.limit,
-        characteristics: None,
-        form: None,
-        blocks: None,
-        by_size: None,
+        characteristics,
+        form: s.form,
+        blocks: s.blocks,
+        by_size: s.by_size,
         retain: None,
     }
 }
 
-// A new batch queue.
-fn batch_queue_of(alloc: Global, name: Name, s: &Settings) -> NewQueue
-    ensures { result ≡ batch_queue_of name s.now }
+// What a queue is for: batch jobs or print jobs, and whether it passes them on.
+fn kind_of(batch: bool, generic: bool) -> QueueKind
+    ensures { result ≡ kind_of batch generic }
 {
+    match (batch, generic) {
+        (true, false) => QueueKind::Batch,
+        (false, false) => QueueKind::Print,
+        (true, true) => QueueKind::GenericBatch,
+        (false, true) => QueueKind::GenericPrint,
+    }
+}
+
+// A new queue, which is generic where targets are given.
+fn new_queue_of(alloc: Global, name: Name, s: &QueueSettings, lists: Lists) -> NewQueue
+    ensures { result ≡ new_queue_of name s.now lists }
+{
+    let Lists {
+        characteristics,
+        targets,
+    } = lists;
+    let kind = kind_of(s.batch, targets.is_some());
+    let targets = match targets {
+        Some(list) => list,
+        None => Seq::new(alloc),
+    };
     NewQueue {
         name,
-        kind: QueueKind::Batch,
-        node: None,
-        device: None,
-        targets: Seq::new(alloc),
-        change: change_of(s),
+        kind,
+        node: s.location.map(|location| location.node),
+        device: s.location.and_then(|location| location.device),
+        targets,
+        change: change_of(s, characteristics),
         start: s.start,
     }
 }
@@ -65,38 +87,37 @@ fn abort(queue: Name, entry: Option<u32>, requeue: bool) -> Request
     }
 }
 
-// INITIALIZE/QUEUE makes a batch queue with /BATCH; without it that would be a print queue.
-fn initialize(alloc: Global, name: Name, s: &Settings) -> Option<Request>
-    ensures { result ≡ queue_request name Command.InitializeQueue s.now }
-{
-    if s.batch {
-        Some(Request::InitializeQueue(batch_queue_of(alloc, name, s)))
-    } else {
-        None
-    }
-}
-
-/// What a command of the queue with this name changes, where this form of it is built.
+/// What a command of the queue with this name changes.
 pub(crate) fn queue_request(
     alloc: Global,
     name: Name,
     command: Command,
     s: &Settings,
+    lists: Lists,
 ) -> Option<Request>
-    ensures { result ≡ queue_request name command s.now }
+    ensures { result ≡ queue_request name command s.now lists }
 {
     match command {
-        Command::InitializeQueue => initialize(alloc, name, s),
+        Command::InitializeQueue => Some(Request::InitializeQueue(new_queue_of(
+            alloc,
+            name,
+            &s.queue_settings,
+            lists,
+        ))),
         Command::SetQueue => Some(Request::SetQueue {
             name,
-            change: change_of(s),
+            change: change_of(&s.queue_settings, lists.characteristics),
         }),
         Command::StartQueue => Some(Request::StartQueue {
             name,
-            change: change_of(s),
+            change: change_of(&s.queue_settings, lists.characteristics),
         }),
         Command::StopQueue => Some(stop_of(name, s.stop, s.entry)),
         Command::DeleteQueue => Some(Request::DeleteQueue { name }),
+        Command::AssignMerge => Some(Request::Merge {
+            to: name,
+            from: s.source?,
+        }),
         _ => None,
     }
 }

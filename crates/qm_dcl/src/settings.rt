@@ -1,10 +1,12 @@
 // What the parts of a command give.
 ghost use Rattle.std.specs.Prelude.{◌≡◌};
-ghost use Rattle.qm_dcl.specs.Settings.{has_object, nothing_given, marked, with_word, queue_given, entry_given, valued, parametered, or_value_fault, with_parameter, with_part, settings_of};
+ghost use Rattle.qm_dcl.specs.Settings.{has_object, no_job, no_queue_settings, no_definition, nothing_given, or_value_fault, with_parameter, with_key, with_value, inner_value, with_part, settings_of};
+ghost use Rattle.qm_dcl.specs.Values.{raised_by, side_said};
 
-use crate::value::{are_digits, byte_said, entry_said, queue_said, said_by};
+use crate::given::{margin_given, parametered, schedule_given, valued, with_word};
+use crate::value::{Location, has_equals, said_by, side_said};
 use qm_grammar::{Command, Fault, Part, Word};
-use qm_kinds::{FileName, Name, ParseKind};
+use qm_kinds::{FileName, Name, NameOrNumber, ParseKind, Shape};
 use qm_lex::Token;
 
 /// How a queue is stopped, or a job of it.
@@ -16,7 +18,48 @@ pub(crate) enum Stop {
     Requeue,
 }
 
-/// What the parts of a command give.
+/// What is given of a job.
+#[derive(Clone, Copy)]
+pub(crate) struct JobSettings {
+    pub(crate) name: Option<Name>,
+    pub(crate) priority: Option<u8>,
+    /// Whether the job may start again.
+    pub(crate) restart: Option<bool>,
+    pub(crate) form: Option<NameOrNumber>,
+    pub(crate) copies: u8,
+    /// Whether a page that names the job stands before its text.
+    pub(crate) flag: bool,
+}
+
+/// What is given of a queue.
+#[derive(Clone, Copy)]
+pub(crate) struct QueueSettings {
+    /// How many jobs may run at once.
+    pub(crate) limit: Option<u8>,
+    /// The form that is mounted.
+    pub(crate) form: Option<NameOrNumber>,
+    /// The least and the greatest size of a job, in blocks.
+    pub(crate) blocks: Option<(u32, u32)>,
+    /// Whether jobs stand in order of their sizes.
+    pub(crate) by_size: Option<bool>,
+    /// Whether the queue is for batch jobs.
+    pub(crate) batch: bool,
+    pub(crate) location: Option<Location>,
+    /// Whether a new queue is started.
+    pub(crate) start: bool,
+}
+
+/// What is given of a form or a characteristic.
+#[derive(Clone, Copy)]
+pub(crate) struct Definition {
+    pub(crate) name: Option<Name>,
+    pub(crate) form_number: Option<u16>,
+    pub(crate) characteristic_number: Option<u8>,
+    pub(crate) stock: Option<Name>,
+    pub(crate) shape: Shape,
+}
+
+/// What the parts of a command give, but for lists.
 #[derive(Clone, Copy)]
 pub(crate) struct Settings {
     /// Whether the option that is the first parameter is still to come.
@@ -24,22 +67,16 @@ pub(crate) struct Settings {
     /// The qualifier whose value may come next.
     pub(crate) word: Option<Word>,
     pub(crate) file: Option<FileName>,
+    /// The name of a queue; where two are merged, of the target.
     pub(crate) queue: Option<Name>,
+    /// The name of the queue whose entries are moved to another.
+    pub(crate) source: Option<Name>,
     /// The number of an entry.
     pub(crate) entry: Option<u32>,
-    /// The name of a job.
-    pub(crate) name: Option<Name>,
-    /// The priority of a job.
-    pub(crate) priority: Option<u8>,
-    /// Whether a job may start again.
-    pub(crate) restart: Option<bool>,
-    /// How many jobs of a queue may run at once.
-    pub(crate) limit: Option<u8>,
-    /// Whether a queue is for batch jobs.
-    pub(crate) batch: bool,
-    /// Whether a new queue is started.
-    pub(crate) start: bool,
     pub(crate) stop: Option<Stop>,
+    pub(crate) job: JobSettings,
+    pub(crate) queue_settings: QueueSettings,
+    pub(crate) definition: Definition,
 }
 
 // Whether the first parameter of a command is its option.
@@ -58,6 +95,44 @@ fn has_object(command: Command) -> bool
     }
 }
 
+const NO_JOB: JobSettings = JobSettings {
+    name: None,
+    priority: None,
+    restart: None,
+    form: None,
+    copies: 1,
+    flag: false,
+};
+
+const NO_QUEUE_SETTINGS: QueueSettings = QueueSettings {
+    limit: None,
+    form: None,
+    blocks: None,
+    by_size: None,
+    batch: false,
+    location: None,
+    start: false,
+};
+
+/// The shape of a form for which nothing is given.
+pub(crate) const DEFAULT_SHAPE: Shape = Shape {
+    length: 66,
+    width: 132,
+    top: 0,
+    bottom: 6,
+    left: 0,
+    right: 0,
+    wrap: false,
+};
+
+const NO_DEFINITION: Definition = Definition {
+    name: None,
+    form_number: None,
+    characteristic_number: None,
+    stock: None,
+    shape: DEFAULT_SHAPE,
+};
+
 // Nothing is given.
 fn nothing_given(command: Command) -> Settings
     ensures { result ≡ nothing_given command }
@@ -67,159 +142,12 @@ fn nothing_given(command: Command) -> Settings
         word: None,
         file: None,
         queue: None,
+        source: None,
         entry: None,
-        name: None,
-        priority: None,
-        restart: None,
-        limit: None,
-        batch: false,
-        start: false,
         stop: None,
-    }
-}
-
-// What a qualifier gives by itself.
-fn marked(s: Settings, word: Word) -> Settings
-    ensures { result ≡ marked s word }
-{
-    match word {
-        Word::Restart => Settings {
-            restart: Some(true),
-            ..s
-        },
-        Word::NoRestart => Settings {
-            restart: Some(false),
-            ..s
-        },
-        Word::Batch => Settings { batch: true, ..s },
-        Word::Start => Settings { start: true, ..s },
-        Word::Next => Settings {
-            stop: Some(Stop::Next),
-            ..s
-        },
-        Word::Reset => Settings {
-            stop: Some(Stop::Reset),
-            ..s
-        },
-        Word::Abort => Settings {
-            stop: Some(Stop::Abort),
-            ..s
-        },
-        Word::Requeue => Settings {
-            stop: Some(Stop::Requeue),
-            ..s
-        },
-        _ => s,
-    }
-}
-
-// A qualifier, whose value may come next.
-fn with_word(s: &Settings, word: Word) -> Settings
-    ensures { result ≡ with_word s.now word }
-{
-    let s = Settings {
-        word: Some(word),
-        ..*s
-    };
-    marked(s, word)
-}
-
-// The name of a queue, if it can be one.
-fn queue_given(s: &Settings, said: &[u8]) -> Option<Settings>
-    ensures { result ≡ queue_given s.now said.now }
-{
-    let name = queue_said(said)?;
-    Some(Settings {
-        queue: Some(name),
-        ..*s
-    })
-}
-
-// The number of an entry, if it can be one.
-fn entry_given(s: &Settings, said: &[u8]) -> Option<Settings>
-    ensures { result ≡ entry_given s.now said.now }
-{
-    let number = entry_said(said)?;
-    Some(Settings {
-        entry: Some(number),
-        ..*s
-    })
-}
-
-// The name of a job, if it can be one.
-fn name_given(s: &Settings, said: &[u8]) -> Option<Settings>
-    ensures { result ≡ valued s.now (Some Word.Name) said.now }
-{
-    match Name::read(said) {
-        Ok(name) => Some(Settings {
-            name: Some(name),
-            ..*s
-        }),
-        Err(_) => None,
-    }
-}
-
-// The priority of a job, if it can be one.
-fn priority_given(s: &Settings, said: &[u8]) -> Option<Settings>
-    ensures { result ≡ valued s.now (Some Word.Priority) said.now }
-{
-    let number = byte_said(said)?;
-    Some(Settings {
-        priority: Some(number),
-        ..*s
-    })
-}
-
-// How many jobs may run at once, if it can be so many.
-fn limit_given(s: &Settings, said: &[u8]) -> Option<Settings>
-    ensures { result ≡ valued s.now (Some Word.JobLimit) said.now }
-{
-    let number = byte_said(said)?;
-    Some(Settings {
-        limit: Some(number),
-        ..*s
-    })
-}
-
-// What the value of a qualifier gives, if it can be one.
-fn valued(s: &Settings, said: &[u8]) -> Option<Settings>
-    ensures { result ≡ valued s.now s.now.word said.now }
-{
-    match s.word {
-        Some(Word::Queue) => queue_given(s, said),
-        Some(Word::Name) => name_given(s, said),
-        Some(Word::Priority) => priority_given(s, said),
-        Some(Word::JobLimit) => limit_given(s, said),
-        Some(Word::Entry) => entry_given(s, said),
-        _ => None,
-    }
-}
-
-// The name of a file, if it can be one.
-fn file_given(s: &Settings, said: &[u8]) -> Option<Settings>
-    ensures { result ≡ parametered s.now Command.Submit said.now }
-{
-    let file = FileName::read(said)?;
-    Some(Settings {
-        file: Some(file),
-        ..*s
-    })
-}
-
-// What a parameter gives, if it can be one.
-fn parametered(s: &Settings, command: Command, said: &[u8]) -> Option<Settings>
-    ensures { result ≡ parametered s.now command said.now }
-{
-    match command {
-        Command::Submit => file_given(s, said),
-        Command::ShowEntry if are_digits(said) => entry_given(s, said),
-        Command::InitializeQueue
-        | Command::SetQueue
-        | Command::StartQueue
-        | Command::StopQueue
-        | Command::DeleteQueue => queue_given(s, said),
-        Command::ShowEntry => Some(*s),
-        _ => None,
+        job: NO_JOB,
+        queue_settings: NO_QUEUE_SETTINGS,
+        definition: NO_DEFINITION,
     }
 }
 
@@ -254,19 +182,65 @@ fn with_parameter(
     or_value_fault(token, parametered(s, command, said_by(text, token)))
 }
 
-// One more part.
-fn with_part(text: &[u8], command: Command, s: &Settings, part: Part) -> Result<Settings, Fault>
-    ensures { result ≡ with_part text.now command s.now part }
+// A key of /MARGIN: it must name a side, and a number must stand behind its =. Where that can be no value, it is at fault by the
+// grammar, and not the key.
+fn with_key(text: &[u8], s: &Settings, key: Token, inner: Option<Token>) -> Result<Settings, Fault>
+    ensures { result ≡ with_key text.now s.now key (side_said (raised_by text.now key)) inner }
+{
+    match (side_said(text, key), inner) {
+        (Some(side), Some(number)) => {
+            or_value_fault(number, margin_given(s, side, said_by(text, number)))
+        }
+        (Some(_), None) if has_equals(text, key) => Ok(*s),
+        _ => or_value_fault(key, None),
+    }
+}
+
+// A value of a qualifier, and the value behind its =, if there is one.
+fn with_value(
+    text: &[u8],
+    s: &Settings,
+    token: Token,
+    inner: Option<Token>,
+) -> Result<Settings, Fault>
+    ensures { result ≡ with_value text.now s.now s.now.word token inner }
+{
+    match s.word {
+        Some(Word::Margin) => with_key(text, s, token, inner),
+        Some(Word::Schedule) => or_value_fault(token, schedule_given(text, s, token)),
+        _ => or_value_fault(token, valued(s, said_by(text, token))),
+    }
+}
+
+// The value behind the = of a value, where these parts follow that.
+fn inner_value(behind: &[Part]) -> Option<Token>
+    ensures { result ≡ inner_value behind.now }
+{
+    match behind {
+        [Part::KeyValue { token }, ..] => Some(*token),
+        _ => None,
+    }
+}
+
+// One more part, with these behind it.
+fn with_part(
+    text: &[u8],
+    command: Command,
+    s: &Settings,
+    part: Part,
+    behind: &[Part],
+) -> Result<Settings, Fault>
+    ensures { result ≡ with_part text.now command s.now part behind.now }
 {
     match part {
         Part::Parameter { token } => with_parameter(text, command, s, token),
         Part::Qualifier { word, .. } => Ok(with_word(s, word)),
-        Part::Value { token } => or_value_fault(token, valued(s, said_by(text, token))),
-        Part::KeyValue { token } => or_value_fault(token, None),
+        Part::Value { token } => with_value(text, s, token, inner_value(behind)),
+        Part::KeyValue { .. } => Ok(*s),
     }
 }
 
-/// What the parts of a command give. Of a qualifier that is given twice the last one counts.
+/// What the parts of a command give, but for lists. Of a qualifier that is given twice the last one counts.
 ///
 /// Errors: the first value that can't be read, with the kind `Value` at its first byte.
 pub(crate) fn settings_of(text: &[u8], command: Command, parts: &[Part]) -> Result<Settings, Fault>
@@ -275,7 +249,7 @@ pub(crate) fn settings_of(text: &[u8], command: Command, parts: &[Part]) -> Resu
     let mut s = nothing_given(command);
     let mut rest = parts;
     while let [part, behind @ ..] = rest {
-        match with_part(text, command, &s, *part) {
+        match with_part(text, command, &s, *part, behind) {
             Ok(next) => s = next,
             Err(fault) => return Err(fault),
         }

@@ -1,14 +1,33 @@
 // What the values of commands say.
-ghost use Rattle.std.specs.Prelude.{◌≡◌, ◌<◌, ◌≤◌, ◌^◌, IfSome};
+ghost use Rattle.std.specs.Prelude.{◌≡◌, ◌<◌, ◌≤◌, ◌^◌, ◌==◌, IfSome, length, position};
 ghost use Rattle.std.specs.List.{AllPass, list_all};
 ghost use Rattle.std.specs.Char.{is_ascii_digit};
-ghost use Rattle.std.specs.Option.{SomeIff};
+ghost use Rattle.std.specs.Option.{SomeIff, option_copied};
+ghost use Rattle.std.specs.Str.{bytes_eq};
+ghost use Rattle.qm_grammar.specs.Spelled.{is_raised_to};
+ghost use Rattle.qm_model.specs.Built.{is_definable};
 ghost use Rattle.qm_model.specs.Texts.{value_of};
-ghost use Rattle.qm_dcl.specs.Values.{unquoted, said_by, are_digits, number_to, byte_said, entry_said, queue_said};
+ghost use Rattle.qm_dcl.specs.Values.{unquoted, said_by, raised_by, are_digits, number_to, byte_said, form_number_said, entry_said, blocks_said, short_name_said, definable_name_said, node_said, reference_said, form_said, characteristic_said, before_colon, device_said, located, location_said, leads_to_equals, has_equals, schedule_said, side_said};
 
 use qm_grammar::bytes_of;
-use qm_kinds::{Name, SHORT_NAME_BYTES};
+use qm_kinds::{NODE_NAME_BYTES, Name, NameOrNumber, SHORT_NAME_BYTES};
 use qm_lex::{Token, TokenKind};
+
+/// A margin of a page.
+#[derive(Clone, Copy)]
+pub(crate) enum Side {
+    Top,
+    Bottom,
+    Left,
+    Right,
+}
+
+/// Where a queue stands.
+#[derive(Clone, Copy)]
+pub(crate) struct Location {
+    pub(crate) node: Name,
+    pub(crate) device: Option<Name>,
+}
 
 // What stands between the quotes of a string.
 fn unquoted(string: &[u8]) -> &[u8]
@@ -29,6 +48,29 @@ pub(crate) fn said_by(text: &[u8], token: Token) -> &[u8]
         bytes
     } else {
         unquoted(bytes)
+    }
+}
+
+// Whether a word is this one, once it is raised.
+fn is_raised_to(spelling: &[u8], word: &[u8]) -> bool
+    ensures { result ≡ is_raised_to spelling.now word.now }
+{
+    word.len() == spelling.len()
+        && word
+            .iter()
+            .zip(spelling)
+            .all(|(b, s)| b.to_ascii_uppercase() == *s)
+}
+
+// Whether a word or a quoted string is this word, which is spelled in capital letters; what is quoted isn't raised.
+fn is_said(text: &[u8], token: Token, spelling: &[u8]) -> bool
+    ensures { result ≡ bytes_eq (raised_by text.now token) spelling.now }
+{
+    let bytes = bytes_of(text, token);
+    if token.kind == TokenKind::Word {
+        is_raised_to(spelling, bytes)
+    } else {
+        unquoted(bytes) == spelling
     }
 }
 
@@ -81,6 +123,14 @@ pub(crate) fn byte_said(said: &[u8]) -> Option<u8>
     Some(number as u8)
 }
 
+/// The number of a form, of 16 bits. Zeros may stand in front.
+pub(crate) fn form_number_said(said: &[u8]) -> Option<u16>
+    ensures { result ≡ form_number_said said.now }
+{
+    let number = number_to(65_535, said)?;
+    Some(number as u16)
+}
+
 /// The number of an entry, of 32 bits. Zeros may stand in front.
 pub(crate) fn entry_said(said: &[u8]) -> Option<u32>
     ensures { result ≡ entry_said said.now }
@@ -88,12 +138,166 @@ pub(crate) fn entry_said(said: &[u8]) -> Option<u32>
     number_to(u32::MAX, said)
 }
 
-/// The name of a queue, of 31 bytes at most.
-pub(crate) fn queue_said(said: &[u8]) -> Option<Name>
-    ensures { result ≡ queue_said said.now }
+/// How many blocks, in 32 bits. Zeros may stand in front.
+pub(crate) fn blocks_said(said: &[u8]) -> Option<u32>
+    ensures { result ≡ blocks_said said.now }
+{
+    number_to(u32::MAX, said)
+}
+
+/// The name of a queue, a stock or a device, of 31 bytes at most.
+pub(crate) fn short_name_said(said: &[u8]) -> Option<Name>
+    ensures { result ≡ short_name_said said.now }
 {
     match Name::read(said) {
         Ok(name) if name.as_bytes().len() <= SHORT_NAME_BYTES => Some(name),
         _ => None,
+    }
+}
+
+/// The name of a form or a characteristic that is defined or deleted: of 31 bytes at most, and not digits alone.
+pub(crate) fn definable_name_said(said: &[u8]) -> Option<Name>
+    ensures { result ≡ definable_name_said said.now }
+{
+    match Name::read(said) {
+        Ok(name) if is_definable(name) => Some(name),
+        _ => None,
+    }
+}
+
+// Whether a form or a characteristic can have a name.
+fn is_definable(name: Name) -> bool
+    ensures { result ≡ is_definable name }
+{
+    name.as_bytes().len() <= SHORT_NAME_BYTES && !all_digits(name.as_bytes())
+}
+
+// The name of a node, of 6 bytes at most.
+fn node_said(said: &[u8]) -> Option<Name>
+    ensures { result ≡ node_said said.now }
+{
+    match Name::read(said) {
+        Ok(name) if name.as_bytes().len() <= NODE_NAME_BYTES => Some(name),
+        _ => None,
+    }
+}
+
+// A number, which isn't above the most, where it is digits alone, and else a name.
+fn reference_said(most: u16, said: &[u8]) -> Option<NameOrNumber>
+    ensures { result ≡ reference_said most said.now }
+{
+    if are_digits(said) {
+        let number = number_to(u32::from(most), said)?;
+        Some(NameOrNumber::Number(number as u16))
+    } else {
+        let name = short_name_said(said)?;
+        Some(NameOrNumber::Name(name))
+    }
+}
+
+/// A form, by its name, of 31 bytes at most, or its number, of 16 bits.
+pub(crate) fn form_said(said: &[u8]) -> Option<NameOrNumber>
+    ensures { result ≡ form_said said.now }
+{
+    reference_said(65_535, said)
+}
+
+/// A characteristic, by its name, of 31 bytes at most, or its number, of 8 bits.
+pub(crate) fn characteristic_said(said: &[u8]) -> Option<NameOrNumber>
+    ensures { result ≡ characteristic_said said.now }
+{
+    reference_said(255, said)
+}
+
+// What stands in front of a colon that ends it.
+fn before_colon(said: &[u8]) -> Option<&[u8]>
+    ensures { option_copied result ≡ before_colon said.now }
+{
+    match said {
+        [device @ .., b':'] => Some(device),
+        _ => None,
+    }
+}
+
+// Nothing, or a device and a colon.
+fn device_said(said: &[u8]) -> Option<Option<Name>>
+    ensures { result ≡ device_said said.now }
+{
+    if said.is_empty() {
+        return Some(None);
+    }
+    let device = short_name_said(before_colon(said)?)?;
+    Some(Some(device))
+}
+
+// The place of the first colon.
+fn first_colon(said: &[u8]) -> Option<usize>
+    ensures value { result ≡ position (λ b. b == 58) said.now }
+    ensures within { IfSome result (λ place. place < length said.now) }
+{
+    said.iter().position(|b| *b == b':')
+}
+
+/// A node, of 6 bytes at most, two colons, and perhaps a device of it, of 31 bytes at most, and a colon.
+pub(crate) fn location_said(said: &[u8]) -> Option<Location>
+    ensures { result ≡ location_said said.now }
+{
+    let place = first_colon(said)?;
+    let device = match &said[place + 1..] {
+        [b':', behind @ ..] => device_said(behind)?,
+        _ => return None,
+    };
+    let node = node_said(&said[..place])?;
+    Some(Location { node, device })
+}
+
+// Whether an `=` stands behind blanks and tabs.
+fn leads_to_equals(behind: &[u8]) -> bool
+    ensures { result ≡ leads_to_equals behind.now }
+{
+    let mut rest = behind;
+    while let [byte, behind @ ..] = rest {
+        if *byte != b' ' && *byte != b'\t' {
+            return *byte == b'=';
+        }
+        rest = behind;
+    }
+    false
+}
+
+/// Whether an `=` stands behind a token, with or without blanks and tabs between them.
+pub(crate) fn has_equals(text: &[u8], token: Token) -> bool
+    ensures { result ≡ has_equals text.now token }
+{
+    token.end < text.len() && leads_to_equals(&text[token.end..])
+}
+
+/// Whether jobs stand in order of their sizes: `SIZE` or `NOSIZE`.
+pub(crate) fn schedule_said(text: &[u8], token: Token) -> Option<bool>
+    ensures { result ≡ schedule_said (raised_by text.now token) }
+{
+    if is_said(text, token, b"SIZE") {
+        Some(true)
+    } else if is_said(text, token, b"NOSIZE") {
+        Some(false)
+    } else {
+        None
+    }
+}
+
+/// A side of a page: `TOP`, `BOTTOM`, `LEFT` or `RIGHT`.
+pub(crate) fn side_said(text: &[u8], token: Token) -> Option<Side>
+    ensures { result ≡ side_said (raised_by text.now token) }
+{
+    if is_said(text, token, b"TOP") {
+        Some(Side::Top)
+    } else if is_said(text, token, b"BOTTOM") {
+        Some(Side::Bottom)
+    } else if is_said(text, token, b"LEFT") {
+        Some(Side::Left)
+    } else if is_said(text, token, b"RIGHT") {
+        Some(Side::Right)
+    } else {
+        None
     }
 }

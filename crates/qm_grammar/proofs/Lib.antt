@@ -2,3 +2,4 @@ pub mod Spelling
 pub mod ConflictPlaces
 pub mod RuleLemmas
 pub mod PartLemmas
+pub mod FewValues

@@ -10,6 +10,25 @@ use std::test::Fail;
 const APPEND: &[u8] =
     b"\x01\x01\x00\x00\x00\x00\x00\x00\x00\x00\x01\x05\x4c\x4f\x47\x49\x4e\x01\x03\x43\x4f\x4d\x02\x00\x00\x00\x68\x69";
 
+const FILL: &[u8] =
+    b"\x01\x02\x00\x00\x00\x00\x00\x00\x00\x00\x00\x05\x4c\x4f\x47\x49\x4e\x01\x03\x43\x4f\x4d\x2c\x01";
+
+const DROP: &[u8] = b"\x01\x03\x00\x00\x00\x00\x00\x00\x00\x00\x00\x01\x41\x00";
+
+const DEFINE_FORM: &[u8] =
+    b"\x01\x04\x00\x00\x00\x00\x00\x00\x00\x00\x00\x06\x4c\x45\x54\x54\x45\x52\x2c\x01\x05\x50\x4c\x41\x49\x4e\x42\x50\x01\x02\x03\x04\x01";
+
+const DELETE_FORM: &[u8] =
+    b"\x01\x05\x00\x00\x00\x00\x00\x00\x00\x00\x00\x06\x4c\x45\x54\x54\x45\x52";
+
+const DEFINE_CHARACTERISTIC: &[u8] =
+    b"\x01\x06\x00\x00\x00\x00\x00\x00\x00\x00\x00\x04\x46\x41\x53\x54\x7f";
+
+const DELETE_CHARACTERISTIC: &[u8] =
+    b"\x01\x07\x00\x00\x00\x00\x00\x00\x00\x00\x00\x04\x46\x41\x53\x54";
+
+const MERGE: &[u8] = b"\x01\x0e\x00\x00\x00\x00\x00\x00\x00\x00\x00\x02\x4c\x50\x01\x51";
+
 const SUBMIT: &[u8] =
     b"\x01\x0f\x00\x00\x00\x00\x00\x00\x00\x00\x00\x05\x53\x4d\x49\x54\x48\x02\x02\x4c\x50\x01\x41\x00\x01\x41\x64\x01\x07\x00\x00\x00\x00\x00\x00\x00\x01\x03\x07\x00\x00\x00\x00\x00\x00\x00\x00\x02\x00\x00\x04\x46\x41\x53\x54\x01\x03\x00\x01\x01\x01\x02\x02\x01";
 
@@ -52,12 +71,19 @@ const QUEUE: &[u8] =
 fn number(body: &Body) -> u8 {
     match body {
         Body::Ask(Request::Append { .. }) => 1,
+        Body::Ask(Request::Fill { .. }) => 2,
+        Body::Ask(Request::Drop { .. }) => 3,
+        Body::Ask(Request::DefineForm(_)) => 4,
+        Body::Ask(Request::DeleteForm { .. }) => 5,
+        Body::Ask(Request::DefineCharacteristic(_)) => 6,
+        Body::Ask(Request::DeleteCharacteristic { .. }) => 7,
         Body::Ask(Request::InitializeQueue(_)) => 8,
         Body::Ask(Request::SetQueue { .. }) => 9,
         Body::Ask(Request::StartQueue { .. }) => 10,
         Body::Ask(Request::StopQueue { .. }) => 11,
         Body::Ask(Request::AbortJob { .. }) => 12,
         Body::Ask(Request::DeleteQueue { .. }) => 13,
+        Body::Ask(Request::Merge { .. }) => 14,
         Body::Ask(Request::Submit(_)) => 15,
         Body::Ask(Request::DeleteEntry { .. }) => 17,
         Body::Ask(Request::Mark { .. }) => 18,
@@ -78,14 +104,21 @@ fn place_in<R: AllocGlobal>(rt: &R, bytes: &[u8]) -> Option<usize> {
     }
 }
 
-const RECORDS: [&[u8]; 15] = [
+const RECORDS: [&[u8]; 22] = [
     APPEND,
+    FILL,
+    DROP,
+    DEFINE_FORM,
+    DELETE_FORM,
+    DEFINE_CHARACTERISTIC,
+    DELETE_CHARACTERISTIC,
     INITIALIZE_QUEUE,
     SET_QUEUE,
     START_QUEUE,
     STOP_QUEUE,
     ABORT_JOB,
     DELETE_QUEUE,
+    MERGE,
     SUBMIT,
     DELETE_ENTRY,
     MARK,
@@ -115,7 +148,7 @@ fn records_are_read(rt: HostRuntime) -> Result<(), Fail> {
 }
 
 // Bytes that are no record, and the place that is told.
-const FAULTS: [(&str, usize); 10] = [
+const FAULTS: [(&str, usize); 14] = [
     ("\x02\x14\0\0\0\0\0\0\0\0\0", 0),
     ("\x01\x63\0\0\0\0\0\0\0\0\0", 1),
     // A moment past the last.
@@ -133,6 +166,17 @@ const FAULTS: [(&str, usize); 10] = [
     ("\x01\x0b\0\0\0\0\0\0\0\0\0\x01Q\x04", 13),
     // What a queue retains, behind five settings that aren't given.
     ("\x01\x09\0\0\0\0\0\0\0\0\0\x01Q\0\0\0\0\0\x01\x03", 19),
+    // A truth value of 2: whether a form's lines wrap.
+    (
+        "\x01\x04\0\0\0\0\0\0\0\0\0\x01A\0\0\x01A\x42\x50\x01\x02\x03\x04\x02",
+        23,
+    ),
+    // A name without a byte: whence jobs are moved.
+    ("\x01\x0e\0\0\0\0\0\0\0\0\0\x01Q\0", 13),
+    // A list that is cut short: two targets, of which one is there.
+    ("\x01\x08\0\0\0\0\0\0\0\0\0\x01Q\x03\0\0\x02\0\x01A", 20),
+    // A byte behind the number of a characteristic.
+    ("\x01\x06\0\0\0\0\0\0\0\0\0\x01A\x7f\0", 14),
 ];
 
 #[test]
@@ -204,6 +248,17 @@ fn a_queue_is_written(rt: HostRuntime) -> Result<(), Fail> {
     });
     let text = write_request(rt.alloc(), Moment::BASE, 0, &request)?;
     assert_eq!(rt; text.as_slice(), INITIALIZE_QUEUE);
+    Ok(())
+}
+
+#[test]
+fn the_queue_that_gets_the_jobs_is_written_first(rt: HostRuntime) -> Result<(), Fail> {
+    let request = Request::Merge {
+        to: name(b"LP"),
+        from: name(b"Q"),
+    };
+    let text = write_request(rt.alloc(), Moment::BASE, 0, &request)?;
+    assert_eq!(rt; text.as_slice(), MERGE);
     Ok(())
 }
 

@@ -1,0 +1,131 @@
+// The lists that qualifiers give.
+ghost use Rattle.std.specs.Prelude.{◌≡◌, IfOk, option_map};
+ghost use Rattle.std.specs.Option.{option_copied};
+ghost use Rattle.qm_dcl.specs.Lists.{gives, begins_list, behind_last, values_ahead, listed, characteristics_said, queues_said, lists_of};
+
+use crate::value::{characteristic_said, said_by, short_name_said};
+use qm_grammar::{Part, Word};
+use qm_kinds::{Name, NameOrNumber, Seq};
+use std::alloc::{AllocError, Global};
+
+/// What a list is of.
+#[derive(Clone, Copy)]
+pub(crate) enum ListOf {
+    Characteristics,
+    /// The queues to which a generic queue passes its jobs on.
+    Targets,
+}
+
+/// The lists of a command; none where a list isn't given.
+#[derive(Drop)]
+pub(crate) struct Lists {
+    pub(crate) characteristics: Option<Seq<NameOrNumber>>,
+    /// The queues to which a generic queue passes its jobs on.
+    pub(crate) targets: Option<Seq<Name>>,
+}
+
+// Whether a qualifier gives a list. /NOCHARACTERISTICS takes no value, and gives the empty one.
+fn gives(list: ListOf, word: Word) -> bool
+    ensures { result ≡ gives list word }
+{
+    match (list, word) {
+        (ListOf::Characteristics, Word::Characteristics | Word::NoCharacteristics) => true,
+        (ListOf::Targets, Word::Generic) => true,
+        _ => false,
+    }
+}
+
+// Whether a part is a qualifier that gives a list.
+fn begins_list(list: ListOf, part: Part) -> bool
+    ensures { result ≡ begins_list list part }
+{
+    match part {
+        Part::Qualifier { word, .. } => gives(list, word),
+        _ => false,
+    }
+}
+
+// The parts behind the last qualifier that gives a list, if one does.
+fn behind_last(list: ListOf, parts: &[Part]) -> Option<&[Part]>
+    ensures { option_copied result ≡ behind_last list parts.now }
+{
+    let mut found = None;
+    let mut rest = parts;
+    while let [part, behind @ ..] = rest {
+        if begins_list(list, *part) {
+            found = Some(behind);
+        }
+        rest = behind;
+    }
+    found
+}
+
+// The characteristics that the values say with which parts begin.
+fn characteristics_ahead(
+    alloc: Global,
+    text: &[u8],
+    parts: &[Part],
+) -> Result<Seq<NameOrNumber>, AllocError>
+    ensures { IfOk result (λ list. list ≡ characteristics_said text.now (values_ahead parts.now)) }
+{
+    let mut found = Vec::new(alloc);
+    let mut rest = parts;
+    while let [Part::Value { token }, behind @ ..] = rest {
+        if let Some(characteristic) = characteristic_said(said_by(text, *token)) {
+            found.push(characteristic)?;
+        }
+        rest = behind;
+    }
+    Ok(Seq::of(found))
+}
+
+// The queues that the values name with which parts begin.
+fn queues_ahead(alloc: Global, text: &[u8], parts: &[Part]) -> Result<Seq<Name>, AllocError>
+    ensures { IfOk result (λ list. list ≡ queues_said text.now (values_ahead parts.now)) }
+{
+    let mut found = Vec::new(alloc);
+    let mut rest = parts;
+    while let [Part::Value { token }, behind @ ..] = rest {
+        if let Some(name) = short_name_said(said_by(text, *token)) {
+            found.push(name)?;
+        }
+        rest = behind;
+    }
+    Ok(Seq::of(found))
+}
+
+// The list of characteristics that counts, if one is given.
+fn characteristics_of(
+    alloc: Global,
+    text: &[u8],
+    parts: &[Part],
+) -> Result<Option<Seq<NameOrNumber>>, AllocError>
+    ensures { IfOk result (λ list. list ≡ (lists_of text.now parts.now).characteristics) }
+{
+    match behind_last(ListOf::Characteristics, parts) {
+        Some(behind) => Ok(Some(characteristics_ahead(alloc, text, behind)?)),
+        None => Ok(None),
+    }
+}
+
+// The list of targets that counts, if one is given.
+fn targets_of(alloc: Global, text: &[u8], parts: &[Part]) -> Result<Option<Seq<Name>>, AllocError>
+    ensures { IfOk result (λ list. list ≡ (lists_of text.now parts.now).targets) }
+{
+    match behind_last(ListOf::Targets, parts) {
+        Some(behind) => Ok(Some(queues_ahead(alloc, text, behind)?)),
+        None => Ok(None),
+    }
+}
+
+/// The lists of a command, by its parts. It takes time in the number of these, and memory for the lists.
+///
+/// Errors: `AllocError`, where memory ran out.
+pub(crate) fn lists_of(alloc: Global, text: &[u8], parts: &[Part]) -> Result<Lists, AllocError>
+    ensures { IfOk result (λ lists. lists ≡ lists_of text.now parts.now) }
+{
+    Ok(Lists {
+        characteristics: characteristics_of(alloc, text, parts)?,
+        targets: targets_of(alloc, text, parts)?,
+    })
+}
