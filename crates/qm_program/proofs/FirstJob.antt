@@ -38,7 +38,7 @@ empty_script = refl
 pub refusals : printed_by (script_of (lines_of
     (codes "A $ SUBMIT JOB"
     ∷ codes "A $ SHOW ENTRY 7"
-    ∷ codes "A $ PRINT JOB"
+    ∷ codes "A $ SHOW QUEUE"
     ∷ codes "A ! LINE JOB.COM"
     ∷ codes "A ! LINE JOB.COM x"
     ∷ codes "A $ SUBMIT JOB"

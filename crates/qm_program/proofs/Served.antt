@@ -1,5 +1,5 @@
 -- What lines ask for can be asked here, and what answering leaves of the manager.
-use Rattle.std.proofs.Common.{◌≡◌, inl, ℕ, Bool, true, false, cond, lit<, List, [], ◌∷◌, ◌&&◌, ◌||◌, codes, Option, None, Some, Result, Ok, Err, refl, sym, ◌∙◌, ap, subst, IfSome, IfOk}
+use Rattle.std.proofs.Common.{◌≡◌, ◌<◌, ◌^◌, inl, ℕ, length, Bool, true, false, cond, ◌==◌, lit<, List, [], ◌∷◌, ◌&&◌, ◌||◌, codes, Option, None, Some, Result, Ok, Err, refl, sym, ◌∙◌, ap, subst, IfSome, IfOk}
 use Rattle.std.specs.Option.{option_map}
 use Rattle.std.specs.Result.{IsErrAnd}
 use Rattle.std.specs.Str.{bytes_eq}
@@ -8,6 +8,7 @@ use Rattle.qm_kinds.specs.Files.{file_name_of}
 use Rattle.qm_kinds.specs.declared.file.FileName.{FileName}
 use Rattle.qm_kinds.specs.declared.input.Input.{Input}
 use Rattle.qm_kinds.specs.declared.input.Input.TheVariants.{Ask, Show, Fault}
+use Rattle.qm_kinds.specs.declared.request.Request.TheVariants.{Fill, Drop}
 use Rattle.qm_kinds.specs.declared.query.Row.{Row}
 use Rattle.qm_kinds.specs.declared.refusal.ParseKind.TheVariants as parse
 use Rattle.qm_kinds.specs.declared.refusal.Refusal.{Refusal}
@@ -16,8 +17,12 @@ use Rattle.qm_model.specs.Texts.{cut_at_blank}
 use Rattle.qm_grammar.specs.declared.fault.Fault.{Fault as TextFault}
 use Rattle.qm_dcl.specs.Command.{command_of}
 use Rattle.qm_dcl.specs.Lines.{input_of, or_fault}
-use Rattle.qm_dcl.proofs.EachAsked.{OfEach, of_asked}
-use Rattle.qm_model.specs.Script.{Sort, Command, Site as AtSite, act_from, act_number, done_by, done_act, line_act, append_to}
+use Rattle.qm_dcl.proofs.EachAsked.{OfEach, HasFewIfGiven, of_asked}
+use Rattle.qm_bytes.specs.Spelling.{AllOf}
+use Rattle.qm_record.specs.Spelling.{IsShortChange}
+use Rattle.qm_kinds.specs.declared.request.NameOrNumber.{NameOrNumber}
+use Rattle.qm_kinds.specs.declared.queue.QueueChange.{QueueChange}
+use Rattle.qm_model.specs.Script.{Sort, Command, Site as AtSite, act_from, act_number, is_act_word, done_by, done_act, line_act, append_to, filled_by, fill_act, drop_act}
 use Rattle.qm_manager.specs.declared.manager.Manager.{Manager}
 use Rattle.qm_manager.specs.Site.{Site}
 use Rattle.qm_manager.specs.Sites.{steps_nowhere}
@@ -31,17 +36,30 @@ use Rattle.qm_program.specs.declared.serve.AnswerFault.TheVariants as fault
 -- ---- what lines ask for
 
 -- each form of a command that is built can be asked
-each_askable : (user : List ℕ) → OfEach IsAskable user
-each_askable user = record {
-  submits = λ file s. (refl, lit< tt);
+-- a list that is given is short enough for its record
+short_given : (given : Option (List NameOrNumber)) → HasFewIfGiven given → AllOf (λ (xs : List NameOrNumber). length xs < 2 ^ 16) given
+short_given None few = tt
+short_given (Some xs) few = few
+
+short_change : (change : QueueChange) → HasFewIfGiven change.characteristics → IsShortChange change
+short_change change few = short_given change.characteristics few
+
+each_askable : OfEach IsAskable
+each_askable = record {
   shows = λ number. (refl, refl);
+  submits = λ job few. (refl, few);
   deletes_entry = λ number. (refl, tt);
-  initializes = λ name s short. (ap (λ b. b && true) short, record { targets = lit< tt; change = tt });
-  sets = λ name s. (refl, tt);
-  starts = λ name s. (refl, tt);
+  defines_form = λ form built. (built, tt);
+  deletes_form = λ name. (refl, tt);
+  defines_characteristic = λ c built. (built, tt);
+  deletes_characteristic = λ name. (refl, tt);
+  initializes = λ new built few characteristics. (built, record { targets = few; change = short_change new.change characteristics });
+  sets = λ name change few. (refl, short_change change few);
+  starts = λ name change few. (refl, short_change change few);
   stops = λ name how. (refl, tt);
   aborts = λ name entry requeue. (refl, tt);
   deletes_queue = λ name. (refl, tt);
+  merges = λ to from. (refl, tt);
 }
 
 command_askable : (read : Result Input TextFault) → IfOk read IsAskable → IsAskable (or_fault read)
@@ -69,19 +87,40 @@ done_askable : (parts : Option (List ℕ × List ℕ)) → IsAskable (done_act p
 done_askable None = tt
 done_askable (Some parts) = done_by_askable (act_number 18446744073709551615 parts.0) (act_number 4294967295 parts.1)
 
-act_or_not : (line done : Bool) (rest : List ℕ)
-    → IsAskable (cond line (line_act (cut_at_blank rest)) (cond done (done_act (cut_at_blank rest)) (Fault 0 parse.NotBuilt)))
-act_or_not true done rest = line_askable (cut_at_blank rest)
-act_or_not false true rest = done_askable (cut_at_blank rest)
-act_or_not false false rest = tt
+fill_count_askable : (file : FileName) (lines : ℕ) (none : Bool) → IsAskable (cond none (Fault 0 parse.Form) (Ask (Fill file lines)))
+fill_count_askable file lines true = tt
+fill_count_askable file lines false = (refl, tt)
+
+filled_askable : (file : Option FileName) (lines : Option ℕ) → IsAskable (filled_by file lines)
+filled_askable None lines = tt
+filled_askable (Some file) None = tt
+filled_askable (Some file) (Some lines) = fill_count_askable file lines (lines == 0)
+
+fill_askable : (parts : Option (List ℕ × List ℕ)) → IsAskable (fill_act parts)
+fill_askable None = tt
+fill_askable (Some parts) = filled_askable (file_name_of parts.0) (act_number 1024 parts.1)
+
+drop_askable : (file : Option FileName) → IsAskable (drop_act file)
+drop_askable None = tt
+drop_askable (Some file) = (refl, tt)
+
+-- which act it is
+act_or_not : (line fill drop done : Bool) (rest : List ℕ)
+    → IsAskable (cond line (line_act (cut_at_blank rest)) (cond fill (fill_act (cut_at_blank rest))
+    (cond drop (drop_act (file_name_of rest)) (cond done (done_act (cut_at_blank rest)) (Fault 0 parse.NotBuilt)))))
+act_or_not true fill drop done rest = line_askable (cut_at_blank rest)
+act_or_not false true drop done rest = fill_askable (cut_at_blank rest)
+act_or_not false false true done rest = drop_askable (file_name_of rest)
+act_or_not false false false true rest = done_askable (cut_at_blank rest)
+act_or_not false false false false rest = tt
 
 act_askable : (text : List ℕ) (parts : Option (List ℕ × List ℕ)) → IsAskable (act_from text parts)
-act_askable text None = faulty (bytes_eq text (codes "LINE") || bytes_eq text (codes "DONE"))
-act_askable text (Some parts) = act_or_not (bytes_eq parts.0 (codes "LINE")) (bytes_eq parts.0 (codes "DONE")) parts.1
+act_askable text None = faulty (is_act_word text)
+act_askable text (Some parts) = act_or_not (bytes_eq parts.0 (codes "LINE")) (bytes_eq parts.0 (codes "FILL")) (bytes_eq parts.0 (codes "DROP")) (bytes_eq parts.0 (codes "DONE")) parts.1
 
 -- what a line asks for can be asked
 pub input_askable : (sort : Sort) (text : List ℕ) → IsAskable (input_of sort text)
-input_askable Command text = command_askable (command_of system_user text) (of_asked (each_askable system_user) text)
+input_askable Command text = command_askable (command_of system_user text) (of_asked each_askable system_user text)
 input_askable AtSite text = act_askable text (cut_at_blank text)
 
 pub askable_as : (sort : Sort) (text : List ℕ) (input asked : Input) → input ≡ input_of sort text → input ≡ asked → IsAskable asked

@@ -1,7 +1,8 @@
 // What is done at the site of a node, in place of a user.
 ghost use Rattle.std.specs.Prelude.{◌≡◌, ◌++◌, ◌∷◌, [], IfOk, OnErr};
+ghost use Rattle.qm_kinds.specs.Files.{file_name_of};
 ghost use Rattle.qm_model.specs.Texts.{cut_at_blank};
-ghost use Rattle.qm_model.specs.Script.{act_of, done_act, line_act};
+ghost use Rattle.qm_model.specs.Script.{act_of, done_act, drop_act, fill_act, is_act_word, line_act};
 ghost use Rattle.qm_program.specs.Wanting.{WantsMemory};
 
 use crate::number::act_number;
@@ -11,22 +12,68 @@ use std::alloc::{AllocError, Global};
 
 const DONE: &[u8] = b"DONE";
 
+const DROP: &[u8] = b"DROP";
+
+const FILL: &[u8] = b"FILL";
+
 const LINE: &[u8] = b"LINE";
 
+/// The most lines of a `FILL`.
+const FILL_LIMIT: u64 = 1024;
+
+// Whether a word is that of an act that is built.
+fn is_act_word(word: &[u8]) -> bool
+    ensures { result ≡ is_act_word word.now }
+{
+    word == LINE || word == FILL || word == DROP || word == DONE
+}
+
 /// What an act asks for: a word, and behind a blank what the word takes. The words that are built are `LINE`, which takes
-/// a file's name, a blank and a line of text for the end of that file, and `DONE`, which takes the number of a run that has
-/// ended, a blank and its status. Another word isn't built, and what a word doesn't take is a fault of form. Memory is
-/// wanted for bytes that are added to a file alone.
+/// a file's name, a blank and a line of text for the end of that file; `FILL`, which takes a file's name, a blank and how
+/// many lines (1 to 1,024) of 63 letters go to its end; `DROP`, which takes the name of a file that goes; and `DONE`, which
+/// takes the number of a run that has ended, a blank and its status. Another word isn't built, and what a word doesn't take
+/// is a fault of form. Memory is wanted for the bytes of a `LINE` alone.
 pub(crate) fn read_act(alloc: Global, text: &[u8]) -> Result<Input, AllocError>
     ensures input { IfOk result (λ input. input ≡ act_of text.now) }
     ensures no_memory { OnErr result (WantsMemory (act_of text.now)) }
 {
     match cut_at_blank(text) {
-        None if text == LINE || text == DONE => Ok(fault(ParseKind::Form)),
+        None if is_act_word(text) => Ok(fault(ParseKind::Form)),
         None => Ok(fault(ParseKind::NotBuilt)),
         Some((word, rest)) if word == LINE => read_line_act(alloc, rest),
+        Some((word, rest)) if word == FILL => Ok(read_fill_act(rest)),
+        Some((word, rest)) if word == DROP => Ok(read_drop_act(rest)),
         Some((word, rest)) if word == DONE => Ok(read_done_act(rest)),
         Some(_) => Ok(fault(ParseKind::NotBuilt)),
+    }
+}
+
+// A file's name, a blank and how many lines.
+fn read_fill_act(text: &[u8]) -> Input
+    ensures { result ≡ fill_act (cut_at_blank text.now) }
+{
+    let Some((file, lines)) = cut_at_blank(text) else {
+        return fault(ParseKind::Form);
+    };
+    let Some(file) = FileName::read(file) else {
+        return fault(ParseKind::Form);
+    };
+    match act_number(FILL_LIMIT, lines) {
+        None | Some(0) => fault(ParseKind::Form),
+        Some(lines) => Input::Ask(Request::Fill {
+            file,
+            lines: lines as u16,
+        }),
+    }
+}
+
+// A file's name.
+fn read_drop_act(text: &[u8]) -> Input
+    ensures { result ≡ drop_act (file_name_of text.now) }
+{
+    match FileName::read(text) {
+        Some(file) => Input::Ask(Request::Drop { file }),
+        None => fault(ParseKind::Form),
     }
 }
 
