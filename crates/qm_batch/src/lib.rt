@@ -9,8 +9,6 @@ mod moves;
 mod parts;
 mod standard;
 mod step;
-#[cfg(test)]
-mod tests;
 
 pub use cursor::{Cursor, batch_begin};
 pub use line::{Line, read_line};

@@ -5,9 +5,6 @@ ghost use Rattle.qm_model.specs.Reports.{begin};
 ghost use Rattle.qm_symb.specs.Symbiont.{IsWithinLimits};
 ghost use Rattle.qm_batch.specs.Standard.{StandsAt};
 
-#[cfg(test)]
-mod tests;
-
 use crate::cursor::{Cursor, batch_begin};
 use crate::step::batch_step;
 use qm_kinds::{JobKind, Place, Report, Work};

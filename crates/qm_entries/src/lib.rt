@@ -7,7 +7,5 @@ mod places;
 mod shelf;
 mod sweep;
 mod table;
-#[cfg(test)]
-mod tests;
 
 pub use table::EntryTable;

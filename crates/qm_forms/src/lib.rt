@@ -5,8 +5,6 @@
 mod names;
 mod places;
 mod table;
-#[cfg(test)]
-mod tests;
 mod wanted;
 
 pub use table::FormTable;

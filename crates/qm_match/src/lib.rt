@@ -6,8 +6,6 @@ mod conditions;
 mod fit;
 mod laws;
 mod order;
-#[cfg(test)]
-mod tests;
 
 pub use fit::{Fit, fits};
 pub use laws::{key_order_is_strict_and_total, keys_stand_as_jobs};

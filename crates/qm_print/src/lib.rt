@@ -8,8 +8,6 @@ mod cursor;
 mod line;
 mod page;
 mod step;
-#[cfg(test)]
-mod tests;
 
 pub use begin::{cursor_behind, print_begin};
 pub use blocks::page_blocks;

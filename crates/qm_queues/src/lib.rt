@@ -4,8 +4,6 @@
 mod places;
 mod settings;
 mod table;
-#[cfg(test)]
-mod tests;
 
 pub use settings::Settings;
 pub use table::QueueTable;

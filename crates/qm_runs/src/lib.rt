@@ -4,7 +4,5 @@
 
 mod places;
 mod runs;
-#[cfg(test)]
-mod tests;
 
 pub use runs::Runs;

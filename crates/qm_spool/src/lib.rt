@@ -7,7 +7,5 @@ mod place;
 mod rows;
 mod spool;
 mod spooled;
-#[cfg(test)]
-mod tests;
 
 pub use spool::Spool;

@@ -3,8 +3,6 @@
 
 mod laws;
 mod places;
-#[cfg(test)]
-mod tests;
 mod timers;
 
 pub use laws::{numbers_determine_the_timers, other_numbers_keep_their_timers};

@@ -1,0 +1,25 @@
+//! Worked cases of the tables of the image and of timers, as tests: that memory suffices where it is ample, that rows come,
+//! change and go, which jobs fit a queue and which it takes first, that a job's run comes and goes with it, and that jobs
+//! start while there are places.
+#![tactic(auto)]
+
+#[cfg(test)]
+mod entries;
+#[cfg(test)]
+mod files;
+#[cfg(test)]
+mod forms;
+#[cfg(test)]
+mod matching;
+#[cfg(test)]
+mod parts;
+#[cfg(test)]
+mod queues;
+#[cfg(test)]
+mod rows;
+#[cfg(test)]
+mod runs;
+#[cfg(test)]
+mod settling;
+#[cfg(test)]
+mod timers;
