@@ -2,6 +2,7 @@
 //! new one the next number.
 #![tactic(auto)]
 
+mod counts;
 mod places;
 mod runs;
 

@@ -5,6 +5,7 @@ ghost use Rattle.std.specs.Ordering.{nat_cmp};
 ghost use Rattle.qm_model.specs.Consistent.{IsInOrder};
 ghost use Rattle.qm_runs.specs.Runs.{run_numbered, with_run, without_run, new_run, places_in_use};
 
+use crate::counts::RunCounts;
 use crate::places::{MOST_RUNS, place_of, put};
 use qm_kinds::{Name, Run};
 use std::alloc::{AllocError, Global};
@@ -14,10 +15,13 @@ use std::marker::Model;
 /// order of their numbers, that number, and how many more have room.
 ///
 /// Only `reserve` and `reserve_for` take memory. `find`, `put` and `end` ask a logarithm of the runs, and the latter two also move those
-/// that stand behind. A start puts its run behind the others. `in_use` looks at each run.
+/// that stand behind. A start puts its run behind the others. `in_use` asks a logarithm of the queues that have runs, and
+/// each change of the runs does too.
 #[derive(Drop)]
 pub struct Runs {
     runs: Vec<Run>,
+    // How many of them each queue has.
+    counts: RunCounts,
     next: u64,
 }
 
@@ -26,16 +30,17 @@ impl Model for Runs {
     ghost use Rattle.qm_runs.specs.declared.places.TheConstants.{MOST_RUNS};
     ghost use Rattle.qm_runs.specs.Runs.{Begun};
     ghost use Rattle.qm_runs.specs.Numbered.{AreNumbered};
+    ghost use Rattle.qm_runs.specs.Counted.{AreCounted};
 
     ghost Value = { Begun };
 
     ghost view = { λ r. record {
       runs = r.runs.items;
       next = r.next;
-      spare = min (vec_capacity r.runs) MOST_RUNS - vec_len r.runs;
+      spare = min (min (vec_capacity r.runs) r.counts.room) MOST_RUNS - vec_len r.runs;
     } };
 
-    ghost invariant = { λ r. AreNumbered r.runs.items r.next };
+    ghost invariant = { λ r. AreNumbered r.runs.items r.next × AreCounted r.runs.items r.counts };
 }
 
 impl Runs {
@@ -45,6 +50,7 @@ impl Runs {
     {
         Runs {
             runs: Vec::new(alloc),
+            counts: RunCounts::new(alloc),
             next,
         }
     }
@@ -57,10 +63,7 @@ impl Runs {
         ensures no_less { self.old.spare ≤ self.new.spare }
         ensures runs { self.new ≡ record self.old { spare = self.new.spare } }
     {
-        if self.runs.len() == MOST_RUNS {
-            return Err(AllocError);
-        }
-        self.runs.reserve(1)
+        self.reserve_for(1)
     }
 
     /// Makes room for so many runs more. Where there is room it takes no memory, and succeeds. It fails for want of memory,
@@ -74,6 +77,7 @@ impl Runs {
         if MOST_RUNS < self.runs.len() || MOST_RUNS - self.runs.len() < count {
             return Err(AllocError);
         }
+        self.counts.reserve(self.runs.len() + count)?;
         self.runs.reserve(count)
     }
 
@@ -87,6 +91,7 @@ impl Runs {
         let Err(place) = place_of(&self.runs, run.run) else {
             unreachable!()
         };
+        self.counts.add(&run.queue);
         put(&mut self.runs, place, run);
     }
 
@@ -102,6 +107,7 @@ impl Runs {
         } }
     {
         let run = self.next;
+        self.counts.add(&queue);
         self.runs.push_reserved(Run {
             run,
             entry,
@@ -123,14 +129,16 @@ impl Runs {
         let Ok(place) = place_of(&self.runs, run) else {
             return None;
         };
-        Some(self.runs.remove(place).entry)
+        let ended = self.runs.remove(place);
+        self.counts.take(&ended.queue);
+        Some(ended.entry)
     }
 
     /// How many runs the queue has.
     pub fn in_use(&self, queue: &Name) -> u32
         ensures { result ≡ places_in_use queue.now self.now.runs }
     {
-        self.runs.iter().filter(|run| run.queue == *queue).count() as u32
+        self.counts.of_queue(queue)
     }
 
     /// The run of a number.

@@ -101,8 +101,8 @@ fn start_of(parts: &Parts, entry: &Entry, queue: &Queue) -> Start
 }
 
 /// What a queue, which is one of these, starts next, if run numbers are left, it has a place and a job fits it. It looks at
-/// each run if the queue is started and its node is up, and at each entry if it also has a place. The form that is mounted is
-/// looked for once. It takes no memory.
+/// each entry if the queue is started, its node is up and it has a place. The form that is mounted is looked for once. It
+/// takes no memory.
 pub(crate) fn next_start(parts: &Parts, queue: &Queue) -> Option<Start>
     requires { queue_named queue.now.name parts.now.queues ≡ Some queue.now }
     ensures { (s : System) → result ≡ next_start (with_tables s parts.now) queue.now }

@@ -51,7 +51,8 @@ impl Parts {
         let _ = self.queues.remove(name);
     }
 
-    /// Stops each queue that is stopping and has no run. For each one that is stopping it looks at each run.
+    /// Stops each queue that is stopping and has no run. For each one that is stopping it asks a logarithm of the queues that
+    /// have runs.
     pub fn stop_idle(&mut self)
         ensures { self.new ≡ record self.old { queues = map (when_idle self.old.entries) self.old.queues } }
     {

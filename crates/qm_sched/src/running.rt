@@ -16,14 +16,14 @@ use qm_kinds::{Entry, EntryState, Name, Run};
 use qm_runs::Runs;
 
 impl Parts {
-    /// How many places of a queue are taken by runs, aborting or not. It looks at each run.
+    /// How many places of a queue are taken by runs, aborting or not. It asks a logarithm of the queues that have runs.
     pub fn places_taken(&self, queue: &Name) -> u32
         ensures { result ≡ places_taken self.now.entries queue.now }
     {
         self.runs.in_use(queue)
     }
 
-    /// Whether a queue has a run, aborting or not. It looks at each run.
+    /// Whether a queue has a run, aborting or not. It asks a logarithm of the queues that have runs.
     pub fn is_occupied(&self, queue: &Name) -> bool
         ensures { result ≡ list_any (occupies queue.now) self.now.entries }
     {

@@ -34,8 +34,8 @@ fn start_next(parts: &mut Parts, start: &Start)
 ///
 /// The queues are gone through once by name. At each it stays as long as the queue can start a job: a start never lets a
 /// queue start a job that couldn't. It looks at no queue's jobs unless the queue is started, its node is up and it has a
-/// place. Such a queue costs a look at each entry for each job that it starts, and one more if a place is left. A queue that
-/// is started on a node that is up costs a look at each run, once and once more for each start.
+/// place. Such a queue costs a look at each entry for each job that it starts, and one more if a place is left. How many runs
+/// a queue has is counted beside them.
 pub fn settle(parts: &mut Parts, out: &mut Vec<Start>)
     requires empty { out.old.items ≡ [] }
     requires room { (s : System) → length (settled (with_tables s parts.old)).started ≤ vec_capacity out.old }

@@ -3,6 +3,7 @@ use Rattle.std.specs.Ordering.{nat_cmp}
 use Rattle.std.proofs.lemmas.List.Edits.{length-insert}
 use Rattle.qm_keyed.specs.Places.{StandsAt, BelongsAt}
 use Rattle.qm_runs.specs.Runs.{Begun, run_numbered, with_run}
+use Rattle.qm_runs.proofs.Counting.{counted_more, places_put}
 use Rattle.qm_runs.proofs.Numbers.{number_of, found, put_is, numbered_put, begun_is}
 use Rattle.qm_runs.proofs.runs.Runs.put.Goals as goal
 
@@ -21,7 +22,12 @@ invariant_of-self c =
     let spare = ap (λ (w : Begun). w.spare) c.self.view_is in
     let size = length-insert c.self.inside.runs.items c.in-Err.place c.args.run belongs.within in
     let few : length (insert c.self.inside.runs.items c.in-Err.place c.args.run) ≤ 4294967295 = omega (arith, spare, size, c.requires.room, c.self.inside.runs.ok) in
-    rw c.put.ensures.items (numbered_put c.self.inside.runs.items c.self.inside.next c.self.invariant c.in-Err.place c.args.run belongs below few)
+    let after = insert c.self.inside.runs.items c.in-Err.place c.args.run in
+    let room : length after ≤ c.add.new.self.room = omega (arith, spare, size, c.requires.room, c.self.inside.runs.ok, c.add.ensures.room) in
+    rw c.put.ensures.items (
+      numbered_put c.self.inside.runs.items c.self.inside.next c.self.invariant.0 c.in-Err.place c.args.run belongs below few,
+      counted_more c.self.inside.runs.items after c.self.inside.counts c.add.new.self c.args.run.queue c.self.invariant.1 c.add.ensures.few room c.add.ensures.more (places_put c.self.inside.runs.items c.in-Err.place c.args.run) size,
+    )
 
 pub returns : goal.returns
 returns c =
