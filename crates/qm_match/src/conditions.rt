@@ -1,5 +1,5 @@
 // The tests by which a queue can start a job, each by itself.
-ghost use Rattle.std.specs.Prelude.{◌≡◌, false, not, ◌||◌};
+ghost use Rattle.std.specs.Prelude.{◌≡◌, false, not, ◌&&◌, ◌||◌};
 ghost use Rattle.std.specs.Option.{option_map_or};
 ghost use Rattle.std.specs.Str.{bytes_eq};
 ghost use Rattle.qm_model.specs.Fitting.{is_started, is_of_kind, passes_on_to, has_characteristics, has_size};
@@ -59,6 +59,14 @@ pub(crate) fn has_characteristics(entry: &Entry, queue: &Queue) -> bool
     ensures { result ≡ has_characteristics entry.now queue.now }
 {
     entry.characteristics.is_subset(queue.characteristics)
+}
+
+/// Whether a job waits for nothing but its start, and suits a queue by what the two hold alone: the kind of job, and the
+/// characteristics that it asks for. So much is known before another row is looked for. It takes no memory.
+pub fn suits(entry: &Entry, queue: &Queue) -> bool
+    ensures { result ≡ (is_pending entry.now.state && is_of_kind entry.now queue.now && has_characteristics entry.now queue.now) }
+{
+    is_pending(&entry.state) && is_of_kind(entry, queue) && has_characteristics(entry, queue)
 }
 
 /// Whether a job prints, so that stock and size count.

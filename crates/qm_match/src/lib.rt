@@ -7,6 +7,7 @@ mod fit;
 mod laws;
 mod order;
 
+pub use conditions::suits;
 pub use fit::{Fit, fits};
 pub use laws::{key_order_is_strict_and_total, keys_stand_as_jobs};
 pub use order::{Key, Schedule, before};

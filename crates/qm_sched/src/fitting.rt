@@ -4,15 +4,14 @@ ghost use Rattle.std.specs.Str.{bytes_eq};
 ghost use Rattle.std.specs.Option.{option_copied};
 ghost use Rattle.qm_kinds.specs.declared.system.System.{System};
 ghost use Rattle.qm_model.specs.Find.{queue_named};
-ghost use Rattle.qm_model.specs.Fitting.{is_open, is_up, is_of_kind, has_characteristics, fits, stock_of};
-ghost use Rattle.qm_model.specs.JobStates.{is_pending};
+ghost use Rattle.qm_model.specs.Fitting.{is_open, is_up, fits, stock_of};
 ghost use Rattle.qm_model.specs.Kinds.{is_print};
 ghost use Rattle.qm_match.specs.Reasons.{both, reason_of};
 ghost use Rattle.qm_sched.specs.Tables.{with_tables};
 
 use crate::parts::Parts;
-use qm_kinds::{Entry, EntryState, JobKind, Name, Node, Queue, QueueKind, QueueState};
-use qm_match::{Fit, fits};
+use qm_kinds::{Entry, JobKind, Name, Node, Queue, QueueState};
+use qm_match::{Fit, fits, suits};
 
 // Whether a node has this name, and is up.
 fn is_up_as(node: &Node, name: &Name) -> bool
@@ -102,32 +101,6 @@ fn home_of<'a>(parts: &'a Parts, entry: &Entry, queue: &'a Queue) -> Option<&'a 
         return Some(queue);
     }
     parts.queue(&entry.home)
-}
-
-// Whether a job waits for nothing but its start.
-fn is_pending(entry: &Entry) -> bool
-    ensures { result ≡ is_pending entry.now.state }
-{
-    matches!(entry.state, EntryState::Pending)
-}
-
-// Whether a queue is an execution queue for jobs of this one's kind.
-fn is_of_kind(entry: &Entry, queue: &Queue) -> bool
-    ensures { result ≡ is_of_kind entry.now queue.now }
-{
-    matches!(
-        (entry.kind, queue.kind),
-        (JobKind::Batch, QueueKind::Batch) | (JobKind::Print, QueueKind::Print)
-    )
-}
-
-// Whether a job suits a queue, by what the two hold alone. So much is found before another row is looked for.
-fn suits(entry: &Entry, queue: &Queue) -> bool
-    ensures { result ≡ (is_pending entry.now.state && is_of_kind entry.now queue.now && has_characteristics entry.now queue.now) }
-{
-    is_pending(entry)
-        && is_of_kind(entry, queue)
-        && entry.characteristics.is_subset(queue.characteristics)
 }
 
 // Whether the answer of a test is yes.
