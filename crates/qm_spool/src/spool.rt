@@ -63,6 +63,7 @@ impl Spool {
     pub fn reserve_bytes(&mut self, name: &FileName, more: usize) -> Result<(), AllocError>
         requires { IsSome (file_named name.now self.old.files) }
         ensures ok { OnOk result (more ≤ count_of name.now self.new.rooms) }
+        ensures err { OnErr result (count_of name.now self.old.rooms < more) }
         ensures files { self.new ≡ record self.old { rooms = self.new.rooms } }
     {
         let Ok(place) = place_of(&self.files, name) else {

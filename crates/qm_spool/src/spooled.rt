@@ -1,5 +1,5 @@
 // A file as the spool keeps it, and what is written in its place. Only `reserve_bytes` takes memory.
-ghost use Rattle.std.specs.Prelude.{◌≡◌, ◌<◌, ◌≤◌, ◌+◌, [], length, vec_len, vec_capacity, slice_set, slice_index_or, insert, OnOk};
+ghost use Rattle.std.specs.Prelude.{◌≡◌, ◌<◌, ◌≤◌, ◌+◌, [], length, vec_len, vec_capacity, slice_set, slice_index_or, insert, OnErr, OnOk};
 ghost use Rattle.std.specs.List.{HoldsAt};
 ghost use Rattle.qm_spool.specs.declared.spooled.Spooled.{Spooled as AnySpooled};
 ghost use Rattle.qm_spool.specs.Rows.{Replaces, IsExtended};
@@ -25,6 +25,7 @@ pub(crate) fn reserve_bytes(
     requires { place < vec_len files.old }
     ensures same { Replaces files.old.items files.new.items place (IsExtended []) }
     ensures room { OnOk result (HoldsAt (λ f. vec_len f.bytes + more ≤ vec_capacity f.bytes) files.new.items place) }
+    ensures full { OnErr result (HoldsAt (λ f. vec_capacity f.bytes < vec_len f.bytes + more) files.old.items place) }
     ensures len { vec_len files.new ≡ vec_len files.old }
     ensures capacity { vec_capacity files.new ≡ vec_capacity files.old }
 {

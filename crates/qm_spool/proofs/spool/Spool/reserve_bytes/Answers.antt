@@ -1,8 +1,8 @@
-use Rattle.std.proofs.Common.{◌∙◌, [], Ok, Err, refl, ap, arith, Result, OnOk}
+use Rattle.std.proofs.Common.{◌∙◌, ◌<◌, [], Ok, Err, refl, ap, arith, subst, get_or, Result, OnOk, OnErr}
 use Rattle.qm_model.specs.Find.{file_name_cmp}
 use Rattle.qm_keyed.specs.Places.{StandsAt, BelongsAt}
-use Rattle.qm_spool.specs.Kept.{Kept}
-use Rattle.qm_spool.proofs.Spooling.{spooled_name, order_in, not_there, same_files, same_spool, extended_counts, room_made, kept_is}
+use Rattle.qm_spool.specs.Kept.{Kept, count_of}
+use Rattle.qm_spool.proofs.Spooling.{spooled_name, order_in, not_there, same_files, same_spool, extended_counts, room_made, room_is, kept_is}
 use Rattle.qm_spool.proofs.spool.Spool.reserve_bytes.Goals as goal
 
 pub place_of-requires : goal.place_of-requires
@@ -38,3 +38,17 @@ returns-clause-files c =
     (extended_counts c.self.inside.files.items c.args.name.now c.in-Ok.place stands [] c.reserve_bytes.new.files.items c.reserve_bytes.ensures.same ∙ ap (λ (v : Kept). v.counts) c.self.view_is)
     refl
     (omega (arith, spare, c.reserve_bytes.ensures.len, c.reserve_bytes.ensures.capacity))
+
+-- what follows from what an error says
+where_err : {T E : Type 0} {P Q : Type 0} (r : Result T E) → (P → Q) → OnErr r P → OnErr r Q
+where_err (Ok x) from holds = tt
+where_err (Err e) from holds = from holds
+
+pub returns-clause-err : goal.returns-clause-err
+returns-clause-err c =
+    let stands : StandsAt file_name_cmp spooled_name c.args.name.now c.self.inside.files.items c.in-Ok.place = rw c.deref.ensures.value at c.in-Ok.ensures in
+    let file = c.reserve_bytes.ensures.same.file in
+    where_err c.reserve_bytes.result
+    (λ full. subst (λ rooms. count_of c.args.name.now rooms < c.args.more) (ap (λ (v : Kept). v.rooms) c.self.view_is)
+    (omega (arith, full file, room_is c.self.inside.files.items c.args.name.now c.in-Ok.place stands file, (get_or c.self.inside.files.items c.in-Ok.place file).bytes.ok)))
+    c.reserve_bytes.ensures.full
