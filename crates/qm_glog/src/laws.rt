@@ -1,6 +1,7 @@
 // Laws of files of records: what `open` finds is determined by the bytes.
 ghost use Rattle.std.specs.Prelude.{◌≡◌, ℕ, List};
 ghost use Rattle.qm_glog.specs.Records.{IsLog, IsDamaged};
+ghost use Rattle.qm_glog.specs.declared.log.TheConstants.{GREATEST_CAP};
 
 /// A file is the log of one list of records.
 pub fn one_list()
@@ -15,4 +16,10 @@ pub fn sound_if_log()
 /// A file is damaged at one place.
 pub fn one_place()
     ensures { (file : List ℕ) (p q : ℕ) → IsDamaged file p → IsDamaged file q → p ≡ q }
+{}
+
+/// A log takes at most 268,435,456 bytes, however great a cap it is given. Definitions cite the number by its name, so here
+/// it is said.
+pub fn a_log_has_a_greatest_cap()
+    ensures { GREATEST_CAP ≡ 268435456 }
 {}

@@ -14,7 +14,7 @@ mod spare;
 mod through;
 
 pub use fault::{AppendFault, MakeFault, OpenFault};
-pub use laws::{one_list, one_place, sound_if_log};
+pub use laws::{a_log_has_a_greatest_cap, one_list, one_place, sound_if_log};
 pub use log::{GREATEST_CAP, Log};
 pub use making::{create, format};
 pub use opening::open;

@@ -2,6 +2,7 @@
 ghost use Rattle.std.specs.Prelude.{◌≡◌, ℕ, List, Option, IsTrue};
 ghost use Rattle.std.specs.Io.KnownBytes.{Appends};
 ghost use Rattle.qm_disk.specs.Disk.{LeavesOnly};
+ghost use Rattle.qm_kinds.specs.declared.name.TheConstants.{NODE_NAME_BYTES, SHORT_NAME_BYTES};
 ghost use Rattle.qm_store.specs.declared.store.TheConstants.{QUEUE_CAP};
 ghost use Rattle.qm_manager.specs.Site.{Site};
 ghost use Rattle.qm_program.specs.Transcript.{Step, text_of};
@@ -43,4 +44,11 @@ pub fn steps_print_their_text<D: Disk>(old: &D, new: &D)
 /// A queue file takes 134,217,728 bytes at most. Definitions cite the number by its name, so here it is said.
 pub fn a_queue_file_has_a_cap()
     ensures { QUEUE_CAP ≡ 134217728 }
+{}
+
+/// The name of a node has at most 6 bytes, and that of a queue, a device, a form, a stock or a characteristic at most 31.
+/// Definitions cite the numbers by their names, so here they are said.
+pub fn names_have_limits()
+    ensures node { NODE_NAME_BYTES ≡ 6 }
+    ensures short { SHORT_NAME_BYTES ≡ 31 }
 {}

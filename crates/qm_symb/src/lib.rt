@@ -5,6 +5,7 @@
 mod calls;
 mod device;
 mod files;
+mod laws;
 mod memory;
 mod symbiont;
 #[cfg(test)]
@@ -12,5 +13,6 @@ mod tests;
 
 pub use device::{Device, DeviceFault};
 pub use files::FileDevice;
+pub use laws::runs_have_limits;
 pub use memory::MemoryDevice;
 pub use symbiont::{Beginning, DEVICE_FAULT_STATUS, Symbiont, TEXT_BYTES};
