@@ -7,6 +7,7 @@ use std::alloc::{AllocError, Allocator, Global};
 use std::cell::RefCell;
 use std::fs::{File, Files, Metadata, OpenFile, OpenOptions};
 use std::io::{ErrorKind, Read, Seek, SeekFrom, Write};
+use std::os::fd::AsRawFd;
 use std::os::unix::fs::FileExt;
 use std::test::Fail;
 use std::{fs, io};
@@ -392,6 +393,77 @@ fn the_system_is_asked_in_this_order(rt: HostRuntime) -> Result<(), Fail> {
         assert!(rt; holds && has(&rt, "qm_files_test/one", b"a"));
         assert_eq!(rt; asked.as_str(), joined(rt.alloc(), &parts)?.as_str());
     }
+    Ok(())
+}
+
+#[test]
+fn only_the_mark_of_an_end_spares_the_copy(rt: HostRuntime) -> Result<(), Fail> {
+    // What the lock's file holds, and whether the next run copies what it opens.
+    let table = [
+        ("ended\n", false),
+        ("", true),
+        ("ended", true),
+        ("ended\nx", true),
+        ("ending", true),
+        ("Ended\n", true),
+    ];
+    for (mark, is_copied) in table {
+        new_folder(&rt)?;
+        fs::write(&rt, "qm_files_test/one", "a")?;
+        fs::write(&rt, "qm_files_test/lock", mark)?;
+        let (holds, asked) = asked_by(&rt, Leaving::Closed)?;
+        assert!(rt; holds);
+        assert_eq!(rt;
+            asked.as_str().contains("copy qm_files_test/one\n"),
+            is_copied
+        );
+    }
+    Ok(())
+}
+
+// Takes away the files that a case leaves in its own folder.
+fn take_away(rt: &HostRuntime) {
+    for name in ["lock", "master", "one", "two"] {
+        let _ = fs::remove_file(rt, name);
+    }
+}
+
+#[test]
+fn a_name_without_a_folder_is_made_durable_too(rt: HostRuntime) -> Result<(), Fail> {
+    let alloc = rt.alloc();
+    take_away(&rt);
+    let calls = Calls::new(&rt, 0, 3);
+    let files = Watched {
+        rt: rt.clone()?,
+        calls: &calls,
+    };
+    let mut disk = FileDisk::new(
+        files,
+        String::from_str(alloc, "lock")?,
+        String::from_str(alloc, "master")?,
+        String::from_str(alloc, "one")?,
+        String::from_str(alloc, "two")?,
+    );
+    let held = each_call(&mut disk);
+    disk.close();
+    take_away(&rt);
+    assert_eq!(rt; held, [true; 5]);
+    assert!(rt;
+        calls
+            .into_inner()
+            .lines
+            .as_str()
+            .contains("open .\nsync all .\n")
+    );
+    Ok(())
+}
+
+#[test]
+fn a_file_tells_the_number_that_the_system_gave_it(rt: HostRuntime) -> Result<(), Fail> {
+    new_folder(&rt)?;
+    fs::write(&rt, "qm_files_test/one", "a")?;
+    let file = File::open(&rt, "qm_files_test/one")?;
+    assert_eq!(rt; file.number(), file.as_raw_fd());
     Ok(())
 }
 

@@ -2,8 +2,8 @@
 use crate::names::name;
 use qm_kinds::{
     Act, Characteristic, CharacteristicSet, Entry, EntryState, FileName, Form, JobKind, JobRetain,
-    Mark, Moment, Name, ParseKind, Queue, QueueKind, QueueRetain, QueueState, Refusal, Reply, Row,
-    Seq, Shape, Start,
+    Listing, Mark, Moment, Name, ParseKind, Queue, QueueKind, QueueRetain, QueueState, Refusal,
+    Reply, Row, Seq, Shape, Start,
 };
 use qm_show::{Prefix, show_full, show_journal, show_refusal, show_reply, show_rows};
 use std::alloc::{AllocError, Global};
@@ -212,6 +212,81 @@ const PARSE: &[u8] = b"MARS 10: %QMAN-E-PARSE, byte 7: word\n";
 const FULL: &[u8] = b"MARS 10: %QMAN-E-FULL, need 17, cap 16\n";
 
 const JOURNAL: &[u8] = b"MARS 10: %QMAN-F-JOURNAL\n";
+
+// Refusals that no script meets yet, or seldom, and what stands behind `%QMAN-E-`.
+fn refusals() -> [(Refusal, &'static str); 10] {
+    let busy = EntryState::Retained {
+        status: 44,
+        until: None,
+    };
+    [
+        (Refusal::NumbersSpent, "NUMBERSSPENT"),
+        (Refusal::NotHeld, "NOTHELD"),
+        (Refusal::NodeDown, "NODEDOWN"),
+        (
+            Refusal::EntryBusy { state: busy },
+            "ENTRYBUSY, retained, status 44",
+        ),
+        (Refusal::NoContext, "NOCONTEXT"),
+        (no_more(Listing::Queues), "NOMOREQUE"),
+        (no_more(Listing::Jobs), "NOMOREJOB"),
+        (no_more(Listing::Entries), "NOMOREENT"),
+        (no_more(Listing::Forms), "NOMOREFORM"),
+        (no_more(Listing::Characteristics), "NOMORECHAR"),
+    ]
+}
+
+fn no_more(listing: Listing) -> Refusal {
+    Refusal::NoMore { listing }
+}
+
+// Acts of no script yet, and their texts.
+fn acts() -> [(Act, &'static str); 7] {
+    let (node, state) = (name(b"MARS"), EntryState::Holding);
+    [
+        (Act::EntryIs { entry: 7, state }, "entry 7 holding"),
+        (
+            Act::RunRetained { run: 3, status: 44 },
+            "run 3 retained, status 44",
+        ),
+        (Act::Ticked, "tick"),
+        (Act::NodeStarted { node }, "node MARS started"),
+        (Act::NodeStopped { node }, "node MARS stopped"),
+        (
+            Act::Managing { node, epoch: 2 },
+            "manager on MARS::, epoch 2",
+        ),
+        (Act::Compacted { file: 2 }, "compacted, live file 2"),
+    ]
+}
+
+#[test]
+fn acts_and_refusals_that_no_script_meets_have_their_texts(rt: HostRuntime) -> Result<(), Fail> {
+    let alloc = rt.alloc();
+    let prefix = Prefix {
+        node: name(b"A"),
+        line: 1,
+    };
+    for (refusal, text) in &refusals() {
+        let wanted = format!(in alloc; "A 1: %QMAN-E-{text}\n")?;
+        assert_eq!(rt;
+            show_refusal(alloc, &prefix, refusal)?.as_slice(),
+            wanted.as_bytes()
+        );
+    }
+    for (act, text) in &acts() {
+        let wanted = format!(in alloc; "A 1: {text}\n")?;
+        let reply = Reply {
+            act: *act,
+            started: Seq::new(alloc),
+        };
+        assert_eq!(rt;
+            show_reply(alloc, &prefix, &reply)?.as_slice(),
+            wanted.as_bytes()
+        );
+    }
+    Ok(())
+}
 
 #[test]
 fn answers_stand_behind_their_prefix(rt: HostRuntime) -> Result<(), Fail> {

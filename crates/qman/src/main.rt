@@ -2,6 +2,10 @@
 //! and its status.
 #![tactic(auto)]
 
+ghost use Rattle.std.specs.Prelude.{◌≡◌};
+ghost use Rattle.std.specs.Process.{exit_status};
+ghost use Rattle.qm_program.specs.Ends.{status_of};
+
 mod advice;
 
 use advice::advice;
@@ -67,10 +71,17 @@ fn tell(rt: &HostRuntime, end: End, is_in_use: bool) {
     let _ = eprintln!(rt; "qman: {end}{cause}{next}");
 }
 
+// What the system is told of an end.
+fn exit_code(end: End) -> ExitCode
+    ensures { exit_status result ≡ status_of end }
+{
+    ExitCode::from(end.status())
+}
+
 fn main(rt: HostRuntime) -> ExitCode {
     let (end, is_in_use) = run(&rt);
     if end != End::Ok {
         tell(&rt, end, is_in_use);
     }
-    ExitCode::from(end.status())
+    exit_code(end)
 }
