@@ -9,6 +9,7 @@ mod file;
 mod form;
 mod input;
 mod known;
+mod limits;
 mod mark;
 mod moment;
 mod name;
@@ -34,6 +35,10 @@ pub use file::{File, FileName};
 pub use form::{Characteristic, CharacteristicSet, Form, Shape};
 pub use input::Input;
 pub use known::{batch_queue, default_form, print_queue, system_user};
+pub use limits::{
+    END_OF_RUNS, ENTRIES_LIMIT, FILE_LIMIT, FILES_LIMIT, LAST_CHARACTERISTIC, LAST_FORM,
+    NODES_LIMIT, QUEUES_LIMIT, RUNS_LIMIT, SPOOL_LIMIT, TARGETS_LIMIT,
+};
 pub use mark::Mark;
 pub use moment::{LAST_MOMENT, Moment};
 pub use name::{NODE_NAME_BYTES, Name, SHORT_NAME_BYTES, is_name_byte};
