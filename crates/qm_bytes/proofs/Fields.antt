@@ -11,6 +11,7 @@ use Rattle.qm_bytes.specs.Reading.{Reader, ◌>>=◌, pure, byte_where, between,
 use Rattle.qm_bytes.specs.Laws.{Spells, IsReader}
 use Rattle.qm_bytes.specs.Spelling.{each, low_first, byte, truth, optional, list, short_bytes, long_bytes, file_name, set, moment, IsName, IsMark, AreBytes, AreLongBytes, IsMoment, IsSet, AllOf, IsList, IsFileName}
 use Rattle.qm_bytes.proofs.Readers.{Then, Made, Last, Passes, made, after, last, said, byte_reader, repeat_reader}
+use Rattle.qm_bytes.proofs.Products.{◌&◌, ◌⊗◌, ends, of_fields}
 
 -- ---- what lies between
 
@@ -203,9 +204,9 @@ long_bytes_reader =
 pub file_name_reader : IsReader (Spells IsFileName file_name) file_name_at
 unfolding file_name_at
 file_name_reader =
-    said (after name_reader (λ name fits. last (optional_reader name_reader)))
-    (λ f text h. rw h.next.same (record { fits = record { name = h.fits; extension = h.next.fits }; is = h.parts ∙ rw h.next.parts refl }))
-    (λ f text s. record { first = f.name; fits = s.fits.name; others = optional short_bytes f.extension; next = record { first = f.extension; fits = s.fits.extension; same = refl; parts = refl }; parts = s.is })
+    of_fields (λ f. f.name & f.extension)
+    (name_reader ⊗ λ name name_fits. ends (optional_reader name_reader) (λ extension fits. record { name = name_fits; extension = fits }))
+    (λ f. refl) (λ p. refl) (λ f fits. fits.name & fits.extension)
 
 abbrev set_of : ℕ → CharacteristicSet
 set_of n = record { 0 = n }

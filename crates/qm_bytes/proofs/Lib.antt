@@ -1,4 +1,5 @@
 pub mod Readers
+pub mod Products
 pub mod Fields
 pub mod Numbers
 pub mod Names

@@ -3,9 +3,9 @@ use Rattle.std.proofs.Common.{◌≡◌, ℕ, zero, suc, ◌+◌, ◌-◌, ◌*�
 use Rattle.std.specs.Prelude.{IsOk, is_ok}
 use Rattle.std.proofs.lemmas.List.{drop_at, length-drop, get_or-drop, drop-drop}
 use Rattle.std.proofs.Math.Nat.{pow-suc, one-le-pow, div-div-eq-div-mul, div-one}
-use Rattle.std.proofs.lemmas.List.{take-append-drop, get_or-take}
+use Rattle.std.proofs.lemmas.List.{take-append-drop}
 use Rattle.std.proofs.lemmas.Nat.{le_bytes_2, le_bytes_4, le_bytes_8}
-use Rattle.std.specs.Int.{w16, w32, w64, to_le_bytes, from_le_bytes, bytes_low_first, byte_at}
+use Rattle.std.specs.Int.{w16, w32, w64, from_le_bytes, bytes_low_first, byte_at}
 use Rattle.qm_bytes.specs.Reading.{◌>>=◌, onward, pure, byte_where, between, number_up_to, number_at}
 use Rattle.qm_bytes.specs.Spelling.{low_first}
 use Rattle.qm_bytes.specs.Splitting.{IsSplit}

@@ -1,17 +1,18 @@
 -- Each reader of a field reads the field's spelling.
-use Rattle.std.proofs.Common.{◌≡◌, ℕ, zero, suc, ◌^◌, ◌<◌, ◌≤◌, Bool, true, false, cond, eqb, List, [], ◌∷◌, Option, None, Some, refl, ◌∙◌, arith}
+use Rattle.std.proofs.Common.{◌≡◌, ℕ, zero, suc, ◌^◌, ◌<◌, ◌≤◌, Bool, true, false, cond, eqb, List, [], ◌∷◌, Option, None, Some, refl, arith}
 use Rattle.qm_kinds.specs.declared.request.NameOrNumber.{NameOrNumber}
 use Rattle.qm_kinds.specs.declared.request.NameOrNumber.TheVariants.{Name, Number}
 use Rattle.qm_kinds.specs.declared.entry.JobRetain.{JobRetain}
 use Rattle.qm_kinds.specs.declared.entry.JobRetain.TheVariants as retain
 use Rattle.qm_bytes.specs.Reading.{Reader, between, number_at}
 use Rattle.qm_bytes.specs.Laws.{Spells, IsReader}
-use Rattle.qm_bytes.specs.Spelling.{low_first, fields, byte, truth, optional, list, set, short_bytes, moment, IsName, IsMoment, AllOf}
+use Rattle.qm_bytes.specs.Spelling.{low_first, byte, short_bytes, moment, IsName, IsMoment, AllOf}
 use Rattle.qm_bytes.proofs.Readers.{Then, Made, Last, Passes, made, after, last, said, byte_reader}
-use Rattle.qm_bytes.proofs.Fields.{lies_between, passes_between, number_reader, truth_reader, optional_reader, list_reader, name_reader, set_reader, moment_reader}
-use Rattle.qm_record.specs.Spelling.{IsByte, queue_kind_code, queue_state_code, queue_retain_code, job_retain, name_or_number, node, shape, form, characteristic, queue, queue_retain, limits, queue_change, new_queue, RetainFits, NameOrNumberFits, NodeFits, ShapeFits, FormFits, CharacteristicFits, QueueFits, LimitsFit, ChangeFits, NewQueueFits}
-use Rattle.qm_record.specs.Reading.{byte_at, plain_retain_of, job_retain_at, name_or_number_at, node_at, shape_at, form_at, characteristic_at, queue_at, queue_retain_at, limits_at, change_at, new_queue_at}
-use Rattle.qm_record.proofs.Codes.{queue_kind_reader, queue_state_reader, queue_retain_reader}
+use Rattle.qm_bytes.proofs.Products.{◌&◌, ◌⊗◌, composed, ends, of_fields}
+use Rattle.qm_bytes.proofs.Fields.{lies_between, passes_between, number_reader, truth_reader, optional_reader, list_reader, name_reader, file_name_reader, set_reader, moment_reader}
+use Rattle.qm_record.specs.Spelling.{IsByte, job_retain, name_or_number, node, shape, form, characteristic, queue, queue_retain, limits, queue_change, new_queue, job_text, RetainFits, NameOrNumberFits, NodeFits, ShapeFits, FormFits, CharacteristicFits, QueueFits, LimitsFit, ChangeFits, NewQueueFits, JobFits}
+use Rattle.qm_record.specs.Reading.{byte_at, plain_retain_of, job_retain_at, name_or_number_at, node_at, shape_at, form_at, characteristic_at, queue_at, queue_retain_at, limits_at, change_at, new_queue_at, job_at}
+use Rattle.qm_record.proofs.Codes.{job_kind_reader, queue_kind_reader, queue_state_reader, queue_retain_reader}
 
 -- ---- numbers
 
@@ -90,46 +91,80 @@ job_retain_reader =
 pub node_reader : IsReader (Spells NodeFits node) node_at
 unfolding node_at
 node_reader =
-    said (after name_reader (λ name name_fits. last truth_reader))
-    (λ n text h. rw h.next.same (record { fits = h.fits; is = h.parts ∙ rw h.next.parts refl }))
-    (λ n text s. record { first = n.name; fits = s.fits; others = truth n.up; next = record { first = n.up; fits = tt; same = refl; parts = refl }; parts = s.is })
+    of_fields (λ n. n.name & n.up) (name_reader ⊗ λ name name_fits. ends truth_reader (λ up up_fits. name_fits))
+    (λ n. refl) (λ p. refl) (λ n fits. fits & tt)
 
 pub shape_reader : IsReader (Spells ShapeFits shape) shape_at
 unfolding shape_at
 shape_reader =
-    said (after one_byte_reader (λ length length_fits. after one_byte_reader (λ width width_fits. after one_byte_reader (λ top top_fits. after one_byte_reader (λ bottom bottom_fits. after one_byte_reader (λ left left_fits. after one_byte_reader (λ right right_fits. after truth_reader (λ wrap wrap_fits. made (record { length = length; width = width; top = top; bottom = bottom; left = left; right = right; wrap = wrap })))))))))
-    (λ x text h. rw h.next.next.next.next.next.next.next.same (record { fits = record { length_fits = h.fits; width_fits = h.next.fits; top_fits = h.next.next.fits; bottom_fits = h.next.next.next.fits; left_fits = h.next.next.next.next.fits; right_fits = h.next.next.next.next.next.fits }; is = rw (h.parts, h.next.parts, h.next.next.parts, h.next.next.next.parts, h.next.next.next.next.parts, h.next.next.next.next.next.parts, h.next.next.next.next.next.next.parts, h.next.next.next.next.next.next.next.nothing) refl }))
-    (λ x text s. record { first = x.length; fits = s.fits.length_fits; others = fields (byte x.width ∷ byte x.top ∷ byte x.bottom ∷ byte x.left ∷ byte x.right ∷ truth x.wrap ∷ []); next = record { first = x.width; fits = s.fits.width_fits; others = fields (byte x.top ∷ byte x.bottom ∷ byte x.left ∷ byte x.right ∷ truth x.wrap ∷ []); next = record { first = x.top; fits = s.fits.top_fits; others = fields (byte x.bottom ∷ byte x.left ∷ byte x.right ∷ truth x.wrap ∷ []); next = record { first = x.bottom; fits = s.fits.bottom_fits; others = fields (byte x.left ∷ byte x.right ∷ truth x.wrap ∷ []); next = record { first = x.left; fits = s.fits.left_fits; others = fields (byte x.right ∷ truth x.wrap ∷ []); next = record { first = x.right; fits = s.fits.right_fits; others = fields (truth x.wrap ∷ []); next = record { first = x.wrap; fits = tt; others = []; next = record { same = refl; nothing = refl }; parts = refl }; parts = refl }; parts = refl }; parts = refl }; parts = refl }; parts = refl }; parts = s.is })
+    of_fields
+    (λ s. s.length & s.width & s.top & s.bottom & s.left & s.right & s.wrap & tt)
+    (one_byte_reader ⊗ λ length length_fits. one_byte_reader ⊗ λ width width_fits. one_byte_reader ⊗ λ top top_fits.
+    one_byte_reader ⊗ λ bottom bottom_fits. one_byte_reader ⊗ λ left left_fits. one_byte_reader ⊗ λ right right_fits.
+    truth_reader ⊗ λ wrap wrap_fits.
+    composed (record {
+      length_fits = length_fits;
+      width_fits = width_fits;
+      top_fits = top_fits;
+      bottom_fits = bottom_fits;
+      left_fits = left_fits;
+      right_fits = right_fits;
+    }))
+    (λ s. refl) (λ p. refl)
+    (λ s fits. fits.length_fits & fits.width_fits & fits.top_fits & fits.bottom_fits & fits.left_fits & fits.right_fits & tt & tt)
 
 pub form_reader : IsReader (Spells FormFits form) form_at
 unfolding form_at
 form_reader =
-    said (after name_reader (λ name name_fits. after u16_reader (λ number number_fits. after name_reader (λ stock stock_fits. after shape_reader (λ shape_value shape_value_fits. made (record { name = name; number = number; stock = stock; shape = shape_value }))))))
-    (λ x text h. rw h.next.next.next.next.same (record { fits = record { name_fits = h.fits; number_fits = h.next.fits; stock_fits = h.next.next.fits; shape_fits = h.next.next.next.fits }; is = rw (h.parts, h.next.parts, h.next.next.parts, h.next.next.next.parts, h.next.next.next.next.nothing) refl }))
-    (λ x text s. record { first = x.name; fits = s.fits.name_fits; others = fields (low_first 2 x.number ∷ short_bytes x.stock ∷ shape x.shape ∷ []); next = record { first = x.number; fits = s.fits.number_fits; others = fields (short_bytes x.stock ∷ shape x.shape ∷ []); next = record { first = x.stock; fits = s.fits.stock_fits; others = fields (shape x.shape ∷ []); next = record { first = x.shape; fits = s.fits.shape_fits; others = []; next = record { same = refl; nothing = refl }; parts = refl }; parts = refl }; parts = refl }; parts = s.is })
+    of_fields
+    (λ f. f.name & f.number & f.stock & f.shape & tt)
+    (name_reader ⊗ λ name name_fits. u16_reader ⊗ λ number number_fits. name_reader ⊗ λ stock stock_fits.
+    shape_reader ⊗ λ lines shape_fits.
+    composed (record { name_fits = name_fits; number_fits = number_fits; stock_fits = stock_fits; shape_fits = shape_fits }))
+    (λ f. refl) (λ p. refl)
+    (λ f fits. fits.name_fits & fits.number_fits & fits.stock_fits & fits.shape_fits & tt)
 
 pub characteristic_reader : IsReader (Spells CharacteristicFits characteristic) characteristic_at
 unfolding characteristic_at
 characteristic_reader =
-    said (after name_reader (λ name name_fits. last one_byte_reader))
-    (λ c text h. rw h.next.same (record { fits = record { name_fits = h.fits; number_fits = h.next.fits }; is = h.parts ∙ rw h.next.parts refl }))
-    (λ c text s. record { first = c.name; fits = s.fits.name_fits; others = byte c.number; next = record { first = c.number; fits = s.fits.number_fits; same = refl; parts = refl }; parts = s.is })
+    of_fields
+    (λ c. c.name & c.number)
+    (name_reader ⊗ λ name name_fits. ends one_byte_reader (λ number fits. record { name_fits = name_fits; number_fits = fits }))
+    (λ c. refl) (λ p. refl) (λ c fits. fits.name_fits & fits.number_fits)
 
 pub queue_reader : IsReader (Spells QueueFits queue) queue_at
 unfolding queue_at
 queue_reader =
-    said (after name_reader (λ name name_fits. after queue_kind_reader (λ kind kind_fits. after queue_state_reader (λ state state_fits. after (optional_reader name_reader) (λ node_name node_name_fits. after (optional_reader name_reader) (λ device device_fits. after one_byte_reader (λ limit limit_fits. after set_reader (λ characteristics characteristics_fits. after (optional_reader name_reader) (λ mounted mounted_fits. after u32_reader (λ lower lower_fits. after u32_reader (λ upper upper_fits. after truth_reader (λ by_size by_size_fits. after queue_retain_reader (λ retain_value retain_value_fits. after (list_reader name_reader) (λ targets targets_fits. made (record { name = name; kind = kind; state = state; node = node_name; device = device; limit = limit; characteristics = characteristics; mounted = mounted; lower = lower; upper = upper; by_size = by_size; retain = retain_value; targets = targets })))))))))))))))
-    (λ x text h. rw h.next.next.next.next.next.next.next.next.next.next.next.next.next.same (record { fits = record { name_fits = h.fits; node_fits = h.next.next.next.fits; device_fits = h.next.next.next.next.fits; limit_fits = h.next.next.next.next.next.fits; characteristics_fit = h.next.next.next.next.next.next.fits; mounted_fits = h.next.next.next.next.next.next.next.fits; lower_fits = h.next.next.next.next.next.next.next.next.fits; upper_fits = h.next.next.next.next.next.next.next.next.next.fits; targets_fit = h.next.next.next.next.next.next.next.next.next.next.next.next.fits }; is = rw (h.parts, h.next.parts, h.next.next.parts, h.next.next.next.parts, h.next.next.next.next.parts, h.next.next.next.next.next.parts, h.next.next.next.next.next.next.parts, h.next.next.next.next.next.next.next.parts, h.next.next.next.next.next.next.next.next.parts, h.next.next.next.next.next.next.next.next.next.parts, h.next.next.next.next.next.next.next.next.next.next.parts, h.next.next.next.next.next.next.next.next.next.next.next.parts, h.next.next.next.next.next.next.next.next.next.next.next.next.parts, h.next.next.next.next.next.next.next.next.next.next.next.next.next.nothing) refl }))
-    (λ x text s. record { first = x.name; fits = s.fits.name_fits; others = fields (byte (queue_kind_code x.kind) ∷ byte (queue_state_code x.state) ∷ optional short_bytes x.node ∷ optional short_bytes x.device ∷ byte x.limit ∷ set x.characteristics ∷ optional short_bytes x.mounted ∷ low_first 4 x.lower ∷ low_first 4 x.upper ∷ truth x.by_size ∷ byte (queue_retain_code x.retain) ∷ list short_bytes x.targets ∷ []); next = record { first = x.kind; fits = tt; others = fields (byte (queue_state_code x.state) ∷ optional short_bytes x.node ∷ optional short_bytes x.device ∷ byte x.limit ∷ set x.characteristics ∷ optional short_bytes x.mounted ∷ low_first 4 x.lower ∷ low_first 4 x.upper ∷ truth x.by_size ∷ byte (queue_retain_code x.retain) ∷ list short_bytes x.targets ∷ []); next = record { first = x.state; fits = tt; others = fields (optional short_bytes x.node ∷ optional short_bytes x.device ∷ byte x.limit ∷ set x.characteristics ∷ optional short_bytes x.mounted ∷ low_first 4 x.lower ∷ low_first 4 x.upper ∷ truth x.by_size ∷ byte (queue_retain_code x.retain) ∷ list short_bytes x.targets ∷ []); next = record { first = x.node; fits = s.fits.node_fits; others = fields (optional short_bytes x.device ∷ byte x.limit ∷ set x.characteristics ∷ optional short_bytes x.mounted ∷ low_first 4 x.lower ∷ low_first 4 x.upper ∷ truth x.by_size ∷ byte (queue_retain_code x.retain) ∷ list short_bytes x.targets ∷ []); next = record { first = x.device; fits = s.fits.device_fits; others = fields (byte x.limit ∷ set x.characteristics ∷ optional short_bytes x.mounted ∷ low_first 4 x.lower ∷ low_first 4 x.upper ∷ truth x.by_size ∷ byte (queue_retain_code x.retain) ∷ list short_bytes x.targets ∷ []); next = record { first = x.limit; fits = s.fits.limit_fits; others = fields (set x.characteristics ∷ optional short_bytes x.mounted ∷ low_first 4 x.lower ∷ low_first 4 x.upper ∷ truth x.by_size ∷ byte (queue_retain_code x.retain) ∷ list short_bytes x.targets ∷ []); next = record { first = x.characteristics; fits = s.fits.characteristics_fit; others = fields (optional short_bytes x.mounted ∷ low_first 4 x.lower ∷ low_first 4 x.upper ∷ truth x.by_size ∷ byte (queue_retain_code x.retain) ∷ list short_bytes x.targets ∷ []); next = record { first = x.mounted; fits = s.fits.mounted_fits; others = fields (low_first 4 x.lower ∷ low_first 4 x.upper ∷ truth x.by_size ∷ byte (queue_retain_code x.retain) ∷ list short_bytes x.targets ∷ []); next = record { first = x.lower; fits = s.fits.lower_fits; others = fields (low_first 4 x.upper ∷ truth x.by_size ∷ byte (queue_retain_code x.retain) ∷ list short_bytes x.targets ∷ []); next = record { first = x.upper; fits = s.fits.upper_fits; others = fields (truth x.by_size ∷ byte (queue_retain_code x.retain) ∷ list short_bytes x.targets ∷ []); next = record { first = x.by_size; fits = tt; others = fields (byte (queue_retain_code x.retain) ∷ list short_bytes x.targets ∷ []); next = record { first = x.retain; fits = tt; others = fields (list short_bytes x.targets ∷ []); next = record { first = x.targets; fits = s.fits.targets_fit; others = []; next = record { same = refl; nothing = refl }; parts = refl }; parts = refl }; parts = refl }; parts = refl }; parts = refl }; parts = refl }; parts = refl }; parts = refl }; parts = refl }; parts = refl }; parts = refl }; parts = refl }; parts = s.is })
+    of_fields
+    (λ q. q.name & q.kind & q.state & q.node & q.device & q.limit & q.characteristics & q.mounted
+    & q.lower & q.upper & q.by_size & q.retain & q.targets & tt)
+    (name_reader ⊗ λ name name_fits. queue_kind_reader ⊗ λ kind kind_fits. queue_state_reader ⊗ λ state state_fits.
+    optional_reader name_reader ⊗ λ on node_fits. optional_reader name_reader ⊗ λ device device_fits.
+    one_byte_reader ⊗ λ limit limit_fits. set_reader ⊗ λ characteristics characteristics_fit.
+    optional_reader name_reader ⊗ λ mounted mounted_fits. u32_reader ⊗ λ lower lower_fits. u32_reader ⊗ λ upper upper_fits.
+    truth_reader ⊗ λ by_size by_size_fits. queue_retain_reader ⊗ λ kept retain_fits. list_reader name_reader ⊗ λ targets targets_fit.
+    composed (record {
+      name_fits = name_fits;
+      node_fits = node_fits;
+      device_fits = device_fits;
+      limit_fits = limit_fits;
+      characteristics_fit = characteristics_fit;
+      mounted_fits = mounted_fits;
+      lower_fits = lower_fits;
+      upper_fits = upper_fits;
+      targets_fit = targets_fit;
+    }))
+    (λ q. refl) (λ p. refl)
+    (λ q fits. fits.name_fits & tt & tt & fits.node_fits & fits.device_fits & fits.limit_fits & fits.characteristics_fit
+    & fits.mounted_fits & fits.lower_fits & fits.upper_fits & tt & tt & fits.targets_fit & tt)
 
 -- ---- settings of queues
 
 pub limits_reader : IsReader (Spells LimitsFit limits) limits_at
 unfolding limits_at
 limits_reader =
-    said (after u32_reader (λ lower lower_fits. last u32_reader))
-    (λ l text h. rw h.next.same (record { fits = (h.fits, h.next.fits); is = h.parts ∙ rw h.next.parts refl }))
-    (λ l text s. record { first = l.0; fits = s.fits.0; others = low_first 4 l.1; next = record { first = l.1; fits = s.fits.1; same = refl; parts = refl }; parts = s.is })
+    of_fields (λ l. l) (u32_reader ⊗ λ lower lower_fits. ends u32_reader (λ upper upper_fits. lower_fits & upper_fits))
+    (λ l. refl) (λ p. refl) (λ l fits. fits)
 
 retain_reader : IsReader (Spells (λ x. Unit {0}) queue_retain) queue_retain_at
 retain_reader = queue_retain_reader
@@ -142,13 +177,65 @@ anything (Some x) = tt
 pub change_reader : IsReader (Spells ChangeFits queue_change) change_at
 unfolding change_at
 change_reader =
-    said (after (optional_reader one_byte_reader) (λ limit limit_fits. after (optional_reader (list_reader name_or_number_reader)) (λ characteristics characteristics_fits. after (optional_reader name_or_number_reader) (λ form_wanted form_wanted_fits. after (optional_reader limits_reader) (λ blocks blocks_fits. after (optional_reader truth_reader) (λ by_size by_size_fits. after (optional_reader retain_reader) (λ retain_wanted retain_wanted_fits. made (record { limit = limit; characteristics = characteristics; form = form_wanted; blocks = blocks; by_size = by_size; retain = retain_wanted }))))))))
-    (λ c text h. rw h.next.next.next.next.next.next.same (record { fits = record { limit_fits = h.fits; characteristics_fit = h.next.fits; form_fits = h.next.next.fits; blocks_fit = h.next.next.next.fits }; is = rw (h.parts, h.next.parts, h.next.next.parts, h.next.next.next.parts, h.next.next.next.next.parts, h.next.next.next.next.next.parts, h.next.next.next.next.next.next.nothing) refl }))
-    (λ c text s. record { first = c.limit; fits = s.fits.limit_fits; others = fields (optional (list name_or_number) c.characteristics ∷ optional name_or_number c.form ∷ optional limits c.blocks ∷ optional truth c.by_size ∷ optional queue_retain c.retain ∷ []); next = record { first = c.characteristics; fits = s.fits.characteristics_fit; others = fields (optional name_or_number c.form ∷ optional limits c.blocks ∷ optional truth c.by_size ∷ optional queue_retain c.retain ∷ []); next = record { first = c.form; fits = s.fits.form_fits; others = fields (optional limits c.blocks ∷ optional truth c.by_size ∷ optional queue_retain c.retain ∷ []); next = record { first = c.blocks; fits = s.fits.blocks_fit; others = fields (optional truth c.by_size ∷ optional queue_retain c.retain ∷ []); next = record { first = c.by_size; fits = anything c.by_size; others = fields (optional queue_retain c.retain ∷ []); next = record { first = c.retain; fits = anything c.retain; others = []; next = record { same = refl; nothing = refl }; parts = refl }; parts = refl }; parts = refl }; parts = refl }; parts = refl }; parts = s.is })
+    of_fields
+    (λ c. c.limit & c.characteristics & c.form & c.blocks & c.by_size & c.retain & tt)
+    (optional_reader one_byte_reader ⊗ λ limit limit_fits.
+    optional_reader (list_reader name_or_number_reader) ⊗ λ characteristics characteristics_fit.
+    optional_reader name_or_number_reader ⊗ λ stock form_fits. optional_reader limits_reader ⊗ λ blocks blocks_fit.
+    optional_reader truth_reader ⊗ λ by_size by_size_fits. optional_reader retain_reader ⊗ λ kept retain_fits.
+    composed (record {
+      limit_fits = limit_fits;
+      characteristics_fit = characteristics_fit;
+      form_fits = form_fits;
+      blocks_fit = blocks_fit;
+    }))
+    (λ c. refl) (λ p. refl)
+    (λ c fits. fits.limit_fits & fits.characteristics_fit & fits.form_fits & fits.blocks_fit
+    & anything c.by_size & anything c.retain & tt)
 
 pub new_queue_reader : IsReader (Spells NewQueueFits new_queue) new_queue_at
 unfolding new_queue_at
 new_queue_reader =
-    said (after name_reader (λ name name_fits. after queue_kind_reader (λ kind kind_fits. after (optional_reader name_reader) (λ node_name node_name_fits. after (optional_reader name_reader) (λ device device_fits. after (list_reader name_reader) (λ targets targets_fits. after change_reader (λ change change_fits. after truth_reader (λ start start_fits. made (record { name = name; kind = kind; node = node_name; device = device; targets = targets; change = change; start = start })))))))))
-    (λ n text h. rw h.next.next.next.next.next.next.next.same (record { fits = record { name_fits = h.fits; node_fits = h.next.next.fits; device_fits = h.next.next.next.fits; targets_fit = h.next.next.next.next.fits; change_fits = h.next.next.next.next.next.fits }; is = rw (h.parts, h.next.parts, h.next.next.parts, h.next.next.next.parts, h.next.next.next.next.parts, h.next.next.next.next.next.parts, h.next.next.next.next.next.next.parts, h.next.next.next.next.next.next.next.nothing) refl }))
-    (λ n text s. record { first = n.name; fits = s.fits.name_fits; others = fields (byte (queue_kind_code n.kind) ∷ optional short_bytes n.node ∷ optional short_bytes n.device ∷ list short_bytes n.targets ∷ queue_change n.change ∷ truth n.start ∷ []); next = record { first = n.kind; fits = tt; others = fields (optional short_bytes n.node ∷ optional short_bytes n.device ∷ list short_bytes n.targets ∷ queue_change n.change ∷ truth n.start ∷ []); next = record { first = n.node; fits = s.fits.node_fits; others = fields (optional short_bytes n.device ∷ list short_bytes n.targets ∷ queue_change n.change ∷ truth n.start ∷ []); next = record { first = n.device; fits = s.fits.device_fits; others = fields (list short_bytes n.targets ∷ queue_change n.change ∷ truth n.start ∷ []); next = record { first = n.targets; fits = s.fits.targets_fit; others = fields (queue_change n.change ∷ truth n.start ∷ []); next = record { first = n.change; fits = s.fits.change_fits; others = fields (truth n.start ∷ []); next = record { first = n.start; fits = tt; others = []; next = record { same = refl; nothing = refl }; parts = refl }; parts = refl }; parts = refl }; parts = refl }; parts = refl }; parts = refl }; parts = s.is })
+    of_fields
+    (λ n. n.name & n.kind & n.node & n.device & n.targets & n.change & n.start & tt)
+    (name_reader ⊗ λ name name_fits. queue_kind_reader ⊗ λ kind kind_fits. optional_reader name_reader ⊗ λ on node_fits.
+    optional_reader name_reader ⊗ λ device device_fits. list_reader name_reader ⊗ λ targets targets_fit.
+    change_reader ⊗ λ change change_fits. truth_reader ⊗ λ start start_fits.
+    composed (record {
+      name_fits = name_fits;
+      node_fits = node_fits;
+      device_fits = device_fits;
+      targets_fit = targets_fit;
+      change_fits = change_fits;
+    }))
+    (λ n. refl) (λ p. refl)
+    (λ n fits. fits.name_fits & tt & fits.node_fits & fits.device_fits & fits.targets_fit & fits.change_fits & tt & tt)
+
+-- ---- jobs
+
+pub job_reader : IsReader (Spells JobFits job_text) job_at
+unfolding job_at
+job_reader =
+    of_fields
+    (λ j. j.user & j.kind & j.queue & j.file & j.name & j.priority & j.after & j.hold & j.retain
+    & j.restart & j.characteristics & j.form & j.copies & j.flag & tt)
+    (name_reader ⊗ λ user user_fits. job_kind_reader ⊗ λ kind kind_fits. name_reader ⊗ λ to queue_fits.
+    file_name_reader ⊗ λ file file_fits. name_reader ⊗ λ name name_fits. one_byte_reader ⊗ λ priority priority_fits.
+    optional_reader moment_reader ⊗ λ not_before after_fits. truth_reader ⊗ λ hold hold_fits. job_retain_reader ⊗ λ kept retain_fits.
+    truth_reader ⊗ λ restart restart_fits. list_reader name_or_number_reader ⊗ λ characteristics characteristics_fit.
+    optional_reader name_or_number_reader ⊗ λ stock form_fits. one_byte_reader ⊗ λ copies copies_fits. truth_reader ⊗ λ flag flag_fits.
+    composed (record {
+      user_fits = user_fits;
+      queue_fits = queue_fits;
+      file_fits = file_fits;
+      name_fits = name_fits;
+      priority_fits = priority_fits;
+      after_fits = after_fits;
+      retain_fits = retain_fits;
+      characteristics_fit = characteristics_fit;
+      form_fits = form_fits;
+      copies_fits = copies_fits;
+    }))
+    (λ j. refl) (λ p. refl)
+    (λ j fits. fits.user_fits & tt & fits.queue_fits & fits.file_fits & fits.name_fits & fits.priority_fits & fits.after_fits & tt
+    & fits.retain_fits & tt & fits.characteristics_fit & fits.form_fits & fits.copies_fits & tt & tt)

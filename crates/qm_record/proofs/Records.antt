@@ -58,7 +58,7 @@ record_to r version k m n b text v le between_nodes fits same is =
     let one : version ≡ 1 = omega (arith, (lies_between 1 1 version v).0, (lies_between 1 1 version v).1) in
     let moments = below_last (is_row_kind k) m le in
     let nodes = below_node (is_row_kind k) n (lies_between 0 (last_node k) n between_nodes).1 in
-    let row = row_by_kind b k _ fits.is in
+    let row = row_by_kind b k _ fits.fits fits.is in
     rw same (record {
       fits = record {
         moment_fits = moments.0;
@@ -83,7 +83,7 @@ record_reader =
     (λ r text s.
     let x = has_parts r.body s.fits.body_fits in
     let k = x.0.0 in
-    let row = row_by_kind r.body k x.0.1 x.1 in
+    let row = row_by_kind r.body k x.0.1 s.fits.body_fits x.1 in
     record {
       first = 1;
       fits = refl;

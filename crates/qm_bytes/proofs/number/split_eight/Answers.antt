@@ -1,4 +1,4 @@
-use Rattle.std.proofs.Common.{rules, ◌∙◌, arith}
+use Rattle.std.proofs.Common.{rules, arith}
 use Rattle.qm_bytes.proofs.Numbers.{eight_split}
 use Rattle.qm_bytes.proofs.number.split_eight.Goals as goal
 

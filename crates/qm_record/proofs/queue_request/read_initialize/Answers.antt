@@ -1,15 +1,18 @@
-use Rattle.qm_record.proofs.Loops.{kept_is_there}
-use Rattle.qm_record.proofs.There.{initialize_there}
+use Rattle.qm_kinds.specs.declared.record.Body.TheVariants as body
+use Rattle.qm_kinds.specs.declared.request.Request.TheVariants as ask
+use Rattle.qm_record.specs.Reading.{initialize_at, new_queue_at}
+use Rattle.qm_record.proofs.There.{made_there, then_there, kept_there, all_there}
 use Rattle.qm_record.proofs.queue_request.read_initialize.Goals as goal
 
 pub returns-in_default : goal.returns-in_default
+unfolding initialize_at new_queue_at
 returns-in_default c =
-    initialize_there
-    c.args.bytes.now.now
-    c.in_ok-name.name c.read_name.new.bytes.now c.in_ok-name.ensures
-    c.in_ok-kind.kind c.read_queue_kind.new.bytes.now c.in_ok-kind.ensures
-    c.in_ok-node.node c.read_optional_name.new.bytes.now c.in_ok-node.ensures
-    c.in_ok-device.device c.read_optional_name-2.new.bytes.now c.in_ok-device.ensures
-    c.read_list.new.bytes.now (kept_is_there c.in_ok-targets.targets c.read_list.new.bytes.now _ c.in_ok-targets.ensures)
-    c.read_change.new.bytes.now (kept_is_there c.in_ok-change.change c.read_change.new.bytes.now _ c.in_ok-change.ensures)
-    c.in_ok-start.start c.read_truth.new.bytes.now c.in_ok-start.ensures
+    made_there (λ x. body.Ask (ask.InitializeQueue x)) (
+    then_there _ c.in_ok-name.ensures (
+    then_there _ c.in_ok-kind.ensures (
+    then_there _ c.in_ok-node.ensures (
+    then_there _ c.in_ok-device.ensures (
+    kept_there _ _ c.in_ok-targets.targets c.in_ok-targets.ensures (λ targets.
+    kept_there _ _ c.in_ok-change.change c.in_ok-change.ensures (λ change.
+    then_there _ c.in_ok-start.ensures (
+    all_there _ _))))))))

@@ -1,8 +1,10 @@
-use Rattle.qm_record.proofs.Loops.{kept_is_there}
-use Rattle.qm_record.proofs.There.{set_queue_there}
+use Rattle.qm_record.specs.Reading.{set_queue_at}
+use Rattle.qm_record.proofs.There.{then_there, kept_there, all_there}
 use Rattle.qm_record.proofs.queue_request.read_set_queue.Goals as goal
 
 pub returns-in-Err : goal.returns-in-Err
+unfolding set_queue_at
 returns-in-Err c =
-    set_queue_there c.args.bytes.now.now c.in_ok-name.name c.read_name.new.bytes.now c.read_change.new.bytes.now c.in_ok-name.ensures
-    (kept_is_there c.in_ok-change.field-0 c.read_change.new.bytes.now _ c.in_ok-change.ensures)
+    then_there _ c.in_ok-name.ensures (
+    kept_there _ _ c.in_ok-change.field-0 c.in_ok-change.ensures (λ change.
+    all_there _ _))
