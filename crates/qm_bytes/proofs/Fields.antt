@@ -34,15 +34,19 @@ lies_between low high b h = (leb-true low b (and_left _ _ h), leb-true b high (a
 bound_of_rest : (count limit low : ℕ) → limit < 256 ^ suc count → (limit - low) / 256 < 256 ^ count
 bound_of_rest count limit low h = let split = pow-suc 256 count in omega (arith, split, h)
 
-low_of : (limit low high : ℕ) → between 0 (min limit 255) low ≡ true → high ≤ (limit - low) / 256 → (low + 256 * high ≤ limit) × ((low + 256 * high) % 256 ≡ low) × ((low + 256 * high) / 256 ≡ high)
+low_of : (limit low high : ℕ) → between 0 (min limit 255) low ≡ true → high ≤ (limit - low) / 256
+    → (low + 256 * high ≤ limit) × ((low + 256 * high) % 256 ≡ low) × ((low + 256 * high) / 256 ≡ high)
 low_of limit low high a b =
     let small = (lies_between 0 (min limit 255) low a).1 in
     (omega (arith, small, b), omega (arith, small), omega (arith, small))
 
-pub parts_of : (limit n : ℕ) → n ≤ limit → (between 0 (min limit 255) (n % 256) ≡ true) × (n / 256 ≤ (limit - n % 256) / 256) × (n ≡ n % 256 + 256 * (n / 256))
-parts_of limit n le = (passes_between 0 (min limit 255) (n % 256) (omega arith) (omega (arith, le)), omega (arith, le), omega arith)
+pub parts_of : (limit n : ℕ) → n ≤ limit
+    → (between 0 (min limit 255) (n % 256) ≡ true) × (n / 256 ≤ (limit - n % 256) / 256) × (n ≡ n % 256 + 256 * (n / 256))
+parts_of limit n le =
+    (passes_between 0 (min limit 255) (n % 256) (omega arith) (omega (arith, le)), omega (arith, le), omega arith)
 
-pub number_up_to_reader : (count limit : ℕ) → limit < 256 ^ count → IsReader (Spells (λ n. n ≤ limit) (low_first count)) (number_up_to count limit)
+pub number_up_to_reader : (count limit : ℕ) → limit < 256 ^ count
+    → IsReader (Spells (λ n. n ≤ limit) (low_first count)) (number_up_to count limit)
 unfolding number_up_to
 number_up_to_reader zero limit h =
     said (made 0) (λ n text s. record { fits = omega (arith, s.same); is = s.nothing }) (λ n text s. record { same = omega (arith, s.fits); nothing = s.is })
@@ -94,20 +98,27 @@ abbrev pub Maybe : {A : Type 0} → (A → Type 0) → (A → List ℕ) → Bool
 Maybe Fits spelling true = Made None
 Maybe Fits spelling false = Last Fits spelling (λ x. Some x)
 
-maybe_reader : {A : Type 0} {Fits : A → Type 0} {spelling : A → List ℕ} {read : Reader A} → IsReader (Spells Fits spelling) read → (none : Bool) → IsReader (Maybe Fits spelling none) (cond none (pure None) (read >>= λ x. pure (Some x)))
+maybe_reader : {A : Type 0} {Fits : A → Type 0} {spelling : A → List ℕ} {read : Reader A} → IsReader (Spells Fits spelling) read
+    → (none : Bool) → IsReader (Maybe Fits spelling none) (cond none (pure None) (read >>= λ x. pure (Some x)))
 maybe_reader r true = made None
 maybe_reader r false = last r
 
-optional_to : {A : Type 0} (Fits : A → Type 0) (spelling : A → List ℕ) (b : ℕ) (o : Option A) (others text : List ℕ) → b ≤ 1 → Maybe Fits spelling (eqb b 0) o others → text ≡ b ∷ others → Spells (AllOf Fits) (optional spelling) o text
+optional_to : {A : Type 0} (Fits : A → Type 0) (spelling : A → List ℕ) (b : ℕ) (o : Option A) (others text : List ℕ) → b ≤ 1
+    → Maybe Fits spelling (eqb b 0) o others → text ≡ b ∷ others → Spells (AllOf Fits) (optional spelling) o text
 optional_to Fits spelling zero o others text le h e = rw h.same (record { fits = tt; is = rw (e, h.nothing) refl })
 optional_to Fits spelling (suc zero) o others text le h e = rw h.same (record { fits = h.fits; is = rw (e, h.parts) refl })
 optional_to Fits spelling (suc (suc b)) o others text le h e = absurd (omega (arith, le))
 
-optional_from : {A : Type 0} (Fits : A → Type 0) (spelling : A → List ℕ) (o : Option A) (text : List ℕ) → Spells (AllOf Fits) (optional spelling) o text → Then (Passes (between 0 1)) byte (λ b. Maybe Fits spelling (eqb b 0)) o text
-optional_from Fits spelling None text s = record { first = 0; fits = refl; others = []; next = record { same = refl; nothing = refl }; parts = s.is }
-optional_from Fits spelling (Some x) text s = record { first = 1; fits = refl; others = spelling x; next = record { first = x; fits = s.fits; same = refl; parts = refl }; parts = s.is }
+optional_from : {A : Type 0} (Fits : A → Type 0) (spelling : A → List ℕ) (o : Option A) (text : List ℕ)
+    → Spells (AllOf Fits) (optional spelling) o text
+    → Then (Passes (between 0 1)) byte (λ b. Maybe Fits spelling (eqb b 0)) o text
+optional_from Fits spelling None text s =
+    record { first = 0; fits = refl; others = []; next = record { same = refl; nothing = refl }; parts = s.is }
+optional_from Fits spelling (Some x) text s =
+    record { first = 1; fits = refl; others = spelling x; next = record { first = x; fits = s.fits; same = refl; parts = refl }; parts = s.is }
 
-pub optional_reader : {A : Type 0} {Fits : A → Type 0} {spelling : A → List ℕ} {read : Reader A} → IsReader (Spells Fits spelling) read → IsReader (Spells (AllOf Fits) (optional spelling)) (optional_at read)
+pub optional_reader : {A : Type 0} {Fits : A → Type 0} {spelling : A → List ℕ} {read : Reader A}
+    → IsReader (Spells Fits spelling) read → IsReader (Spells (AllOf Fits) (optional spelling)) (optional_at read)
 unfolding optional_at
 optional_reader {Fits = Fits} {spelling = spelling} r =
     said (after (byte_reader (between 0 1) 0 refl) (λ b fits. maybe_reader r (eqb b 0)))
@@ -117,9 +128,11 @@ optional_reader {Fits = Fits} {spelling = spelling} r =
 -- ---- lists
 
 pub number_reader : (count : ℕ) → IsReader (Spells (λ n. n ≤ 256 ^ count - 1) (low_first count)) (number_at count)
-number_reader count = number_up_to_reader count (256 ^ count - 1) (let some = one-le-pow count 256 (omega arith) in omega (arith, some))
+number_reader count =
+    number_up_to_reader count (256 ^ count - 1) (let some = one-le-pow count 256 (omega arith) in omega (arith, some))
 
-pub list_reader : {A : Type 0} {Fits : A → Type 0} {spelling : A → List ℕ} {read : Reader A} → IsReader (Spells Fits spelling) read → IsReader (Spells (IsList Fits) (list spelling)) (list_at read)
+pub list_reader : {A : Type 0} {Fits : A → Type 0} {spelling : A → List ℕ} {read : Reader A}
+    → IsReader (Spells Fits spelling) read → IsReader (Spells (IsList Fits) (list spelling)) (list_at read)
 unfolding list_at
 list_reader {Fits = Fits} {spelling = spelling} r =
     said (after (number_reader 2) (λ count fits. repeat_reader r count))
@@ -206,7 +219,7 @@ unfolding file_name_at
 file_name_reader =
     of_fields (λ f. f.name & f.extension)
     (name_reader ⊗ λ name name_fits. ends (optional_reader name_reader) (λ extension fits. record { name = name_fits; extension = fits }))
-    (λ f. refl) (λ p. refl) (λ f fits. fits.name & fits.extension)
+    (λ f. refl) (λ p fits. refl) (λ f fits. fits.name & fits.extension)
 
 abbrev set_of : ℕ → CharacteristicSet
 set_of n = record { 0 = n }
@@ -214,13 +227,11 @@ set_of n = record { 0 = n }
 halves_of : (low high : ℕ) → low < 2 ^ 64 → ((low + 2 ^ 64 * high) % 2 ^ 64 ≡ low) × ((low + 2 ^ 64 * high) / 2 ^ 64 ≡ high)
 halves_of low high h = (omega arith, omega arith)
 
-set_from : (s : CharacteristicSet) (text : List ℕ) (low high : ℕ) → low ≤ 256 ^ 8 - 1 → high ≤ 256 ^ 8 - 1 → s ≡ set_of (low + 2 ^ 64 * high) → text ≡ low_first 8 low ++ low_first 8 high → Spells IsSet set s text
-set_from s text low high l h e is =
-    let parts = halves_of low high (omega (arith, l)) in
-    let value : s.0 ≡ low + 2 ^ 64 * high = ap (λ (x : CharacteristicSet). x.0) e in
-    let lower : s.0 % 2 ^ 64 ≡ low = ap (λ n. n % 2 ^ 64) value ∙ parts.0 in
-    let upper : s.0 / 2 ^ 64 ≡ high = ap (λ n. n / 2 ^ 64) value ∙ parts.1 in
-    record { fits = omega (arith, value, l, h); is = is ∙ ap (λ n. low_first 8 n ++ low_first 8 high) (sym lower) ∙ ap (λ n. low_first 8 (s.0 % 2 ^ 64) ++ low_first 8 n) (sym upper) }
+set_text : (low high : ℕ) → low < 2 ^ 64 → low_first 8 low ++ low_first 8 high ≡ set (set_of (low + 2 ^ 64 * high))
+set_text low high h =
+    let halves = halves_of low high h in
+    ap (λ n. low_first 8 n ++ low_first 8 high) (sym halves.0)
+    ∙ ap (λ n. low_first 8 ((low + 2 ^ 64 * high) % 2 ^ 64) ++ low_first 8 n) (sym halves.1)
 
 set_to : (n : ℕ) → n ≡ n % 2 ^ 64 + 2 ^ 64 * (n / 2 ^ 64)
 set_to n = omega arith
@@ -228,9 +239,12 @@ set_to n = omega arith
 pub set_reader : IsReader (Spells IsSet set) set_at
 unfolding set_at
 set_reader =
-    said (after (number_reader 8) (λ low fits. last (number_reader 8)))
-    (λ f text h. set_from f text h.first h.next.first h.fits h.next.fits h.next.same (h.parts ∙ ap (λ (x : List ℕ). low_first 8 h.first ++ x) h.next.parts))
-    (λ f text s. record { first = f.0 % 2 ^ 64; fits = omega arith; others = low_first 8 (f.0 / 2 ^ 64); next = record { first = f.0 / 2 ^ 64; fits = omega (arith, s.fits); same = ap set_of (set_to f.0); parts = refl }; parts = s.is })
+    of_fields
+    (λ s. s.0 % 2 ^ 64 & s.0 / 2 ^ 64)
+    (number_reader 8 ⊗ λ low low_fits. ends (number_reader 8) (λ high fits. omega (arith, low_fits, fits)))
+    (λ s. ap set_of (sym (set_to s.0)))
+    (λ p fits. set_text p.0 p.1 (omega (arith, fits.0)))
+    (λ s fits. omega arith & omega (arith, fits))
 
 pub moment_reader : IsReader (Spells IsMoment moment) moment_at
 unfolding moment_at

@@ -7,7 +7,8 @@ use Rattle.qm_bytes.specs.Spelling.{each, byte}
 use Rattle.std.specs.List.{AllByRecursion}
 
 -- a first field, and then what follows it
-pub record Then {A T : Type 0} (Fits : A → Type 0) (spelling : A → List ℕ) (Next : A → T → List ℕ → Type 0) (value : T) (text : List ℕ) : Type 0 where
+pub record Then {A T : Type 0} (Fits : A → Type 0) (spelling : A → List ℕ) (Next : A → T → List ℕ → Type 0) (value : T)
+    (text : List ℕ) : Type 0 where
   pub first : A
   pub fits : Fits first
   pub others : List ℕ
@@ -19,7 +20,8 @@ pub record Made {T : Type 0} (made value : T) (text : List ℕ) : Type 0 where
   pub same : value ≡ made
   pub nothing : text ≡ []
 
-found_parts : {A B : Type 0} (found : Result (A × List ℕ) ℕ) (next : A → Reader B) (y : B × List ℕ) → onward found next ≡ Ok y → (x : A × List ℕ) × (found ≡ Ok x) × (next x.0 x.1 ≡ Ok y)
+found_parts : {A B : Type 0} (found : Result (A × List ℕ) ℕ) (next : A → Reader B) (y : B × List ℕ) → onward found next ≡ Ok y
+    → (x : A × List ℕ) × (found ≡ Ok x) × (next x.0 x.1 ≡ Ok y)
 found_parts (Ok x) next y e = (x, refl, e)
 found_parts (Err left) next y e = absurd cc
 
@@ -27,7 +29,8 @@ data Failed {A B : Type 0} (found : Result (A × List ℕ) ℕ) (next : A → Re
   at_once : found ≡ Err left → Failed found next left
   later : (x : A × List ℕ) → found ≡ Ok x → next x.0 x.1 ≡ Err left → Failed found next left
 
-failed_parts : {A B : Type 0} (found : Result (A × List ℕ) ℕ) (next : A → Reader B) (left : ℕ) → onward found next ≡ Err left → Failed found next left
+failed_parts : {A B : Type 0} (found : Result (A × List ℕ) ℕ) (next : A → Reader B) (left : ℕ) → onward found next ≡ Err left
+    → Failed found next left
 failed_parts (Ok x) next left e = later x refl e
 failed_parts (Err other) next left e = at_once (let same : other ≡ left = cc in ap (λ n. Err n) same)
 
@@ -59,7 +62,8 @@ made x = record {
 
 -- ---- a field, and then what follows it
 
-then_stops : {A T : Type 0} (Fits : A → Type 0) (spelling : A → List ℕ) (read : Reader A) (Next : A → T → List ℕ → Type 0) (next : A → Reader T)
+then_stops : {A T : Type 0} (Fits : A → Type 0) (spelling : A → List ℕ) (read : Reader A) (Next : A → T → List ℕ → Type 0)
+    (next : A → Reader T)
     → IsReader (Spells Fits spelling) read → ((a : A) → Fits a → IsReader (Next a) (next a))
     → (bytes : List ℕ) (left : ℕ) → Failed (read bytes) next left → Stops (Then Fits spelling Next) (read >>= next) bytes left
 then_stops Fits spelling read Next next first second bytes left (at_once e) =
@@ -87,31 +91,39 @@ then_stops Fits spelling read Next next first second bytes left (later x e f) =
       value = s.value;
       more = s.more;
       begins = record { first = x.0; fits = t.1.fits; others = s.front ++ s.more; next = s.begins; parts = append_assoc t.0 s.front s.more ∙ ap (λ (y : List ℕ). y ++ (s.front ++ s.more)) t.1.is };
-      ends = λ b bs more is. ap (λ (y : List ℕ). onward (read y) next) (append_assoc t.0 s.front (b ∷ more)) ∙ rw (first.again x.0 t.0 (s.front ++ b ∷ more) t.1) (s.ends b bs more is);
+      ends = λ b bs more is. ap (λ (y : List ℕ). onward (read y) next) (append_assoc t.0 s.front (b ∷ more))
+          ∙ rw (first.again x.0 t.0 (s.front ++ b ∷ more) t.1) (s.ends b bs more is);
     }
 
-then_takes : {A T : Type 0} (Fits : A → Type 0) (spelling : A → List ℕ) (read : Reader A) (Next : A → T → List ℕ → Type 0) (next : A → Reader T)
+then_takes : {A T : Type 0} (Fits : A → Type 0) (spelling : A → List ℕ) (read : Reader A) (Next : A → T → List ℕ → Type 0)
+    (next : A → Reader T)
     → IsReader (Spells Fits spelling) read → ((a : A) → Fits a → IsReader (Next a) (next a))
-    → (bytes : List ℕ) (y : T) (rest : List ℕ) → onward (read bytes) next ≡ Ok (y, rest) → (front : List ℕ) × Then Fits spelling Next y front × (bytes ≡ front ++ rest)
+    → (bytes : List ℕ) (y : T) (rest : List ℕ) → onward (read bytes) next ≡ Ok (y, rest)
+    → (front : List ℕ) × Then Fits spelling Next y front × (bytes ≡ front ++ rest)
 then_takes Fits spelling read Next next first second bytes y rest e =
     let p = found_parts (read bytes) next (y, rest) e in
     let t = first.takes bytes p.0.0 p.0.1 p.1 in
     let u = (second p.0.0 t.1.fits).takes p.0.1 y rest p.2 in (
       spelling p.0.0 ++ u.0,
       record { first = p.0.0; fits = t.1.fits; others = u.0; next = u.1; parts = refl },
-      t.2 ∙ ap (λ (x : List ℕ). x ++ p.0.1) t.1.is ∙ ap (λ (x : List ℕ). spelling p.0.0 ++ x) u.2 ∙ sym (append_assoc (spelling p.0.0) u.0 rest),
+      t.2 ∙ ap (λ (x : List ℕ). x ++ p.0.1) t.1.is ∙ ap (λ (x : List ℕ). spelling p.0.0 ++ x) u.2
+          ∙ sym (append_assoc (spelling p.0.0) u.0 rest),
     )
 
-then_again : {A T : Type 0} (Fits : A → Type 0) (spelling : A → List ℕ) (read : Reader A) (Next : A → T → List ℕ → Type 0) (next : A → Reader T)
+then_again : {A T : Type 0} (Fits : A → Type 0) (spelling : A → List ℕ) (read : Reader A) (Next : A → T → List ℕ → Type 0)
+    (next : A → Reader T)
     → IsReader (Spells Fits spelling) read → ((a : A) → Fits a → IsReader (Next a) (next a))
     → (y : T) (front rest : List ℕ) → Then Fits spelling Next y front → onward (read (front ++ rest)) next ≡ Ok (y, rest)
 then_again Fits spelling read Next next first second y front rest s =
-    let regrouped : front ++ rest ≡ spelling s.first ++ (s.others ++ rest) = ap (λ (x : List ℕ). x ++ rest) s.parts ∙ append_assoc (spelling s.first) s.others rest in
+    let regrouped : front ++ rest ≡ spelling s.first ++ (s.others ++ rest) =
+    ap (λ (x : List ℕ). x ++ rest) s.parts ∙ append_assoc (spelling s.first) s.others rest in
     let found = first.again s.first (spelling s.first) (s.others ++ rest) (record { fits = s.fits; is = refl }) in
     ap (λ (x : List ℕ). onward (read x) next) regrouped ∙ rw found ((second s.first s.fits).again y s.others rest s.next)
 
-pub after : {A T : Type 0} {Fits : A → Type 0} {spelling : A → List ℕ} {read : Reader A} {Next : A → T → List ℕ → Type 0} {next : A → Reader T}
-    → IsReader (Spells Fits spelling) read → ((a : A) → Fits a → IsReader (Next a) (next a)) → IsReader (Then Fits spelling Next) (read >>= next)
+pub after : {A T : Type 0} {Fits : A → Type 0} {spelling : A → List ℕ} {read : Reader A} {Next : A → T → List ℕ → Type 0}
+    {next : A → Reader T}
+    → IsReader (Spells Fits spelling) read → ((a : A) → Fits a → IsReader (Next a) (next a))
+    → IsReader (Then Fits spelling Next) (read >>= next)
 after {A} {T} {Fits} {spelling} {read} {Next} {next} first second =
     let others = second first.value first.spelled.fits in
     record {
@@ -126,7 +138,8 @@ after {A} {T} {Fits} {spelling} {read} {Next} {next} first second =
 -- ---- the same reader of a spelling that is said in other words
 
 pub said : {T : Type 0} {Told Spelled : T → List ℕ → Type 0} {read : Reader T} → IsReader Told read
-    → ((x : T) (text : List ℕ) → Told x text → Spelled x text) → ((x : T) (text : List ℕ) → Spelled x text → Told x text) → IsReader Spelled read
+    → ((x : T) (text : List ℕ) → Told x text → Spelled x text) → ((x : T) (text : List ℕ) → Spelled x text → Told x text)
+    → IsReader Spelled read
 said {T} {Told} {Spelled} {read} r to from = record {
   value = r.value;
   text = r.text;
@@ -140,13 +153,15 @@ said {T} {Told} {Spelled} {read} r to from = record {
 
 -- ---- the last field, and what is made of it
 
-pub record Last {A T : Type 0} (Fits : A → Type 0) (spelling : A → List ℕ) (made_of : A → T) (value : T) (text : List ℕ) : Type 0 where
+pub record Last {A T : Type 0} (Fits : A → Type 0) (spelling : A → List ℕ) (made_of : A → T) (value : T) (text : List ℕ)
+    : Type 0 where
   pub first : A
   pub fits : Fits first
   pub same : value ≡ made_of first
   pub parts : text ≡ spelling first
 
-pub last : {A T : Type 0} {Fits : A → Type 0} {spelling : A → List ℕ} {read : Reader A} {made_of : A → T} → IsReader (Spells Fits spelling) read → IsReader (Last Fits spelling made_of) (read >>= λ x. pure (made_of x))
+pub last : {A T : Type 0} {Fits : A → Type 0} {spelling : A → List ℕ} {read : Reader A} {made_of : A → T}
+    → IsReader (Spells Fits spelling) read → IsReader (Last Fits spelling made_of) (read >>= λ x. pure (made_of x))
 last {made_of = made_of} r =
     said (after r (λ x fits. made (made_of x)))
     (λ y text h. record { first = h.first; fits = h.fits; same = h.next.same; parts = h.parts ∙ rw h.next.nothing (append-nil _) })
@@ -165,7 +180,8 @@ chosen false x y z e = no refl e
 abbrev pub Passes : (ℕ → Bool) → ℕ → Type 0
 Passes test b = test b ≡ true
 
-byte_takes : (test : ℕ → Bool) (bytes : List ℕ) (x : ℕ) (rest : List ℕ) → byte_where test bytes ≡ Ok (x, rest) → (front : List ℕ) × Spells (Passes test) byte x front × (bytes ≡ front ++ rest)
+byte_takes : (test : ℕ → Bool) (bytes : List ℕ) (x : ℕ) (rest : List ℕ) → byte_where test bytes ≡ Ok (x, rest)
+    → (front : List ℕ) × Spells (Passes test) byte x front × (bytes ≡ front ++ rest)
 byte_takes test [] x rest e = absurd cc
 byte_takes test (b ∷ bs) x rest e =
     elim (chosen (test b) (Ok (b, bs)) (Err (suc (length bs))) (Ok (x, rest)) e) [
@@ -175,7 +191,8 @@ byte_takes test (b ∷ bs) x rest e =
       | no fails same ↦ absurd cc
     ]
 
-byte_stops : (test : ℕ → Bool) (some : ℕ) → test some ≡ true → (bytes : List ℕ) (left : ℕ) → byte_where test bytes ≡ Err left → Stops (Spells (Passes test) byte) (byte_where test) bytes left
+byte_stops : (test : ℕ → Bool) (some : ℕ) → test some ≡ true → (bytes : List ℕ) (left : ℕ) → byte_where test bytes ≡ Err left
+    → Stops (Spells (Passes test) byte) (byte_where test) bytes left
 byte_stops test some passes [] left e = record {
   front = [];
   behind = [];
@@ -218,24 +235,30 @@ pub record AreSo {A : Type 0} (Fits : A → Type 0) (count : ℕ) (xs : List A) 
   pub count_is : length xs ≡ count
   pub all : AllByRecursion Fits xs
 
-none_is : {A : Type 0} (Fits : A → Type 0) (spelling : A → List ℕ) (xs : List A) (text : List ℕ) → Spells (AreSo Fits 0) (each spelling) xs text → Made [] xs text
+none_is : {A : Type 0} (Fits : A → Type 0) (spelling : A → List ℕ) (xs : List A) (text : List ℕ)
+    → Spells (AreSo Fits 0) (each spelling) xs text → Made [] xs text
 none_is Fits spelling [] text s = record { same = refl; nothing = s.is }
 none_is Fits spelling (x ∷ xs) text s = absurd (omega (arith, s.fits.count_is))
 
-one_more : {A : Type 0} (Fits : A → Type 0) (spelling : A → List ℕ) (count : ℕ) (xs : List A) (text : List ℕ) → Spells (AreSo Fits (suc count)) (each spelling) xs text
+one_more : {A : Type 0} (Fits : A → Type 0) (spelling : A → List ℕ) (count : ℕ) (xs : List A) (text : List ℕ)
+    → Spells (AreSo Fits (suc count)) (each spelling) xs text
     → Then Fits spelling (λ x. Last (AreSo Fits count) (each spelling) (λ others. x ∷ others)) xs text
 one_more Fits spelling count [] text s = absurd (omega (arith, s.fits.count_is))
 one_more Fits spelling count (x ∷ xs) text s = record {
   first = x;
   fits = s.fits.all.0;
   others = each spelling xs;
-  next = record { first = xs; fits = record { count_is = omega (arith, s.fits.count_is); all = s.fits.all.1 }; same = refl; parts = refl };
+  next =
+      record { first = xs; fits = record { count_is = omega (arith, s.fits.count_is); all = s.fits.all.1 }; same = refl; parts = refl };
   parts = s.is;
 }
 
-pub repeat_reader : {A : Type 0} {Fits : A → Type 0} {spelling : A → List ℕ} {read : Reader A} → IsReader (Spells Fits spelling) read → (count : ℕ) → IsReader (Spells (AreSo Fits count) (each spelling)) (repeat_at read count)
+pub repeat_reader : {A : Type 0} {Fits : A → Type 0} {spelling : A → List ℕ} {read : Reader A}
+    → IsReader (Spells Fits spelling) read → (count : ℕ)
+    → IsReader (Spells (AreSo Fits count) (each spelling)) (repeat_at read count)
 unfolding repeat_at
-repeat_reader {Fits = Fits} {spelling = spelling} r zero = said (made []) (λ x text s. record { fits = record { count_is = ap length s.same; all = rw s.same tt }; is = rw (s.nothing, s.same) refl }) (none_is Fits spelling)
+repeat_reader {Fits = Fits} {spelling = spelling} r zero =
+    said (made []) (λ x text s. record { fits = record { count_is = ap length s.same; all = rw s.same tt }; is = rw (s.nothing, s.same) refl }) (none_is Fits spelling)
 repeat_reader {Fits = Fits} {spelling = spelling} r (suc count) =
     said (after r (λ x fits. last (repeat_reader r count)))
     (λ x text h. rw h.next.same (record { fits = record { count_is = ap suc h.next.fits.count_is; all = (h.fits, h.next.fits.all) }; is = rw (h.parts, h.next.parts) refl }))

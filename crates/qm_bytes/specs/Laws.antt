@@ -24,6 +24,7 @@ pub record IsReader {T : Type 0} (Spelled : T → List ℕ → Type 0) (read : R
   pub value : T
   pub text : List ℕ
   pub spelled : Spelled value text
-  pub takes : (bytes : List ℕ) (x : T) (rest : List ℕ) → read bytes ≡ Ok (x, rest) → (front : List ℕ) × Spelled x front × (bytes ≡ front ++ rest)
+  pub takes : (bytes : List ℕ) (x : T) (rest : List ℕ) → read bytes ≡ Ok (x, rest)
+      → (front : List ℕ) × Spelled x front × (bytes ≡ front ++ rest)
   pub again : (x : T) (front rest : List ℕ) → Spelled x front → read (front ++ rest) ≡ Ok (x, rest)
   pub stops : (bytes : List ℕ) (left : ℕ) → read bytes ≡ Err left → Stops Spelled read bytes left

@@ -1,5 +1,5 @@
 -- Each reader of a body reads the fields of its records.
-use Rattle.std.proofs.Common.{◌≡◌, ℕ, Bool, List, Option, Some, refl, sym, ap, subst, ◌∙◌}
+use Rattle.std.proofs.Common.{◌≡◌, ℕ, Bool, List, Option, None, Some, refl, sym, ap, subst, ◌∙◌}
 use Rattle.qm_kinds.specs.declared.request.Request.{Request}
 use Rattle.qm_kinds.specs.declared.request.Request.TheVariants as ask
 use Rattle.qm_kinds.specs.declared.request.Job.{Job}
@@ -77,7 +77,8 @@ body_of record_kind.Queue x = body.Queue x
 
 -- the kind of a body that has a spelling, and what it is made of
 data KindOf (b : Body) : Type 0 where
-  made_of : (k : RecordKind) (x : Given k) → b ≡ body_of k x → is_row b ≡ is_row_kind k → body_parts b ≡ Some (k, fields_in (body_parts b)) → KindOf b
+  made_of : (k : RecordKind) (x : Given k) → b ≡ body_of k x → is_row b ≡ is_row_kind k
+      → body_parts b ≡ Some (k, fields_in (body_parts b)) → KindOf b
 
 kind_of_request : (r : Request) → RequestFits r → KindOf (body.Ask r)
 kind_of_request (ask.Append file bytes) fits = made_of record_kind.Append (file & bytes & tt) refl refl refl
@@ -91,7 +92,8 @@ kind_of_request (ask.InitializeQueue new) fits = made_of record_kind.InitializeQ
 kind_of_request (ask.SetQueue name change) fits = made_of record_kind.SetQueue (name, change) refl refl refl
 kind_of_request (ask.StartQueue name change) fits = made_of record_kind.StartQueue (name, change) refl refl refl
 kind_of_request (ask.StopQueue name how) fits = made_of record_kind.StopQueue (name, how) refl refl refl
-kind_of_request (ask.AbortJob queue_name entry requeue) fits = made_of record_kind.AbortJob (queue_name & entry & requeue & tt) refl refl refl
+kind_of_request (ask.AbortJob queue_name entry requeue) fits =
+    made_of record_kind.AbortJob (queue_name & entry & requeue & tt) refl refl refl
 kind_of_request (ask.DeleteQueue name) fits = made_of record_kind.DeleteQueue name refl refl refl
 kind_of_request (ask.Merge to from) fits = made_of record_kind.Merge (to, from) refl refl refl
 kind_of_request (ask.Submit j) fits = made_of record_kind.Submit j refl refl refl
@@ -103,7 +105,8 @@ kind_of_request r fits = absurd fits
 
 kind_of_body : (b : Body) → BodyFits b → KindOf b
 kind_of_body (body.Ask r) fits = kind_of_request r fits
-kind_of_body (body.Head nodes may next_entry next_run last_moment) fits = made_of record_kind.Head (nodes & may & next_entry & next_run & last_moment & tt) refl refl refl
+kind_of_body (body.Head nodes may next_entry next_run last_moment) fits =
+    made_of record_kind.Head (nodes & may & next_entry & next_run & last_moment & tt) refl refl refl
 kind_of_body (body.Form f) fits = made_of record_kind.Form f refl refl refl
 kind_of_body (body.Queue q) fits = made_of record_kind.Queue q refl refl refl
 kind_of_body b fits = absurd fits
@@ -126,20 +129,34 @@ same_text : (a b : RecordKind) (x y : List ℕ) → some (a, x) ≡ some (b, y) 
 same_text a b x y e = ap (λ (p : Parts). p.1) (some_is (a, x) (b, y) e)
 
 -- whether a body is a row is told by its kind
-pub row_by_kind : (b : Body) (k : RecordKind) (text : List ℕ) → BodyFits b → body_parts b ≡ Some (k, text) → is_row b ≡ is_row_kind k
+pub row_by_kind : (b : Body) (k : RecordKind) (text : List ℕ) → BodyFits b → body_parts b ≡ Some (k, text)
+    → is_row b ≡ is_row_kind k
 row_by_kind b k text fits e = elim (kind_of_body b fits) [
   | made_of j x same row is ↦ row ∙ ap is_row_kind (same_kind j k (fields_in (body_parts b)) text (sym is ∙ e))
 ]
 
+-- the kind in the parts
+unfoldable pub kind_in : Option Parts → RecordKind
+kind_in None = record_kind.Tick
+kind_in (Some parts) = parts.0
+
+parts_in : (o : Option Parts) (x : Parts) → o ≡ Some x → o ≡ Some (kind_in o, fields_in o)
+unfolding kind_in
+parts_in None x e = absurd cc
+parts_in (Some y) x e = refl
+
 -- a body that has a spelling has parts
-pub has_parts : (b : Body) → BodyFits b → (x : Parts) × (body_parts b ≡ Some x)
+pub has_parts : (b : Body) → BodyFits b → body_parts b ≡ Some (kind_in (body_parts b), fields_in (body_parts b))
 has_parts b fits = elim (kind_of_body b fits) [
-  | made_of k x same row is ↦ ((k, fields_in (body_parts b)), is)
+  | made_of k x same row is ↦ parts_in (body_parts b) (k, fields_in (body_parts b)) is
 ]
 
-given : (b : Body) (k : RecordKind) (text : List ℕ) → BodyFits b → body_parts b ≡ Some (k, text) → (x : Given k) × (b ≡ body_of k x)
+given : (b : Body) (k : RecordKind) (text : List ℕ) → BodyFits b → body_parts b ≡ Some (k, text)
+    → (x : Given k) × (b ≡ body_of k x)
 given b k text fits e = elim (kind_of_body b fits) [
-  | made_of j x same row is ↦ subst (λ (i : RecordKind). (y : Given i) × (b ≡ body_of i y)) (same_kind j k (fields_in (body_parts b)) text (sym is ∙ e)) (x, same)
+  | made_of j x same row is ↦
+      let kinds = same_kind j k (fields_in (body_parts b)) text (sym is ∙ e) in
+      subst (λ (i : RecordKind). (y : Given i) × (b ≡ body_of i y)) kinds (x, same)
 ]
 
 -- a body of this kind, and the text of its fields
@@ -148,8 +165,10 @@ pub record BodyAt (k : RecordKind) (b : Body) (text : List ℕ) : Type 0 where
   pub is : body_parts b ≡ Some (k, text)
 
 -- the bodies of a kind are read as what they are made of
-reads : {k : RecordKind} {Fit : Given k → Type 0} {text : Given k → List ℕ} {read : Reader Body} → IsReader (Composed Fit text (body_of k) BodyFits) read
-    → ((x : Given k) → body_parts (body_of k x) ≡ Some (k, text x)) → ((x : Given k) → BodyFits (body_of k x) → Fit x) → IsReader (BodyAt k) read
+reads : {k : RecordKind} {Fit : Given k → Type 0} {text : Given k → List ℕ} {read : Reader Body}
+    → IsReader (Composed Fit text (body_of k) BodyFits) read
+    → ((x : Given k) → body_parts (body_of k x) ≡ Some (k, text x)) → ((x : Given k) → BodyFits (body_of k x) → Fit x)
+    → IsReader (BodyAt k) read
 reads {k} {Fit} {text} reader parts_are fit =
     said reader
     (λ b bytes h. record { fits = h.lawful; is = ap body_parts h.same ∙ parts_are h.fields ∙ ap (λ t. Some (k, t)) (sym h.is) })
@@ -181,9 +200,11 @@ reader_of record_kind.SetQueue =
     reads (name_reader ⊗ λ name fits. ends change_reader (λ change change_fits. (fits, change_fits))) (λ x. refl) (λ x fits. fits)
 reader_of record_kind.StartQueue =
     reads (name_reader ⊗ λ name fits. ends change_reader (λ change change_fits. (fits, change_fits))) (λ x. refl) (λ x fits. fits)
-reader_of record_kind.StopQueue = reads (name_reader ⊗ λ name fits. ends stop_mode_reader (λ how how_fits. fits)) (λ x. refl) (λ x fits. fits & tt)
+reader_of record_kind.StopQueue =
+    reads (name_reader ⊗ λ name fits. ends stop_mode_reader (λ how how_fits. fits)) (λ x. refl) (λ x fits. fits & tt)
 reader_of record_kind.AbortJob =
-    reads (name_reader ⊗ λ name fits. optional_reader u32_reader ⊗ λ entry entry_fits. truth_reader ⊗ λ requeue requeue_fits. composed (fits, entry_fits))
+    reads (name_reader ⊗ λ name fits. optional_reader u32_reader ⊗ λ entry entry_fits.
+    truth_reader ⊗ λ requeue requeue_fits. composed (fits, entry_fits))
     (λ x. refl) (λ x fits. fits.0 & fits.1 & tt & tt)
 reader_of record_kind.DeleteQueue = reads (ends name_reader (λ x fits. fits)) (λ x. refl) (λ x fits. fits)
 reader_of record_kind.Merge =

@@ -33,7 +33,9 @@ job_kind_passes job.Print = refl
 
 pub job_kind_reader : IsReader (Spells (λ x. Unit {0}) (λ x. byte (job_kind_code x))) job_kind_at
 unfolding job_kind_at
-job_kind_reader = coded_reader (between 1 2) job_kind_code job_kind_of job.Batch (record { back = job_kind_back; again = job_kind_again; passes = job_kind_passes })
+job_kind_reader =
+    coded_reader (between 1 2) job_kind_code job_kind_of job.Batch
+    (record { back = job_kind_back; again = job_kind_again; passes = job_kind_passes })
 
 queue_kind_back : (b : ℕ) → between 1 4 b ≡ true → queue_kind_code (queue_kind_of b) ≡ b
 queue_kind_back zero h = absurd (omega (arith, (lies_between 1 4 0 h).0))
@@ -57,7 +59,9 @@ queue_kind_passes kind.GenericPrint = refl
 
 pub queue_kind_reader : IsReader (Spells (λ x. Unit {0}) (λ x. byte (queue_kind_code x))) queue_kind_at
 unfolding queue_kind_at
-queue_kind_reader = coded_reader (between 1 4) queue_kind_code queue_kind_of kind.Batch (record { back = queue_kind_back; again = queue_kind_again; passes = queue_kind_passes })
+queue_kind_reader =
+    coded_reader (between 1 4) queue_kind_code queue_kind_of kind.Batch
+    (record { back = queue_kind_back; again = queue_kind_again; passes = queue_kind_passes })
 
 queue_state_back : (b : ℕ) → between 1 4 b ≡ true → queue_state_code (queue_state_of b) ≡ b
 queue_state_back zero h = absurd (omega (arith, (lies_between 1 4 0 h).0))
@@ -65,7 +69,8 @@ queue_state_back (suc zero) h = refl
 queue_state_back (suc (suc zero)) h = refl
 queue_state_back (suc (suc (suc zero))) h = refl
 queue_state_back (suc (suc (suc (suc zero)))) h = refl
-queue_state_back (suc (suc (suc (suc (suc b))))) h = absurd (omega (arith, (lies_between 1 4 (suc (suc (suc (suc (suc b))))) h).1))
+queue_state_back (suc (suc (suc (suc (suc b))))) h =
+    absurd (omega (arith, (lies_between 1 4 (suc (suc (suc (suc (suc b))))) h).1))
 
 queue_state_again : (x : QueueState) → queue_state_of (queue_state_code x) ≡ x
 queue_state_again state.Stopped = refl
@@ -81,7 +86,9 @@ queue_state_passes state.Stopping = refl
 
 pub queue_state_reader : IsReader (Spells (λ x. Unit {0}) (λ x. byte (queue_state_code x))) queue_state_at
 unfolding queue_state_at
-queue_state_reader = coded_reader (between 1 4) queue_state_code queue_state_of state.Stopped (record { back = queue_state_back; again = queue_state_again; passes = queue_state_passes })
+queue_state_reader =
+    coded_reader (between 1 4) queue_state_code queue_state_of state.Stopped
+    (record { back = queue_state_back; again = queue_state_again; passes = queue_state_passes })
 
 queue_retain_back : (b : ℕ) → between 0 2 b ≡ true → queue_retain_code (queue_retain_of b) ≡ b
 queue_retain_back zero h = refl
@@ -101,7 +108,9 @@ queue_retain_passes keep.All = refl
 
 pub queue_retain_reader : IsReader (Spells (λ x. Unit {0}) (λ x. byte (queue_retain_code x))) queue_retain_at
 unfolding queue_retain_at
-queue_retain_reader = coded_reader (between 0 2) queue_retain_code queue_retain_of keep.Nothing (record { back = queue_retain_back; again = queue_retain_again; passes = queue_retain_passes })
+queue_retain_reader =
+    coded_reader (between 0 2) queue_retain_code queue_retain_of keep.Nothing
+    (record { back = queue_retain_back; again = queue_retain_again; passes = queue_retain_passes })
 
 stop_mode_back : (b : ℕ) → between 1 3 b ≡ true → stop_mode_code (stop_mode_of b) ≡ b
 stop_mode_back zero h = absurd (omega (arith, (lies_between 1 3 0 h).0))
@@ -122,4 +131,6 @@ stop_mode_passes stop.Reset = refl
 
 pub stop_mode_reader : IsReader (Spells (λ x. Unit {0}) (λ x. byte (stop_mode_code x))) stop_mode_at
 unfolding stop_mode_at
-stop_mode_reader = coded_reader (between 1 3) stop_mode_code stop_mode_of stop.Pause (record { back = stop_mode_back; again = stop_mode_again; passes = stop_mode_passes })
+stop_mode_reader =
+    coded_reader (between 1 3) stop_mode_code stop_mode_of stop.Pause
+    (record { back = stop_mode_back; again = stop_mode_again; passes = stop_mode_passes })

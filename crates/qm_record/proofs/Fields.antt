@@ -23,13 +23,25 @@ one_byte_reader =
     (λ n text h. record { fits = passes_between 0 255 n (omega arith) (omega (arith, h.fits)); is = h.is })
 
 pub u16_reader : IsReader (Spells (λ n. n < 2 ^ 16) (low_first 2)) (number_at 2)
-u16_reader = said (number_reader 2) (λ n text h. record { fits = omega (arith, h.fits); is = h.is }) (λ n text h. record { fits = omega (arith, h.fits); is = h.is })
+u16_reader =
+    said
+    (number_reader 2)
+    (λ n text h. record { fits = omega (arith, h.fits); is = h.is })
+    (λ n text h. record { fits = omega (arith, h.fits); is = h.is })
 
 pub u32_reader : IsReader (Spells (λ n. n < 2 ^ 32) (low_first 4)) (number_at 4)
-u32_reader = said (number_reader 4) (λ n text h. record { fits = omega (arith, h.fits); is = h.is }) (λ n text h. record { fits = omega (arith, h.fits); is = h.is })
+u32_reader =
+    said
+    (number_reader 4)
+    (λ n text h. record { fits = omega (arith, h.fits); is = h.is })
+    (λ n text h. record { fits = omega (arith, h.fits); is = h.is })
 
 pub u64_reader : IsReader (Spells (λ n. n < 2 ^ 64) (low_first 8)) (number_at 8)
-u64_reader = said (number_reader 8) (λ n text h. record { fits = omega (arith, h.fits); is = h.is }) (λ n text h. record { fits = omega (arith, h.fits); is = h.is })
+u64_reader =
+    said
+    (number_reader 8)
+    (λ n text h. record { fits = omega (arith, h.fits); is = h.is })
+    (λ n text h. record { fits = omega (arith, h.fits); is = h.is })
 
 -- ---- one of two
 
@@ -37,7 +49,8 @@ abbrev pub Either : {T : Type 0} → (T → List ℕ → Type 0) → (T → List
 Either First Second true = First
 Either First Second false = Second
 
-pub either : {T : Type 0} {First Second : T → List ℕ → Type 0} {first second : Reader T} → IsReader First first → IsReader Second second → (b : Bool) → IsReader (Either First Second b) (cond b first second)
+pub either : {T : Type 0} {First Second : T → List ℕ → Type 0} {first second : Reader T} → IsReader First first
+    → IsReader Second second → (b : Bool) → IsReader (Either First Second b) (cond b first second)
 either f s true = f
 either f s false = s
 
@@ -47,14 +60,18 @@ NameNext = Last IsName short_bytes (λ name. Name name)
 abbrev NumberNext : NameOrNumber → List ℕ → Type 0
 NumberNext = Last (λ n. n < 2 ^ 16) (low_first 2) (λ number. Number number)
 
-name_or_number_to : (b : ℕ) (x : NameOrNumber) (others text : List ℕ) → b ≤ 1 → Either NameNext NumberNext (eqb b 0) x others → text ≡ b ∷ others → Spells NameOrNumberFits name_or_number x text
+name_or_number_to : (b : ℕ) (x : NameOrNumber) (others text : List ℕ) → b ≤ 1 → Either NameNext NumberNext (eqb b 0) x others
+    → text ≡ b ∷ others → Spells NameOrNumberFits name_or_number x text
 name_or_number_to zero x others text le h e = rw h.same (record { fits = h.fits; is = rw (e, h.parts) refl })
 name_or_number_to (suc zero) x others text le h e = rw h.same (record { fits = h.fits; is = rw (e, h.parts) refl })
 name_or_number_to (suc (suc b)) x others text le h e = absurd (omega (arith, le))
 
-name_or_number_from : (x : NameOrNumber) (text : List ℕ) → Spells NameOrNumberFits name_or_number x text → Then (Passes (between 0 1)) byte (λ b. Either NameNext NumberNext (eqb b 0)) x text
-name_or_number_from (Name name) text s = record { first = 0; fits = refl; others = short_bytes name; next = record { first = name; fits = s.fits; same = refl; parts = refl }; parts = s.is }
-name_or_number_from (Number n) text s = record { first = 1; fits = refl; others = low_first 2 n; next = record { first = n; fits = s.fits; same = refl; parts = refl }; parts = s.is }
+name_or_number_from : (x : NameOrNumber) (text : List ℕ) → Spells NameOrNumberFits name_or_number x text
+    → Then (Passes (between 0 1)) byte (λ b. Either NameNext NumberNext (eqb b 0)) x text
+name_or_number_from (Name name) text s =
+    record { first = 0; fits = refl; others = short_bytes name; parts = s.is; next = record { first = name; fits = s.fits; same = refl; parts = refl } }
+name_or_number_from (Number n) text s =
+    record { first = 1; fits = refl; others = low_first 2 n; parts = s.is; next = record { first = n; fits = s.fits; same = refl; parts = refl } }
 
 pub name_or_number_reader : IsReader (Spells NameOrNumberFits name_or_number) name_or_number_at
 unfolding name_or_number_at
@@ -66,18 +83,24 @@ name_or_number_reader =
 abbrev UntilNext : JobRetain → List ℕ → Type 0
 UntilNext = Last IsMoment moment (λ m. retain.Until m)
 
-job_retain_to : (b : ℕ) (x : JobRetain) (others text : List ℕ) → b ≤ 3 → Either UntilNext (Made (plain_retain_of b)) (eqb b 3) x others → text ≡ b ∷ others → Spells RetainFits job_retain x text
+job_retain_to : (b : ℕ) (x : JobRetain) (others text : List ℕ) → b ≤ 3
+    → Either UntilNext (Made (plain_retain_of b)) (eqb b 3) x others → text ≡ b ∷ others → Spells RetainFits job_retain x text
 job_retain_to zero x others text le h e = rw h.same (record { fits = tt; is = rw (e, h.nothing) refl })
 job_retain_to (suc zero) x others text le h e = rw h.same (record { fits = tt; is = rw (e, h.nothing) refl })
 job_retain_to (suc (suc zero)) x others text le h e = rw h.same (record { fits = tt; is = rw (e, h.nothing) refl })
 job_retain_to (suc (suc (suc zero))) x others text le h e = rw h.same (record { fits = h.fits; is = rw (e, h.parts) refl })
 job_retain_to (suc (suc (suc (suc b)))) x others text le h e = absurd (omega (arith, le))
 
-job_retain_from : (x : JobRetain) (text : List ℕ) → Spells RetainFits job_retain x text → Then (Passes (between 0 3)) byte (λ b. Either UntilNext (Made (plain_retain_of b)) (eqb b 3)) x text
-job_retain_from retain.Default text s = record { first = 0; fits = refl; others = []; next = record { same = refl; nothing = refl }; parts = s.is }
-job_retain_from retain.Always text s = record { first = 1; fits = refl; others = []; next = record { same = refl; nothing = refl }; parts = s.is }
-job_retain_from retain.Failed text s = record { first = 2; fits = refl; others = []; next = record { same = refl; nothing = refl }; parts = s.is }
-job_retain_from (retain.Until m) text s = record { first = 3; fits = refl; others = moment m; next = record { first = m; fits = s.fits; same = refl; parts = refl }; parts = s.is }
+job_retain_from : (x : JobRetain) (text : List ℕ) → Spells RetainFits job_retain x text
+    → Then (Passes (between 0 3)) byte (λ b. Either UntilNext (Made (plain_retain_of b)) (eqb b 3)) x text
+job_retain_from retain.Default text s =
+    record { first = 0; fits = refl; others = []; next = record { same = refl; nothing = refl }; parts = s.is }
+job_retain_from retain.Always text s =
+    record { first = 1; fits = refl; others = []; next = record { same = refl; nothing = refl }; parts = s.is }
+job_retain_from retain.Failed text s =
+    record { first = 2; fits = refl; others = []; next = record { same = refl; nothing = refl }; parts = s.is }
+job_retain_from (retain.Until m) text s =
+    record { first = 3; fits = refl; others = moment m; parts = s.is; next = record { first = m; fits = s.fits; same = refl; parts = refl } }
 
 pub job_retain_reader : IsReader (Spells RetainFits job_retain) job_retain_at
 unfolding job_retain_at
@@ -92,7 +115,7 @@ pub node_reader : IsReader (Spells NodeFits node) node_at
 unfolding node_at
 node_reader =
     of_fields (λ n. n.name & n.up) (name_reader ⊗ λ name name_fits. ends truth_reader (λ up up_fits. name_fits))
-    (λ n. refl) (λ p. refl) (λ n fits. fits & tt)
+    (λ n. refl) (λ p fits. refl) (λ n fits. fits & tt)
 
 pub shape_reader : IsReader (Spells ShapeFits shape) shape_at
 unfolding shape_at
@@ -110,7 +133,7 @@ shape_reader =
       left_fits = left_fits;
       right_fits = right_fits;
     }))
-    (λ s. refl) (λ p. refl)
+    (λ s. refl) (λ p fits. refl)
     (λ s fits. fits.length_fits & fits.width_fits & fits.top_fits & fits.bottom_fits & fits.left_fits & fits.right_fits & tt & tt)
 
 pub form_reader : IsReader (Spells FormFits form) form_at
@@ -121,7 +144,7 @@ form_reader =
     (name_reader ⊗ λ name name_fits. u16_reader ⊗ λ number number_fits. name_reader ⊗ λ stock stock_fits.
     shape_reader ⊗ λ lines shape_fits.
     composed (record { name_fits = name_fits; number_fits = number_fits; stock_fits = stock_fits; shape_fits = shape_fits }))
-    (λ f. refl) (λ p. refl)
+    (λ f. refl) (λ p fits. refl)
     (λ f fits. fits.name_fits & fits.number_fits & fits.stock_fits & fits.shape_fits & tt)
 
 pub characteristic_reader : IsReader (Spells CharacteristicFits characteristic) characteristic_at
@@ -130,7 +153,7 @@ characteristic_reader =
     of_fields
     (λ c. c.name & c.number)
     (name_reader ⊗ λ name name_fits. ends one_byte_reader (λ number fits. record { name_fits = name_fits; number_fits = fits }))
-    (λ c. refl) (λ p. refl) (λ c fits. fits.name_fits & fits.number_fits)
+    (λ c. refl) (λ p fits. refl) (λ c fits. fits.name_fits & fits.number_fits)
 
 pub queue_reader : IsReader (Spells QueueFits queue) queue_at
 unfolding queue_at
@@ -142,7 +165,8 @@ queue_reader =
     optional_reader name_reader ⊗ λ on node_fits. optional_reader name_reader ⊗ λ device device_fits.
     one_byte_reader ⊗ λ limit limit_fits. set_reader ⊗ λ characteristics characteristics_fit.
     optional_reader name_reader ⊗ λ mounted mounted_fits. u32_reader ⊗ λ lower lower_fits. u32_reader ⊗ λ upper upper_fits.
-    truth_reader ⊗ λ by_size by_size_fits. queue_retain_reader ⊗ λ kept retain_fits. list_reader name_reader ⊗ λ targets targets_fit.
+    truth_reader ⊗ λ by_size by_size_fits. queue_retain_reader ⊗ λ kept retain_fits.
+    list_reader name_reader ⊗ λ targets targets_fit.
     composed (record {
       name_fits = name_fits;
       node_fits = node_fits;
@@ -154,7 +178,7 @@ queue_reader =
       upper_fits = upper_fits;
       targets_fit = targets_fit;
     }))
-    (λ q. refl) (λ p. refl)
+    (λ q. refl) (λ p fits. refl)
     (λ q fits. fits.name_fits & tt & tt & fits.node_fits & fits.device_fits & fits.limit_fits & fits.characteristics_fit
     & fits.mounted_fits & fits.lower_fits & fits.upper_fits & tt & tt & fits.targets_fit & tt)
 
@@ -164,7 +188,7 @@ pub limits_reader : IsReader (Spells LimitsFit limits) limits_at
 unfolding limits_at
 limits_reader =
     of_fields (λ l. l) (u32_reader ⊗ λ lower lower_fits. ends u32_reader (λ upper upper_fits. lower_fits & upper_fits))
-    (λ l. refl) (λ p. refl) (λ l fits. fits)
+    (λ l. refl) (λ p fits. refl) (λ l fits. fits)
 
 retain_reader : IsReader (Spells (λ x. Unit {0}) queue_retain) queue_retain_at
 retain_reader = queue_retain_reader
@@ -189,7 +213,7 @@ change_reader =
       form_fits = form_fits;
       blocks_fit = blocks_fit;
     }))
-    (λ c. refl) (λ p. refl)
+    (λ c. refl) (λ p fits. refl)
     (λ c fits. fits.limit_fits & fits.characteristics_fit & fits.form_fits & fits.blocks_fit
     & anything c.by_size & anything c.retain & tt)
 
@@ -208,7 +232,7 @@ new_queue_reader =
       targets_fit = targets_fit;
       change_fits = change_fits;
     }))
-    (λ n. refl) (λ p. refl)
+    (λ n. refl) (λ p fits. refl)
     (λ n fits. fits.name_fits & tt & fits.node_fits & fits.device_fits & fits.targets_fit & fits.change_fits & tt & tt)
 
 -- ---- jobs
@@ -221,9 +245,11 @@ job_reader =
     & j.restart & j.characteristics & j.form & j.copies & j.flag & tt)
     (name_reader ⊗ λ user user_fits. job_kind_reader ⊗ λ kind kind_fits. name_reader ⊗ λ to queue_fits.
     file_name_reader ⊗ λ file file_fits. name_reader ⊗ λ name name_fits. one_byte_reader ⊗ λ priority priority_fits.
-    optional_reader moment_reader ⊗ λ not_before after_fits. truth_reader ⊗ λ hold hold_fits. job_retain_reader ⊗ λ kept retain_fits.
-    truth_reader ⊗ λ restart restart_fits. list_reader name_or_number_reader ⊗ λ characteristics characteristics_fit.
-    optional_reader name_or_number_reader ⊗ λ stock form_fits. one_byte_reader ⊗ λ copies copies_fits. truth_reader ⊗ λ flag flag_fits.
+    optional_reader moment_reader ⊗ λ not_before after_fits. truth_reader ⊗ λ hold hold_fits.
+    job_retain_reader ⊗ λ kept retain_fits. truth_reader ⊗ λ restart restart_fits.
+    list_reader name_or_number_reader ⊗ λ characteristics characteristics_fit.
+    optional_reader name_or_number_reader ⊗ λ stock form_fits. one_byte_reader ⊗ λ copies copies_fits.
+    truth_reader ⊗ λ flag flag_fits.
     composed (record {
       user_fits = user_fits;
       queue_fits = queue_fits;
@@ -236,6 +262,6 @@ job_reader =
       form_fits = form_fits;
       copies_fits = copies_fits;
     }))
-    (λ j. refl) (λ p. refl)
+    (λ j. refl) (λ p fits. refl)
     (λ j fits. fits.user_fits & tt & fits.queue_fits & fits.file_fits & fits.name_fits & fits.priority_fits & fits.after_fits & tt
     & fits.retain_fits & tt & fits.characteristics_fit & fits.form_fits & fits.copies_fits & tt & tt)

@@ -40,11 +40,13 @@ same : (a b : RecordKind) → some_kind a ≡ some_kind b → a ≡ b
 same a b e = cc
 
 -- the kind that one comparison finds, or those behind it
-found_by : (n : ℕ) (there k : RecordKind) (behind : Option RecordKind) (test : Bool) → eqb n (number_of there) ≡ test → (behind ≡ Some k → n ≡ number_of k) → cond test (Some there) behind ≡ Some k → n ≡ number_of k
+found_by : (n : ℕ) (there k : RecordKind) (behind : Option RecordKind) (test : Bool) → eqb n (number_of there) ≡ test
+    → (behind ≡ Some k → n ≡ number_of k) → cond test (Some there) behind ≡ Some k → n ≡ number_of k
 found_by n there k behind true is others h = eqb-true n (number_of there) is ∙ ap number_of (same there k h)
 found_by n there k behind false is others h = others h
 
-tells : (n : ℕ) (there k : RecordKind) {behind : Option RecordKind} → (behind ≡ Some k → n ≡ number_of k) → cond (eqb n (number_of there)) (Some there) behind ≡ Some k → n ≡ number_of k
+tells : (n : ℕ) (there k : RecordKind) {behind : Option RecordKind} → (behind ≡ Some k → n ≡ number_of k)
+    → cond (eqb n (number_of there)) (Some there) behind ≡ Some k → n ≡ number_of k
 tells n there k {behind} others h = found_by n there k behind (eqb n (number_of there)) refl others h
 
 tells_none : (n : ℕ) (k : RecordKind) → None ≡ some_kind k → n ≡ number_of k
@@ -79,15 +81,18 @@ number_back n k =
 abbrev pub KindSpelled : RecordKind → List ℕ → Type 0
 KindSpelled = Spells (λ k. Unit {0}) (λ k. byte (number_of k))
 
-told_kind : (o : Option RecordKind) (bytes rest : List ℕ) (k : RecordKind) → told o bytes ≡ Ok (k, rest) → (o ≡ Some k) × (bytes ≡ rest)
+told_kind : (o : Option RecordKind) (bytes rest : List ℕ) (k : RecordKind) → told o bytes ≡ Ok (k, rest)
+    → (o ≡ Some k) × (bytes ≡ rest)
 told_kind None bytes rest k e = absurd cc
 told_kind (Some other) bytes rest k e = (ap some_kind (same_value other k bytes rest e), same_rest other k bytes rest e)
 
-told_none : (o : Option RecordKind) (bytes : List ℕ) (left : ℕ) → told o bytes ≡ Err left → (o ≡ None) × (suc (length bytes) ≡ left)
+told_none : (o : Option RecordKind) (bytes : List ℕ) (left : ℕ) → told o bytes ≡ Err left
+    → (o ≡ None) × (suc (length bytes) ≡ left)
 told_none None bytes left e = (refl, cc)
 told_none (Some other) bytes left e = absurd cc
 
-kind_takes : (bytes : List ℕ) (k : RecordKind) (rest : List ℕ) → record_kind_at bytes ≡ Ok (k, rest) → (front : List ℕ) × KindSpelled k front × (bytes ≡ front ++ rest)
+kind_takes : (bytes : List ℕ) (k : RecordKind) (rest : List ℕ) → record_kind_at bytes ≡ Ok (k, rest)
+    → (front : List ℕ) × KindSpelled k front × (bytes ≡ front ++ rest)
 unfolding record_kind_at
 kind_takes [] k rest e = absurd cc
 kind_takes (n ∷ bytes) k rest e =

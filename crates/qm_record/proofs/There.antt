@@ -25,14 +25,16 @@ pub all_there : {A : Type 0} (x : A) (rest : List ℕ) → IsThere rest (pure x 
 all_there x rest = (x, refl)
 
 -- a value is made of what is there
-pub made_there : {A B : Type 0} {read : Result (A × List ℕ) ℕ} (make : A → B) {rest : List ℕ} → IsThere rest read → IsThere rest (onward read (λ x. pure (make x)))
+pub made_there : {A B : Type 0} {read : Result (A × List ℕ) ℕ} (make : A → B) {rest : List ℕ} → IsThere rest read
+    → IsThere rest (onward read (λ x. pure (make x)))
 made_there make there = (make there.0, rw there.1 refl)
 
 not_zero : (b : ℕ) → (b ≡ 0 → ⊥) → (b == 0) ≡ false
 not_zero zero h = absurd (h refl)
 not_zero (suc n) h = grind (arith, nat_tests)
 
-pub some_list_there : {A : Type 0} (read : Reader A) (bytes : List ℕ) (b : ℕ) (middle rest : List ℕ) → byte_where (between 0 1) bytes ≡ Ok (b, middle)
+pub some_list_there : {A : Type 0} (read : Reader A) (bytes : List ℕ) (b : ℕ) (middle rest : List ℕ)
+    → byte_where (between 0 1) bytes ≡ Ok (b, middle)
     → (b ≡ 0 → ⊥) → IsThere rest (list_at read middle) → IsThere rest (optional_at (list_at read) bytes)
 unfolding optional_at
 some_list_there read bytes b middle rest first test there = (Some there.0, rw (first, not_zero b test, there.1) refl)

@@ -50,10 +50,12 @@ abbrev pub job_kind_of : ℕ → JobKind
 job_kind_of n = if n == 1 then job.Batch else job.Print
 
 abbrev pub queue_kind_of : ℕ → QueueKind
-queue_kind_of n = if n == 1 then kind.Batch else if n == 2 then kind.Print else if n == 3 then kind.GenericBatch else kind.GenericPrint
+queue_kind_of n =
+    if n == 1 then kind.Batch else if n == 2 then kind.Print else if n == 3 then kind.GenericBatch else kind.GenericPrint
 
 abbrev pub queue_state_of : ℕ → QueueState
-queue_state_of n = if n == 1 then state.Stopped else if n == 2 then state.Started else if n == 3 then state.Paused else state.Stopping
+queue_state_of n =
+    if n == 1 then state.Stopped else if n == 2 then state.Started else if n == 3 then state.Paused else state.Stopping
 
 abbrev pub queue_retain_of : ℕ → QueueRetain
 queue_retain_of n = if n == 0 then keep.Nothing else if n == 1 then keep.Failed else keep.All
@@ -136,7 +138,14 @@ change_at = do
   blocks ← optional_at limits_at
   by_size ← optional_at truth_at
   retain ← optional_at queue_retain_at
-  pure (record { limit = limit; characteristics = characteristics; form = form; blocks = blocks; by_size = by_size; retain = retain })
+  pure (record {
+    limit = limit;
+    characteristics = characteristics;
+    form = form;
+    blocks = blocks;
+    by_size = by_size;
+    retain = retain;
+  })
 
 unfoldable pub new_queue_at : Reader NewQueue
 new_queue_at = do
@@ -164,7 +173,21 @@ queue_at = do
   by_size ← truth_at
   retain ← queue_retain_at
   targets ← list_at name_at
-  pure (record { name = name; kind = kind; state = state; node = node; device = device; limit = limit; characteristics = characteristics; mounted = mounted; lower = lower; upper = upper; by_size = by_size; retain = retain; targets = targets })
+  pure (record {
+    name = name;
+    kind = kind;
+    state = state;
+    node = node;
+    device = device;
+    limit = limit;
+    characteristics = characteristics;
+    mounted = mounted;
+    lower = lower;
+    upper = upper;
+    by_size = by_size;
+    retain = retain;
+    targets = targets;
+  })
 
 -- ---- records
 
@@ -220,7 +243,22 @@ job_at = do
   form ← optional_at name_or_number_at
   copies ← byte_at
   flag ← truth_at
-  pure (record { user = user; kind = kind; queue = queue; file = file; name = name; priority = priority; after = after; hold = hold; retain = retain; restart = restart; characteristics = characteristics; form = form; copies = copies; flag = flag })
+  pure (record {
+    user = user;
+    kind = kind;
+    queue = queue;
+    file = file;
+    name = name;
+    priority = priority;
+    after = after;
+    hold = hold;
+    retain = retain;
+    restart = restart;
+    characteristics = characteristics;
+    form = form;
+    copies = copies;
+    flag = flag;
+  })
 
 unfoldable pub submit_at : Reader Body
 submit_at = job_at >>= λ j. pure (body.Ask (ask.Submit j))
@@ -343,7 +381,8 @@ whole_at bytes = ended (record_at bytes)
 
 -- What stands in front was read, and what is left is the body of this kind; or reading stopped.
 abbrev pub GivesFront : Result Front BadField → List ℕ → Result (Record × List ℕ) ℕ → Type 0
-GivesFront (Ok front) rest read = read ≡ (body_at front.kind >>= λ b. pure (record { moment = front.moment; node = front.node; body = b })) rest
+GivesFront (Ok front) rest read =
+    read ≡ (body_at front.kind >>= λ b. pure (record { moment = front.moment; node = front.node; body = b })) rest
 GivesFront (Err fault) rest read = read ≡ Err fault.left
 
 -- How many bytes are left where no record goes on, once a body was read: none where nothing stands behind it.

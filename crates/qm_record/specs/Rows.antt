@@ -64,11 +64,14 @@ length-queue q fits =
       length-names q.targets fits.targets_fit,
     ))
 
-length-head : (nodes : List Node) (may : List (List ℕ)) (next_entry next_run last : ℕ) → IsList NodeFits nodes → IsList IsName may → length (head nodes may next_entry next_run last) ≤ 5308359
-length-head nodes may next_entry next_run last nodes_fit may_fit = simp length-append (omega (arith, length-nodes nodes nodes_fit, length-names may may_fit))
+length-head : (nodes : List Node) (may : List (List ℕ)) (next_entry next_run last : ℕ) → IsList NodeFits nodes → IsList IsName may
+    → length (head nodes may next_entry next_run last) ≤ 5308359
+length-head nodes may next_entry next_run last nodes_fit may_fit =
+    simp length-append (omega (arith, length-nodes nodes nodes_fit, length-names may may_fit))
 
 length-text : (m n : ℕ) (b : Body) → BodyFits b → IsRow b → length (text_of m n (body_parts b)) ≤ 5308370
-length-text m n (body.Head nodes may next_entry next_run last) fits row = omega (arith, length-head nodes may next_entry next_run last fits.0 fits.1)
+length-text m n (body.Head nodes may next_entry next_run last) fits row =
+    omega (arith, length-head nodes may next_entry next_run last fits.0 fits.1)
 length-text m n (body.Form f) fits row = omega (arith, length-form f fits)
 length-text m n (body.Queue q) fits row = omega (arith, length-queue q fits)
 length-text m n (body.Ask request) fits row = absurd row

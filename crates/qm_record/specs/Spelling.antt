@@ -139,7 +139,8 @@ request_parts (ask.InitializeQueue new) = Some (record_kind.InitializeQueue, new
 request_parts (ask.SetQueue name change) = Some (record_kind.SetQueue, short_bytes name ++ queue_change change)
 request_parts (ask.StartQueue name change) = Some (record_kind.StartQueue, short_bytes name ++ queue_change change)
 request_parts (ask.StopQueue name how) = Some (record_kind.StopQueue, short_bytes name ++ byte (stop_mode_code how))
-request_parts (ask.AbortJob queue_name entry requeue) = Some (record_kind.AbortJob, fields (short_bytes queue_name ∷ optional (low_first 4) entry ∷ truth requeue ∷ []))
+request_parts (ask.AbortJob queue_name entry requeue) =
+    Some (record_kind.AbortJob, fields (short_bytes queue_name ∷ optional (low_first 4) entry ∷ truth requeue ∷ []))
 request_parts (ask.DeleteQueue name) = Some (record_kind.DeleteQueue, short_bytes name)
 request_parts (ask.Merge to from) = Some (record_kind.Merge, short_bytes to ++ short_bytes from)
 request_parts (ask.Submit j) = Some (record_kind.Submit, job_text j)

@@ -4,12 +4,14 @@ use Rattle.qm_bytes.proofs.name.take_name.Goals as goal
 
 pub returns-in-Ok-clause-spelled : goal.returns-in-Ok-clause-spelled
 returns-in-Ok-clause-spelled c =
-    let found = name_found c.args.bytes.now c.split_at.result.1.now c.args.at _ _ c.split_at.ensures.back (omega arith) c.in-Ok.ensures in
+    let found =
+    name_found c.args.bytes.now c.split_at.result.1.now c.args.at _ _ c.split_at.ensures.back (omega arith) c.in-Ok.ensures in
     rw c.as_bytes.ensures.value found.0
 
 pub returns-in-Ok-clause-within : goal.returns-in-Ok-clause-within
 returns-in-Ok-clause-within c =
-    let found = name_found c.args.bytes.now c.split_at.result.1.now c.args.at _ _ c.split_at.ensures.back (omega arith) c.in-Ok.ensures in
+    let found =
+    name_found c.args.bytes.now c.split_at.result.1.now c.args.at _ _ c.split_at.ensures.back (omega arith) c.in-Ok.ensures in
     rw c.as_bytes.ensures.value found.1
 
 pub returns-in-Err-clause-none : goal.returns-in-Err-clause-none

@@ -5,12 +5,14 @@ use Rattle.qm_bytes.proofs.number.take_number.Goals as goal
 
 pub returns-in-Ok-clause-there : goal.returns-in-Ok-clause-there
 returns-in-Ok-clause-there c =
-    let at = found_at c.args.bytes.now c.split_at.result.1.now c.args.at (bytes_of c.args.width) c.in-Ok.number c.in-Ok.field-0-1.now c.split_at.ensures.back (omega arith) c.in-Ok.ensures.value in
+    let at =
+    found_at c.args.bytes.now c.split_at.result.1.now c.args.at (bytes_of c.args.width) c.in-Ok.number c.in-Ok.field-0-1.now c.split_at.ensures.back (omega arith) c.in-Ok.ensures.value in
     (λ h. at.0, λ h. refl)
 
 pub returns-in-Ok-clause-spelled : goal.returns-in-Ok-clause-spelled
 returns-in-Ok-clause-spelled c =
-    let at = found_at c.args.bytes.now c.split_at.result.1.now c.args.at (bytes_of c.args.width) c.in-Ok.number c.in-Ok.field-0-1.now c.split_at.ensures.back (omega arith) c.in-Ok.ensures.value in
+    let at =
+    found_at c.args.bytes.now c.split_at.result.1.now c.args.at (bytes_of c.args.width) c.in-Ok.number c.in-Ok.field-0-1.now c.split_at.ensures.back (omega arith) c.in-Ok.ensures.value in
     rw c.bytes.ensures at.1
 
 pub returns-in-Err-clause-there : goal.returns-in-Err-clause-there
