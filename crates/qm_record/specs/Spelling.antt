@@ -117,14 +117,18 @@ new_queue n = fields (
 -- the fields of a job, in their order
 abbrev pub job_text : Job → List ℕ
 job_text j = fields (
-    short_bytes j.user ∷ byte (job_kind_code j.kind) ∷ short_bytes j.queue ∷ file_name j.file ∷ short_bytes j.name ∷ byte j.priority ∷
-    optional moment j.after ∷ truth j.hold ∷ job_retain j.retain ∷ truth j.restart ∷ list name_or_number j.characteristics ∷
-    optional name_or_number j.form ∷ byte j.copies ∷ truth j.flag ∷ [])
+    short_bytes j.user ∷ byte (job_kind_code j.kind) ∷ short_bytes j.queue ∷ file_name j.file ∷ short_bytes j.name ∷
+    byte j.priority ∷ optional moment j.after ∷ truth j.hold ∷ job_retain j.retain ∷ truth j.restart ∷
+    list name_or_number j.characteristics ∷ optional name_or_number j.form ∷ byte j.copies ∷ truth j.flag ∷ [])
 
 -- what a system has once
 abbrev pub head : List Node → List (List ℕ) → ℕ → ℕ → ℕ → List ℕ
 head nodes may next_entry next_run last = fields (
     list node nodes ∷ list short_bytes may ∷ low_first 4 next_entry ∷ low_first 8 next_run ∷ moment last ∷ [])
+
+-- the queue of a job that is cut short, its entry where one is given, and whether it is queued again
+abbrev pub abort : List ℕ → Option ℕ → Bool → List ℕ
+abort queue_name entry requeue = fields (short_bytes queue_name ∷ optional (low_first 4) entry ∷ truth requeue ∷ [])
 
 -- The kind and the fields of a request that is spelled so far.
 abbrev pub request_parts : Request → Option (RecordKind × List ℕ)
@@ -139,8 +143,7 @@ request_parts (ask.InitializeQueue new) = Some (record_kind.InitializeQueue, new
 request_parts (ask.SetQueue name change) = Some (record_kind.SetQueue, short_bytes name ++ queue_change change)
 request_parts (ask.StartQueue name change) = Some (record_kind.StartQueue, short_bytes name ++ queue_change change)
 request_parts (ask.StopQueue name how) = Some (record_kind.StopQueue, short_bytes name ++ byte (stop_mode_code how))
-request_parts (ask.AbortJob queue_name entry requeue) =
-    Some (record_kind.AbortJob, fields (short_bytes queue_name ∷ optional (low_first 4) entry ∷ truth requeue ∷ []))
+request_parts (ask.AbortJob queue_name entry requeue) = Some (record_kind.AbortJob, abort queue_name entry requeue)
 request_parts (ask.DeleteQueue name) = Some (record_kind.DeleteQueue, short_bytes name)
 request_parts (ask.Merge to from) = Some (record_kind.Merge, short_bytes to ++ short_bytes from)
 request_parts (ask.Submit j) = Some (record_kind.Submit, job_text j)

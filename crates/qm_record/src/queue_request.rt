@@ -1,8 +1,8 @@
 // The records of requests about queues and about the jobs that run in them.
-ghost use Rattle.std.specs.Prelude.{◌≡◌, ◌++◌, [], ◌∷◌, OnOk};
-ghost use Rattle.qm_bytes.specs.Spelling.{short_bytes, byte, fields, optional, low_first, truth, IsName, AllOf};
+ghost use Rattle.std.specs.Prelude.{◌≡◌, ◌++◌, OnOk};
+ghost use Rattle.qm_bytes.specs.Spelling.{short_bytes, byte, IsName, AllOf};
 ghost use Rattle.qm_bytes.specs.Reading.{GivesKept};
-ghost use Rattle.qm_record.specs.Spelling.{new_queue as new_queue_text, queue_change, stop_mode_code, NewQueueFits, ChangeFits, IsEntryNumber, IsShortQueue, IsShortChange};
+ghost use Rattle.qm_record.specs.Spelling.{new_queue as new_queue_text, queue_change, abort, stop_mode_code, NewQueueFits, ChangeFits, IsEntryNumber, IsShortQueue, IsShortChange};
 ghost use Rattle.qm_record.specs.Reading.{change_at, initialize_at, set_queue_at, start_queue_at, stop_queue_at, abort_job_at, delete_queue_at, merge_at};
 
 use crate::element::{
@@ -178,7 +178,7 @@ pub(crate) fn put_abort(
     entry: &Option<u32>,
     requeue: bool,
 ) -> Result<(), AllocError>
-    ensures ok { OnOk result (out.new.items ≡ out.old.items ++ fields (short_bytes queue.now ∷ optional (low_first 4) entry.now ∷ truth requeue ∷ [])) }
+    ensures ok { OnOk result (out.new.items ≡ out.old.items ++ abort queue.now entry.now requeue) }
     ensures queue { OnOk result (IsName queue.now) }
     ensures entry { OnOk result (AllOf IsEntryNumber entry.now) }
 {
