@@ -11,7 +11,7 @@ use Rattle.qm_model.specs.Pages.{lines}
 use Rattle.qm_model.specs.Batch.{BatchMove, move_at, normal_status, line_limit_status}
 use Rattle.qm_model.specs.Reports.{Step, Handed, Reported, line_limit, steps_of, batch_steps, course_of, course, next_report, blocks_before_report}
 use Rattle.qm_symb.specs.Device.{Meaning, Takes, OneFailed, IsQuiet, blocks_of_run}
-use Rattle.qm_symb.specs.Symbiont.{GoesOn, Fails, RunsOut}
+use Rattle.qm_symb.specs.Symbiont.{GoesOn, Fails}
 
 -- ---- the course from a line on, move by move
 
@@ -112,13 +112,6 @@ module _ {D : Type 0} (m : Meaning D) where
       rose = failed ∙ ap (λ n. min (n + 1) (2 ^ 64 - 1)) p.quiet;
     }
 
-    -- memory runs out
-    pub runs_out : (left : List Step) (new : D) → Passed run all left old new → RunsOut m run all old new
-    runs_out left new p = record {
-      blocks = (length p.handed, λ tells. p.took tells ∙ ap (λ l. m.taken old ++ blocks_of_run run l) (sym (front_handed left new p)));
-      quiet = p.quiet;
-    }
-
 -- ---- what calls answered
 
 pub of_ok : {T E Q : Type 0} (r : Result T E) → is_err r ≡ false → OnOk r Q → Q
@@ -128,7 +121,3 @@ of_ok (Err e) none h = absurd (cc)
 pub of_err : {T E Q : Type 0} (r : Result T E) → is_err r ≡ true → OnErr r Q → Q
 of_err (Ok x) some h = absurd (cc)
 of_err (Err e) some h = h
-
-pub if_err : {T E Q : Type 0} (r : Result T E) → Q → OnErr r Q
-if_err (Ok x) h = tt
-if_err (Err e) h = h

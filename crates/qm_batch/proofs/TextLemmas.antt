@@ -1,5 +1,5 @@
 -- The lines of a text, one by one.
-use Rattle.std.proofs.Common.{◌≡◌, ⊎_elim, ℕ, suc, ◌+◌, ◌<◌, ◌≤◌, Bool, true, false, cond, not, List, [], ◌∷◌, length, take, drop, length-drop, Some, None, refl, sym, ◌∙◌, ap, arith}
+use Rattle.std.proofs.Common.{◌≡◌, ⊎_elim, ℕ, suc, ◌+◌, ◌<◌, ◌≤◌, Bool, true, false, cond, not, List, [], ◌∷◌, length, take, drop, length-drop, length-take, Some, None, refl, sym, ◌∙◌, ap, arith}
 use Rattle.std.specs.List.{position, position_or_len, position_from}
 use Rattle.std.proofs.lemmas.Bool.{cases_lt, lt-ltb, le-ltb, le-leb, lt-leb}
 use Rattle.std.proofs.lemmas.List.{drop_all, drop-drop}
@@ -90,6 +90,7 @@ module _ (text : List ℕ) (c : Cursor) (in_text : IsInText text c) where
         first = here ∙ ap (λ l. take bytes rest ∷ l) (sym left);
         count = refl;
         moves = omega (arith, moves);
+        no_longer = omega (arith, length-take bytes rest, ap length is, length-drop c.byte text);
         in_text = record {
           behind = sym left;
           inside = omega (arith, inside, in_text.inside, ap length is, length-drop c.byte text);

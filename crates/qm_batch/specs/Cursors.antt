@@ -20,6 +20,7 @@ pub record IsLineAt (text : List ℕ) (c : Cursor) (line : List ℕ) (next : Cur
   pub first : drop c.line (lines text) ≡ line ∷ drop next.line (lines text)
   pub count : next.line ≡ c.line + 1
   pub moves : c.byte < next.byte
+  pub no_longer : length line ≤ length text
   pub in_text : IsInText text next
 
 -- a cursor in front of the line that a place numbers, or behind the last one

@@ -20,12 +20,12 @@ meaning line.GoToRestart = batch.GoToRestart
 meaning (line.Exit status) = batch.Exit status
 meaning line.Bad = batch.Bad
 
--- a mark that a line sets isn't too long
-abbrev pub IsMarkShort : Line → Type 0
-IsMarkShort line.Nothing = Unit {0}
-IsMarkShort (line.Write text) = Unit {0}
-IsMarkShort (line.SetRestart text) = length text.now ≤ 255
-IsMarkShort (line.GoTo label) = Unit {0}
-IsMarkShort line.GoToRestart = Unit {0}
-IsMarkShort (line.Exit status) = Unit {0}
-IsMarkShort line.Bad = Unit {0}
+-- a text that a line of these bytes writes isn't longer than the line, and a mark that it sets isn't too long
+abbrev pub IsShort : List ℕ → Line → Type 0
+IsShort bytes line.Nothing = Unit {0}
+IsShort bytes (line.Write text) = length text.now ≤ length bytes
+IsShort bytes (line.SetRestart text) = length text.now ≤ 255
+IsShort bytes (line.GoTo label) = Unit {0}
+IsShort bytes line.GoToRestart = Unit {0}
+IsShort bytes (line.Exit status) = Unit {0}
+IsShort bytes line.Bad = Unit {0}

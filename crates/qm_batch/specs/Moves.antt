@@ -14,10 +14,10 @@ move_meaning (made.Output text next) = batch.Output (text.now ++ 10 ∷ []) next
 move_meaning (made.SaveMark text next) = batch.SaveMark text.now next.line
 move_meaning (made.EndRun status) = batch.EndRun status
 
--- a run that goes on does so in its text, and a mark isn't too long
+-- a run that goes on does so in its text; what it writes isn't longer than that, and a mark isn't too long
 abbrev pub StaysWithin : List ℕ → Move → Type 0
 StaysWithin text (made.GoOn next) = IsInText text next
-StaysWithin text (made.Output block next) = IsInText text next
+StaysWithin text (made.Output block next) = (length block.now ≤ length text) × IsInText text next
 StaysWithin text (made.SaveMark mark next) = (length mark.now ≤ 255) × IsInText text next
 StaysWithin text (made.EndRun status) = Unit {0}
 

@@ -2,7 +2,7 @@
 ghost use Rattle.std.specs.Prelude.{◌≡◌, ◌≤◌, ◌++◌, ◌∷◌, [], codes, length, option_map, IfSome};
 ghost use Rattle.std.specs.Option.{option_and_then};
 ghost use Rattle.qm_model.specs.Batch.{batch_line, behind, ahead_of, only_if, has_no_quote, is_mark, is_label, is_label_line, label_of};
-ghost use Rattle.qm_batch.specs.Lines.{meaning, status_of, IsMarkShort};
+ghost use Rattle.qm_batch.specs.Lines.{meaning, status_of, IsShort};
 
 use crate::parts::{ahead_of, behind, has_no_quote, is_label, is_mark, status_of};
 
@@ -27,7 +27,8 @@ pub enum Line<'a> {
 
 // $ WRITE SYS$OUTPUT "text"
 fn written(line: &[u8]) -> Option<&[u8]>
-    ensures { option_map (λ text. text.now) result ≡ option_and_then (only_if has_no_quote) (option_and_then (ahead_of (34 ∷ [])) (behind (codes "$ WRITE SYS$OUTPUT " ++ 34 ∷ []) line.now)) }
+    ensures no_longer { IfSome result (λ text. length text.now ≤ length line.now) }
+    ensures text { option_map (λ text. text.now) result ≡ option_and_then (only_if has_no_quote) (option_and_then (ahead_of (34 ∷ [])) (behind (codes "$ WRITE SYS$OUTPUT " ++ 34 ∷ []) line.now)) }
 {
     let text = ahead_of(b"\"", behind(b"$ WRITE SYS$OUTPUT \"", line)?)?;
     if has_no_quote(text) { Some(text) } else { None }
@@ -80,7 +81,7 @@ fn exit_status(line: &[u8]) -> Option<u32>
 /// OpenVMS User's Manual, on command procedures and `$RESTART`.
 pub fn read_line(line: &[u8]) -> Line
     ensures meaning { meaning result ≡ batch_line line.now }
-    ensures mark { IsMarkShort result }
+    ensures short { IsShort line.now result }
 {
     if line.is_empty() || line.starts_with(b"$!") {
         return Line::Nothing;

@@ -1,5 +1,5 @@
 // The parts of a line: what stands behind a beginning or in front of an end, labels and numbers.
-ghost use Rattle.std.specs.Prelude.{◌≡◌, ◌==◌, option_map};
+ghost use Rattle.std.specs.Prelude.{◌≡◌, ◌==◌, ◌≤◌, length, option_map, IfSome};
 ghost use Rattle.std.specs.List.{list_all, list_any};
 ghost use Rattle.qm_model.specs.Batch.{behind, ahead_of, is_label, is_mark, has_no_quote};
 ghost use Rattle.qm_kinds.specs.Text.{is_name_byte};
@@ -13,7 +13,8 @@ const MARK_BYTES: usize = 255;
 
 /// What stands behind a beginning, where the text begins so.
 pub(crate) fn behind<'a>(beginning: &[u8], text: &'a [u8]) -> Option<&'a [u8]>
-    ensures { option_map (λ rest. rest.now) result ≡ behind beginning.now text.now }
+    ensures rest { option_map (λ rest. rest.now) result ≡ behind beginning.now text.now }
+    ensures no_longer { IfSome result (λ rest. length rest.now ≤ length text.now) }
 {
     if text.starts_with(beginning) {
         Some(&text[beginning.len()..])
@@ -24,7 +25,8 @@ pub(crate) fn behind<'a>(beginning: &[u8], text: &'a [u8]) -> Option<&'a [u8]>
 
 /// What stands in front of an end, where the text ends so.
 pub(crate) fn ahead_of<'a>(end: &[u8], text: &'a [u8]) -> Option<&'a [u8]>
-    ensures { option_map (λ front. front.now) result ≡ ahead_of end.now text.now }
+    ensures front { option_map (λ front. front.now) result ≡ ahead_of end.now text.now }
+    ensures no_longer { IfSome result (λ front. length front.now ≤ length text.now) }
 {
     if text.ends_with(end) {
         Some(&text[..text.len() - end.len()])

@@ -1,10 +1,10 @@
 // One step of a batch job: its lines up to the next report.
-ghost use Rattle.std.specs.Prelude.{◌≡◌, ◌≤◌, ◌+◌, ◌∷◌, ◌++◌, [], nat_le, if◌then◌else◌, length, IfOk, OnErr};
+ghost use Rattle.std.specs.Prelude.{◌≡◌, ◌<◌, ◌≤◌, ◌+◌, ◌∷◌, ◌++◌, [], nat_le, if◌then◌else◌, length, vec_capacity, IfOk, OnErr};
 ghost use Rattle.qm_kinds.specs.declared.entry.JobKind.TheVariants.{Batch};
 ghost use Rattle.qm_model.specs.Pages.{lines};
 ghost use Rattle.qm_model.specs.Reports.{course};
 ghost use Rattle.qm_symb.specs.Device.{Meaning};
-ghost use Rattle.qm_symb.specs.Symbiont.{IfGoesOn, IsWithinLimits, Steps, RunsOut};
+ghost use Rattle.qm_symb.specs.Symbiont.{IfGoesOn, IsWithinLimits, Steps};
 ghost use Rattle.qm_batch.specs.Cursors.{IsInText, Stands};
 
 use crate::cursor::{Cursor, LINE_FEED};
@@ -19,14 +19,15 @@ const LINE_LIMIT: u32 = 10_000;
 // The status of a run that reads too many lines.
 const LINE_LIMIT_STATUS: u32 = 1036;
 
-// The block of a line that is written: its text and a line feed.
-fn block_of(alloc: Global, text: &[u8]) -> Result<Vec<u8>, AllocError>
-    ensures { IfOk result (λ block. block.items ≡ text.now ++ 10 ∷ []) }
+// Spells the block of a line that is written: its text and a line feed.
+fn spell(block: &mut Vec<u8>, text: &[u8])
+    requires { length text.now < vec_capacity block.old }
+    ensures text { block.new.items ≡ text.now ++ 10 ∷ [] }
+    ensures capacity { vec_capacity block.old ≤ vec_capacity block.new }
 {
-    let mut block = Vec::with_capacity(alloc, text.len() + 1)?;
-    block.extend_from_slice(text)?;
-    block.push(LINE_FEED)?;
-    Ok(block)
+    block.clear();
+    block.extend_from_slice(text).unwrap();
+    block.push_reserved(LINE_FEED);
 }
 
 // The report of a mark, of a run that goes on at a cursor and has read so many lines.
@@ -62,8 +63,8 @@ fn status_at_limit(work: &Work, here: Cursor) -> u32
 /// 10,000 lines would be read since `batch_begin`. The cursor has to stand at the place, and stands behind a mark where
 /// the run goes on.
 ///
-/// Where the device fails the run ends with status `DEVICE_FAULT_STATUS`. At want of memory first ones of the blocks were
-/// handed over, and the cursor stands where it stood. Memory is wanted for one block at a time.
+/// Where the device fails the run ends with status `DEVICE_FAULT_STATUS`. At want of memory nothing was handed over, and
+/// the cursor stands where it stood. Memory is wanted once, before the first block: one byte more than the text has.
 ///
 /// It looks at a line as often as the run comes to it, and at the text in front of a label as often as the run goes there.
 ///
@@ -80,15 +81,16 @@ pub fn batch_step<P: Device>(
     requires place { Stands work.now at cursor.old }
     ensures stepped { IfOk result (λ report. Steps P.meaning work.now.run (course work.now at) report device.old device.new) }
     ensures next_place { IfOk result (λ report. IfGoesOn report (λ next. Stands work.now next cursor.new)) }
-    ensures no_memory { OnErr result (RunsOut P.meaning work.now.run (course work.now at) device.old device.new) }
+    ensures no_memory { OnErr result (device.new ≡ device.old) }
     ensures same_place { OnErr result (cursor.new ≡ cursor.old) }
 {
+    let mut block = Vec::with_capacity(alloc, work.text.len() + 1)?;
     let mut here = *cursor;
     for used in at.used..LINE_LIMIT {
         match move_at(work, here) {
             Move::GoOn(next) => here = next,
             Move::Output(text, next) => {
-                let block = block_of(alloc, text)?;
+                spell(&mut block, text);
                 if device.hand(work.run, &work.device, &block).is_err() {
                     return Ok(Report::Done {
                         status: DEVICE_FAULT_STATUS,

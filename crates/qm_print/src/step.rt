@@ -4,7 +4,7 @@ ghost use Rattle.qm_kinds.specs.declared.entry.JobKind.TheVariants.{Print};
 ghost use Rattle.qm_model.specs.Pages.{page_blocks};
 ghost use Rattle.qm_model.specs.Reports.{course, print_report};
 ghost use Rattle.qm_symb.specs.Device.{Meaning};
-ghost use Rattle.qm_symb.specs.Symbiont.{IsWithinLimits, Steps, RunsOut};
+ghost use Rattle.qm_symb.specs.Symbiont.{IsWithinLimits, Steps};
 ghost use Rattle.qm_print.specs.Places.{blocks_from};
 
 use crate::cursor::{Cursor, next_block};
@@ -67,9 +67,8 @@ pub fn print_step<P: Device>(
     requires place { blocks_from work.now cursor.old ≡ drop at.at (page_blocks work.now) }
     ensures stepped { IfOk result (λ report. Steps P.meaning work.now.run (course work.now at) report device.old device.new) }
     ensures next_place { OnOk result (blocks_from work.now cursor.new ≡ drop (at.at + 1) (page_blocks work.now)) }
-    ensures no_memory { OnErr result (RunsOut P.meaning work.now.run (course work.now at) device.old device.new) }
+    ensures no_memory { OnErr result (device.new ≡ device.old) }
     ensures same_place { OnErr result (cursor.new ≡ cursor.old) }
-    ensures untouched { OnErr result (device.new ≡ device.old) }
 {
     let Some(block) = next_block(alloc, work, cursor)? else {
         return Ok(Report::Done {

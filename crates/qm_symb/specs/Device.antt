@@ -19,10 +19,6 @@ module _ {D : Type 0} (m : Meaning D) where
   abbrev pub Takes : ℕ → List (List ℕ) → D → D → Type 0
   Takes run blocks old new = IsTrue m.tells → m.taken new ≡ m.taken old ++ blocks_of_run run blocks
 
-  -- a run handed over first ones of these blocks: none, some or all
-  abbrev pub TakesSome : ℕ → List (List ℕ) → D → D → Type 0
-  TakesSome run blocks old new = (count : ℕ) × Takes run (take count blocks) old new
-
   -- a run handed over first ones of these blocks, and not all
   abbrev pub TakesNotAll : ℕ → List (List ℕ) → D → D → Type 0
   TakesNotAll run blocks old new = (count : ℕ) × (count < length blocks) × Takes run (take count blocks) old new

@@ -5,7 +5,7 @@ use Rattle.qm_kinds.specs.declared.work.Place.{Place}
 use Rattle.qm_kinds.specs.declared.work.Report.{Report}
 use Rattle.qm_kinds.specs.declared.work.Report.TheVariants.{Done, Mark}
 use Rattle.qm_model.specs.Reports.{Step, next_report, blocks_before_report}
-use Rattle.qm_symb.specs.Device.{Meaning, Takes, TakesSome, TakesNotAll, OneFailed, IsQuiet}
+use Rattle.qm_symb.specs.Device.{Meaning, Takes, TakesNotAll, OneFailed, IsQuiet}
 use Rattle.qm_symb.specs.declared.symbiont.TheConstants.{DEVICE_FAULT_STATUS, TEXT_BYTES}
 
 -- a page has a row and a column between its margins, and the text isn't too long
@@ -35,8 +35,3 @@ module _ {D : Type 0} (m : Meaning D) where
   -- a step that gives a report
   abbrev pub Steps : ℕ → List Step → Report → D → D → Type 0
   Steps run course report old new = GoesOn run course report old new ⊎ Fails run course report old new
-
-  -- a step that gives none, since memory ran out: the device didn't fail
-  pub record RunsOut (run : ℕ) (course : List Step) (old new : D) : Type 0 where
-    pub blocks : TakesSome m run (blocks_before_report course) old new
-    pub quiet : IsQuiet m old new

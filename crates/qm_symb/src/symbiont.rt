@@ -4,7 +4,7 @@ ghost use Rattle.qm_kinds.specs.declared.work.Work.{Work};
 ghost use Rattle.qm_kinds.specs.declared.work.Place.{Place};
 ghost use Rattle.qm_model.specs.Reports.{begin, course};
 ghost use Rattle.qm_symb.specs.Device.{Meaning};
-ghost use Rattle.qm_symb.specs.Symbiont.{IfGoesOn, IsWithinLimits, Steps, RunsOut};
+ghost use Rattle.qm_symb.specs.Symbiont.{IfGoesOn, IsWithinLimits, Steps};
 
 use qm_kinds::{Place, Report, Work};
 use std::alloc::AllocError;
@@ -53,8 +53,7 @@ pub trait Symbiont {
     /// Where a device fails the report is the end of the run with status `DEVICE_FAULT_STATUS`, and the blocks from
     /// the one on at which it failed aren't handed over. The device's count rises in no other step.
     ///
-    /// At want of memory first ones of the blocks were handed over, and the cursor stands where it stood: the step can be
-    /// made again, and then hands these over again.
+    /// At want of memory nothing was handed over, and the cursor stands where it stood: the step can be made again.
     fn step(
         &mut self,
         work: &Work,
@@ -65,6 +64,6 @@ pub trait Symbiont {
         requires place { stands work.now at cursor.old }
         ensures stepped { IfOk result (λ report. Steps meaning work.now.run (course work.now at) report self.old self.new) }
         ensures next_place { IfOk result (λ report. IfGoesOn report (λ next. stands work.now next cursor.new)) }
-        ensures no_memory { OnErr result (RunsOut meaning work.now.run (course work.now at) self.old self.new) }
+        ensures no_memory { OnErr result (self.new ≡ self.old) }
         ensures same_place { OnErr result (stands work.now at cursor.new) };
 }
