@@ -1,10 +1,19 @@
 -- What a line that was read means.
-use Rattle.std.specs.Prelude.{◌≤◌, ℕ, List, length, if◌then◌else◌, Option, None, Some}
+use Rattle.std.specs.Prelude.{◌≤◌, ℕ, List, [], ◌∷◌, ◌++◌, codes, length, if◌then◌else◌, Option, None, Some}
+use Rattle.std.specs.Option.{option_and_then}
 use Rattle.qm_model.specs.Texts.{value_of}
-use Rattle.qm_model.specs.Batch.{BatchLine, is_status}
+use Rattle.qm_model.specs.Batch.{BatchLine, is_mark, is_status, has_no_quote, only_if, behind, ahead_of}
 use Rattle.qm_model.specs.Batch as batch
 use Rattle.qm_batch.specs.declared.line.Line.{Line}
 use Rattle.qm_batch.specs.declared.line.Line.TheVariants as line
+
+-- the text that a line writes
+abbrev pub text_written : List ℕ → Option (List ℕ)
+text_written line = option_and_then (only_if has_no_quote) (option_and_then (ahead_of (34 ∷ [])) (behind (codes "$ WRITE SYS$OUTPUT " ++ 34 ∷ []) line))
+
+-- the mark that a line sets
+abbrev pub mark_set : List ℕ → Option (List ℕ)
+mark_set line = option_and_then (only_if is_mark) (behind (codes "$ SET RESTART_VALUE = ") line)
 
 -- the status that a text says
 abbrev pub status_of : List ℕ → Option ℕ

@@ -1,10 +1,14 @@
 // The lines of batch jobs, each with what it asks for.
-ghost use Rattle.std.specs.Prelude.{◌≡◌, ◌≤◌, ◌++◌, ◌∷◌, [], codes, length, option_map, IfSome};
+ghost use Rattle.std.specs.Prelude.{◌≡◌, ◌≤◌, codes, length, option_map, IfSome};
 ghost use Rattle.std.specs.Option.{option_and_then};
-ghost use Rattle.qm_model.specs.Batch.{batch_line, behind, ahead_of, only_if, has_no_quote, is_mark, is_label, is_label_line, label_of};
-ghost use Rattle.qm_batch.specs.Lines.{meaning, status_of, IsShort};
+ghost use Rattle.qm_model.specs.Batch.{batch_line, behind, only_if, is_label, is_label_line, label_of};
+ghost use Rattle.qm_batch.specs.Lines.{meaning, text_written, mark_set, status_of, IsShort};
 
-use crate::parts::{ahead_of, behind, has_no_quote, is_label, is_mark, status_of};
+use crate::parts::{ahead_of, behind, has_no_quote, is_label, is_mark};
+use qm_digits::plain_number_up_to;
+
+// A status has 32 bits.
+const STATUS_LIMIT: u64 = 4_294_967_295;
 
 /// What a line asks for.
 #[derive(Clone, Copy)]
@@ -28,7 +32,7 @@ pub enum Line<'a> {
 // $ WRITE SYS$OUTPUT "text"
 fn written(line: &[u8]) -> Option<&[u8]>
     ensures no_longer { IfSome result (λ text. length text.now ≤ length line.now) }
-    ensures text { option_map (λ text. text.now) result ≡ option_and_then (only_if has_no_quote) (option_and_then (ahead_of (34 ∷ [])) (behind (codes "$ WRITE SYS$OUTPUT " ++ 34 ∷ []) line.now)) }
+    ensures text { option_map (λ text. text.now) result ≡ text_written line.now }
 {
     let text = ahead_of(b"\"", behind(b"$ WRITE SYS$OUTPUT \"", line)?)?;
     if has_no_quote(text) { Some(text) } else { None }
@@ -37,7 +41,7 @@ fn written(line: &[u8]) -> Option<&[u8]>
 // $ SET RESTART_VALUE = text
 fn restart_value(line: &[u8]) -> Option<&[u8]>
     ensures few { IfSome result (λ text. length text.now ≤ 255) }
-    ensures value { option_map (λ text. text.now) result ≡ option_and_then (only_if is_mark) (behind (codes "$ SET RESTART_VALUE = ") line.now) }
+    ensures value { option_map (λ text. text.now) result ≡ mark_set line.now }
 {
     let text = behind(b"$ SET RESTART_VALUE = ", line)?;
     if is_mark(text) { Some(text) } else { None }
@@ -73,7 +77,8 @@ fn destination(line: &[u8]) -> Option<&[u8]>
 fn exit_status(line: &[u8]) -> Option<u32>
     ensures { result ≡ option_and_then status_of (behind (codes "$ EXIT ") line.now) }
 {
-    status_of(behind(b"$ EXIT ", line)?)
+    let status = plain_number_up_to(STATUS_LIMIT, behind(b"$ EXIT ", line)?)?;
+    Some(status as u32)
 }
 
 /// What a line asks for.

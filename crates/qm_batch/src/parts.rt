@@ -3,7 +3,6 @@ ghost use Rattle.std.specs.Prelude.{◌≡◌, ◌==◌, ◌≤◌, length, opti
 ghost use Rattle.std.specs.List.{list_all, list_any};
 ghost use Rattle.qm_model.specs.Batch.{behind, ahead_of, is_label, is_mark, has_no_quote};
 ghost use Rattle.qm_kinds.specs.Text.{is_name_byte};
-ghost use Rattle.qm_batch.specs.Lines.{status_of};
 
 const QUOTE: u8 = 34;
 
@@ -72,25 +71,4 @@ pub(crate) fn has_no_quote(text: &[u8]) -> bool
     ensures { result ≡ has_no_quote text.now }
 {
     !has_quote(text)
-}
-
-/// The status that digits say, where there are some, none is a 0 in front of others, and the status has 32 bits.
-pub(crate) fn status_of(text: &[u8]) -> Option<u32>
-    ensures { result ≡ status_of text.now }
-{
-    if text.is_empty() || text.len() > 1 && text[0] == b'0' {
-        return None;
-    }
-    let mut value: u64 = 0;
-    for byte in text {
-        if !byte.is_ascii_digit() {
-            return None;
-        }
-        value = (value * 10 + (*byte - b'0') as u64).min(4_294_967_296);
-    }
-    if value > 4_294_967_295 {
-        None
-    } else {
-        Some(value as u32)
-    }
 }

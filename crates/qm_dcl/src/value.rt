@@ -1,14 +1,14 @@
 // What the values of commands say.
 ghost use Rattle.std.specs.Prelude.{◌≡◌, ◌<◌, ◌≤◌, ◌^◌, ◌==◌, IfSome, length, position};
-ghost use Rattle.std.specs.List.{AllPass, list_all};
+ghost use Rattle.std.specs.List.{list_all};
 ghost use Rattle.std.specs.Char.{is_ascii_digit};
-ghost use Rattle.std.specs.Option.{SomeIff, option_copied};
+ghost use Rattle.std.specs.Option.{option_copied};
 ghost use Rattle.std.specs.Str.{bytes_eq};
 ghost use Rattle.qm_grammar.specs.Spelled.{is_raised_to};
 ghost use Rattle.qm_model.specs.Built.{is_definable};
-ghost use Rattle.qm_model.specs.Texts.{value_of};
 ghost use Rattle.qm_dcl.specs.Values.{unquoted, said_by, raised_by, are_digits, number_to, byte_said, form_number_said, entry_said, blocks_said, short_name_said, definable_name_said, node_said, reference_said, form_said, characteristic_said, before_colon, device_said, located, location_said, leads_to_equals, has_equals, schedule_said, side_said};
 
+use qm_digits::number_up_to;
 use qm_grammar::bytes_of;
 use qm_kinds::{NODE_NAME_BYTES, Name, NameOrNumber, SHORT_NAME_BYTES};
 use qm_lex::{Token, TokenKind};
@@ -87,32 +87,16 @@ pub(crate) fn are_digits(said: &[u8]) -> bool
     all_digits(said) && !said.is_empty()
 }
 
-// The value of digits, where it is below 2 ^ 32.
-fn value_of(digits: &[u8]) -> Option<u32>
-    requires { AllPass is_ascii_digit digits.now }
-    ensures { SomeIff result (value_of digits.now < 2 ^ 32) (value_of digits.now) }
-{
-    let mut value: u32 = 0;
-    for digit in digits {
-        value = value
-            .checked_mul(10)?
-            .checked_add(u32::from(*digit - b'0'))?;
-    }
-    Some(value)
-}
-
-// The number that digits say, where it isn't above the most.
+// The number that digits say, one at least, where it isn't above the most. Zeros may stand in front.
 fn number_to(most: u32, said: &[u8]) -> Option<u32>
     ensures value { result ≡ number_to most said.now }
     ensures within { IfSome result (λ number. number ≤ most) }
 {
-    if !are_digits(said) {
+    if said.is_empty() {
         return None;
     }
-    match value_of(said) {
-        Some(number) if number <= most => Some(number),
-        _ => None,
-    }
+    let number = number_up_to(u64::from(most), said)?;
+    Some(number as u32)
 }
 
 /// A number of a field of 8 bits. Zeros may stand in front.

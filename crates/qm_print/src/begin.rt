@@ -8,6 +8,7 @@ ghost use Rattle.qm_print.specs.Places.{blocks_from};
 
 use crate::cursor::Cursor;
 use crate::page::behind_page;
+use qm_digits::number_up_to;
 use qm_kinds::{Place, Shape, Work};
 
 // How many pages a text has.
@@ -40,15 +41,10 @@ fn count_blocks(work: &Work) -> u32
 fn printed(blocks: u32, mark: &[u8]) -> u32
     ensures { result ≡ printed blocks mark.now }
 {
-    let most = blocks as u64;
-    let mut value = 0;
-    for byte in mark {
-        if !byte.is_ascii_digit() {
-            return 0;
-        }
-        value = (value * 10 + (*byte - b'0') as u64).min(most + 1);
+    match number_up_to(blocks as u64, mark) {
+        Some(count) => count as u32,
+        None => 0,
     }
-    if value > most { 0 } else { value as u32 }
 }
 
 /// The place where a run of a print job begins: behind as many blocks as its mark says. It takes no memory.
