@@ -1,6 +1,6 @@
 // std's readers and writers as a source and a sink. They tell no bytes, since a file or a terminal
 // tells none, and they count their faults.
-ghost use Rattle.std.specs.Prelude.{◌≡◌, ◌==◌, ◌&&◌, ◌<◌, ◌≤◌, nat_lt, length, take, true, false, IfOk, OnOk, OnErr, None, Ok};
+ghost use Rattle.std.specs.Prelude.{◌≡◌, ◌==◌, ◌&&◌, ◌<◌, ◌≤◌, nat_lt, length, take, true, false, is_err, IfOk, OnOk, OnErr, None, Ok};
 ghost use Rattle.std.specs.Io.KnownBytes.{Appends, Consumes, IsAtEnd, Keeps};
 ghost use Rattle.qm_io.specs.Adapters.{reader_of, is_ended, input_faults, writer_of, is_lost, output_faults};
 ghost use Rattle.qm_io.specs.Bytes.{TakesSome};
@@ -116,9 +116,8 @@ impl<W: Write> Sink for OutputSink<W> {
         ensures failed { OnErr result (TakesSome
             (W.contents (writer_of self.old)) (W.contents (writer_of self.new)) piece.now) }
 
-        ensures lost { OnErr result (is_lost self.new ≡ true) }
+        ensures lost { is_lost self.new ≡ is_err result }
         ensures behind { OnOk result (is_lost self.old ≡ false) }
-        ensures kept { OnOk result (is_lost self.new ≡ false) }
         ensures untouched { is_lost self.old ≡ true → writer_of self.new ≡ writer_of self.old }
 
         ensures quiet { OnOk result (output_faults self.new ≡ output_faults self.old) }
