@@ -3,7 +3,7 @@ use Rattle.std.proofs.Common.{◌≡◌, ◌≢◌, ◌⊎◌, inl, inr, refl, s
 use Rattle.std.specs.Prelude.{MatchBool, Result, Ok, Err, is_ok, OnOk}
 use Rattle.std.proofs.lemmas.Bool.{cases_eq, eq-eqb, ne_eqb}
 use Rattle.std.specs.declared.alloc.Global.{Global}
-use Rattle.qm_disk.specs.Disk.{Image, IsLeft, Follows, Torn, Cut}
+use Rattle.qm_disk.specs.Disk.{CrashState, IsLeft, Follows, Torn, Cut}
 use Rattle.qm_disk.specs.Calls.{changed, replayed, Outcome, first_of, reading_of, LeftOf, LeftSince, ReadsOthers, Notes, IsWrite, IsTruncate, Syncs}
 use Rattle.qm_disk.specs.Crash.{replayed-push, Outcomes-push, push-Outcomes, nothing_else, keeps, torn_none, cut_none, reads_left}
 use Rattle.qm_disk.specs.declared.calls.Change.{Change}
@@ -76,8 +76,8 @@ others_no_fewer first old new file (inr none) f other c left = subst (λ (l : Li
 -- time goes on
 pub record Time (first : List (Vec ℕ Global)) (old new : List Call) : Type 0 where
   pub later : length old ≤ length new
-  pub nothing_else : (t : ℕ) (image : Image) → t ≤ length old → LeftSince first new t image → LeftSince first old t image ⊎ IsLeft (LeftOf first new) image
-  pub keeps : (t : ℕ) (image : Image) → t ≤ length old → LeftSince first old t image → LeftSince first new t image
+  pub nothing_else : (t : ℕ) (crashed : CrashState) → t ≤ length old → LeftSince first new t crashed → LeftSince first old t crashed ⊎ IsLeft (LeftOf first new) crashed
+  pub keeps : (t : ℕ) (crashed : CrashState) → t ≤ length old → LeftSince first old t crashed → LeftSince first new t crashed
 
 pub time_of : (first : List (Vec ℕ Global)) (old new : List Call) (file : ℕ) → MayJoin file old new → Time first old new
 time_of first old new file (inl join) = subst (Time first old) (sym join.1) (record {
@@ -87,8 +87,8 @@ time_of first old new file (inl join) = subst (Time first old) (sym join.1) (rec
 })
 time_of first old new file (inr none) = subst (Time first old) (sym none) (record {
   later = omega arith;
-  nothing_else = λ t image le left. inl left;
-  keeps = λ t image le left. left;
+  nothing_else = λ t crashed le left. inl left;
+  keeps = λ t crashed le left. left;
 })
 
 -- a call that changes nothing joined the record, or none did

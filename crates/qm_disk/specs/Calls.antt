@@ -2,7 +2,7 @@
 use Rattle.std.specs.Prelude.{◌⊎◌, ◌≡◌, ◌≢◌, ℕ, ◌-◌, ◌/◌, ◌≤◌, ◌==◌, Bool, true, false, if◌then◌else◌, List, [], ◌∷◌, ◌++◌, length, take, replicate, slice_index_or, map, Option, Some, None, Vec}
 use Rattle.std.specs.Prelude.{MatchBool}
 use Rattle.std.specs.declared.alloc.Global.{Global}
-use Rattle.qm_disk.specs.Disk.{Image, spliced, Torn, Cut, IsLeft}
+use Rattle.qm_disk.specs.Disk.{CrashState, spliced, Torn, Cut, IsLeft}
 use Rattle.qm_disk.specs.declared.calls.Change.{Change}
 use Rattle.qm_disk.specs.declared.calls.Change.TheVariants.{Look, Write, Truncate, Sync}
 use Rattle.qm_disk.specs.declared.calls.Call.{Call}
@@ -61,27 +61,27 @@ reading_of first changed f = reading (first_of first f) (slice_index_or changed 
 abbrev pub LeftOf : List (Vec ℕ Global) → List Call → ℕ → List ℕ → Type 0
 LeftOf first calls f = Outcomes f calls (first_of first f) (λ c. c ≡ first_of first f)
 
--- the images that a crash after the call number t, or after a later one, may have left
-abbrev pub LeftSince : List (Vec ℕ Global) → List Call → ℕ → Image → Type 0
-LeftSince first calls t image = (k : ℕ) × (t ≤ k) × (k ≤ length calls) × IsLeft (LeftOf first (take k calls)) image
+-- the states that a crash after the call number t, or after a later one, may have left
+abbrev pub LeftSince : List (Vec ℕ Global) → List Call → ℕ → CrashState → Type 0
+LeftSince first calls t kept = (k : ℕ) × (t ≤ k) × (k ≤ length calls) × IsLeft (LeftOf first (take k calls)) kept
 
 -- how many of n bytes a write leaves in a crash of kind 1, all of them, or 2, its first half
 abbrev pub part : ℕ → ℕ → ℕ
 part pick n = if pick == 1 then n else n / 2
 
--- what becomes of an image by a change, where a crash of kind 0 leaves no change
+-- what becomes by a change of what a crash keeps, where a crash of kind 0 leaves no change
 abbrev pub crash_changed : ℕ → Change → List ℕ → List ℕ → List ℕ
-crash_changed pick Look content image = image
-crash_changed pick (Write at bytes held) content image =
-    if pick == 0 then image else spliced at (take (part pick (length bytes.items)) bytes.items) (padded at image)
-crash_changed pick (Truncate size held) content image = if pick == 0 then image else take size image
-crash_changed pick (Sync held) content image = if held then content else image
+crash_changed pick Look content kept = kept
+crash_changed pick (Write at bytes held) content kept =
+    if pick == 0 then kept else spliced at (take (part pick (length bytes.items)) bytes.items) (padded at kept)
+crash_changed pick (Truncate size held) content kept = if pick == 0 then kept else take size kept
+crash_changed pick (Sync held) content kept = if held then content else kept
 
--- the image of this kind of one file: its content at its last sync that held, or at the making, with the later changes
+-- what a crash of this kind keeps of one file: its content at its last sync that held, or at the making, with the later changes
 abbrev pub crashed : ℕ → ℕ → List Call → List ℕ → List ℕ → List ℕ
-crashed pick f [] content image = image
-crashed pick f (call ∷ calls) content image =
-    crashed pick f calls (content_after f content call) (if call.file == f then crash_changed pick call.change content image else image)
+crashed pick f [] content kept = kept
+crashed pick f (call ∷ calls) content kept =
+    crashed pick f calls (content_after f content call) (if call.file == f then crash_changed pick call.change content kept else kept)
 
 -- the change is such a write
 abbrev pub IsWrite : ℕ → List ℕ → Change → Type 0

@@ -4,7 +4,7 @@ use Rattle.std.proofs.Common.{inl, inr, refl, sym, ◌∙◌, ap, subst, arith, 
 use Rattle.std.proofs.lemmas.List.{length-replicate, append-nil, take-append-le, take-take, take_all, drop_all, drop-drop, drop_at, append_assoc}
 use Rattle.std.proofs.lemmas.Bool.{cases_lt}
 use Rattle.std.specs.declared.alloc.Global.{Global}
-use Rattle.qm_disk.specs.Disk.{Image, spliced, Torn, Cut, IsLeft}
+use Rattle.qm_disk.specs.Disk.{CrashState, spliced, Torn, Cut, IsLeft}
 use Rattle.qm_disk.specs.Calls.{padded, changed, content_after, replayed, Outcome, Outcomes, first_of, reading_of, LeftOf, LeftSince}
 use Rattle.qm_disk.specs.declared.calls.Change.{Change}
 use Rattle.qm_disk.specs.declared.calls.Change.TheVariants.{Look, Write, Truncate, Sync}
@@ -117,31 +117,31 @@ replayed_is_left f (call ∷ calls) content old was =
     replayed_is_left f calls (content_after f content call) (AfterCall f call content old) (after_is_left (call.file == f) call.change content old was)
 
 -- the laws of the moment
-pub left_now : (first : List (Vec ℕ Global)) (calls : List Call) (t : ℕ) (image : Image) → t ≤ length calls → IsLeft (LeftOf first calls) image → LeftSince first calls t image
-left_now first calls t image le left =
-    (length calls, le, omega arith, subst (λ (l : List Call). IsLeft (LeftOf first l) image) (sym (take_all (length calls) calls (omega arith))) left)
+pub left_now : (first : List (Vec ℕ Global)) (calls : List Call) (t : ℕ) (crashed : CrashState) → t ≤ length calls → IsLeft (LeftOf first calls) crashed → LeftSince first calls t crashed
+left_now first calls t crashed le left =
+    (length calls, le, omega arith, subst (λ (l : List Call). IsLeft (LeftOf first l) crashed) (sym (take_all (length calls) calls (omega arith))) left)
 
-pub left_only_now : (first : List (Vec ℕ Global)) (calls : List Call) (image : Image) → LeftSince first calls (length calls) image → IsLeft (LeftOf first calls) image
-left_only_now first calls image left =
+pub left_only_now : (first : List (Vec ℕ Global)) (calls : List Call) (crashed : CrashState) → LeftSince first calls (length calls) crashed → IsLeft (LeftOf first calls) crashed
+left_only_now first calls crashed left =
     let all : length calls ≤ left.0 = omega (arith, left.1) in
-    subst (λ (l : List Call). IsLeft (LeftOf first l) image) (take_all left.0 calls all) left.3
+    subst (λ (l : List Call). IsLeft (LeftOf first l) crashed) (take_all left.0 calls all) left.3
 
 -- one call more takes time
 module _ (first : List (Vec ℕ Global)) (calls : List Call) (call : Call) where
   earlier : (k : ℕ) → k ≤ length calls → take k (calls ++ call ∷ []) ≡ take k calls
   earlier k le = take-append-le k calls (call ∷ []) le
 
-  pub nothing_else : (t : ℕ) (image : Image) → t ≤ length calls → LeftSince first (calls ++ call ∷ []) t image → LeftSince first calls t image ⊎ IsLeft (LeftOf first (calls ++ call ∷ [])) image
-  nothing_else t image le left = elim (cases_lt (length calls) left.0) [
-    | inr before ↦ inl (left.0, left.1, before, subst (λ (l : List Call). IsLeft (LeftOf first l) image) (earlier left.0 before) left.3)
-    | inl now ↦ inr (subst (λ (l : List Call). IsLeft (LeftOf first l) image) (take_all left.0 (calls ++ call ∷ []) (omega (arith, length-append calls (call ∷ [])))) left.3)
+  pub nothing_else : (t : ℕ) (crashed : CrashState) → t ≤ length calls → LeftSince first (calls ++ call ∷ []) t crashed → LeftSince first calls t crashed ⊎ IsLeft (LeftOf first (calls ++ call ∷ [])) crashed
+  nothing_else t crashed le left = elim (cases_lt (length calls) left.0) [
+    | inr before ↦ inl (left.0, left.1, before, subst (λ (l : List Call). IsLeft (LeftOf first l) crashed) (earlier left.0 before) left.3)
+    | inl now ↦ inr (subst (λ (l : List Call). IsLeft (LeftOf first l) crashed) (take_all left.0 (calls ++ call ∷ []) (omega (arith, length-append calls (call ∷ [])))) left.3)
   ]
 
-  pub keeps : (t : ℕ) (image : Image) → t ≤ length calls → LeftSince first calls t image → LeftSince first (calls ++ call ∷ []) t image
-  keeps t image le left =
+  pub keeps : (t : ℕ) (crashed : CrashState) → t ≤ length calls → LeftSince first calls t crashed → LeftSince first (calls ++ call ∷ []) t crashed
+  keeps t crashed le left =
       let longer : length calls ≤ length (calls ++ call ∷ []) = omega (arith, length-append calls (call ∷ [])) in
       let within : left.0 ≤ length (calls ++ call ∷ []) = omega (arith, left.2) in
-      (left.0, left.1, within, subst (λ (l : List Call). IsLeft (LeftOf first l) image) (sym (earlier left.0 left.2)) left.3)
+      (left.0, left.1, within, subst (λ (l : List Call). IsLeft (LeftOf first l) crashed) (sym (earlier left.0 left.2)) left.3)
 
 pub reads_left : (first : List (Vec ℕ Global)) (changed_to : List (Option (Vec ℕ Global))) (calls : List Call) (f : ℕ)
     → reading_of first changed_to f ≡ replayed f calls (first_of first f) → LeftOf first calls f (reading_of first changed_to f)

@@ -2,8 +2,8 @@
 use Rattle.std.specs.Prelude.{◌≡◌, ◌≢◌, ◌⊎◌, ℕ, ◌+◌, ◌-◌, ◌^◌, ◌≤◌, min, max, Bool, List, ◌++◌, length, take, drop}
 
 -- a content for each of the files 0, 1 and 2
-abbrev pub Image : Type 0
-Image = ℕ → List ℕ
+abbrev pub CrashState : Type 0
+CrashState = ℕ → List ℕ
 
 -- What disks of one type mean: all that the contract of their calls speaks of.
 pub record Meaning (D : Type 0) : Type 1 where
@@ -11,12 +11,12 @@ pub record Meaning (D : Type 0) : Type 1 where
   pub tells : Bool
   -- what each file reads
   pub seen : D → ℕ → List ℕ
-  -- what a crash at this moment may leave of each file; an image has one of these of each
+  -- what a crash at this moment may leave of each file; a crash state has one of these of each
   pub may_leave : D → ℕ → List ℕ → Type 0
   -- the moment, one number for all three files, which doesn't fall and which calls raise
   pub moment : D → ℕ
-  -- the images that a crash at some moment since that one may have left, during a call or between two
-  pub left_since : D → ℕ → Image → Type 0
+  -- the states that a crash at some moment since that one may have left, during a call or between two
+  pub left_since : D → ℕ → CrashState → Type 0
   -- how many calls failed
   pub faults : D → ℕ
 
@@ -44,13 +44,13 @@ Follows step old new = (c : List ℕ) → new c → (d : List ℕ) × old d × s
 abbrev pub Only : List ℕ → (List ℕ → Type 0) → Type 0
 Only content outcomes = (c : List ℕ) → outcomes c → c ≡ content
 
--- the image has of each file one of the contents that a crash may leave of that file
-abbrev pub IsLeft : (ℕ → List ℕ → Type 0) → Image → Type 0
-IsLeft may_leave image = (f : ℕ) → f ≤ 2 → may_leave f (image f)
+-- the crash state has of each file one of the contents that a crash may leave of that file
+abbrev pub IsLeft : (ℕ → List ℕ → Type 0) → CrashState → Type 0
+IsLeft may_leave crashed = (f : ℕ) → f ≤ 2 → may_leave f (crashed f)
 
--- the image has of the files other than this one what a crash may leave of them
-abbrev pub OthersLeft : (ℕ → List ℕ → Type 0) → ℕ → Image → Type 0
-OthersLeft may_leave file image = (f : ℕ) → f ≤ 2 → f ≢ file → may_leave f (image f)
+-- the crash state has of the files other than this one what a crash may leave of them
+abbrev pub OthersLeft : (ℕ → List ℕ → Type 0) → ℕ → CrashState → Type 0
+OthersLeft may_leave file crashed = (f : ℕ) → f ≤ 2 → f ≢ file → may_leave f (crashed f)
 
 module _ {D : Type 0} (m : Meaning D) where
   -- the files other than this one read as before, and a crash may leave of them what it might before
@@ -68,15 +68,15 @@ module _ {D : Type 0} (m : Meaning D) where
   -- Time goes on: a crash since t might have left what it might before the call, or what it may leave now.
   pub record Elapses (old new : D) : Type 0 where
     pub later : m.moment old ≤ m.moment new
-    pub nothing_else : (t : ℕ) (image : Image) → t ≤ m.moment old → m.left_since new t image → m.left_since old t image ⊎ IsLeft (m.may_leave new) image
-    pub keeps : (t : ℕ) (image : Image) → t ≤ m.moment old → m.left_since old t image → m.left_since new t image
+    pub nothing_else : (t : ℕ) (crashed : CrashState) → t ≤ m.moment old → m.left_since new t crashed → m.left_since old t crashed ⊎ IsLeft (m.may_leave new) crashed
+    pub keeps : (t : ℕ) (crashed : CrashState) → t ≤ m.moment old → m.left_since old t crashed → m.left_since new t crashed
 
-  -- A crash at any moment since old leaves an image that has P.
-  pub record LeavesOnly (old new : D) (P : Image → Type 0) : Type 0 where
+  -- A crash at any moment since old leaves a crash state that has P.
+  pub record LeavesOnly (old new : D) (P : CrashState → Type 0) : Type 0 where
     pub later : m.moment old ≤ m.moment new
-    pub each : (image : Image) → m.left_since new (m.moment old) image → P image
+    pub each : (crashed : CrashState) → m.left_since new (m.moment old) crashed → P crashed
     -- for a run that began earlier
-    pub before : (t : ℕ) (image : Image) → t ≤ m.moment old → m.left_since new t image → m.left_since old t image ⊎ P image
+    pub before : (t : ℕ) (crashed : CrashState) → t ≤ m.moment old → m.left_since new t crashed → m.left_since old t crashed ⊎ P crashed
 
   -- Calls that change nothing: the files read as before, and a crash at any moment leaves what it might before.
   pub record OnlyLooks (old new : D) : Type 0 where

@@ -31,7 +31,7 @@ made_of disk = disk.made
 abbrev pub fail_of : MemoryDisk → List ℕ
 fail_of disk = disk.fail.items
 
--- the image of this kind that a crash leaves of file f
+-- what a crash of this kind leaves of file f
 abbrev pub crash_of : MemoryDisk → ℕ → ℕ → List ℕ
 crash_of disk pick f = crashed pick f disk.calls.items (first_of disk.first f) (first_of disk.first f)
 

@@ -1,6 +1,6 @@
 // One device with three files: what they read, and what a crash may leave of them.
 ghost use Rattle.std.specs.Prelude.{◌≡◌, ◌+◌, ◌-◌, ◌^◌, ◌≤◌, min, ℕ, List, IsTrue, IsErr, length, take, drop, is_ok, IfOk, OnOk};
-ghost use Rattle.qm_disk.specs.Disk.{Meaning, Image, Only, Follows, Torn, Cut, spliced, IsLeft, KeepsOthers, KeepsAll, Elapses, TellsFaults};
+ghost use Rattle.qm_disk.specs.Disk.{Meaning, CrashState, Only, Follows, Torn, Cut, spliced, IsLeft, KeepsOthers, KeepsAll, Elapses, TellsFaults};
 
 use thiserror::Error;
 
@@ -28,7 +28,7 @@ pub(crate) fn counted<T, E: Drop>(outcome: Result<T, E>, faults: &mut u64) -> Re
 ///
 /// Between two syncs of a file each range written, and all past its old end, may hold any bytes after a
 /// crash, and what was cut off may be there, with any bytes, or not. Other bytes stay. After a sync that
-/// held, a crash leaves what a read gives. A crash leaves one image of the whole device, which has of each
+/// held, a crash leaves what a read gives. A crash leaves one state of the whole device, which has of each
 /// file one of its contents, chosen file by file.
 ///
 /// At a fault of a write or a cut nothing more is said of the file than what a crash may leave: what it then
@@ -85,11 +85,11 @@ pub trait Disk {
         ensures faults { TellsFaults meaning self.old self.new (IsErr result) };
 
     /// A crash may leave what the files read.
-    ghost reads_an_image: { (disk : Self) (f : ℕ) → IsTrue meaning.tells → f ≤ 2 → meaning.may_leave disk f (meaning.seen disk f) };
+    ghost reads_a_crash_state: { (disk : Self) (f : ℕ) → IsTrue meaning.tells → f ≤ 2 → meaning.may_leave disk f (meaning.seen disk f) };
 
     /// This moment is one of those since an earlier one.
-    ghost counts_now: { (disk : Self) (t : ℕ) (image : Image) → t ≤ meaning.moment disk → IsLeft (meaning.may_leave disk) image → meaning.left_since disk t image };
+    ghost counts_now: { (disk : Self) (t : ℕ) (crashed : CrashState) → t ≤ meaning.moment disk → IsLeft (meaning.may_leave disk) crashed → meaning.left_since disk t crashed };
 
     /// Since this moment there is no other.
-    ghost only_now: { (disk : Self) (image : Image) → meaning.left_since disk (meaning.moment disk) image → IsLeft (meaning.may_leave disk) image };
+    ghost only_now: { (disk : Self) (crashed : CrashState) → meaning.left_since disk (meaning.moment disk) crashed → IsLeft (meaning.may_leave disk) crashed };
 }

@@ -60,7 +60,7 @@ impl MemoryDisk {
     /// has bytes 0, and a cut to more than is there changes nothing. Fails where memory runs out.
     pub fn after_crash(&self, pick: u8) -> Result<MemoryDisk, AllocError>
         requires { pick ≤ 2 }
-        ensures image { IfOk result (λ disk. (f : ℕ) → f ≤ 2 → held_of disk f ≡ crash_of self.now pick f) }
+        ensures kept { IfOk result (λ disk. (f : ℕ) → f ≤ 2 → held_of disk f ≡ crash_of self.now pick f) }
         ensures allowed { IfOk result (λ disk. IsLeft (left_of self.now) (held_of disk)) }
         ensures durable { IfOk result (λ disk. (f : ℕ) → f ≤ 2 → Only (held_of disk f) (left_of disk f)) }
         ensures unlisted { IfOk result (λ disk. fail_of disk ≡ []) }
@@ -75,10 +75,10 @@ impl MemoryDisk {
     // What the crash leaves of one file.
     fn crash_file(&self, file: u8, pick: u8) -> Result<Vec<u8>, AllocError>
         requires { file ≤ 2 }
-        ensures { IfOk result (λ image. image.items ≡ crash_of self.now pick file) }
+        ensures { IfOk result (λ kept. kept.items ≡ crash_of self.now pick file) }
     {
         let i = file as usize;
-        crash_image(self.alloc, &self.first[i], &self.calls, file, pick)
+        kept_at_crash(self.alloc, &self.first[i], &self.calls, file, pick)
     }
 
     /// What a file holds.
@@ -109,22 +109,22 @@ fn part_of(pick: u8, count: usize) -> usize
     if pick == 1 { count } else { count / 2 }
 }
 
-// What a change makes of what the file reads, and of the image of a crash of this kind.
+// What a change makes of what the file reads, and of what a crash of this kind keeps.
 fn replay(
     change: &Change,
     pick: u8,
     content: &mut Vec<u8>,
-    image: &mut Vec<u8>,
+    kept: &mut Vec<u8>,
 ) -> Result<(), AllocError>
     ensures content { OnOk result (content.new.items ≡ after_change change.now content.old.items) }
-    ensures image { OnOk result (image.new.items ≡ crash_changed pick change.now content.old.items image.old.items) }
+    ensures kept { OnOk result (kept.new.items ≡ crash_changed pick change.now content.old.items kept.old.items) }
 {
     match change {
         Change::Look => Ok(()),
         Change::Write { at, bytes, held } => {
             if pick != 0 {
                 let left = part_of(pick, bytes.len());
-                splice_padded(image, *at as usize, &bytes[..left])?;
+                splice_padded(kept, *at as usize, &bytes[..left])?;
             }
             if *held {
                 splice_padded(content, *at as usize, bytes)?;
@@ -133,7 +133,7 @@ fn replay(
         }
         Change::Truncate { size, held } => {
             if pick != 0 {
-                image.truncate(*size as usize);
+                kept.truncate(*size as usize);
             }
             if *held {
                 content.truncate(*size as usize);
@@ -142,8 +142,8 @@ fn replay(
         }
         Change::Sync { held } => {
             if *held {
-                image.clear();
-                image.extend_from_slice(content)?;
+                kept.clear();
+                kept.extend_from_slice(content)?;
             }
             Ok(())
         }
@@ -151,23 +151,23 @@ fn replay(
 }
 
 // What a crash of this kind leaves of a file.
-fn crash_image(
+fn kept_at_crash(
     alloc: Global,
     first: &Vec<u8>,
     calls: &[Call],
     file: u8,
     pick: u8,
 ) -> Result<Vec<u8>, AllocError>
-    ensures { IfOk result (λ image. image.items ≡ crashed pick file calls.now first.now.items first.now.items) }
+    ensures { IfOk result (λ kept. kept.items ≡ crashed pick file calls.now first.now.items first.now.items) }
 {
     let mut content = first.to_vec(alloc)?;
-    let mut image = first.to_vec(alloc)?;
+    let mut kept = first.to_vec(alloc)?;
     for call in calls {
         if call.file == file {
-            replay(&call.change, pick, &mut content, &mut image)?;
+            replay(&call.change, pick, &mut content, &mut kept)?;
         }
     }
-    Ok(image)
+    Ok(kept)
 }
 
 fn bytes_of<'a>(first: &'a Vec<u8>, changed: &'a Option<Vec<u8>>) -> &'a [u8]
@@ -366,11 +366,11 @@ impl Disk for MemoryDisk {
 
     ghost meaning = { in_memory };
 
-    ghost reads_an_image = { λ m f told le. reads_left m.first m.changed m.calls.items f (m.replays f le) };
+    ghost reads_a_crash_state = { λ m f told le. reads_left m.first m.changed m.calls.items f (m.replays f le) };
 
-    ghost counts_now = { λ m t image le left. left_now m.first m.calls.items t image le left };
+    ghost counts_now = { λ m t crashed le left. left_now m.first m.calls.items t crashed le left };
 
-    ghost only_now = { λ m image left. left_only_now m.first m.calls.items image left };
+    ghost only_now = { λ m crashed left. left_only_now m.first m.calls.items crashed left };
 
     fn size(&mut self, file: u8) -> Result<u64, DiskFault>
         requires { file ≤ 2 }

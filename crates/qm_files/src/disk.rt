@@ -190,15 +190,15 @@ where
       seen = λ disk f. [];
       may_leave = λ disk f c. ⊥;
       moment = λ disk. 0;
-      left_since = λ disk t image. ⊥;
+      left_since = λ disk t crashed. ⊥;
       faults = λ disk. disk.faults;
     } };
 
-    ghost reads_an_image = { λ disk f told le. untold told };
+    ghost reads_a_crash_state = { λ disk f told le. untold told };
 
-    ghost counts_now = { λ disk t image le left. left 0 (lit≤ tt) };
+    ghost counts_now = { λ disk t crashed le left. left 0 (lit≤ tt) };
 
-    ghost only_now = { λ disk image left. absurd left };
+    ghost only_now = { λ disk crashed left. absurd left };
 
     fn size(&mut self, file: u8) -> Result<u64, DiskFault> {
         let answer = self.site.size(file);

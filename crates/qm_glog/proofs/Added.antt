@@ -1,6 +1,6 @@
 -- What a crash leaves at each moment of an append.
 use Rattle.std.proofs.Common.{◌≡◌, inl, sym, ◌∙◌, ap, subst, ℕ, ◌+◌, ◌^◌, ◌<◌, ◌≤◌, List, [], ◌∷◌, ◌++◌, length, drop, arith}
-use Rattle.qm_disk.specs.Disk.{Meaning, Image, spliced, Torn, KeepsOthers}
+use Rattle.qm_disk.specs.Disk.{Meaning, CrashState, spliced, Torn, KeepsOthers}
 use Rattle.qm_glog.specs.Records.{text, size_of, IsLog, IsShutByZero}
 use Rattle.qm_glog.specs.Reading.{length-text, text-push}
 use Rattle.qm_glog.specs.Moments.{Written, Appended}
@@ -16,9 +16,9 @@ module _ {D : Type 0} (m : Meaning D) (file : ℕ) (old : D) (bodies : List (Lis
   gate_stands = room bodies log.fit end is body small (m.seen old file) log.gate log.rest log.shut log.whole
 
   -- the first write leaves the old records
-  pub first_leaves : (n : ℕ) (image : Image) → Written (m.may_leave old) file (end + 1) n (m.seen old file) image → Appended (m.may_leave old) file bodies body image
-  first_leaves n image written = record {
-    records = inl (torn_behind bodies log.fit end is body small (m.seen old file) log.gate log.rest log.shut log.whole n (image file) written.torn);
+  pub first_leaves : (n : ℕ) (crashed : CrashState) → Written (m.may_leave old) file (end + 1) n (m.seen old file) crashed → Appended (m.may_leave old) file bodies body crashed
+  first_leaves n crashed written = record {
+    records = inl (torn_behind bodies log.fit end is body small (m.seen old file) log.gate log.rest log.shut log.whole n (crashed file) written.torn);
     others = written.others;
   }
 
@@ -39,10 +39,10 @@ module _ {D : Type 0} (m : Meaning D) (file : ℕ) (old : D) (bodies : List (Lis
     gate_still_stands = omega (arith, ap (λ (l : List ℕ). length l) is_staged, length-staged bodies log.fit end is body small log.gate behind)
 
     -- the second leaves them with the new one or without
-    pub second_leaves : KeepsOthers m file old mid → (image : Image) → Written (m.may_leave mid) file end 1 (m.seen mid file) image → Appended (m.may_leave old) file bodies body image
-    second_leaves others image written = record {
-      records = torn_gate bodies log.fit end is body small log.gate behind (image file) (subst (λ (l : List ℕ). Torn end 1 l (image file)) is_staged written.torn);
-      others = λ f le other. others.no_more f (image f) le other (written.others f le other);
+    pub second_leaves : KeepsOthers m file old mid → (crashed : CrashState) → Written (m.may_leave mid) file end 1 (m.seen mid file) crashed → Appended (m.may_leave old) file bodies body crashed
+    second_leaves others crashed written = record {
+      records = torn_gate bodies log.fit end is body small log.gate behind (crashed file) (subst (λ (l : List ℕ). Torn end 1 l (crashed file)) is_staged written.torn);
+      others = λ f le other. others.no_more f (crashed f) le other (written.others f le other);
     }
 
     whole : (new : D) → m.seen new file ≡ spliced end (1 ∷ []) (m.seen mid file) → m.seen new file ≡ staged bodies body 1 behind

@@ -6,7 +6,7 @@ use Rattle.std.specs.Prelude.{IsTrue}
 use Rattle.std.proofs.lemmas.List.{map-append}
 use Rattle.std.proofs.lemmas.Bool.Decides.{nat_tests}
 use Rattle.std.proofs.lemmas.Bool.{cases_lt}
-use Rattle.qm_disk.specs.Disk.{Meaning, Image, IsLeft}
+use Rattle.qm_disk.specs.Disk.{Meaning, CrashState, IsLeft}
 use Rattle.qm_disk.specs.Moments.{weaker}
 use Rattle.qm_glog.specs.Log.{need_of}
 use Rattle.qm_kinds.specs.declared.file.FileName.{FileName}
@@ -163,18 +163,18 @@ module _ (site : Site) (r : Request) (a : Accepted) (accepted : applied site.sys
       subst (λ (x : System). IsQueueFile after_ x) system_is (subst (λ (bs : List (List ℕ)). IsQueueFile bs a.system) same_after lawful)
 
   -- the record may be there while it is written
-  may_be_there : (may_leave : ℕ → List ℕ → Type 0) → IsLawful site → IsLawful site_done → need_of bodies body ≤ QUEUE_CAP → (image : Image) → Appended may_leave bodies body image
-      → BeforeOrAfter may_leave site (site_after site (asked site r)) image
-  may_be_there may_leave before lawful fits image left = record {
-    site = ⊎_elim (λ old. inl (site_is site image before (subst (λ (bs : List (List ℕ)). Holds bs image) same old)))
-        (λ new. inr (subst (λ (x : Asked). IsSite (image 1) (site_after site x)) (sym (done_there fits))
-        (site_is site_done image lawful (subst (λ (t : List ℕ). Holds (site.bodies ++ t ∷ []) image) text_is (subst (λ (bs : List (List ℕ)). Holds (bs ++ body ∷ []) image) same new))))) left.records;
+  may_be_there : (may_leave : ℕ → List ℕ → Type 0) → IsLawful site → IsLawful site_done → need_of bodies body ≤ QUEUE_CAP → (crashed : CrashState) → Appended may_leave bodies body crashed
+      → BeforeOrAfter may_leave site (site_after site (asked site r)) crashed
+  may_be_there may_leave before lawful fits crashed left = record {
+    site = ⊎_elim (λ old. inl (site_is site crashed before (subst (λ (bs : List (List ℕ)). Holds bs crashed) same old)))
+        (λ new. inr (subst (λ (x : Asked). IsSite (crashed 1) (site_after site x)) (sym (done_there fits))
+        (site_is site_done crashed lawful (subst (λ (t : List ℕ). Holds (site.bodies ++ t ∷ []) crashed) text_is (subst (λ (bs : List (List ℕ)). Holds (bs ++ body ∷ []) crashed) same new))))) left.records;
     others = left.others;
   }
 
   module _ {D : Type 0} (m : Meaning D) (old new : D) where
     -- what a crash leaves while the record is written, or isn't since there is no room
-    pub steps_done : IsLawful site → IsLawful site_done → (IsTrue m.tells → IsAtRest m site.bodies old) → ((image : Image) → m.left_since old (m.moment old) image → IsLeft (m.may_leave old) image)
+    pub steps_done : IsLawful site → IsLawful site_done → (IsTrue m.tells → IsAtRest m site.bodies old) → ((crashed : CrashState) → m.left_since old (m.moment old) crashed → IsLeft (m.may_leave old) crashed)
         → (QUEUE_CAP < need_of bodies body → new ≡ old) → Appends m bodies body old new
         → Steps m site (site_after site (asked site r)) old new
     steps_done before lawful rest only_now unchanged appends = elim (cases_lt QUEUE_CAP (need_of bodies body)) [
@@ -203,7 +203,7 @@ module _ (site : Site) (r : Request) (a : Accepted) (now : ℕ) (last : now ≡ 
   appended_is_lawful after is t system_is = lawful_after site r a accepted_last bodies same body text_last lawful_last after is t system_is
 
   pub steps_appending : {D : Type 0} (m : Meaning D) (old mid new : D) → mid ≡ old → (IsTrue m.tells → IsAtRest m site.bodies old)
-      → ((image : Image) → m.left_since old (m.moment old) image → IsLeft (m.may_leave old) image)
+      → ((crashed : CrashState) → m.left_since old (m.moment old) crashed → IsLeft (m.may_leave old) crashed)
       → (QUEUE_CAP < need_of bodies body → new ≡ mid) → Appends m bodies body mid new → Steps m site (site_after site (asked site r)) old new
   steps_appending m old mid new reserved rest only_now unchanged appends =
       steps_done site r a accepted_last bodies same body text_last m old new lawful lawful_last rest only_now

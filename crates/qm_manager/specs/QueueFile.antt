@@ -15,7 +15,7 @@ use Rattle.qm_model.specs.First.{first_form, first_queue, first_system}
 use Rattle.qm_model.specs.Outcome.{Accepted}
 use Rattle.qm_record.specs.Spelling.{HasSpelling, record_text}
 
--- a row of an image has the first moment and the first node
+-- a row has the first moment and the first node
 abbrev pub row : Body → Record
 row body = record { moment = 0; node = 0; body = body }
 

@@ -1,7 +1,7 @@
 -- A site: its system, and the queue file that keeps what it accepted.
 use Rattle.std.specs.Prelude.{◌⊎◌, ℕ, List, map}
 use Rattle.qm_disk.specs.Disk.{Meaning}
-use Rattle.qm_disk.specs.Disk.{Image, IsLeft, OthersLeft}
+use Rattle.qm_disk.specs.Disk.{CrashState, IsLeft, OthersLeft}
 use Rattle.qm_kinds.specs.declared.system.System.{System}
 use Rattle.qm_model.specs.First.{first_system}
 use Rattle.qm_record.specs.Spelling.{record_text}
@@ -28,11 +28,11 @@ new_site node = record { system = first_system node; bodies = map record_text (f
 
 -- The queue file is that of the site before a request or after it; the other files are as a crash before the request may
 -- leave them.
-pub record BeforeOrAfter (may_leave : ℕ → List ℕ → Type 0) (before after : Site) (image : Image) : Type 0 where
-  pub site : IsSite (image 1) before ⊎ IsSite (image 1) after
-  pub others : OthersLeft may_leave 1 image
+pub record BeforeOrAfter (may_leave : ℕ → List ℕ → Type 0) (before after : Site) (crashed : CrashState) : Type 0 where
+  pub site : IsSite (crashed 1) before ⊎ IsSite (crashed 1) after
+  pub others : OthersLeft may_leave 1 crashed
 
--- the queue file is that of this site, as it reads and in each image that a crash may leave
+-- the queue file is that of this site, as it reads and in each state that a crash may leave
 pub record IsSiteOf {D : Type 0} (m : Meaning D) (site : Site) (disk : D) : Type 0 where
   pub reads : IsSite (m.seen disk 1) site
-  pub crash : (image : Image) → IsLeft (m.may_leave disk) image → IsSite (image 1) site
+  pub crash : (crashed : CrashState) → IsLeft (m.may_leave disk) crashed → IsSite (crashed 1) site

@@ -8,7 +8,7 @@ ghost use Rattle.qm_manager.specs.Restoring.{HasNode};
 use qm_disk::Disk;
 use qm_kinds::{Name, Query, Row};
 use qm_state::{Image, Refused};
-use qm_store::Open;
+use qm_store::Store;
 use std::alloc::Global;
 
 /// A queue manager at work: the image of its system, and the queue file that keeps what it accepted.
@@ -17,7 +17,7 @@ pub struct Manager<D> {
     pub(crate) alloc: Global,
     pub(crate) node: Name,
     pub(crate) image: Image,
-    pub(crate) store: Open<D>,
+    pub(crate) store: Store<D>,
     ghost named: { HasNode node (system_of image) },
 }
 

@@ -13,7 +13,7 @@ use crate::restoring::{RestoreEnd, restore};
 use crate::site::first_rows;
 use qm_disk::Disk;
 use qm_kinds::{NODE_NAME_BYTES, Name};
-use qm_store::{MakeFault, Open, OpenFault, QUEUE_FILE};
+use qm_store::{MakeFault, OpenFault, QUEUE_FILE, Store};
 use std::alloc::Global;
 
 /// Makes the queue file of a new site of this node, whatever it held. At `Disk`, and at a crash before `Ok`, the file may
@@ -35,7 +35,7 @@ pub fn init<D: Disk>(alloc: Global, disk: D, node: Name) -> Result<D, (D, MakeFa
 }
 
 // The device, and what its records are to the manager's caller where they aren't those of a queue file.
-fn give_up<D: Disk>(store: Open<D>, end: RestoreEnd) -> (D, OpenFault)
+fn give_up<D: Disk>(store: Store<D>, end: RestoreEnd) -> (D, OpenFault)
     requires { Judges (bodies_of store) end }
     ensures disk { result.0 ≡ store_disk store }
     ensures told { result.1 ≡ told_of (bodies_of store) end }

@@ -21,7 +21,7 @@ use qm_model::{
 };
 use qm_record::{RecordFault, write_record};
 use qm_state::{Image, Refused, is_built};
-use qm_store::Open;
+use qm_store::Store;
 use std::alloc::{AllocError, AllocFailed, Global};
 
 /// Why the records aren't those of a queue file.
@@ -64,7 +64,7 @@ fn named_by(body: &Body) -> Option<Name>
 }
 
 // The record of this index, if its body spells one.
-fn read_at<D: Disk>(store: &Open<D>, index: usize) -> Result<Record, RestoreEnd>
+fn read_at<D: Disk>(store: &Store<D>, index: usize) -> Result<Record, RestoreEnd>
     requires { index < length (bodies_of store.now) }
     ensures found { (body : List ℕ) → slice_get (bodies_of store.now) index ≡ Some body → IfOk result (λ r. Spells HasSpelling record_text r body) }
     ensures only { (body : List ℕ) (r : AnyRecord) → slice_get (bodies_of store.now) index ≡ Some body → HasSpelling r → body ≡ record_text r → IsRead r result }
@@ -79,7 +79,7 @@ fn read_at<D: Disk>(store: &Open<D>, index: usize) -> Result<Record, RestoreEnd>
 }
 
 // The node of the site, as the first record has it.
-fn read_node<D: Disk>(store: &Open<D>) -> Result<Name, RestoreEnd>
+fn read_node<D: Disk>(store: &Store<D>) -> Result<Name, RestoreEnd>
     ensures node { IfOk result (IsOf (bodies_of store.now)) }
     ensures lawful { IfOk result IsName }
     ensures judged { IfErr result (Judges (bodies_of store.now)) }
@@ -97,7 +97,7 @@ fn read_node<D: Disk>(store: &Open<D>) -> Result<Name, RestoreEnd>
 // Whether the record of this index is this one.
 fn is_row<D: Disk>(
     alloc: Global,
-    store: &Open<D>,
+    store: &Store<D>,
     index: usize,
     row: &Record,
 ) -> Result<bool, AllocError>
@@ -109,7 +109,7 @@ fn is_row<D: Disk>(
 }
 
 // The node of the site, told by the rows with which its queue file begins.
-fn read_rows<D: Disk>(alloc: Global, store: &Open<D>) -> Result<Name, RestoreEnd>
+fn read_rows<D: Disk>(alloc: Global, store: &Store<D>) -> Result<Name, RestoreEnd>
     ensures rows { IfOk result (BeginsWithRows (bodies_of store.now)) }
     ensures judged { IfErr result (Judges (bodies_of store.now)) }
 {
@@ -184,7 +184,7 @@ fn replay_read(
 
 // Does what the record of this index says. It stays where it was read: it is large.
 fn restore_record<D: Disk>(
-    store: &Open<D>,
+    store: &Store<D>,
     index: usize,
     image: &mut Image,
 ) -> Result<(), RestoreEnd>
@@ -200,7 +200,7 @@ fn restore_record<D: Disk>(
 }
 
 /// The one node and the image of the system for which the records stand; or the first record that can't stand there.
-pub(crate) fn restore<D: Disk>(alloc: Global, store: &Open<D>) -> Result<(Name, Image), RestoreEnd>
+pub(crate) fn restore<D: Disk>(alloc: Global, store: &Store<D>) -> Result<(Name, Image), RestoreEnd>
     ensures lawful { IfOk result (λ site. IsQueueFile (bodies_of store.now) (system_of site.1)) }
     ensures node { IfOk result (λ site. HasNode site.0 (system_of site.1)) }
     ensures judged { IfErr result (Judges (bodies_of store.now)) }

@@ -76,7 +76,7 @@ pub(crate) fn first_system(alloc: Global, node: Name) -> Result<System, AllocErr
     })
 }
 
-// A row of an image.
+// A row.
 fn row(body: Body) -> Record
     ensures { result ≡ row body }
 {

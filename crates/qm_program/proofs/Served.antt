@@ -3,7 +3,7 @@ use Rattle.std.proofs.Common.{◌≡◌, ◌<◌, ◌^◌, inl, ℕ, length, Boo
 use Rattle.std.specs.Option.{option_map}
 use Rattle.std.specs.Result.{IsErrAnd}
 use Rattle.std.specs.Str.{bytes_eq}
-use Rattle.qm_disk.specs.Disk.{Meaning, Image, IsLeft}
+use Rattle.qm_disk.specs.Disk.{Meaning, CrashState, IsLeft}
 use Rattle.qm_kinds.specs.Files.{file_name_of}
 use Rattle.qm_kinds.specs.declared.file.FileName.{FileName}
 use Rattle.qm_kinds.specs.declared.input.Input.{Input}
@@ -140,7 +140,7 @@ shown_site site (Err refusal) = refl
 -- ---- a manager that an answer doesn't change
 
 module _ {D : Type 0} (m : Meaning D) (manager : Manager D) (ready : IsReady m manager)
-    (only_now : (image : Image) → m.left_since (disk_of manager) (m.moment (disk_of manager)) image → IsLeft (m.may_leave (disk_of manager)) image) (after : Site) where
+    (only_now : (crashed : CrashState) → m.left_since (disk_of manager) (m.moment (disk_of manager)) crashed → IsLeft (m.may_leave (disk_of manager)) crashed) (after : Site) where
   stays : Steps m (site_of manager) after (disk_of manager) (disk_of manager)
   stays = steps_nowhere m (site_of manager) after (disk_of manager) (disk_of manager) refl ready.lawful ready.rest only_now
 

@@ -3,7 +3,7 @@ use Rattle.std.proofs.Common.{◌≡◌, ◌≤◌, inl, inr, ⊎_elim, ℕ, Lis
 use Rattle.std.proofs.lemmas.List.{append-nil}
 use Rattle.std.specs.Io.KnownBytes.{Appends}
 use Rattle.std.proofs.KnownBytes.{Appends-trans}
-use Rattle.qm_disk.specs.Disk.{Meaning, Image, IsLeft, LeavesOnly, KeepsOthers}
+use Rattle.qm_disk.specs.Disk.{Meaning, CrashState, IsLeft, LeavesOnly, KeepsOthers}
 use Rattle.qm_disk.specs.Moments.{started, weaker, goes_further, holds_now}
 use Rattle.qm_model.specs.Script.{ScriptLine}
 use Rattle.qm_manager.specs.Site.{Site, IsSite, IsSiteOf, BeforeOrAfter}
@@ -15,25 +15,25 @@ use Rattle.qm_program.specs.declared.outcome.End.{End}
 use Rattle.qm_program.specs.declared.outcome.End.TheVariants as ends
 use Rattle.qm_program.proofs.Going.{steps_keep_others}
 
-module _ {D : Type 0} (m : Meaning D) (only_now : (disk : D) (image : Image) → m.left_since disk (m.moment disk) image → IsLeft (m.may_leave disk) image) where
+module _ {D : Type 0} (m : Meaning D) (only_now : (disk : D) (crashed : CrashState) → m.left_since disk (m.moment disk) crashed → IsLeft (m.may_leave disk) crashed) where
   -- before the first step
-  none_made : (site : Site) (steps : List Step) (disk : D) (image : Image) → IsSiteOf m site disk → IsLeft (m.may_leave disk) image → Reaches (m.may_leave disk) site steps image
-  none_made site steps disk image is left = record { made = []; behind = steps; are = refl; left = is.crash image left; others = λ f le other. left f le }
+  none_made : (site : Site) (steps : List Step) (disk : D) (crashed : CrashState) → IsSiteOf m site disk → IsLeft (m.may_leave disk) crashed → Reaches (m.may_leave disk) site steps crashed
+  none_made site steps disk crashed is left = record { made = []; behind = steps; are = refl; left = is.crash crashed left; others = λ f le other. left f le }
 
   -- what is reached behind a step is reached from before it
-  from_before : (site : Site) (step : Step) (steps : List Step) (old mid : D) → KeepsOthers m 1 old mid → (image : Image)
-      → Reaches (m.may_leave mid) step.after steps image → Reaches (m.may_leave old) site (step ∷ steps) image
-  from_before site step steps old mid kept image reached = record {
+  from_before : (site : Site) (step : Step) (steps : List Step) (old mid : D) → KeepsOthers m 1 old mid → (crashed : CrashState)
+      → Reaches (m.may_leave mid) step.after steps crashed → Reaches (m.may_leave old) site (step ∷ steps) crashed
+  from_before site step steps old mid kept crashed reached = record {
     made = step ∷ reached.made;
     behind = reached.behind;
     are = ap (λ (rest : List Step). step ∷ rest) reached.are;
     left = reached.left;
-    others = λ f le other. kept.no_more f (image f) le other (reached.others f le other);
+    others = λ f le other. kept.no_more f (crashed f) le other (reached.others f le other);
   }
 
   -- within a step the site before it is there, or that after it
-  within_step : (site : Site) (step : Step) (steps : List Step) (may_leave : ℕ → List ℕ → Type 0) (image : Image) → BeforeOrAfter may_leave site step.after image → Reaches may_leave site (step ∷ steps) image
-  within_step site step steps may_leave image left = elim left.site [
+  within_step : (site : Site) (step : Step) (steps : List Step) (may_leave : ℕ → List ℕ → Type 0) (crashed : CrashState) → BeforeOrAfter may_leave site step.after crashed → Reaches may_leave site (step ∷ steps) crashed
+  within_step site step steps may_leave crashed left = elim left.site [
     | inl before ↦ record { made = []; behind = step ∷ steps; are = refl; left = before; others = left.others }
     | inr after ↦ record { made = step ∷ []; behind = steps; are = refl; left = after; others = left.others }
   ]
@@ -42,15 +42,15 @@ module _ {D : Type 0} (m : Meaning D) (only_now : (disk : D) (image : Image) →
   steps_reach : (site : Site) (steps more : List Step) (old new : Outside D) → MakesSteps m site steps old new → IsTrue m.tells → IsSiteOf m site old.device
       → LeavesOnly m old.device new.device (Reaches (m.may_leave old.device) site (steps ++ more))
   steps_reach site [] more old new same told is = subst (λ (o : Outside D). LeavesOnly m old.device o.device (Reaches (m.may_leave old.device) site more)) (sym same)
-      (started m old.device (Reaches (m.may_leave old.device) site more) (λ image left. none_made site more old.device image is (only_now old.device image left)))
+      (started m old.device (Reaches (m.may_leave old.device) site more) (λ crashed left. none_made site more old.device crashed is (only_now old.device crashed left)))
   steps_reach site (step ∷ steps) more old new made told is =
       let next = made.0 in
       let one = made.1.0 in
       goes_further m old.device next.device new.device (Reaches (m.may_leave old.device) site (step ∷ steps ++ more)) (Reaches (m.may_leave next.device) step.after (steps ++ more))
       (weaker m old.device next.device (BeforeOrAfter (m.may_leave old.device) site step.after) (Reaches (m.may_leave old.device) site (step ∷ steps ++ more)) (one.device.any_moment told)
-      (λ image left. within_step site step (steps ++ more) (m.may_leave old.device) image left))
+      (λ crashed left. within_step site step (steps ++ more) (m.may_leave old.device) crashed left))
       (steps_reach step.after steps more next new made.1.1 told (one.durable told))
-      (λ image reached. from_before site step (steps ++ more) old.device next.device one.device.others image reached)
+      (λ crashed reached. from_before site step (steps ++ more) old.device next.device one.device.others crashed reached)
 
   -- behind all steps the queue file is that of the site behind them
   at_end : (site : Site) (steps : List Step) (old new : Outside D) → MakesSteps m site steps old new → IsTrue m.tells → IsSiteOf m site old.device → IsSiteOf m (site_behind site steps) new.device
@@ -73,14 +73,14 @@ module _ {D : Type 0} (m : Meaning D) (only_now : (disk : D) (image : Image) →
       subst (λ (all : List Step). LeavesOnly m old.device new.device (Reaches (m.may_leave old.device) site all)) (sym stops.are)
       (goes_further m old.device next.device new.device (Reaches (m.may_leave old.device) site (made ++ step ∷ behind)) (BeforeOrAfter (m.may_leave next.device) (site_behind site made) step.after)
       (steps_reach site made (step ∷ behind) old next stops.so_far told is) (stops.stops.device.any_moment told)
-      (λ image left. elim left.site [
-        | inl before ↦ record { made = made; behind = step ∷ behind; are = refl; left = before; others = λ f le other. kept.no_more f (image f) le other (left.others f le other) }
+      (λ crashed left. elim left.site [
+        | inl before ↦ record { made = made; behind = step ∷ behind; are = refl; left = before; others = λ f le other. kept.no_more f (crashed f) le other (left.others f le other) }
         | inr after ↦ record {
           made = made ++ step ∷ [];
           behind = behind;
           are = sym (append_assoc made (step ∷ []) behind);
-          left = subst (IsSite (image 1)) (sym (site_behind-more site made step)) after;
-          others = λ f le other. kept.no_more f (image f) le other (left.others f le other);
+          left = subst (IsSite (crashed 1)) (sym (site_behind-more site made step)) after;
+          others = λ f le other. kept.no_more f (crashed f) le other (left.others f le other);
         }
       ]))
 
@@ -92,9 +92,9 @@ module _ {D : Type 0} (m : Meaning D) (only_now : (disk : D) (image : Image) →
     script_survives served told =
         let so = served.so in
         goes_further m old.device so.opened new.device (Survives left (m.may_leave old.device) (m.seen old.device 1)) (Reaches (m.may_leave so.opened) so.site (steps_of so.site served.lines))
-        (weaker m old.device so.opened (IsLeft (m.may_leave old.device)) (Survives left (m.may_leave old.device) (m.seen old.device 1)) so.opening.any_moment (λ image l. inl l))
+        (weaker m old.device so.opened (IsLeft (m.may_leave old.device)) (Survives left (m.may_leave old.device) (m.seen old.device 1)) so.opening.any_moment (λ crashed l. inl l))
         (reaches so.site (steps_of so.site served.lines) (record { device = so.opened; taken = old.taken }) new so.serving told (so.at_rest told))
-        (λ image reached. inr (record {
+        (λ crashed reached. inr (record {
           text = served.text;
           lines = served.lines;
           read = served.read;
@@ -107,18 +107,18 @@ module _ {D : Type 0} (m : Meaning D) (only_now : (disk : D) (image : Image) →
               behind = reached.behind;
               are = reached.are;
               left = reached.left;
-              others = λ f le other. so.opening.no_more f (image f) le (reached.others f le other);
+              others = λ f le other. so.opening.no_more f (crashed f) le (reached.others f le other);
             },
           );
         }))
 
   nothing_survives : (left : Option (List ℕ)) (old new : Outside D) → ServesNothing m old new → LeavesOnly m old.device new.device (Survives left (m.may_leave old.device) (m.seen old.device 1))
   nothing_survives left old new nothing =
-      weaker m old.device new.device (IsLeft (m.may_leave old.device)) (Survives left (m.may_leave old.device) (m.seen old.device 1)) nothing.device.any_moment (λ image l. inl l)
+      weaker m old.device new.device (IsLeft (m.may_leave old.device)) (Survives left (m.may_leave old.device) (m.seen old.device 1)) nothing.device.any_moment (λ crashed l. inl l)
 
   stays : (left : Option (List ℕ)) (old new : Outside D) → new ≡ old → LeavesOnly m old.device new.device (Survives left (m.may_leave old.device) (m.seen old.device 1))
   stays left old new same = subst (λ (o : Outside D). LeavesOnly m old.device o.device (Survives left (m.may_leave old.device) (m.seen old.device 1))) (sym same)
-      (started m old.device (Survives left (m.may_leave old.device) (m.seen old.device 1)) (λ image l. inl (only_now old.device image l)))
+      (started m old.device (Survives left (m.may_leave old.device) (m.seen old.device 1)) (λ crashed l. inl (only_now old.device crashed l)))
 
   all_reach : (site : Site) (steps : List Step) (old new : Outside D) → MakesSteps m site steps old new → IsTrue m.tells → IsSiteOf m site old.device → LeavesOnly m old.device new.device (Reaches (m.may_leave old.device) site steps)
   all_reach site steps old new made told is =
@@ -152,7 +152,7 @@ module _ {D : Type 0} (m : Meaning D) where
   steps_print site (step ∷ steps) old new made =
       Appends-trans old.taken made.0.taken new.taken step.text (text_of steps) made.1.0.printed (steps_print step.after steps made.0 new made.1.1)
 
-  pub served_whole : (only_now : (disk : D) (image : Image) → m.left_since disk (m.moment disk) image → IsLeft (m.may_leave disk) image)
+  pub served_whole : (only_now : (disk : D) (crashed : CrashState) → m.left_since disk (m.moment disk) crashed → IsLeft (m.may_leave disk) crashed)
       → (left : Option (List ℕ)) (old new : Outside D) → RunsTo m left old new ends.Ok → OfScript left (AreServed m old new)
   served_whole only_now left old new runs =
       let so = runs.so in
@@ -210,7 +210,7 @@ cut_at site (l ∷ ls) (x ∷ made) step behind e =
       step_is = cut.step_is;
     }
 
-module _ {D : Type 0} (m : Meaning D) (counts_now : (disk : D) (t : ℕ) (image : Image) → t ≤ m.moment disk → IsLeft (m.may_leave disk) image → m.left_since disk t image) where
+module _ {D : Type 0} (m : Meaning D) (counts_now : (disk : D) (t : ℕ) (crashed : CrashState) → t ≤ m.moment disk → IsLeft (m.may_leave disk) crashed → m.left_since disk t crashed) where
   pub served_to : (left : Option (List ℕ)) (end : End) (old new : Outside D) → ServesScript m left (StopsWithin m end) old new → OfScript left (AreServedTo m end old new)
   served_to left end old new served =
       let so = served.so in
@@ -238,7 +238,7 @@ module _ {D : Type 0} (m : Meaning D) (counts_now : (disk : D) (t : ℕ) (image 
           taken = subst (λ (steps : List Step). Appends old.taken stopped.next.taken (text_of steps)) cut.made_are
               (steps_print m so.site stopped.made (record { device = so.opened; taken = old.taken }) stopped.next stopped.so_far);
           stops = stops;
-          left = λ told image left.
-              (holds_now m stopped.next.device new.device (BeforeOrAfter (m.may_leave stopped.next.device) here (turn here cut.line).site) (stops.device.any_moment told) (counts_now new.device) image left).site;
+          left = λ told crashed left.
+              (holds_now m stopped.next.device new.device (BeforeOrAfter (m.may_leave stopped.next.device) here (turn here cut.line).site) (stops.device.any_moment told) (counts_now new.device) crashed left).site;
         };
       }

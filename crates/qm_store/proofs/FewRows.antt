@@ -10,14 +10,14 @@ use Rattle.qm_store.specs.Rows.{AreFewRows}
 use Rattle.qm_store.specs.Store.{bodies_for}
 use Rattle.qm_store.specs.declared.store.TheConstants.{QUEUE_CAP}
 
--- the record is a row of an image
+-- the record is a row
 abbrev IsRowOf : Record → Type 0
 IsRowOf row = IsRow row.body
 
-size_of-rows : (image : List Record) → AllByRecursion HasSpelling image → AllByRecursion IsRowOf image → size_of (bodies_for image) ≤ 5308375 * length image
+size_of-rows : (rows : List Record) → AllByRecursion HasSpelling rows → AllByRecursion IsRowOf rows → size_of (bodies_for rows) ≤ 5308375 * length rows
 size_of-rows [] fit are = omega arith
 size_of-rows (row ∷ rows) fit are = omega (arith, rows_are_short row fit.0 are.0, size_of-rows rows fit.1 are.1)
 
-pub few_rows_fit : (image : List Record) → AreFewRows image → All HasSpelling image → size_of (bodies_for image) + 1 ≤ QUEUE_CAP
-few_rows_fit image are fit =
-    omega (arith, are.few, size_of-rows image (recursion_from_All HasSpelling image fit) (recursion_from_All IsRowOf image are.rows))
+pub few_rows_fit : (rows : List Record) → AreFewRows rows → All HasSpelling rows → size_of (bodies_for rows) + 1 ≤ QUEUE_CAP
+few_rows_fit rows are fit =
+    omega (arith, are.few, size_of-rows rows (recursion_from_All HasSpelling rows fit) (recursion_from_All IsRowOf rows are.rows))

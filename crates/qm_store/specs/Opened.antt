@@ -4,7 +4,7 @@ use Rattle.qm_glog.specs.Records.{BeginsWithRecord, IsLog, IsDamaged}
 use Rattle.qm_glog.specs.Log.{bodies_of as log_bodies}
 use Rattle.qm_glog.specs.declared.log.Log.{Log}
 use Rattle.qm_store.specs.Store.{disk_of, bodies_of}
-use Rattle.qm_store.specs.declared.store.Open.{Open}
+use Rattle.qm_store.specs.declared.store.Store.{Store}
 use Rattle.qm_store.specs.declared.store.TheConstants.{QUEUE_FILE}
 use Rattle.qm_glog.specs.declared.fault.OpenFault.{OpenFault}
 use Rattle.qm_glog.specs.declared.fault.OpenFault.TheVariants.{Disk, Unformatted, Damaged, NoMemory}
@@ -33,12 +33,12 @@ OpensLog file (Ok log) = IsFormatted file (log_bodies log)
 OpensLog file (Err fault) = IsOpenFault file fault
 
 -- the records of the queue file, or why it has none
-abbrev pub OpensStore : {D : Type 0} → List ℕ → Result (Open D) (D × OpenFault) → Type 0
+abbrev pub OpensStore : {D : Type 0} → List ℕ → Result (Store D) (D × OpenFault) → Type 0
 OpensStore file (Ok store) = IsFormatted file (bodies_of store)
 OpensStore file (Err failed) = IsOpenFault file failed.1
 
 -- the device after a call that was given it
-abbrev pub disk_after : {D E : Type 0} → Result (Open D) (D × E) → D
+abbrev pub disk_after : {D E : Type 0} → Result (Store D) (D × E) → D
 disk_after (Ok store) = disk_of store
 disk_after (Err failed) = failed.0
 

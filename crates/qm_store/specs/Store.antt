@@ -1,37 +1,37 @@
 -- What a store holds, and what its queue file holds.
 use Rattle.std.specs.Prelude.{◌⊎◌, ℕ, List, [], ◌∷◌, ◌++◌, take, map, IsTrue}
-use Rattle.qm_disk.specs.Disk.{Meaning, Image, Only, OthersLeft, KeepsOthers, LeavesOnly}
+use Rattle.qm_disk.specs.Disk.{Meaning, CrashState, Only, OthersLeft, KeepsOthers, LeavesOnly}
 use Rattle.qm_glog.specs.Records.{size_of, IsLog}
 use Rattle.qm_glog.specs.Log as log
 use Rattle.qm_kinds.specs.declared.record.Record.{Record}
 use Rattle.qm_record.specs.Spelling.{record_text}
-use Rattle.qm_store.specs.declared.store.Open.{Open}
+use Rattle.qm_store.specs.declared.store.Store.{Store}
 use Rattle.qm_store.specs.declared.store.TheConstants.{QUEUE_FILE}
 
 -- the device
-abbrev pub disk_of : {D : Type 0} → Open D → D
+abbrev pub disk_of : {D : Type 0} → Store D → D
 disk_of store = store.disk
 
 -- the bodies of its records, the first one first
-abbrev pub bodies_of : {D : Type 0} → Open D → List (List ℕ)
+abbrev pub bodies_of : {D : Type 0} → Store D → List (List ℕ)
 bodies_of store = log.bodies_of store.log
 
 -- one more than the bytes of the longest body for which an append has memory, or 0 where it has none
-abbrev pub spare_of : {D : Type 0} → Open D → ℕ
+abbrev pub spare_of : {D : Type 0} → Store D → ℕ
 spare_of store = log.spare_of store.log
 
 -- the queue file has just these records
-abbrev pub Holds : List (List ℕ) → Image → Type 0
-Holds bodies image = IsLog (image QUEUE_FILE) bodies
+abbrev pub Holds : List (List ℕ) → CrashState → Type 0
+Holds bodies crashed = IsLog (crashed QUEUE_FILE) bodies
 
 -- it has just these, or these and one more
-abbrev pub HoldsOneMore : List (List ℕ) → List ℕ → Image → Type 0
-HoldsOneMore bodies body image = Holds bodies image ⊎ Holds (bodies ++ body ∷ []) image
+abbrev pub HoldsOneMore : List (List ℕ) → List ℕ → CrashState → Type 0
+HoldsOneMore bodies body crashed = Holds bodies crashed ⊎ Holds (bodies ++ body ∷ []) crashed
 
 -- the same, and the other files are as a crash before the call may leave them
-pub record Appended (may_leave : ℕ → List ℕ → Type 0) (bodies : List (List ℕ)) (body : List ℕ) (image : Image) : Type 0 where
-  pub records : HoldsOneMore bodies body image
-  pub others : OthersLeft may_leave QUEUE_FILE image
+pub record Appended (may_leave : ℕ → List ℕ → Type 0) (bodies : List (List ℕ)) (body : List ℕ) (crashed : CrashState) : Type 0 where
+  pub records : HoldsOneMore bodies body crashed
+  pub others : OthersLeft may_leave QUEUE_FILE crashed
 
 -- the queue file has just these records, and no crash can take one away
 pub record IsAtRest {D : Type 0} (m : Meaning D) (bodies : List (List ℕ)) (disk : D) : Type 0 where

@@ -12,4 +12,4 @@ pub use laws::{never_damaged, never_unformatted, one_content};
 pub use making::init;
 pub use opening::open;
 pub use qm_glog::{AppendFault, MakeFault, OpenFault};
-pub use store::{Open, QUEUE_CAP, QUEUE_FILE};
+pub use store::{QUEUE_CAP, QUEUE_FILE, Store};

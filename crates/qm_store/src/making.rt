@@ -9,7 +9,7 @@ ghost use Rattle.qm_store.specs.Opened.{disk_after, FailsBy};
 ghost use Rattle.qm_store.specs.Rows.{AreFewRows};
 
 use crate::MakeFault;
-use crate::store::{Open, QUEUE_CAP, QUEUE_FILE};
+use crate::store::{QUEUE_CAP, QUEUE_FILE, Store};
 use qm_disk::Disk;
 use qm_glog::Log;
 use qm_kinds::Record;
@@ -48,7 +48,7 @@ fn make<D: Disk>(alloc: Global, disk: &mut D, rows: &[Record]) -> Result<Log, Ma
 /// Makes the queue file of a device anew, whatever the device holds, with these few rows as its records. All memory
 /// is taken before anything is written. At `Disk`, and at a crash before `Ok`, the queue file may hold anything; at
 /// `NoMemory` nothing has changed. An `Err` hands the device back.
-pub fn init<D: Disk>(alloc: Global, disk: D, rows: &[Record]) -> Result<Open<D>, (D, MakeFault)>
+pub fn init<D: Disk>(alloc: Global, disk: D, rows: &[Record]) -> Result<Store<D>, (D, MakeFault)>
     requires written { All CanBeWritten rows.now }
     requires few { AreFewRows rows.now }
 
@@ -63,7 +63,7 @@ pub fn init<D: Disk>(alloc: Global, disk: D, rows: &[Record]) -> Result<Open<D>,
 {
     let mut disk = disk;
     match make(alloc, &mut disk, rows) {
-        Ok(log) => Ok(Open::of(alloc, disk, log)),
+        Ok(log) => Ok(Store::of(alloc, disk, log)),
         Err(fault) => Err((disk, fault)),
     }
 }

@@ -6,7 +6,7 @@ ghost use Rattle.qm_store.specs.Store.{disk_of, bodies_of, IsAtRest};
 ghost use Rattle.qm_store.specs.Opened.{first_byte, OpensLog, OpensStore, disk_after, FailsBy};
 
 use crate::OpenFault;
-use crate::store::{Open, QUEUE_CAP, QUEUE_FILE};
+use crate::store::{QUEUE_CAP, QUEUE_FILE, Store};
 use qm_disk::{Disk, DiskFault};
 use qm_glog::Log;
 use std::alloc::Global;
@@ -42,7 +42,7 @@ fn read_log<D: Disk>(alloc: Global, disk: &mut D) -> Result<Log, OpenFault>
 /// Opens the queue file of a device, and keeps its records. It begins with a sync, so that what it has read is on
 /// the disk, and it changes nothing. A queue file begins with a record: one that doesn't is unformatted. An `Err`
 /// hands the device back.
-pub fn open<D: Disk>(alloc: Global, disk: D) -> Result<Open<D>, (D, OpenFault)>
+pub fn open<D: Disk>(alloc: Global, disk: D) -> Result<Store<D>, (D, OpenFault)>
     // The records are those of the queue file.
     ensures found { IsTrue D.meaning.tells → OpensStore (D.meaning.seen disk QUEUE_FILE) result }
     ensures at_rest { IfOk result (λ store. IsTrue D.meaning.tells → IsAtRest D.meaning (bodies_of store) (disk_of store)) }
@@ -53,7 +53,7 @@ pub fn open<D: Disk>(alloc: Global, disk: D) -> Result<Open<D>, (D, OpenFault)>
 {
     let mut disk = disk;
     match read_log(alloc, &mut disk) {
-        Ok(log) => Ok(Open::of(alloc, disk, log)),
+        Ok(log) => Ok(Store::of(alloc, disk, log)),
         Err(fault) => Err((disk, fault)),
     }
 }

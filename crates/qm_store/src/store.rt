@@ -18,7 +18,7 @@ pub const QUEUE_CAP: u64 = 134_217_728;
 
 /// An open queue file of a device, which it owns.
 #[derive(Drop)]
-pub struct Open<D> {
+pub struct Store<D> {
     alloc: Global,
     disk: D,
     log: Log,
@@ -26,7 +26,7 @@ pub struct Open<D> {
     ghost capped: { cap_of log ≡ QUEUE_CAP },
 }
 
-impl<D: Disk> Open<D> {
+impl<D: Disk> Store<D> {
     ghost use Rattle.std.specs.Prelude.{◌≡◌, ◌<◌, ◌≤◌, ℕ, List, [], ◌∷◌, ◌++◌, IsTrue, length, IfOk, OnOk, OnErr, IsErrOf, slice_get, Some};
     ghost use Rattle.qm_disk.specs.Disk.{TellsFaults};
     ghost use Rattle.qm_glog.specs.Log.{need_of, bodies_of as bodies_in, spare_of as spare_in, StandsIn, FitsOrIsFull};
@@ -43,7 +43,7 @@ impl<D: Disk> Open<D> {
         ensures bodies { bodies_of result ≡ bodies_in log }
         ensures spare { spare_of result ≡ spare_in log }
     {
-        Open { alloc, disk, log }
+        Store { alloc, disk, log }
     }
 
     /// How many records there are.
@@ -127,7 +127,7 @@ impl<D: Disk> Open<D> {
     pub fn give_back(self) -> D
         ensures { result ≡ disk_of self }
     {
-        let Open { disk, .. } = self;
+        let Store { disk, .. } = self;
         disk
     }
 }

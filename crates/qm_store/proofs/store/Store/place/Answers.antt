@@ -1,7 +1,7 @@
 use Rattle.std.proofs.Common.{◌+◌, arith}
 use Rattle.qm_store.specs.Store.{bodies_of}
 use Rattle.qm_store.proofs.Rows.{place_more, place_within}
-use Rattle.qm_store.proofs.store.Open.place.Goals as goal
+use Rattle.qm_store.proofs.store.Store.place.Goals as goal
 
 pub overflow_add-place-in-loop-before : goal.overflow_add-place-in-loop-before
 overflow_add-place-in-loop-before g c =

@@ -1,6 +1,6 @@
 use Rattle.std.proofs.Common.{◌≡◌, subst, List, ℕ}
 use Rattle.qm_record.specs.Faults.{IsFirstFault, IsRecord}
-use Rattle.qm_store.proofs.store.Open.record.Goals as goal
+use Rattle.qm_store.proofs.store.Store.record.Goals as goal
 
 pub returns-clause-first : goal.returns-clause-first
 returns-clause-first g c = λ body place is bad.
