@@ -1,2 +1,4 @@
+pub mod Later
+pub mod Moments
 pub mod Noted
 pub mod Picked

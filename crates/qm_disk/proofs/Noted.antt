@@ -5,7 +5,8 @@ use Rattle.std.proofs.lemmas.Bool.{cases_eq, eq-eqb, ne_eqb}
 use Rattle.std.specs.declared.alloc.Global.{Global}
 use Rattle.qm_disk.specs.Disk.{CrashState, IsLeft, Follows, Torn, Cut}
 use Rattle.qm_disk.specs.Calls.{changed, replayed, Outcome, first_of, reading_of, LeftOf, LeftSince, ReadsOthers, Notes, IsWrite, IsTruncate, Syncs}
-use Rattle.qm_disk.specs.Crash.{replayed-push, Outcomes-push, push-Outcomes, nothing_else, keeps, torn_none, cut_none, reads_left}
+use Rattle.qm_disk.specs.Crash.{torn_none, cut_none, reads_left}
+use Rattle.qm_disk.proofs.Later.{replayed-push, Outcomes-push, push-Outcomes, nothing_else, keeps}
 use Rattle.qm_disk.specs.declared.calls.Change.{Change}
 use Rattle.qm_disk.specs.declared.calls.Change.TheVariants.{Write, Truncate, Sync}
 use Rattle.qm_disk.specs.declared.calls.Call.{Call}

@@ -1,4 +1,4 @@
--- Laws of what a crash may leave after the calls of a disk in memory.
+-- Laws that a disk in memory states as a disk: what the files read is one of the things that a crash may leave.
 use Rattle.std.specs.Prelude.{◌≡◌, ◌⊎◌, ℕ, ◌+◌, ◌-◌, ◌≤◌, ◌==◌, min, max, Bool, true, false, if◌then◌else◌, List, [], ◌∷◌, ◌++◌, length, take, drop, replicate, Option, Vec, MatchBool, IsTrue}
 use Rattle.std.proofs.Common.{inl, inr, refl, sym, ◌∙◌, ap, subst, arith, length-append, length-take, length-drop}
 use Rattle.std.proofs.lemmas.List.{length-replicate, append-nil, take-append-le, take-take, take_all, drop_all, drop-drop, drop_at, append_assoc}
@@ -77,24 +77,9 @@ torn_spliced at n b d small =
         ∙ drop-drop k (at + length b) p
         ∙ drop_padded at (at + length b + k) d (omega arith))
 
--- one call more
-pub replayed-push : (f : ℕ) (calls : List Call) (call : Call) (content : List ℕ) → replayed f (calls ++ call ∷ []) content ≡ content_after f (replayed f calls content) call
-replayed-push f [] call content = refl
-replayed-push f (c ∷ calls) call content = replayed-push f calls call (content_after f content c)
-
--- what a crash may leave after it
+-- what a crash may leave after one call more
 abbrev pub AfterCall : ℕ → Call → List ℕ → (List ℕ → Type 0) → List ℕ → Type 0
 AfterCall f call content old c = MatchBool (call.file == f) (Outcome call.change content old c) (old c)
-
-pub Outcomes-push : (f : ℕ) (calls : List Call) (call : Call) (content : List ℕ) (old : List ℕ → Type 0) (c : List ℕ)
-    → Outcomes f (calls ++ call ∷ []) content old c → AfterCall f call (replayed f calls content) (Outcomes f calls content old) c
-Outcomes-push f [] call content old c left = left
-Outcomes-push f (d ∷ calls) call content old c left = Outcomes-push f calls call (content_after f content d) (AfterCall f d content old) c left
-
-pub push-Outcomes : (f : ℕ) (calls : List Call) (call : Call) (content : List ℕ) (old : List ℕ → Type 0) (c : List ℕ)
-    → AfterCall f call (replayed f calls content) (Outcomes f calls content old) c → Outcomes f (calls ++ call ∷ []) content old c
-push-Outcomes f [] call content old c left = left
-push-Outcomes f (d ∷ calls) call content old c left = push-Outcomes f calls call (content_after f content d) (AfterCall f d content old) c left
 
 -- what the file reads is one of the outcomes
 changed_is_left : (change : Change) (content : List ℕ) (old : List ℕ → Type 0) → old content → Outcome change content old (changed change content)
@@ -125,23 +110,6 @@ pub left_only_now : (first : List (Vec ℕ Global)) (calls : List Call) (crashed
 left_only_now first calls crashed left =
     let all : length calls ≤ left.0 = omega (arith, left.1) in
     subst (λ (l : List Call). IsLeft (LeftOf first l) crashed) (take_all left.0 calls all) left.3
-
--- one call more takes time
-module _ (first : List (Vec ℕ Global)) (calls : List Call) (call : Call) where
-  earlier : (k : ℕ) → k ≤ length calls → take k (calls ++ call ∷ []) ≡ take k calls
-  earlier k le = take-append-le k calls (call ∷ []) le
-
-  pub nothing_else : (t : ℕ) (crashed : CrashState) → t ≤ length calls → LeftSince first (calls ++ call ∷ []) t crashed → LeftSince first calls t crashed ⊎ IsLeft (LeftOf first (calls ++ call ∷ [])) crashed
-  nothing_else t crashed le left = elim (cases_lt (length calls) left.0) [
-    | inr before ↦ inl (left.0, left.1, before, subst (λ (l : List Call). IsLeft (LeftOf first l) crashed) (earlier left.0 before) left.3)
-    | inl now ↦ inr (subst (λ (l : List Call). IsLeft (LeftOf first l) crashed) (take_all left.0 (calls ++ call ∷ []) (omega (arith, length-append calls (call ∷ [])))) left.3)
-  ]
-
-  pub keeps : (t : ℕ) (crashed : CrashState) → t ≤ length calls → LeftSince first calls t crashed → LeftSince first (calls ++ call ∷ []) t crashed
-  keeps t crashed le left =
-      let longer : length calls ≤ length (calls ++ call ∷ []) = omega (arith, length-append calls (call ∷ [])) in
-      let within : left.0 ≤ length (calls ++ call ∷ []) = omega (arith, left.2) in
-      (left.0, left.1, within, subst (λ (l : List Call). IsLeft (LeftOf first l) crashed) (sym (earlier left.0 left.2)) left.3)
 
 pub reads_left : (first : List (Vec ℕ Global)) (changed_to : List (Option (Vec ℕ Global))) (calls : List Call) (f : ℕ)
     → reading_of first changed_to f ≡ replayed f calls (first_of first f) → LeftOf first calls f (reading_of first changed_to f)

@@ -1,5 +1,4 @@
 pub mod Disk
-pub mod Moments
 pub mod Calls
 pub mod Crash
 pub mod Memory

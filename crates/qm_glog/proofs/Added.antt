@@ -1,9 +1,14 @@
 -- What a crash leaves at each moment of an append.
 use Rattle.std.proofs.Common.{◌≡◌, inl, sym, ◌∙◌, ap, subst, ℕ, ◌+◌, ◌^◌, ◌<◌, ◌≤◌, List, [], ◌∷◌, ◌++◌, length, drop, arith}
-use Rattle.qm_disk.specs.Disk.{Meaning, CrashState, spliced, Torn, KeepsOthers}
+use Rattle.std.specs.Prelude.{IsTrue}
+use Rattle.qm_disk.specs.Disk.{Meaning, CrashState, spliced, Torn, KeepsOthers, LeavesOnly}
+use Rattle.qm_disk.proofs.Moments.{weaker, goes_further, keeps_on}
 use Rattle.qm_glog.specs.Records.{text, size_of, IsLog, IsShutByZero}
-use Rattle.qm_glog.specs.Reading.{length-text, text-push}
-use Rattle.qm_glog.specs.Moments.{Written, Appended}
+use Rattle.qm_glog.proofs.Texts.{length-text, text-push}
+use Rattle.qm_glog.specs.Moments.{TornWrite, TornAppend}
+use Rattle.qm_glog.specs.Log.{bodies_of, IsAsLeft}
+use Rattle.qm_glog.specs.Appending.{Appends}
+use Rattle.qm_glog.specs.declared.log.Log.{Log}
 use Rattle.qm_glog.proofs.Adding.{tail, staged, room, length-staged, torn_behind, written_behind, torn_gate, written_gate, after_gate}
 
 module _ {D : Type 0} (m : Meaning D) (file : ℕ) (old : D) (bodies : List (List ℕ)) (log : IsLog (m.seen old file) bodies)
@@ -16,11 +21,16 @@ module _ {D : Type 0} (m : Meaning D) (file : ℕ) (old : D) (bodies : List (Lis
   gate_stands = room bodies log.fit end is body small (m.seen old file) log.gate log.rest log.shut log.whole
 
   -- the first write leaves the old records
-  pub first_leaves : (n : ℕ) (crashed : CrashState) → Written (m.may_leave old) file (end + 1) n (m.seen old file) crashed → Appended (m.may_leave old) file bodies body crashed
+  pub first_leaves : (n : ℕ) (crashed : CrashState) → TornWrite (m.may_leave old) file (end + 1) n (m.seen old file) crashed → TornAppend (m.may_leave old) file bodies body crashed
   first_leaves n crashed written = record {
     records = inl (torn_behind bodies log.fit end is body small (m.seen old file) log.gate log.rest log.shut log.whole n (crashed file) written.torn);
     others = written.others;
   }
+
+  pub leaves_by_first : (mid : D) (n : ℕ) → LeavesOnly m old mid (TornWrite (m.may_leave old) file (end + 1) n (m.seen old file))
+      → LeavesOnly m old mid (TornAppend (m.may_leave old) file bodies body)
+  leaves_by_first mid n wrote =
+      weaker m old mid (TornWrite (m.may_leave old) file (end + 1) n (m.seen old file)) (TornAppend (m.may_leave old) file bodies body) wrote (first_leaves n)
 
   rest : ℕ → List ℕ
   rest n = drop n (m.seen old file)
@@ -39,7 +49,7 @@ module _ {D : Type 0} (m : Meaning D) (file : ℕ) (old : D) (bodies : List (Lis
     gate_still_stands = omega (arith, ap (λ (l : List ℕ). length l) is_staged, length-staged bodies log.fit end is body small log.gate behind)
 
     -- the second leaves them with the new one or without
-    pub second_leaves : KeepsOthers m file old mid → (crashed : CrashState) → Written (m.may_leave mid) file end 1 (m.seen mid file) crashed → Appended (m.may_leave old) file bodies body crashed
+    pub second_leaves : KeepsOthers m file old mid → (crashed : CrashState) → TornWrite (m.may_leave mid) file end 1 (m.seen mid file) crashed → TornAppend (m.may_leave old) file bodies body crashed
     second_leaves others crashed written = record {
       records = torn_gate bodies log.fit end is body small log.gate behind (crashed file) (subst (λ (l : List ℕ). Torn end 1 l (crashed file)) is_staged written.torn);
       others = λ f le other. others.no_more f (crashed f) le other (written.others f le other);
@@ -55,3 +65,16 @@ module _ {D : Type 0} (m : Meaning D) (file : ℕ) (old : D) (bodies : List (Lis
     -- and behind it the byte 0
     pub shut_by_zero : (new : D) → m.seen new file ≡ spliced end (1 ∷ []) (m.seen mid file) → IsShutByZero (m.seen new file) (bodies ++ body ∷ [])
     shut_by_zero new opened = (behind, whole new opened ∙ sym (text-push bodies body (0 ∷ behind)))
+
+-- both writes do together what an append does, whether the second held or not
+module _ {D : Type 0} (m : Meaning D) (log : Log) (body : List ℕ) (small : length body < 2 ^ 32) (old mid new : D) (bytes : List ℕ) (spelled : bytes ≡ tail body) where
+  pub leaves_by_both : (IsTrue m.tells → IsAsLeft m log old) → (IsTrue m.tells → m.seen mid log.file ≡ spliced (log.end + 1) bytes (m.seen old log.file))
+      → (IsTrue m.tells → LeavesOnly m old mid (TornWrite (m.may_leave old) log.file (log.end + 1) (length bytes) (m.seen old log.file)))
+      → (IsTrue m.tells → LeavesOnly m mid new (TornWrite (m.may_leave mid) log.file log.end 1 (m.seen mid log.file)))
+      → KeepsOthers m log.file old mid → KeepsOthers m log.file mid new → Appends m body log old new
+  leaves_by_both left wrote first second kept kept_on = record {
+    any_moment = λ told. goes_further m old mid new (TornAppend (m.may_leave old) log.file (bodies_of log) body) (TornWrite (m.may_leave mid) log.file log.end 1 (m.seen mid log.file))
+        (leaves_by_first m log.file old (bodies_of log) (left told).records log.end log.at_end body small mid (length bytes) (first told)) (second told)
+        (second_leaves m log.file old (bodies_of log) (left told).records log.end log.at_end body small mid bytes spelled (wrote told) kept);
+    others = keeps_on m log.file old mid new kept kept_on;
+  }

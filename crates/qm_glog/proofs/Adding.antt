@@ -4,7 +4,7 @@ use Rattle.std.proofs.lemmas.List.{take_at, drop_at, drop_more}
 use Rattle.std.proofs.lemmas.Bool.{cases_eq}
 use Rattle.qm_disk.specs.Disk.{spliced, Torn}
 use Rattle.qm_glog.specs.Records.{behind_gate, text, Fit, IsLog, IsBeforeOrAfter}
-use Rattle.qm_glog.specs.Reading.{length-behind_gate, text-push, Fit-push}
+use Rattle.qm_glog.proofs.Texts.{length-behind_gate, text-push, Fit-push}
 
 -- a record behind its gate, and a closed gate behind it
 abbrev pub tail : List ℕ → List ℕ

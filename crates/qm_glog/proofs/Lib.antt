@@ -5,3 +5,4 @@ pub mod Heads
 pub mod Made
 pub mod OneWrite
 pub mod Walk
+pub mod Texts

@@ -7,7 +7,7 @@ use Rattle.qm_glog.specs.Records.{behind_gate, text, size_of, IsLog}
 use Rattle.qm_glog.specs.Bodies.{contents}
 use Rattle.qm_glog.specs.Log.{bodies_of, StandsIn, IsAsLeft}
 use Rattle.qm_glog.specs.declared.log.Log.{Log}
-use Rattle.qm_glog.specs.Reading.{text-push, size_of-push, size_of-append, Fit-short}
+use Rattle.qm_glog.proofs.Texts.{text-push, size_of-push, size_of-append, Fit-short}
 
 -- what is written where nothing is, is all
 pub spliced_over_none : (bytes : List ℕ) → spliced 0 bytes [] ≡ bytes

@@ -2,7 +2,7 @@
 use Rattle.std.proofs.Common.{◌≡◌, refl, sym, ◌∙◌, ap, subst, ℕ, ◌+◌, ◌≤◌, List, [], ◌∷◌, ◌++◌, length, take, drop, Result, Ok, Err, IsErrAnd, arith, length-take, length-drop, append_assoc}
 use Rattle.std.proofs.lemmas.List.{drop_at}
 use Rattle.qm_glog.specs.Records.{behind_gate, text, size_of, Fit, BeginsWithRecord}
-use Rattle.qm_glog.specs.Reading.{text-push, length-text, size_of-push, Fit-push}
+use Rattle.qm_glog.proofs.Texts.{text-push, length-text, size_of-push, Fit-push}
 use Rattle.qm_glog.specs.Found.{HeadAt, IsReadFault, RecordsOf}
 use Rattle.qm_glog.specs.declared.bodies.Bodies.{Bodies}
 use Rattle.qm_glog.specs.declared.fault.OpenFault.{OpenFault}

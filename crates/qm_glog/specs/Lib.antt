@@ -1,8 +1,8 @@
 pub mod Records
-pub mod Reading
 pub mod Moments
 pub mod Cut
 pub mod Bodies
 pub mod Found
 pub mod Log
+pub mod Appending
 pub mod Opened

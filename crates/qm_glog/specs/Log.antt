@@ -1,11 +1,9 @@
 -- What a log shows.
-use Rattle.std.specs.Prelude.{◌≡◌, ℕ, ◌+◌, ◌-◌, ◌^◌, ◌<◌, ◌≤◌, min, List, length, Result, Ok, Err}
+use Rattle.std.specs.Prelude.{◌≡◌, ℕ, ◌+◌, ◌-◌, ◌^◌, min, List, length}
 use Rattle.qm_disk.specs.Disk.{Meaning, Only}
 use Rattle.qm_glog.specs.Records.{size_of, IsLog}
 use Rattle.qm_glog.specs.Bodies.{list_of}
 use Rattle.qm_glog.specs.declared.log.Log.{Log}
-use Rattle.qm_glog.specs.declared.fault.AppendFault.{AppendFault}
-use Rattle.qm_glog.specs.declared.fault.AppendFault.TheVariants.{Disk, Full}
 
 -- the bodies of its records, the first one first
 abbrev pub bodies_of : Log → List (List ℕ)
@@ -31,12 +29,6 @@ need_of bodies body = min (size_of bodies + length body + 6) (2 ^ 64 - 1)
 pub record StandsIn (file cap : ℕ) (log : Log) : Type 0 where
   pub file_is : log.file ≡ file
   pub cap_is : log.cap ≡ cap
-
--- An append of a record that needs more than the cap is full. No other one is: it holds, or the disk fails.
-abbrev pub FitsOrIsFull : {T : Type 0} → ℕ → ℕ → Result T AppendFault → Type 0
-FitsOrIsFull need cap (Ok done) = need ≤ cap
-FitsOrIsFull need cap (Err Disk) = need ≤ cap
-FitsOrIsFull need cap (Err (Full n c)) = (cap < need) × (n ≡ need) × (c ≡ cap)
 
 -- the file is as the last call of this log left it: it holds the log's records, all on the disk
 pub record IsAsLeft {D : Type 0} (m : Meaning D) (log : Log) (disk : D) : Type 0 where

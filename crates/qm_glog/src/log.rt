@@ -1,7 +1,7 @@
 // The log and its calls on records.
-ghost use Rattle.std.specs.Prelude.{◌≡◌, ◌+◌, ◌<◌, ◌≤◌, [], ◌∷◌, ◌++◌, IsTrue, length, vec_capacity, OnOk, OnErr, IsErrOf, slice_get, Some};
-ghost use Rattle.qm_disk.specs.Disk.{KeepsOthers, LeavesOnly, TellsFaults};
-ghost use Rattle.qm_glog.specs.Records.{size_of, IsShutByZero};
+ghost use Rattle.std.specs.Prelude.{◌≡◌, ◌+◌, ◌<◌, ◌≤◌, IsTrue, length, vec_capacity, OnOk, IsErrOf, slice_get, Some};
+ghost use Rattle.qm_disk.specs.Disk.{TellsFaults};
+ghost use Rattle.qm_glog.specs.Records.{size_of};
 ghost use Rattle.qm_glog.specs.Bodies.{list_of, free_bytes, free_ends};
 ghost use Rattle.qm_glog.specs.declared.log.TheConstants.{GREATEST_CAP};
 
@@ -36,8 +36,8 @@ pub struct Log {
 }
 
 impl Log {
-    ghost use Rattle.qm_glog.specs.Moments.{Appended};
-    ghost use Rattle.qm_glog.specs.Log.{bodies_of, file_of, cap_of, spare_of, need_of, StandsIn, FitsOrIsFull, IsAsLeft};
+    ghost use Rattle.qm_glog.specs.Log.{bodies_of, file_of, cap_of, spare_of, StandsIn, IsAsLeft};
+    ghost use Rattle.qm_glog.specs.Appending.{Appended, Appends};
 
     // The log with these bodies and this end, with nothing spare.
     pub(crate) fn of(alloc: Global, file: u8, cap: u64, bodies: Bodies, end: u64) -> Self
@@ -94,29 +94,18 @@ impl Log {
         Ok(())
     }
 
-    /// Adds a record, by four calls on the disk, two of them syncs. At `Ok` it is acknowledged: from then on each
-    /// crash leaves it. At `Full` nothing has changed. After `Disk` the file has to be opened again as a new log.
+    /// Adds a record, by four calls on the disk, two of them syncs; it takes no memory but what was made spare. At
+    /// `Ok` the record is acknowledged: from then on each crash leaves it. At `Full` nothing has changed. After
+    /// `Disk` the file has to be opened again as a new log.
     pub fn append<D: Disk>(&mut self, disk: &mut D, body: &[u8]) -> Result<(), AppendFault>
         requires room { length body.now < spare_of self.old }
         // The file is as this log's last call left it, and no call of this log answered `Disk`.
         requires left { IsTrue D.meaning.tells → IsAsLeft D.meaning self.old disk.old }
 
-        ensures ok { OnOk result (bodies_of self.new ≡ bodies_of self.old ++ body.now ∷ []) }
-        ensures err { OnErr result (bodies_of self.new ≡ bodies_of self.old) }
-        ensures acknowledged { OnOk result (IsTrue D.meaning.tells → IsAsLeft D.meaning self.new disk.new) }
-        ensures shut { OnOk result (IsTrue D.meaning.tells → IsShutByZero (D.meaning.seen disk.new (file_of self.old)) (bodies_of self.new)) }
-
-        // A crash at any moment of the call leaves the old records, or these and the new one.
-        ensures any_moment { IsTrue D.meaning.tells → LeavesOnly D.meaning disk.old disk.new
-            (Appended (D.meaning.may_leave disk.old) (file_of self.old) (bodies_of self.old) body.now) }
-        ensures others { KeepsOthers D.meaning (file_of self.old) disk.old disk.new }
-
-        ensures full { FitsOrIsFull (need_of (bodies_of self.old) body.now) (cap_of self.old) result }
-        ensures unchanged { cap_of self.old < need_of (bodies_of self.old) body.now → (self.new ≡ self.old) × (disk.new ≡ disk.old) }
-        ensures faults { TellsFaults D.meaning disk.old disk.new (IsErrOf result AppendFault.Disk) }
-
-        ensures spare { OnOk result (spare_of self.new ≡ 0) }
+        ensures answer { Appended D.meaning body.now self.old self.new disk.old disk.new result }
         ensures place { StandsIn (file_of self.old) (cap_of self.old) self.new }
+        ensures leaves { Appends D.meaning body.now self.old disk.old disk.new }
+        ensures faults { TellsFaults D.meaning disk.old disk.new (IsErrOf result AppendFault.Disk) }
     {
         let need = self.end.saturating_add(body.len() as u64).saturating_add(6);
         if need > self.cap {

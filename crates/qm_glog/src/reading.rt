@@ -1,5 +1,5 @@
 // How a log is read, record by record.
-ghost use Rattle.std.specs.Prelude.{◌≡◌, ◌+◌, ◌<◌, ◌≤◌, IsTrue, length, drop, IfOk, IsErrOf};
+ghost use Rattle.std.specs.Prelude.{◌≡◌, ◌+◌, ◌<◌, ◌≤◌, max, IsTrue, length, drop, IfOk, IsErrOf};
 ghost use Rattle.std.specs.Int.{w32, to_le_bytes, from_le_bytes};
 ghost use Rattle.qm_disk.specs.Disk.{OnlyLooks, TellsFaults};
 ghost use Rattle.qm_glog.specs.Records.{size_of};
@@ -96,7 +96,8 @@ fn read_head<D: Disk>(disk: &mut D, file: u8, place: u64, size: u64) -> Result<H
 // For how many bytes memory is made where a body of so many is to come: with the first one for all of a file that
 // is within its cap.
 fn room_for(count: usize, place: u64, size: u64, cap: u64) -> usize
-    ensures { count ≤ result }
+    ensures enough { count ≤ result }
+    ensures bounded { result ≤ max count cap }
 {
     if place == 0 {
         count.max(size.min(cap) as usize)

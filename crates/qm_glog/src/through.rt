@@ -1,7 +1,7 @@
 // Writes that are on the disk once they are answered.
 ghost use Rattle.std.specs.Prelude.{◌≡◌, ◌≤◌, IsTrue, IsErr, length, OnOk};
 ghost use Rattle.qm_disk.specs.Disk.{spliced, Only, KeepsOthers, ChangesOnly, LeavesOnly, TellsFaults};
-ghost use Rattle.qm_glog.specs.Moments.{Written};
+ghost use Rattle.qm_glog.specs.Moments.{TornWrite};
 
 use qm_disk::{Disk, DiskFault};
 
@@ -19,7 +19,7 @@ pub(crate) fn write_through<D: Disk>(
     ensures written { OnOk result (IsTrue D.meaning.tells → D.meaning.seen disk.new file ≡ spliced at bytes.now (D.meaning.seen disk.old file)) }
     ensures durable { OnOk result (IsTrue D.meaning.tells → Only (D.meaning.seen disk.new file) (D.meaning.may_leave disk.new file)) }
     ensures any_moment { IsTrue D.meaning.tells → LeavesOnly D.meaning disk.old disk.new
-        (Written (D.meaning.may_leave disk.old) file at (length bytes.now) (D.meaning.seen disk.old file)) }
+        (TornWrite (D.meaning.may_leave disk.old) file at (length bytes.now) (D.meaning.seen disk.old file)) }
     ensures others { KeepsOthers D.meaning file disk.old disk.new }
     ensures faults { TellsFaults D.meaning disk.old disk.new (IsErr result) }
 {

@@ -7,7 +7,7 @@ use Rattle.std.proofs.lemmas.List.{map-append}
 use Rattle.std.proofs.lemmas.Bool.Decides.{nat_tests}
 use Rattle.std.proofs.lemmas.Bool.{cases_lt}
 use Rattle.qm_disk.specs.Disk.{Meaning, CrashState, IsLeft}
-use Rattle.qm_disk.specs.Moments.{weaker}
+use Rattle.qm_disk.proofs.Moments.{weaker}
 use Rattle.qm_glog.specs.Log.{need_of}
 use Rattle.qm_kinds.specs.declared.file.FileName.{FileName}
 use Rattle.qm_kinds.specs.declared.record.Record.{Record}
@@ -24,11 +24,12 @@ use Rattle.qm_model.specs.Appending.{append_refusal, is_spool_full, bytes_of, re
 use Rattle.qm_model.specs.First.{first_system}
 use Rattle.qm_model.specs.Outcome.{Accepted, unless_refused, first_refusal, refused_where}
 use Rattle.qm_record.specs.Spelling.{HasSpelling, record_text, request_record}
-use Rattle.qm_store.specs.Store.{Holds, Appended, Appends, IsAtRest}
+use Rattle.qm_store.specs.Store.{Holds, IsAtRest}
+use Rattle.qm_store.specs.Appending.{TornAppend, Appends}
 use Rattle.qm_store.specs.declared.store.TheConstants.{QUEUE_CAP}
 use Rattle.qm_manager.specs.QueueFile.{accepted_system, after_record, replayed, first_rows, IsQueueFile}
 use Rattle.qm_manager.specs.Site.{Site, IsLawful, IsSite, BeforeOrAfter}
-use Rattle.qm_manager.specs.Sites.{site_is, steps_nowhere}
+use Rattle.qm_manager.proofs.Sites.{site_is, steps_nowhere}
 use Rattle.qm_manager.specs.Asking.{Asked, Done, Full, IsDone, IsAccepted, Steps, record_of, kept, decided, asked, site_after}
 use Rattle.qm_manager.specs.Restoring.{HasNode}
 
@@ -163,7 +164,7 @@ module _ (site : Site) (r : Request) (a : Accepted) (accepted : applied site.sys
       subst (λ (x : System). IsQueueFile after_ x) system_is (subst (λ (bs : List (List ℕ)). IsQueueFile bs a.system) same_after lawful)
 
   -- the record may be there while it is written
-  may_be_there : (may_leave : ℕ → List ℕ → Type 0) → IsLawful site → IsLawful site_done → need_of bodies body ≤ QUEUE_CAP → (crashed : CrashState) → Appended may_leave bodies body crashed
+  may_be_there : (may_leave : ℕ → List ℕ → Type 0) → IsLawful site → IsLawful site_done → need_of bodies body ≤ QUEUE_CAP → (crashed : CrashState) → TornAppend may_leave bodies body crashed
       → BeforeOrAfter may_leave site (site_after site (asked site r)) crashed
   may_be_there may_leave before lawful fits crashed left = record {
     site = ⊎_elim (λ old. inl (site_is site crashed before (subst (λ (bs : List (List ℕ)). Holds bs crashed) same old)))
@@ -180,7 +181,7 @@ module _ (site : Site) (r : Request) (a : Accepted) (accepted : applied site.sys
     steps_done before lawful rest only_now unchanged appends = elim (cases_lt QUEUE_CAP (need_of bodies body)) [
       | inl over ↦ steps_nowhere m site (site_after site (asked site r)) old new (unchanged over) before rest only_now
       | inr fits ↦ record {
-        any_moment = λ told. weaker m old new (Appended (m.may_leave old) bodies body) (BeforeOrAfter (m.may_leave old) site (site_after site (asked site r))) (appends.any_moment told) (may_be_there (m.may_leave old) before lawful fits);
+        any_moment = λ told. weaker m old new (TornAppend (m.may_leave old) bodies body) (BeforeOrAfter (m.may_leave old) site (site_after site (asked site r))) (appends.any_moment told) (may_be_there (m.may_leave old) before lawful fits);
         others = appends.others;
       }
     ]

@@ -13,6 +13,7 @@ use Rattle.qm_kinds.specs.declared.system.System.{System}
 use Rattle.qm_kinds.specs.declared.name.TheConstants.{NODE_NAME_BYTES}
 use Rattle.qm_model.specs.First.{first_system}
 use Rattle.qm_record.specs.Spelling.{HasSpelling, record_text}
+use Rattle.qm_store.specs.Store.{OfBody}
 use Rattle.qm_manager.specs.QueueFile.{row, head_of, first_rows, IsQueueFile, Begins, IsFirstUnlawful}
 use Rattle.qm_manager.specs.Restoring.{short_name, named_by, IsOf, BeginsWithRows, Judges, IsRead, IsAt}
 use Rattle.qm_manager.specs.declared.restoring.RestoreEnd.{RestoreEnd}
@@ -55,7 +56,7 @@ pub names_its_node : (r : Record) (node : List ℕ) → length node ≤ NODE_NAM
 names_its_node r node short same = ap (λ (x : Record). named_by x.body) same ∙ short_name_is node short
 
 pub is_of : (bodies : List (List ℕ)) (r : Record) (node : List ℕ) → 0 < length bodies → length node ≤ NODE_NAME_BYTES → named_by r.body ≡ Some node
-    → ((body : List ℕ) (other : Record) → slice_get bodies 0 ≡ Some body → HasSpelling other → body ≡ record_text other → r ≡ other)
+    → OfBody bodies 0 (λ body. (other : Record) → HasSpelling other → body ≡ record_text other → r ≡ other)
     → IsOf bodies node
 is_of [] r node some short named only = absurd (omega arith)
 is_of (first ∷ others) r node some short named only = record {
@@ -64,7 +65,7 @@ is_of (first ∷ others) r node some short named only = record {
   others = others;
   are = refl;
   only = λ more s f.
-      let same = only first (head_row f.node) refl f.fit.0 (same_first first _ more _ f.spelled) in
+      let same = only first refl (head_row f.node) f.fit.0 (same_first first _ more _ f.spelled) in
       same_some f.node node (sym (names_its_node r f.node f.short same) ∙ named);
 }
 
@@ -177,16 +178,16 @@ pub none_is_unlawful : (bodies : List (List ℕ)) → length bodies ≡ 0 → Is
 none_is_unlawful bodies empty = first_is_unlawful bodies (λ body node is short fits spelled. absurd (omega (arith, empty, slice_get_within bodies 0 body is)))
 
 pub unnamed_is_unlawful : (bodies : List (List ℕ)) (r : Record) → named_by r.body ≡ None
-    → ((body : List ℕ) (other : Record) → slice_get bodies 0 ≡ Some body → HasSpelling other → body ≡ record_text other → r ≡ other)
+    → OfBody bodies 0 (λ body. (other : Record) → HasSpelling other → body ≡ record_text other → r ≡ other)
     → IsFirstUnlawful bodies 0
 unnamed_is_unlawful bodies r unnamed only = first_is_unlawful bodies (λ body node is short fits spelled.
-    let named : named_by r.body ≡ Some node = names_its_node r node short (only body (head_row node) is fits spelled) in
+    let named : named_by r.body ≡ Some node = names_its_node r node short (only body is (head_row node) fits spelled) in
     cc)
 
 pub unread_is_judged : (bodies : List (List ℕ)) (end : RestoreEnd) → IsAt 0 end
-    → ((body : List ℕ) (other : Record) → slice_get bodies 0 ≡ Some body → HasSpelling other → body ≡ record_text other → IsRead other (Err end))
+    → OfBody bodies 0 (λ body. (other : Record) → HasSpelling other → body ≡ record_text other → IsRead other (Err end))
     → Judges bodies end
-unread_is_judged bodies (Unlawful index) place only = subst (IsFirstUnlawful bodies) (sym place) (first_is_unlawful bodies (λ body node is short fits spelled. only body (head_row node) is fits spelled))
+unread_is_judged bodies (Unlawful index) place only = subst (IsFirstUnlawful bodies) (sym place) (first_is_unlawful bodies (λ body node is short fits spelled. only body is (head_row node) fits spelled))
 unread_is_judged bodies NoMemory place only = tt
 
 pub rows_end : (bodies : List (List ℕ)) (node : List ℕ) (index : ℕ) → index ≡ 3 → take index bodies ≡ take index (map record_text (first_rows node)) → take 3 bodies ≡ map record_text (first_rows node)

@@ -6,7 +6,7 @@ use Rattle.qm_manager.specs.Opened.{IsOpenFault, told_of}
 use Rattle.qm_manager.specs.Restoring.{Judges}
 use Rattle.qm_manager.specs.declared.restoring.RestoreEnd.{RestoreEnd}
 use Rattle.qm_manager.specs.declared.restoring.RestoreEnd.TheVariants.{Unlawful, NoMemory}
-use Rattle.qm_manager.specs.Sites.{begins_with_record}
+use Rattle.qm_manager.proofs.Sites.{begins_with_record}
 
 judged : (file : List ℕ) (bodies : List (List ℕ)) (end : RestoreEnd) → IsFormatted file bodies → Judges bodies end → IsOpenFault file (told_of bodies end)
 judged file bodies (Unlawful index) is judges = (

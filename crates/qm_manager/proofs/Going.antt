@@ -1,6 +1,6 @@
 -- A queue file that goes on, record by record.
-use Rattle.std.proofs.Common.{◌≡◌, ℕ, ◌+◌, ◌<◌, ◌≤◌, List, [], ◌∷◌, ◌++◌, length, map, take, drop, Some, None, Result, Ok, Err, sym, ap, subst, ◌∙◌, arith, append_assoc}
-use Rattle.std.specs.Prelude.{IfOk, IfErr, OnOk}
+use Rattle.std.proofs.Common.{◌≡◌, ℕ, ◌+◌, ◌<◌, ◌≤◌, List, [], ◌∷◌, ◌++◌, length, map, take, drop, Some, None, Result, Ok, Err, refl, sym, ap, subst, ◌∙◌, arith, append_assoc}
+use Rattle.std.specs.Prelude.{IfOk, IfErr, OnOk, IsErrOf}
 use Rattle.std.specs.List.{AllByRecursion, slice_get}
 use Rattle.std.specs.Option.{option_and_then}
 use Rattle.std.proofs.lemmas.List.{take_more, take_all, map-append, append-nil}
@@ -10,7 +10,7 @@ use Rattle.qm_kinds.specs.declared.system.System.{System}
 use Rattle.qm_model.specs.First.{first_system}
 use Rattle.qm_bytes.specs.Laws.{Spells}
 use Rattle.qm_record.specs.Spelling.{HasSpelling, record_text}
-use Rattle.qm_record.specs.Faults.{IsRead as IsReadSo}
+use Rattle.qm_record.specs.Faults.{IsRead as IsReadSo, IsRecord}
 use Rattle.qm_record.specs.declared.fault.RecordFault.{RecordFault}
 use Rattle.qm_record.specs.declared.fault.RecordFault.TheVariants.{Bad}
 use Rattle.qm_record.specs.declared.fault.RecordFault.TheVariants as fault
@@ -187,9 +187,12 @@ pub record_leaves : (read : Result Record RecordFault) (body : List ℕ) (s t : 
 record_leaves (Ok r) body s t spells only leaves = read_leaves body r s t spells only leaves
 record_leaves (Err fault) body s t spells only leaves = absurd leaves
 
-pub record_is_refused : (index : ℕ) (read : Result Record RecordFault) (body : List ℕ) (s : System) (end : RestoreEnd) → ((other : Record) → HasSpelling other → body ≡ record_text other → IsReadSo other read)
+pub record_is_refused : (index : ℕ) (read : Result Record RecordFault) (body : List ℕ) (s : System) (end : RestoreEnd) → IfOk read (λ r. Spells HasSpelling record_text r body)
+    → ((other : Record) → HasSpelling other → body ≡ record_text other → IsReadSo other read) → (IsErrOf read fault.NoMemory → IsRecord body)
     → RefusesRead index read s end → IsRefused index body s end
-record_is_refused index (Ok r) body s (Unlawful i) only refused = (refused.0, read_leaves_nothing body r s only refused.1)
-record_is_refused index (Err (Bad place)) body s (Unlawful i) only refused = (refused, λ other fits is. absurd (only other fits is))
-record_is_refused index (Err fault.NoMemory) body s (Unlawful i) only refused = absurd refused
-record_is_refused index read body s NoMemory only refused = tt
+record_is_refused index (Ok r) body s (Unlawful i) found only out refused = (refused.0, read_leaves_nothing body r s only refused.1)
+record_is_refused index (Ok r) body s NoMemory found only out refused = record { value = r; spells = found }
+record_is_refused index (Err (Bad place)) body s (Unlawful i) found only out refused = (refused, λ other fits is. absurd (only other fits is))
+record_is_refused index (Err (Bad place)) body s NoMemory found only out refused = absurd refused
+record_is_refused index (Err fault.NoMemory) body s (Unlawful i) found only out refused = absurd refused
+record_is_refused index (Err fault.NoMemory) body s NoMemory found only out refused = out refl

@@ -5,3 +5,4 @@ pub mod Asked
 pub mod OneSite
 pub mod Faults
 pub mod Consistent
+pub mod Sites

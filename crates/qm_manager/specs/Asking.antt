@@ -57,6 +57,10 @@ site_after site (Done after reply) = after
 site_after site (Refused refusal) = site
 site_after site (Full need cap) = site
 
+-- the site once it was asked for this
+abbrev pub site_asked : Site → Request → Site
+site_asked site request = site_after site (asked site request)
+
 abbrev pub IsDone : Asked → Type 0
 IsDone (Done site reply) = Unit {0}
 IsDone (Refused refusal) = ⊥

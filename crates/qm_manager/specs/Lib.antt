@@ -4,4 +4,3 @@ pub mod Asking
 pub mod Manager
 pub mod Opened
 pub mod Restoring
-pub mod Sites

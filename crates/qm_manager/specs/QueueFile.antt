@@ -1,5 +1,5 @@
 -- What the records of a queue file stand for.
-use Rattle.std.specs.Prelude.{◌≡◌, ℕ, ◌+◌, ◌<◌, ◌≤◌, nat_le, nat_lt, ◌&&◌, if◌then◌else◌, List, [], ◌∷◌, ◌++◌, length, map, take, Option, None, Some, Result, Ok, Err}
+use Rattle.std.specs.Prelude.{◌≡◌, ℕ, ◌+◌, ◌<◌, ◌≤◌, nat_le, nat_lt, ◌&&◌, if◌then◌else◌, Bool, List, [], ◌∷◌, ◌++◌, length, map, take, Option, None, Some, Result, Ok, Err}
 use Rattle.std.specs.List.{AllByRecursion}
 use Rattle.std.specs.Option.{option_and_then}
 use Rattle.qm_kinds.specs.declared.record.Record.{Record}
@@ -31,11 +31,14 @@ abbrev pub accepted_system : Result Accepted Refusal → Option System
 accepted_system (Ok accepted) = Some accepted.system
 accepted_system (Err refusal) = None
 
--- What a request's record leaves of a system. There is nothing where the moment goes back, the node isn't there, the
--- request isn't one that can be asked, or it is refused.
+-- a request can act: its moment doesn't go back, its node is there, and it is one that can be asked
+abbrev pub can_act : System → ℕ → ℕ → Request → Bool
+can_act s moment node request = nat_le s.last moment && nat_lt node (length s.nodes) && is_built request
+
+-- What a request's record leaves of a system. There is nothing where the request can't act, or is refused.
 abbrev pub after_request : System → ℕ → ℕ → Request → Option System
 after_request s moment node request =
-    if nat_le s.last moment && nat_lt node (length s.nodes) && is_built request then accepted_system (applied s moment node request) else None
+    if can_act s moment node request then accepted_system (applied s moment node request) else None
 
 -- a row stands at the beginning alone
 abbrev pub after_body : System → ℕ → ℕ → Body → Option System

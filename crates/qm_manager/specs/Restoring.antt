@@ -1,5 +1,5 @@
 -- How a queue file is judged, record by record.
-use Rattle.std.specs.Prelude.{◌≡◌, ℕ, ◌≤◌, nat_le, true, if◌then◌else◌, List, [], ◌∷◌, ◌++◌, length, map, Option, None, Some, Result, Ok, Err}
+use Rattle.std.specs.Prelude.{◌≡◌, ℕ, ◌≤◌, nat_le, Bool, true, if◌then◌else◌, List, [], ◌∷◌, ◌++◌, length, map, Option, None, Some, IsSome, Result, Ok, Err}
 use Rattle.std.specs.List.{AllByRecursion}
 use Rattle.qm_bytes.specs.Laws.{Spells}
 use Rattle.qm_kinds.specs.declared.name.TheConstants.{NODE_NAME_BYTES}
@@ -9,6 +9,7 @@ use Rattle.qm_kinds.specs.declared.record.Body.TheVariants.{Head}
 use Rattle.qm_kinds.specs.declared.system.Node.{Node}
 use Rattle.qm_kinds.specs.declared.system.System.{System}
 use Rattle.qm_record.specs.Spelling.{HasSpelling, record_text}
+use Rattle.qm_record.specs.Faults.{IsRecord}
 use Rattle.qm_record.specs.declared.fault.RecordFault.{RecordFault}
 use Rattle.qm_record.specs.declared.fault.RecordFault.TheVariants.{Bad}
 use Rattle.qm_record.specs.declared.fault.RecordFault.TheVariants as fault
@@ -56,6 +57,10 @@ abbrev pub Judges : List (List ℕ) → RestoreEnd → Type 0
 Judges bodies (Unlawful index) = IsFirstUnlawful bodies index
 Judges bodies NoMemory = Unit {0}
 
+-- this system, if it was made
+abbrev pub some_if : Bool → System → Option System
+some_if made s = if made then Some s else None
+
 -- What one record, by its body, makes of a system: the system after it, or nothing.
 pub record Leaves (body : List ℕ) (old new : System) : Type 0 where
   pub value : Record
@@ -72,12 +77,15 @@ abbrev pub LeavesBy : Result Record RecordFault → System → System → Type 0
 LeavesBy (Ok r) old new = after_record old r ≡ Some new
 LeavesBy (Err fault) old new = ⊥
 
--- what was read of the record with this index makes nothing of it
+-- What was read of the record with this index makes nothing of it. Memory is wanted for what can stand there alone, or was
+-- wanted where it was read.
 abbrev pub RefusesRead : ℕ → Result Record RecordFault → System → RestoreEnd → Type 0
 RefusesRead index (Ok r) s (Unlawful i) = (i ≡ index) × (after_record s r ≡ None)
+RefusesRead index (Ok r) s NoMemory = IsSome (after_record s r)
 RefusesRead index (Err (Bad place)) s (Unlawful i) = i ≡ index
+RefusesRead index (Err (Bad place)) s NoMemory = ⊥
 RefusesRead index (Err fault.NoMemory) s (Unlawful i) = ⊥
-RefusesRead index read s NoMemory = Unit {0}
+RefusesRead index (Err fault.NoMemory) s NoMemory = Unit {0}
 
 -- this record was read, unless memory ran out
 abbrev pub IsRead : Record → Result Record RestoreEnd → Type 0
@@ -85,10 +93,10 @@ IsRead r (Ok x) = x ≡ r
 IsRead r (Err NoMemory) = Unit {0}
 IsRead r (Err (Unlawful index)) = ⊥
 
--- the record with this index and body can't stand there
+-- the record with this index and body can't stand there; or memory ran out over a body that is a record's
 abbrev pub IsRefused : ℕ → List ℕ → System → RestoreEnd → Type 0
 IsRefused index body s (Unlawful i) = (i ≡ index) × LeavesNothing body s
-IsRefused index body s NoMemory = Unit {0}
+IsRefused index body s NoMemory = IsRecord body
 
 -- the only index that is told
 abbrev pub IsAt : ℕ → RestoreEnd → Type 0

@@ -1,7 +1,7 @@
 // How a request is done: decided, written down, and only then made and answered.
 ghost use Rattle.std.specs.Prelude.{◌≡◌, IsErrOf, true};
 ghost use Rattle.qm_model.specs.Built.{is_built};
-ghost use Rattle.qm_manager.specs.Asking.{asked, site_after, Answers, HasShortLists, Steps, LeavesDevice};
+ghost use Rattle.qm_manager.specs.Asking.{asked, site_asked, Answers, HasShortLists, Steps, LeavesDevice};
 
 use crate::fault::AskFault;
 use crate::manager::Manager;
@@ -36,7 +36,7 @@ impl<D: Disk> Manager<D> {
         ensures node { node_of self.new ≡ node_of self.old }
 
         // A crash at any moment of the call leaves the site from before it or from after it.
-        ensures steps { Steps D.meaning (site_of self.old) (site_after (site_of self.old) (asked (site_of self.old) request.now)) (disk_of self.old) (disk_of self.new) }
+        ensures steps { Steps D.meaning (site_of self.old) (site_asked (site_of self.old) request.now) (disk_of self.old) (disk_of self.new) }
         ensures device { LeavesDevice D.meaning (disk_of self.old) (disk_of self.new) result }
     {
         nodes_keep_their_names();

@@ -1,17 +1,16 @@
 // How the records of a queue file become the image of a system.
-ghost use Rattle.std.specs.Prelude.{◌≡◌, ◌↔◌, ◌≤◌, ◌<◌, ◌&&◌, ℕ, List, nat_le, nat_lt, if◌then◌else◌, length, slice_get, Some, None, true, false, IsSome, IfSome, IsErr, IsErrOf, IfOk, IfErr, OnOk};
+ghost use Rattle.std.specs.Prelude.{◌≡◌, ◌↔◌, ◌≤◌, ◌<◌, length, slice_get, Some, true, IsSome, IfSome, IsErr, IsErrOf, IfOk, IfErr, OnOk};
 ghost use Rattle.qm_kinds.specs.declared.record.Record.{Record as AnyRecord};
 ghost use Rattle.qm_bytes.specs.Laws.{Spells};
 ghost use Rattle.qm_bytes.specs.Spelling.{IsName};
 ghost use Rattle.qm_record.specs.Spelling.{record_text, CanBeWritten, HasSpelling};
 ghost use Rattle.qm_record.specs.Faults.{IsRecord};
-ghost use Rattle.qm_model.specs.Built.{is_built};
 ghost use Rattle.qm_model.specs.Consistent.{IsConsistent};
 ghost use Rattle.qm_state.specs.Image.{system_of};
-ghost use Rattle.qm_store.specs.Store.{bodies_of};
+ghost use Rattle.qm_store.specs.Store.{bodies_of, OfBody};
 ghost use Rattle.qm_manager.specs.declared.restoring.RestoreEnd.TheVariants.{NoMemory};
-ghost use Rattle.qm_manager.specs.QueueFile.{first_rows, after_record, IsQueueFile};
-ghost use Rattle.qm_manager.specs.Restoring.{named_by, IsOf, BeginsWithRows, Judges, Leaves, LeavesBy, IsRead, IsRefused, RefusesRead, IsAt, HasNode};
+ghost use Rattle.qm_manager.specs.QueueFile.{first_rows, can_act, after_record, IsQueueFile};
+ghost use Rattle.qm_manager.specs.Restoring.{named_by, some_if, IsOf, BeginsWithRows, Judges, Leaves, LeavesBy, IsRead, IsRefused, RefusesRead, IsAt, HasNode};
 
 use crate::site::{first_rows, first_system};
 use qm_disk::Disk;
@@ -66,10 +65,10 @@ fn named_by(body: &Body) -> Option<Name>
 // The record of this index, if its body spells one.
 fn read_at<D: Disk>(store: &Store<D>, index: usize) -> Result<Record, RestoreEnd>
     requires { index < length (bodies_of store.now) }
-    ensures found { (body : List ℕ) → slice_get (bodies_of store.now) index ≡ Some body → IfOk result (λ r. Spells HasSpelling record_text r body) }
-    ensures only { (body : List ℕ) (r : AnyRecord) → slice_get (bodies_of store.now) index ≡ Some body → HasSpelling r → body ≡ record_text r → IsRead r result }
+    ensures found { OfBody (bodies_of store.now) index (λ body. IfOk result (λ r. Spells HasSpelling record_text r body)) }
+    ensures only { OfBody (bodies_of store.now) index (λ body. (r : AnyRecord) → HasSpelling r → body ≡ record_text r → IsRead r result) }
     ensures place { IfErr result (IsAt index) }
-    ensures no_memory { (body : List ℕ) → slice_get (bodies_of store.now) index ≡ Some body → IsErrOf result RestoreEnd.NoMemory → IsRecord body }
+    ensures no_memory { OfBody (bodies_of store.now) index (λ body. IsErrOf result RestoreEnd.NoMemory → IsRecord body) }
 {
     match store.record(index) {
         Ok(record) => Ok(record),
@@ -125,7 +124,7 @@ fn read_rows<D: Disk>(alloc: Global, store: &Store<D>) -> Result<Name, RestoreEn
 
 // Whether a request can act: its moment doesn't go back, its node is there, and it is one that can be asked.
 fn can_act(image: &Image, moment: Moment, node: u8, request: &Request) -> bool
-    ensures { result ≡ (nat_le (system_of image.now).last moment && nat_lt node (length (system_of image.now).nodes) && is_built request.now) }
+    ensures { result ≡ can_act (system_of image.now) moment node request.now }
 {
     image.last() <= moment && usize::from(node) < image.nodes().len() && is_built(request)
 }
@@ -135,7 +134,7 @@ fn replay(image: &mut Image, what: &Record) -> Result<bool, AllocError>
     requires { IsConsistent (system_of image.old) }
     ensures sound { IsConsistent (system_of image.new) }
     ensures nodes { (system_of image.new).nodes ≡ (system_of image.old).nodes }
-    ensures done { IfOk result (λ done. after_record (system_of image.old) what.now ≡ (if done then Some (system_of image.new) else None)) }
+    ensures done { IfOk result (λ done. after_record (system_of image.old) what.now ≡ some_if done (system_of image.new)) }
     // Memory is wanted for what can stand there alone.
     ensures no_memory { IsErr result → IsSome (after_record (system_of image.old) what.now) }
 {
@@ -191,8 +190,8 @@ fn restore_record<D: Disk>(
     requires within { index < length (bodies_of store.now) }
     requires sound { IsConsistent (system_of image.old) }
     ensures sound { IsConsistent (system_of image.new) }
-    ensures leaves { OnOk result ((body : List ℕ) → slice_get (bodies_of store.now) index ≡ Some body → Leaves body (system_of image.old) (system_of image.new)) }
-    ensures refused { IfErr result (λ end. (body : List ℕ) → slice_get (bodies_of store.now) index ≡ Some body → IsRefused index body (system_of image.old) end) }
+    ensures leaves { OnOk result (OfBody (bodies_of store.now) index (λ body. Leaves body (system_of image.old) (system_of image.new))) }
+    ensures refused { IfErr result (λ end. OfBody (bodies_of store.now) index (λ body. IsRefused index body (system_of image.old) end)) }
     ensures nodes { (system_of image.new).nodes ≡ (system_of image.old).nodes }
 {
     let read = store.record(index);

@@ -27,15 +27,23 @@ fn file() -> FileName {
     }
 }
 
+// These bytes for the end of a file.
+pub(crate) fn append_bytes(bytes: Vec<u8>) -> Request
+    ensures built { is_built result ≡ true }
+    ensures short { HasShortLists result }
+{
+    Request::Append {
+        file: file(),
+        bytes: Seq::of(bytes),
+    }
+}
+
 // A line of nine bytes for the end of a file.
-fn append(alloc: Global) -> Result<Request, AllocError>
+pub(crate) fn append(alloc: Global) -> Result<Request, AllocError>
     ensures built { IfOk result (λ request. is_built request ≡ true) }
     ensures short { IfOk result HasShortLists }
 {
-    Ok(Request::Append {
-        file: file(),
-        bytes: Seq::of(b"$ EXIT 1\n".as_slice().to_vec(alloc)?),
-    })
+    Ok(append_bytes(b"$ EXIT 1\n".as_slice().to_vec(alloc)?))
 }
 
 // A batch job of that file.
@@ -62,7 +70,7 @@ fn submit(alloc: Global) -> Request
 }
 
 // The disk of a new site, which fails at these calls from now on.
-fn new_site(alloc: Global, fail: &[u64]) -> Result<MemoryDisk, Fail> {
+pub(crate) fn new_site(alloc: Global, fail: &[u64]) -> Result<MemoryDisk, Fail> {
     let empty = MemoryDisk::new(
         alloc,
         Vec::new(alloc),
@@ -82,36 +90,42 @@ fn new_site(alloc: Global, fail: &[u64]) -> Result<MemoryDisk, Fail> {
     }
 }
 
-// Asks for a file, on a disk that is opened anew.
+// Asks for this, on a disk that is opened anew.
+pub(crate) fn ask(
+    alloc: Global,
+    disk: MemoryDisk,
+    request: &Request,
+) -> Result<(MemoryDisk, Result<Reply, AskFault>), Fail>
+    requires built { is_built request.now ≡ true }
+    requires short { HasShortLists request.now }
+{
+    match Manager::open(alloc, disk) {
+        Ok(mut manager) => {
+            let answer = manager.ask(request);
+            Ok((manager.give_back(), answer))
+        }
+        Err((_disk, fault)) => Err(fault.into()),
+    }
+}
+
+// Asks for a file.
 fn ask_for_file(
     alloc: Global,
     disk: MemoryDisk,
 ) -> Result<(MemoryDisk, Result<Reply, AskFault>), Fail> {
-    match Manager::open(alloc, disk) {
-        Ok(mut manager) => {
-            let answer = manager.ask(&append(alloc)?);
-            Ok((manager.give_back(), answer))
-        }
-        Err((_disk, fault)) => Err(fault.into()),
-    }
+    ask(alloc, disk, &append(alloc)?)
 }
 
-// Asks for a job, on a disk that is opened anew.
+// Asks for a job.
 fn ask_for_job(
     alloc: Global,
     disk: MemoryDisk,
 ) -> Result<(MemoryDisk, Result<Reply, AskFault>), Fail> {
-    match Manager::open(alloc, disk) {
-        Ok(mut manager) => {
-            let answer = manager.ask(&submit(alloc));
-            Ok((manager.give_back(), answer))
-        }
-        Err((_disk, fault)) => Err(fault.into()),
-    }
+    ask(alloc, disk, &submit(alloc))
 }
 
 // What a reply says was done.
-fn act_of(answer: Result<Reply, AskFault>) -> Result<Act, AskFault> {
+pub(crate) fn act_of(answer: Result<Reply, AskFault>) -> Result<Act, AskFault> {
     match answer {
         Ok(reply) => Ok(reply.act),
         Err(fault) => Err(fault),
@@ -127,7 +141,7 @@ fn pending(entry: u32) -> Result<Act, AskFault> {
     })
 }
 
-fn filed(bytes: u32) -> Result<Act, AskFault> {
+pub(crate) fn filed(bytes: u32) -> Result<Act, AskFault> {
     Ok(Act::Filed {
         file: file(),
         bytes,
@@ -145,6 +159,18 @@ fn what_was_answered_survives_each_crash(rt: HostRuntime) -> Result<(), Fail> {
         let (_disk, answer) = ask_for_job(alloc, disk.after_crash(pick)?)?;
         assert!(rt; act_of(answer) == pending(2), "crash of kind {pick}");
     }
+    Ok(())
+}
+
+#[test]
+fn a_long_record_is_read_again(rt: HostRuntime) -> Result<(), Fail> {
+    let alloc = rt.alloc();
+    let mut bytes = Vec::new(alloc);
+    bytes.resize(70_000, b'x')?;
+    let (disk, answer) = ask(alloc, new_site(alloc, &[])?, &append_bytes(bytes))?;
+    assert!(rt; act_of(answer) == filed(70_000));
+    let (_disk, answer) = ask_for_file(alloc, disk)?;
+    assert!(rt; act_of(answer) == filed(70_009));
     Ok(())
 }
 

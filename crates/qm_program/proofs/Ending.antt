@@ -12,7 +12,7 @@ use Rattle.qm_model.specs.Script.{ScriptLine, script_of, are_of_node}
 use Rattle.qm_manager.specs.declared.manager.Manager.{Manager}
 use Rattle.qm_store.specs.Store.{IsAtRest}
 use Rattle.qm_manager.specs.Site.{Site, IsLawful, IsSite, IsSiteOf}
-use Rattle.qm_manager.specs.Sites.{site_at_rest, site_not_damaged, site_kept}
+use Rattle.qm_manager.proofs.Sites.{site_at_rest, site_not_damaged, site_kept}
 use Rattle.qm_manager.specs.Opened.{IsOpenFault}
 use Rattle.qm_manager.specs.Manager.{site_of, node_of, disk_of, IsReady}
 use Rattle.qm_program.specs.Transcript.{Step, steps_of}

@@ -25,7 +25,7 @@ use Rattle.qm_kinds.specs.declared.queue.QueueChange.{QueueChange}
 use Rattle.qm_model.specs.Script.{Sort, Command, Site as AtSite, act_from, act_number, is_act_word, done_by, done_act, line_act, append_to, filled_by, fill_act, drop_act}
 use Rattle.qm_manager.specs.declared.manager.Manager.{Manager}
 use Rattle.qm_manager.specs.Site.{Site}
-use Rattle.qm_manager.specs.Sites.{steps_nowhere}
+use Rattle.qm_manager.proofs.Sites.{steps_nowhere}
 use Rattle.qm_manager.specs.Asking.{Asked, Done, Refused, Full, Steps, asked, site_after}
 use Rattle.qm_manager.specs.Manager.{site_of, disk_of, IsReady}
 use Rattle.qm_program.specs.Transcript.{told, shown}

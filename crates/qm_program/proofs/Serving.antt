@@ -7,7 +7,7 @@ use Rattle.qm_model.specs.Script.{ScriptLine}
 use Rattle.qm_model.specs.Transcript.{journal_line}
 use Rattle.qm_manager.specs.declared.manager.Manager.{Manager}
 use Rattle.qm_manager.specs.Site.{Site, IsSiteOf}
-use Rattle.qm_manager.specs.Sites.{site_kept}
+use Rattle.qm_manager.proofs.Sites.{site_kept}
 use Rattle.qm_manager.specs.Asking.{Steps}
 use Rattle.qm_manager.specs.Manager.{site_of, disk_of}
 use Rattle.qm_program.specs.Transcript.{turn, step_of, answer_text}

@@ -4,7 +4,7 @@ use Rattle.std.proofs.lemmas.List.{append-nil}
 use Rattle.std.specs.Io.KnownBytes.{Appends}
 use Rattle.std.proofs.KnownBytes.{Appends-trans}
 use Rattle.qm_disk.specs.Disk.{Meaning, CrashState, IsLeft, LeavesOnly, KeepsOthers}
-use Rattle.qm_disk.specs.Moments.{started, weaker, goes_further, holds_now}
+use Rattle.qm_disk.proofs.Moments.{started, weaker, goes_further, holds_now}
 use Rattle.qm_model.specs.Script.{ScriptLine}
 use Rattle.qm_manager.specs.Site.{Site, IsSite, IsSiteOf, BeforeOrAfter}
 use Rattle.qm_program.specs.Transcript.{Step, turn, step_of, steps_of, site_behind, text_of, after}

@@ -3,7 +3,7 @@ use Rattle.std.proofs.Common.{◌≡◌, ◌∙◌, ap, arith, ℕ, ◌+◌, ◌
 use Rattle.std.proofs.lemmas.List.{take_more}
 use Rattle.std.proofs.lemmas.Option.{slice_get_within, get_or_from_slice_get}
 use Rattle.qm_glog.specs.Records.{size_of}
-use Rattle.qm_glog.specs.Reading.{size_of-push, size_of-append}
+use Rattle.qm_glog.proofs.Texts.{size_of-push, size_of-append}
 
 -- the place of the next record
 pub place_more : (bodies : List (List ℕ)) (i : ℕ) (body : List ℕ) → slice_get bodies i ≡ Some body → size_of (take (i + 1) bodies) ≡ size_of (take i bodies) + 5 + length body

@@ -1,5 +1,4 @@
 pub mod Store
+pub mod Appending
 pub mod Opened
 pub mod Rows
-pub mod Moments
-pub mod Laws

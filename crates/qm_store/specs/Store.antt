@@ -1,6 +1,6 @@
 -- What a store holds, and what its queue file holds.
-use Rattle.std.specs.Prelude.{◌⊎◌, ℕ, List, [], ◌∷◌, ◌++◌, take, map, IsTrue}
-use Rattle.qm_disk.specs.Disk.{Meaning, CrashState, Only, OthersLeft, KeepsOthers, LeavesOnly}
+use Rattle.std.specs.Prelude.{◌≡◌, ◌⊎◌, ℕ, List, [], ◌∷◌, ◌++◌, take, map, slice_get, Some}
+use Rattle.qm_disk.specs.Disk.{Meaning, CrashState, Only}
 use Rattle.qm_glog.specs.Records.{size_of, IsLog}
 use Rattle.qm_glog.specs.Log as log
 use Rattle.qm_kinds.specs.declared.record.Record.{Record}
@@ -20,6 +20,10 @@ bodies_of store = log.bodies_of store.log
 abbrev pub spare_of : {D : Type 0} → Store D → ℕ
 spare_of store = log.spare_of store.log
 
+-- this is so of the body with this index
+abbrev pub OfBody : List (List ℕ) → ℕ → (List ℕ → Type 0) → Type 0
+OfBody bodies index P = (body : List ℕ) → slice_get bodies index ≡ Some body → P body
+
 -- the queue file has just these records
 abbrev pub Holds : List (List ℕ) → CrashState → Type 0
 Holds bodies crashed = IsLog (crashed QUEUE_FILE) bodies
@@ -28,21 +32,10 @@ Holds bodies crashed = IsLog (crashed QUEUE_FILE) bodies
 abbrev pub HoldsOneMore : List (List ℕ) → List ℕ → CrashState → Type 0
 HoldsOneMore bodies body crashed = Holds bodies crashed ⊎ Holds (bodies ++ body ∷ []) crashed
 
--- the same, and the other files are as a crash before the call may leave them
-pub record Appended (may_leave : ℕ → List ℕ → Type 0) (bodies : List (List ℕ)) (body : List ℕ) (crashed : CrashState) : Type 0 where
-  pub records : HoldsOneMore bodies body crashed
-  pub others : OthersLeft may_leave QUEUE_FILE crashed
-
 -- the queue file has just these records, and no crash can take one away
 pub record IsAtRest {D : Type 0} (m : Meaning D) (bodies : List (List ℕ)) (disk : D) : Type 0 where
   pub records : Holds bodies (m.seen disk)
   pub durable : Only (m.seen disk QUEUE_FILE) (m.may_leave disk QUEUE_FILE)
-
--- What an append does to the device: a crash at any moment leaves these records, with the new one or without, and the
--- other files stay as they are.
-pub record Appends {D : Type 0} (m : Meaning D) (bodies : List (List ℕ)) (body : List ℕ) (old new : D) : Type 0 where
-  pub any_moment : IsTrue m.tells → LeavesOnly m old new (Appended (m.may_leave old) bodies body)
-  pub others : KeepsOthers m QUEUE_FILE old new
 
 -- the place of a record's gate in the queue file, in bytes; behind the last record, the place where the records end
 abbrev pub place_of : List (List ℕ) → ℕ → ℕ

@@ -29,12 +29,13 @@ pub struct Store<D> {
 impl<D: Disk> Store<D> {
     ghost use Rattle.std.specs.Prelude.{◌≡◌, ◌<◌, ◌≤◌, ℕ, List, [], ◌∷◌, ◌++◌, IsTrue, length, IfOk, OnOk, OnErr, IsErrOf, slice_get, Some};
     ghost use Rattle.qm_disk.specs.Disk.{TellsFaults};
-    ghost use Rattle.qm_glog.specs.Log.{need_of, bodies_of as bodies_in, spare_of as spare_in, StandsIn, FitsOrIsFull};
+    ghost use Rattle.qm_glog.specs.Log.{bodies_of as bodies_in, spare_of as spare_in, StandsIn};
     ghost use Rattle.qm_bytes.specs.Laws.{Spells};
     ghost use Rattle.qm_kinds.specs.declared.record.Record.{Record as AnyRecord};
     ghost use Rattle.qm_record.specs.Spelling.{record_text, HasSpelling};
     ghost use Rattle.qm_record.specs.Faults.{IsRead, IsFirstFault, IsRecord};
-    ghost use Rattle.qm_store.specs.Store.{disk_of, bodies_of, spare_of, place_of, IsAtRest, Appends};
+    ghost use Rattle.qm_store.specs.Store.{disk_of, bodies_of, spare_of, place_of, OfBody, IsAtRest};
+    ghost use Rattle.qm_store.specs.Appending.{Appended, Appends};
 
     // The store of this log of a device.
     pub(crate) fn of(alloc: Global, disk: D, log: Log) -> Self
@@ -57,13 +58,13 @@ impl<D: Disk> Store<D> {
     pub fn record(&self, index: usize) -> Result<Record, RecordFault>
         requires { index < length (bodies_of self.now) }
         // What is read is spelled so.
-        ensures found { (body : List ℕ) → slice_get (bodies_of self.now) index ≡ Some body → IfOk result (λ r. Spells HasSpelling record_text r body) }
+        ensures found { OfBody (bodies_of self.now) index (λ body. IfOk result (λ r. Spells HasSpelling record_text r body)) }
         // What is spelled so is read, unless memory runs out.
-        ensures only { (body : List ℕ) (r : AnyRecord) → slice_get (bodies_of self.now) index ≡ Some body → HasSpelling r → body ≡ record_text r → IsRead r result }
+        ensures only { OfBody (bodies_of self.now) index (λ body. (r : AnyRecord) → HasSpelling r → body ≡ record_text r → IsRead r result) }
         // A fault is the first one.
-        ensures first { (body : List ℕ) (place : ℕ) → slice_get (bodies_of self.now) index ≡ Some body → IsErrOf result (RecordFault.Bad place) → IsFirstFault body place }
+        ensures first { OfBody (bodies_of self.now) index (λ body. (place : ℕ) → IsErrOf result (RecordFault.Bad place) → IsFirstFault body place) }
         // Memory runs out only over a record.
-        ensures no_memory { (body : List ℕ) → slice_get (bodies_of self.now) index ≡ Some body → IsErrOf result RecordFault.NoMemory → IsRecord body }
+        ensures no_memory { OfBody (bodies_of self.now) index (λ body. IsErrOf result RecordFault.NoMemory → IsRecord body) }
     {
         read_record(self.alloc, self.log.record(index))
     }
@@ -102,23 +103,17 @@ impl<D: Disk> Store<D> {
         self.log.reserve(bytes)
     }
 
-    /// Adds a record. At `Ok` it is acknowledged: from then on each crash leaves it. At `Full` nothing has changed.
-    /// After `Disk` the store has to be opened again.
+    /// Adds a record; it takes no memory but what was made spare. At `Ok` the record is acknowledged: from then on each
+    /// crash leaves it. At `Full` nothing has changed. After `Disk` the store has to be opened again.
     pub fn append(&mut self, body: &[u8]) -> Result<(), AppendFault>
         requires room { length body.now < spare_of self.old }
         // No call of this store answered `Disk`.
         requires at_rest { IsTrue D.meaning.tells → IsAtRest D.meaning (bodies_of self.old) (disk_of self.old) }
 
-        ensures ok { OnOk result (bodies_of self.new ≡ bodies_of self.old ++ body.now ∷ []) }
-        ensures err { OnErr result (bodies_of self.new ≡ bodies_of self.old) }
-        ensures acknowledged { OnOk result (IsTrue D.meaning.tells → IsAtRest D.meaning (bodies_of self.new) (disk_of self.new)) }
+        ensures answer { Appended D.meaning body.now self.old self.new result }
         // A crash at any moment of the call leaves the old records, or these and the new one.
         ensures leaves { Appends D.meaning (bodies_of self.old) body.now (disk_of self.old) (disk_of self.new) }
-
-        ensures full { FitsOrIsFull (need_of (bodies_of self.old) body.now) QUEUE_CAP result }
-        ensures unchanged { QUEUE_CAP < need_of (bodies_of self.old) body.now → self.new ≡ self.old }
         ensures faults { TellsFaults D.meaning (disk_of self.old) (disk_of self.new) (IsErrOf result AppendFault.Disk) }
-        ensures spare { OnOk result (spare_of self.new ≡ 0) }
     {
         self.log.append(&mut self.disk, body)
     }

@@ -1,4 +1,4 @@
-use Rattle.qm_glog.specs.Reading.{one_place as law}
+use Rattle.qm_glog.proofs.Texts.{one_place as law}
 use Rattle.qm_glog.proofs.laws.one_place.Goals as goal
 
 pub returns : goal.returns

@@ -1,6 +1,6 @@
 use Rattle.std.proofs.Common.{◌≡◌, ◌∙◌, ap, ◌++◌, ◌∷◌, [], ◌^◌, ◌<◌, List, ℕ, length, vec_len, arith}
 use Rattle.qm_glog.specs.Records.{size_of}
-use Rattle.qm_glog.specs.Reading.{length-text}
+use Rattle.qm_glog.proofs.Texts.{length-text}
 use Rattle.qm_glog.specs.Bodies.{contents}
 use Rattle.qm_glog.proofs.Made.{is_made, is_left}
 use Rattle.qm_glog.proofs.making.create.Goals as goal

@@ -1,4 +1,4 @@
-use Rattle.qm_disk.specs.Moments.{looks_by_sync, looks_by_all}
+use Rattle.qm_disk.proofs.Moments.{looks_by_sync, looks_by_all}
 use Rattle.qm_glog.proofs.opening.synced_size.Goals as goal
 
 pub returns-clause-looks : goal.returns-clause-looks

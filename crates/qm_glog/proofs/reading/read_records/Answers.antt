@@ -1,7 +1,7 @@
 use Rattle.std.proofs.Common.{◌≡◌, ◌+◌, ◌∙◌, ap, subst, drop, take, ◌++◌, ◌∷◌, [], Ok, List, ℕ, IsTrue, arith}
 use Rattle.qm_glog.specs.Records.{text, size_of, Fit}
 use Rattle.qm_glog.specs.Bodies.{list_of}
-use Rattle.qm_disk.specs.Moments.{looks_on}
+use Rattle.qm_disk.proofs.Moments.{looks_on}
 use Rattle.qm_glog.specs.Found.{HeadAt, EndsWithin}
 use Rattle.qm_glog.specs.declared.reading.Head.{Head}
 use Rattle.qm_glog.proofs.Walk.{record_on, begins_with_record, out_of_memory}

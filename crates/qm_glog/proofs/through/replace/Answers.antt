@@ -1,4 +1,4 @@
-use Rattle.qm_disk.specs.Moments.{changes_not, changes_on}
+use Rattle.qm_disk.proofs.Moments.{changes_not, changes_on}
 use Rattle.qm_glog.proofs.through.replace.Goals as goal
 
 pub returns-in_err-cut-clause-changes : goal.returns-in_err-cut-clause-changes

@@ -1,6 +1,6 @@
 use Rattle.std.proofs.Common.{length}
-use Rattle.qm_disk.specs.Moments.{started, goes_on, fewer_left}
-use Rattle.qm_glog.specs.Moments.{Written}
+use Rattle.qm_disk.proofs.Moments.{started, goes_on, fewer_left}
+use Rattle.qm_glog.specs.Moments.{TornWrite}
 use Rattle.qm_glog.proofs.OneWrite.{before_write, after_write}
 use Rattle.qm_glog.proofs.through.write_through.Goals as goal
 
@@ -9,7 +9,7 @@ returns-in_err-write-clause-any_moment g c = λ told.
     let m = g.D.Disk.meaning in
     let old = c.args.disk.now in
     let n = length c.args.bytes.now in
-    let P = Written (m.may_leave old) c.args.file c.args.at n (m.seen old c.args.file) in
+    let P = TornWrite (m.may_leave old) c.args.file c.args.at n (m.seen old c.args.file) in
     let only = c.requires.settled told in
     let begun = started m old P (λ crashed left. before_write m c.args.file c.requires.file c.args.at n old only crashed (g.met.D.Disk.only_now old crashed left)) in
     goes_on m old old c.write.new.self P begun c.write.ensures.time (after_write m c.args.file c.requires.file c.args.at n old only c.write.new.self c.write.ensures.crash c.write.ensures.others)
@@ -19,7 +19,7 @@ returns-clause-any_moment g c = λ told.
     let m = g.D.Disk.meaning in
     let old = c.args.disk.now in
     let n = length c.args.bytes.now in
-    let P = Written (m.may_leave old) c.args.file c.args.at n (m.seen old c.args.file) in
+    let P = TornWrite (m.may_leave old) c.args.file c.args.at n (m.seen old c.args.file) in
     let only = c.requires.settled told in
     let begun = started m old P (λ crashed left. before_write m c.args.file c.requires.file c.args.at n old only crashed (g.met.D.Disk.only_now old crashed left)) in
     let left_by_write = after_write m c.args.file c.requires.file c.args.at n old only c.write.new.self c.write.ensures.crash c.write.ensures.others in

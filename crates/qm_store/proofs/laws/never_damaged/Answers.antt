@@ -1,4 +1,4 @@
-use Rattle.qm_store.specs.Laws.{never_damaged as law}
+use Rattle.qm_store.proofs.Contents.{never_damaged as law}
 use Rattle.qm_store.proofs.laws.never_damaged.Goals as goal
 
 pub returns : goal.returns

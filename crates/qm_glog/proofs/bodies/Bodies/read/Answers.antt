@@ -1,6 +1,6 @@
 use Rattle.std.proofs.Common.{◌∙◌, ◌≤◌, ◌++◌, ◌∷◌, [], ap, vec_len, drop, List, ℕ, arith, length-drop}
 use Rattle.qm_glog.specs.Records.{size_of}
-use Rattle.qm_glog.specs.Reading.{size_of-push}
+use Rattle.qm_glog.proofs.Texts.{size_of-push}
 use Rattle.qm_glog.specs.Bodies.{list_of}
 use Rattle.qm_glog.proofs.Cut.{AreEnds-on, list_on}
 use Rattle.qm_glog.proofs.bodies.Bodies.read.Goals as goal

@@ -7,7 +7,8 @@ use Rattle.qm_state.specs.Preparing.{made}
 use Rattle.qm_store.specs.Store as store
 use Rattle.qm_manager.specs.Asking.{asked, site_after}
 use Rattle.qm_manager.specs.Manager.{site_of, disk_of}
-use Rattle.qm_manager.specs.Sites.{steps_nowhere}
+use Rattle.qm_manager.proofs.Sites.{steps_nowhere}
+use Rattle.qm_store.proofs.Appending.{full_changes_nothing}
 use Rattle.qm_manager.proofs.Asked.{steps_appending, appended_is_lawful}
 use Rattle.qm_manager.proofs.Consistent.{queue_files_are_consistent}
 use Rattle.qm_manager.proofs.manager.Manager.ask.Goals as goal
@@ -60,7 +61,7 @@ returns-in-Ok-append-clause-steps g c =
     (store.bodies_of c.reserve.new.self) c.reserve.ensures.bodies c.deref.result.now (c.deref.ensures.value ∙ c.in_ok-body.ensures.is) c.in_ok-body.ensures.fits
     c.args.self.now.node c.args.self.now.named c.requires.built c.requires.ready.lawful
     g.D.Disk.meaning (disk_of c.args.self.now) (store.disk_of c.reserve.new.self) (store.disk_of c.append.new.self) c.reserve.ensures.disk
-    c.requires.ready.rest (g.met.D.Disk.only_now (disk_of c.args.self.now)) (λ over. ap store.disk_of (c.append.ensures.unchanged over)) c.append.ensures.leaves
+    c.requires.ready.rest (g.met.D.Disk.only_now (disk_of c.args.self.now)) (λ over. ap store.disk_of (full_changes_nothing g.D.Disk.meaning c.deref.result.now c.reserve.new.self c.append.new.self c.append.result c.append.ensures.answer over)) c.append.ensures.leaves
 
 pub returns-in-Err-Full-clause-steps : goal.returns-in-Err-Full-clause-steps
 returns-in-Err-Full-clause-steps g c =
@@ -69,7 +70,7 @@ returns-in-Err-Full-clause-steps g c =
     (store.bodies_of c.reserve.new.self) c.reserve.ensures.bodies c.deref.result.now (c.deref.ensures.value ∙ c.in_ok-body.ensures.is) c.in_ok-body.ensures.fits
     c.args.self.now.node c.args.self.now.named c.requires.built c.requires.ready.lawful
     g.D.Disk.meaning (disk_of c.args.self.now) (store.disk_of c.reserve.new.self) (store.disk_of c.append.new.self) c.reserve.ensures.disk
-    c.requires.ready.rest (g.met.D.Disk.only_now (disk_of c.args.self.now)) (λ over. ap store.disk_of (c.append.ensures.unchanged over)) c.append.ensures.leaves
+    c.requires.ready.rest (g.met.D.Disk.only_now (disk_of c.args.self.now)) (λ over. ap store.disk_of (full_changes_nothing g.D.Disk.meaning c.deref.result.now c.reserve.new.self c.append.new.self c.append.result c.append.ensures.answer over)) c.append.ensures.leaves
 
 pub returns-clause-steps : goal.returns-clause-steps
 returns-clause-steps g c =
@@ -78,7 +79,7 @@ returns-clause-steps g c =
     (store.bodies_of c.reserve.new.self) c.reserve.ensures.bodies c.deref.result.now (c.deref.ensures.value ∙ c.in_ok-body.ensures.is) c.in_ok-body.ensures.fits
     c.args.self.now.node c.args.self.now.named c.requires.built c.requires.ready.lawful
     g.D.Disk.meaning (disk_of c.args.self.now) (store.disk_of c.reserve.new.self) (store.disk_of c.append.new.self) c.reserve.ensures.disk
-    c.requires.ready.rest (g.met.D.Disk.only_now (disk_of c.args.self.now)) (λ over. ap store.disk_of (c.append.ensures.unchanged over)) c.append.ensures.leaves
+    c.requires.ready.rest (g.met.D.Disk.only_now (disk_of c.args.self.now)) (λ over. ap store.disk_of (full_changes_nothing g.D.Disk.meaning c.deref.result.now c.reserve.new.self c.append.new.self c.append.result c.append.ensures.answer over)) c.append.ensures.leaves
 
 pub returns-in-Ok-append-clause-ready : goal.returns-in-Ok-append-clause-ready
 returns-in-Ok-append-clause-ready g c = λ not.
@@ -87,7 +88,7 @@ returns-in-Ok-append-clause-ready g c = λ not.
       lawful = appended_is_lawful (site_of c.args.self.now) c.args.request.now a c.last-moment.result c.last-moment.ensures c.in-Ok.ensures.accepted
           (store.bodies_of c.reserve.new.self) c.reserve.ensures.bodies c.deref.result.now (c.deref.ensures.value ∙ c.in_ok-body.ensures.is) c.in_ok-body.ensures.fits
           c.args.self.now.node c.args.self.now.named c.requires.built c.requires.ready.lawful
-          (store.bodies_of c.append.new.self) c.in-Ok-append.ensures.ok (system_of c.commit.new.self)
+          (store.bodies_of c.append.new.self) c.in-Ok-append.ensures.answer.1.bodies (system_of c.commit.new.self)
           (ap (λ (x : Accepted). x.system) (ap (made c.in-Ok.prepared) (sym c.prepare.ensures.rows) ∙ c.commit.ensures.done));
-      rest = c.in-Ok-append.ensures.acknowledged;
+      rest = c.in-Ok-append.ensures.answer.1.at_rest;
     }

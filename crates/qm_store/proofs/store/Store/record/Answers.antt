@@ -3,7 +3,7 @@ use Rattle.qm_record.specs.Faults.{IsFirstFault, IsRecord}
 use Rattle.qm_store.proofs.store.Store.record.Goals as goal
 
 pub returns-clause-first : goal.returns-clause-first
-returns-clause-first g c = λ body place is bad.
+returns-clause-first g c = λ body is place bad.
     let same : c.record.result.now ≡ body = cc c.record.ensures in
     subst (λ (bytes : List ℕ). IsFirstFault bytes place) same (c.read_record.ensures.first place bad)
 

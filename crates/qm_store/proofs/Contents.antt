@@ -3,7 +3,7 @@ use Rattle.std.specs.Prelude.{◌≡◌, ℕ, List, ◌∷◌}
 use Rattle.std.proofs.Common.{◌∙◌, ap}
 use Rattle.qm_disk.specs.Disk.{CrashState}
 use Rattle.qm_glog.specs.Records.{IsLog}
-use Rattle.qm_glog.specs.Reading.{one_list, sound_if_log}
+use Rattle.qm_glog.proofs.Texts.{one_list, sound_if_log}
 use Rattle.qm_store.specs.Store.{Holds}
 use Rattle.qm_store.specs.Opened.{first_byte, IsOpenFault}
 use Rattle.qm_store.specs.declared.store.TheConstants.{QUEUE_FILE}

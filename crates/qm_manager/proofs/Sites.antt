@@ -4,12 +4,12 @@ use Rattle.std.proofs.Common.{inl, inr, refl, sym, subst, ap, ◌∙◌, append_
 use Rattle.std.proofs.lemmas.List.{take-append-drop}
 use Rattle.std.proofs.lemmas.Bool.{cases_lt}
 use Rattle.qm_disk.specs.Disk.{Meaning, CrashState, IsLeft, LeavesOnly}
-use Rattle.qm_disk.specs.Moments.{started}
+use Rattle.qm_disk.proofs.Moments.{started}
 use Rattle.qm_store.specs.Store.{Holds, IsAtRest}
-use Rattle.qm_store.specs.Moments.{left_at_rest}
+use Rattle.qm_store.proofs.Moments.{left_at_rest}
 use Rattle.qm_glog.specs.Records.{text, behind_gate, BeginsWithRecord}
 use Rattle.qm_store.specs.Opened.{first_byte, IsFormatted}
-use Rattle.qm_store.specs.Laws.{one_content, begins_open, never_damaged}
+use Rattle.qm_store.proofs.Contents.{one_content, begins_open, never_damaged}
 use Rattle.qm_manager.specs.QueueFile.{IsQueueFile, IsFirstUnlawful, Begins}
 use Rattle.qm_manager.specs.declared.manager.Manager.{Manager}
 use Rattle.qm_manager.specs.Site.{Site, IsLawful, IsSite, IsSiteOf, BeforeOrAfter}
