@@ -1,5 +1,6 @@
 -- What the calls of a disk do to its three files, and what a crash may make of them.
-use Rattle.std.specs.Prelude.{◌≡◌, ◌≢◌, ◌⊎◌, ℕ, ◌+◌, ◌-◌, ◌^◌, ◌≤◌, min, max, Bool, List, ◌++◌, length, take, drop}
+use Rattle.std.specs.Prelude.{◌≡◌, ◌≢◌, ◌⊎◌, ℕ, ◌+◌, ◌≤◌, min, max, Bool, List, ◌++◌, length, take, drop}
+use Rattle.qm_faults.specs.Faults.{counted, Tells}
 
 -- a content for each of the files 0, 1 and 2
 abbrev pub CrashState : Type 0
@@ -91,13 +92,12 @@ module _ {D : Type 0} (m : Meaning D) where
 
   -- one call failed: the count of faults is one more, or stands at the end of its type
   abbrev pub OneFailed : D → D → Type 0
-  OneFailed old new = m.faults new ≡ min (m.faults old + 1) (2 ^ 64 - 1)
+  OneFailed old new = m.faults new ≡ counted (m.faults old)
 
   -- no call failed
   abbrev pub IsQuiet : D → D → Type 0
   IsQuiet old new = m.faults new ≡ m.faults old
 
-  -- Where a fault is told one call failed, and where none is told none did: no fault is hidden or tried again.
-  pub record TellsFaults (old new : D) (told : Type 0) : Type 0 where
-    pub fault : told → OneFailed old new
-    pub quiet : (told → ⊥) → IsQuiet old new
+  -- where a fault is told one call failed, and where none is told none did
+  abbrev pub TellsFaults : D → D → Type 0 → Type 0
+  TellsFaults old new told = Tells (m.faults old) (m.faults new) told

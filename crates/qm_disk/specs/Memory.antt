@@ -1,5 +1,6 @@
 -- What a disk in memory shows.
-use Rattle.std.specs.Prelude.{◌≡◌, ◌+◌, ◌-◌, ◌^◌, ℕ, true, List, length, min, Contains, Result, IsErr}
+use Rattle.std.specs.Prelude.{◌≡◌, ℕ, true, List, length, Contains, Result, IsErr}
+use Rattle.qm_faults.specs.Faults.{counted}
 use Rattle.qm_disk.specs.Disk.{Meaning}
 use Rattle.qm_disk.specs.Calls.{reading_of, first_of, crashed, LeftOf, LeftSince}
 use Rattle.qm_disk.specs.declared.memory.MemoryDisk.{MemoryDisk}
@@ -37,6 +38,6 @@ crash_of disk pick f = crashed pick f disk.calls.items (first_of disk.first f) (
 
 -- the call takes the next number, and fails where the list has that number
 pub record TakesNumber {T E : Type 0} (old new : MemoryDisk) (result : Result T E) : Type 0 where
-  pub number : made_of new ≡ min (made_of old + 1) (2 ^ 64 - 1)
+  pub number : made_of new ≡ counted (made_of old)
   pub same_list : fail_of new ≡ fail_of old
   pub fails : Contains (fail_of old) (made_of new) → IsErr result

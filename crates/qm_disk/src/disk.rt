@@ -1,5 +1,5 @@
 // One device with three files: what they read, and what a crash may leave of them.
-ghost use Rattle.std.specs.Prelude.{◌≡◌, ◌+◌, ◌-◌, ◌^◌, ◌≤◌, min, ℕ, List, IsTrue, IsErr, length, take, drop, is_ok, IfOk, OnOk};
+ghost use Rattle.std.specs.Prelude.{◌≡◌, ◌+◌, ◌≤◌, ℕ, List, IsTrue, IsErr, length, take, drop, IfOk, OnOk};
 ghost use Rattle.qm_disk.specs.Disk.{Meaning, CrashState, Only, Follows, Torn, Cut, spliced, IsLeft, KeepsOthers, KeepsAll, Elapses, TellsFaults};
 
 use thiserror::Error;
@@ -8,21 +8,6 @@ use thiserror::Error;
 #[derive(Clone, Copy, Debug, PartialEq, Eq, Error)]
 #[error("the disk failed")]
 pub struct DiskFault;
-
-// What a call answers, counted as a fault where it failed.
-pub(crate) fn counted<T, E: Drop>(outcome: Result<T, E>, faults: &mut u64) -> Result<T, DiskFault>
-    ensures variant { is_ok result ≡ is_ok outcome }
-    ensures fault { IsErr result → faults.new ≡ min (faults.old + 1) (2 ^ 64 - 1) }
-    ensures quiet { (IsErr result → ⊥) → faults.new ≡ faults.old }
-{
-    match outcome {
-        Ok(value) => Ok(value),
-        Err(_) => {
-            *faults = faults.saturating_add(1);
-            Err(DiskFault)
-        }
-    }
-}
 
 /// One device with three files, which are named 0, 1 and 2. Places and sizes are in bytes.
 ///

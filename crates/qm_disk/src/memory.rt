@@ -1,13 +1,14 @@
 // A disk in memory. It keeps a record of its calls, so that a crash may leave of it all that the contract allows.
-ghost use Rattle.std.specs.Prelude.{◌≡◌, ◌⊎◌, ◌↔◌, ◌+◌, ◌-◌, ◌^◌, ◌≤◌, min, Contains, List, drop, IsErr, ◌++◌, ◌∷◌, [], ℕ, true, false, if◌then◌else◌, is_ok, length, take, IfOk, OnOk, OnErr};
+ghost use Rattle.std.specs.Prelude.{◌≡◌, ◌⊎◌, ◌↔◌, ◌+◌, ◌≤◌, Contains, List, drop, IsErr, ◌++◌, ◌∷◌, [], ℕ, true, false, if◌then◌else◌, is_ok, length, take, IfOk, OnOk, OnErr};
 ghost use Rattle.qm_disk.specs.Disk.{spliced, Only, IsLeft, Follows, Torn, Cut, KeepsAll, KeepsOthers, Elapses, TellsFaults};
 ghost use Rattle.qm_disk.specs.Calls.{reading, reading_of, first_of, replayed, LeftOf, LeftSince, IsWrite, IsTruncate, Notes, Syncs, ReadsOthers, padded, part, crash_changed, crashed, changed as after_change};
 ghost use Rattle.qm_disk.specs.declared.calls.Change.TheVariants.{Look};
+ghost use Rattle.qm_faults.specs.Faults.{counted};
 ghost use Rattle.qm_disk.specs.Crash.{left_now, left_only_now, reads_left};
 
 use crate::calls::{Call, Change};
-use crate::disk::counted;
 use crate::{Disk, DiskFault};
+use qm_faults::Faults;
 use std::alloc::{AllocError, Global};
 
 /// A disk in memory, which fails at the calls that a list names.
@@ -24,7 +25,7 @@ pub struct MemoryDisk {
     made: u64,
     /// The numbers of the calls that fail.
     fail: Vec<u64>,
-    faults: u64,
+    faults: Faults,
     ghost replays: { (f : ℕ) → f ≤ 2 → reading_of first changed f ≡ replayed f calls.items (first_of first f) },
 }
 
@@ -50,7 +51,7 @@ impl MemoryDisk {
             calls: Vec::new(alloc),
             made: 0,
             fail,
-            faults: 0,
+            faults: Faults::new(),
         }
     }
 
@@ -256,7 +257,7 @@ fn shorten(
 
 // Counts a call, and says whether it may be made: its number doesn't stand in the list.
 fn next_call(made: &mut u64, fail: &[u64]) -> bool
-    ensures made { made.new ≡ min (made.old + 1) (2 ^ 64 - 1) }
+    ensures made { made.new ≡ counted made.old }
     ensures listed { Contains fail.now made.new ↔ (result ≡ false) }
 {
     *made = made.saturating_add(1);
@@ -381,7 +382,8 @@ impl Disk for MemoryDisk {
         ensures number { TakesNumber self.old self.new result }
     {
         let may = next_call(&mut self.made, self.fail.as_slice());
-        counted(note_look(&mut self.calls, file, may), &mut self.faults)?;
+        self.faults
+            .counted(note_look(&mut self.calls, file, may), DiskFault)?;
         Ok(self.held(file).len() as u64)
     }
 
@@ -395,7 +397,8 @@ impl Disk for MemoryDisk {
         ensures number { TakesNumber self.old self.new result }
     {
         let may = next_call(&mut self.made, self.fail.as_slice());
-        counted(note_look(&mut self.calls, file, may), &mut self.faults)?;
+        self.faults
+            .counted(note_look(&mut self.calls, file, may), DiskFault)?;
         let from = at as usize;
         into.copy_from_slice(&self.held(file)[from..from + into.len()]);
         Ok(())
@@ -422,7 +425,7 @@ impl Disk for MemoryDisk {
             bytes,
             may,
         );
-        counted(outcome, &mut self.faults)
+        self.faults.counted(outcome, DiskFault)
     }
 
     fn cut(&mut self, file: u8, size: u64) -> Result<(), DiskFault>
@@ -445,7 +448,7 @@ impl Disk for MemoryDisk {
             size,
             may,
         );
-        counted(outcome, &mut self.faults)
+        self.faults.counted(outcome, DiskFault)
     }
 
     fn sync(&mut self, file: u8) -> Result<(), DiskFault>
@@ -459,6 +462,7 @@ impl Disk for MemoryDisk {
         ensures number { TakesNumber self.old self.new result }
     {
         let may = next_call(&mut self.made, self.fail.as_slice());
-        counted(note_sync(&mut self.calls, file, may), &mut self.faults)
+        self.faults
+            .counted(note_sync(&mut self.calls, file, may), DiskFault)
     }
 }

@@ -1,5 +1,5 @@
 // Three files of the system as one disk. It tells nothing of their contents: that they behave as a disk is a premise.
-ghost use Rattle.std.specs.Prelude.{◌≡◌, ◌+◌, ◌-◌, ◌^◌, ◌≤◌, min, false, [], is_ok, IsErr};
+ghost use Rattle.std.specs.Prelude.{◌≡◌, ◌≤◌, false, []};
 ghost use Rattle.std.proofs.Common.{lit≤};
 ghost use Rattle.qm_disk.specs.Crash.{untold};
 ghost use Rattle.qm_files.specs.Faults.{file_faults};
@@ -8,6 +8,7 @@ use crate::SiteFile;
 use crate::folder::{Folder, LastRun};
 use crate::named::Named;
 use qm_disk::{Disk, DiskFault};
+use qm_faults::Faults;
 use std::fs::Files;
 use std::io;
 use std::io::ErrorKind;
@@ -24,7 +25,7 @@ use std::io::ErrorKind;
 #[derive(Drop)]
 pub struct FileDisk<R: Files> {
     site: Site<R>,
-    faults: u64,
+    faults: Faults,
 }
 
 // What stopped the disk.
@@ -60,7 +61,7 @@ where
                 files: [Named::new(master), Named::new(one), Named::new(two)],
                 trouble: None,
             },
-            faults: 0,
+            faults: Faults::new(),
         }
     }
 
@@ -166,21 +167,6 @@ where
     files[2].renew(rt)
 }
 
-// What a call answers, counted as a fault where it failed.
-fn counted<T: Drop>(answer: io::Result<T>, faults: &mut u64) -> Result<T, DiskFault>
-    ensures variant { is_ok result ≡ is_ok answer }
-    ensures fault { IsErr result → faults.new ≡ min (faults.old + 1) (2 ^ 64 - 1) }
-    ensures quiet { (IsErr result → ⊥) → faults.new ≡ faults.old }
-{
-    match answer {
-        Ok(value) => Ok(value),
-        Err(_) => {
-            *faults = faults.saturating_add(1);
-            Err(DiskFault)
-        }
-    }
-}
-
 impl<R: Files> Disk for FileDisk<R>
 where
     R::File: SiteFile,
@@ -202,26 +188,26 @@ where
 
     fn size(&mut self, file: u8) -> Result<u64, DiskFault> {
         let answer = self.site.size(file);
-        counted(self.site.noted(answer), &mut self.faults)
+        self.faults.counted(self.site.noted(answer), DiskFault)
     }
 
     fn read(&mut self, file: u8, at: u64, into: &mut [u8]) -> Result<(), DiskFault> {
         let answer = self.site.read(file, at, into);
-        counted(self.site.noted(answer), &mut self.faults)
+        self.faults.counted(self.site.noted(answer), DiskFault)
     }
 
     fn write(&mut self, file: u8, at: u64, bytes: &[u8]) -> Result<(), DiskFault> {
         let answer = self.site.write(file, at, bytes);
-        counted(self.site.noted(answer), &mut self.faults)
+        self.faults.counted(self.site.noted(answer), DiskFault)
     }
 
     fn cut(&mut self, file: u8, size: u64) -> Result<(), DiskFault> {
         let answer = self.site.cut(file, size);
-        counted(self.site.noted(answer), &mut self.faults)
+        self.faults.counted(self.site.noted(answer), DiskFault)
     }
 
     fn sync(&mut self, file: u8) -> Result<(), DiskFault> {
         let answer = self.site.sync(file);
-        counted(self.site.noted(answer), &mut self.faults)
+        self.faults.counted(self.site.noted(answer), DiskFault)
     }
 }

@@ -6,8 +6,8 @@ ghost use Rattle.qm_io.specs.Adapters.{reader_of, is_ended, input_faults, writer
 ghost use Rattle.qm_io.specs.Bytes.{TakesSome};
 ghost use Rattle.qm_io.specs.Faults.{counted};
 
-use crate::failed::count_fault;
 use crate::{Failed, Sink, Source};
+use qm_faults::Faults;
 use std::io;
 use std::io::{ErrorKind, Read, Write};
 
@@ -17,7 +17,7 @@ pub struct InputSource<R> {
     reader: R,
     /// The reader has told the end, behind which a terminal would begin anew.
     is_ended: bool,
-    faults: u64,
+    faults: Faults,
 }
 
 impl<R: Read> InputSource<R> {
@@ -30,7 +30,7 @@ impl<R: Read> InputSource<R> {
         InputSource {
             reader,
             is_ended: false,
-            faults: 0,
+            faults: Faults::new(),
         }
     }
 }
@@ -68,7 +68,10 @@ impl<R: Read> Source for InputSource<R> {
                 self.is_ended = count == 0 && !into.is_empty();
                 Ok(count)
             }
-            Err(_) => Err(count_fault(&mut self.faults)),
+            Err(_) => {
+                self.faults.count();
+                Err(Failed)
+            }
         }
     }
 }
@@ -79,7 +82,7 @@ pub struct OutputSink<W> {
     writer: W,
     /// A write has failed, and nobody can say what went out.
     is_lost: bool,
-    faults: u64,
+    faults: Faults,
 }
 
 impl<W: Write> OutputSink<W> {
@@ -92,7 +95,7 @@ impl<W: Write> OutputSink<W> {
         OutputSink {
             writer,
             is_lost: false,
-            faults: 0,
+            faults: Faults::new(),
         }
     }
 }
@@ -125,13 +128,15 @@ impl<W: Write> Sink for OutputSink<W> {
         ensures never_falls { output_faults self.old ≤ output_faults self.new }
     {
         if self.is_lost {
-            return Err(count_fault(&mut self.faults));
+            self.faults.count();
+            return Err(Failed);
         }
         match write_through(&mut self.writer, piece) {
             Ok(count) => Ok(count),
             Err(_) => {
                 self.is_lost = true;
-                Err(count_fault(&mut self.faults))
+                self.faults.count();
+                Err(Failed)
             }
         }
     }

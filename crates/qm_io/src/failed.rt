@@ -1,7 +1,4 @@
 // The one way in which a call of the outside fails.
-ghost use Rattle.std.specs.Prelude.{◌≡◌, ◌≤◌};
-ghost use Rattle.qm_io.specs.Faults.{counted};
-
 use std::error::Error;
 use std::fmt;
 
@@ -20,12 +17,3 @@ impl fmt::Display for Failed {
 }
 
 impl Error for Failed {}
-
-// Counts a fault.
-pub(crate) fn count_fault(faults: &mut u64) -> Failed
-    ensures counted { faults.new ≡ counted faults.old }
-    ensures never_falls { faults.old ≤ faults.new }
-{
-    *faults = faults.saturating_add(1);
-    Failed
-}

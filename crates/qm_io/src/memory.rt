@@ -2,49 +2,10 @@
 ghost use Rattle.std.specs.Prelude.{◌≡◌, ◌≤◌, [], ◌++◌, length, min, take, drop, Contains, IfOk, OnOk, OnErr, Ok, Some};
 ghost use Rattle.qm_io.specs.Faults.{counted};
 
-use crate::failed::count_fault;
 use crate::{Failed, Sink, Source};
+use qm_faults::Calls;
 use std::alloc::Global;
 use std::marker::Model;
-
-// The calls of a form in memory: the numbers of those that fail, how many were made, and how many
-// failed.
-#[derive(Drop)]
-struct Calls {
-    fail: Vec<u64>,
-    made: u64,
-    faults: u64,
-}
-
-impl Calls {
-    fn new(fail: Vec<u64>) -> Calls
-        ensures { result ≡ record { fail = fail; made = 0; faults = 0 } }
-    {
-        Calls {
-            fail,
-            made: 0,
-            faults: 0,
-        }
-    }
-
-    // Counts one more call, and fails where its number is listed.
-    fn begin(&mut self) -> Result<(), Failed>
-        ensures unlisted { OnOk result (¬ Contains self.old.fail.items (counted self.old.made)) }
-        ensures listed { OnErr result (Contains self.old.fail.items (counted self.old.made)) }
-        ensures ok { OnOk result (self.new ≡ record self.old { made = counted self.old.made }) }
-        ensures err { OnErr result (self.new ≡ record self.old {
-          made = counted self.old.made;
-          faults = counted self.old.faults;
-        }) }
-        ensures never_falls { self.old.faults ≤ self.new.faults }
-    {
-        self.made = self.made.saturating_add(1);
-        if self.fail.contains(&self.made) {
-            return Err(count_fault(&mut self.faults));
-        }
-        Ok(())
-    }
-}
 
 // Copies as many bytes as both have, and answers how many.
 fn copy_front(from: &[u8], into: &mut [u8]) -> usize
@@ -72,7 +33,7 @@ impl Model for MemorySource {
 
     ghost view = { λ s. record {
       left = drop s.at s.bytes.items;
-      fail = s.reads.fail.items;
+      fail = s.reads.fail;
       calls = s.reads.made;
       faults = s.reads.faults;
     } };
@@ -126,7 +87,9 @@ impl Source for MemorySource {
         ensures cause { OnErr result (self.new.faults ≡ counted self.old.faults) }
         ensures never_falls { self.old.faults ≤ self.new.faults }
     {
-        self.reads.begin()?;
+        if !self.reads.begin() {
+            return Err(Failed);
+        }
         let count = copy_front(&self.bytes[self.at..], into);
         self.at += count;
         Ok(count)
@@ -147,7 +110,7 @@ impl Model for MemorySink {
 
     ghost view = { λ s. record {
       taken = s.bytes.items;
-      fail = s.writes.fail.items;
+      fail = s.writes.fail;
       calls = s.writes.made;
       faults = s.writes.faults;
     } };
@@ -197,10 +160,13 @@ impl Sink for MemorySink {
         ensures cause { OnErr result (self.new.faults ≡ counted self.old.faults) }
         ensures never_falls { self.old.faults ≤ self.new.faults }
     {
-        self.writes.begin()?;
-        match self.bytes.extend_from_slice(piece) {
-            Ok(()) => Ok(piece.len()),
-            Err(_) => Err(count_fault(&mut self.writes.faults)),
+        if !self.writes.begin() {
+            return Err(Failed);
         }
+        if self.bytes.extend_from_slice(piece).is_err() {
+            self.writes.count_fault();
+            return Err(Failed);
+        }
+        Ok(piece.len())
     }
 }

@@ -1,5 +1,6 @@
 -- What the calls of devices and symbionts speak of: the blocks that were handed over, and the faults.
-use Rattle.std.specs.Prelude.{◌≡◌, ℕ, ◌+◌, ◌-◌, ◌^◌, ◌<◌, min, Bool, IsTrue, List, ◌++◌, length, map, take}
+use Rattle.std.specs.Prelude.{◌≡◌, ℕ, ◌<◌, Bool, IsTrue, List, ◌++◌, length, map, take}
+use Rattle.qm_faults.specs.Faults.{counted, Tells}
 
 -- What the devices, or the symbionts, of one type mean: all that the contract of their calls speaks of.
 pub record Meaning (D : Type 0) : Type 1 where
@@ -25,13 +26,12 @@ module _ {D : Type 0} (m : Meaning D) where
 
   -- one call failed: the count of faults is one more, or stands at the end of its type
   abbrev pub OneFailed : D → D → Type 0
-  OneFailed old new = m.faults new ≡ min (m.faults old + 1) (2 ^ 64 - 1)
+  OneFailed old new = m.faults new ≡ counted (m.faults old)
 
   -- no call failed
   abbrev pub IsQuiet : D → D → Type 0
   IsQuiet old new = m.faults new ≡ m.faults old
 
-  -- Where a fault is told one call failed, and where none is told none did: no fault is hidden or tried again.
-  pub record TellsFaults (old new : D) (told : Type 0) : Type 0 where
-    pub fault : told → OneFailed old new
-    pub quiet : (told → ⊥) → IsQuiet old new
+  -- where a fault is told one call failed, and where none is told none did
+  abbrev pub TellsFaults : D → D → Type 0 → Type 0
+  TellsFaults old new told = Tells (m.faults old) (m.faults new) told

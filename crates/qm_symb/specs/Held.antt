@@ -1,5 +1,5 @@
 -- A device in memory, as its callers see it.
-use Rattle.std.specs.Prelude.{ℕ, ◌+◌, ◌-◌, ◌^◌, true, List, min}
+use Rattle.std.specs.Prelude.{ℕ, true, List}
 use Rattle.qm_symb.specs.Device.{Meaning}
 
 -- the blocks that it took, each with its run, and the calls: which fail by their number, how many there were, and how
@@ -9,10 +9,6 @@ pub record HeldDevice : Type 0 where
   pub fail : List ℕ
   pub calls : ℕ
   pub faults : ℕ
-
--- one more, or the same at the end of the type
-abbrev pub counted : ℕ → ℕ
-counted n = min (n + 1) (2 ^ 64 - 1)
 
 -- it tells what it took
 abbrev pub in_memory : Meaning HeldDevice

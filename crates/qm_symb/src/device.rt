@@ -1,5 +1,5 @@
 // What blocks are handed to.
-ghost use Rattle.std.specs.Prelude.{◌≡◌, ◌+◌, ◌-◌, ◌^◌, min, [], ◌∷◌, is_ok, IsErr, OnErr, OnOk};
+ghost use Rattle.std.specs.Prelude.{[], ◌∷◌, IsErr, OnErr, OnOk};
 ghost use Rattle.qm_symb.specs.Device.{Meaning, Takes, TellsFaults};
 
 use qm_kinds::Name;
@@ -22,19 +22,4 @@ pub trait Device {
         ensures handed { OnOk result (Takes meaning run (block.now ∷ []) self.old self.new) }
         ensures refused { OnErr result (Takes meaning run [] self.old self.new) }
         ensures faults { TellsFaults meaning self.old self.new (IsErr result) };
-}
-
-// What a call answers, counted as a fault where it failed.
-pub(crate) fn counted<E: Drop>(outcome: Result<(), E>, faults: &mut u64) -> Result<(), DeviceFault>
-    ensures variant { is_ok result ≡ is_ok outcome }
-    ensures fault { IsErr result → faults.new ≡ min (faults.old + 1) (2 ^ 64 - 1) }
-    ensures quiet { (IsErr result → ⊥) → faults.new ≡ faults.old }
-{
-    match outcome {
-        Ok(()) => Ok(()),
-        Err(_) => {
-            *faults = faults.saturating_add(1);
-            Err(DeviceFault)
-        }
-    }
 }

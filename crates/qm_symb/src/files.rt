@@ -2,8 +2,8 @@
 ghost use Rattle.std.specs.Prelude.{◌≡◌, false, []};
 ghost use Rattle.qm_symb.specs.Faults.{file_faults};
 
-use crate::device::counted;
 use crate::{Device, DeviceFault};
+use qm_faults::Faults;
 use qm_kinds::Name;
 use std::alloc::AllocError;
 use std::fs::{Files, OpenOptions};
@@ -21,7 +21,7 @@ use std::io::Write;
 pub struct FileDevice<R: Files> {
     rt: R,
     folder: String,
-    faults: u64,
+    faults: Faults,
 }
 
 impl<R: Files> FileDevice<R> {
@@ -32,7 +32,7 @@ impl<R: Files> FileDevice<R> {
         FileDevice {
             rt,
             folder,
-            faults: 0,
+            faults: Faults::new(),
         }
     }
 }
@@ -71,7 +71,9 @@ impl<R: Files> Device for FileDevice<R> {
 
     /// Appends the block to the file of the device.
     fn hand(&mut self, _run: u64, device: &Name, block: &[u8]) -> Result<(), DeviceFault> {
-        let answer = append_to(&self.rt, &self.folder, device, block);
-        counted(answer, &mut self.faults)
+        self.faults.counted(
+            append_to(&self.rt, &self.folder, device, block),
+            DeviceFault,
+        )
     }
 }

@@ -2,7 +2,6 @@
 //! what it takes; `FileDevice` appends it to files, and tells nothing of them.
 #![tactic(auto)]
 
-mod calls;
 mod device;
 mod files;
 mod laws;

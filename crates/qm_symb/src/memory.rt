@@ -1,11 +1,11 @@
 // A device in memory, which fails at the calls that a list names.
 ghost use Rattle.std.specs.Prelude.{◌≡◌, [], ◌∷◌, ◌++◌, Contains, IsErr, OnErr, OnOk};
 ghost use Rattle.qm_symb.specs.Device.{Takes, TellsFaults};
-ghost use Rattle.qm_symb.specs.Held.{counted, in_memory};
+ghost use Rattle.qm_faults.specs.Faults.{counted};
+ghost use Rattle.qm_symb.specs.Held.{in_memory};
 
-use crate::calls::Calls;
-use crate::device::counted;
 use crate::{Device, DeviceFault};
+use qm_faults::Calls;
 use qm_kinds::{Name, Seq};
 use std::alloc::{AllocError, Global};
 use std::marker::Model;
@@ -25,7 +25,7 @@ impl Model for MemoryDevice {
 
     ghost view = { λ d. record {
       taken = d.taken.items;
-      fail = d.calls.fail.items;
+      fail = d.calls.fail;
       calls = d.calls.made;
       faults = d.calls.faults;
     } };
@@ -86,8 +86,13 @@ impl Device for MemoryDevice {
         ensures refused { OnErr result (Takes in_memory run [] self.old self.new) }
         ensures faults { TellsFaults in_memory self.old self.new (IsErr result) }
     {
-        self.calls.begin()?;
-        let kept = keep(self.alloc, &mut self.taken, run, block);
-        counted(kept, &mut self.calls.faults)
+        if !self.calls.begin() {
+            return Err(DeviceFault);
+        }
+        if keep(self.alloc, &mut self.taken, run, block).is_err() {
+            self.calls.count_fault();
+            return Err(DeviceFault);
+        }
+        Ok(())
     }
 }
