@@ -1,5 +1,5 @@
-// What the contracts of readers and writers leave open: that memory suffices, and that calls of std's readers and writers
-// that are short, interrupted or failing are gone on with, made again or refused.
+// What the contracts of readers and writers leave open: that memory suffices, and no more is taken than was asked for; and
+// that calls of std's readers and writers that are short, interrupted or failing are gone on with, made again or refused.
 use qm_io::{
     InputSource, MemorySink, MemorySource, OutputSink, ReadEnd, Sink, read_whole, write_whole,
 };
@@ -16,7 +16,11 @@ fn the_limit_is_the_most_that_is_read(rt: HostRuntime) -> Result<(), Fail> {
             let mut source = MemorySource::new(text.clone()?, Vec::new(alloc));
             let mut sink = MemorySink::new(alloc, Vec::new(alloc));
             match read_whole(alloc, &mut source, 6_000) {
-                Ok(bytes) => assert!(rt; write_whole(&mut sink, &bytes).is_ok()),
+                Ok(bytes) => {
+                    assert!(rt;
+                        bytes.capacity() <= 6_000 && write_whole(&mut sink, &bytes).is_ok()
+                    );
+                }
                 Err(end) => assert!(rt; end == ReadEnd::TooLong && length > 6_000),
             }
             assert!(rt; length > 6_000 || sink.held() == text.as_slice());

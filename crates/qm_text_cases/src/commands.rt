@@ -6,6 +6,7 @@ use qm_kinds::{
     QueueKind, Request, Shape, StopMode,
 };
 use std::alloc::Global;
+use std::test::Fail;
 
 // The user that types.
 const USER: &[u8] = b"SMITH";
@@ -801,8 +802,8 @@ fn is_request(request: &Request, asked: Asked) -> bool {
 }
 
 // Whether a text asks for what is meant.
-fn asks_for(alloc: Global, text: &str, asked: Asked) -> bool {
-    match (read_command(alloc, text.as_bytes(), name(USER)), asked) {
+fn asks_for(alloc: Global, text: &[u8], asked: Asked) -> bool {
+    match (read_command(alloc, text, name(USER)), asked) {
         (Ok(Input::Ask(request)), asked) => is_request(&request, asked),
         (Ok(Input::Show(query)), Asked::Show(number)) => query.number == Some(number),
         _ => false,
@@ -817,11 +818,17 @@ fn fault_of(alloc: Global, text: &str) -> Option<DclFault> {
     }
 }
 
+// Each is read behind many spaces too, since a long command isn't want of memory.
 #[test]
-fn texts_ask_for_what_they_say(rt: HostRuntime) {
+fn texts_ask_for_what_they_say(rt: HostRuntime) -> Result<(), Fail> {
+    let alloc = rt.alloc();
     for (text, asked) in &ASKING {
-        assert!(rt; asks_for(rt.alloc(), text, *asked), "{text}");
+        let mut long = vec![in alloc; b' '; 10_000]?;
+        long.extend_from_slice(text.as_bytes())?;
+        assert!(rt; asks_for(alloc, text.as_bytes(), *asked), "{text}");
+        assert!(rt; asks_for(alloc, &long, *asked), "behind spaces: {text}");
     }
+    Ok(())
 }
 
 #[test]
