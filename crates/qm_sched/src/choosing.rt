@@ -16,18 +16,15 @@ ghost use Rattle.qm_sched.specs.Choosing.{next_start};
 use crate::fitting::{can_run, is_open, stock_of};
 use crate::parts::Parts;
 use crate::running::see_order;
-use qm_kinds::{Entry, Name, Queue, QueueKind, Start};
+use qm_kinds::{END_OF_RUNS, Entry, Name, Queue, QueueKind, Start};
 use qm_match::{Key, Schedule, before};
 
-/// The numbers of runs end before this one.
-const END_OF_RUNS: u64 = 1 << 63;
-
-// How many jobs may run in a queue at once.
-fn places(queue: &Queue) -> u32
+/// How many jobs may run in a queue at once.
+pub fn places(queue: &Queue) -> u8
     ensures { result ≡ places queue.now }
 {
     match queue.kind {
-        QueueKind::Batch | QueueKind::GenericBatch => u32::from(queue.limit),
+        QueueKind::Batch | QueueKind::GenericBatch => queue.limit,
         QueueKind::Print | QueueKind::GenericPrint => 1,
     }
 }
@@ -84,7 +81,7 @@ pub(crate) fn see_entries(parts: &Parts)
 fn has_place(parts: &Parts, queue: &Queue) -> bool
     ensures { (s : System) → result ≡ (has_run_numbers (with_tables s parts.now) && is_free (with_tables s parts.now) queue.now) }
 {
-    parts.next_run() < END_OF_RUNS && parts.places_taken(&queue.name) < places(queue)
+    parts.next_run() < END_OF_RUNS && parts.places_taken(&queue.name) < u32::from(places(queue))
 }
 
 // What is told of the start of a job in a queue.
