@@ -24,14 +24,15 @@ pub(crate) struct Shelf {
 }
 
 impl Model for Shelf {
-    ghost use Rattle.std.specs.Prelude.{◌-◌, ◌≤◌, drop, vec_len, vec_capacity};
+    ghost use Rattle.std.specs.Prelude.{◌-◌, ◌/◌, ◌≤◌, drop, vec_len, vec_capacity};
+    ghost use Rattle.qm_entries.specs.declared.shelf.TheConstants.{MOST_GONE};
     ghost use Rattle.qm_entries.specs.Boxed.{contents, Shelved};
 
     ghost Value = { Shelved };
 
     ghost view = { λ s. record { entries = drop s.gone (contents s.boxes.items); room = vec_capacity s.boxes - vec_len s.boxes } };
 
-    ghost invariant = { λ s. s.gone ≤ vec_len s.boxes };
+    ghost invariant = { λ s. (s.gone ≤ vec_len s.boxes) × (s.gone ≤ vec_len s.boxes / MOST_GONE) };
 }
 
 /// Of so many boxes one may hold an entry that was taken out.

@@ -3,6 +3,7 @@ use Rattle.std.specs.Prelude.{◌≤◌, ℕ, List, All}
 use Rattle.std.specs.Ordering.{nat_cmp}
 use Rattle.qm_kinds.specs.declared.form.Form.{Form}
 use Rattle.qm_kinds.specs.declared.form.Characteristic.{Characteristic}
+use Rattle.qm_kinds.specs.declared.limits.TheConstants.{LAST_CHARACTERISTIC}
 use Rattle.qm_model.specs.Consistent.{IsInOrder, AreDistinct}
 
 -- the rows stand by number, under names of their own
@@ -18,8 +19,8 @@ AreKeptForms forms = AreNumbered (λ f. f.number) (λ f. f.name) forms
 abbrev pub AreKeptCharacteristics : List Characteristic → Type 0
 AreKeptCharacteristics defined = AreNumbered (λ c. c.number) (λ c. c.name) defined
 
--- both do, and characteristics have numbers up to 127
+-- both do, and characteristics have numbers up to the last one
 pub record AreKept (forms : List Form) (characteristics : List Characteristic) : Type 0 where
   pub forms_stand : AreKeptForms forms
   pub characteristics_stand : AreKeptCharacteristics characteristics
-  pub small : All (λ c. c.number ≤ 127) characteristics
+  pub small : All (λ c. c.number ≤ LAST_CHARACTERISTIC) characteristics

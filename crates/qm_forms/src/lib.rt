@@ -3,7 +3,6 @@
 #![tactic(auto)]
 
 mod names;
-mod places;
 mod table;
 mod wanted;
 

@@ -1,8 +1,5 @@
 // The forms once more, by name.
 ghost use Rattle.std.specs.Prelude.{◌≡◌, IfOk, vec_capacity};
-ghost use Rattle.qm_keyed.specs.Places.{IsPlace};
-ghost use Rattle.qm_model.specs.Consistent.{IsInOrder};
-ghost use Rattle.qm_model.specs.Find.{name_cmp};
 ghost use Rattle.qm_forms.specs.Forms.{without_form};
 ghost use Rattle.qm_forms.specs.Named.{AreByName};
 ghost use Rattle.qm_forms.specs.Numbered.{AreKeptForms};
@@ -18,15 +15,6 @@ pub(crate) fn by_name(alloc: Global, forms: &[Form]) -> Result<Vec<Form>, AllocE
     let mut by_name = Vec::from_slice(alloc, forms)?;
     by_name.sort_unstable_by_key(|form| form.name);
     Ok(by_name)
-}
-
-/// Where the form of a name stands among those in order of their names, or where one would belong. It asks a logarithm of
-/// the forms.
-pub(crate) fn place_of_name(by_name: &[Form], name: &Name) -> Result<usize, usize>
-    requires { IsInOrder name_cmp (λ f. f.name) by_name.now }
-    ensures { IsPlace name_cmp (λ f. f.name) name.now by_name.now result }
-{
-    by_name.binary_search_by(|form| form.name.cmp(name))
 }
 
 /// Takes out the form of a name. Where there is none, nothing changes. Its room stays.

@@ -1,6 +1,7 @@
 // The forms and characteristics in order of their numbers, and the forms in order of their names too.
 ghost use Rattle.std.specs.Prelude.{◌≡◌, ◌+◌, ◌-◌, ◌<◌, ◌≤◌, [], length, false, Some, IfOk, OnErr, OnOk};
 ghost use Rattle.std.specs.Option.{option_copied};
+ghost use Rattle.qm_kinds.specs.declared.limits.TheConstants.{LAST_CHARACTERISTIC};
 ghost use Rattle.qm_model.specs.Characteristics.{is_characteristic_taken};
 ghost use Rattle.qm_model.specs.Find.{form_wanted, characteristic_wanted};
 ghost use Rattle.qm_model.specs.Fitting.{stock_of};
@@ -10,9 +11,9 @@ ghost use Rattle.qm_model.specs.Wanted.{refused_characteristics, set_of};
 ghost use Rattle.qm_forms.specs.Forms.{without_form, without_characteristic};
 ghost use Rattle.qm_forms.specs.Numbered.{AreKept, AreKeptForms, AreKeptCharacteristics};
 
-use crate::names::{by_name, place_of_name, take_out};
-use crate::places::{place_of_characteristic, place_of_form, put};
+use crate::names::{by_name, take_out};
 use crate::wanted::{find_characteristic, find_form, refused_characteristics, set_of};
+use qm_keyed::{place_of, put};
 use qm_kinds::{Characteristic, CharacteristicSet, Form, Name, NameOrNumber, Refusal};
 use std::alloc::{AllocError, Global};
 use std::marker::Model;
@@ -111,10 +112,10 @@ impl FormTable {
         requires free { is_form_taken self.old.forms form ≡ false }
         ensures { self.new ≡ record self.old { forms = with_form form self.old.forms; spare_forms = self.old.spare_forms - 1 } }
     {
-        let Err(place) = place_of_form(&self.forms, form.number) else {
+        let Err(place) = place_of(&self.forms, &form.number) else {
             unreachable!()
         };
-        let Err(place_by_name) = place_of_name(&self.by_name, &form.name) else {
+        let Err(place_by_name) = place_of(&self.by_name, &form.name) else {
             unreachable!()
         };
         put(&mut self.forms, place, form);
@@ -125,15 +126,14 @@ impl FormTable {
     /// its name or its number.
     pub fn define_characteristic(&mut self, characteristic: Characteristic)
         requires room { 0 < self.old.spare_characteristics }
-        requires small { characteristic.number ≤ 127 }
+        requires small { characteristic.number ≤ LAST_CHARACTERISTIC }
         requires free { is_characteristic_taken self.old.characteristics characteristic ≡ false }
         ensures { self.new ≡ record self.old {
           characteristics = with_characteristic_defined characteristic self.old.characteristics;
           spare_characteristics = self.old.spare_characteristics - 1;
         } }
     {
-        let Err(place) = place_of_characteristic(&self.characteristics, characteristic.number)
-        else {
+        let Err(place) = place_of(&self.characteristics, &characteristic.number) else {
             unreachable!()
         };
         put(&mut self.characteristics, place, characteristic);

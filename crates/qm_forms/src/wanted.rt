@@ -3,13 +3,13 @@ ghost use Rattle.std.specs.Prelude.{◌≡◌, ◌≤◌, All};
 ghost use Rattle.std.specs.Option.{option_copied};
 ghost use Rattle.std.specs.Ordering.{nat_cmp};
 ghost use Rattle.qm_kinds.specs.declared.request.NameOrNumber.TheVariants.{Name as Named, Number};
+ghost use Rattle.qm_kinds.specs.declared.limits.TheConstants.{LAST_CHARACTERISTIC};
 ghost use Rattle.qm_model.specs.Consistent.{IsInOrder};
 ghost use Rattle.qm_model.specs.Find.{name_cmp, form_wanted, characteristic_wanted, is_characteristic};
 ghost use Rattle.qm_model.specs.Wanted.{refused_characteristics, set_of};
 ghost use Rattle.qm_forms.specs.Named.{AreByName};
 
-use crate::names::place_of_name;
-use crate::places::place_of_form;
+use qm_keyed::place_of;
 use qm_kinds::{Characteristic, Form, Name, NameOrNumber, Refusal};
 
 // The form of a name, from the forms in order of their names.
@@ -17,7 +17,7 @@ fn find_named<'a>(by_name: &'a [Form], name: &Name) -> Option<&'a Form>
     requires { IsInOrder name_cmp (λ f. f.name) by_name.now }
     ensures { option_copied result ≡ form_wanted (Named name.now) by_name.now }
 {
-    let Ok(place) = place_of_name(by_name, name) else {
+    let Ok(place) = place_of(by_name, name) else {
         return None;
     };
     Some(&by_name[place])
@@ -28,7 +28,7 @@ fn find_numbered(forms: &[Form], number: u16) -> Option<&Form>
     requires { IsInOrder nat_cmp (λ f. f.number) forms.now }
     ensures { option_copied result ≡ form_wanted (Number number) forms.now }
 {
-    let Ok(place) = place_of_form(forms, number) else {
+    let Ok(place) = place_of(forms, &number) else {
         return None;
     };
     Some(&forms[place])
@@ -89,7 +89,7 @@ pub(crate) fn refused_characteristics(
 
 /// The set of these characteristics, as bits by number.
 pub(crate) fn set_of(defined: &[Characteristic], wanted: &[NameOrNumber]) -> u128
-    requires { All (λ c. c.number ≤ 127) defined.now }
+    requires { All (λ c. c.number ≤ LAST_CHARACTERISTIC) defined.now }
     ensures { result ≡ set_of defined.now wanted.now }
 {
     let mut set = 0u128;

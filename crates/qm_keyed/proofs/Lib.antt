@@ -4,3 +4,4 @@ pub mod Searches
 pub mod Rows
 pub mod Inserted
 pub mod Mapped
+pub mod Keys

@@ -1,13 +1,14 @@
 -- What a test that a row alone passes, or none, finds, takes out and changes.
-use Rattle.std.proofs.Common.{◌≡◌, ◌∙◌, ℕ, zero, suc, ◌+◌, ◌<◌, inl, inr, Bool, true, false, not, if◌then◌else◌, List, [], ◌∷◌, length, get_or, map, set, Some, None, refl, ap, arith, cond, ◌==◌, nat_lt, subst}
+use Rattle.std.proofs.Common.{◌≡◌, ◌∙◌, ℕ, zero, suc, ◌+◌, ◌<◌, inl, inr, Bool, true, false, not, if◌then◌else◌, List, [], ◌∷◌, length, get_or, map, set, Some, None, refl, ap, arith, ◌==◌, subst}
 use Rattle.std.specs.List.{All, AllWithin, HoldsAt, find, filter, remove, slice_get}
 use Rattle.std.specs.Cmp.{IsTotalOrder}
-use Rattle.std.specs.Ordering.{is_eq, is_lt, nat_cmp, ordering_reverse}
+use Rattle.std.specs.Ordering.{is_eq, is_lt, ordering_reverse}
 use Rattle.std.specs.declared.cmp.Ordering.{Ordering}
 use Rattle.std.specs.declared.cmp.Ordering.TheVariants.{Less, Equal, Greater}
 use Rattle.std.proofs.lemmas.List.Elements.{All-tail}
 use Rattle.std.proofs.lemmas.Bool.{cases_lt}
 use Rattle.qm_keyed.specs.Places.{StandsAt, BelongsAt}
+pub use Rattle.qm_keyed.specs.Numbers.{lesser_is}
 
 -- one row alone passes a test
 pub record PassesAt {X : Type 0} (test : X → Bool) (xs : List X) (i : ℕ) : Type 0 where
@@ -100,18 +101,6 @@ module _ {X : Type 0} (test : X → Bool) where
       rw other (find_from xs i
       (λ k d low below. before (suc k) d (omega arith) (omega (arith, below)))
       (λ k d low below. behind (suc k) d (omega (arith, low)) (omega (arith, below))))
-
--- a lesser number by either test
-pub lesser_is : (a b : ℕ) → nat_lt a b ≡ is_lt (nat_cmp a b)
-lesser_is a b = step (nat_lt a b)
-  where
-    other : (c : Bool) → false ≡ is_lt (cond c Equal Greater)
-    other true = refl
-    other false = refl
-
-    step : (c : Bool) → c ≡ is_lt (cond c Less (cond (a == b) Equal Greater))
-    step true = refl
-    step false = other (a == b)
 
 module _ {X K : Type 0} {R : K → K → Ordering} (o : IsTotalOrder R) (key : X → K) (wanted : K) (test : X → Bool) (tests : (x : X) → test x ≡ is_lt (R wanted (key x))) (xs : List X) (i : ℕ) where
   by : (x : X) (answer : Ordering) → R (key x) wanted ≡ answer → test x ≡ is_lt (ordering_reverse answer)

@@ -1,7 +1,6 @@
 //! Queues by name. `QueueTable` keeps them in order of their names.
 #![tactic(auto)]
 
-mod places;
 mod settings;
 mod table;
 

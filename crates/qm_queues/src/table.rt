@@ -8,8 +8,8 @@ ghost use Rattle.qm_model.specs.Standing.{with_queue};
 ghost use Rattle.qm_queues.specs.Queues.{with_queue_put, queue_after};
 ghost use Rattle.qm_queues.specs.Settings.{with_settings_and_state};
 
-use crate::places::{place_after, place_of, put, replace, set, set_state};
 use crate::settings::Settings;
+use qm_keyed::Table;
 use qm_kinds::{Name, Queue, QueueState};
 use std::alloc::{AllocError, Global};
 use std::marker::Model;
@@ -20,20 +20,15 @@ use std::marker::Model;
 /// queues that stand behind.
 #[derive(Drop)]
 pub struct QueueTable {
-    queues: Vec<Queue>,
+    queues: Table<Name, Queue>,
 }
 
 impl Model for QueueTable {
-    ghost use Rattle.std.specs.Prelude.{◌-◌, vec_len, vec_capacity};
-    ghost use Rattle.qm_model.specs.Consistent.{IsInOrder};
-    ghost use Rattle.qm_model.specs.Find.{name_cmp};
     ghost use Rattle.qm_queues.specs.Queues.{Kept};
 
     ghost Value = { Kept };
 
-    ghost view = { λ t. record { queues = t.queues.items; spare = vec_capacity t.queues - vec_len t.queues } };
-
-    ghost invariant = { λ t. IsInOrder name_cmp (λ q. q.name) t.queues.items };
+    ghost view = { λ t. record { queues = t.queues.rows; spare = t.queues.spare } };
 }
 
 impl QueueTable {
@@ -42,7 +37,7 @@ impl QueueTable {
         ensures { result ≡ record { queues = []; spare = 0 } }
     {
         QueueTable {
-            queues: Vec::new(alloc),
+            queues: Table::new(alloc),
         }
     }
 
@@ -51,7 +46,9 @@ impl QueueTable {
         requires { IsInOrder name_cmp (λ q. q.name) queues.items }
         ensures { result.queues ≡ queues.items }
     {
-        QueueTable { queues }
+        QueueTable {
+            queues: Table::of(queues),
+        }
     }
 
     /// Makes room for one queue more. Where there is room it takes no memory, and succeeds.
@@ -73,13 +70,7 @@ impl QueueTable {
           spare = if is_some result then self.old.spare else self.old.spare - 1;
         } }
     {
-        match place_of(&self.queues, &queue.name) {
-            Ok(place) => Some(replace(&mut self.queues, place, queue)),
-            Err(place) => {
-                put(&mut self.queues, place, queue);
-                None
-            }
-        }
+        self.queues.put(queue)
     }
 
     /// The queue of a name.
@@ -87,10 +78,7 @@ impl QueueTable {
         ensures found { option_copied result ≡ queue_named name.now self.now.queues }
         ensures in_order { IsInOrder name_cmp (λ q. q.name) self.now.queues }
     {
-        let Ok(place) = place_of(&self.queues, name) else {
-            return None;
-        };
-        Some(&self.queues[place])
+        self.queues.get(name)
     }
 
     /// The queues, in order of their names.
@@ -106,11 +94,7 @@ impl QueueTable {
         ensures found { result ≡ is_some (queue_named name.now self.old.queues) }
         ensures queues { self.new ≡ record self.old { queues = with_queue name.now (λ q. record q { state = state }) self.old.queues } }
     {
-        let Ok(place) = place_of(&self.queues, name) else {
-            return false;
-        };
-        set_state(&mut self.queues, place, state);
-        true
+        self.queues.change(name, |queue| queue.state = state)
     }
 
     /// Sets what is given of the queue of a name, and its state where one is given, and says whether there is such a queue.
@@ -119,11 +103,10 @@ impl QueueTable {
         ensures found { result ≡ is_some (queue_named name.now self.old.queues) }
         ensures queues { self.new ≡ record self.old { queues = with_queue name.now (with_settings_and_state settings.now state) self.old.queues } }
     {
-        let Ok(place) = place_of(&self.queues, name) else {
-            return false;
-        };
-        set(&mut self.queues, place, settings, state);
-        true
+        self.queues.change(name, |queue| {
+            settings.apply(queue);
+            queue.state = state.unwrap_or(queue.state);
+        })
     }
 
     /// Takes out the queue of a name, and gives it. Where there is none, nothing changes.
@@ -134,10 +117,7 @@ impl QueueTable {
           spare = if is_some result then self.old.spare + 1 else self.old.spare;
         } }
     {
-        let Ok(place) = place_of(&self.queues, name) else {
-            return None;
-        };
-        Some(self.queues.remove(place))
+        self.queues.remove(name)
     }
 
     /// The queue of the least name that is greater than this one, or of the least name where none is given.
@@ -146,8 +126,8 @@ impl QueueTable {
         ensures in_order { IsInOrder name_cmp (λ q. q.name) self.now.queues }
     {
         match name {
-            None => self.queues.first(),
-            Some(name) => self.queues.get(place_after(&self.queues, name)),
+            None => self.queues.as_slice().first(),
+            Some(name) => self.queues.after(name),
         }
     }
 }

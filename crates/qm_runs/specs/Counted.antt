@@ -1,5 +1,5 @@
 -- How many runs each queue has, as it is kept beside the runs.
-use Rattle.std.specs.Prelude.{◌≡◌, ◌+◌, ◌<◌, ◌≤◌, ℕ, List, length, All, if◌then◌else◌, sum_by}
+use Rattle.std.specs.Prelude.{◌≡◌, ◌+◌, ◌-◌, ◌<◌, ◌≤◌, ℕ, List, length, All, if◌then◌else◌, sum_by}
 use Rattle.std.specs.Str.{bytes_eq}
 use Rattle.qm_kinds.specs.declared.run.Run.{Run}
 use Rattle.qm_model.specs.Consistent.{IsInOrder}
@@ -19,6 +19,14 @@ counted_for queue counts = sum_by (λ c. if bytes_eq c.queue queue then c.runs e
 -- how many runs are counted in all
 abbrev pub counted : List RunCount → ℕ
 counted counts = sum_by (λ c. c.runs) counts
+
+-- a queue has one run more
+abbrev pub one_more : RunCount → RunCount
+one_more c = record c { runs = c.runs + 1 }
+
+-- a queue has one run less
+abbrev pub one_less : RunCount → RunCount
+one_less c = record c { runs = c.runs - 1 }
 
 -- the counts stand by the names of their queues, and none is 0
 pub record AreByQueue (counts : List RunCount) : Type 0 where

@@ -3,7 +3,7 @@ use Rattle.std.specs.Prelude.{◌<◌, ◌≤◌, ℕ, List, length, All}
 use Rattle.std.specs.Ordering.{nat_cmp}
 use Rattle.qm_kinds.specs.declared.run.Run.{Run}
 use Rattle.qm_model.specs.Consistent.{IsInOrder}
-use Rattle.qm_runs.specs.declared.places.TheConstants.{MOST_RUNS}
+use Rattle.qm_runs.specs.declared.limits.TheConstants.{MOST_RUNS}
 
 -- the runs stand by number, all below the next one, and 32 bits count them
 pub record AreNumbered (runs : List Run) (next : ℕ) : Type 0 where

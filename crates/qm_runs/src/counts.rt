@@ -1,12 +1,13 @@
 // How many runs each queue has, so that they aren't counted anew at each look.
-ghost use Rattle.std.specs.Prelude.{◌≡◌, ◌+◌, ◌-◌, ◌<◌, ◌≤◌, [], length, vec_len, vec_capacity, slice_set, slice_index_or, insert, OnErr, OnOk};
+ghost use Rattle.std.specs.Prelude.{◌≡◌, ◌+◌, ◌-◌, ◌<◌, ◌≤◌, [], length, vec_len, vec_capacity, slice_set, slice_index_or, OnErr, OnOk};
 ghost use Rattle.qm_model.specs.Consistent.{IsInOrder};
 ghost use Rattle.qm_model.specs.Find.{name_cmp};
 ghost use Rattle.qm_keyed.specs.Places.{IsPlace};
 ghost use Rattle.qm_runs.specs.declared.counts.RunCount.{RunCount as AnyCount};
-ghost use Rattle.qm_runs.specs.declared.places.TheConstants.{MOST_RUNS};
-ghost use Rattle.qm_runs.specs.Counted.{counted, counted_for, IsOneMore};
+ghost use Rattle.qm_runs.specs.declared.limits.TheConstants.{MOST_RUNS};
+ghost use Rattle.qm_runs.specs.Counted.{counted, counted_for, one_more, one_less, IsOneMore};
 
+use qm_keyed::put;
 use qm_kinds::Name;
 use std::alloc::{AllocError, Global};
 use std::marker::Model;
@@ -119,21 +120,11 @@ fn place_of(counts: &[RunCount], queue: &Name) -> Result<usize, usize>
     counts.binary_search_by(|count| count.queue.cmp(queue))
 }
 
-// Puts a count in at a place. There is room, so it takes no memory.
-fn put(counts: &mut Vec<RunCount>, place: usize, count: RunCount)
-    requires within { place ≤ vec_len counts.old }
-    requires room { vec_len counts.old < vec_capacity counts.old }
-    ensures items { counts.new.items ≡ insert counts.old.items place count }
-    ensures capacity { vec_capacity counts.new ≡ vec_capacity counts.old }
-{
-    let _ = counts.insert(place, count);
-}
-
 // Counts one run more at a place.
 fn add_at(counts: &mut Vec<RunCount>, place: usize)
     requires within { place < vec_len counts.old }
     requires few { (d : AnyCount) → (slice_index_or counts.old.items place d).runs < MOST_RUNS }
-    ensures items { (d : AnyCount) → counts.new.items ≡ slice_set counts.old.items place (record (slice_index_or counts.old.items place d) { runs = (slice_index_or counts.old.items place d).runs + 1 }) }
+    ensures items { (d : AnyCount) → counts.new.items ≡ slice_set counts.old.items place (one_more (slice_index_or counts.old.items place d)) }
     ensures capacity { vec_capacity counts.new ≡ vec_capacity counts.old }
 {
     let count = &mut counts[place];
@@ -144,7 +135,7 @@ fn add_at(counts: &mut Vec<RunCount>, place: usize)
 fn take_at(counts: &mut Vec<RunCount>, place: usize)
     requires within { place < vec_len counts.old }
     requires some { (d : AnyCount) → 0 < (slice_index_or counts.old.items place d).runs }
-    ensures items { (d : AnyCount) → counts.new.items ≡ slice_set counts.old.items place (record (slice_index_or counts.old.items place d) { runs = (slice_index_or counts.old.items place d).runs - 1 }) }
+    ensures items { (d : AnyCount) → counts.new.items ≡ slice_set counts.old.items place (one_less (slice_index_or counts.old.items place d)) }
     ensures capacity { vec_capacity counts.new ≡ vec_capacity counts.old }
 {
     let count = &mut counts[place];

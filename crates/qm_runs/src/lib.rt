@@ -3,7 +3,8 @@
 #![tactic(auto)]
 
 mod counts;
-mod places;
+mod limits;
 mod runs;
 
+pub use limits::runs_are_counted_in_32_bits;
 pub use runs::Runs;

@@ -1,12 +1,14 @@
 // The runs that have begun and haven't ended.
-ghost use Rattle.std.specs.Prelude.{◌≡◌, ◌+◌, ◌-◌, ◌<◌, ◌≤◌, ◌^◌, ◌++◌, ◌∷◌, [], if◌then◌else◌, is_some, None, OnErr, OnOk};
+ghost use Rattle.std.specs.Prelude.{◌≡◌, ◌+◌, ◌-◌, ◌<◌, ◌≤◌, ◌++◌, ◌∷◌, [], if◌then◌else◌, is_some, None, OnErr, OnOk};
 ghost use Rattle.std.specs.Option.{option_copied, option_map};
 ghost use Rattle.std.specs.Ordering.{nat_cmp};
+ghost use Rattle.qm_kinds.specs.declared.limits.TheConstants.{END_OF_RUNS};
 ghost use Rattle.qm_model.specs.Consistent.{IsInOrder};
 ghost use Rattle.qm_runs.specs.Runs.{run_numbered, with_run, without_run, new_run, places_in_use};
 
 use crate::counts::RunCounts;
-use crate::places::{MOST_RUNS, place_of, put};
+use crate::limits::MOST_RUNS;
+use qm_keyed::{place_of, put};
 use qm_kinds::{Name, Run};
 use std::alloc::{AllocError, Global};
 use std::marker::Model;
@@ -27,7 +29,7 @@ pub struct Runs {
 
 impl Model for Runs {
     ghost use Rattle.std.specs.Prelude.{◌-◌, min, vec_len, vec_capacity};
-    ghost use Rattle.qm_runs.specs.declared.places.TheConstants.{MOST_RUNS};
+    ghost use Rattle.qm_runs.specs.declared.limits.TheConstants.{MOST_RUNS};
     ghost use Rattle.qm_runs.specs.Runs.{Begun};
     ghost use Rattle.qm_runs.specs.Numbered.{AreNumbered};
     ghost use Rattle.qm_runs.specs.Counted.{AreCounted};
@@ -88,7 +90,7 @@ impl Runs {
         requires absent { run_numbered run.run self.old.runs ≡ None }
         ensures { self.new ≡ record self.old { runs = with_run run self.old.runs; spare = self.old.spare - 1 } }
     {
-        let Err(place) = place_of(&self.runs, run.run) else {
+        let Err(place) = place_of(&self.runs, &run.run) else {
             unreachable!()
         };
         self.counts.add(&run.queue);
@@ -98,7 +100,7 @@ impl Runs {
     /// Begins a run, for which there is room, under the next number, which it gives. The numbers of runs end at 2^63.
     pub fn start(&mut self, entry: u32, queue: Name, node: Name) -> u64
         requires room { 0 < self.old.spare }
-        requires numbers { self.old.next < 2 ^ 63 }
+        requires numbers { self.old.next < END_OF_RUNS }
         ensures number { result ≡ self.old.next }
         ensures runs { self.new ≡ record {
           runs = self.old.runs ++ new_run self.old.next entry queue node ∷ [];
@@ -126,7 +128,7 @@ impl Runs {
           spare = if is_some result then self.old.spare + 1 else self.old.spare;
         } }
     {
-        let Ok(place) = place_of(&self.runs, run) else {
+        let Ok(place) = place_of(&self.runs, &run) else {
             return None;
         };
         let ended = self.runs.remove(place);
@@ -146,7 +148,7 @@ impl Runs {
         ensures found { option_copied result ≡ run_numbered run self.now.runs }
         ensures in_order { IsInOrder nat_cmp (λ r. r.run) self.now.runs }
     {
-        let Ok(place) = place_of(&self.runs, run) else {
+        let Ok(place) = place_of(&self.runs, &run) else {
             return None;
         };
         Some(&self.runs[place])

@@ -38,3 +38,7 @@ pub record IsExtended (more : List ℕ) (f g : Spooled) : Type 0 where
   pub name : g.name ≡ f.name
   pub bytes : g.bytes.items ≡ f.bytes.items ++ more
   pub named : g.named ≡ f.named
+
+-- the same file, named by so many entries
+abbrev pub named_by : ℕ → Spooled → Spooled
+named_by named f = record f { named = named }

@@ -4,10 +4,9 @@ ghost use Rattle.qm_model.specs.Consistent.{AreFiles, spooled};
 ghost use Rattle.qm_spool.specs.Counts.{CountsOf};
 ghost use Rattle.qm_spool.specs.Rows.{file_of};
 
-use crate::limits::SPOOL_LIMIT;
 use crate::spool::Spool;
 use crate::spooled::Spooled;
-use qm_kinds::{File, Seq};
+use qm_kinds::{File, SPOOL_LIMIT, Seq};
 use std::alloc::{AllocError, Global};
 
 // A file as the spool keeps it, named by no entry so far.

@@ -1,16 +1,18 @@
 // The files in order of their names.
 ghost use Rattle.std.specs.Prelude.{◌≡◌, ◌+◌, ◌-◌, ◌<◌, ◌≤◌, ◌||◌, nat_lt, [], length, filter, not, is_some, false, None, IsSome, OnErr, OnOk, vec_len, vec_capacity};
 ghost use Rattle.std.specs.Option.{option_copied, option_map};
+ghost use Rattle.qm_kinds.specs.declared.limits.TheConstants.{ENTRIES_LIMIT};
 ghost use Rattle.qm_model.specs.Appending.{is_spool_full};
 ghost use Rattle.qm_model.specs.Consistent.{AreFiles, spooled};
 ghost use Rattle.qm_model.specs.Find.{file_named, same_file_name};
 ghost use Rattle.qm_spool.specs.Kept.{count_of, with_bytes, HasRoomFor};
 ghost use Rattle.qm_spool.specs.Counts.{SameCounts, IsCountedAs};
 
-use crate::limits::{FILE_LIMIT, FILES_LIMIT, SPOOL_LIMIT, passes};
+use crate::limits::passes;
 use crate::place::place_of;
-use crate::spooled::{Spooled, extend, put, reserve_bytes, set_named};
-use qm_kinds::FileName;
+use crate::spooled::{Spooled, extend, reserve_bytes, set_named};
+use qm_keyed::put;
+use qm_kinds::{FILE_LIMIT, FILES_LIMIT, FileName, SPOOL_LIMIT};
 use std::alloc::{AllocError, Global};
 use std::marker::Model;
 
@@ -162,7 +164,7 @@ impl Spool {
     /// Counts one more entry that names a file, which is there.
     pub fn enter(&mut self, name: &FileName)
         requires there { IsSome (file_named name.now self.old.files) }
-        requires few { count_of name.now self.old.counts < 65536 }
+        requires few { count_of name.now self.old.counts < ENTRIES_LIMIT }
         ensures files { self.new ≡ record self.old { counts = self.new.counts } }
         ensures counts { IsCountedAs name.now (count_of name.now self.old.counts + 1) self.old.counts self.new.counts }
     {

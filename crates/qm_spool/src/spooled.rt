@@ -1,8 +1,8 @@
 // A file as the spool keeps it, and what is written in its place. Only `reserve_bytes` takes memory.
-ghost use Rattle.std.specs.Prelude.{◌≡◌, ◌<◌, ◌≤◌, ◌+◌, [], length, vec_len, vec_capacity, slice_set, slice_index_or, insert, OnErr, OnOk};
+ghost use Rattle.std.specs.Prelude.{◌≡◌, ◌<◌, ◌≤◌, ◌+◌, [], length, vec_len, vec_capacity, slice_set, slice_index_or, OnErr, OnOk};
 ghost use Rattle.std.specs.List.{HoldsAt};
 ghost use Rattle.qm_spool.specs.declared.spooled.Spooled.{Spooled as AnySpooled};
-ghost use Rattle.qm_spool.specs.Rows.{Replaces, IsExtended};
+ghost use Rattle.qm_spool.specs.Rows.{Replaces, IsExtended, named_by};
 
 use qm_kinds::FileName;
 use std::alloc::AllocError;
@@ -48,23 +48,10 @@ pub(crate) fn extend(files: &mut Vec<Spooled>, place: usize, more: &[u8])
     };
 }
 
-/// Puts a file in at a place. There is room, so it takes no memory.
-pub(crate) fn put(files: &mut Vec<Spooled>, place: usize, file: Spooled)
-    requires within { place ≤ vec_len files.old }
-    requires room { vec_len files.old < vec_capacity files.old }
-    ensures items { files.new.items ≡ insert files.old.items place file }
-    ensures len { vec_len files.new ≡ vec_len files.old + 1 }
-    ensures capacity { vec_capacity files.new ≡ vec_capacity files.old }
-{
-    let Ok(()) = files.insert(place, file) else {
-        unreachable!()
-    };
-}
-
 /// Sets how many entries name the file at a place.
 pub(crate) fn set_named(files: &mut Vec<Spooled>, place: usize, named: u32)
     requires { place < vec_len files.old }
-    ensures items { (d : AnySpooled) → files.new.items ≡ slice_set files.old.items place (record (slice_index_or files.old.items place d) { named = named }) }
+    ensures items { (d : AnySpooled) → files.new.items ≡ slice_set files.old.items place (named_by named (slice_index_or files.old.items place d)) }
     ensures len { vec_len files.new ≡ vec_len files.old }
     ensures capacity { vec_capacity files.new ≡ vec_capacity files.old }
 {

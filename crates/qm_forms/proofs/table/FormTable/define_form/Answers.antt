@@ -24,16 +24,16 @@ unreachable-requires c =
     untaken number_of name_of c.self.inside.forms.items c.args.form c.in_default.field-0 stands (or_false _ _ free).1
 
 -- and no form has the name
-pub unreachable-requires-in_default-place_of_name : goal.unreachable-requires-in_default-place_of_name
-unreachable-requires-in_default-place_of_name c =
-    let stands : StandsAt name_cmp name_of c.args.form.name c.self.inside.by_name.items c.in_default-place_of_name.field-0 = rw c.deref-2.ensures.value at c.in_default-place_of_name.ensures in
+pub unreachable-requires-in_default-place_of : goal.unreachable-requires-in_default-place_of
+unreachable-requires-in_default-place_of c =
+    let stands : StandsAt name_cmp name_of c.args.form.name c.self.inside.by_name.items c.in_default-place_of.field-0 = rw c.deref-2.ensures.value at c.in_default-place_of.ensures in
     let free : is_form_taken c.self.inside.forms.items c.args.form ≡ false = ap (λ (w : Defined). is_form_taken w.forms c.args.form) c.self.view_is ∙ c.requires.free in
-    unused c.self.inside.forms.items c.self.inside.by_name.items c.args.form c.in_default-place_of_name.field-0 c.self.invariant.1 stands (or_false _ _ free).0
+    unused c.self.inside.forms.items c.self.inside.by_name.items c.args.form c.in_default-place_of.field-0 c.self.invariant.1 stands (or_false _ _ free).0
 
 pub invariant_of-self : goal.invariant_of-self
 invariant_of-self c =
     let belongs : BelongsAt nat_cmp number_of c.args.form.number c.self.inside.forms.items c.in-Err.place = rw c.deref.ensures.value at c.in-Err.ensures in
-    let named : BelongsAt name_cmp name_of c.args.form.name c.self.inside.by_name.items c.in-Err-place_of_name.place_by_name = rw c.deref-2.ensures.value at c.in-Err-place_of_name.ensures in
+    let named : BelongsAt name_cmp name_of c.args.form.name c.self.inside.by_name.items c.in-Err-place_of.place_by_name = rw c.deref-2.ensures.value at c.in-Err-place_of.ensures in
     let free_of : is_form_taken c.self.inside.forms.items c.args.form ≡ false = ap (λ (w : Defined). is_form_taken w.forms c.args.form) c.self.view_is ∙ c.requires.free in
     let free = (or_false _ _ free_of).0 in (
       record {
@@ -41,7 +41,7 @@ invariant_of-self c =
         characteristics_stand = c.self.invariant.0.characteristics_stand;
         small = c.self.invariant.0.small;
       },
-      rw (c.put.ensures.items, c.put-2.ensures.items) (by_name_put c.self.inside.forms.items c.self.inside.by_name.items c.args.form c.in-Err.place c.in-Err-place_of_name.place_by_name c.self.invariant.1 belongs.within named),
+      rw (c.put.ensures.items, c.put-2.ensures.items) (by_name_put c.self.inside.forms.items c.self.inside.by_name.items c.args.form c.in-Err.place c.in-Err-place_of.place_by_name c.self.invariant.1 belongs.within named),
     )
 
 pub returns : goal.returns
