@@ -37,6 +37,6 @@ pub mod MarkLemmas
 pub mod Moments
 pub mod Texts
 pub mod TwoRefusals
-pub mod Limits
+pub mod LastValues
 pub mod Waiting
 pub mod BuiltLemmas

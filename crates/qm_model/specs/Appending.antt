@@ -1,12 +1,13 @@
 -- Bytes are added to a file, which is made where it isn't there.
 -- OpenVMS System Services Reference Manual, $SNDJBC, on the files of a job.
 -- This site's own: the files that jobs name are kept by the queue manager, and their limits.
-use Rattle.std.specs.Prelude.{ℕ, ◌+◌, nat_lt, Bool, ◌&&◌, ◌||◌, List, [], ◌∷◌, ◌++◌, length, find, Option, is_none}
+use Rattle.std.specs.Prelude.{ℕ, ◌+◌, nat_lt, nat_le, Bool, ◌&&◌, ◌||◌, List, [], ◌∷◌, ◌++◌, length, find, Option, is_none}
 use Rattle.std.specs.Option.{option_map, option_map_or}
 use Rattle.std.specs.Ordering.{match_ordering}
 use Rattle.qm_kinds.specs.declared.file.FileName.{FileName}
 use Rattle.qm_kinds.specs.declared.file.File.{File}
 use Rattle.qm_kinds.specs.declared.entry.Entry.{Entry}
+use Rattle.qm_kinds.specs.declared.limits.TheConstants.{FILES_LIMIT, FILE_LIMIT, SPOOL_LIMIT}
 use Rattle.qm_kinds.specs.declared.refusal.Refusal.{Refusal}
 use Rattle.qm_kinds.specs.declared.refusal.Refusal.TheVariants.{Referenced, SpoolFull}
 use Rattle.qm_kinds.specs.declared.reply.Act.TheVariants.{Filed}
@@ -32,8 +33,8 @@ refused_as_named name entries = option_map (λ e. Referenced (holder.Entry e.num
 -- a file, all files together, or their number would pass the limit
 abbrev pub is_spool_full : FileName → ℕ → List File → Bool
 is_spool_full name more files =
-    nat_lt 1048576 (length (bytes_of name files) + more) || nat_lt 67108864 (spooled files + more)
-    || (is_none (file_named name files) && nat_lt 4095 (length files))
+    nat_lt FILE_LIMIT (length (bytes_of name files) + more) || nat_lt SPOOL_LIMIT (spooled files + more)
+    || (is_none (file_named name files) && nat_le FILES_LIMIT (length files))
 
 -- why bytes can't be added to a file
 abbrev pub append_refusal : System → FileName → List ℕ → Option Refusal

@@ -1,6 +1,7 @@
 -- What each request does to a system, and why it is refused.
 -- OpenVMS System Services Reference Manual, $SNDJBC, on its function codes.
-use Rattle.std.specs.Prelude.{ℕ, ◌^◌, nat_le, Bool, true, false, ◌&&◌, if◌then◌else◌, List, Option, None, Some, Result}
+use Rattle.std.specs.Prelude.{ℕ, nat_le, Bool, true, false, ◌&&◌, if◌then◌else◌, List, Option, None, Some, Result}
+use Rattle.qm_kinds.specs.declared.limits.TheConstants.{RUNS_LIMIT}
 use Rattle.qm_kinds.specs.declared.refusal.Refusal.{Refusal}
 use Rattle.qm_kinds.specs.declared.refusal.Refusal.TheVariants.{NumbersSpent}
 use Rattle.qm_kinds.specs.declared.request.Request.{Request}
@@ -83,7 +84,7 @@ asks_for_numbers _ = true
 
 -- the numbers of runs are spent
 abbrev pub are_numbers_spent : System → Bool
-are_numbers_spent s = nat_le (2 ^ 62) s.next_run
+are_numbers_spent s = nat_le RUNS_LIMIT s.next_run
 
 -- the first refusal of a request, of which spent numbers come first
 abbrev pub first_refusal_of : System → List ℕ → Request → Option Refusal

@@ -5,6 +5,7 @@ use Rattle.std.specs.Prelude.{ℕ, ◌^◌, ◌==◌, nat_lt, Bool, false, not, 
 use Rattle.std.specs.Option.{option_map_or}
 use Rattle.std.specs.Str.{bytes_eq}
 use Rattle.qm_kinds.specs.declared.form.Characteristic.{Characteristic}
+use Rattle.qm_kinds.specs.declared.limits.TheConstants.{LAST_CHARACTERISTIC}
 use Rattle.qm_kinds.specs.declared.refusal.Refusal.{Refusal}
 use Rattle.qm_kinds.specs.declared.refusal.Refusal.TheVariants.{BadValue, DuplicateCharacteristic, NoSuchCharacteristic}
 use Rattle.qm_kinds.specs.declared.reply.Act.TheVariants.{CharacteristicDefined, CharacteristicDeleted}
@@ -23,7 +24,7 @@ is_characteristic_taken defined c = is_some (characteristic_wanted (Name c.name)
 -- why a characteristic can't be defined
 abbrev pub define_characteristic_refusal : System → Characteristic → Option Refusal
 define_characteristic_refusal s characteristic = first_refusal
-    (refused_where (nat_lt 127 characteristic.number) BadValue
+    (refused_where (nat_lt LAST_CHARACTERISTIC characteristic.number) BadValue
     ∷ refused_where (is_characteristic_taken s.characteristics characteristic) DuplicateCharacteristic
     ∷ [])
 

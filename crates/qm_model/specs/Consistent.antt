@@ -2,7 +2,7 @@
 -- OpenVMS System Manager's Manual, Setting Up and Maintaining Queues, on queues, forms and characteristics; Managing the Queue Manager
 -- and Queue Database, on what the queue database holds.
 -- This site's own: the limits in number and size, the files, and the numbers of runs.
-use Rattle.std.specs.Prelude.{◌≡◌, ◌≢◌, ◌<◌, ◌≤◌, ◌+◌, ◌^◌, ℕ, Bool, true, false, List, [], length, map, filter, sum_by, find, Option, Some, IfSome, IsSome, IsNone, IsTrue, All, AllPairs, Contains, IsBitSet}
+use Rattle.std.specs.Prelude.{◌≡◌, ◌≢◌, ◌<◌, ◌≤◌, ◌+◌, ℕ, Bool, true, false, List, [], length, map, filter, sum_by, find, Option, Some, IfSome, IsSome, IsNone, IsTrue, All, AllPairs, Contains, IsBitSet}
 use Rattle.std.specs.List.{list_any, list_all}
 use Rattle.std.specs.Ordering.{nat_cmp}
 use Rattle.std.specs.Char.{is_ascii_digit}
@@ -20,6 +20,7 @@ use Rattle.qm_kinds.specs.declared.queue.QueueKind.TheVariants.{Batch, Print, Ge
 use Rattle.qm_kinds.specs.declared.queue.QueueState.TheVariants.{Stopping}
 use Rattle.qm_kinds.specs.declared.entry.Entry.{Entry}
 use Rattle.qm_kinds.specs.declared.entry.JobKind.{JobKind}
+use Rattle.qm_kinds.specs.declared.limits.TheConstants.{NODES_LIMIT, QUEUES_LIMIT, TARGETS_LIMIT, LAST_FORM, LAST_CHARACTERISTIC, ENTRIES_LIMIT, FILES_LIMIT, FILE_LIMIT, SPOOL_LIMIT, END_OF_RUNS}
 use Rattle.qm_kinds.specs.declared.name.TheConstants.{NODE_NAME_BYTES, SHORT_NAME_BYTES}
 use Rattle.qm_kinds.specs.declared.request.NameOrNumber.TheVariants.{Name}
 use Rattle.qm_kinds.specs.declared.system.Node.{Node}
@@ -46,10 +47,10 @@ IsShort name = length name ≤ SHORT_NAME_BYTES
 abbrev pub IsDefinable : List ℕ → Type 0
 IsDefinable name = IsShort name × (list_all is_ascii_digit name ≡ false)
 
--- one to eight nodes, each once, with names that a node can have
+-- at least one node, each once, with names that a node can have
 pub record AreNodes (nodes : List Node) : Type 0 where
   pub some : 0 < length nodes
-  pub few : length nodes ≤ 8
+  pub few : length nodes ≤ NODES_LIMIT
   pub short : All (λ n. length n.name ≤ NODE_NAME_BYTES) nodes
   pub distinct : AreDistinct (λ n. n.name) nodes
 
@@ -58,9 +59,9 @@ pub record HasRoom (shape : Shape) : Type 0 where
   pub lines : shape.top + shape.bottom < shape.length
   pub columns : shape.left + shape.right < shape.width
 
--- a number up to 999, a name, a stock, and room for text
+-- a number of a form, a name, a stock, and room for text
 pub record IsProperForm (form : Form) : Type 0 where
-  pub number : form.number ≤ 999
+  pub number : form.number ≤ LAST_FORM
   pub name : IsDefinable form.name
   pub stock : IsShort form.stock
   pub shape : HasRoom form.shape
@@ -72,9 +73,9 @@ pub record AreForms (forms : List Form) : Type 0 where
   pub distinct : AreDistinct (λ f. f.name) forms
   pub default : IfSome (form_wanted (Name default_form) forms) (λ f. f.number ≡ 0) × IsSome (form_wanted (Name default_form) forms)
 
--- by number, up to 127, under names of their own
+-- by number, none too great, under names of their own
 pub record AreCharacteristics (characteristics : List Characteristic) : Type 0 where
-  pub numbers : All (λ c. c.number ≤ 127) characteristics
+  pub numbers : All (λ c. c.number ≤ LAST_CHARACTERISTIC) characteristics
   pub names : All (λ c. IsDefinable c.name) characteristics
   pub order : IsInOrder nat_cmp (λ c. c.number) characteristics
   pub distinct : AreDistinct (λ c. c.name) characteristics
@@ -83,11 +84,11 @@ pub record AreCharacteristics (characteristics : List Characteristic) : Type 0 w
 abbrev pub spooled : List File → ℕ
 spooled files = sum_by (λ f. length f.bytes) files
 
--- at most 4,096 files of at most 1,048,576 bytes each and 67,108,864 together, by name
+-- not too many files, of not too many bytes each and together, by name
 pub record AreFiles (files : List File) : Type 0 where
-  pub few : length files ≤ 4096
-  pub each : All (λ f. length f.bytes ≤ 1048576) files
-  pub total : spooled files ≤ 67108864
+  pub few : length files ≤ FILES_LIMIT
+  pub each : All (λ f. length f.bytes ≤ FILE_LIMIT) files
+  pub total : spooled files ≤ SPOOL_LIMIT
   pub order : IsInOrder file_name_cmp (λ f. f.name) files
 
 -- each characteristic of the set is defined
@@ -105,7 +106,7 @@ IsPlaced nodes queues q false =
     IfSome q.node (λ node. Contains (map (λ n. n.name) nodes) node) × IsSome q.node
     × IfSome q.device IsShort × IsSome q.device × (q.targets ≡ [])
 IsPlaced nodes queues q true =
-    IsNone q.node × IsNone q.device × (0 < length q.targets) × (length q.targets ≤ 32) × AllPairs (λ a b. a ≢ b) q.targets
+    IsNone q.node × IsNone q.device × (0 < length q.targets) × (length q.targets ≤ TARGETS_LIMIT) × AllPairs (λ a b. a ≢ b) q.targets
     × All (IsExecutionQueue (job_kind q.kind) queues) q.targets
 
 -- a print queue has a form mounted, which is defined, and no other queue has one
@@ -127,9 +128,9 @@ pub record IsQueue (s : System) (q : Queue) : Type 0 where
   -- a queue that is stopping still has a run
   pub stopping : q.state ≡ Stopping → IsTrue (list_any (λ e. option_map_or (λ name. bytes_eq name q.name) (runs_in e.state) false) s.entries)
 
--- at most 256 queues, by name
+-- not too many queues, by name
 pub record AreQueues (s : System) : Type 0 where
-  pub few : length s.queues ≤ 256
+  pub few : length s.queues ≤ QUEUES_LIMIT
   pub each : All (IsQueue s) s.queues
   pub order : IsInOrder name_cmp (λ q. q.name) s.queues
 
@@ -151,9 +152,9 @@ pub record IsEntry (s : System) (e : Entry) : Type 0 where
   pub node : IfSome (runs_on e.state) (Contains (map (λ n. n.name) s.nodes))
   pub run : IfSome (run_of e.state) (λ run. (0 < run) × (run < s.next_run))
 
--- at most 65,536 entries, by number, each run under a number of its own
+-- not too many entries, by number, each run under a number of its own
 pub record AreEntries (s : System) : Type 0 where
-  pub few : length s.entries ≤ 65536
+  pub few : length s.entries ≤ ENTRIES_LIMIT
   pub each : All (IsEntry s) s.entries
   pub order : IsInOrder nat_cmp (λ e. e.number) s.entries
   pub runs : AllPairs (λ a b. IfSome (run_of a.state) (λ run. run_of b.state ≢ Some run)) s.entries
@@ -169,4 +170,4 @@ pub record IsConsistent (s : System) : Type 0 where
   pub queues : AreQueues s
   pub entries : AreEntries s
   pub next_entry : 0 < s.next_entry
-  pub next_run : (0 < s.next_run) × (s.next_run ≤ 2 ^ 63)
+  pub next_run : (0 < s.next_run) × (s.next_run ≤ END_OF_RUNS)

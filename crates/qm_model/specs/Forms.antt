@@ -5,6 +5,7 @@ use Rattle.std.specs.Prelude.{ℕ, ◌+◌, nat_lt, nat_le, Bool, false, not, �
 use Rattle.std.specs.Option.{option_map_or}
 use Rattle.std.specs.Str.{bytes_eq}
 use Rattle.qm_kinds.specs.declared.form.Form.{Form}
+use Rattle.qm_kinds.specs.declared.limits.TheConstants.{LAST_FORM}
 use Rattle.qm_kinds.specs.declared.refusal.Holder.TheVariants.{Always}
 use Rattle.qm_kinds.specs.declared.refusal.Refusal.{Refusal}
 use Rattle.qm_kinds.specs.declared.refusal.Refusal.TheVariants.{BadValue, DuplicateForm, NoSuchForm, Referenced}
@@ -21,7 +22,7 @@ use Rattle.qm_model.specs.Replying.{replied}
 -- the margins leave no room, or the number is too great
 abbrev pub is_bad_form : Form → Bool
 is_bad_form f =
-    nat_le f.shape.length (f.shape.top + f.shape.bottom) || nat_le f.shape.width (f.shape.left + f.shape.right) || nat_lt 999 f.number
+    nat_le f.shape.length (f.shape.top + f.shape.bottom) || nat_le f.shape.width (f.shape.left + f.shape.right) || nat_lt LAST_FORM f.number
 
 -- a form has the name or the number
 abbrev pub is_form_taken : List Form → Form → Bool

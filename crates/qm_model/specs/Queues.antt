@@ -6,6 +6,7 @@ use Rattle.std.specs.List.{list_any}
 use Rattle.std.specs.Option.{option_map, option_map_or, option_and_then, option_or}
 use Rattle.std.specs.Str.{bytes_eq}
 use Rattle.qm_kinds.specs.declared.entry.Entry.{Entry}
+use Rattle.qm_kinds.specs.declared.limits.TheConstants.{QUEUES_LIMIT, TARGETS_LIMIT}
 use Rattle.qm_kinds.specs.declared.queue.Queue.{Queue}
 use Rattle.qm_kinds.specs.declared.queue.QueueChange.{QueueChange}
 use Rattle.qm_kinds.specs.declared.queue.QueueKind.{QueueKind}
@@ -36,7 +37,7 @@ has_repeats (name ∷ names) = list_any (bytes_eq name) names || has_repeats nam
 abbrev pub is_misplaced : NewQueue → Bool
 is_misplaced new =
     if is_generic new.kind
-    then nat_lt (length new.targets) 1 || has_repeats new.targets || nat_lt 32 (length new.targets) || is_some new.node || is_some new.device
+    then nat_lt (length new.targets) 1 || has_repeats new.targets || nat_lt TARGETS_LIMIT (length new.targets) || is_some new.node || is_some new.device
     else nat_lt 0 (length new.targets)
 
 -- the queue isn't stopped
@@ -64,7 +65,7 @@ initialize_refusal s new =
     (refused_where (is_bad_change new.change || is_misplaced new) BadValue
     ∷ refused_where (option_map_or (λ q. not (is_same_queue_kind q.kind new.kind)) old false) DuplicateQueue
     ∷ option_and_then refused_unless_stopped old
-    ∷ refused_where (is_none old && nat_le 256 (length s.queues)) QueuesFull
+    ∷ refused_where (is_none old && nat_le QUEUES_LIMIT (length s.queues)) QueuesFull
     ∷ option_and_then (refused_node s) new.node
     ∷ refused_targets s new
     ∷ change_refusal s new.kind new.change

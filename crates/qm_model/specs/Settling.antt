@@ -1,10 +1,11 @@
 -- The jobs that can start are started.
 -- OpenVMS System Manager's Manual, Setting Up and Maintaining Queues, on how the queue manager starts jobs in execution queues.
-use Rattle.std.specs.Prelude.{◌≡◌, ℕ, zero, suc, ◌+◌, ◌^◌, nat_lt, ◌==◌, Bool, ◌&&◌, if◌then◌else◌, List, [], ◌∷◌, length, filter, find, unwrap_or, Option, None, Some, IfSome, IsSome}
+use Rattle.std.specs.Prelude.{◌≡◌, ℕ, zero, suc, ◌+◌, nat_lt, ◌==◌, Bool, ◌&&◌, if◌then◌else◌, List, [], ◌∷◌, length, filter, find, unwrap_or, Option, None, Some, IfSome, IsSome}
 use Rattle.std.specs.List.{list_any}
 use Rattle.std.specs.Option.{option_map, option_map_or, option_and_then}
 use Rattle.qm_kinds.specs.declared.entry.Entry.{Entry}
 use Rattle.qm_kinds.specs.declared.entry.EntryState.TheVariants.{Running}
+use Rattle.qm_kinds.specs.declared.limits.TheConstants.{END_OF_RUNS}
 use Rattle.qm_kinds.specs.declared.queue.Queue.{Queue}
 use Rattle.qm_kinds.specs.declared.run.Start.{Start}
 use Rattle.qm_kinds.specs.declared.system.System.{System}
@@ -37,7 +38,7 @@ next_job s q = first_of q (filter (λ e. fits s e q) s.entries)
 
 -- run numbers are left
 abbrev pub has_run_numbers : System → Bool
-has_run_numbers s = nat_lt s.next_run (2 ^ 63)
+has_run_numbers s = nat_lt s.next_run END_OF_RUNS
 
 -- what starts next, if anything does
 abbrev pub next_choice : System → Option Choice

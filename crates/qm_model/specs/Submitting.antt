@@ -9,6 +9,7 @@ use Rattle.qm_kinds.specs.declared.entry.EntryState.{EntryState}
 use Rattle.qm_kinds.specs.declared.entry.EntryState.TheVariants.{Pending, Holding, Timed}
 use Rattle.qm_kinds.specs.declared.entry.JobKind.{JobKind}
 use Rattle.qm_kinds.specs.declared.entry.JobKind.TheVariants.{Batch, Print}
+use Rattle.qm_kinds.specs.declared.limits.TheConstants.{ENTRIES_LIMIT}
 use Rattle.qm_kinds.specs.declared.refusal.Refusal.{Refusal}
 use Rattle.qm_kinds.specs.declared.refusal.Refusal.TheVariants.{NoSuchQueue, WrongKind, NoSuchFile, BadValue, EntriesFull, NumbersSpent}
 use Rattle.qm_kinds.specs.declared.reply.Act.TheVariants.{Submitted}
@@ -35,7 +36,7 @@ submit_refusal s j = first_refusal
     ∷ refused_where (has_bad_value j) BadValue
     ∷ option_and_then (refused_form s) j.form
     ∷ refused_characteristics s.characteristics j.characteristics
-    ∷ refused_where (nat_le 65536 (length s.entries)) EntriesFull
+    ∷ refused_where (nat_le ENTRIES_LIMIT (length s.entries)) EntriesFull
     ∷ refused_where (s.next_entry == 4294967295) NumbersSpent
     ∷ [])
 

@@ -8,6 +8,7 @@ ghost use Rattle.qm_model.specs.Consistent.{IsConsistent};
 ghost use Rattle.qm_model.specs.First.{first_system};
 
 mod due;
+mod limits;
 mod listing;
 mod moving;
 mod order;
@@ -18,6 +19,7 @@ mod standing;
 mod tables;
 
 pub use due::what_is_not_due_stays;
+pub use limits::a_site_has_limits;
 pub use listing::{listings_end_by_name, one_entry_is_listed};
 pub use moving::{nodes_keep_their_names, requests_move_on};
 pub use order::{fits_without_a_reason, order_is_strict_and_total};

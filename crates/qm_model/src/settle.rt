@@ -1,7 +1,8 @@
 // Laws about starting the jobs that can start.
-ghost use Rattle.std.specs.Prelude.{◌≡◌, ◌+◌, ◌^◌, ◌<◌, ℕ, true, false, not, [], length, map, filter, Ok, Some, All, Contains};
+ghost use Rattle.std.specs.Prelude.{◌≡◌, ◌+◌, ◌<◌, ℕ, true, false, not, [], length, map, filter, Ok, Some, All, Contains};
 ghost use Rattle.std.specs.List.{range_with_len};
 ghost use Rattle.std.specs.declared.cmp.Ordering.TheVariants.{Less};
+ghost use Rattle.qm_kinds.specs.declared.limits.TheConstants.{END_OF_RUNS};
 ghost use Rattle.qm_kinds.specs.declared.request.Request.{Request};
 ghost use Rattle.qm_kinds.specs.declared.system.System.{System};
 ghost use Rattle.qm_model.specs.Outcome.{Accepted};
@@ -16,7 +17,7 @@ ghost use Rattle.qm_model.specs.Applied.{applied};
 
 /// In a settled system no queue that has a place has a job that fits it, unless the numbers of runs are spent.
 pub fn settling_ends()
-    ensures { (s : System) → (settled s).system.next_run < 2 ^ 63 → All (λ q. is_free (settled s).system q ≡ true → All (λ e. fits (settled s).system e q ≡ false) (settled s).system.entries) (settled s).system.queues }
+    ensures { (s : System) → (settled s).system.next_run < END_OF_RUNS → All (λ q. is_free (settled s).system q ≡ true → All (λ e. fits (settled s).system e q ≡ false) (settled s).system.entries) (settled s).system.queues }
 {}
 
 /// Settling gives entries runs, and changes nothing else. Each start takes one run number, in their order. The entries
@@ -38,7 +39,7 @@ pub fn settling_is_done_once()
 
 /// After each accepted request no queue that has a place has a job that fits it, unless the numbers of runs are spent.
 pub fn requests_settle()
-    ensures { (s : System) (now node : ℕ) (request : Request) (a : Accepted) → applied s now node request ≡ Ok a → a.system.next_run < 2 ^ 63 → All (λ q. is_free a.system q ≡ true → All (λ e. fits a.system e q ≡ false) a.system.entries) a.system.queues }
+    ensures { (s : System) (now node : ℕ) (request : Request) (a : Accepted) → applied s now node request ≡ Ok a → a.system.next_run < END_OF_RUNS → All (λ q. is_free a.system q ≡ true → All (λ e. fits a.system e q ≡ false) a.system.entries) a.system.queues }
 {}
 
 /// Jobs are started one by one, while run numbers are left. Each is an entry of the system, and one that fits the queue in
@@ -51,7 +52,7 @@ pub fn first_jobs_are_started()
     ensures entry_there { (s : System) (c : Choice) → next_choice s ≡ Some c → Contains s.entries c.entry }
     ensures queue_there { (s : System) (c : Choice) → next_choice s ≡ Some c → Contains s.queues c.queue }
     ensures has_place { (s : System) (c : Choice) → next_choice s ≡ Some c → is_free s c.queue ≡ true }
-    ensures numbers_left { (s : System) (c : Choice) → next_choice s ≡ Some c → s.next_run < 2 ^ 63 }
+    ensures numbers_left { (s : System) (c : Choice) → next_choice s ≡ Some c → s.next_run < END_OF_RUNS }
     ensures first_queue { (s : System) (c : Choice) → next_choice s ≡ Some c → IsFirstToStart s c.queue }
     ensures first_by_name { (s : System) (c : Choice) → IsInOrder name_cmp (λ q. q.name) s.queues → next_choice s ≡ Some c → All (λ q. name_cmp q.name c.queue.name ≡ Less → HasNoneToStart s q) s.queues }
 {}
