@@ -1,5 +1,5 @@
 -- What keeps a system sound, which is consistent but for queues that are stopping.
-use Rattle.std.proofs.Common.{◌≡◌, ◌≢◌, ℕ, suc, ◌<◌, ◌≤◌, ◌^◌, ◌⊎◌, inl, inr, Bool, true, false, cond, List, [], ◌∷◌, ◌++◌, length, refl, sym, ◌∙◌, ap, subst, arith, Option, None, Some, All, AllPairs, Contains, filter, find, map}
+use Rattle.std.proofs.Common.{◌≡◌, ◌≢◌, ℕ, suc, ◌<◌, ◌≤◌, ◌⊎◌, inl, inr, Bool, true, false, cond, List, [], ◌∷◌, ◌++◌, length, refl, sym, ◌∙◌, ap, subst, arith, Option, None, Some, All, AllPairs, Contains, filter, find, map}
 use Rattle.std.specs.Prelude.{◌==◌, IfSome, IsSome, filter_map}
 use Rattle.std.specs.List.{list_any, cons_option}
 use Rattle.std.specs.Option.{option_map, option_to_list}
@@ -10,6 +10,7 @@ use Rattle.std.proofs.lemmas.List.Elements.{All-weaker, All-map}
 use Rattle.qm_kinds.specs.declared.entry.Entry.{Entry}
 use Rattle.qm_kinds.specs.declared.entry.EntryState.{EntryState}
 use Rattle.qm_kinds.specs.declared.entry.JobKind.{JobKind}
+use Rattle.qm_kinds.specs.declared.limits.TheConstants.{END_OF_RUNS, QUEUES_LIMIT}
 use Rattle.qm_kinds.specs.declared.queue.Queue.{Queue}
 use Rattle.qm_kinds.specs.declared.queue.QueueState.{QueueState}
 use Rattle.qm_kinds.specs.declared.queue.QueueState.TheVariants.{Stopped, Started, Paused, Stopping}
@@ -40,12 +41,12 @@ pub record IsSound (s : System) : Type 0 where
   pub forms : AreForms s.forms
   pub characteristics : AreCharacteristics s.characteristics
   pub files : AreFiles s.files
-  pub few : length s.queues ≤ 256
+  pub few : length s.queues ≤ QUEUES_LIMIT
   pub queues : All (IsSoundQueue s) s.queues
   pub order : IsInOrder name_cmp (λ (q : Queue). q.name) s.queues
   pub entries : AreEntries s
   pub next_entry : 0 < s.next_entry
-  pub next_run : (0 < s.next_run) × (s.next_run ≤ 2 ^ 63)
+  pub next_run : (0 < s.next_run) × (s.next_run ≤ END_OF_RUNS)
 
 sound_queue : (s : System) (q : Queue) → IsQueue s q → IsSoundQueue s q
 sound_queue s q h = record { name = h.name; placed = h.placed; mounted = h.mounted; characteristics = h.characteristics; limit = h.limit; sizes = h.sizes }

@@ -11,6 +11,7 @@ use Rattle.std.proofs.lemmas.List.Kept.{AllPairs-filter}
 use Rattle.std.proofs.lemmas.Slice.Eq.{bytes_eq-Decides}
 use Rattle.qm_kinds.specs.declared.entry.Entry.{Entry}
 use Rattle.qm_kinds.specs.declared.form.Characteristic.{Characteristic}
+use Rattle.qm_kinds.specs.declared.limits.TheConstants.{LAST_CHARACTERISTIC}
 use Rattle.qm_kinds.specs.declared.queue.Queue.{Queue}
 use Rattle.qm_kinds.specs.declared.refusal.Refusal.{Refusal}
 use Rattle.qm_kinds.specs.declared.refusal.Refusal.TheVariants.{BadValue, DuplicateCharacteristic, NoSuchCharacteristic}
@@ -94,13 +95,13 @@ Lower a b = nat_cmp a.number b.number ≡ Less
 Other : Characteristic → Characteristic → Type 0
 Other a b = a.name ≢ b.name
 
-defined_characteristics : (c : Characteristic) (cs : List Characteristic) → AreCharacteristics cs → IsDefinable c.name → c.number ≤ 127 → is_characteristic_taken cs c ≡ false → AreCharacteristics (with_characteristic_defined c cs)
+defined_characteristics : (c : Characteristic) (cs : List Characteristic) → AreCharacteristics cs → IsDefinable c.name → c.number ≤ LAST_CHARACTERISTIC → is_characteristic_taken cs c ≡ false → AreCharacteristics (with_characteristic_defined c cs)
 unfolding Lower Other
 defined_characteristics c cs h label few free =
     let by_name = not_found (is_characteristic (Name c.name)) cs (nothing_there _ (or_false_left (is_some (characteristic_wanted (Name c.name) cs)) (is_some (characteristic_wanted (Number c.number) cs)) free)) in
     let by_number = not_found (is_characteristic (Number c.number)) cs (nothing_there _ (or_false_right (is_some (characteristic_wanted (Name c.name) cs)) (is_some (characteristic_wanted (Number c.number) cs)) free)) in
     record {
-      numbers = all_inserted in_front c (λ (d : Characteristic). d.number ≤ 127) cs few h.numbers;
+      numbers = all_inserted in_front c (λ (d : Characteristic). d.number ≤ LAST_CHARACTERISTIC) cs few h.numbers;
       names = all_inserted in_front c (λ (d : Characteristic). IsDefinable d.name) cs label h.names;
       order = all_pairs_of Lower (with_characteristic_defined c cs)
           (order_inserted in_front c Lower (λ a b d p q. numbers_trans a.number b.number d.number p q) cs
@@ -116,11 +117,11 @@ defined_characteristics c cs h label few free =
 
 pub characteristic_defined_sound : (before s : System) (c : Characteristic) → IsSound s → s.characteristics ≡ before.characteristics → IsDefinable c.name → define_characteristic_refusal before c ≡ None → IsSound (characteristic_defined s c).system
 characteristic_defined_sound before s c h same label clear =
-    let bad : Option Refusal = refused_where (nat_lt 127 c.number) BadValue in
+    let bad : Option Refusal = refused_where (nat_lt LAST_CHARACTERISTIC c.number) BadValue in
     let taken : Option Refusal = refused_where (is_characteristic_taken before.characteristics c) DuplicateCharacteristic in
     let r1 = none_first bad (taken ∷ []) clear in
     let r2 = none_first taken [] r1.1 in
-    let few = at_most 127 c.number (not_refused (nat_lt 127 c.number) BadValue r1.0) in
+    let few = at_most LAST_CHARACTERISTIC c.number (not_refused (nat_lt LAST_CHARACTERISTIC c.number) BadValue r1.0) in
     let free = not_refused (is_characteristic_taken before.characteristics c) DuplicateCharacteristic r2.0 in
     let cs = with_characteristic_defined c s.characteristics in
     characteristics_change s cs h
@@ -184,7 +185,7 @@ characteristic_deleted_sound before s name h same also clear keeps =
     let apart = pairs_of Other cs h.characteristics.distinct in
     characteristics_change s (filter (other_than name) cs) h
     (record {
-      numbers = All-filter (other_than name) (λ (c : Characteristic). c.number ≤ 127) cs h.characteristics.numbers;
+      numbers = All-filter (other_than name) (λ (c : Characteristic). c.number ≤ LAST_CHARACTERISTIC) cs h.characteristics.numbers;
       names = All-filter (other_than name) (λ (c : Characteristic). IsDefinable c.name) cs h.characteristics.names;
       order = AllPairs-filter (λ (a b : Characteristic). nat_cmp a.number b.number ≡ Less) (other_than name) cs h.characteristics.order;
       distinct = AllPairs-filter (λ (a b : Characteristic). a.name ≢ b.name) (other_than name) cs h.characteristics.distinct;

@@ -1,5 +1,5 @@
 -- Which queue and which job are chosen, and what it means that none is.
-use Rattle.std.proofs.Common.{◌≡◌, ◌<◌, ◌^◌, Bool, true, false, cond, ◌&&◌, List, [], ◌∷◌, ◌++◌, refl, ap, subst, Option, None, Some, All, Contains, find}
+use Rattle.std.proofs.Common.{◌≡◌, ◌<◌, Bool, true, false, cond, ◌&&◌, List, [], ◌∷◌, ◌++◌, refl, ap, subst, Option, None, Some, All, Contains, find}
 use Rattle.std.specs.List.{list_any}
 use Rattle.std.specs.Option.{option_map, option_and_then}
 use Rattle.std.specs.declared.cmp.Ordering.TheVariants.{Less}
@@ -7,6 +7,7 @@ use Rattle.std.specs.Cmp.Lexicographic.{nat_list_cmp_total}
 use Rattle.std.proofs.lemmas.Bool.Decides.{Decides-ltb}
 use Rattle.std.proofs.lemmas.List.Elements.{All-cons, All-nil, All-weaker}
 use Rattle.qm_kinds.specs.declared.entry.Entry.{Entry}
+use Rattle.qm_kinds.specs.declared.limits.TheConstants.{END_OF_RUNS}
 use Rattle.qm_kinds.specs.declared.queue.Queue.{Queue}
 use Rattle.qm_kinds.specs.declared.system.System.{System}
 use Rattle.qm_model.specs.Find.{name_cmp}
@@ -69,8 +70,8 @@ none_to_start s q h free = none_any (λ e. fits s e q) s.entries (second_fails (
 pub choice_is_free : (s : System) (c : Choice) → next_choice s ≡ Some c → is_free s c.queue ≡ true
 choice_is_free s c h = and_left (is_free s c.queue) (list_any (λ e. fits s e c.queue) s.entries) (chosen_queue s c h).passes
 
-pub choice_has_number : (s : System) (c : Choice) → next_choice s ≡ Some c → s.next_run < 2 ^ 63
-choice_has_number s c h = (Decides-ltb s.next_run (2 ^ 63)).0 (choice_is s c h).numbers
+pub choice_has_number : (s : System) (c : Choice) → next_choice s ≡ Some c → s.next_run < END_OF_RUNS
+choice_has_number s c h = (Decides-ltb s.next_run END_OF_RUNS).0 (choice_is s c h).numbers
 
 pub entry_is_there : (s : System) (c : Choice) → next_choice s ≡ Some c → Contains s.entries c.entry
 entry_is_there s c h = contains_in c.entry s.entries (choice_is s c h).entry
@@ -119,7 +120,7 @@ queue_is_first_by_name s c order h =
 
 -- ---- where nothing is chosen
 
-pub none_left : (s : System) → next_choice s ≡ None → s.next_run < 2 ^ 63 → All (HasNoneToStart s) s.queues
+pub none_left : (s : System) → next_choice s ≡ None → s.next_run < END_OF_RUNS → All (HasNoneToStart s) s.queues
 none_left s none numbers =
     All-weaker (λ q. can_start s q ≡ false) (HasNoneToStart s) (none_to_start s) s.queues
-    (none_any (can_start s) s.queues (none_can_start s none ((Decides-ltb s.next_run (2 ^ 63)).1 numbers)))
+    (none_any (can_start s) s.queues (none_can_start s none ((Decides-ltb s.next_run END_OF_RUNS).1 numbers)))

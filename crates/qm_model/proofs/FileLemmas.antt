@@ -1,6 +1,6 @@
 -- A file that is made or grows leaves a sound system.
 use Rattle.std.proofs.Common.{◌≡◌, ℕ, ◌+◌, ◌≤◌, Bool, true, false, cond, ◌||◌, ◌&&◌, List, [], ◌∷◌, ◌++◌, length, refl, sym, ◌∙◌, ap, subst, arith, length-append, Option, None, Some, All}
-use Rattle.std.specs.Prelude.{nat_lt, is_some, is_none, IsSome, bytes_eq}
+use Rattle.std.specs.Prelude.{nat_lt, nat_le, is_some, is_none, IsSome, bytes_eq}
 use Rattle.std.specs.Option.{option_map_or, option_eq, option_cmp}
 use Rattle.std.specs.Ordering.{ordering_then, match_ordering, is_eq}
 use Rattle.std.specs.Cmp.{IsTotalOrder, then_total, on_total}
@@ -12,6 +12,7 @@ use Rattle.std.proofs.lemmas.List.Sums.{sum_by-cons}
 use Rattle.std.proofs.lemmas.Slice.Eq.{bytes_eq-Decides}
 use Rattle.qm_kinds.specs.declared.file.File.{File}
 use Rattle.qm_kinds.specs.declared.file.FileName.{FileName}
+use Rattle.qm_kinds.specs.declared.limits.TheConstants.{FILES_LIMIT, FILE_LIMIT, SPOOL_LIMIT}
 use Rattle.qm_kinds.specs.declared.refusal.Refusal.TheVariants.{SpoolFull}
 use Rattle.qm_kinds.specs.declared.system.System.{System}
 use Rattle.qm_model.specs.Find.{name_cmp, file_name_cmp, same_file_name, file_named}
@@ -209,7 +210,7 @@ module _ (s : System) (fs : List File) (stays : (n : FileName) → IsSome (file_
     next_run = h.next_run;
   }
 
-few_files : (o : Option File) (n long : ℕ) → long + one_if (is_some o) ≡ n + 1 → (is_none o && nat_lt 4095 n) ≡ false → n ≤ 4096 → long ≤ 4096
+few_files : (o : Option File) (n long : ℕ) → long + one_if (is_some o) ≡ n + 1 → (is_none o && nat_le FILES_LIMIT n) ≡ false → n ≤ FILES_LIMIT → long ≤ FILES_LIMIT
 few_files None n long h room few = omega (arith, h, at_most 4095 n room)
 few_files (Some f) n long h room few = omega (arith, h, few)
 
@@ -222,15 +223,15 @@ appended_sound before s name more h same none =
     let here : is_spool_full name (length more) s.files ≡ false = subst (λ fs. is_spool_full name (length more) fs ≡ false) (sym same) room in
     let file : File = record { name = name; bytes = bytes_of name s.files ++ more } in
     let long = length-append (bytes_of name s.files) more in
-    let sizes = or_false_left (nat_lt 1048576 (length (bytes_of name s.files) + length more) || nat_lt 67108864 (spooled s.files + length more)) (is_none (file_named name s.files) && nat_lt 4095 (length s.files)) here in
-    let one = at_most 1048576 (length (bytes_of name s.files) + length more) (or_false_left _ _ sizes) in
-    let all = at_most 67108864 (spooled s.files + length more) (or_false_right (nat_lt 1048576 (length (bytes_of name s.files) + length more)) (nat_lt 67108864 (spooled s.files + length more)) sizes) in
-    let new = or_false_right (nat_lt 1048576 (length (bytes_of name s.files) + length more) || nat_lt 67108864 (spooled s.files + length more)) (is_none (file_named name s.files) && nat_lt 4095 (length s.files)) here in
+    let sizes = or_false_left (nat_lt FILE_LIMIT (length (bytes_of name s.files) + length more) || nat_lt SPOOL_LIMIT (spooled s.files + length more)) (is_none (file_named name s.files) && nat_le FILES_LIMIT (length s.files)) here in
+    let one = at_most FILE_LIMIT (length (bytes_of name s.files) + length more) (or_false_left _ _ sizes) in
+    let all = at_most SPOOL_LIMIT (spooled s.files + length more) (or_false_right (nat_lt FILE_LIMIT (length (bytes_of name s.files) + length more)) (nat_lt SPOOL_LIMIT (spooled s.files + length more)) sizes) in
+    let new = or_false_right (nat_lt FILE_LIMIT (length (bytes_of name s.files) + length more) || nat_lt SPOOL_LIMIT (spooled s.files + length more)) (is_none (file_named name s.files) && nat_le FILES_LIMIT (length s.files)) here in
     let pairs = pairs_of Below s.files h.files.order in
     let grown = grows file s.files pairs in
     files_change s (with_file file s.files) (λ n k. still_there n file s.files k) h (record {
       few = few_files (file_named name s.files) (length s.files) (length (with_file file s.files)) grown.long new h.files.few;
-      each = all_with (λ (f : File). length f.bytes ≤ 1048576) file s.files (omega (arith, long, one)) h.files.each;
+      each = all_with (λ (f : File). length f.bytes ≤ FILE_LIMIT) file s.files (omega (arith, long, one)) h.files.each;
       total = omega (arith, grown.bytes, long, all);
       order = all_pairs_of Below (with_file file s.files) (order_with file s.files pairs);
     })

@@ -11,6 +11,7 @@ use Rattle.qm_kinds.specs.declared.entry.Entry.{Entry}
 use Rattle.qm_kinds.specs.declared.entry.JobKind.{JobKind}
 use Rattle.qm_kinds.specs.declared.entry.JobKind.TheVariants as job
 use Rattle.qm_kinds.specs.declared.form.Form.{Form}
+use Rattle.qm_kinds.specs.declared.limits.TheConstants.{LAST_FORM}
 use Rattle.qm_kinds.specs.declared.queue.Queue.{Queue}
 use Rattle.qm_kinds.specs.declared.queue.QueueKind.{QueueKind}
 use Rattle.qm_kinds.specs.declared.queue.QueueKind.TheVariants.{Batch, Print, GenericBatch, GenericPrint}
@@ -95,13 +96,13 @@ missing_at a b fs false is missing there = refl
 missing_differs : (a b : List ℕ) (fs : List Form) → form_wanted (Name a) fs ≡ None → IsSome (form_wanted (Name b) fs) → bytes_eq a b ≡ false
 missing_differs a b fs missing there = missing_at a b fs (bytes_eq a b) refl missing there
 
-has_room : (f : Form) → is_bad_form f ≡ false → HasRoom f.shape × (f.number ≤ 999)
+has_room : (f : Form) → is_bad_form f ≡ false → HasRoom f.shape × (f.number ≤ LAST_FORM)
 has_room f fine =
     let lines = nat_le f.shape.length (f.shape.top + f.shape.bottom) in
     let columns = nat_le f.shape.width (f.shape.left + f.shape.right) in
-    let rest = or_false_left (lines || columns) (nat_lt 999 f.number) fine in (
+    let rest = or_false_left (lines || columns) (nat_lt LAST_FORM f.number) fine in (
       record { lines = not_at_least f.shape.length (f.shape.top + f.shape.bottom) (or_false_left lines columns rest); columns = not_at_least f.shape.width (f.shape.left + f.shape.right) (or_false_right lines columns rest) },
-      at_most 999 f.number (or_false_right (lines || columns) (nat_lt 999 f.number) fine),
+      at_most LAST_FORM f.number (or_false_right (lines || columns) (nat_lt LAST_FORM f.number) fine),
     )
 
 defined_forms : (f : Form) (fs : List Form) → AreForms fs → IsProperForm f → is_form_taken fs f ≡ false → AreForms (with_form f fs)

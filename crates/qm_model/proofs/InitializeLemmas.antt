@@ -16,6 +16,7 @@ use Rattle.std.proofs.lemmas.Slice.Eq.{bytes_eq-Decides}
 use Rattle.qm_kinds.specs.declared.entry.Entry.{Entry}
 use Rattle.qm_kinds.specs.declared.entry.JobKind.{JobKind}
 use Rattle.qm_kinds.specs.declared.form.Form.{Form}
+use Rattle.qm_kinds.specs.declared.limits.TheConstants.{QUEUES_LIMIT, TARGETS_LIMIT}
 use Rattle.qm_kinds.specs.declared.queue.Queue.{Queue}
 use Rattle.qm_kinds.specs.declared.queue.QueueKind.{QueueKind}
 use Rattle.qm_kinds.specs.declared.queue.QueueKind.TheVariants.{Batch, Print, GenericBatch, GenericPrint}
@@ -134,8 +135,8 @@ above_at a b Less is other h = cc
 above_at a b Equal is other h = absurd (other_name b a other (sym (names_equal a b is)))
 above_at a b Greater is other h = let turned = nat_list_cmp_total.antisymm b a in cc
 
-room_at : (o : Option Queue) (n m : ℕ) → (is_none o && nat_le 256 n) ≡ false → (IsSome o → m < n) → m ≤ n → n ≤ 256 → m + 1 ≤ 256
-room_at None n m free goes fewer few = omega (arith, not_at_least 256 n free)
+room_at : (o : Option Queue) (n m : ℕ) → (is_none o && nat_le QUEUES_LIMIT n) ≡ false → (IsSome o → m < n) → m ≤ n → n ≤ QUEUES_LIMIT → m + 1 ≤ QUEUES_LIMIT
+room_at None n m free goes fewer few = omega (arith, not_at_least QUEUES_LIMIT n free)
 room_at (Some q) n m free goes fewer few = omega (arith, goes refl)
 
 module _ (s : System) (node : List ℕ) (new : NewQueue) where
@@ -192,7 +193,7 @@ module _ (s : System) (node : List ℕ) (new : NewQueue) where
   placed_as generic = record queue { node = cond generic None (option_or new.node (Some node)); device = cond generic None (option_or new.device (Some new.name)) }
 
   new_placed : (generic : Bool) → IfSome (queue_named new.name s.queues) (λ q. q.kind ≡ new.kind)
-      → cond generic (nat_lt (length new.targets) 1 || has_repeats new.targets || nat_lt 32 (length new.targets) || is_some new.node || is_some new.device) (nat_lt 0 (length new.targets)) ≡ false
+      → cond generic (nat_lt (length new.targets) 1 || has_repeats new.targets || nat_lt TARGETS_LIMIT (length new.targets) || is_some new.node || is_some new.device) (nat_lt 0 (length new.targets)) ≡ false
       → option_and_then (refused_node s) new.node ≡ None → Contains (map (λ (n : Node). n.name) s.nodes) node → IsShort new.name → IfSome new.device IsShort
       → All (λ (t : List ℕ). not (is_target s new.kind t) ≡ false) new.targets → IsPlaced s.nodes all (placed_as generic) generic
   new_placed false old fits clear there short device targets =
@@ -202,14 +203,14 @@ module _ (s : System) (node : List ℕ) (new : NewQueue) where
   new_placed true old fits clear there short device targets =
       let few = nat_lt (length new.targets) 1 in
       let twice = has_repeats new.targets in
-      let many = nat_lt 32 (length new.targets) in
+      let many = nat_lt TARGETS_LIMIT (length new.targets) in
       let f1 = or_false_left (few || twice || many || is_some new.node) (is_some new.device) fits in
       let f2 = or_false_left (few || twice || many) (is_some new.node) f1 in
       let f3 = or_false_left (few || twice) many f2 in (
         refl,
         refl,
         at_most (length new.targets) 1 (or_false_left few twice f3),
-        at_most 32 (length new.targets) (or_false_right (few || twice) many f2),
+        at_most TARGETS_LIMIT (length new.targets) (or_false_right (few || twice) many f2),
         all_pairs_of (λ (a b : List ℕ). a ≢ b) new.targets (each_once new.targets (or_false_right few twice f3)),
         All-weaker (λ (t : List ℕ). not (is_target s new.kind t) ≡ false) (IsExecutionQueue (job_kind new.kind) all)
             (λ t k. executes_still (job_kind new.kind) t old (target_kind (job_kind new.kind) (queue_named t s.queues) (not_false (is_target s new.kind t) k))) new.targets targets,
@@ -226,7 +227,7 @@ module _ (s : System) (node : List ℕ) (new : NewQueue) where
       let bad : Option Refusal = refused_where (is_bad_change new.change || is_misplaced new) BadValue in
       let other : Option Refusal = refused_where (option_map_or (λ q. not (is_same_queue_kind q.kind new.kind)) before false) DuplicateQueue in
       let busy : Option Refusal = option_and_then refused_unless_stopped before in
-      let full : Option Refusal = refused_where (is_none before && nat_le 256 (length s.queues)) QueuesFull in
+      let full : Option Refusal = refused_where (is_none before && nat_le QUEUES_LIMIT (length s.queues)) QueuesFull in
       let off : Option Refusal = option_and_then (refused_node s) new.node in
       let targets : Option Refusal = refused_targets s new in
       let wrong : Option Refusal = change_refusal s new.kind new.change in
@@ -239,7 +240,7 @@ module _ (s : System) (node : List ℕ) (new : NewQueue) where
       let r7 = none_first wrong [] r6.1 in
       let fine = not_refused (is_bad_change new.change || is_misplaced new) BadValue r1.0 in
       let old = old_kind before (not_refused (option_map_or (λ q. not (is_same_queue_kind q.kind new.kind)) before false) DuplicateQueue r2.0) in
-      let free = not_refused (is_none before && nat_le 256 (length s.queues)) QueuesFull r4.0 in
+      let free = not_refused (is_none before && nat_le QUEUES_LIMIT (length s.queues)) QueuesFull r4.0 in
       let hit_targets = not_found (λ name. not (is_target s new.kind name)) new.targets (no_map (λ name. GenericTarget name) (find (λ name. not (is_target s new.kind name)) new.targets) r6.0) in
       let settings = settings_change s new.change plain (or_false_left (is_bad_change new.change) (is_misplaced new) fine) r7.0
       (record { mounted = default_mounted s.forms new.kind h.forms; characteristics = none_set s.characteristics; limit = omega arith; sizes = (omega arith, omega arith) }) in

@@ -15,7 +15,7 @@ use Rattle.qm_kinds.specs.declared.system.Node.{Node}
 use Rattle.qm_kinds.specs.declared.system.System.{System}
 use Rattle.qm_kinds.specs.Sizes.{is_success}
 use Rattle.qm_model.specs.Find.{entry_numbered, same_file_name, is_among}
-use Rattle.qm_model.specs.Consistent.{IsConsistent, IsEntry, IsQueue}
+use Rattle.qm_model.specs.Consistent.{IsConsistent, IsEntry, IsQueue, AreEntries}
 use Rattle.qm_model.specs.Outcome.{Accepted}
 use Rattle.qm_model.specs.Applied.{at_moment, refusal_of, asks_for_numbers, are_numbers_spent, first_refusal_of, change_of, completed, applied}
 use Rattle.qm_model.specs.JobStates.{fate_of}
@@ -135,27 +135,29 @@ lost_sound s now lost h =
     nodes_keep (record s { entries = es }) (without_node lost) (λ n. refl)
     (entries_calm s es h (all_calm (λ (e : Entry). after_loss s.queues now lost e.state e) (λ x. loss_calms s.queues now lost x.state x) s.entries))
 
+-- entries don't look at the nodes that may be queue manager, nor at the last moment
+entries_aside : (s : System) (may : List (List ℕ)) (last : ℕ) → AreEntries s → AreEntries (record s { may = may; last = last })
+entries_aside s may last h = record {
+  few = h.few;
+  each = All-weaker (IsEntry s) (IsEntry (record s { may = may; last = last })) (λ x k. record { number = k.number; home = k.home; file = k.file; form = k.form; characteristics = k.characteristics; queue = k.queue; node = k.node; run = k.run }) s.entries h.each;
+  order = h.order;
+  runs = h.runs;
+}
+
 may_changes : (s : System) (may : List (List ℕ)) → may ≡ filter (is_among may) (map (λ (n : Node). n.name) s.nodes) → IsSound s → IsSound (record s { may = may })
-may_changes s may is h =
-    let t : System = record s { may = may } in
-    record {
-      nodes = h.nodes;
-      may = is;
-      forms = h.forms;
-      characteristics = h.characteristics;
-      files = h.files;
-      few = h.few;
-      queues = All-weaker (IsSoundQueue s) (IsSoundQueue t) (λ q k. record { name = k.name; placed = k.placed; mounted = k.mounted; characteristics = k.characteristics; limit = k.limit; sizes = k.sizes }) s.queues h.queues;
-      order = h.order;
-      entries = record {
-        few = h.entries.few;
-        each = All-weaker (IsEntry s) (IsEntry t) (λ x k. record { number = k.number; home = k.home; file = k.file; form = k.form; characteristics = k.characteristics; queue = k.queue; node = k.node; run = k.run }) s.entries h.entries.each;
-        order = h.entries.order;
-        runs = h.entries.runs;
-      };
-      next_entry = h.next_entry;
-      next_run = h.next_run;
-    }
+may_changes s may is h = record {
+  nodes = h.nodes;
+  may = is;
+  forms = h.forms;
+  characteristics = h.characteristics;
+  files = h.files;
+  few = h.few;
+  queues = All-weaker (IsSoundQueue s) (IsSoundQueue (record s { may = may })) (λ q k. record { name = k.name; placed = k.placed; mounted = k.mounted; characteristics = k.characteristics; limit = k.limit; sizes = k.sizes }) s.queues h.queues;
+  order = h.order;
+  entries = entries_aside s may s.last h.entries;
+  next_entry = h.next_entry;
+  next_run = h.next_run;
+}
 
 manager_sound : (s : System) (now : ℕ) (gone up may : List (List ℕ)) → may ≡ filter (is_among may) (map (λ (n : Node). n.name) s.nodes) → IsSound s → IsSound (with_manager s now gone up may)
 manager_sound s now gone up may is h =
@@ -165,28 +167,24 @@ manager_sound s now gone up may is h =
     may_changes among may (subst (λ ns. may ≡ filter (is_among may) ns) (sym names) is) (nodes_keep left (up_exactly up) (λ n. refl) (lost_sound s now gone h))
 
 at_moment_sound : (s : System) (now : ℕ) → IsConsistent s → IsConsistent (at_moment now s)
-at_moment_sound s now h =
-    let t = at_moment now s in
-    record {
-      nodes = h.nodes;
-      may = h.may;
-      forms = h.forms;
-      characteristics = h.characteristics;
-      files = h.files;
-      queues = record {
-        few = h.queues.few;
-        each = All-weaker (IsQueue s) (IsQueue t) (λ q k. record { name = k.name; placed = k.placed; mounted = k.mounted; characteristics = k.characteristics; limit = k.limit; sizes = k.sizes; stopping = k.stopping }) s.queues h.queues.each;
-        order = h.queues.order;
-      };
-      entries = record {
-        few = h.entries.few;
-        each = All-weaker (IsEntry s) (IsEntry t) (λ x k. record { number = k.number; home = k.home; file = k.file; form = k.form; characteristics = k.characteristics; queue = k.queue; node = k.node; run = k.run }) s.entries h.entries.each;
-        order = h.entries.order;
-        runs = h.entries.runs;
-      };
-      next_entry = h.next_entry;
-      next_run = h.next_run;
-    }
+at_moment_sound s now h = record {
+  nodes = h.nodes;
+  may = h.may;
+  forms = h.forms;
+  characteristics = h.characteristics;
+  files = h.files;
+  queues = record {
+    few = h.queues.few;
+    each = All-weaker (IsQueue s) (IsQueue (at_moment now s)) (λ q k. record { name = k.name; placed = k.placed; mounted = k.mounted; characteristics = k.characteristics; limit = k.limit; sizes = k.sizes; stopping = k.stopping }) s.queues h.queues.each;
+    order = h.queues.order;
+  };
+  entries = entries_aside s s.may now h.entries;
+  next_entry = h.next_entry;
+  next_run = h.next_run;
+}
+
+pub found_is_consistent : (s : System) (now : ℕ) → IsConsistent s → IsConsistent (due now (at_moment now s))
+found_is_consistent s now h = due_is_consistent (at_moment now s) now (at_moment_sound s now h)
 
 -- what the moment finds
 abbrev found_at : System → ℕ → System
@@ -246,7 +244,7 @@ stays_consistent s now node r a h of is =
     let same : completed change ≡ a = accepted_is (first_refusal_of s name r) (completed change) a is in
     let at = at_moment_sound s now h in
     let none = numbers_left (asks_for_numbers r && are_numbers_spent s) (refusal_of s name r) (accepted_unrefused (first_refusal_of s name r) (completed change) a is) in
-    let h1 = sound_of t (due_is_consistent (at_moment now s) now at) in
+    let h1 = sound_of t (found_is_consistent s now h) in
     let sound = change_sound s now at h1 node r of none in
     subst (λ (b : Accepted). IsConsistent b.system) same (settled_is_consistent (stopped_when_idle change.system) (idle_is_consistent change.system sound))
 
@@ -256,5 +254,5 @@ pub change_is_consistent : (s : System) (now node : ℕ) (r : Request) → IsCon
 change_is_consistent s now node r h of clear =
     let name = node_at node s.nodes in
     let at = at_moment_sound s now h in
-    let h1 = sound_of (due now (at_moment now s)) (due_is_consistent (at_moment now s) now at) in
+    let h1 = sound_of (due now (at_moment now s)) (found_is_consistent s now h) in
     idle_is_consistent (change_of (due now (at_moment now s)) now name r).system (change_sound s now at h1 node r of (numbers_left (asks_for_numbers r && are_numbers_spent s) (refusal_of s name r) clear))

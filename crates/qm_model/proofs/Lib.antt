@@ -32,6 +32,7 @@ pub mod Refusals
 pub mod RefusedRequests
 pub mod StandingLemmas
 pub mod ChoiceLemmas
+pub mod FitLemmas
 pub mod StartedLemmas
 pub mod MarkLemmas
 pub mod Moments

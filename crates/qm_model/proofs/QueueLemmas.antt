@@ -13,6 +13,7 @@ use Rattle.qm_kinds.specs.declared.entry.EntryState.{EntryState}
 use Rattle.qm_kinds.specs.declared.entry.EntryState.TheVariants as entry
 use Rattle.qm_kinds.specs.declared.entry.JobKind.{JobKind}
 use Rattle.qm_kinds.specs.declared.form.Form.{Form}
+use Rattle.qm_kinds.specs.declared.limits.TheConstants.{QUEUES_LIMIT}
 use Rattle.qm_kinds.specs.declared.queue.Queue.{Queue}
 use Rattle.qm_kinds.specs.declared.queue.QueueChange.{QueueChange}
 use Rattle.qm_kinds.specs.declared.queue.QueueKind.{QueueKind}
@@ -55,7 +56,7 @@ module _ (s : System) (qs : List Queue) where
   abbrev pub of_queues : System
   of_queues = record s { queues = qs }
 
-  pub queues_change : IsSound s → length qs ≤ 256 → All (IsSoundQueue of_queues) qs → AllPairs (λ (a b : Queue). name_cmp a.name b.name ≡ Less) qs → All (HasQueues qs) s.entries → IsSound of_queues
+  pub queues_change : IsSound s → length qs ≤ QUEUES_LIMIT → All (IsSoundQueue of_queues) qs → AllPairs (λ (a b : Queue). name_cmp a.name b.name ≡ Less) qs → All (HasQueues qs) s.entries → IsSound of_queues
   queues_change h few each order has = record {
     nodes = h.nodes;
     may = h.may;

@@ -1,5 +1,5 @@
 -- What keeps a system consistent while its entries change.
-use Rattle.std.proofs.Common.{◌≡◌, ◌≢◌, ℕ, zero, suc, ◌+◌, ◌<◌, ◌≤◌, ◌^◌, ◌⊎◌, inl, inr, Bool, true, false, cond, ◌&&◌, ◌||◌, not, List, [], ◌∷◌, ◌++◌, length, refl, sym, ◌∙◌, ap, subst, arith, Option, None, Some, All, AllPairs, Contains, filter, find, map}
+use Rattle.std.proofs.Common.{◌≡◌, ◌≢◌, ℕ, zero, suc, ◌+◌, ◌<◌, ◌≤◌, ◌⊎◌, inl, inr, Bool, true, false, cond, ◌&&◌, ◌||◌, not, List, [], ◌∷◌, ◌++◌, length, refl, sym, ◌∙◌, ap, subst, arith, Option, None, Some, All, AllPairs, Contains, filter, find, map}
 use Rattle.std.specs.Prelude.{◌==◌, IfSome, IsSome, unwrap_or}
 use Rattle.std.specs.List.{list_any}
 use Rattle.std.specs.Option.{option_map, option_map_or, option_and_then, option_to_list}
@@ -15,6 +15,7 @@ use Rattle.qm_kinds.specs.declared.entry.EntryState.{EntryState}
 use Rattle.qm_kinds.specs.declared.entry.EntryState.TheVariants as entry
 use Rattle.qm_kinds.specs.declared.entry.JobKind.{JobKind}
 use Rattle.qm_kinds.specs.declared.entry.JobKind.TheVariants as job
+use Rattle.qm_kinds.specs.declared.limits.TheConstants.{END_OF_RUNS}
 use Rattle.qm_kinds.specs.declared.queue.Queue.{Queue}
 use Rattle.qm_kinds.specs.declared.queue.QueueKind.{QueueKind}
 use Rattle.qm_kinds.specs.declared.queue.QueueKind.TheVariants.{Batch, Print, GenericBatch, GenericPrint}
@@ -58,7 +59,7 @@ module _ (s : System) (sound : IsConsistent s) (es : List Entry) (next : ℕ) (G
       (apart : (x y u v : Entry) → R x y → R u v → AreApart x u → AreApart y v)
       (goes : (q : List ℕ) (x : Entry) → G x → option_map_or (λ name. bytes_eq name q) (runs_in x.state) false ≡ true → ⊥)
       (keeps : (q : List ℕ) (x y : Entry) → R x y → option_map_or (λ name. bytes_eq name q) (runs_in x.state) false ≡ true → option_map_or (λ name. bytes_eq name q) (runs_in y.state) false ≡ true)
-      (some : 0 < next) (few : next ≤ 2 ^ 63)
+      (some : 0 < next) (few : next ≤ END_OF_RUNS)
     where
       apart_before : AllPairs AreApart s.entries
       apart_before = λ i j d below within. (sound.entries.order i j d below within, sound.entries.runs i j d below within)
@@ -331,8 +332,8 @@ module _ (s : System) (c : Choice) (sound : IsConsistent s) (choice : IsChoice s
       let pending : is_pending x.state ≡ true = ap (λ (z : Entry). is_pending z.state) p.1 ∙ fits_pending s c.entry c.queue choice.fit in
       absurd (pending_has_no_run x.state (λ name. bytes_eq name q) pending h)
 
-  below : s.next_run < 2 ^ 63
-  below = (Decides-ltb s.next_run (2 ^ 63)).0 choice.numbers
+  below : s.next_run < END_OF_RUNS
+  below = (Decides-ltb s.next_run END_OF_RUNS).0 choice.numbers
 
   pub start_is_consistent : IsConsistent (after_start s c)
   unfolding Never

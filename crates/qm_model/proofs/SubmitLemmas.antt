@@ -19,6 +19,7 @@ use Rattle.qm_kinds.specs.declared.entry.JobKind.TheVariants as job
 use Rattle.qm_kinds.specs.declared.form.Characteristic.{Characteristic}
 use Rattle.qm_kinds.specs.declared.form.Form.{Form}
 use Rattle.qm_kinds.specs.declared.file.File.{File}
+use Rattle.qm_kinds.specs.declared.limits.TheConstants.{ENTRIES_LIMIT}
 use Rattle.qm_kinds.specs.declared.queue.Queue.{Queue}
 use Rattle.qm_kinds.specs.declared.refusal.Refusal.{Refusal}
 use Rattle.qm_kinds.specs.declared.refusal.Refusal.TheVariants.{BadValue, NoSuchForm, EntriesFull, NumbersSpent}
@@ -154,7 +155,7 @@ module _ (s : System) (e : Entry) where
   differs None p h = tt
   differs (Some run) p h = λ is. let no : ◌≡◌ {A = Option ℕ} None (Some run) = sym h ∙ is in cc
 
-  pub pushed_sound : IsSound s → IsEntry with_one e → e.number ≡ s.next_entry → run_of e.state ≡ None → length s.entries < 65536 → IsSound with_one
+  pub pushed_sound : IsSound s → IsEntry with_one e → e.number ≡ s.next_entry → run_of e.state ≡ None → length s.entries < ENTRIES_LIMIT → IsSound with_one
   pushed_sound h new number idle room = record {
     nodes = h.nodes;
     may = h.may;
@@ -183,7 +184,7 @@ submitted_sound s t now j h queues files forms shorter none =
     let r2 = none_first _ _ r1.1 in
     let r3 = none_first _ _ r2.1 in
     let bad : Option Refusal = refused_where (has_bad_value j) BadValue in
-    let full : Option Refusal = refused_where (nat_le 65536 (length s.entries)) EntriesFull in
+    let full : Option Refusal = refused_where (nat_le ENTRIES_LIMIT (length s.entries)) EntriesFull in
     let spent : Option Refusal = refused_where (s.next_entry == 4294967295) NumbersSpent in
     let no_form : Option Refusal = option_and_then (refused_form s) j.form in
     let no_characteristic : Option Refusal = refused_characteristics s.characteristics j.characteristics in
@@ -196,7 +197,7 @@ submitted_sound s t now j h queues files forms shorter none =
     let file_there : IsSome (file_named j.file s.files) = is_there (file_named j.file s.files) (not_refused _ _ r3.0) in
     let form : option_and_then (λ wanted. refused_where (is_none (form_wanted wanted t.forms)) (NoSuchForm wanted)) j.form ≡ None =
     subst (λ (fs : List Form). option_and_then (λ wanted. refused_where (is_none (form_wanted wanted fs)) (NoSuchForm wanted)) j.form ≡ None) (sym forms) r5.0 in
-    let room : length s.entries < 65536 = not_at_least 65536 (length s.entries) (not_refused (nat_le 65536 (length s.entries)) EntriesFull r7.0) in
+    let room : length s.entries < ENTRIES_LIMIT = not_at_least ENTRIES_LIMIT (length s.entries) (not_refused (nat_le ENTRIES_LIMIT (length s.entries)) EntriesFull r7.0) in
     let e = entry_of t now j in
     pushed_sound t e h
     (record {

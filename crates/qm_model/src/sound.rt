@@ -17,9 +17,10 @@ pub fn settling_keeps_consistent()
     ensures { (s : System) → IsConsistent s → IsConsistent (settled s).system }
 {}
 
-/// A consistent system stays so when what is due at a moment is done.
+/// A consistent system stays so when what is due at a moment is done, also where that moment becomes its last one.
 pub fn due_keeps_consistent()
-    ensures { (s : System) (now : ℕ) → IsConsistent s → IsConsistent (due now s) }
+    ensures due { (s : System) (now : ℕ) → IsConsistent s → IsConsistent (due now s) }
+    ensures found { (s : System) (now : ℕ) → IsConsistent s → IsConsistent (due now (at_moment now s)) }
 {}
 
 /// A consistent system stays so at every accepted request that is lawful.

@@ -1,39 +1,24 @@
 -- A change that was prepared is made on what the moment finds, and the jobs are started behind it.
-use Rattle.std.proofs.Common.{◌≡◌, ◌∙◌, ℕ, zero, suc, ◌+◌, ◌≤◌, ◌<◌, true, false, not, List, [], ◌∷◌, length, filter, find, map, Option, None, Some, refl, sym, ap, subst, arith}
-use Rattle.std.specs.Option.{option_map_or, IsSome}
-use Rattle.std.proofs.lemmas.List.{length-map}
-use Rattle.std.proofs.lemmas.List.Filters.{length-filter_both}
+use Rattle.std.proofs.Common.{◌≡◌, ◌∙◌, ℕ, zero, suc, ◌+◌, ◌≤◌, true, List, [], ◌∷◌, length, map, Option, None, Some, refl, sym, ap, subst}
+use Rattle.std.specs.Option.{option_map_or}
 use Rattle.qm_kinds.specs.declared.entry.Entry.{Entry}
-use Rattle.qm_kinds.specs.declared.file.File.{File}
-use Rattle.qm_kinds.specs.declared.form.Characteristic.{Characteristic}
-use Rattle.qm_kinds.specs.declared.form.Form.{Form}
 use Rattle.qm_kinds.specs.declared.reply.Act.{Act}
 use Rattle.qm_kinds.specs.declared.run.Start.{Start}
 use Rattle.qm_kinds.specs.declared.system.System.{System}
-use Rattle.qm_model.specs.Appending.{is_spool_full}
-use Rattle.qm_model.specs.Applied.{at_moment, completed}
-use Rattle.qm_model.specs.Characteristics.{is_characteristic_taken}
-use Rattle.qm_model.specs.Consistent.{IsConsistent}
-use Rattle.qm_model.specs.Due.{due, entry_at, is_over}
-use Rattle.qm_model.specs.Find.{file_named, same_file_name}
-use Rattle.qm_model.specs.Forms.{is_form_taken}
+use Rattle.qm_model.specs.Applied.{completed}
 use Rattle.qm_model.specs.Outcome.{Accepted}
-use Rattle.qm_model.specs.Queues.{runs_for}
 use Rattle.qm_model.specs.Settling.{Choice, Settled, settled, settled_within, next_choice, after_start, start_of, preceded_by, made_running}
 use Rattle.qm_model.specs.States.{when_idle}
 use Rattle.qm_sched.specs.Tables.{Tables, with_tables}
 use Rattle.qm_spool.proofs.Counting.{counts_changed}
 use Rattle.qm_spool.specs.Counts.{CountsOf}
-use Rattle.qm_spool.specs.Kept.{Kept, Counted, count_of}
+use Rattle.qm_spool.specs.Kept.{Counted}
 use Rattle.qm_state.proofs.Entries.{Waits, with_all}
-use Rattle.qm_state.proofs.Reached.{no_run_found, unnamed_found}
 use Rattle.qm_state.specs.declared.image.Image.{Image}
 use Rattle.qm_state.specs.declared.prepared.Prepared.{Prepared}
-use Rattle.qm_state.specs.declared.prepared.Change.{Change}
-use Rattle.qm_state.specs.declared.prepared.Change.TheVariants.{NewFile, MoreBytes, MoreLines, RemoveFile, NewForm, RemoveForm, NewCharacteristic, RemoveCharacteristic, NewEntry, PutQueue, SetQueue, StopQueue, CutShort, RemoveQueue, Merge, RemoveEntry, EndRun}
 use Rattle.qm_state.specs.Due.{is_due_from}
 use Rattle.qm_state.specs.Image.{system_of}
-use Rattle.qm_state.specs.Preparing.{found, made, changed, outcome_of, IsReady}
+use Rattle.qm_state.specs.Preparing.{found, made, changed, outcome_of}
 
 -- ---- settling reads the tables alone
 
@@ -79,118 +64,6 @@ settled_counts counts s tables started t is of = settled_keeps (λ es. CountsOf 
 
 pub settled_waits : (next : Option ℕ) (s : System) (tables : Tables) (started : List Start) (t : Tables) → settled (with_tables s tables) ≡ record { system = with_tables s t; started = started } → Waits next tables.entries → Waits next t.entries
 settled_waits next s tables started t is waits = settled_keeps (λ es. Waits next es) (start_waits next) s tables started t is waits
-
--- ---- the moment leaves the system consistent
-
-sound_later : (s : System) (now : ℕ) → IsConsistent s → IsConsistent (at_moment now s)
-sound_later s now sound = record {
-  nodes = sound.nodes;
-  may = sound.may;
-  forms = sound.forms;
-  characteristics = sound.characteristics;
-  files = sound.files;
-  queues = record {
-    few = sound.queues.few;
-    each = λ k d within. let h = sound.queues.each k d within in record { name = h.name; placed = h.placed; mounted = h.mounted; characteristics = h.characteristics; limit = h.limit; sizes = h.sizes; stopping = h.stopping };
-    order = sound.queues.order;
-  };
-  entries = record {
-    few = sound.entries.few;
-    each = λ k d within. let h = sound.entries.each k d within in record { number = h.number; home = h.home; file = h.file; form = h.form; characteristics = h.characteristics; queue = h.queue; node = h.node; run = h.run };
-    order = sound.entries.order;
-    runs = sound.entries.runs;
-  };
-  next_entry = sound.next_entry;
-  next_run = sound.next_run;
-}
-
-pub sound_found : ((s : System) (now : ℕ) → IsConsistent s → IsConsistent (due now s)) → (now : ℕ) (s t : System) → t ≡ found now s → IsConsistent s → IsConsistent t
-sound_found keeps now s t is sound = subst IsConsistent (sym is) (keeps (at_moment now s) now (sound_later s now sound))
-
--- ---- what the moment finds is as ready
-
-module _ (now : ℕ) (old new : Image) (rows : system_of new ≡ found now (system_of old)) (rooms : new.spool ≡ record old.spool { counts = new.spool.counts }) (queues : new.parts.spare_queues ≡ old.parts.spare_queues)
-    (forms : new.parts.spare_forms ≡ old.parts.spare_forms) (characteristics : new.parts.spare_characteristics ≡ old.parts.spare_characteristics) (entries : new.parts.spare_entries ≡ old.parts.spare_entries) where
-  same_files : old.spool.files ≡ new.spool.files
-  same_files = sym (ap (λ (k : Kept). k.files) rooms)
-
-  same_spare : old.spool.spare ≡ new.spool.spare
-  same_spare = sym (ap (λ (k : Kept). k.spare) rooms)
-
-  same_rooms : old.spool.rooms ≡ new.spool.rooms
-  same_rooms = sym (ap (λ (k : Kept). k.rooms) rooms)
-
-  same_next : old.next_entry ≡ new.next_entry
-  unfolding system_of
-  same_next = sym (ap (λ (s : System). s.next_entry) rows)
-
-  entries_are : new.parts.entries ≡ map (entry_at now) (filter (λ e. not (is_over now e.state)) old.parts.entries)
-  unfolding system_of
-  entries_are = ap (λ (s : System). s.entries) rows
-
-  same_forms : old.parts.forms ≡ new.parts.forms
-  unfolding system_of
-  same_forms = sym (ap (λ (s : System). s.forms) rows)
-
-  same_characteristics : old.parts.characteristics ≡ new.parts.characteristics
-  unfolding system_of
-  same_characteristics = sym (ap (λ (s : System). s.characteristics) rows)
-
-  no_more : length new.parts.entries ≤ length old.parts.entries
-  no_more = omega (
-    arith,
-    ap length entries_are,
-    length-map (filter (λ (e : Entry). not (is_over now e.state)) old.parts.entries) (entry_at now),
-    length-filter_both (λ (e : Entry). is_over now e.state) (λ (e : Entry). not (is_over now e.state)) (λ e. refl) old.parts.entries,
-  )
-
-  pub ready_found : (change : Change) → IsReady old change → IsReady new change
-  ready_found (NewFile name bytes) h = record {
-    room = subst (λ n. 0 < n) same_spare h.room;
-    absent = subst (λ (fs : List File). file_named name fs ≡ None) same_files h.absent;
-    fits = subst (λ (fs : List File). is_spool_full name (length bytes.items) fs ≡ false) same_files h.fits;
-  }
-  ready_found (MoreBytes name bytes) h = record {
-    there = subst (λ (fs : List File). IsSome (file_named name fs)) same_files h.there;
-    room = subst (λ (rs : List Counted). length bytes.now ≤ count_of name rs) same_rooms h.room;
-    fits = subst (λ (fs : List File). is_spool_full name (length bytes.now) fs ≡ false) same_files h.fits;
-  }
-  ready_found (MoreLines name bytes) h = record {
-    there = subst (λ (fs : List File). IsSome (file_named name fs)) same_files h.there;
-    room = subst (λ (rs : List Counted). length bytes.items ≤ count_of name rs) same_rooms h.room;
-    fits = subst (λ (fs : List File). is_spool_full name (length bytes.items) fs ≡ false) same_files h.fits;
-  }
-  ready_found (RemoveFile name) h = record {
-    there = subst (λ (fs : List File). IsSome (file_named name fs)) same_files h.there;
-    unnamed = subst (λ (es : List Entry). find (λ e. same_file_name e.file name) es ≡ None) (sym entries_are) (unnamed_found name now old.parts.entries h.unnamed);
-  }
-  ready_found (NewForm form) h = record {
-    room = subst (λ n. 0 < n) (sym forms) h.room;
-    free = subst (λ (fs : List Form). is_form_taken fs form ≡ false) same_forms h.free;
-  }
-  ready_found (RemoveForm name) h = tt
-  ready_found (NewCharacteristic characteristic) h = record {
-    room = subst (λ n. 0 < n) (sym characteristics) h.room;
-    small = h.small;
-    free = subst (λ (cs : List Characteristic). is_characteristic_taken cs characteristic ≡ false) same_characteristics h.free;
-  }
-  ready_found (RemoveCharacteristic name) h = tt
-  ready_found (NewEntry entry) h = record {
-    number = h.number ∙ same_next;
-    idle = h.idle;
-    next = omega (arith, h.next, same_next);
-    few = omega (arith, h.few, no_more);
-    room = omega (arith, h.room, entries);
-    file = subst (λ (fs : List File). IsSome (file_named entry.file fs)) same_files h.file;
-  }
-  ready_found (PutQueue queue) h = subst (λ n. 0 < n) (sym queues) h
-  ready_found (SetQueue name settings state) h = tt
-  ready_found (StopQueue name how) h = tt
-  ready_found (CutShort entry fate) h = tt
-  ready_found (RemoveQueue name) h = subst (λ (es : List Entry). find (runs_for name) es ≡ None) (sym entries_are) (no_run_found name now old.parts.entries h)
-  ready_found (Merge to from) h = tt
-  ready_found (RemoveEntry entry) h = tt
-  ready_found (EndRun run status) h = tt
 
 -- ---- what is made
 

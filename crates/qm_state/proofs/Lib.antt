@@ -11,5 +11,7 @@ pub mod Bounds
 pub mod Starts
 pub mod Restoring
 pub mod Reached
+pub mod Handing
+pub mod Ready
 pub mod Committed
 pub mod Asking

@@ -6,3 +6,5 @@ pub mod Refusing
 pub mod Image
 pub mod Naming
 pub mod Preparing
+pub mod Deciding
+pub mod Restoring

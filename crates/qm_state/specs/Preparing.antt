@@ -4,7 +4,9 @@ use Rattle.qm_kinds.specs.declared.entry.Entry.{Entry}
 use Rattle.qm_kinds.specs.declared.file.FileName.{FileName}
 use Rattle.qm_kinds.specs.declared.form.Characteristic.{Characteristic}
 use Rattle.qm_kinds.specs.declared.form.Form.{Form}
+use Rattle.qm_kinds.specs.declared.limits.TheConstants.{ENTRIES_LIMIT, LAST_CHARACTERISTIC}
 use Rattle.qm_kinds.specs.declared.queue.Queue.{Queue}
+use Rattle.qm_kinds.specs.declared.queue.QueueState.{QueueState}
 use Rattle.qm_kinds.specs.declared.reply.Act.TheVariants.{Submitted, EntryDeleted}
 use Rattle.qm_kinds.specs.declared.system.System.{System}
 use Rattle.qm_model.specs.Appending.{appended, is_spool_full}
@@ -25,11 +27,11 @@ use Rattle.qm_model.specs.Settling.{settled}
 use Rattle.qm_model.specs.Standing.{with_entry, with_queue}
 use Rattle.qm_model.specs.States.{stopped_when_idle}
 use Rattle.qm_model.specs.Stopping.{queue_stopped, entry_aborting}
+use Rattle.qm_queues.specs.declared.settings.Settings.{Settings}
 use Rattle.qm_queues.specs.Queues.{with_queue_put}
 use Rattle.qm_queues.specs.Settings.{with_settings_and_state}
 use Rattle.qm_spool.specs.Kept.{HasRoomFor}
 use Rattle.qm_state.specs.declared.image.Image.{Image}
-use Rattle.qm_state.specs.declared.limits.TheConstants.{ENTRIES_LIMIT}
 use Rattle.qm_state.specs.declared.prepared.Prepared.{Prepared}
 use Rattle.qm_state.specs.declared.prepared.Change.{Change}
 use Rattle.qm_state.specs.declared.prepared.Change.TheVariants.{NewFile, MoreBytes, MoreLines, RemoveFile, NewForm, RemoveForm, NewCharacteristic, RemoveCharacteristic, NewEntry, PutQueue, SetQueue, StopQueue, CutShort, RemoveQueue, Merge, RemoveEntry, EndRun}
@@ -46,9 +48,21 @@ entered s entry = record {
 abbrev pub queue_put : System → Queue → Accepted
 queue_put s queue = replied_with_queue (record s { queues = with_queue_put queue s.queues }) queue.name
 
+-- the queue has the settings that are given, and the state where one is
+abbrev pub queue_changed : System → List ℕ → Settings → Option QueueState → Accepted
+queue_changed s name settings state = replied_with_queue (record s { queues = with_queue name (with_settings_and_state settings state) s.queues }) name
+
+-- this is left of the entry, or it goes
+abbrev pub with_left : ℕ → Option Entry → System → System
+with_left number left s = record s { entries = with_entry number (λ e. left) s.entries }
+
 -- the entry goes
 abbrev pub entry_removed : System → ℕ → Accepted
-entry_removed s number = replied (record s { entries = with_entry number (λ e. None) s.entries }) (EntryDeleted number)
+entry_removed s number = replied (with_left number None s) (EntryDeleted number)
+
+-- the run has ended, with this status
+abbrev pub run_ended : System → ℕ → List ℕ → ℕ → ℕ → Accepted
+run_ended s now node run status = run_reported s now node run (EndReport status)
 
 -- what the change makes of the system that the acting moment finds, for the node that serves it; queues that are stopping
 -- haven't been stopped then, and no job is started
@@ -63,13 +77,13 @@ outcome_of (NewCharacteristic characteristic) now node s = characteristic_define
 outcome_of (RemoveCharacteristic name) now node s = characteristic_deleted s name
 outcome_of (NewEntry entry) now node s = entered s entry
 outcome_of (PutQueue queue) now node s = queue_put s queue
-outcome_of (SetQueue name settings state) now node s = replied_with_queue (record s { queues = with_queue name (with_settings_and_state settings state) s.queues }) name
+outcome_of (SetQueue name settings state) now node s = queue_changed s name settings state
 outcome_of (StopQueue name how) now node s = queue_stopped s name how
 outcome_of (CutShort entry fate) now node s = entry_aborting s fate entry
 outcome_of (RemoveQueue name) now node s = queue_deleted s name
 outcome_of (Merge to from) now node s = merged s to from
 outcome_of (RemoveEntry entry) now node s = entry_removed s entry
-outcome_of (EndRun run status) now node s = run_reported s now node run (EndReport status)
+outcome_of (EndRun run status) now node s = run_ended s now node run status
 
 -- the system as the acting moment finds it
 abbrev pub found : ℕ → System → System
@@ -103,10 +117,10 @@ pub record CanDefineForm (image : Image) (form : Form) : Type 0 where
   pub room : 0 < image.parts.spare_forms
   pub free : is_form_taken image.parts.forms form ≡ false
 
--- there is room for one characteristic more, its number is at most 127, and none has its name or its number
+-- there is room for one characteristic more, its number isn't too great, and none has its name or its number
 pub record CanDefineCharacteristic (image : Image) (characteristic : Characteristic) : Type 0 where
   pub room : 0 < image.parts.spare_characteristics
-  pub small : characteristic.number ≤ 127
+  pub small : characteristic.number ≤ LAST_CHARACTERISTIC
   pub free : is_characteristic_taken image.parts.characteristics characteristic ≡ false
 
 -- there is room for the entry, which has the next number and no run, and its file is there
@@ -121,6 +135,10 @@ pub record IsNewEntry (image : Image) (entry : Entry) : Type 0 where
 -- how many jobs start behind a change of the system that the moment finds
 abbrev pub starts_behind : Change → ℕ → List ℕ → System → ℕ
 starts_behind change now node s = length (settled (stopped_when_idle (outcome_of change now node (found now s)).system)).started
+
+-- at most so many jobs start behind the change, at each moment and for each node
+abbrev pub StartAtMost : ℕ → Change → System → Type 0
+StartAtMost most change s = (now : ℕ) (node : List ℕ) → starts_behind change now node s ≤ most
 
 -- The change can be made on the image: for what comes there is room, a new form or characteristic has a name and a number of its
 -- own, a new entry has the next number and no run, its file is there and may be named once more, no entry names a file that

@@ -1,7 +1,11 @@
 // Bytes are added to a file.
 ghost use Rattle.std.specs.Prelude.{◌≡◌, ◌<◌, ◌≤◌, ℕ, List, [], length, IfOk, Ok, IsSome};
+ghost use Rattle.qm_kinds.specs.declared.limits.TheConstants.{FILE_LIMIT};
+ghost use Rattle.qm_kinds.specs.declared.request.Request.TheVariants as request;
 ghost use Rattle.qm_model.specs.Appending.{append_refusal, appended, bytes_of};
 ghost use Rattle.qm_model.specs.Find.{file_named};
+ghost use Rattle.qm_model.specs.Replying.{replied};
+ghost use Rattle.qm_state.specs.Deciding.{Prepares, Takes};
 ghost use Rattle.qm_state.specs.Image.{system_of};
 ghost use Rattle.qm_state.specs.Preparing.{found, outcome_of, IsReady, CanInsert, CanAppend};
 ghost use Rattle.qm_state.specs.Refusing.{Decides, KeepsRefused};
@@ -17,7 +21,7 @@ impl Image {
     /// How many bytes the file has, none where it isn't there.
     pub(crate) fn file_size(&self, name: &FileName) -> usize
         ensures value { result ≡ length (bytes_of name.now self.now.spool.files) }
-        ensures small { result ≤ 1048576 }
+        ensures small { result ≤ FILE_LIMIT }
     {
         match self.spool.bytes(name) {
             None => 0,
@@ -42,9 +46,7 @@ impl Image {
     fn take_more<'a>(&mut self, name: &FileName, bytes: &'a [u8]) -> Result<Change<'a>, AllocError>
         requires there { IsSome (file_named name.now self.old.spool.files) }
         requires accepted { append_refusal (system_of self.old) name.now bytes.now ≡ None }
-        ensures rows { system_of self.new ≡ system_of self.old }
-        ensures ready { IfOk result (IsReady self.new) }
-        ensures made { IfOk result (λ change. (now : ℕ) (node : List ℕ) → outcome_of change now node (found now (system_of self.old)) ≡ appended (found now (system_of self.old)) name.now bytes.now) }
+        ensures { Takes (request.Append name.now bytes.now) self.old self.new result }
     {
         self.spool.reserve_bytes(name, bytes.len())?;
         Ok(Change::MoreBytes { name: *name, bytes })
@@ -59,9 +61,7 @@ impl Image {
     ) -> Result<Change<'a>, AllocError>
         requires absent { file_named name.now self.old.spool.files ≡ None }
         requires accepted { append_refusal (system_of self.old) name.now bytes.items ≡ None }
-        ensures rows { system_of self.new ≡ system_of self.old }
-        ensures ready { IfOk result (IsReady self.new) }
-        ensures made { IfOk result (λ change. (now : ℕ) (node : List ℕ) → outcome_of change now node (found now (system_of self.old)) ≡ appended (found now (system_of self.old)) name.now bytes.items) }
+        ensures { Takes (request.Append name.now bytes.items) self.old self.new result }
     {
         self.spool.reserve_file()?;
         Ok(Change::NewFile { name: *name, bytes })
@@ -72,9 +72,7 @@ impl Image {
     fn take_file<'a>(&mut self, name: &FileName, bytes: &[u8]) -> Result<Change<'a>, AllocError>
         requires absent { file_named name.now self.old.spool.files ≡ None }
         requires accepted { append_refusal (system_of self.old) name.now bytes.now ≡ None }
-        ensures rows { system_of self.new ≡ system_of self.old }
-        ensures ready { IfOk result (IsReady self.new) }
-        ensures made { IfOk result (λ change. (now : ℕ) (node : List ℕ) → outcome_of change now node (found now (system_of self.old)) ≡ appended (found now (system_of self.old)) name.now bytes.now) }
+        ensures { Takes (request.Append name.now bytes.now) self.old self.new result }
     {
         let bytes = Vec::from_slice(self.alloc, bytes)?;
         self.take_file_of(name, bytes)
@@ -83,9 +81,7 @@ impl Image {
     // Takes the memory for bytes that aren't refused.
     fn take_bytes<'a>(&mut self, name: &FileName, bytes: &'a [u8]) -> Result<Change<'a>, AllocError>
         requires { append_refusal (system_of self.old) name.now bytes.now ≡ None }
-        ensures rows { system_of self.new ≡ system_of self.old }
-        ensures ready { IfOk result (IsReady self.new) }
-        ensures made { IfOk result (λ change. (now : ℕ) (node : List ℕ) → outcome_of change now node (found now (system_of self.old)) ≡ appended (found now (system_of self.old)) name.now bytes.now) }
+        ensures { Takes (request.Append name.now bytes.now) self.old self.new result }
     {
         if self.spool.bytes(name).is_some() {
             self.take_more(name, bytes)
@@ -101,11 +97,7 @@ impl Image {
         name: &FileName,
         bytes: &'a [u8],
     ) -> Result<Change<'a>, Refused>
-        ensures rows { system_of self.new ≡ system_of self.old }
-        ensures decided { Decides (append_refusal (system_of self.old) name.now bytes.now) result }
-        ensures untouched { KeepsRefused self.old self.new result }
-        ensures ready { IfOk result (IsReady self.new) }
-        ensures made { IfOk result (λ change. (now : ℕ) (node : List ℕ) → outcome_of change now node (found now (system_of self.old)) ≡ appended (found now (system_of self.old)) name.now bytes.now) }
+        ensures { Prepares (request.Append name.now bytes.now) self.old self.new result }
     {
         if let Some(refusal) = self.append_refusal(name, bytes.len()) {
             return Err(Refused::By(refusal));
@@ -121,7 +113,7 @@ impl Image {
     #[inline(never)]
     pub(crate) fn make_file(&mut self, name: &FileName, bytes: Vec<u8>) -> Act
         requires { CanInsert self.old name.now bytes.items }
-        ensures done { appended (system_of self.old) name.now bytes.items ≡ record { system = system_of self.new; reply = record { act = result; started = [] } } }
+        ensures done { appended (system_of self.old) name.now bytes.items ≡ replied (system_of self.new) result }
         ensures room { self.new.parts.spare_runs ≡ self.old.parts.spare_runs }
     {
         let size = bytes.len() as u32;
@@ -137,7 +129,7 @@ impl Image {
     #[inline(never)]
     pub(crate) fn extend_file(&mut self, name: &FileName, bytes: &[u8]) -> Act
         requires { CanAppend self.old name.now bytes.now }
-        ensures done { appended (system_of self.old) name.now bytes.now ≡ record { system = system_of self.new; reply = record { act = result; started = [] } } }
+        ensures done { appended (system_of self.old) name.now bytes.now ≡ replied (system_of self.new) result }
         ensures room { self.new.parts.spare_runs ≡ self.old.parts.spare_runs }
     {
         let size = (self.file_size(name) + bytes.len()) as u32;

@@ -1,21 +1,24 @@
 // Characteristics are defined and deleted.
 ghost use Rattle.std.specs.Prelude.{◌≡◌, ℕ, List, [], None, IfOk};
+ghost use Rattle.qm_kinds.specs.declared.request.Request.TheVariants as request;
 ghost use Rattle.qm_model.specs.Characteristics.{is_characteristic_taken, define_characteristic_refusal, characteristic_defined, delete_characteristic_refusal, characteristic_deleted};
 ghost use Rattle.qm_model.specs.Referring.{refused_by_queue};
+ghost use Rattle.qm_model.specs.Replying.{replied};
+ghost use Rattle.qm_state.specs.Deciding.{Prepares, Takes};
 ghost use Rattle.qm_state.specs.Image.{system_of};
 ghost use Rattle.qm_state.specs.Naming.{has_one_of};
 ghost use Rattle.qm_state.specs.Preparing.{found, outcome_of, CanDefineCharacteristic, IsReady};
 ghost use Rattle.qm_state.specs.Refusing.{Decides, KeepsRefused};
 
 use crate::image::Image;
-use crate::limits::LAST_CHARACTERISTIC;
 use crate::naming::{Named, has_one_of, refused_by_entry};
 use crate::prepared::Change;
 use crate::refusals::{first_refusal, refused_where};
 use crate::refused::Refused;
 use qm_forms::FormTable;
 use qm_kinds::{
-    Act, Characteristic, CharacteristicSet, Holder, Name, NameOrNumber, Queue, Refusal,
+    Act, Characteristic, CharacteristicSet, Holder, LAST_CHARACTERISTIC, Name, NameOrNumber, Queue,
+    Refusal,
 };
 use std::alloc::AllocError;
 
@@ -68,9 +71,7 @@ impl Image {
         characteristic: &Characteristic,
     ) -> Result<Change<'a>, AllocError>
         requires { define_characteristic_refusal (system_of self.old) characteristic.now ≡ None }
-        ensures rows { system_of self.new ≡ system_of self.old }
-        ensures ready { IfOk result (IsReady self.new) }
-        ensures made { IfOk result (λ change. (now : ℕ) (node : List ℕ) → outcome_of change now node (found now (system_of self.old)) ≡ characteristic_defined (found now (system_of self.old)) characteristic.now) }
+        ensures { Takes (request.DefineCharacteristic characteristic.now) self.old self.new result }
     {
         self.parts.reserve_characteristic()?;
         Ok(Change::NewCharacteristic {
@@ -84,11 +85,7 @@ impl Image {
         &mut self,
         characteristic: &Characteristic,
     ) -> Result<Change<'a>, Refused>
-        ensures rows { system_of self.new ≡ system_of self.old }
-        ensures decided { Decides (define_characteristic_refusal (system_of self.old) characteristic.now) result }
-        ensures untouched { KeepsRefused self.old self.new result }
-        ensures ready { IfOk result (IsReady self.new) }
-        ensures made { IfOk result (λ change. (now : ℕ) (node : List ℕ) → outcome_of change now node (found now (system_of self.old)) ≡ characteristic_defined (found now (system_of self.old)) characteristic.now) }
+        ensures { Prepares (request.DefineCharacteristic characteristic.now) self.old self.new result }
     {
         if let Some(refusal) = self.define_characteristic_refusal(characteristic) {
             return Err(Refused::By(refusal));
@@ -122,9 +119,7 @@ impl Image {
         &self,
         name: &Name,
     ) -> Result<Change<'a>, Refused>
-        ensures decided { Decides (delete_characteristic_refusal (system_of self.now) name.now) result }
-        ensures ready { IfOk result (IsReady self.now) }
-        ensures made { IfOk result (λ prepared. (now : ℕ) (node : List ℕ) → outcome_of prepared now node (found now (system_of self.now)) ≡ characteristic_deleted (found now (system_of self.now)) name.now) }
+        ensures { Prepares (request.DeleteCharacteristic name.now) self.now self.now result }
     {
         if let Some(refusal) = self.delete_characteristic_refusal(name) {
             return Err(Refused::By(refusal));
@@ -137,7 +132,7 @@ impl Image {
     #[inline(never)]
     pub(crate) fn define_characteristic(&mut self, characteristic: Characteristic) -> Act
         requires { CanDefineCharacteristic self.old characteristic }
-        ensures done { characteristic_defined (system_of self.old) characteristic ≡ record { system = system_of self.new; reply = record { act = result; started = [] } } }
+        ensures done { characteristic_defined (system_of self.old) characteristic ≡ replied (system_of self.new) result }
         ensures room { self.new.parts.spare_runs ≡ self.old.parts.spare_runs }
     {
         let name = characteristic.name;
@@ -149,7 +144,7 @@ impl Image {
     #[tactic(auto, unfolding(crate::specs::Image::system_of))]
     #[inline(never)]
     pub(crate) fn remove_characteristic(&mut self, name: &Name) -> Act
-        ensures done { characteristic_deleted (system_of self.old) name.now ≡ record { system = system_of self.new; reply = record { act = result; started = [] } } }
+        ensures done { characteristic_deleted (system_of self.old) name.now ≡ replied (system_of self.new) result }
         ensures room { self.new.parts.spare_runs ≡ self.old.parts.spare_runs }
     {
         self.parts.delete_characteristic(name);

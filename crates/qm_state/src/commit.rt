@@ -1,5 +1,6 @@
 ghost use Rattle.std.specs.Prelude.{◌≡◌, ◌≤◌, []};
 ghost use Rattle.qm_model.specs.Consistent.{IsConsistent};
+ghost use Rattle.qm_model.specs.Replying.{replied};
 ghost use Rattle.qm_state.specs.Image.{system_of};
 ghost use Rattle.qm_state.specs.Preparing.{made, outcome_of, IsPrepared, IsReady};
 
@@ -40,7 +41,7 @@ impl Image {
     fn make(&mut self, now: Moment, node: &Name, change: Change) -> Act
         requires sound { IsConsistent (system_of self.old) }
         requires ready { IsReady self.old change }
-        ensures done { outcome_of change.entry now node.now (system_of self.old) ≡ record { system = system_of self.new; reply = record { act = result; started = [] } } }
+        ensures done { outcome_of change.entry now node.now (system_of self.old) ≡ replied (system_of self.new) result }
         ensures room { self.old.parts.spare_runs ≤ self.new.parts.spare_runs }
     {
         match change {

@@ -58,12 +58,8 @@ impl Image {
     #[tactic(auto, unfolding(crate::specs::Image::system_of))]
     pub(crate) fn reach(&mut self, now: Moment)
         ensures rows { system_of self.new ≡ found now (system_of self.old) }
-        ensures rooms { self.new.spool ≡ record self.old.spool { counts = self.new.spool.counts } }
-        ensures queues { self.new.parts.spare_queues ≡ self.old.parts.spare_queues }
-        ensures forms { self.new.parts.spare_forms ≡ self.old.parts.spare_forms }
-        ensures characteristics { self.new.parts.spare_characteristics ≡ self.old.parts.spare_characteristics }
-        ensures entries { self.new.parts.spare_entries ≡ self.old.parts.spare_entries }
-        ensures runs { self.new.parts.spare_runs ≡ self.old.parts.spare_runs }
+        ensures files { self.new.spool ≡ record self.old.spool { counts = self.new.spool.counts } }
+        ensures tables { self.new.parts ≡ record self.old.parts { entries = self.new.parts.entries } }
     {
         what_is_not_due_stays();
         self.last = now;

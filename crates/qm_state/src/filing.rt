@@ -1,8 +1,11 @@
 // A file is filled with lines, or dropped.
 ghost use Rattle.std.specs.Prelude.{◌≡◌, ℕ, List, [], length, find, None, IfOk, IsSome};
+ghost use Rattle.qm_kinds.specs.declared.request.Request.TheVariants as request;
 ghost use Rattle.qm_model.specs.Appending.{append_refusal, appended};
 ghost use Rattle.qm_model.specs.Filing.{filling, fill_refusal, filled, drop_refusal, dropped};
 ghost use Rattle.qm_model.specs.Find.{file_named};
+ghost use Rattle.qm_model.specs.Replying.{replied};
+ghost use Rattle.qm_state.specs.Deciding.{Prepares, Takes};
 ghost use Rattle.qm_state.specs.Image.{system_of};
 ghost use Rattle.qm_state.specs.Preparing.{found, outcome_of, CanDrop, IsReady};
 ghost use Rattle.qm_state.specs.Refusing.{Decides, KeepsRefused};
@@ -40,9 +43,7 @@ impl Image {
     ) -> Result<Change<'a>, AllocError>
         requires there { IsSome (file_named name.now self.old.spool.files) }
         requires accepted { append_refusal (system_of self.old) name.now bytes.items ≡ None }
-        ensures rows { system_of self.new ≡ system_of self.old }
-        ensures ready { IfOk result (IsReady self.new) }
-        ensures made { IfOk result (λ change. (now : ℕ) (node : List ℕ) → outcome_of change now node (found now (system_of self.old)) ≡ appended (found now (system_of self.old)) name.now bytes.items) }
+        ensures { Takes (request.Append name.now bytes.items) self.old self.new result }
     {
         self.spool.reserve_bytes(name, bytes.len())?;
         Ok(Change::MoreLines { name: *name, bytes })
@@ -51,9 +52,7 @@ impl Image {
     // Takes the memory for lines that aren't refused.
     fn take_lines<'a>(&mut self, name: &FileName, lines: u16) -> Result<Change<'a>, AllocError>
         requires { fill_refusal (system_of self.old) name.now lines ≡ None }
-        ensures rows { system_of self.new ≡ system_of self.old }
-        ensures ready { IfOk result (IsReady self.new) }
-        ensures made { IfOk result (λ change. (now : ℕ) (node : List ℕ) → outcome_of change now node (found now (system_of self.old)) ≡ filled (found now (system_of self.old)) name.now lines) }
+        ensures { Takes (request.Fill name.now lines) self.old self.new result }
     {
         let bytes = filling(self.alloc, lines)?;
         if self.spool.bytes(name).is_some() {
@@ -70,11 +69,7 @@ impl Image {
         name: &FileName,
         lines: u16,
     ) -> Result<Change<'a>, Refused>
-        ensures rows { system_of self.new ≡ system_of self.old }
-        ensures decided { Decides (fill_refusal (system_of self.old) name.now lines) result }
-        ensures untouched { KeepsRefused self.old self.new result }
-        ensures ready { IfOk result (IsReady self.new) }
-        ensures made { IfOk result (λ change. (now : ℕ) (node : List ℕ) → outcome_of change now node (found now (system_of self.old)) ≡ filled (found now (system_of self.old)) name.now lines) }
+        ensures { Prepares (request.Fill name.now lines) self.old self.new result }
     {
         if let Some(refusal) = self.append_refusal(name, filling_size(lines)) {
             return Err(Refused::By(refusal));
@@ -100,9 +95,7 @@ impl Image {
     #[tactic(auto, unfolding(crate::specs::Image::system_of))]
     #[inline(never)]
     pub(crate) fn prepare_drop<'a>(&self, name: &FileName) -> Result<Change<'a>, Refused>
-        ensures decided { Decides (drop_refusal (system_of self.now) name.now) result }
-        ensures ready { IfOk result (IsReady self.now) }
-        ensures made { IfOk result (λ prepared. (now : ℕ) (node : List ℕ) → outcome_of prepared now node (found now (system_of self.now)) ≡ dropped (found now (system_of self.now)) name.now) }
+        ensures { Prepares (request.Drop name.now) self.now self.now result }
     {
         if let Some(refusal) = self.drop_refusal(name) {
             return Err(Refused::By(refusal));
@@ -115,7 +108,7 @@ impl Image {
     #[inline(never)]
     pub(crate) fn remove_file(&mut self, name: &FileName) -> Act
         requires { CanDrop self.old name.now }
-        ensures done { dropped (system_of self.old) name.now ≡ record { system = system_of self.new; reply = record { act = result; started = [] } } }
+        ensures done { dropped (system_of self.old) name.now ≡ replied (system_of self.new) result }
         ensures room { self.new.parts.spare_runs ≡ self.old.parts.spare_runs }
     {
         self.spool.remove(name);

@@ -1,19 +1,21 @@
 // Forms are defined and deleted.
 ghost use Rattle.std.specs.Prelude.{◌≡◌, ◌+◌, ℕ, nat_le, List, [], None, IfOk};
+ghost use Rattle.qm_kinds.specs.declared.request.Request.TheVariants as request;
 ghost use Rattle.qm_model.specs.Forms.{is_bad_form, is_form_taken, define_form_refusal, form_defined, is_named, delete_form_refusal, form_deleted};
 ghost use Rattle.qm_model.specs.Referring.{refused_by_queue};
+ghost use Rattle.qm_model.specs.Replying.{replied};
+ghost use Rattle.qm_state.specs.Deciding.{Prepares, Takes};
 ghost use Rattle.qm_state.specs.Image.{system_of};
 ghost use Rattle.qm_state.specs.Preparing.{found, outcome_of, CanDefineForm, IsReady};
 ghost use Rattle.qm_state.specs.Refusing.{Decides, KeepsRefused};
 
 use crate::image::Image;
-use crate::limits::LAST_FORM;
 use crate::naming::{Named, is_named, refused_by_entry};
 use crate::prepared::Change;
 use crate::refusals::{first_refusal, refused_where};
 use crate::refused::Refused;
 use qm_forms::FormTable;
-use qm_kinds::{Act, Form, Holder, Name, NameOrNumber, Queue, Refusal, default_form};
+use qm_kinds::{Act, Form, Holder, LAST_FORM, Name, NameOrNumber, Queue, Refusal, default_form};
 use std::alloc::AllocError;
 
 // Whether margins before and behind leave no room.
@@ -71,9 +73,7 @@ impl Image {
     #[tactic(auto, unfolding(crate::specs::Image::system_of))]
     fn take_form<'a>(&mut self, form: &Form) -> Result<Change<'a>, AllocError>
         requires { define_form_refusal (system_of self.old) form.now ≡ None }
-        ensures rows { system_of self.new ≡ system_of self.old }
-        ensures ready { IfOk result (IsReady self.new) }
-        ensures made { IfOk result (λ change. (now : ℕ) (node : List ℕ) → outcome_of change now node (found now (system_of self.old)) ≡ form_defined (found now (system_of self.old)) form.now) }
+        ensures { Takes (request.DefineForm form.now) self.old self.new result }
     {
         self.parts.reserve_form()?;
         Ok(Change::NewForm { form: *form })
@@ -82,11 +82,7 @@ impl Image {
     /// Decides on a form that is defined, and takes the memory for it.
     #[inline(never)]
     pub(crate) fn prepare_define_form<'a>(&mut self, form: &Form) -> Result<Change<'a>, Refused>
-        ensures rows { system_of self.new ≡ system_of self.old }
-        ensures decided { Decides (define_form_refusal (system_of self.old) form.now) result }
-        ensures untouched { KeepsRefused self.old self.new result }
-        ensures ready { IfOk result (IsReady self.new) }
-        ensures made { IfOk result (λ change. (now : ℕ) (node : List ℕ) → outcome_of change now node (found now (system_of self.old)) ≡ form_defined (found now (system_of self.old)) form.now) }
+        ensures { Prepares (request.DefineForm form.now) self.old self.new result }
     {
         if let Some(refusal) = self.define_form_refusal(form) {
             return Err(Refused::By(refusal));
@@ -119,9 +115,7 @@ impl Image {
     #[tactic(auto, unfolding(crate::specs::Image::system_of))]
     #[inline(never)]
     pub(crate) fn prepare_delete_form<'a>(&self, name: &Name) -> Result<Change<'a>, Refused>
-        ensures decided { Decides (delete_form_refusal (system_of self.now) name.now) result }
-        ensures ready { IfOk result (IsReady self.now) }
-        ensures made { IfOk result (λ prepared. (now : ℕ) (node : List ℕ) → outcome_of prepared now node (found now (system_of self.now)) ≡ form_deleted (found now (system_of self.now)) name.now) }
+        ensures { Prepares (request.DeleteForm name.now) self.now self.now result }
     {
         if let Some(refusal) = self.delete_form_refusal(name) {
             return Err(Refused::By(refusal));
@@ -134,7 +128,7 @@ impl Image {
     #[inline(never)]
     pub(crate) fn define_form(&mut self, form: Form) -> Act
         requires { CanDefineForm self.old form }
-        ensures done { form_defined (system_of self.old) form ≡ record { system = system_of self.new; reply = record { act = result; started = [] } } }
+        ensures done { form_defined (system_of self.old) form ≡ replied (system_of self.new) result }
         ensures room { self.new.parts.spare_runs ≡ self.old.parts.spare_runs }
     {
         let name = form.name;
@@ -146,7 +140,7 @@ impl Image {
     #[tactic(auto, unfolding(crate::specs::Image::system_of))]
     #[inline(never)]
     pub(crate) fn remove_form(&mut self, name: &Name) -> Act
-        ensures done { form_deleted (system_of self.old) name.now ≡ record { system = system_of self.new; reply = record { act = result; started = [] } } }
+        ensures done { form_deleted (system_of self.old) name.now ≡ replied (system_of self.new) result }
         ensures room { self.new.parts.spare_runs ≡ self.old.parts.spare_runs }
     {
         self.parts.delete_form(name);

@@ -3,6 +3,7 @@ ghost use Rattle.std.specs.Prelude.{◌≡◌, ◌&&◌, ◌||◌, not, false, i
 ghost use Rattle.std.specs.List.{list_any};
 ghost use Rattle.std.specs.Option.{option_and_then, option_copied, option_map_or, option_or};
 ghost use Rattle.std.specs.Str.{bytes_eq};
+ghost use Rattle.qm_kinds.specs.declared.limits.TheConstants.{QUEUES_LIMIT};
 ghost use Rattle.qm_kinds.specs.declared.system.System.{System};
 ghost use Rattle.qm_model.specs.Kinds.{is_generic, is_same_queue_kind};
 ghost use Rattle.qm_model.specs.Outcome.{refused_where};
@@ -13,19 +14,14 @@ ghost use Rattle.qm_state.specs.Settings.{AgreesWith, HasForms, HasQueues};
 use crate::kinds::{is_generic, is_print_queue, is_same_queue_kind, take_same_jobs};
 use crate::refusals::{first_refusal, refused_where};
 use crate::settings::{change_refusal, is_bad_change, settings_of};
+use crate::stopping;
 use qm_forms::FormTable;
 use qm_kinds::{
-    CharacteristicSet, Name, NewQueue, Node, Queue, QueueKind, QueueRetain, QueueState, Refusal,
-    Seq, default_form,
+    CharacteristicSet, Name, NewQueue, Node, QUEUES_LIMIT, Queue, QueueKind, QueueRetain,
+    QueueState, Refusal, Seq, TARGETS_LIMIT, default_form,
 };
 use qm_queues::QueueTable;
 use std::alloc::{AllocError, Global};
-
-/// The most queues of a site.
-pub(crate) const QUEUES_LIMIT: usize = 256;
-
-/// The most targets of a generic queue.
-pub(crate) const TARGETS_LIMIT: usize = 32;
 
 // Whether the name is one of these.
 fn is_one_of(name: &Name, names: &[Name]) -> bool
@@ -92,10 +88,7 @@ fn refused_duplicate(queue: Option<&Queue>, kind: QueueKind) -> Option<Refusal>
 fn refused_unless_stopped(queue: Option<&Queue>) -> Option<Refusal>
     ensures { result ≡ option_and_then refused_unless_stopped (option_copied queue.entry) }
 {
-    match queue?.state {
-        QueueState::Stopped => None,
-        state => Some(Refusal::QueueNotStopped { state }),
-    }
+    stopping::refused_unless_stopped(queue?)
 }
 
 // Whether the name is that of a node of the cluster.

@@ -1,19 +1,15 @@
 // Jobs are cut short and deleted, and runs end: what is decided.
-ghost use Rattle.std.specs.Prelude.{◌≡◌, ℕ, List, IfOk, if◌then◌else◌};
+ghost use Rattle.std.specs.Prelude.{◌≡◌, ◌&&◌, not, ℕ, if◌then◌else◌};
 ghost use Rattle.qm_kinds.specs.declared.entry.Entry.{Entry as AnyEntry};
-ghost use Rattle.qm_model.specs.Entries.{delete_entry_refusal, entry_deleted};
-ghost use Rattle.qm_model.specs.Runs.{EndReport, report_refusal, run_reported};
+ghost use Rattle.qm_kinds.specs.declared.request.Request.TheVariants as request;
 ghost use Rattle.qm_model.specs.Standing.{is_executing};
-ghost use Rattle.qm_model.specs.Stopping.{abort_refusal, job_aborted};
-ghost use Rattle.qm_state.specs.Image.{system_of};
-ghost use Rattle.qm_state.specs.Preparing.{found, outcome_of, IsReady};
-ghost use Rattle.qm_state.specs.Refusing.{Decides};
+ghost use Rattle.qm_state.specs.Deciding.{Prepares, PreparesAt};
 
 use crate::image::Image;
+use crate::kinds::is_generic;
 use crate::prepared::Change;
 use crate::refused::Refused;
-use crate::stopping::abort_refusal;
-use qm_kinds::{EntryState, Fate, Name, Refusal};
+use qm_kinds::{Entry, EntryState, Fate, Name, Refusal};
 
 // What becomes of a job that is cut short.
 fn abort_fate(requeue: bool) -> Fate
@@ -32,6 +28,13 @@ fn is_executing(state: &EntryState) -> bool
     )
 }
 
+// Whether a job is to go back into its queue, and may not begin once more.
+fn must_stay(requeue: bool, job: &Entry) -> bool
+    ensures { result ≡ (requeue && not job.now.restart) }
+{
+    requeue && !job.restart
+}
+
 impl Image {
     /// Decides on a job that is cut short: the one of the number, or the only one that runs in the queue.
     #[tactic(auto, unfolding(crate::specs::Image::system_of))]
@@ -42,15 +45,20 @@ impl Image {
         entry: Option<u32>,
         requeue: bool,
     ) -> Result<Change<'a>, Refused>
-        ensures decided { Decides (abort_refusal (system_of self.now) queue.now entry requeue) result }
-        ensures ready { IfOk result (IsReady self.now) }
-        ensures made { IfOk result (λ prepared. (now : ℕ) (node : List ℕ) → outcome_of prepared now node (found now (system_of self.now)) ≡ job_aborted (found now (system_of self.now)) queue.now entry requeue) }
+        ensures { Prepares (request.AbortJob queue.now entry requeue) self.now self.now result }
     {
-        let job = self.parts.running_in(queue, entry);
-        if let Some(refusal) = abort_refusal(self.parts.queue_table(), queue, job, requeue) {
-            return Err(Refused::By(refusal));
+        let Some(place) = self.parts.queue(queue) else {
+            return Err(Refused::By(Refusal::NoSuchQueue { name: *queue }));
+        };
+        if is_generic(place.kind) {
+            return Err(Refused::By(Refusal::WrongKind));
         }
-        let Some(job) = job else { unreachable!() };
+        let Some(job) = self.parts.running_in(queue, entry) else {
+            return Err(Refused::By(Refusal::NotRunning));
+        };
+        if must_stay(requeue, job) {
+            return Err(Refused::By(Refusal::NotRestartable));
+        }
         Ok(Change::CutShort {
             entry: job.number,
             fate: abort_fate(requeue),
@@ -61,9 +69,7 @@ impl Image {
     #[tactic(auto, unfolding(crate::specs::Image::system_of))]
     #[inline(never)]
     pub(crate) fn prepare_delete_entry<'a>(&self, number: u32) -> Result<Change<'a>, Refused>
-        ensures decided { Decides (delete_entry_refusal (system_of self.now) number) result }
-        ensures ready { IfOk result (IsReady self.now) }
-        ensures made { IfOk result (λ prepared. (now : ℕ) (node : List ℕ) → outcome_of prepared now node (found now (system_of self.now)) ≡ entry_deleted (found now (system_of self.now)) number) }
+        ensures { Prepares (request.DeleteEntry number) self.now self.now result }
     {
         let Some(entry) = self.parts.entry(number) else {
             return Err(Refused::By(Refusal::NoSuchEntry { number }));
@@ -86,9 +92,7 @@ impl Image {
         run: u64,
         status: u32,
     ) -> Result<Change<'a>, Refused>
-        ensures decided { Decides (report_refusal (system_of self.now) node.now run) result }
-        ensures ready { IfOk result (IsReady self.now) }
-        ensures made { IfOk result (λ prepared. (now : ℕ) → outcome_of prepared now node.now (found now (system_of self.now)) ≡ run_reported (found now (system_of self.now)) now node.now run (EndReport status)) }
+        ensures { (at : ℕ) → PreparesAt at node.now (request.Done run status) self.now self.now result }
     {
         if self.parts.entry_of_run(run, node).is_none() {
             return Err(Refused::By(Refusal::StaleRun {

@@ -15,7 +15,6 @@ mod initializing;
 mod jobs;
 mod kinds;
 mod leaving;
-mod limits;
 mod looks;
 mod making;
 mod merging;

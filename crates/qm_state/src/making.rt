@@ -1,16 +1,14 @@
 // The changes that were prepared are made.
-ghost use Rattle.std.specs.Prelude.{◌≡◌, ◌<◌, ◌≤◌, [], find, None, Some, IfSome};
+ghost use Rattle.std.specs.Prelude.{◌≡◌, ◌<◌, ◌≤◌, find, None, Some, IfSome};
 ghost use Rattle.std.specs.Ordering.{nat_cmp};
-ghost use Rattle.qm_model.specs.Consistent.{IsInOrder};
+ghost use Rattle.qm_model.specs.Consistent.{IsConsistent, IsInOrder};
 ghost use Rattle.qm_model.specs.Find.{entry_numbered};
 ghost use Rattle.qm_model.specs.Queues.{runs_for, queue_deleted};
-ghost use Rattle.qm_model.specs.Replying.{replied_with_queue};
-ghost use Rattle.qm_model.specs.Runs.{EndReport, run_reported};
-ghost use Rattle.qm_model.specs.Standing.{with_entry, with_queue};
+ghost use Rattle.qm_model.specs.Replying.{replied};
+ghost use Rattle.qm_model.specs.Standing.{with_queue};
 ghost use Rattle.qm_model.specs.Stopping.{queue_stopped, stopped_queue, entries_on_stop, entry_aborting};
-ghost use Rattle.qm_queues.specs.Settings.{with_settings_and_state};
 ghost use Rattle.qm_state.specs.Image.{system_of};
-ghost use Rattle.qm_state.specs.Preparing.{queue_put, entry_removed, IsLeftOf};
+ghost use Rattle.qm_state.specs.Preparing.{queue_put, queue_changed, entry_removed, run_ended, with_left, IsLeftOf};
 
 use crate::due::earliest;
 use crate::ending::{Reported, after_report, end_act, report_act};
@@ -20,13 +18,6 @@ use crate::stopping::state_on_stop;
 use qm_kinds::{Act, Entry, Fate, Moment, Name, Queue, QueueState, StopMode};
 use qm_queues::Settings;
 use qm_sched::Parts;
-
-// The entries stand in order of their numbers.
-fn see_order(parts: &Parts)
-    ensures { IsInOrder nat_cmp (λ e. e.number) parts.now.entries }
-{
-    let _ = parts.entry(0);
-}
 
 // The queue has the state that a stop leaves, if it is there.
 fn set_stopped(parts: &mut Parts, name: &Name, how: StopMode)
@@ -55,7 +46,7 @@ impl Image {
     #[inline(never)]
     pub(crate) fn put_queue(&mut self, queue: Queue) -> Act
         requires { 0 < self.old.parts.spare_queues }
-        ensures done { queue_put (system_of self.old) queue ≡ record { system = system_of self.new; reply = record { act = result; started = [] } } }
+        ensures done { queue_put (system_of self.old) queue ≡ replied (system_of self.new) result }
         ensures room { self.new.parts.spare_runs ≡ self.old.parts.spare_runs }
     {
         let name = queue.name;
@@ -72,7 +63,7 @@ impl Image {
         settings: &Settings,
         state: Option<QueueState>,
     ) -> Act
-        ensures done { replied_with_queue (record (system_of self.old) { queues = with_queue name.now (with_settings_and_state settings.now state) (system_of self.old).queues }) name.now ≡ record { system = system_of self.new; reply = record { act = result; started = [] } } }
+        ensures done { queue_changed (system_of self.old) name.now settings.now state ≡ replied (system_of self.new) result }
         ensures room { self.new.parts.spare_runs ≡ self.old.parts.spare_runs }
     {
         self.parts.set_queue(name, settings, state);
@@ -83,7 +74,7 @@ impl Image {
     #[tactic(auto, unfolding(crate::specs::Image::system_of))]
     #[inline(never)]
     pub(crate) fn stop_queue(&mut self, name: &Name, how: StopMode) -> Act
-        ensures done { queue_stopped (system_of self.old) name.now how ≡ record { system = system_of self.new; reply = record { act = result; started = [] } } }
+        ensures done { queue_stopped (system_of self.old) name.now how ≡ replied (system_of self.new) result }
         ensures room { self.new.parts.spare_runs ≡ self.old.parts.spare_runs }
     {
         set_stopped(&mut self.parts, name, how);
@@ -95,7 +86,7 @@ impl Image {
     #[tactic(auto, unfolding(crate::specs::Image::system_of))]
     #[inline(never)]
     pub(crate) fn cut_short(&mut self, entry: u32, fate: Fate) -> Act
-        ensures done { entry_aborting (system_of self.old) fate entry ≡ record { system = system_of self.new; reply = record { act = result; started = [] } } }
+        ensures done { entry_aborting (system_of self.old) fate entry ≡ replied (system_of self.new) result }
         ensures room { self.new.parts.spare_runs ≡ self.old.parts.spare_runs }
     {
         self.parts.set_fate(entry, fate);
@@ -107,7 +98,7 @@ impl Image {
     #[inline(never)]
     pub(crate) fn remove_queue(&mut self, name: &Name) -> Act
         requires { find (runs_for name.now) self.old.parts.entries ≡ None }
-        ensures done { queue_deleted (system_of self.old) name.now ≡ record { system = system_of self.new; reply = record { act = result; started = [] } } }
+        ensures done { queue_deleted (system_of self.old) name.now ≡ replied (system_of self.new) result }
         ensures room { self.new.parts.spare_runs ≡ self.old.parts.spare_runs }
     {
         leave_files(&mut self.spool, self.parts.entries(), &Leaving::Of(name));
@@ -119,7 +110,7 @@ impl Image {
     // The entry goes, if it is there, and doesn't name its file any more.
     #[tactic(auto, unfolding(crate::specs::Image::system_of))]
     fn take_out(&mut self, number: u32)
-        ensures rows { system_of self.new ≡ record (system_of self.old) { entries = with_entry number (λ e. None) (system_of self.old).entries } }
+        ensures rows { system_of self.new ≡ with_left number None (system_of self.old) }
         ensures room { self.old.parts.spare_runs ≤ self.new.parts.spare_runs }
     {
         let Some(entry) = self.parts.entry(number) else {
@@ -134,7 +125,7 @@ impl Image {
     #[tactic(auto, unfolding(crate::specs::Image::system_of))]
     #[inline(never)]
     pub(crate) fn remove_entry(&mut self, entry: u32) -> Act
-        ensures done { entry_removed (system_of self.old) entry ≡ record { system = system_of self.new; reply = record { act = result; started = [] } } }
+        ensures done { entry_removed (system_of self.old) entry ≡ replied (system_of self.new) result }
         ensures room { self.old.parts.spare_runs ≤ self.new.parts.spare_runs }
     {
         self.take_out(entry);
@@ -144,14 +135,14 @@ impl Image {
     // What is left of an entry takes its place, or it goes.
     #[tactic(auto, unfolding(crate::specs::Image::system_of))]
     fn leave(&mut self, number: u32, left: Option<Entry>)
-        requires { IfSome left (λ e. IsLeftOf e number (entry_numbered number self.old.parts.entries)) }
-        ensures rows { system_of self.new ≡ record (system_of self.old) { entries = with_entry number (λ e. left) (system_of self.old).entries } }
+        requires order { IsInOrder nat_cmp (λ e. e.number) self.old.parts.entries }
+        requires left { IfSome left (λ e. IsLeftOf e number (entry_numbered number self.old.parts.entries)) }
+        ensures rows { system_of self.new ≡ with_left number left (system_of self.old) }
         ensures room { self.old.parts.spare_runs ≤ self.new.parts.spare_runs }
     {
         match left {
             None => self.take_out(number),
             Some(entry) => {
-                see_order(&self.parts);
                 self.next_due = earliest(self.next_due, &entry.state);
                 self.parts.replace_entry(entry);
             }
@@ -162,14 +153,14 @@ impl Image {
     #[tactic(auto, unfolding(crate::specs::Image::system_of))]
     #[inline(never)]
     pub(crate) fn end_run(&mut self, now: Moment, node: &Name, run: u64, status: u32) -> Act
-        ensures done { run_reported (system_of self.old) now node.now run (EndReport status) ≡ record { system = system_of self.new; reply = record { act = result; started = [] } } }
+        requires { IsConsistent (system_of self.old) }
+        ensures done { run_ended (system_of self.old) now node.now run status ≡ replied (system_of self.new) result }
         ensures room { self.old.parts.spare_runs ≤ self.new.parts.spare_runs }
     {
         let report = Reported::End(status);
         let Some(entry) = self.parts.entry_of_run(run, node) else {
             return end_act(run, status, &None);
         };
-        see_order(&self.parts);
         let number = entry.number;
         let left = after_report(self.parts.queue_table(), now, &report, entry);
         let act = report_act(run, &report, &entry.state, &left);

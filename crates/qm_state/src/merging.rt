@@ -1,8 +1,11 @@
 // The waiting jobs of one queue are moved to another.
 ghost use Rattle.std.specs.Prelude.{◌≡◌, ◌≤◌, ℕ, List, [], IfOk};
+ghost use Rattle.qm_kinds.specs.declared.request.Request.TheVariants as request;
 ghost use Rattle.qm_kinds.specs.declared.system.System.{System};
 ghost use Rattle.qm_model.specs.Consistent.{IsConsistent};
 ghost use Rattle.qm_model.specs.Merging.{merge_refusal, merged};
+ghost use Rattle.qm_model.specs.Replying.{replied};
+ghost use Rattle.qm_state.specs.Deciding.{Prepares};
 ghost use Rattle.qm_state.specs.Image.{system_of};
 ghost use Rattle.qm_state.specs.Preparing.{found, outcome_of, IsReady};
 ghost use Rattle.qm_state.specs.Refusing.{Decides};
@@ -44,9 +47,7 @@ impl Image {
     #[tactic(auto, unfolding(crate::specs::Image::system_of))]
     #[inline(never)]
     pub(crate) fn prepare_merge<'a>(&self, to: &Name, from: &Name) -> Result<Change<'a>, Refused>
-        ensures decided { Decides (merge_refusal (system_of self.now) to.now from.now) result }
-        ensures ready { IfOk result (IsReady self.now) }
-        ensures made { IfOk result (λ prepared. (now : ℕ) (node : List ℕ) → outcome_of prepared now node (found now (system_of self.now)) ≡ merged (found now (system_of self.now)) to.now from.now) }
+        ensures { Prepares (request.Merge to.now from.now) self.now self.now result }
     {
         if let Some(refusal) = self.merge_refusal(to, from) {
             return Err(Refused::By(refusal));
@@ -62,7 +63,7 @@ impl Image {
     #[inline(never)]
     pub(crate) fn merge(&mut self, to: &Name, from: &Name) -> Act
         requires { IsConsistent (system_of self.old) }
-        ensures done { merged (system_of self.old) to.now from.now ≡ record { system = system_of self.new; reply = record { act = result; started = [] } } }
+        ensures done { merged (system_of self.old) to.now from.now ≡ replied (system_of self.new) result }
         ensures room { self.new.parts.spare_runs ≡ self.old.parts.spare_runs }
     {
         let moved = self.parts.merge(to, from);

@@ -1,17 +1,17 @@
 ghost use Rattle.std.specs.Prelude.{◌≡◌, ◌<◌, ◌≤◌, ℕ, List, IfOk, Ok, length, true};
-ghost use Rattle.qm_model.specs.Applied.{applied, change_of, refusal_of};
+ghost use Rattle.qm_model.specs.Applied.{applied};
 ghost use Rattle.qm_model.specs.Built.{is_built};
 ghost use Rattle.qm_model.specs.Consistent.{IsConsistent};
 ghost use Rattle.qm_model.specs.Standing.{node_at};
+ghost use Rattle.qm_state.specs.Deciding.{PreparesAt};
 ghost use Rattle.qm_state.specs.Image.{system_of};
-ghost use Rattle.qm_state.specs.Preparing.{found, made, outcome_of, IsPrepared, IsReady};
-ghost use Rattle.qm_state.specs.Refusing.{Decides, Refuses, KeepsRefused};
+ghost use Rattle.qm_state.specs.Preparing.{made, IsPrepared};
+ghost use Rattle.qm_state.specs.Refusing.{Refuses, KeepsRefused};
 
 use crate::image::Image;
-use crate::limits::RUNS_LIMIT;
 use crate::prepared::{Change, Prepared};
 use crate::refused::Refused;
-use qm_kinds::{Moment, Name, Refusal, Request};
+use qm_kinds::{Moment, Name, RUNS_LIMIT, Refusal, Request};
 use qm_model::built_changes_keep_consistent;
 use std::alloc::AllocError;
 
@@ -73,11 +73,7 @@ impl Image {
         request: &'a Request,
     ) -> Result<Change<'a>, Refused>
         requires { is_built request.now ≡ true }
-        ensures rows { system_of self.new ≡ system_of self.old }
-        ensures decided { Decides (refusal_of (system_of self.old) node.now request.now) result }
-        ensures untouched { KeepsRefused self.old self.new result }
-        ensures ready { IfOk result (IsReady self.new) }
-        ensures made { IfOk result (λ change. outcome_of change now node.now (found now (system_of self.old)) ≡ change_of (found now (system_of self.old)) now node.now request.now) }
+        ensures { PreparesAt now node.now request.now self.old self.new result }
     {
         match request {
             Request::Append { file, bytes } => self.prepare_append(file, bytes.as_slice()),

@@ -1,10 +1,9 @@
 // Queues are made, set, started, stopped and deleted: what is decided.
-ghost use Rattle.std.specs.Prelude.{◌≡◌, ℕ, List, IfOk, is_none};
-ghost use Rattle.qm_model.specs.Queues.{initialize_refusal, initialized, set_queue_refusal, queue_set, queue_started, delete_queue_refusal, queue_deleted};
-ghost use Rattle.qm_model.specs.Stopping.{stop_refusal, queue_stopped};
+ghost use Rattle.std.specs.Prelude.{◌≡◌, ℕ};
+ghost use Rattle.qm_kinds.specs.declared.request.Request.TheVariants as request;
+ghost use Rattle.qm_model.specs.Queues.{initialize_refusal, set_queue_refusal, delete_queue_refusal};
+ghost use Rattle.qm_state.specs.Deciding.{Prepares, PreparesAt, TakesAt};
 ghost use Rattle.qm_state.specs.Image.{system_of};
-ghost use Rattle.qm_state.specs.Preparing.{found, outcome_of, IsReady};
-ghost use Rattle.qm_state.specs.Refusing.{Decides, KeepsRefused};
 
 use crate::image::Image;
 use crate::initializing::{initialize_refusal, new_queue};
@@ -32,9 +31,7 @@ impl Image {
     // Takes the memory for a queue.
     #[tactic(auto, unfolding(crate::specs::Image::system_of))]
     fn take_queue<'a>(&mut self, node: &Name, new: &NewQueue) -> Result<Change<'a>, AllocError>
-        ensures rows { system_of self.new ≡ system_of self.old }
-        ensures ready { IfOk result (IsReady self.new) }
-        ensures made { IfOk result (λ change. (now : ℕ) → outcome_of change now node.now (found now (system_of self.old)) ≡ initialized (found now (system_of self.old)) node.now new.now) }
+        ensures { (at : ℕ) → TakesAt at node.now (request.InitializeQueue new.now) self.old self.new result }
     {
         let queue = new_queue(self.alloc, self.parts.form_table(), node, new)?;
         self.parts.reserve_queue()?;
@@ -48,11 +45,7 @@ impl Image {
         node: &Name,
         new: &NewQueue,
     ) -> Result<Change<'a>, Refused>
-        ensures rows { system_of self.new ≡ system_of self.old }
-        ensures decided { Decides (initialize_refusal (system_of self.old) new.now) result }
-        ensures untouched { KeepsRefused self.old self.new result }
-        ensures ready { IfOk result (IsReady self.new) }
-        ensures made { IfOk result (λ change. (now : ℕ) → outcome_of change now node.now (found now (system_of self.old)) ≡ initialized (found now (system_of self.old)) node.now new.now) }
+        ensures { (at : ℕ) → PreparesAt at node.now (request.InitializeQueue new.now) self.old self.new result }
     {
         if let Some(refusal) = self.initialize_refusal(new) {
             return Err(Refused::By(refusal));
@@ -84,9 +77,7 @@ impl Image {
         name: &Name,
         change: &QueueChange,
     ) -> Result<Change<'a>, Refused>
-        ensures decided { Decides (set_queue_refusal (system_of self.now) name.now change.now) result }
-        ensures ready { IfOk result (IsReady self.now) }
-        ensures made { IfOk result (λ prepared. (now : ℕ) (node : List ℕ) → outcome_of prepared now node (found now (system_of self.now)) ≡ queue_set (found now (system_of self.now)) name.now change.now) }
+        ensures { Prepares (request.SetQueue name.now change.now) self.now self.now result }
     {
         if let Some(refusal) = self.set_queue_refusal(name, change) {
             return Err(Refused::By(refusal));
@@ -106,9 +97,7 @@ impl Image {
         name: &Name,
         change: &QueueChange,
     ) -> Result<Change<'a>, Refused>
-        ensures decided { Decides (set_queue_refusal (system_of self.now) name.now change.now) result }
-        ensures ready { IfOk result (IsReady self.now) }
-        ensures made { IfOk result (λ prepared. (now : ℕ) (node : List ℕ) → outcome_of prepared now node (found now (system_of self.now)) ≡ queue_started (found now (system_of self.now)) name.now change.now) }
+        ensures { Prepares (request.StartQueue name.now change.now) self.now self.now result }
     {
         if let Some(refusal) = self.set_queue_refusal(name, change) {
             return Err(Refused::By(refusal));
@@ -124,9 +113,7 @@ impl Image {
     #[tactic(auto, unfolding(crate::specs::Image::system_of))]
     #[inline(never)]
     pub(crate) fn prepare_stop<'a>(&self, name: &Name, how: StopMode) -> Result<Change<'a>, Refused>
-        ensures decided { Decides (stop_refusal (system_of self.now) name.now) result }
-        ensures ready { IfOk result (IsReady self.now) }
-        ensures made { IfOk result (λ prepared. (now : ℕ) (node : List ℕ) → outcome_of prepared now node (found now (system_of self.now)) ≡ queue_stopped (found now (system_of self.now)) name.now how) }
+        ensures { Prepares (request.StopQueue name.now how) self.now self.now result }
     {
         if self.parts.queue(name).is_none() {
             return Err(Refused::By(Refusal::NoSuchQueue { name: *name }));
@@ -151,9 +138,7 @@ impl Image {
     #[tactic(auto, unfolding(crate::specs::Image::system_of))]
     #[inline(never)]
     pub(crate) fn prepare_delete_queue<'a>(&self, name: &Name) -> Result<Change<'a>, Refused>
-        ensures decided { Decides (delete_queue_refusal (system_of self.now) name.now) result }
-        ensures ready { IfOk result (IsReady self.now) }
-        ensures made { IfOk result (λ prepared. (now : ℕ) (node : List ℕ) → outcome_of prepared now node (found now (system_of self.now)) ≡ queue_deleted (found now (system_of self.now)) name.now) }
+        ensures { Prepares (request.DeleteQueue name.now) self.now self.now result }
     {
         if let Some(refusal) = self.delete_queue_refusal(name) {
             return Err(Refused::By(refusal));

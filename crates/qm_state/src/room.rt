@@ -1,10 +1,11 @@
 // Room for the jobs that start behind a change.
-ghost use Rattle.std.specs.Prelude.{◌≡◌, ◌≤◌, ℕ, List, [], if◌then◌else◌, length, vec_capacity, IfOk};
+ghost use Rattle.std.specs.Prelude.{◌≡◌, ◌≤◌, [], if◌then◌else◌, length, vec_capacity, IfOk};
+ghost use Rattle.qm_kinds.specs.declared.limits.TheConstants.{QUEUES_LIMIT};
 ghost use Rattle.qm_model.specs.Fitting.{is_started};
 ghost use Rattle.qm_model.specs.Free.{places};
 ghost use Rattle.qm_sched.specs.Starts.{start_places};
 ghost use Rattle.qm_state.specs.Image.{system_of};
-ghost use Rattle.qm_state.specs.Preparing.{starts_behind};
+ghost use Rattle.qm_state.specs.Preparing.{StartAtMost};
 
 use crate::image::Image;
 use crate::prepared::Change;
@@ -28,7 +29,7 @@ fn start_places_of(queue: &Queue) -> u32
 
 // The places of the queues that are started.
 fn start_places(queues: &[Queue]) -> u32
-    requires { length queues.now ≤ 256 }
+    requires { length queues.now ≤ QUEUES_LIMIT }
     ensures { result ≡ start_places queues.now }
 {
     let mut places = 0u32;
@@ -43,8 +44,8 @@ impl Image {
     // are started bound them, and else the entries.
     #[tactic(auto, unfolding(crate::specs::Image::system_of))]
     fn most_starts(&self, change: &Change) -> usize
-        requires { length self.now.parts.queues ≤ 256 }
-        ensures { (now : ℕ) (node : List ℕ) → starts_behind change.now now node (system_of self.now) ≤ result }
+        requires { length self.now.parts.queues ≤ QUEUES_LIMIT }
+        ensures { StartAtMost result change.now (system_of self.now) }
     {
         starts_are_few();
         match change {
@@ -56,18 +57,11 @@ impl Image {
     /// Takes room for the jobs that start behind a change.
     #[tactic(auto, unfolding(crate::specs::Image::system_of))]
     pub(crate) fn reserve_starts(&mut self, change: &Change) -> Result<Vec<Start>, AllocError>
-        requires { length self.old.parts.queues ≤ 256 }
+        requires { length self.old.parts.queues ≤ QUEUES_LIMIT }
         ensures empty { IfOk result (λ started. started.items ≡ []) }
-        ensures room { IfOk result (λ started. (now : ℕ) (node : List ℕ) → starts_behind change.now now node (system_of self.old) ≤ vec_capacity started) }
-        ensures runs { IfOk result (λ _. (now : ℕ) (node : List ℕ) → starts_behind change.now now node (system_of self.old) ≤ self.new.parts.spare_runs) }
-        ensures rows { system_of self.new ≡ system_of self.old }
-        ensures spool { self.new.spool ≡ self.old.spool }
-        ensures entries { self.new.parts.entries ≡ self.old.parts.entries }
-        ensures spare_queues { self.new.parts.spare_queues ≡ self.old.parts.spare_queues }
-        ensures spare_forms { self.new.parts.spare_forms ≡ self.old.parts.spare_forms }
-        ensures spare_characteristics { self.new.parts.spare_characteristics ≡ self.old.parts.spare_characteristics }
-        ensures spare_entries { self.new.parts.spare_entries ≡ self.old.parts.spare_entries }
-        ensures next { self.new.next_entry ≡ self.old.next_entry }
+        ensures room { IfOk result (λ started. StartAtMost (vec_capacity started) change.now (system_of self.old)) }
+        ensures runs { IfOk result (λ _. StartAtMost self.new.parts.spare_runs change.now (system_of self.old)) }
+        ensures rest { self.new ≡ record self.old { parts = record self.old.parts { spare_runs = self.new.parts.spare_runs } } }
     {
         let most = self.most_starts(change);
         self.parts.reserve_runs(most)?;

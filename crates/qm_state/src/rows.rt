@@ -1,15 +1,13 @@
-// The image of a system's rows, and back.
-ghost use Rattle.std.specs.Prelude.{◌≡◌, IfOk, OnOk, [], ◌∷◌, ◌++◌, ◌<◌, ◌+◌, false, All, IfSome, IsSome};
-ghost use Rattle.std.specs.List.{list_any};
-ghost use Rattle.qm_entries.specs.Boxed.{contents};
+// The image of a system's rows.
+ghost use Rattle.std.specs.Prelude.{◌≡◌, IfOk, OnOk, [], ◌∷◌, ◌++◌, ◌<◌, All, IsSome};
+ghost use Rattle.qm_kinds.specs.declared.limits.TheConstants.{ENTRIES_LIMIT};
 ghost use Rattle.qm_model.specs.Consistent.{IsConsistent};
 ghost use Rattle.qm_model.specs.Find.{file_named};
-ghost use Rattle.qm_model.specs.Standing.{has_run};
-ghost use Rattle.qm_sched.specs.Mirror.{run_of_entry};
 ghost use Rattle.qm_sched.specs.Tables.{with_tables};
 ghost use Rattle.qm_spool.specs.Kept.{count_of};
-ghost use Rattle.qm_spool.specs.Counts.{CountsOf, IsCountedAs};
+ghost use Rattle.qm_spool.specs.Counts.{CountsOf};
 ghost use Rattle.qm_state.specs.Image.{system_of};
+ghost use Rattle.qm_state.specs.Restoring.{HasOwnRun, DifferInEntries, IsNamedOnceMore};
 
 use crate::due::first_due;
 use crate::image::Image;
@@ -51,23 +49,6 @@ fn copy_queues(alloc: Global, queues: &[Queue]) -> Result<Vec<Queue>, AllocError
     Ok(copies)
 }
 
-// Copies of what lies in boxes.
-fn copy_boxed<T: Copy>(alloc: Global, boxes: &[Box<T>]) -> Result<Vec<T>, AllocError>
-    ensures { IfOk result (λ copies. copies.items ≡ contents boxes.now) }
-{
-    let mut copies = Vec::new(alloc);
-    for boxed in boxes {
-        copies.push(**boxed)?;
-    }
-    Ok(copies)
-}
-
-fn copy_entries(alloc: Global, entries: &[Box<Entry>]) -> Result<Vec<Entry>, AllocError>
-    ensures { IfOk result (λ copies. copies.items ≡ contents entries.now) }
-{
-    copy_boxed(alloc, entries)
-}
-
 // The tables of a system without its entries.
 fn tables_of(alloc: Global, system: &System) -> Result<Parts, AllocError>
     requires { IsConsistent system.now }
@@ -86,13 +67,13 @@ fn tables_of(alloc: Global, system: &System) -> Result<Parts, AllocError>
 // Puts one entry more into tables, and counts that it names its file.
 fn restore_one(parts: &mut Parts, spool: &mut Spool, entry: &Entry) -> Result<(), AllocError>
     requires there { IsSome (file_named entry.now.file spool.old.files) }
-    requires few { count_of entry.now.file spool.old.counts < 65536 }
+    requires few { count_of entry.now.file spool.old.counts < ENTRIES_LIMIT }
     requires last { All (λ e. e.number < entry.now.number) parts.old.entries }
-    requires run { IfSome (run_of_entry entry.now) (λ r. (r.run < parts.old.next_run) × (list_any (has_run r.run) parts.old.entries ≡ false)) }
+    requires run { HasOwnRun parts.old entry.now }
     ensures entries { OnOk result (parts.new.entries ≡ parts.old.entries ++ entry.now ∷ []) }
-    ensures tables { parts.new ≡ record parts.old { entries = parts.new.entries; spare_entries = parts.new.spare_entries; spare_runs = parts.new.spare_runs } }
+    ensures tables { DifferInEntries parts.old parts.new }
     ensures files { spool.new ≡ record spool.old { counts = spool.new.counts } }
-    ensures counts { OnOk result (IsCountedAs entry.now.file (count_of entry.now.file spool.old.counts + 1) spool.old.counts spool.new.counts) }
+    ensures counts { OnOk result (IsNamedOnceMore entry.now.file spool.old.counts spool.new.counts) }
 {
     parts.reserve_entry()?;
     parts.reserve_runs(1)?;
@@ -144,27 +125,6 @@ impl Image {
             next_due,
             next_entry: next_number(system),
             last: system.last,
-        })
-    }
-
-    /// A copy of the rows.
-    #[tactic(auto, unfolding(crate::specs::Image::system_of))]
-    pub fn rows(&self) -> Result<System, AllocError>
-        ensures { IfOk result (λ rows. rows ≡ system_of self.now) }
-    {
-        let alloc = self.alloc;
-        let forms = self.parts.form_table();
-        Ok(System {
-            nodes: Seq::of(Vec::from_slice(alloc, self.parts.nodes())?),
-            may: Seq::of(Vec::from_slice(alloc, self.may.as_slice())?),
-            forms: Seq::of(Vec::from_slice(alloc, forms.forms())?),
-            characteristics: Seq::of(Vec::from_slice(alloc, forms.characteristics())?),
-            files: self.spool.files(alloc)?,
-            queues: Seq::of(copy_queues(alloc, self.parts.queues())?),
-            entries: Seq::of(copy_entries(alloc, self.parts.entries())?),
-            next_entry: self.next_entry,
-            next_run: self.parts.next_run(),
-            last: self.last,
         })
     }
 }

@@ -45,8 +45,8 @@ fn is_change_of_other_kind(kind: QueueKind, change: &QueueChange) -> bool
         || change.characteristics.is_some() && is_generic(kind)
 }
 
-// The form that is asked for isn't there.
-fn refused_form(forms: &FormTable, form: Option<NameOrNumber>) -> Option<Refusal>
+/// The form that is asked for isn't there.
+pub(crate) fn refused_form(forms: &FormTable, form: Option<NameOrNumber>) -> Option<Refusal>
     ensures { (s : System) → HasForms s forms.now → result ≡ option_and_then (refused_form s) form }
 {
     let wanted = form?;
@@ -93,8 +93,8 @@ fn refused_change_of(
     change_refusal(forms, queue?.kind, change)
 }
 
-// There is no queue of the name.
-fn refused_absent(queue: Option<&Queue>, name: &Name) -> Option<Refusal>
+/// There is no queue of the name.
+pub(crate) fn refused_absent(queue: Option<&Queue>, name: &Name) -> Option<Refusal>
     ensures { result ≡ refused_where (is_none (option_copied queue.entry)) (Refusal.NoSuchQueue name.now) }
 {
     refused_where(queue.is_none(), Refusal::NoSuchQueue { name: *name })

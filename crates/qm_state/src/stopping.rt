@@ -1,17 +1,15 @@
-// How queues are stopped and deleted, and jobs cut short. Nothing is changed here: each function says what becomes of a
-// queue or an entry, or why nothing does.
-ghost use Rattle.std.specs.Prelude.{◌≡◌, ℕ, find, Option};
+// How queues are stopped and deleted. Nothing is changed here: each function says what becomes of a queue, or why nothing
+// does.
+ghost use Rattle.std.specs.Prelude.{◌≡◌, find};
 ghost use Rattle.std.specs.List.{list_any};
-ghost use Rattle.std.specs.Option.{option_copied, option_map};
+ghost use Rattle.std.specs.Option.{option_map};
 ghost use Rattle.std.specs.Str.{bytes_eq};
 ghost use Rattle.qm_kinds.specs.declared.system.System.{System};
 ghost use Rattle.qm_model.specs.Queues.{refused_unless_stopped, runs_for, delete_queue_refusal};
 ghost use Rattle.qm_model.specs.Referring.{refused_by_queue};
 ghost use Rattle.qm_model.specs.States.{state_on_stop, state_when_idle};
-ghost use Rattle.qm_model.specs.Stopping.{job_to_abort, abort_refusal};
 
-use crate::kinds::is_generic;
-use qm_kinds::{Entry, Holder, Name, Queue, QueueState, Refusal, StopMode};
+use qm_kinds::{Holder, Name, Queue, QueueState, Refusal, StopMode};
 use qm_queues::QueueTable;
 
 /// The state of a queue after STOP/QUEUE, STOP/QUEUE/NEXT or STOP/QUEUE/RESET.
@@ -43,29 +41,6 @@ pub(crate) fn refused_unless_stopped(queue: &Queue) -> Option<Refusal>
     match queue.state {
         QueueState::Stopped => None,
         state => Some(Refusal::QueueNotStopped { state }),
-    }
-}
-
-/// Why no job of a queue can be cut short so. The job that is meant is the one of the number that is given, or the only one
-/// that runs there.
-pub(crate) fn abort_refusal(
-    queues: &QueueTable,
-    name: &Name,
-    meant: Option<&Entry>,
-    requeue: bool,
-) -> Option<Refusal>
-    ensures { (s : System) (number : Option ℕ) → s.queues ≡ queues.now.queues → job_to_abort s name.now number ≡ option_copied meant.entry → result ≡ abort_refusal s name.now number requeue }
-{
-    let Some(queue) = queues.get(name) else {
-        return Some(Refusal::NoSuchQueue { name: *name });
-    };
-    if is_generic(queue.kind) {
-        return Some(Refusal::WrongKind);
-    }
-    match meant {
-        None => Some(Refusal::NotRunning),
-        Some(entry) if requeue && !entry.restart => Some(Refusal::NotRestartable),
-        Some(_) => None,
     }
 }
 

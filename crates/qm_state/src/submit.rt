@@ -1,28 +1,29 @@
 // A job is submitted.
-ghost use Rattle.std.specs.Prelude.{◌≡◌, ◌<◌, ◌^◌, ℕ, List, [], ◌∷◌, is_none, is_some, false, IfOk, OnOk, Ok, IsSome, length};
-ghost use Rattle.std.specs.Option.{option_and_then, option_map_or};
+ghost use Rattle.std.specs.Prelude.{◌≡◌, ◌<◌, ◌^◌, ℕ, List, [], is_some, false, None, OnOk, length};
+ghost use Rattle.std.specs.Option.{option_copied, option_map_or};
 ghost use Rattle.qm_kinds.specs.Sizes.{blocks_of};
+ghost use Rattle.qm_kinds.specs.declared.request.Request.TheVariants as request;
 ghost use Rattle.qm_model.specs.Appending.{bytes_of};
 ghost use Rattle.qm_model.specs.Consistent.{IsConsistent};
-ghost use Rattle.qm_model.specs.Find.{queue_named, file_named};
+ghost use Rattle.qm_model.specs.Find.{file_named};
 ghost use Rattle.qm_model.specs.Kinds.{is_other_kind};
-ghost use Rattle.qm_model.specs.Outcome.{first_refusal, refused_where};
-ghost use Rattle.qm_model.specs.Submitting.{submit_refusal, has_bad_value, state_of, form_of, entry_of, submitted};
-ghost use Rattle.qm_model.specs.Wanted.{refused_form};
+ghost use Rattle.qm_model.specs.Outcome.{refused_where};
+ghost use Rattle.qm_model.specs.Replying.{replied};
+ghost use Rattle.qm_model.specs.Submitting.{submit_refusal, has_bad_value, state_of, form_of, entry_of};
+ghost use Rattle.qm_state.specs.Deciding.{Makes, PreparesAt};
 ghost use Rattle.qm_state.specs.Image.{system_of};
-ghost use Rattle.qm_state.specs.Preparing.{found, entered, outcome_of, IsNewEntry, IsReady};
-ghost use Rattle.qm_state.specs.Refusing.{Decides, KeepsRefused};
+ghost use Rattle.qm_state.specs.Preparing.{found, entered, IsNewEntry, IsReady};
 
 use crate::due::earliest;
 use crate::image::Image;
 use crate::kinds::is_other_kind;
-use crate::limits::ENTRIES_LIMIT;
 use crate::prepared::Change;
 use crate::refusals::{first_refusal, refused_where};
 use crate::refused::Refused;
+use crate::settings::{refused_absent, refused_form};
 use qm_kinds::{
-    Act, Entry, EntryState, FileName, Job, JobKind, Mark, Moment, Name, NameOrNumber, Refusal,
-    blocks, default_form,
+    Act, ENTRIES_LIMIT, Entry, EntryState, FileName, Job, JobKind, Mark, Moment, Name,
+    NameOrNumber, Queue, Refusal, blocks, default_form,
 };
 use std::alloc::AllocError;
 
@@ -57,31 +58,14 @@ fn submitted(entry: &Entry) -> Act
     }
 }
 
+// The queue takes jobs of the other kind.
+fn refused_kind(kind: JobKind, queue: Option<&Queue>) -> Option<Refusal>
+    ensures { result ≡ refused_where (option_map_or (is_other_kind kind) (option_copied queue.entry) false) Refusal.WrongKind }
+{
+    refused_where(is_other_kind(kind, queue?), Refusal::WrongKind)
+}
+
 impl Image {
-    // The queue isn't there, or takes jobs of the other kind.
-    #[tactic(auto, unfolding(crate::specs::Image::system_of))]
-    fn refused_queue(&self, kind: JobKind, name: &Name) -> Option<Refusal>
-        ensures { result ≡ first_refusal (refused_where (is_none (queue_named name.now (system_of self.now).queues)) (Refusal.NoSuchQueue name.now) ∷ refused_where (option_map_or (is_other_kind kind) (queue_named name.now (system_of self.now).queues) false) Refusal.WrongKind ∷ []) }
-    {
-        match self.parts.queue(name) {
-            None => Some(Refusal::NoSuchQueue { name: *name }),
-            Some(queue) if is_other_kind(kind, queue) => Some(Refusal::WrongKind),
-            Some(_) => None,
-        }
-    }
-
-    // The form that is asked for isn't there.
-    #[tactic(auto, unfolding(crate::specs::Image::system_of))]
-    fn refused_form(&self, form: Option<NameOrNumber>) -> Option<Refusal>
-        ensures { result ≡ option_and_then (refused_form (system_of self.now)) form }
-    {
-        let wanted = form?;
-        match self.parts.form_table().form(&wanted) {
-            None => Some(Refusal::NoSuchForm { wanted }),
-            Some(_) => None,
-        }
-    }
-
     // The form of a print job: DEFAULT where none is asked for.
     #[tactic(auto, unfolding(crate::specs::Image::system_of))]
     fn form_of(&self, kind: JobKind, form: Option<NameOrNumber>) -> Option<Name>
@@ -119,11 +103,13 @@ impl Image {
     fn submit_refusal(&self, job: &Job) -> Option<Refusal>
         ensures { result ≡ submit_refusal (system_of self.now) job.now }
     {
+        let queue = self.parts.queue(&job.queue);
         let refusals = [
-            self.refused_queue(job.kind, &job.queue),
+            refused_absent(queue, &job.queue),
+            refused_kind(job.kind, queue),
             refused_where(!self.has_file(&job.file), Refusal::NoSuchFile),
             refused_where(has_bad_value(job), Refusal::BadValue),
-            self.refused_form(job.form),
+            refused_form(self.parts.form_table(), job.form),
             self.parts
                 .form_table()
                 .refused_characteristics(job.characteristics.as_slice()),
@@ -192,7 +178,7 @@ impl Image {
         requires accepted { submit_refusal (system_of self.now) job.now ≡ None }
         requires room { 0 < self.now.parts.spare_entries }
         ensures ready { IsReady self.now result }
-        ensures made { (node : List ℕ) → outcome_of result now node (found now (system_of self.now)) ≡ submitted (found now (system_of self.now)) now job.now }
+        ensures made { (node : List ℕ) → Makes now node (request.Submit job.now) (found now (system_of self.now)) result }
     {
         let _number = self.next_number();
         let mark = Mark::new(&[]).unwrap();
@@ -208,11 +194,7 @@ impl Image {
         now: Moment,
         job: &Job,
     ) -> Result<Change<'a>, Refused>
-        ensures rows { system_of self.new ≡ system_of self.old }
-        ensures decided { Decides (submit_refusal (system_of self.old) job.now) result }
-        ensures untouched { KeepsRefused self.old self.new result }
-        ensures ready { IfOk result (IsReady self.new) }
-        ensures made { IfOk result (λ change. (node : List ℕ) → outcome_of change now node (found now (system_of self.old)) ≡ submitted (found now (system_of self.old)) now job.now) }
+        ensures { (node : List ℕ) → PreparesAt now node (request.Submit job.now) self.old self.new result }
     {
         if let Some(refusal) = self.submit_refusal(job) {
             return Err(Refused::By(refusal));
@@ -229,7 +211,7 @@ impl Image {
     pub(crate) fn enter(&mut self, entry: Entry) -> Act
         requires sound { IsConsistent (system_of self.old) }
         requires new { IsNewEntry self.old entry }
-        ensures done { entered (system_of self.old) entry ≡ record { system = system_of self.new; reply = record { act = result; started = [] } } }
+        ensures done { entered (system_of self.old) entry ≡ replied (system_of self.new) result }
         ensures room { self.new.parts.spare_runs ≡ self.old.parts.spare_runs }
     {
         let act = submitted(&entry);

@@ -1,20 +1,21 @@
 use Rattle.std.proofs.Common.{◌≡◌, ◌≤◌, length, List, ap, sym, subst, arith}
 use Rattle.qm_kinds.specs.declared.entry.Entry.{Entry}
+use Rattle.qm_model.specs.Consistent.{IsConsistent}
 use Rattle.qm_sched.specs.Tables.{Tables}
 use Rattle.qm_spool.specs.Counts.{CountsOf}
-use Rattle.qm_state.proofs.Committed.{sound_found, ready_found, few_starts, is_done, settled_counts, settled_waits}
+use Rattle.qm_state.proofs.Ready.{ready_found}
+use Rattle.qm_state.proofs.Committed.{few_starts, is_done, settled_counts, settled_waits}
 use Rattle.qm_state.proofs.Entries.{Waits}
 use Rattle.qm_state.specs.Image.{system_of}
 use Rattle.qm_state.specs.Preparing.{made}
 use Rattle.qm_state.proofs.image.Image.commit.Goals as goal
 
 pub make-act-requires-clause-sound : goal.make-act-requires-clause-sound
-make-act-requires-clause-sound c =
-    sound_found c.due_keeps_consistent.ensures c.args.prepared.at (system_of c.args.self.now) (system_of c.reach.new.self) c.reach.ensures.rows c.requires.sound
+make-act-requires-clause-sound c = subst IsConsistent (sym c.reach.ensures.rows) (c.due_keeps_consistent.ensures.found (system_of c.args.self.now) c.args.prepared.at c.requires.sound)
 
 pub make-act-requires-clause-ready : goal.make-act-requires-clause-ready
 make-act-requires-clause-ready c =
-    ready_found c.args.prepared.at c.args.self.now c.reach.new.self c.reach.ensures.rows c.reach.ensures.rooms c.reach.ensures.queues c.reach.ensures.forms c.reach.ensures.characteristics c.reach.ensures.entries c.args.prepared.change c.requires.prepared.ready
+    ready_found c.args.prepared.at c.args.self.now c.reach.new.self c.reach.ensures.rows c.reach.ensures.files c.reach.ensures.tables c.args.prepared.change c.requires.prepared.ready
 
 pub settle-requires-clause-room : goal.settle-requires-clause-room
 settle-requires-clause-room c =
@@ -24,7 +25,7 @@ settle-requires-clause-room c =
 pub settle-requires-clause-runs : goal.settle-requires-clause-runs
 settle-requires-clause-runs c =
     let room : length (made c.args.prepared (system_of c.args.self.now)).reply.started ≤ c.stop_idle.new.self.spare_runs =
-    omega (arith, c.requires.prepared.run_room, c.reach.ensures.runs, c.make-act.ensures.room, ap (λ (t : Tables). t.spare_runs) c.stop_idle.ensures) in
+    omega (arith, c.requires.prepared.run_room, ap (λ (t : Tables). t.spare_runs) c.reach.ensures.tables, c.make-act.ensures.room, ap (λ (t : Tables). t.spare_runs) c.stop_idle.ensures) in
     few_starts c.args.prepared c.args.self.now c.reach.new.self c.make-act.new.self c.make-act.result c.stop_idle.new.self c.reach.ensures.rows c.make-act.ensures.done c.stop_idle.ensures
     c.stop_idle.new.self.spare_runs room
 

@@ -5,9 +5,10 @@ use Rattle.qm_state.specs.Image.{system_of}
 use Rattle.qm_state.proofs.Ended.{end_left, end_reported}
 use Rattle.qm_state.proofs.image.Image.end_run.Goals as goal
 
-pub leave-requires : goal.leave-requires
-leave-requires c =
-    end_left c.queue_table.result.now.queues c.args.now c.args.status (λ (e : Entry). has_run c.args.run e && is_run_on c.args.node.now e) c.in-Some.entry.now c.args.self.now.parts.entries c.after_report-left.result c.see_order.ensures (sym c.in-Some.ensures) c.after_report-left.ensures
+pub leave-requires-clause-left : goal.leave-requires-clause-left
+unfolding system_of
+leave-requires-clause-left c =
+    end_left c.queue_table.result.now.queues c.args.now c.args.status (λ (e : Entry). has_run c.args.run e && is_run_on c.args.node.now e) c.in-Some.entry.now c.args.self.now.parts.entries c.after_report-left.result c.requires.entries.order (sym c.in-Some.ensures) c.after_report-left.ensures
 
 pub returns-clause-done : goal.returns-clause-done
 unfolding system_of

@@ -1,10 +1,9 @@
-use Rattle.std.proofs.Common.{◌∙◌, length, ap, sym, subst, arith}
+use Rattle.std.proofs.Common.{◌∙◌, ap, sym, subst, arith}
 use Rattle.std.specs.Prelude.{IsSome}
 use Rattle.qm_kinds.specs.declared.entry.Entry.{Entry}
 use Rattle.qm_kinds.specs.declared.file.FileName.{FileName}
 use Rattle.qm_model.specs.Find.{file_named}
 use Rattle.qm_model.specs.JobStates.{run_of}
-use Rattle.qm_sched.specs.Tables.{Tables}
 use Rattle.qm_state.specs.Image.{system_of}
 use Rattle.qm_state.proofs.Accepting.{accepted, number_left, waits_at_first}
 use Rattle.qm_state.proofs.image.Image.new_entry.Goals as goal

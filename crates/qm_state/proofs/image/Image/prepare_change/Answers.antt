@@ -1,23 +1,55 @@
-use Rattle.std.proofs.Common.{◌≡◌, ◌∙◌, ℕ, List, IfOk, Result, Ok, Err, ap, sym}
-use Rattle.qm_model.specs.Applied.{change_of}
-use Rattle.qm_model.specs.Merging.{merged}
-use Rattle.qm_state.specs.declared.prepared.Change.{Change}
-use Rattle.qm_state.specs.declared.refused.Refused.{Refused}
-use Rattle.qm_state.specs.Image.{system_of}
-use Rattle.qm_state.specs.Preparing.{found, outcome_of}
+use Rattle.std.proofs.Common.{◌∙◌, ap, sym}
+use Rattle.qm_kinds.specs.declared.request.Request.TheVariants.{Append}
+use Rattle.qm_state.proofs.Handing.{handed}
 use Rattle.qm_state.proofs.image.Image.prepare_change.Goals as goal
 
-weaker : (P Q : Change → Type 0) → ((x : Change) → P x → Q x) → (o : Result Change Refused) → IfOk o P → IfOk o Q
-weaker P Q gives (Ok x) h = gives x h
-weaker P Q gives (Err e) h = tt
+pub returns-in-Append : goal.returns-in-Append
+returns-in-Append c = handed (ap (Append c.in-Append.file) c.as_slice.ensures ∙ sym c.in-Append.is) (c.prepare_append.ensures c.args.now c.args.node.now)
 
-pub returns-in-Merge-clause-made : goal.returns-in-Merge-clause-made
-returns-in-Merge-clause-made c =
-    let s = system_of c.args.self.now in
-    let now = c.args.now in
-    let node = c.args.node.now in
-    weaker
-    (λ (change : Change). (at : ℕ) (name : List ℕ) → outcome_of change at name (found at s) ≡ merged (found at s) c.in-Merge.to c.in-Merge.from)
-    (λ (change : Change). outcome_of change now node (found now s) ≡ change_of (found now s) now node c.args.request.now)
-    (λ change made. made now node ∙ ap (change_of (found now s) now node) (sym c.in-Merge.is))
-    c.prepare_merge.result c.prepare_merge.ensures.made
+pub returns-in-Fill : goal.returns-in-Fill
+returns-in-Fill c = handed (sym c.in-Fill.is) (c.prepare_fill.ensures c.args.now c.args.node.now)
+
+pub returns-in-Drop : goal.returns-in-Drop
+returns-in-Drop c = handed (sym c.in-Drop.is) (c.prepare_drop.ensures c.args.now c.args.node.now)
+
+pub returns-in-DefineForm : goal.returns-in-DefineForm
+returns-in-DefineForm c = handed (sym c.in-DefineForm.is) (c.prepare_define_form.ensures c.args.now c.args.node.now)
+
+pub returns-in-DeleteForm : goal.returns-in-DeleteForm
+returns-in-DeleteForm c = handed (sym c.in-DeleteForm.is) (c.prepare_delete_form.ensures c.args.now c.args.node.now)
+
+pub returns-in-DefineCharacteristic : goal.returns-in-DefineCharacteristic
+returns-in-DefineCharacteristic c = handed (sym c.in-DefineCharacteristic.is) (c.prepare_define_characteristic.ensures c.args.now c.args.node.now)
+
+pub returns-in-DeleteCharacteristic : goal.returns-in-DeleteCharacteristic
+returns-in-DeleteCharacteristic c = handed (sym c.in-DeleteCharacteristic.is) (c.prepare_delete_characteristic.ensures c.args.now c.args.node.now)
+
+pub returns-in-InitializeQueue : goal.returns-in-InitializeQueue
+returns-in-InitializeQueue c = handed (sym c.in-InitializeQueue.is) (c.prepare_initialize.ensures c.args.now)
+
+pub returns-in-SetQueue : goal.returns-in-SetQueue
+returns-in-SetQueue c = handed (sym c.in-SetQueue.is) (c.prepare_set.ensures c.args.now c.args.node.now)
+
+pub returns-in-StartQueue : goal.returns-in-StartQueue
+returns-in-StartQueue c = handed (sym c.in-StartQueue.is) (c.prepare_start.ensures c.args.now c.args.node.now)
+
+pub returns-in-StopQueue : goal.returns-in-StopQueue
+returns-in-StopQueue c = handed (sym c.in-StopQueue.is) (c.prepare_stop.ensures c.args.now c.args.node.now)
+
+pub returns-in-AbortJob : goal.returns-in-AbortJob
+returns-in-AbortJob c = handed (sym c.in-AbortJob.is) (c.prepare_abort.ensures c.args.now c.args.node.now)
+
+pub returns-in-DeleteQueue : goal.returns-in-DeleteQueue
+returns-in-DeleteQueue c = handed (sym c.in-DeleteQueue.is) (c.prepare_delete_queue.ensures c.args.now c.args.node.now)
+
+pub returns-in-Merge : goal.returns-in-Merge
+returns-in-Merge c = handed (sym c.in-Merge.is) (c.prepare_merge.ensures c.args.now c.args.node.now)
+
+pub returns-in-Submit : goal.returns-in-Submit
+returns-in-Submit c = handed (sym c.in-Submit.is) (c.prepare_submit.ensures c.args.node.now)
+
+pub returns-in-DeleteEntry : goal.returns-in-DeleteEntry
+returns-in-DeleteEntry c = handed (sym c.in-DeleteEntry.is) (c.prepare_delete_entry.ensures c.args.now c.args.node.now)
+
+pub returns-in-Done : goal.returns-in-Done
+returns-in-Done c = handed (sym c.in-Done.is) (c.prepare_end.ensures c.args.now)

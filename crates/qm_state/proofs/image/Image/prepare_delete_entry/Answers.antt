@@ -10,18 +10,26 @@ use Rattle.qm_sched.proofs.Ordered.{once}
 use Rattle.qm_state.proofs.Found.{executing_found}
 use Rattle.qm_state.proofs.image.Image.prepare_delete_entry.Goals as goal
 
-pub returns-then-is_executing-clause-made : goal.returns-then-is_executing-clause-made
+pub returns-then-is_executing : goal.returns-then-is_executing
 unfolding system_of
-returns-then-is_executing-clause-made c now node =
+returns-then-is_executing c now node =
     let s = found now (system_of c.args.self.now) in
     let had = executing_found c.args.number now c.args.self.now.parts.entries (once (λ (e : Entry). e.number) c.args.number c.args.self.now.parts.entries c.entry.ensures.in_order)
     ∙ ap (λ o. option_map_or is_executing o false) (sym c.entry.ensures.found ∙ ap option_copied c.in-Some.is) ∙ sym (c.is_executing.ensures c.in-Some.entry.now refl) ∙ c.if-is_executing.true in
-    λ t. if sym had t then entry_aborting s Remove c.args.number else entry_removed s c.args.number
+    record {
+      decided = rw (← c.entry.ensures.found, c.in-Some.is) refl;
+      untouched = tt;
+      takes = record { rows = refl; ready = tt; made = λ t. if sym had t then entry_aborting s Remove c.args.number else entry_removed s c.args.number };
+    }
 
-pub returns-clause-made : goal.returns-clause-made
+pub returns : goal.returns
 unfolding system_of
-returns-clause-made c now node =
+returns c now node =
     let s = found now (system_of c.args.self.now) in
     let had = executing_found c.args.number now c.args.self.now.parts.entries (once (λ (e : Entry). e.number) c.args.number c.args.self.now.parts.entries c.entry.ensures.in_order)
     ∙ ap (λ o. option_map_or is_executing o false) (sym c.entry.ensures.found ∙ ap option_copied c.in-Some.is) ∙ sym (c.is_executing.ensures c.in-Some.entry.now refl) ∙ c.if-is_executing.false in
-    λ t. if sym had t then entry_aborting s Remove c.args.number else entry_removed s c.args.number
+    record {
+      decided = rw (← c.entry.ensures.found, c.in-Some.is) refl;
+      untouched = tt;
+      takes = record { rows = refl; ready = tt; made = λ t. if sym had t then entry_aborting s Remove c.args.number else entry_removed s c.args.number };
+    }

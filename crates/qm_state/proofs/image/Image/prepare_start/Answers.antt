@@ -1,4 +1,4 @@
-use Rattle.std.proofs.Common.{sym}
+use Rattle.std.proofs.Common.{◌∙◌, refl, sym}
 use Rattle.qm_kinds.specs.declared.queue.Queue.{Queue}
 use Rattle.qm_kinds.specs.declared.queue.QueueState.TheVariants.{Started}
 use Rattle.qm_model.specs.Replying.{replied_with_queue}
@@ -7,9 +7,17 @@ use Rattle.qm_state.specs.Image.{system_of}
 use Rattle.qm_state.specs.Preparing.{found}
 use Rattle.qm_state.proofs.image.Image.prepare_start.Goals as goal
 
-pub returns-clause-made : goal.returns-clause-made
+pub returns : goal.returns
 unfolding system_of
-returns-clause-made c now node =
+returns c now node =
     let s = found now (system_of c.args.self.now) in
     let same = c.settings_of.ensures (system_of c.args.self.now) (record { forms_are = sym c.form_table.ensures.forms; characteristics_are = sym c.form_table.ensures.characteristics }) in
-    λ t. replied_with_queue (record s { queues = with_queue c.args.name.now (λ (q : Queue). record (same q t) { state = Started }) s.queues }) c.args.name.now
+    record {
+      decided = sym c.set_queue_refusal.ensures ∙ c.in_default.is;
+      untouched = tt;
+      takes = record {
+        rows = refl;
+        ready = tt;
+        made = λ t. replied_with_queue (record s { queues = with_queue c.args.name.now (λ (q : Queue). record (same q t) { state = Started }) s.queues }) c.args.name.now;
+      };
+    }

@@ -1,0 +1,110 @@
+-- A change that can be made on an image can still be made on one that has lost entries, and no more.
+use Rattle.std.proofs.Common.{◌≡◌, ◌∙◌, ℕ, ◌≤◌, ◌<◌, false, not, List, length, filter, find, map, None, refl, sym, ap, subst, arith}
+use Rattle.std.specs.Option.{IsSome}
+use Rattle.std.proofs.lemmas.List.{length-map}
+use Rattle.std.proofs.lemmas.List.Filters.{length-filter_both}
+use Rattle.qm_kinds.specs.declared.entry.Entry.{Entry}
+use Rattle.qm_kinds.specs.declared.file.FileName.{FileName}
+use Rattle.qm_kinds.specs.declared.system.System.{System}
+use Rattle.qm_model.specs.Appending.{is_spool_full}
+use Rattle.qm_model.specs.Characteristics.{is_characteristic_taken}
+use Rattle.qm_model.specs.Due.{entry_at, is_over}
+use Rattle.qm_model.specs.Find.{file_named, same_file_name}
+use Rattle.qm_model.specs.Forms.{is_form_taken}
+use Rattle.qm_model.specs.Queues.{runs_for}
+use Rattle.qm_sched.specs.Tables.{Tables}
+use Rattle.qm_spool.specs.Kept.{Kept, HasRoomFor}
+use Rattle.qm_state.proofs.Reached.{no_run_found, unnamed_found}
+use Rattle.qm_state.specs.declared.image.Image.{Image}
+use Rattle.qm_state.specs.declared.prepared.Change.{Change}
+use Rattle.qm_state.specs.declared.prepared.Change.TheVariants.{NewFile, MoreBytes, MoreLines, RemoveFile, NewForm, RemoveForm, NewCharacteristic, RemoveCharacteristic, NewEntry, PutQueue, SetQueue, StopQueue, CutShort, RemoveQueue, Merge, RemoveEntry, EndRun}
+use Rattle.qm_state.specs.Image.{system_of}
+use Rattle.qm_state.specs.Preparing.{found, IsReady}
+
+-- the files, the tables and the next number stay, but for how often files are named, and for entries, none of which comes
+record IsLeft (old new : Image) : Type 0 where
+  files : new.spool ≡ record old.spool { counts = new.spool.counts }
+  tables : new.parts ≡ record old.parts { entries = new.parts.entries; spare_runs = new.parts.spare_runs }
+  next : old.next_entry ≡ new.next_entry
+  fewer : length new.parts.entries ≤ length old.parts.entries
+  unnamed : (name : FileName) → find (λ e. same_file_name e.file name) old.parts.entries ≡ None → find (λ e. same_file_name e.file name) new.parts.entries ≡ None
+  without_run : (name : List ℕ) → find (runs_for name) old.parts.entries ≡ None → find (runs_for name) new.parts.entries ≡ None
+
+module _ (old new : Image) (left : IsLeft old new) where
+  of_files : (P : Kept → Type 0) → P (record old.spool { counts = new.spool.counts }) → P new.spool
+  of_files P h = subst P (sym left.files) h
+
+  of_tables : (P : Tables → Type 0) → P (record old.parts { entries = new.parts.entries; spare_runs = new.parts.spare_runs }) → P new.parts
+  of_tables P h = subst P (sym left.tables) h
+
+  room_stays : (name : FileName) (bytes : List ℕ) → HasRoomFor old.spool name bytes → HasRoomFor new.spool name bytes
+  room_stays name bytes h = of_files (λ k. HasRoomFor k name bytes) (record { there = h.there; room = h.room; fits = h.fits })
+
+  ready_left : (change : Change) → IsReady old change → IsReady new change
+  ready_left (NewFile name bytes) h = record {
+    room = of_files (λ k. 0 < k.spare) h.room;
+    absent = of_files (λ k. file_named name k.files ≡ None) h.absent;
+    fits = of_files (λ k. is_spool_full name (length bytes.items) k.files ≡ false) h.fits;
+  }
+  ready_left (MoreBytes name bytes) h = room_stays name bytes.now h
+  ready_left (MoreLines name bytes) h = room_stays name bytes.items h
+  ready_left (RemoveFile name) h = record { there = of_files (λ k. IsSome (file_named name k.files)) h.there; unnamed = left.unnamed name h.unnamed }
+  ready_left (NewForm form) h = record { room = of_tables (λ t. 0 < t.spare_forms) h.room; free = of_tables (λ t. is_form_taken t.forms form ≡ false) h.free }
+  ready_left (RemoveForm name) h = tt
+  ready_left (NewCharacteristic characteristic) h = record {
+    room = of_tables (λ t. 0 < t.spare_characteristics) h.room;
+    small = h.small;
+    free = of_tables (λ t. is_characteristic_taken t.characteristics characteristic ≡ false) h.free;
+  }
+  ready_left (RemoveCharacteristic name) h = tt
+  ready_left (NewEntry entry) h = record {
+    number = h.number ∙ left.next;
+    idle = h.idle;
+    next = omega (arith, h.next, left.next);
+    few = omega (arith, h.few, left.fewer);
+    room = of_tables (λ t. 0 < t.spare_entries) h.room;
+    file = of_files (λ k. IsSome (file_named entry.file k.files)) h.file;
+  }
+  ready_left (PutQueue queue) h = of_tables (λ t. 0 < t.spare_queues) h
+  ready_left (SetQueue name settings state) h = tt
+  ready_left (StopQueue name how) h = tt
+  ready_left (CutShort entry fate) h = tt
+  ready_left (RemoveQueue name) h = left.without_run name h
+  ready_left (Merge to from) h = tt
+  ready_left (RemoveEntry entry) h = tt
+  ready_left (EndRun run status) h = tt
+
+-- room for runs alone
+pub ready_with_runs : (old new : Image) (n : ℕ) → new ≡ record old { parts = record old.parts { spare_runs = n } } → (change : Change) → IsReady old change → IsReady new change
+ready_with_runs old new n is change h =
+    subst (λ (i : Image). IsReady i change) (sym is) (ready_left old (record old { parts = record old.parts { spare_runs = n } })
+    (record { files = refl; tables = refl; next = refl; fewer = omega arith; unnamed = λ name none. none; without_run = λ name none. none }) change h)
+
+-- what the moment finds
+module _ (now : ℕ) (old new : Image) (rows : system_of new ≡ found now (system_of old)) (files : new.spool ≡ record old.spool { counts = new.spool.counts })
+    (tables : new.parts ≡ record old.parts { entries = new.parts.entries }) where
+  entries_are : new.parts.entries ≡ map (entry_at now) (filter (λ e. not (is_over now e.state)) old.parts.entries)
+  unfolding system_of
+  entries_are = ap (λ (s : System). s.entries) rows
+
+  same_next : old.next_entry ≡ new.next_entry
+  unfolding system_of
+  same_next = sym (ap (λ (s : System). s.next_entry) rows)
+
+  no_more : length new.parts.entries ≤ length old.parts.entries
+  no_more = omega (
+    arith,
+    ap length entries_are,
+    length-map (filter (λ (e : Entry). not (is_over now e.state)) old.parts.entries) (entry_at now),
+    length-filter_both (λ (e : Entry). is_over now e.state) (λ (e : Entry). not (is_over now e.state)) (λ e. refl) old.parts.entries,
+  )
+
+  pub ready_found : (change : Change) → IsReady old change → IsReady new change
+  ready_found = ready_left old new (record {
+    files = files;
+    tables = tables ∙ ap (λ n. record old.parts { entries = new.parts.entries; spare_runs = n }) (sym (ap (λ (t : Tables). t.spare_runs) tables));
+    next = same_next;
+    fewer = no_more;
+    unnamed = λ name none. subst (λ (es : List Entry). find (λ e. same_file_name e.file name) es ≡ None) (sym entries_are) (unnamed_found name now old.parts.entries none);
+    without_run = λ name none. subst (λ (es : List Entry). find (runs_for name) es ≡ None) (sym entries_are) (no_run_found name now old.parts.entries none);
+  })

@@ -1,0 +1,22 @@
+-- How the entries of a system come into its tables, one by one.
+use Rattle.std.specs.Prelude.{◌≡◌, ◌<◌, ◌+◌, false, List, IfSome}
+use Rattle.std.specs.List.{list_any}
+use Rattle.qm_kinds.specs.declared.entry.Entry.{Entry}
+use Rattle.qm_kinds.specs.declared.file.FileName.{FileName}
+use Rattle.qm_model.specs.Standing.{has_run}
+use Rattle.qm_sched.specs.Mirror.{run_of_entry}
+use Rattle.qm_sched.specs.Tables.{Tables}
+use Rattle.qm_spool.specs.Counts.{IsCountedAs}
+use Rattle.qm_spool.specs.Kept.{Counted, count_of}
+
+-- the run that the entry may have has a number that was given, and no entry of the tables has it
+abbrev pub HasOwnRun : Tables → Entry → Type 0
+HasOwnRun tables e = IfSome (run_of_entry e) (λ r. (r.run < tables.next_run) × (list_any (has_run r.run) tables.entries ≡ false))
+
+-- the tables are the same but for their entries, and the room for entries and runs
+abbrev pub DifferInEntries : Tables → Tables → Type 0
+DifferInEntries old new = new ≡ record old { entries = new.entries; spare_entries = new.spare_entries; spare_runs = new.spare_runs }
+
+-- it is counted that one entry more names the file
+abbrev pub IsNamedOnceMore : FileName → List Counted → List Counted → Type 0
+IsNamedOnceMore name old new = IsCountedAs name (count_of name old + 1) old new
