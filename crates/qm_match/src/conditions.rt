@@ -1,22 +1,20 @@
 // The tests by which a queue can start a job, each by itself.
-ghost use Rattle.std.specs.Prelude.{◌≡◌, false, not, ◌&&◌, ◌||◌};
-ghost use Rattle.std.specs.Option.{option_map_or};
-ghost use Rattle.std.specs.Str.{bytes_eq};
-ghost use Rattle.qm_model.specs.Fitting.{is_started, is_of_kind, passes_on_to, has_characteristics, has_size};
+ghost use Rattle.std.specs.Prelude.{◌≡◌, ◌&&◌};
+ghost use Rattle.qm_model.specs.Fitting.{is_started, is_of_kind, passes_on_to, is_same_stock, has_characteristics, has_size};
 ghost use Rattle.qm_model.specs.JobStates.{is_pending};
 ghost use Rattle.qm_model.specs.Kinds.{is_generic, is_print};
 
 use qm_kinds::{Entry, EntryState, JobKind, Name, Queue, QueueKind, QueueState};
 
-/// Whether a job waits for nothing but its start.
-pub(crate) fn is_pending(state: &EntryState) -> bool
+// Whether a job waits for nothing but its start.
+fn is_pending(state: &EntryState) -> bool
     ensures { result ≡ is_pending state.now }
 {
     matches!(state, EntryState::Pending)
 }
 
-/// Whether a queue is an execution queue for jobs of this one's kind.
-pub(crate) fn is_of_kind(entry: &Entry, queue: &Queue) -> bool
+// Whether a queue is an execution queue for jobs of this one's kind.
+fn is_of_kind(entry: &Entry, queue: &Queue) -> bool
     ensures { result ≡ is_of_kind entry.now queue.now }
 {
     matches!(
@@ -25,8 +23,8 @@ pub(crate) fn is_of_kind(entry: &Entry, queue: &Queue) -> bool
     )
 }
 
-/// Whether a queue in this state starts jobs.
-pub(crate) fn is_started(state: QueueState) -> bool
+// Whether a queue in this state starts jobs.
+fn is_started(state: QueueState) -> bool
     ensures { result ≡ is_started state }
 {
     matches!(state, QueueState::Started)
@@ -38,8 +36,8 @@ fn is_generic(kind: QueueKind) -> bool
     matches!(kind, QueueKind::GenericBatch | QueueKind::GenericPrint)
 }
 
-// Whether a queue is a generic one that is started and names the queue of this name.
-fn passes_on_to(generic: &Queue, name: &Name) -> bool
+/// Whether a queue is a generic one that is started and names the queue of this name.
+pub fn passes_on_to(generic: &Queue, name: &Name) -> bool
     ensures { result ≡ passes_on_to name.now generic.now }
 {
     is_generic(generic.kind)
@@ -47,51 +45,44 @@ fn passes_on_to(generic: &Queue, name: &Name) -> bool
         && generic.targets.as_slice().contains(name)
 }
 
-/// Whether the jobs of a home reach a queue: it is their home, or is named by it.
-pub(crate) fn is_reached(entry: &Entry, home: &Queue, queue: &Queue) -> bool
-    ensures { result ≡ (bytes_eq entry.now.home queue.now.name || passes_on_to queue.now.name home.now) }
-{
-    entry.home == queue.name || passes_on_to(home, &queue.name)
-}
-
-/// Whether a queue has each characteristic that a job asks for.
-pub(crate) fn has_characteristics(entry: &Entry, queue: &Queue) -> bool
+// Whether a queue has each characteristic that a job asks for.
+fn has_characteristics(entry: &Entry, queue: &Queue) -> bool
     ensures { result ≡ has_characteristics entry.now queue.now }
 {
     entry.characteristics.is_subset(queue.characteristics)
 }
 
-/// Whether a job waits for nothing but its start, and suits a queue by what the two hold alone: the kind of job, and the
-/// characteristics that it asks for. So much is known before another row is looked for. It takes no memory.
-pub fn suits(entry: &Entry, queue: &Queue) -> bool
-    ensures { result ≡ (is_pending entry.now.state && is_of_kind entry.now queue.now && has_characteristics entry.now queue.now) }
-{
-    is_pending(&entry.state) && is_of_kind(entry, queue) && has_characteristics(entry, queue)
-}
-
-/// Whether a job prints, so that stock and size count.
-pub(crate) fn is_print(kind: JobKind) -> bool
+// Whether a job prints, so that its size counts.
+fn is_print(kind: JobKind) -> bool
     ensures { result ≡ is_print kind }
 {
     matches!(kind, JobKind::Print)
 }
 
-/// Whether a job's stock is there, and the one that is mounted.
-pub(crate) fn has_stock(entry: &Entry, stocks: Option<(Name, Name)>) -> bool
-    ensures { result ≡ (not (is_print entry.now.kind) || option_map_or (λ pair. bytes_eq pair.0 pair.1) stocks false) }
+/// Whether both stocks are there and the same.
+pub fn is_same_stock(wanted: &Option<Name>, mounted: &Option<Name>) -> bool
+    ensures { result ≡ is_same_stock wanted.now mounted.now }
 {
-    !is_print(entry.kind) || is_same_stock(stocks)
+    match (wanted, mounted) {
+        (Some(wanted), Some(mounted)) => wanted == mounted,
+        _ => false,
+    }
 }
 
-fn is_same_stock(stocks: Option<(Name, Name)>) -> bool
-    ensures { result ≡ option_map_or (λ pair. bytes_eq pair.0 pair.1) stocks false }
-{
-    stocks.is_some_and(|(wanted, mounted)| wanted == mounted)
-}
-
-/// Whether a print job's size lies within the queue's limits, both ends included.
-pub(crate) fn has_size(entry: &Entry, queue: &Queue) -> bool
+// Whether a print job's size lies within the queue's limits, both ends included.
+fn has_size(entry: &Entry, queue: &Queue) -> bool
     ensures { result ≡ has_size entry.now queue.now }
 {
     !is_print(entry.kind) || (queue.lower <= entry.size && entry.size <= queue.upper)
+}
+
+/// Whether a job waits for nothing but its start, and suits a queue by what the two hold alone: the kind of job, the
+/// characteristics that it asks for, and its size. So much is known before another row is looked for. It takes no memory.
+pub fn suits(entry: &Entry, queue: &Queue) -> bool
+    ensures { result ≡ (is_pending entry.now.state && is_of_kind entry.now queue.now && has_characteristics entry.now queue.now && has_size entry.now queue.now) }
+{
+    is_pending(&entry.state)
+        && is_of_kind(entry, queue)
+        && has_characteristics(entry, queue)
+        && has_size(entry, queue)
 }

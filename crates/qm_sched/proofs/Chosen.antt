@@ -1,18 +1,15 @@
 -- What the tests find of one entry, and what the walk over the entries keeps.
-use Rattle.std.proofs.Common.{◌≡◌, ℕ, ◌+◌, ◌<◌, Bool, true, false, cond, ◌&&◌, List, [], ◌∷◌, ◌++◌, length, get_or, take, refl, sym, ◌∙◌, ap, Option, None, Some, is_none, filter}
+use Rattle.std.proofs.Common.{◌≡◌, ℕ, ◌+◌, ◌<◌, Bool, true, false, cond, ◌&&◌, List, [], ◌∷◌, ◌++◌, length, get_or, take, refl, sym, ◌∙◌, ap, Option, None, Some, filter}
 use Rattle.std.specs.Prelude.{Box}
 use Rattle.std.specs.List.{fold}
 use Rattle.std.specs.Option.{option_map, option_map_or}
-use Rattle.std.specs.Str.{bytes_eq}
 use Rattle.std.proofs.lemmas.List.{append-nil}
 use Rattle.std.proofs.lemmas.List.Elements.{filter_more}
 use Rattle.std.proofs.lemmas.List.Sums.{fold_push}
-use Rattle.std.proofs.lemmas.Slice.Eq.{bytes_eq-Decides}
 use Rattle.qm_kinds.specs.declared.entry.Entry.{Entry}
 use Rattle.qm_kinds.specs.declared.queue.Queue.{Queue}
 use Rattle.qm_kinds.specs.declared.system.System.{System}
-use Rattle.qm_model.specs.Find.{queue_named}
-use Rattle.qm_model.specs.Fitting.{NotPending, OtherKind, NotStarted, NotPassedOn, LacksCharacteristics, OtherStock, OutsideSizes, Misfit, first_misfit, misfit_of, fits, is_of_kind, is_open, is_reached, has_characteristics, has_stock, has_size}
+use Rattle.qm_model.specs.Fitting.{fits, is_of_kind, is_open, is_reached, has_characteristics, has_stock, has_size}
 use Rattle.qm_model.specs.JobStates.{is_pending}
 use Rattle.qm_model.specs.Before.{before, first_of}
 use Rattle.qm_model.specs.Free.{is_free}
@@ -22,53 +19,24 @@ use Rattle.qm_sched.specs.Choosing.{next_start}
 
 -- ---- whether one entry fits
 
-no_reason : (a b c d e f g : Bool) → (a && b && c && d && e && f && g)
-    ≡ is_none (first_misfit ((a, NotPending) ∷ (b, OtherKind) ∷ (c, NotStarted) ∷ (d, NotPassedOn) ∷ (e, LacksCharacteristics) ∷ (f, OtherStock) ∷ (g, OutsideSizes) ∷ []))
-no_reason false b c d e f g = refl
-no_reason true false c d e f g = refl
-no_reason true true false d e f g = refl
-no_reason true true true false e f g = refl
-no_reason true true true true false f g = refl
-no_reason true true true true true false g = refl
-no_reason true true true true true true false = refl
-no_reason true true true true true true true = refl
+-- where the queue is open, the tests may be made in another order
+in_order : (a b c d e f g : Bool) → c ≡ true → ((a && b && e && g) && d && f) ≡ (a && b && c && d && e && f && g)
+in_order false b c d e f g opened = refl
+in_order true false c d e f g opened = refl
+in_order true true false d e f g opened = absurd (cc opened)
+in_order true true true false false f g opened = refl
+in_order true true true false true f false opened = refl
+in_order true true true false true f true opened = refl
+in_order true true true true false f g opened = refl
+in_order true true true true true false false opened = refl
+in_order true true true true true false true opened = refl
+in_order true true true true true true false opened = refl
+in_order true true true true true true true opened = refl
 
-fits_is : (s : System) (e : Entry) (q : Queue) → fits s e q ≡ is_none (misfit_of s e q)
-fits_is s e q = no_reason (is_pending e.state) (is_of_kind e q) (is_open s q) (is_reached s e q) (has_characteristics e q) (has_stock s e q) (has_size e q)
-
-pub fits_by_reason : (s : System) (e : Entry) (q : Queue) (reason : Option Misfit) → reason ≡ misfit_of s e q → is_none reason ≡ fits s e q
-fits_by_reason s e q reason is = ap is_none is ∙ sym (fits_is s e q)
-
--- a job whose home isn't there fits no queue that is
-other_home : (a b : Bool) → (a ≡ true → ⊥) → b ≡ a → b ≡ false
-other_home true b never is = absurd (never refl)
-other_home false b never is = is
-
-unreached : (a b c r e f g : Bool) → r ≡ false → (a && b && c && r && e && f && g) ≡ false
-unreached false b c r e f g is = refl
-unreached true false c r e f g is = refl
-unreached true true false r e f g is = refl
-unreached true true true r e f g is = ap (λ b. b && e && f && g) is
-
-pub homeless_fits_nowhere : (s : System) (e : Entry) (q : Queue) → queue_named q.name s.queues ≡ Some q → queue_named e.home s.queues ≡ None → fits s e q ≡ false
-homeless_fits_nowhere s e q there none =
-    let never : bytes_eq e.home q.name ≡ true → ⊥ = λ same.
-    let found : queue_named e.home s.queues ≡ Some q = ap (λ name. queue_named name s.queues) ((bytes_eq-Decides e.home q.name).0 same) ∙ there in
-    cc in
-    let apart : bytes_eq e.home q.name ≡ false = other_home (bytes_eq e.home q.name) (bytes_eq e.home q.name) never refl in
-    let away : is_reached s e q ≡ false = rw (apart, none) refl in
-    unreached (is_pending e.state) (is_of_kind e q) (is_open s q) (is_reached s e q) (has_characteristics e q) (has_stock s e q) (has_size e q) away
-
--- a job that doesn't suit a queue by what the two hold alone doesn't fit it
-unsuited : (a b c d e f g : Bool) → (a && b && e) ≡ false → (a && b && c && d && e && f && g) ≡ false
-unsuited false b c d e f g is = refl
-unsuited true false c d e f g is = refl
-unsuited true true false d e f g is = refl
-unsuited true true true false e f g is = refl
-unsuited true true true true e f g is = ap (λ x. x && f && g) is
-
-pub unsuited_fits_nowhere : (s : System) (e : Entry) (q : Queue) → (is_pending e.state && is_of_kind e q && has_characteristics e q) ≡ false → fits s e q ≡ false
-unsuited_fits_nowhere s e q is = unsuited (is_pending e.state) (is_of_kind e q) (is_open s q) (is_reached s e q) (has_characteristics e q) (has_stock s e q) (has_size e q) is
+pub fits_where_open : (s : System) (e : Entry) (q : Queue) → is_open s q ≡ true
+    → ((is_pending e.state && is_of_kind e q && has_characteristics e q && has_size e q) && is_reached s e q && has_stock s e q) ≡ fits s e q
+fits_where_open s e q opened =
+    in_order (is_pending e.state) (is_of_kind e q) (is_open s q) (is_reached s e q) (has_characteristics e q) (has_stock s e q) (has_size e q) opened
 
 -- a job fits no queue that isn't started, or whose node isn't up
 closed : (a b c d e f g : Bool) → c ≡ false → (a && b && c && d && e && f && g) ≡ false

@@ -1,10 +1,9 @@
 // Which job a queue starts next.
-ghost use Rattle.std.specs.Prelude.{◌≡◌, ◌&&◌, true, filter, Some};
+ghost use Rattle.std.specs.Prelude.{◌≡◌, ◌&&◌, true, filter};
 ghost use Rattle.std.specs.Option.{option_copied, option_map_or};
 ghost use Rattle.std.specs.Ordering.{nat_cmp};
 ghost use Rattle.qm_kinds.specs.declared.system.System.{System};
 ghost use Rattle.qm_model.specs.Consistent.{IsInOrder};
-ghost use Rattle.qm_model.specs.Find.{queue_named};
 ghost use Rattle.qm_model.specs.Fitting.{is_open, fits, stock_of};
 ghost use Rattle.qm_model.specs.Before.{before, first_of};
 ghost use Rattle.qm_model.specs.Free.{is_free, places};
@@ -48,7 +47,6 @@ fn first_of<'a>(
     queue: &Queue,
     mounted: &Option<Name>,
 ) -> Option<&'a Entry>
-    requires there { queue_named queue.now.name parts.now.queues ≡ Some queue.now }
     requires open { (s : System) → is_open (with_tables s parts.now) queue.now ≡ true }
     requires mounted { mounted.now ≡ stock_of parts.now.forms queue.now.mounted }
     ensures { (s : System) → option_copied result ≡ first_of queue.now (filter (λ e. fits (with_tables s parts.now) e queue.now) (contents entries.now)) }
@@ -97,11 +95,10 @@ fn start_of(parts: &Parts, entry: &Entry, queue: &Queue) -> Start
     }
 }
 
-/// What a queue, which is one of these, starts next, if run numbers are left, it has a place and a job fits it. It looks at
+/// What a queue starts next, if run numbers are left, it has a place and a job fits it. It looks at
 /// each entry if the queue is started, its node is up and it has a place. The form that is mounted is looked for once. It
 /// takes no memory.
 pub(crate) fn next_start(parts: &Parts, queue: &Queue) -> Option<Start>
-    requires { queue_named queue.now.name parts.now.queues ≡ Some queue.now }
     ensures { (s : System) → result ≡ next_start (with_tables s parts.now) queue.now }
 {
     if !is_open(parts, queue) {

@@ -1,8 +1,9 @@
 // What becomes of entries, and of their runs.
-ghost use Rattle.std.specs.Prelude.{◌≡◌, ◌≤◌, ◌<◌, ◌+◌, ◌-◌, ◌^◌, ◌++◌, ◌∷◌, [], All, IfSome, MatchOption, None, Some, false, is_some, if◌then◌else◌};
+ghost use Rattle.std.specs.Prelude.{◌≡◌, ◌≤◌, ◌<◌, ◌+◌, ◌-◌, ◌++◌, ◌∷◌, [], All, IfSome, MatchOption, None, Some, false, is_some, if◌then◌else◌};
 ghost use Rattle.std.specs.List.{list_any};
 ghost use Rattle.std.specs.Option.{option_map, option_and_then};
 ghost use Rattle.qm_kinds.specs.declared.entry.EntryState.TheVariants.{Pending, Running};
+ghost use Rattle.qm_kinds.specs.declared.limits.TheConstants.{END_OF_RUNS};
 ghost use Rattle.qm_model.specs.Find.{entry_numbered};
 ghost use Rattle.qm_model.specs.JobStates.{run_of};
 ghost use Rattle.qm_model.specs.Standing.{with_entry, has_run};
@@ -77,7 +78,7 @@ impl Parts {
     /// run more. It asks a logarithm of the entries. The numbers of runs end at 2^63.
     pub fn start(&mut self, number: u32, queue: Name, node: Name) -> u64
         requires room { 0 < self.old.spare_runs }
-        requires numbers { self.old.next_run < 2 ^ 63 }
+        requires numbers { self.old.next_run < END_OF_RUNS }
         requires pending { option_map (λ e. e.state) (entry_numbered number self.old.entries) ≡ Some Pending }
         ensures run { result ≡ self.old.next_run }
         ensures tables { self.new ≡ record self.old {

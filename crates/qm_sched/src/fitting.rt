@@ -1,17 +1,13 @@
 // Whether a queue can start a job, by what the tables hold.
-ghost use Rattle.std.specs.Prelude.{◌≡◌, ◌&&◌, true, is_none, Some};
+ghost use Rattle.std.specs.Prelude.{◌≡◌, ◌&&◌, true, Some};
 ghost use Rattle.std.specs.Str.{bytes_eq};
-ghost use Rattle.std.specs.Option.{option_copied};
 ghost use Rattle.qm_kinds.specs.declared.system.System.{System};
-ghost use Rattle.qm_model.specs.Find.{queue_named};
-ghost use Rattle.qm_model.specs.Fitting.{is_open, is_up, fits, stock_of};
-ghost use Rattle.qm_model.specs.Kinds.{is_print};
-ghost use Rattle.qm_match.specs.Reasons.{both, reason_of};
+ghost use Rattle.qm_model.specs.Fitting.{is_open, is_up, is_reached, has_stock, fits, stock_of};
 ghost use Rattle.qm_sched.specs.Tables.{with_tables};
 
 use crate::parts::Parts;
 use qm_kinds::{Entry, JobKind, Name, Node, Queue, QueueState};
-use qm_match::{Fit, fits, suits};
+use qm_match::{is_same_stock, passes_on_to, suits};
 
 // Whether a node has this name, and is up.
 fn is_up_as(node: &Node, name: &Name) -> bool
@@ -66,55 +62,36 @@ fn stock_wanted(parts: &Parts, entry: &Entry, queue: &Queue, mounted: &Option<Na
     stock_of(parts, &entry.form)
 }
 
-// Two stocks, where both are there.
-fn both(wanted: Option<Name>, mounted: &Option<Name>) -> Option<(Name, Name)>
-    ensures { result ≡ both wanted mounted.now }
-{
-    match (wanted, mounted) {
-        (Some(wanted), Some(mounted)) => Some((wanted, *mounted)),
-        _ => None,
-    }
-}
-
-// What the test is given of the stocks: for a batch job nothing. `mounted` is that of the form that is mounted at the queue.
-fn stocks_that_count(
-    parts: &Parts,
-    entry: &Entry,
-    queue: &Queue,
-    mounted: &Option<Name>,
-) -> Option<(Name, Name)>
+// Whether a print job's form is of the stock of the form that is mounted at the queue, which is `mounted`.
+fn has_stock(parts: &Parts, entry: &Entry, queue: &Queue, mounted: &Option<Name>) -> bool
     requires { mounted.now ≡ stock_of parts.now.forms queue.now.mounted }
-    ensures { is_print entry.now.kind ≡ true → result ≡ both (stock_of parts.now.forms entry.now.form) (stock_of parts.now.forms queue.now.mounted) }
+    ensures { (s : System) → result ≡ has_stock (with_tables s parts.now) entry.now queue.now }
 {
     match entry.kind {
-        JobKind::Batch => None,
-        JobKind::Print => both(stock_wanted(parts, entry, queue, mounted), mounted),
+        JobKind::Batch => true,
+        JobKind::Print => is_same_stock(&stock_wanted(parts, entry, queue, mounted), mounted),
     }
 }
 
-// The home of a job, where it is there. Most often it is the queue itself, which is one of these: then none is looked for.
-fn home_of<'a>(parts: &'a Parts, entry: &Entry, queue: &'a Queue) -> Option<&'a Queue>
-    requires { queue_named queue.now.name parts.now.queues ≡ Some queue.now }
-    ensures { option_copied result ≡ queue_named entry.now.home parts.now.queues }
+// Whether a job's home is the queue, or a generic queue that passes it on. Most often it is the queue itself: then no other
+// one is looked for.
+fn is_reached(parts: &Parts, entry: &Entry, queue: &Queue) -> bool
+    ensures { (s : System) → result ≡ is_reached (with_tables s parts.now) entry.now queue.now }
 {
     if entry.home == queue.name {
-        return Some(queue);
+        return true;
     }
-    parts.queue(&entry.home)
+    match parts.queue(&entry.home) {
+        None => false,
+        Some(home) => passes_on_to(home, &queue.name),
+    }
 }
 
-// Whether the answer of a test is yes.
-fn is_yes(fit: Fit) -> bool
-    ensures { result ≡ is_none (reason_of fit) }
-{
-    matches!(fit, Fit::Yes)
-}
-
-/// Whether a queue, which is one of these and open, can start a job as soon as it has a place. `mounted` is the stock of the
-/// form that is mounted there. It asks a logarithm of the queues where the job's home is another one, and one of the forms
-/// where its form is another one, and takes no memory.
+/// Whether a queue, which is open, can start a job as soon as it has a place: OpenVMS System Manager's Manual, Setting Up and
+/// Maintaining Queues, on generic queues, characteristics, forms and their stock, and job sizes. `mounted` is the stock of
+/// the form that is mounted there. What the two hold alone is asked first. It asks a logarithm of the queues where the job's
+/// home is another one, and one of the forms where its form is another one, and takes no memory.
 pub(crate) fn can_run(parts: &Parts, entry: &Entry, queue: &Queue, mounted: &Option<Name>) -> bool
-    requires there { queue_named queue.now.name parts.now.queues ≡ Some queue.now }
     requires open { (s : System) → is_open (with_tables s parts.now) queue.now ≡ true }
     requires mounted { mounted.now ≡ stock_of parts.now.forms queue.now.mounted }
     ensures { (s : System) → result ≡ fits (with_tables s parts.now) entry.now queue.now }
@@ -122,9 +99,8 @@ pub(crate) fn can_run(parts: &Parts, entry: &Entry, queue: &Queue, mounted: &Opt
     if !suits(entry, queue) {
         return false;
     }
-    let Some(home) = home_of(parts, entry, queue) else {
+    if !is_reached(parts, entry, queue) {
         return false;
-    };
-    let stocks = stocks_that_count(parts, entry, queue, mounted);
-    is_yes(fits(entry, home, queue, true, stocks))
+    }
+    has_stock(parts, entry, queue, mounted)
 }

@@ -1,5 +1,6 @@
 // What becomes of forms and characteristics.
 ghost use Rattle.std.specs.Prelude.{◌≡◌, ◌≤◌, ◌<◌, ◌+◌, ◌-◌, false, length, OnErr, OnOk};
+ghost use Rattle.qm_kinds.specs.declared.limits.TheConstants.{LAST_CHARACTERISTIC};
 ghost use Rattle.qm_model.specs.Characteristics.{is_characteristic_taken};
 ghost use Rattle.qm_model.specs.Forms.{is_form_taken};
 ghost use Rattle.qm_model.specs.Inserting.{with_form, with_characteristic_defined};
@@ -43,7 +44,7 @@ impl Parts {
     /// its name or its number.
     pub fn define_characteristic(&mut self, characteristic: Characteristic)
         requires room { 0 < self.old.spare_characteristics }
-        requires small { characteristic.number ≤ 127 }
+        requires small { characteristic.number ≤ LAST_CHARACTERISTIC }
         requires free { is_characteristic_taken self.old.characteristics characteristic ≡ false }
         ensures { self.new ≡ record self.old {
           characteristics = with_characteristic_defined characteristic self.old.characteristics;

@@ -4,7 +4,7 @@ use qm_kinds::{
     CharacteristicSet, Entry, EntryState, JobKind, Name, Queue, QueueKind, QueueState, Seq,
     batch_queue, default_form, print_queue, system_user,
 };
-use qm_match::{Fit, Key, Schedule, before, fits};
+use qm_match::{Key, Schedule, before, is_same_stock, passes_on_to, suits};
 use std::alloc::{AllocError, Global};
 use std::test::Fail;
 
@@ -25,11 +25,12 @@ fn printer(alloc: Global) -> Queue {
     }
 }
 
-// A started generic queue that passes its jobs on to the print queue.
-fn generic(alloc: Global) -> Result<Queue, AllocError> {
+// A generic queue that passes its jobs on to the print queue, in this state.
+fn generic(alloc: Global, state: QueueState) -> Result<Queue, AllocError> {
     Ok(Queue {
         name: batch_queue(),
         kind: QueueKind::GenericPrint,
+        state,
         node: None,
         device: None,
         mounted: None,
@@ -39,62 +40,68 @@ fn generic(alloc: Global) -> Result<Queue, AllocError> {
 }
 
 #[test]
-fn the_first_reason_is_told(rt: HostRuntime) -> Result<(), Fail> {
-    let alloc = rt.alloc();
-    let (queue, generic) = (printer(alloc), generic(alloc)?);
-    let stopped = Queue {
-        name: batch_queue(),
-        state: QueueState::Stopped,
-        ..printer(alloc)
-    };
-    let (here, passed) = (job(print_queue()), job(batch_queue()));
-    let same = Some((default_form(), default_form()));
-    let other = Some((default_form(), system_user()));
+fn jobs_suit_a_queue_by_state_kind_characteristics_and_size(rt: HostRuntime) {
+    let queue = printer(rt.alloc());
     let cases = [
-        (here, &queue, true, same, Fit::Yes),
-        (passed, &generic, true, same, Fit::Yes),
+        (job(print_queue()), true),
         (
             Entry {
                 state: EntryState::Holding,
-                kind: JobKind::Batch,
-                ..here
+                ..job(print_queue())
             },
-            &queue,
-            true,
-            same,
-            Fit::NotPending,
+            false,
         ),
         (
             Entry {
                 kind: JobKind::Batch,
-                ..here
+                ..job(print_queue())
             },
-            &queue,
             false,
-            None,
-            Fit::Kind,
         ),
-        (passed, &stopped, false, other, Fit::NotStarted),
-        (passed, &stopped, true, other, Fit::Home),
         (
             Entry {
                 characteristics: CharacteristicSet(8),
-                ..here
+                ..job(print_queue())
             },
-            &queue,
-            true,
-            other,
-            Fit::Characteristics,
+            false,
         ),
-        (Entry { size: 3, ..here }, &queue, true, other, Fit::Stock),
-        (here, &queue, true, None, Fit::Stock),
-        (Entry { size: 3, ..here }, &queue, true, same, Fit::Size),
-        (Entry { size: 0, ..passed }, &generic, true, same, Fit::Size),
+        (
+            Entry {
+                size: 3,
+                ..job(print_queue())
+            },
+            false,
+        ),
+        (
+            Entry {
+                size: 0,
+                ..job(print_queue())
+            },
+            false,
+        ),
     ];
-    for (entry, home, node_up, stocks, expected) in cases {
-        assert!(rt; fits(&entry, home, &queue, node_up, stocks) == expected);
+    for (entry, expected) in cases {
+        assert!(rt; suits(&entry, &queue) == expected);
     }
+}
+
+#[test]
+fn a_started_generic_queue_passes_jobs_on(rt: HostRuntime) -> Result<(), Fail> {
+    let started = generic(rt.alloc(), QueueState::Started)?;
+    let stopped = generic(rt.alloc(), QueueState::Stopped)?;
+    assert!(rt; passes_on_to(&started, &print_queue()));
+    assert!(rt; !passes_on_to(&started, &batch_queue()));
+    assert!(rt; !passes_on_to(&stopped, &print_queue()));
     Ok(())
+}
+
+#[test]
+fn stocks_are_the_same_where_both_are_there(rt: HostRuntime) {
+    let (white, blue) = (Some(default_form()), Some(system_user()));
+    assert!(rt; is_same_stock(&white, &white));
+    assert!(rt; !is_same_stock(&white, &blue));
+    assert!(rt; !is_same_stock(&white, &None));
+    assert!(rt; !is_same_stock(&None, &None));
 }
 
 #[test]

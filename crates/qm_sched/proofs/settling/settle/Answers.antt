@@ -5,7 +5,7 @@ use Rattle.qm_kinds.specs.declared.run.Start.{Start}
 use Rattle.qm_queues.specs.Queues.{comes_after}
 use Rattle.qm_sched.specs.Tables.{Tables}
 use Rattle.qm_sched.proofs.Starting.{blank}
-use Rattle.qm_sched.proofs.Progress.{Progress, begun, found_behind, behind_is_found, ended, passed_by, starts_next, has_room, one_more, fewer_behind}
+use Rattle.qm_sched.proofs.Progress.{Progress, begun, found_behind, ended, passed_by, starts_next, has_room, one_more, fewer_behind}
 use Rattle.qm_sched.proofs.settling.settle.Goals as goal
 
 pub loop-queue-init : goal.loop-queue-init
@@ -16,11 +16,6 @@ loop-queue-init c = record {
   spare_entries = refl;
   spare_queues = refl;
 }
-
-pub next_start-requires : goal.next_start-requires
-next_start-requires c =
-    let found = found_behind c.loop-queue.parts.queues c.as_ref.ensures.value c.queue_after.ensures.next (ap option_copied c.in-Some.is) in
-    behind_is_found c.loop-queue.behind c.in-Some.queue.now c.loop-queue.parts.queues c.queue_after.ensures.in_order found
 
 pub loop-queue-smaller-in-None : goal.loop-queue-smaller-in-None
 loop-queue-smaller-in-None c =
