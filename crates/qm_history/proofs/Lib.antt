@@ -20,3 +20,4 @@ pub mod AgainLemmas
 pub mod GivenLemmas
 pub mod ConsecutiveLemmas
 pub mod OneCourse
+pub mod AnswerLemmas

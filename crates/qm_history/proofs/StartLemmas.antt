@@ -167,3 +167,12 @@ module _ (IsLog : List ℕ → List (List ℕ) → Type 0) (HasSpelling : Record
         same_records h.records k.records (accepted_spelled h.records h.hold.accepted) (accepted_spelled k.records k.hold.accepted)
         (one_log (files k.says.live) (map record_text h.records) (map record_text k.records) live k.hold.live_is_log) in
         h.begins ∙ ap (λ (x : List Record). first_world x h.says.epoch) records ∙ ap (λ (m : MasterState). first_world k.records m.epoch) says ∙ sym k.begins
+
+    -- files stand for one system
+    pub starts_system : (files : ℕ → List ℕ) (log : List Record) (v : World) → Hold IsLog HasSpelling record_text files log → Starts IsLog HasSpelling record_text files v
+        → system_in v ≡ system_of log
+    starts_system files log v h k =
+        let begun = hold_begins files log h in ap system_in (starts_one files v begun.0 k begun.1) ∙ begun.3
+
+    pub hold_one : (files : ℕ → List ℕ) (a b : List Record) → Hold IsLog HasSpelling record_text files a → Hold IsLog HasSpelling record_text files b → system_of a ≡ system_of b
+    hold_one files a b h k = let begun = hold_begins files a h in sym begun.3 ∙ starts_system files b begun.0 k begun.1

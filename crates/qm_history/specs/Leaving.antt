@@ -1,4 +1,4 @@
--- What a crash within a turn may leave of the log.
+-- What a crash may leave of the log: within a turn, behind one, and at any moment of a history.
 -- OpenVMS System Manager's Manual, Managing the Queue Manager and Queue Database, on the recovery of the queue database.
 -- This site's own: the record in doubt.
 use Rattle.std.specs.Prelude.{◌≡◌, ◌⊎◌, ℕ, Bool, List, [], ◌∷◌, ◌++◌, take, filter_map, option_to_list, Option, None}
@@ -7,6 +7,7 @@ use Rattle.qm_history.specs.declared.event.Event.{Event}
 use Rattle.qm_history.specs.declared.turn.Turn.{Turn}
 use Rattle.qm_history.specs.declared.world.World.{World}
 use Rattle.qm_history.specs.Happening.{told_of_doubt}
+use Rattle.qm_history.specs.Legal.{after_turn, after_turns}
 use Rattle.qm_history.specs.Records.{record_of}
 use Rattle.qm_history.specs.World.{log_read}
 
@@ -31,3 +32,16 @@ MayBeLeft w t log = (log ≡ w.log) ⊎ ((log ≡ w.log ++ option_to_list w.doub
 -- behind a turn the log is there, with or without the record that is in doubt then
 abbrev pub MayBeLeftBehind : World → List Record → Type 0
 MayBeLeftBehind w log = (log ≡ w.log) ⊎ (log ≡ w.log ++ option_to_list w.doubt)
+
+-- a crash at some moment of a history: within one of its turns, or behind the last one
+abbrev pub MayBeLeftIn : World → List Turn → List Record → Type 0
+MayBeLeftIn w [] log = MayBeLeftBehind w log
+MayBeLeftIn w (t ∷ turns) log = MayBeLeft w t log ⊎ MayBeLeftIn (after_turn w t) turns log
+
+-- the moment was one within a turn of the history, and this is what it left
+pub record IsLeftWithin (w : World) (turns : List Turn) (log : List Record) : Type 0 where
+  pub before : List Turn
+  pub turn : Turn
+  pub behind : List Turn
+  pub turns_are : turns ≡ before ++ turn ∷ behind
+  pub left : MayBeLeft (after_turns w before) turn log

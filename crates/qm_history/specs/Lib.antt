@@ -19,3 +19,8 @@ pub mod Start
 pub mod Leaving
 pub mod Marks
 pub mod Printed
+pub mod Answering
+pub mod Faults
+pub mod Readings
+pub mod Order
+pub mod Room

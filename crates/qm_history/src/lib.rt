@@ -2,6 +2,7 @@
 //! cite, and laws about them. It has no program: its functions are laws.
 #![tactic(auto)]
 
+mod answers;
 mod call;
 mod crashes;
 mod devices;
@@ -16,9 +17,11 @@ mod start;
 mod turn;
 mod world;
 
+pub use answers::{full_files_are_full, journal_tells_of_disks};
 pub use call::{Answer, Call, Takeover};
 pub use crashes::{
-    crashes_leave_a_beginning, programs_go_on_after_crashes, turns_have_one_event_or_two,
+    crashes_leave_a_beginning, crashes_of_histories_are_of_turns, programs_go_on_after_crashes,
+    programs_go_on_from_what_is_left, turns_have_one_event_or_two,
 };
 pub use devices::{
     blocks_come_again_behind_marks, fetches_show_recorded_marks, steps_come_in_stretches,
@@ -37,6 +40,6 @@ pub use histories::{
 };
 pub use marks::entries_have_their_last_marks;
 pub use sound::{sound_worlds_are_consistent, worlds_on_queue_files_stay_sound, worlds_stay_sound};
-pub use start::programs_begin_sound;
+pub use start::{files_that_hold_a_log_begin_a_world, programs_begin_sound};
 pub use turn::{Turn, Why};
 pub use world::{Role, World};

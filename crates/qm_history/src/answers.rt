@@ -1,0 +1,30 @@
+// What calls are answered.
+ghost use Rattle.std.specs.Prelude.{◌≡◌, false, ℕ, List};
+ghost use Rattle.std.specs.List.{AllByRecursion};
+ghost use Rattle.qm_history.specs.declared.call.Answer.{Answer};
+ghost use Rattle.qm_history.specs.declared.call.Call.{Call};
+ghost use Rattle.qm_history.specs.declared.turn.Turn.{Turn};
+ghost use Rattle.qm_history.specs.declared.world.World.{World};
+ghost use Rattle.qm_history.specs.Answering.{MayAnswer};
+ghost use Rattle.qm_history.specs.Answers.{answer_of};
+ghost use Rattle.qm_history.specs.Course.{answered};
+ghost use Rattle.qm_history.specs.Faults.{faults_told, is_journal, tells_disk_fault};
+ghost use Rattle.qm_history.specs.Legal.{IsLegalTurn};
+ghost use Rattle.qm_history.specs.Room.{Room, IsRoomTold, IsAboveCap};
+ghost use Rattle.qm_history.specs.Visits.{Visit, visits};
+
+use crate::format::{FileFormat, Format};
+
+/// A turn is legal where its call may be answered anything. What its events say is that a disk failed exactly where its last
+/// event tells of a record, a takeover or a compaction in doubt; so no call is told that where no turn tells it.
+pub fn journal_tells_of_disks<F: Format>()
+    ensures legal { (w : World) (asked : Call) (t : Turn) (told : Answer) → MayAnswer F.has_spelling w asked t told → IsLegalTurn F.has_spelling w t }
+    ensures answer { (w : World) (t : Turn) → is_journal (answer_of w t) ≡ tells_disk_fault t.events }
+    ensures never { (w : World) (turns : List Turn) → faults_told turns ≡ 0 → AllByRecursion (λ (v : Visit). is_journal (answered v) ≡ false) (visits w turns) }
+{}
+
+/// Where a turn tells of room what is so, each need that it tells is above its cap, which is that of a queue file or of the
+/// master.
+pub fn full_files_are_full<F: FileFormat>()
+    ensures { (w : World) (m : Room) (asked : Call) (t : Turn) → IsRoomTold F.text w m asked t → AllByRecursion (IsAboveCap m.cap) t.events }
+{}
