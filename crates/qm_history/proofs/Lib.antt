@@ -21,3 +21,4 @@ pub mod GivenLemmas
 pub mod ConsecutiveLemmas
 pub mod OneCourse
 pub mod AnswerLemmas
+pub mod TellingLemmas

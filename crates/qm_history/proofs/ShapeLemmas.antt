@@ -55,7 +55,7 @@ behind_first e may [] h = tt
 behind_first e may (next ∷ []) h = (may, h)
 behind_first e may (next ∷ other ∷ events) h = absurd h
 
-is_one : (e : Event) → is_takeover e ≡ false → (events : List Event) → events ≡ e ∷ [] → IsOne events
+pub is_one : (e : Event) → is_takeover e ≡ false → (events : List Event) → events ≡ e ∷ [] → IsOne events
 is_one e plain events h = subst IsOne (sym h) plain
 
 -- ---- what each kind of answer holds
@@ -70,21 +70,21 @@ decided_one : (node moment : ℕ) (asked : Request) (res : Result Accepted Refus
 decided_one node moment asked (Err refusal) events h = is_one (event.Refused node moment (input.Ask asked) refusal) refl events h
 decided_one node moment asked (Ok accepted) events h = recorded_one node moment asked accepted.reply events h
 
-asked_one : (w : World) (node reading : ℕ) (asked : Request) (events : List Event) → IsAsked w node reading asked events → IsOne events
+pub asked_one : (w : World) (node reading : ℕ) (asked : Request) (events : List Event) → IsAsked w node reading asked events → IsOne events
 asked_one w node reading asked events h =
     decided_one node (acting reading (system_in w)) asked (applied (system_in w) (acting reading (system_in w)) node asked) events h
 
-viewed_one : (node moment : ℕ) (query : Query) (res : Result (List Row) Refusal) (events : List Event) → IsViewed node moment query res events → IsOne events
+pub viewed_one : (node moment : ℕ) (query : Query) (res : Result (List Row) Refusal) (events : List Event) → IsViewed node moment query res events → IsOne events
 viewed_one node moment query (Err refusal) events h = is_one (event.Refused node moment (input.Show query) refusal) refl events h
 viewed_one node moment query (Ok rows) events h = is_one (event.Shown node moment (input.Show query)) refl events h
 
-compaction_one : (node : ℕ) (events : List Event) → IsCompaction node events → IsOne events
+pub compaction_one : (node : ℕ) (events : List Event) → IsCompaction node events → IsOne events
 compaction_one node (event.Compacted n epoch file ∷ []) h = refl
 compaction_one node (event.Full n need cap ∷ []) h = refl
 compaction_one node (event.CompactDoubt n ∷ []) h = refl
 compaction_one node events h = absurd h
 
-full_one : (node : ℕ) (events : List Event) → IsFull node events → IsOne events
+pub full_one : (node : ℕ) (events : List Event) → IsFull node events → IsOne events
 full_one node (event.Full n need cap ∷ []) h = refl
 full_one node events h = absurd h
 
@@ -133,11 +133,11 @@ fence_test : (node held epoch : ℕ) (b : Bool) → IfSome (cond b None (Some (e
 fence_test node held epoch true = tt
 fence_test node held epoch false = refl
 
-fence_plain : (w : World) (node : ℕ) (m : Option Role) → IfSome (fence (record w { manager = m }) node) (λ e. is_takeover e ≡ false)
+pub fence_plain : (w : World) (node : ℕ) (m : Option Role) → IfSome (fence (record w { manager = m }) node) (λ e. is_takeover e ≡ false)
 fence_plain w node None = tt
 fence_plain w node (Some role) = fence_test node (held_by w node) role.epoch (held_by w node == role.epoch)
 
-fenced_one : (o : Option Event) (Own : Type 0) (events : List Event) → IfSome o (λ e. is_takeover e ≡ false) → (Own → IsOne events) → FencedOr o Own events → IsOne events
+pub fenced_one : (o : Option Event) (Own : Type 0) (events : List Event) → IfSome o (λ e. is_takeover e ≡ false) → (Own → IsOne events) → FencedOr o Own events → IsOne events
 fenced_one None Own events plain one h = one h
 fenced_one (Some e) Own events plain one h = is_one e plain events h
 

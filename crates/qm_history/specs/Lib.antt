@@ -24,3 +24,4 @@ pub mod Faults
 pub mod Readings
 pub mod Order
 pub mod Room
+pub mod Telling

@@ -45,9 +45,10 @@ master_cap = 1048576
 
 -- What follows an epoch that was recorded or tried, where the takeover fails. Nothing, where a disk failed first; else the
 -- files were read, so nothing is in doubt any more. Then the record is in doubt, it or the epoch has no room, or the node isn't
--- named. A full master may have refused the epoch itself, before the list was looked at.
+-- named. A full master may have refused the epoch itself, before the list was looked at. An epoch is tried only once the files
+-- were read, so where nothing follows it, nothing is in doubt any more either.
 abbrev pub IsFailure : World → World → ℕ → ℕ → Option (List (List ℕ)) → ℕ → List Event → Type 0
-IsFailure before w node reading on tried [] = Unit {0}
+IsFailure before w node reading on tried [] = tried ≡ before.greatest + 1 → IsNone w.doubt
 IsFailure before w node reading on tried (event.Doubt n moment (request.Took epoch gone up may) ∷ []) =
     (n ≡ node) × (moment ≡ acting reading (system_in w)) × (may ≡ may_after (system_in w) on) × (tried ≡ before.greatest + 1) × IsNone w.doubt
 IsFailure before w node reading on tried (event.Full n need cap ∷ []) =

@@ -1,0 +1,13 @@
+// What a takeover tells.
+ghost use Rattle.qm_history.specs.declared.turn.Turn.{Turn};
+ghost use Rattle.qm_history.specs.declared.world.World.{World};
+ghost use Rattle.qm_history.specs.Legal.{IsLegalTurn};
+ghost use Rattle.qm_history.specs.Telling.{TellsWhatItRead};
+
+use crate::format::Format;
+
+/// A takeover that read the files tells whether the record in doubt is there, exactly where one is in doubt: one that stands, and
+/// one that fails behind a new epoch. So none hides what it found.
+pub fn takeovers_tell_what_they_read<F: Format>()
+    ensures { (w : World) (t : Turn) → IsLegalTurn F.has_spelling w t → TellsWhatItRead w t.events }
+{}
