@@ -22,3 +22,6 @@ pub mod ConsecutiveLemmas
 pub mod OneCourse
 pub mod AnswerLemmas
 pub mod TellingLemmas
+pub mod NodeLemmas
+pub mod ServedLemmas
+pub mod ComingLemmas

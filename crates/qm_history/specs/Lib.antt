@@ -25,3 +25,4 @@ pub mod Readings
 pub mod Order
 pub mod Room
 pub mod Telling
+pub mod Computed

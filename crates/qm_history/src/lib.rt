@@ -16,6 +16,7 @@ mod sound;
 mod start;
 mod takeovers;
 mod turn;
+mod turns;
 mod world;
 
 pub use answers::{full_files_are_full, journal_tells_of_disks};
@@ -42,7 +43,7 @@ pub use histories::{
 pub use marks::entries_have_their_last_marks;
 pub use sound::{sound_worlds_are_consistent, worlds_on_queue_files_stay_sound, worlds_stay_sound};
 pub use start::{files_that_hold_a_log_begin_a_world, programs_begin_sound};
-pub use start::programs_begin_sound;
 pub use takeovers::takeovers_tell_what_they_read;
 pub use turn::{Turn, Why};
+pub use turns::each_call_has_a_turn;
 pub use world::{Role, World};
