@@ -25,3 +25,4 @@ pub mod TellingLemmas
 pub mod NodeLemmas
 pub mod ServedLemmas
 pub mod ComingLemmas
+pub mod OneTurnLemmas

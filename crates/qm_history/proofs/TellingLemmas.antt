@@ -1,11 +1,10 @@
 -- A takeover that read the files tells what has become of the record in doubt.
 use Rattle.std.proofs.Common.{◌≡◌, ℕ, ◌+◌, inl, inr, Bool, true, false, not, ◌||◌, List, [], ◌∷◌, refl, sym, ◌∙◌, ap, subst, Option, None, Some, Ok, Err}
-use Rattle.std.specs.Prelude.{◌==◌, IfSome, IsSome, IsNone, is_some, is_none, Result}
+use Rattle.std.specs.Prelude.{IsSome, IsNone, is_some, is_none, Result}
 use Rattle.qm_kinds.specs.declared.input.Input.{Input}
 use Rattle.qm_kinds.specs.declared.input.Input.TheVariants as input
 use Rattle.qm_kinds.specs.declared.record.Record.{Record}
 use Rattle.qm_kinds.specs.declared.refusal.Refusal.{Refusal}
-use Rattle.qm_kinds.specs.declared.refusal.Refusal.TheVariants as refused
 use Rattle.qm_kinds.specs.declared.request.Request.{Request}
 use Rattle.qm_kinds.specs.declared.request.Request.TheVariants as request
 use Rattle.qm_model.specs.Applied.{applied}
@@ -25,7 +24,7 @@ use Rattle.qm_history.specs.Takeover.{takes_over, nodes_on, is_named, IsFailure,
 use Rattle.qm_history.specs.Telling.{TellsWhatItRead}
 use Rattle.qm_history.specs.Turn.{Beside, Nothing, ATakeover, fence, IsAsked, IsCompaction, IsChange, start_refusal, IsComeUp, IsStarted, has_other_manager, loss_of, IsStopped, IsLeftFull, IsLeft, IsGoing, IsOwn, IsBehindTakeover, UnlessDown, is_down}
 use Rattle.qm_history.specs.World.{system_in, role_in, doubt_read}
-use Rattle.qm_history.proofs.ShapeLemmas.{IsOne, is_one, asked_one, viewed_one, compaction_one, full_one, fence_plain, fenced_one}
+use Rattle.qm_history.proofs.ShapeLemmas.{IsOne, asked_one, viewed_one, compaction_one, full_one, fence_plain, fenced_one}
 
 -- ---- a call's own events begin with no takeover
 
@@ -74,7 +73,7 @@ going_plain w node moment (call.Line line what) events h = stopped_plain w node 
 going_plain w node moment (call.Fetch known) events h = stopped_plain w node moment (has_other_manager w node) events h
 going_plain w node moment (call.Report run told) events h = stopped_plain w node moment (has_other_manager w node) events h
 
-own_plain : (w : World) (node reading : ℕ) (asked : Call) (beside : Beside) (what : Input) (events : List Event) → IsOwn w node reading asked beside what events → IsPlain events
+pub own_plain : (w : World) (node reading : ℕ) (asked : Call) (beside : Beside) (what : Input) (events : List Event) → IsOwn w node reading asked beside what events → IsPlain events
 own_plain w node reading asked beside (input.Ask request.Tick) events h =
     one_plain events (fenced_one (fence w node) (IsAsked w node reading request.Tick events) events (fence_plain w node w.manager) (asked_one w node reading request.Tick events) h)
 own_plain w node reading asked beside (input.Ask r) events h = one_plain events (asked_one w node reading r events h)

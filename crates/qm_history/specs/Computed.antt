@@ -1,7 +1,7 @@
 -- The turn that a call makes where no disk fails and there is room.
 -- OpenVMS System Manager's Manual, Managing the Queue Manager and Queue Database, on failover. This site's own: turns, epochs, and
 -- which queue file holds a compaction, for which the first stands here.
-use Rattle.std.specs.Prelude.{ℕ, ◌+◌, Bool, true, false, is_none, ◌||◌, not, List, [], ◌∷◌, Option, None, Some, Result, Ok, Err, unwrap_or, IfSome}
+use Rattle.std.specs.Prelude.{◌≡◌, ℕ, ◌+◌, Bool, true, false, is_none, ◌||◌, not, List, [], ◌∷◌, Option, None, Some, Result, Ok, Err, unwrap_or, IfSome}
 use Rattle.std.specs.List.{AllByRecursion}
 use Rattle.qm_kinds.specs.declared.input.Input.{Input}
 use Rattle.qm_kinds.specs.declared.input.Input.TheVariants as input
@@ -134,3 +134,35 @@ IsLawfulInput s node asked = Unit {0}
 -- what the events record has a spelling
 abbrev pub AreSpelled : (Record → Type 0) → List Event → Type 0
 AreSpelled HasSpelling events = AllByRecursion (λ (e : Event). IfSome (record_of e) HasSpelling) events
+
+-- what is told of a world alone, and neither of a disk, nor of room, nor of a queue file
+abbrev pub is_determined : Event → Bool
+is_determined (event.Done node moment asked reply) = true
+is_determined (event.Refused node moment asked refusal) = true
+is_determined (event.Shown node moment asked) = true
+is_determined (event.NoManager node) = true
+is_determined (event.Took node moment epoch gone up may kept) = true
+is_determined (event.Fenced node held current) = true
+is_determined (event.Stopped node) = true
+is_determined (event.Left node) = true
+is_determined (event.Started node) = true
+is_determined (event.Doubt node moment asked) = false
+is_determined (event.Full node need cap) = false
+is_determined (event.TakeDoubt node tried kept) = false
+is_determined (event.Compacted node epoch file) = false
+is_determined (event.CompactDoubt node) = false
+
+-- each of these events is
+abbrev pub AreAllDetermined : List Event → Type 0
+AreAllDetermined events = AllByRecursion (λ (e : Event). is_determined e ≡ true) events
+
+-- the node isn't named, and that is all
+abbrev pub IsUnnamedAlone : List Event → Type 0
+IsUnnamedAlone (event.NoManager node ∷ []) = Unit {0}
+IsUnnamedAlone events = ⊥
+
+-- no disk failed, all had room, and nothing was compacted; a takeover failed only where the node isn't named
+abbrev pub AreDetermined : List Event → Type 0
+AreDetermined [] = Unit {0}
+AreDetermined (event.TakeDoubt node tried kept ∷ events) = IsUnnamedAlone events
+AreDetermined (e ∷ events) = (is_determined e ≡ true) × AreAllDetermined events

@@ -45,5 +45,5 @@ pub use sound::{sound_worlds_are_consistent, worlds_on_queue_files_stay_sound, w
 pub use start::{files_that_hold_a_log_begin_a_world, programs_begin_sound};
 pub use takeovers::takeovers_tell_what_they_read;
 pub use turn::{Turn, Why};
-pub use turns::each_call_has_a_turn;
+pub use turns::{each_call_has_a_turn, turns_without_fault_are_one};
 pub use world::{Role, World};

@@ -1,9 +1,11 @@
 // The turn that a call makes.
 ghost use Rattle.std.specs.Prelude.{◌≡◌, ◌<◌, ℕ, Bool, List, length, Option, is_some};
 ghost use Rattle.qm_history.specs.declared.call.Call.{Call};
+ghost use Rattle.qm_history.specs.declared.turn.Turn.{Turn};
 ghost use Rattle.qm_history.specs.declared.world.World.{World};
 ghost use Rattle.qm_history.specs.Calls.{input_of, IsFromOutside};
-ghost use Rattle.qm_history.specs.Computed.{turn_of, IsLawfulInput, AreSpelled};
+ghost use Rattle.qm_history.specs.Computed.{turn_of, IsLawfulInput, AreSpelled, AreDetermined};
+ghost use Rattle.qm_history.specs.Leaving.{told_by};
 ghost use Rattle.qm_history.specs.Turn.{IsTurnOf};
 ghost use Rattle.qm_history.specs.World.{system_in, IsSound};
 
@@ -19,3 +21,10 @@ pub fn each_call_has_a_turn<F: Format>()
     requests_keep_consistent();
     nodes_keep_their_names();
 }
+
+/// Where no disk fails, all has room and nothing is compacted, a call's turn is the computed one. So two turns of one call, of one
+/// node at one moment, are the same turn, where reading told the same of a record in doubt.
+pub fn turns_without_fault_are_one<F: Format>()
+    ensures computed { (w : World) (asked : Call) (t : Turn) → IsTurnOf F.has_spelling w asked t → AreDetermined t.events → t ≡ turn_of w t.node t.moment (told_by t.events) asked }
+    ensures one { (w : World) (asked : Call) (t u : Turn) → t.node ≡ u.node → t.moment ≡ u.moment → told_by t.events ≡ told_by u.events → IsTurnOf F.has_spelling w asked t → IsTurnOf F.has_spelling w asked u → AreDetermined t.events → AreDetermined u.events → t ≡ u }
+{}
