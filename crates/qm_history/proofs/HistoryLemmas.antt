@@ -153,7 +153,7 @@ module _ (items_line : Row → List ℕ) where
   text_append w a b =
       ap (flat_map (visit_text items_line)) (visits_append w a b) ∙ flat_map-append (visit_text items_line) (visits w a) (visits (after_turns w a) b)
 
-visits_of_append : (node : ℕ) (w : World) (a b : List Turn) → visits_of node w (a ++ b) ≡ visits_of node w a ++ visits_of node (after_turns w a) b
+pub visits_of_append : (node : ℕ) (w : World) (a b : List Turn) → visits_of node w (a ++ b) ≡ visits_of node w a ++ visits_of node (after_turns w a) b
 visits_of_append node w a b =
     ap (filter (λ (v : Visit). v.turn.node == node)) (visits_append w a b) ∙ filter-append (λ (v : Visit). v.turn.node == node) (visits w a) (visits (after_turns w a) b)
 

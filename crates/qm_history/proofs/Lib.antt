@@ -26,3 +26,4 @@ pub mod NodeLemmas
 pub mod ServedLemmas
 pub mod ComingLemmas
 pub mod OneTurnLemmas
+pub mod ReachingLemmas

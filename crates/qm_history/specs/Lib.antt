@@ -26,3 +26,4 @@ pub mod Order
 pub mod Room
 pub mod Telling
 pub mod Computed
+pub mod Reaching

@@ -4,6 +4,7 @@
 
 mod answers;
 mod call;
+mod courses;
 mod crashes;
 mod devices;
 mod entries;
@@ -21,6 +22,7 @@ mod world;
 
 pub use answers::{full_files_are_full, journal_tells_of_disks};
 pub use call::{Answer, Call, Takeover};
+pub use courses::begun_courses_go_on;
 pub use crashes::{
     crashes_leave_a_beginning, crashes_of_histories_are_of_turns, programs_go_on_after_crashes,
     programs_go_on_from_what_is_left, turns_have_one_event_or_two,
