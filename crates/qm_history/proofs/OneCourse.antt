@@ -10,14 +10,13 @@ use Rattle.qm_kinds.specs.declared.work.Report.TheVariants as report
 use Rattle.qm_kinds.specs.declared.work.Work.{Work}
 use Rattle.qm_kinds.specs.declared.entry.JobKind.TheVariants as job
 use Rattle.qm_model.specs.Filing.{filling}
-use Rattle.qm_model.specs.Script.{Sort, Command, Site}
 use Rattle.qm_history.specs.declared.call.Call.{Call}
 use Rattle.qm_history.specs.declared.call.Call.TheVariants as call
 use Rattle.qm_history.specs.declared.turn.Turn.{Turn}
 use Rattle.qm_history.specs.declared.world.World.{World}
 use Rattle.qm_history.specs.Blocks.{AreHanded, blocks_next}
 use Rattle.qm_history.specs.Course.{KeptRun, MadeStep, WentOn, Whole, IsCourse}
-use Rattle.qm_history.specs.Script.{UserLine}
+use Rattle.qm_history.specs.Script.{UserLine, LineSort, Command, Act}
 use Rattle.qm_history.specs.Text.{text}
 use Rattle.qm_history.specs.Visits.{Visit}
 use Rattle.qm_history.proofs.Serving.{Asked, new_site, world_of, history, no_items, Any}
@@ -55,15 +54,15 @@ pub their_text : text no_items site turns
 unfolding digits
 their_text = refl
 
-abbrev line : ℕ → Sort → List ℕ → UserLine
+abbrev line : ℕ → LineSort → List ℕ → UserLine
 line number sort what = record { line = record { number = number; node = codes "A"; sort = sort; text = what }; user = codes "SYSTEM" }
 
 abbrev lines : List UserLine
 lines =
-    line 1 Site (codes "FILL F.LIS 72")
+    line 1 Act (codes "FILL F.LIS 72")
     ∷ line 2 Command (codes "INIT/QUEUE/START LP")
     ∷ line 3 Command (codes "PRINT/QUEUE=LP F")
-    ∷ line 4 Site (codes "STEP 1")
+    ∷ line 4 Act (codes "STEP 1")
     ∷ []
 
 -- what these lines ask for

@@ -13,7 +13,6 @@ use Rattle.qm_kinds.specs.declared.request.Request.{Request}
 use Rattle.qm_kinds.specs.declared.system.System.{System}
 use Rattle.qm_kinds.specs.declared.record.Record.{Record}
 use Rattle.qm_model.specs.Applied.{applied}
-use Rattle.qm_model.specs.First.{first_system}
 use Rattle.qm_model.specs.Outcome.{Accepted}
 use Rattle.qm_history.specs.declared.call.Call.{Call}
 use Rattle.qm_history.specs.declared.event.Event.{Event}
@@ -26,6 +25,7 @@ use Rattle.qm_history.specs.Calls.{input_of, why_of, acting}
 use Rattle.qm_history.specs.Folding.{system_of}
 use Rattle.qm_history.specs.Legal.{after_turn}
 use Rattle.qm_history.specs.Records.{image_of}
+use Rattle.qm_history.specs.Site.{site_of}
 use Rattle.qm_history.specs.Step.{after_event}
 use Rattle.qm_history.specs.Takeover.{takes_over, nodes_on, may_after}
 use Rattle.qm_history.specs.Turn.{fence, fence_of, is_down, has_other_manager, loss_of}
@@ -90,10 +90,7 @@ history w (a ∷ asked) = turn_of w a ∷ history (after_turn w (turn_of w a)) a
 
 -- two nodes, both down, as they are on new disks
 abbrev pub new_site : System
-new_site = record (first_system (codes "A")) {
-  nodes = record { name = codes "A"; up = false } ∷ record { name = codes "B"; up = false } ∷ [];
-  may = codes "A" ∷ codes "B" ∷ [];
-}
+new_site = site_of (codes "A" ∷ codes "B" ∷ [])
 
 -- a program begins on the disks of a site: each node is live, and none has been manager
 abbrev pub world_of : System → World

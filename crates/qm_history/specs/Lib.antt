@@ -27,3 +27,11 @@ pub mod Room
 pub mod Telling
 pub mod Computed
 pub mod Reaching
+pub mod Contents
+pub mod Chest
+pub mod Site
+pub mod Ends
+pub mod Lines
+pub mod Acts
+pub mod Scans
+pub mod Reading

@@ -1,0 +1,107 @@
+-- What the value stands for on which the nodes work in turns: its own turns behind the world with which it began.
+-- OpenVMS System Manager's Manual, Managing the Queue Manager and Queue Database, on the queue manager process and its files.
+-- This site's own: one value with the files and the image, and the notes of its turns.
+use Rattle.std.specs.Prelude.{◌≡◌, ◌⊎◌, ℕ, ◌+◌, ◌-◌, ◌^◌, ◌≤◌, min, Bool, true, List, [], ◌∷◌, ◌++◌, length, filter_map, is_some, Option, None, Some, IsTrue}
+use Rattle.std.specs.Option.{option_map}
+use Rattle.qm_disk.specs.Disk.{Meaning, LeavesOnly, TellsFaults}
+use Rattle.qm_kinds.specs.declared.record.Record.{Record}
+use Rattle.qm_kinds.specs.declared.system.System.{System}
+use Rattle.qm_history.specs.declared.call.Answer.{Answer}
+use Rattle.qm_history.specs.declared.call.Answer.TheVariants as answer
+use Rattle.qm_history.specs.declared.call.Call.{Call}
+use Rattle.qm_history.specs.declared.turn.Turn.{Turn}
+use Rattle.qm_history.specs.declared.world.Role.{Role}
+use Rattle.qm_history.specs.declared.world.World.{World}
+use Rattle.qm_history.specs.Answering.{MayAnswer}
+use Rattle.qm_history.specs.Contents.{HoldWorld, HoldWithin, HoldIn, Keeps, LeavesFiles, CompactsFiles, are_without_write, compacted_by}
+use Rattle.qm_history.specs.Faults.{faults_told, is_journal}
+use Rattle.qm_history.specs.Legal.{after_turn, after_turns, IsLegal}
+use Rattle.qm_history.specs.Room.{AreAboveCap, AreWithinRoom, room_in}
+use Rattle.qm_history.specs.Start.{Starts}
+use Rattle.qm_history.specs.World.{system_in}
+
+-- the most turns that are kept
+abbrev pub turns_kept : ℕ
+turns_kept = 1000000
+
+-- The disks; the manager, and the image that it serves, while one is up; the greatest epoch, and whether a record is in doubt;
+-- the nodes that are live, and the epoch that each holds; and the turns. How many calls were told that a disk failed, and how
+-- many turns that tell of a takeover in doubt were answered that memory was short or a file damaged.
+pub record Chest (D : Type 0) : Type 0 where
+  pub disk : D
+  pub manager : Option Role
+  pub image : Option System
+  pub greatest : ℕ
+  pub is_in_doubt : Bool
+  pub live : List Bool
+  pub held : List ℕ
+  pub turns : List Turn
+  pub failed : ℕ
+  pub unread : ℕ
+
+-- the image that is served in a world: that of its log, while a manager is up
+abbrev pub image_in : World → Option System
+image_in w = option_map (λ (role : Role). system_in w) w.manager
+
+-- what the chest keeps in memory is the world's
+pub record TellsWorld {D : Type 0} (w : World) (c : Chest D) : Type 0 where
+  pub manager : c.manager ≡ w.manager
+  pub image : c.image ≡ image_in w
+  pub greatest : c.greatest ≡ w.greatest
+  pub doubt : c.is_in_doubt ≡ is_some w.doubt
+  pub live : c.live ≡ w.live
+  pub held : c.held ≡ w.held
+
+-- the notes of turns, without those of calls that left none
+abbrev pub turns_noted : List (Option Turn) → List Turn
+turns_noted notes = filter_map (λ (note : Option Turn). note) notes
+
+-- what is said of a file as a log, and how records are spelled
+module _ (IsLog : List ℕ → List (List ℕ) → Type 0) (HasSpelling : Record → Type 0) (record_text : Record → List ℕ) {D : Type 0} (m : Meaning D) where
+  -- The chest began in this world, on disks that hold it. Its turns are legal there, and tell of room what is so. Behind them it
+  -- stands for the world that they leave: in memory, on the disks, and at each moment since it began in what a crash leaves.
+  pub record StandsFor (w : World) (began : D) (c : Chest D) : Type 0 where
+    pub starts : Starts IsLog HasSpelling record_text (m.seen began) w
+    pub legal : IsLegal HasSpelling w c.turns
+    pub room : AreWithinRoom record_text HasSpelling w (room_in record_text starts.says starts.hold.masters starts.records) c.turns
+    pub caps : AreAboveCap starts.says.cap c.turns
+    pub tells : TellsWorld (after_turns w c.turns) c
+    pub keeps : Keeps IsLog HasSpelling record_text m (after_turns w c.turns) c.disk
+    pub moments : LeavesOnly m began c.disk (λ image. HoldIn IsLog HasSpelling record_text image w c.turns)
+
+  -- What holds of the chest and the notes of the turns that it was handed in: that is what a turnstile keeps between two turns.
+  -- Of disks that don't tell their contents nothing is known but how many calls failed.
+  pub record Stands (w : World) (began : D) (c : Chest D) (notes : List (Option Turn)) : Type 0 where
+    pub turns : c.turns ≡ turns_noted notes
+    pub few : length c.turns ≤ turns_kept
+    pub failed : m.faults c.disk ≡ min (m.faults began + c.failed) (2 ^ 64 - 1)
+    pub told : faults_told c.turns ≡ c.failed + c.unread
+    pub stands : IsTrue m.tells → StandsFor w began c
+
+  -- A call that left a turn: the turn is one of the call, with this answer; at each moment a crash leaves what it may within the
+  -- turn; and where the turn writes nothing, the files are as they were.
+  pub record AddsTurn (w : World) (old new : D) (asked : Call) (t : Turn) (told : Answer) : Type 0 where
+    pub answers : MayAnswer HasSpelling w asked t told
+    pub moments : LeavesOnly m old new (λ image. HoldWithin IsLog HasSpelling record_text image w t)
+    pub files : LeavesFiles m (are_without_write t.events) old new
+    pub compacts : CompactsFiles IsLog HasSpelling record_text m (after_turn w t) old new (compacted_by t.events)
+
+  -- why a call left no turn: as many are kept as can be, or memory was short before a takeover
+  abbrev pub MayLeaveNone : List Turn → Answer → Type 0
+  MayLeaveNone turns told = ((told ≡ answer.HistoryFull) × (length turns ≡ turns_kept)) ⊎ (told ≡ answer.NoMemory None)
+
+  -- a call that left none: at each moment a crash leaves what it might before
+  pub record AddsNone (w : World) (old new : D) (turns : List Turn) (told : Answer) : Type 0 where
+    pub why : MayLeaveNone turns told
+    pub moments : LeavesOnly m old new (λ image. HoldWorld IsLog HasSpelling record_text image w)
+
+  abbrev pub Adds : World → D → D → Call → List Turn → Option Turn → Answer → Type 0
+  Adds w old new asked turns None told = AddsNone w old new turns told
+  Adds w old new asked turns (Some t) told = AddsTurn w old new asked t told
+
+  -- What a call does to a chest that stands for a world and these notes, where its names, lists and spelling keep the rules: the
+  -- answer tells of a disk that failed just where one did, and the chest then stands for one note more.
+  pub record Serves (w : World) (began : D) (old new : Chest D) (notes : List (Option Turn)) (asked : Call) (note : Option Turn) (told : Answer) : Type 0 where
+    pub faults : TellsFaults m old.disk new.disk (is_journal told ≡ true)
+    pub adds : IsTrue m.tells → Adds (after_turns w old.turns) old.disk new.disk asked old.turns note told
+    pub stands : Stands w began new (notes ++ note ∷ [])
