@@ -27,3 +27,6 @@ pub mod ServedLemmas
 pub mod ComingLemmas
 pub mod OneTurnLemmas
 pub mod ReachingLemmas
+pub mod WrongPrograms
+pub mod Cases
+pub mod ReadingLemmas

@@ -13,7 +13,7 @@ use Rattle.qm_history.specs.Accepted.{AreNext, IsAccepted, CanStandBehind}
 use Rattle.qm_history.specs.Folding.{after_record, system_of}
 use Rattle.qm_history.specs.Master.{MasterRecord, Found, Epoch, Live, MasterState, master_text, after_master, master_of, no_master, CanBeLater, CanStandInMaster, AllStandInMaster, AreMaster}
 use Rattle.qm_history.specs.Records.{image_of}
-use Rattle.qm_history.specs.Start.{first_world, Hold, Starts}
+use Rattle.qm_history.specs.Start.{first_world, Hold, HoldRecords, Starts}
 use Rattle.qm_history.specs.World.{system_in, IsSound}
 
 module _ (HasSpelling : Record → Type 0) where
@@ -156,12 +156,18 @@ module _ (IsLog : List ℕ → List (List ℕ) → Type 0) (HasSpelling : Record
     accepted_spelled : (log : List Record) → IsAccepted HasSpelling log → AllSpelled log
     accepted_spelled log h = subst AllSpelled (sym h.whole) (both_spelled (image_of h.image) h.requests h.spelled (next_spelled h.image h.requests h.next))
 
+    -- files have one master
+    pub says_one : (files : ℕ → List ℕ) (says said : MasterState) (records others : List Record) → HoldRecords IsLog HasSpelling record_text files says records
+        → HoldRecords IsLog HasSpelling record_text files said others → says ≡ said
+    says_one files says said records others h k =
+        let masters : h.masters ≡ k.masters =
+        one_list h.masters k.masters (masters_small h.masters h.are_master) (masters_small k.masters k.are_master)
+        (one_log (files 0) (map master_text h.masters) (map master_text k.masters) h.master_is_log k.master_is_log) in
+        h.says_is ∙ ap (master_of no_master) masters ∙ sym k.says_is
+
     pub starts_one : (files : ℕ → List ℕ) (w v : World) → Starts IsLog HasSpelling record_text files w → Starts IsLog HasSpelling record_text files v → w ≡ v
     starts_one files w v h k =
-        let masters : h.hold.masters ≡ k.hold.masters =
-        one_list h.hold.masters k.hold.masters (masters_small h.hold.masters h.hold.are_master) (masters_small k.hold.masters k.hold.are_master)
-        (one_log (files 0) (map master_text h.hold.masters) (map master_text k.hold.masters) h.hold.master_is_log k.hold.master_is_log) in
-        let says : h.says ≡ k.says = h.hold.says_is ∙ ap (master_of no_master) masters ∙ sym k.hold.says_is in
+        let says : h.says ≡ k.says = says_one files h.says k.says h.records k.records h.hold k.hold in
         let live : IsLog (files k.says.live) (map record_text h.records) = subst (λ (m : MasterState). IsLog (files m.live) (map record_text h.records)) says h.hold.live_is_log in
         let records : h.records ≡ k.records =
         same_records h.records k.records (accepted_spelled h.records h.hold.accepted) (accepted_spelled k.records k.hold.accepted)

@@ -13,6 +13,7 @@ mod events;
 mod format;
 mod histories;
 mod marks;
+mod reading;
 mod sound;
 mod start;
 mod takeovers;
@@ -43,6 +44,7 @@ pub use histories::{
     other_epochs_are_fenced, texts_follow_turns,
 };
 pub use marks::entries_have_their_last_marks;
+pub use reading::lines_are_read_as_they_are_served;
 pub use sound::{sound_worlds_are_consistent, worlds_on_queue_files_stay_sound, worlds_stay_sound};
 pub use start::{files_that_hold_a_log_begin_a_world, programs_begin_sound};
 pub use takeovers::takeovers_tell_what_they_read;

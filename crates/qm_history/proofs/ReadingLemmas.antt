@@ -1,0 +1,62 @@
+-- Lines that are read as they are served, and STEP lines.
+use Rattle.std.proofs.Common.{◌≡◌, ℕ, Bool, true, false, List, refl, sym, ◌∙◌, ap, Option, None, Some}
+use Rattle.std.specs.Prelude.{codes, if◌then◌else◌}
+use Rattle.std.specs.Option.{option_and_then}
+use Rattle.std.specs.Str.{bytes_eq}
+use Rattle.std.proofs.lemmas.Slice.Eq.{bytes_eq-Decides}
+use Rattle.qm_kinds.specs.declared.input.Input.{Input}
+use Rattle.qm_kinds.specs.declared.input.Input.TheVariants as input
+use Rattle.qm_kinds.specs.Names.{system_user}
+use Rattle.qm_model.specs.Script as served
+use Rattle.qm_model.specs.Script.{act_of, is_act_word}
+use Rattle.qm_model.specs.Texts.{cut_at_blank}
+use Rattle.qm_dcl.specs.Lines.{input_of}
+use Rattle.qm_history.specs.Acts.{act_asked, act_with, step_act}
+use Rattle.qm_history.specs.Reading.{read, text_asked}
+use Rattle.qm_history.specs.Scans.{scans_of}
+use Rattle.qm_history.specs.Script.{UserLine, LineSort, Command, Items, Act, line_by_system, sort_served, step_number, steps_in, steps_asked}
+use Rattle.qm_history.specs.Visits.{Visit}
+
+yes : {A : Type 0} (b : Bool) (x y : A) → b ≡ true → (if b then x else y) ≡ x
+yes true x y is = refl
+yes false x y is = cc
+
+no_more : {A : Type 0} (b : Bool) (x y : A) → b ≡ false → (if b then x else y) ≡ y
+no_more true x y is = cc
+no_more false x y is = refl
+
+module _ (items_mean : ℕ → List ℕ → List ℕ → Input) where
+  pub commands_same : (l : served.ScriptLine) (reading : ℕ) (earlier : List Visit) (known : List ℕ) → l.sort ≡ served.Command
+      → read items_mean (line_by_system l) reading earlier known ≡ input_of l.sort l.text
+  commands_same l reading earlier known is = same l.sort is
+    where
+      same : (sort : served.Sort) → sort ≡ served.Command
+          → text_asked items_mean (sort_served sort) system_user l.text (scans_of earlier) known ≡ input_of sort l.text
+      same served.Command is = refl
+      same served.Site is = cc
+
+pub acts_same : (known text word rest : List ℕ) → cut_at_blank text ≡ Some (word, rest) → is_act_word word ≡ true → act_asked known text ≡ act_of text
+acts_same known text word rest cut is = ap (act_with known text) cut ∙ yes (is_act_word word) (act_of text) _ is
+
+step_cut : (known text : List ℕ) (steps : ℕ) (o : Option (List ℕ × List ℕ)) → steps_in text ≡ Some steps
+    → option_and_then (λ (parts : List ℕ × List ℕ). if bytes_eq parts.0 (codes "STEP") then step_number parts.1 else None) o ≡ Some steps
+    → act_with known text o ≡ input.Fetch known
+step_cut known text steps None in_text is = cc
+step_cut known text steps (Some parts) in_text is = by_word (bytes_eq parts.0 (codes "STEP")) refl
+  where
+    by_word : (b : Bool) → bytes_eq parts.0 (codes "STEP") ≡ b → act_with known text (Some parts) ≡ input.Fetch known
+    by_word true same =
+        let word : parts.0 ≡ codes "STEP" = (bytes_eq-Decides parts.0 (codes "STEP")).0 same in
+        let other : is_act_word parts.0 ≡ false = ap is_act_word word in
+        no_more (is_act_word parts.0) (act_of text) _ other ∙ yes (bytes_eq parts.0 (codes "STEP")) (step_act known (steps_in text)) _ same ∙ ap (step_act known) in_text
+    by_word false same =
+        let none : None ≡ Some steps = sym (no_more (bytes_eq parts.0 (codes "STEP")) (step_number parts.1) None same) ∙ is in cc
+
+pub steps_fetch : (items_mean : ℕ → List ℕ → List ℕ → Input) (l : UserLine) (reading : ℕ) (earlier : List Visit) (known : List ℕ) (steps : ℕ) → steps_asked l.line.sort l.line.text ≡ Some steps
+    → read items_mean l reading earlier known ≡ input.Fetch known
+steps_fetch items_mean l reading earlier known steps is = by_sort l.line.sort is
+  where
+    by_sort : (sort : LineSort) → steps_asked sort l.line.text ≡ Some steps → text_asked items_mean sort l.user l.line.text (scans_of earlier) known ≡ input.Fetch known
+    by_sort Command is = cc
+    by_sort Items is = cc
+    by_sort Act is = step_cut known l.line.text steps (cut_at_blank l.line.text) is is

@@ -1,0 +1,157 @@
+-- Programs that the definitions refuse: what each does, and that it can't be.
+use Rattle.std.proofs.Common.{◌≡◌, ◌≢◌, inl, inr, ℕ, ◌+◌, ◌^◌, ◌<◌, ◌≤◌, true, false, List, [], ◌∷◌, ◌++◌, refl, sym, ◌∙◌, ap, subst, arith, Option, None, Some}
+use Rattle.std.specs.Prelude.{codes, ◌-◌, min, is_some, option_to_list}
+use Rattle.std.specs.List.{AllByRecursion}
+use Rattle.std.proofs.lemmas.List.{append-nil}
+use Rattle.qm_disk.specs.Disk.{Image, Meaning, IsLeft, OnlyLooks, TellsFaults}
+use Rattle.qm_kinds.specs.declared.input.Input.{Input}
+use Rattle.qm_kinds.specs.declared.input.Input.TheVariants as input
+use Rattle.qm_kinds.specs.declared.query.After.TheVariants as after
+use Rattle.qm_kinds.specs.declared.query.Listing.TheVariants.{Queues}
+use Rattle.qm_kinds.specs.declared.query.Query.{Query}
+use Rattle.qm_kinds.specs.declared.record.Record.{Record}
+use Rattle.qm_kinds.specs.declared.refusal.ParseKind.TheVariants as parse
+use Rattle.qm_kinds.specs.declared.refusal.Refusal.TheVariants as refused
+use Rattle.qm_history.specs.declared.call.Answer.{Answer}
+use Rattle.qm_history.specs.declared.call.Answer.TheVariants as answer
+use Rattle.qm_history.specs.declared.call.Call.{Call}
+use Rattle.qm_history.specs.declared.call.Call.TheVariants as call
+use Rattle.qm_history.specs.declared.event.Event.{Event}
+use Rattle.qm_history.specs.declared.event.Event.TheVariants as event
+use Rattle.qm_history.specs.declared.turn.Turn.{Turn}
+use Rattle.qm_history.specs.declared.turn.Why.{Why}
+use Rattle.qm_history.specs.declared.turn.Why.TheVariants as why
+use Rattle.qm_history.specs.declared.world.Role.{Role}
+use Rattle.qm_history.specs.declared.world.World.{World}
+use Rattle.qm_history.specs.Answering.{MayAnswer}
+use Rattle.qm_history.specs.Calls.{input_of}
+use Rattle.qm_history.specs.Chest.{AddsTurn}
+use Rattle.qm_history.specs.Contents.{Compacts, HoldWorld, IsEpochOf, Keeps, LeavesFiles, are_without_write}
+use Rattle.qm_history.specs.Course.{Whole}
+use Rattle.qm_history.specs.Faults.{is_journal}
+use Rattle.qm_history.specs.Folding.{system_of}
+use Rattle.qm_history.specs.Legal.{IsLegalTurn}
+use Rattle.qm_history.specs.Leaving.{MayBeLeftBehind}
+use Rattle.qm_history.specs.Order.{AreInOrder, nothing_served}
+use Rattle.qm_history.specs.Reading.{read}
+use Rattle.qm_history.specs.Readings.{AreReadings}
+use Rattle.qm_history.specs.Room.{Room, IsAboveCap, IsRoomTold}
+use Rattle.qm_history.specs.Script.{UserLine, LineSort, Items, Act}
+use Rattle.qm_history.specs.Start.{Hold}
+use Rattle.qm_history.specs.Telling.{TellsWhatItRead}
+use Rattle.qm_history.specs.Turn.{IsServed}
+use Rattle.qm_history.specs.Visits.{Visit, visits_of}
+use Rattle.qm_history.specs.World.{system_in}
+use Rattle.qm_history.proofs.AnswerLemmas.{all_above}
+use Rattle.qm_history.proofs.StartLemmas.{says_one, hold_one}
+use Rattle.qm_history.proofs.TellingLemmas.{turn_tells}
+use Rattle.qm_history.proofs.Serving.{new_site, world_of, listing_of}
+
+-- ---- answers, room and faults
+
+-- It tells that a file is full whose room it didn't ask for.
+pub full_with_room : (text : Record → List ℕ) (w : World) (m : Room) (asked : Call) (t : Turn) (node need cap : ℕ) → need ≤ cap → t.events ≡ event.Full node need cap ∷ []
+    → IsRoomTold text w m asked t → ⊥
+full_with_room text w m asked t node need cap small is told =
+    let above : AllByRecursion (IsAboveCap m.cap) (event.Full node need cap ∷ []) =
+    subst (AllByRecursion (IsAboveCap m.cap)) is (all_above text None w m t.moment (input_of asked) t.events told) in
+    omega (arith, small, above.0.0)
+
+-- It answers that a disk failed, where none did.
+pub journal_on_a_good_disk : {D : Type 0} (m : Meaning D) (old new : D) (told : Answer) → m.faults new ≡ m.faults old → m.faults old < 2 ^ 64 - 1
+    → is_journal told ≡ true → TellsFaults m old new (is_journal told ≡ true) → ⊥
+journal_on_a_good_disk m old new told same small says tells =
+    let one : m.faults new ≡ min (m.faults old + 1) (2 ^ 64 - 1) = tells.fault says in omega (arith, same, small, one)
+
+-- It hides behind want of memory that a record was left in doubt by a disk.
+pub fault_behind_no_memory : (HasSpelling : Record → Type 0) (w : World) (asked : Call) (t : Turn) (first next : Event) → t.events ≡ first ∷ next ∷ []
+    → MayAnswer HasSpelling w asked t (answer.NoMemory None) → ⊥
+fault_behind_no_memory HasSpelling w asked t first next is may =
+    subst (λ (events : List Event). Rattle.qm_history.specs.Answering.IsOneTakeover events) is may.1
+
+-- ---- clocks and order
+
+-- It never asks its clock, and takes the first moment.
+pub no_reading : (v : Visit) → v.turn.moment ≡ 0 → AreReadings Whole (1000 ∷ []) (v ∷ []) → ⊥
+no_reading v zero_is told = let same : ◌≡◌ {A = ℕ} 1000 0 = cc in absurd (omega (arith, same))
+
+-- It serves all of one node before the other node's lines.
+abbrev turn : ℕ → Why → Turn
+turn node because = record { node = node; why = because; moment = 1000; events = [] }
+
+pub node_by_node : AreInOrder nothing_served (turn 0 (why.Line 1) ∷ turn 0 why.Fetch ∷ turn 0 why.Leave ∷ turn 1 (why.Line 2) ∷ []) → ⊥
+node_by_node order = order.1.1.1.0.1
+
+-- ---- files
+
+module _ (IsLog : List ℕ → List (List ℕ) → Type 0) (HasSpelling : Record → Type 0) (text : Record → List ℕ) (one_log : (file : List ℕ) (a b : List (List ℕ)) → IsLog file a → IsLog file b → a ≡ b) (one_record : (q r : Record) → HasSpelling q → HasSpelling r → text q ≡ text r → q ≡ r) where
+  settled : (w : World) (log : List Record) → w.doubt ≡ None → MayBeLeftBehind w log → system_of log ≡ system_in w
+  settled w log none (inl same) = ap system_of same
+  settled w log none (inr same) = ap system_of (same ∙ ap (λ (o : Option Record). w.log ++ option_to_list o) none ∙ append-nil w.log)
+
+  -- It puts the last sync of an append off: a crash may still leave the log before a record that was acknowledged.
+  pub sync_put_off : {D : Type 0} (m : Meaning D) (w : World) (disk : D) (image : Image) (before : List Record) → w.doubt ≡ None → IsLeft (m.may_leave disk) image
+      → Hold IsLog HasSpelling text image before → system_of before ≢ system_in w → Keeps IsLog HasSpelling text m w disk → ⊥
+  sync_put_off m w disk image before none left holds other keeps =
+      let kept : HoldWorld IsLog HasSpelling text image w = keeps.crash image left in
+      other (hold_one IsLog HasSpelling text one_log one_record image before kept.log holds kept.holds ∙ settled w kept.log none kept.left)
+
+  -- Its COMPACT writes nothing.
+  pub nothing_compacted : (files : Image) (file : ℕ) (w : World) → Compacts IsLog HasSpelling text files files file w → ⊥
+  nothing_compacted files file w h =
+      h.other (sym h.live ∙ ap (λ (m : _). m.live) (says_one IsLog HasSpelling text one_log one_record files h.says h.said _ _ h.is h.was))
+
+  -- It writes no epoch into the master.
+  pub no_epoch : (files : Image) (w : World) (role : Role) → w.manager ≡ Some role → 0 < role.epoch → (h : HoldWorld IsLog HasSpelling text files w) → h.holds.says.epoch ≡ 0 → ⊥
+  no_epoch files w role up high h none =
+      let same : h.holds.says.epoch ≡ role.epoch = subst (λ (o : Option Role). IsEpochOf w o h.holds.says.epoch) up h.epoch in omega (arith, high, none, same)
+
+  -- Its COMPACT of a node that holds another epoch rewrites a file.
+  pub rewritten_by_a_fenced_call : {D : Type 0} (m : Meaning D) (w : World) (old new : D) (asked : Call) (t : Turn) (told : Answer) (node held current f : ℕ)
+      → t.events ≡ event.Fenced node held current ∷ [] → f ≤ 2 → m.seen new f ≢ m.seen old f → AddsTurn IsLog HasSpelling text m w old new asked t told → ⊥
+  rewritten_by_a_fenced_call m w old new asked t told node held current f is within other adds =
+      let looks : OnlyLooks m old new = subst (λ (events : List Event). LeavesFiles m (are_without_write events) old new) is adds.files in
+      other (looks.reads f within)
+
+-- ---- takeovers
+
+-- Its takeover reads the file, and hides what became of the record in doubt.
+pub hidden_doubt : (HasSpelling : Record → Type 0) (w : World) (t : Turn) (r : Record) → w.doubt ≡ Some r → t.events ≡ event.TakeDoubt t.node (w.greatest + 1) None ∷ []
+    → IsLegalTurn HasSpelling w t → ⊥
+hidden_doubt HasSpelling w t r doubt is legal =
+    let tells : TellsWhatItRead w (event.TakeDoubt t.node (w.greatest + 1) None ∷ []) = subst (TellsWhatItRead w) is (turn_tells HasSpelling w t legal) in
+    let bad : false ≡ is_some w.doubt = tells refl in
+    let worse : false ≡ true = bad ∙ ap (λ (o : Option Record). is_some o) doubt in
+    cc
+
+-- ---- readers
+
+abbrev line : ℕ → List ℕ → LineSort → List ℕ → UserLine
+line number node sort what = record { line = record { number = number; node = node; sort = sort; text = what }; user = codes "SYSTEM" }
+
+-- the query of an item list that goes on with a listing of queues
+abbrev queues : Query
+queues = record (listing_of Queues None) { single = true }
+
+-- whatever an item list says, it asks for the next queue
+abbrev next_queue : ℕ → List ℕ → List ℕ → Input
+next_queue function bytes user = input.Show queues
+
+abbrev site : World
+site = world_of new_site
+
+-- Its reader finds a fault in each line: TICK is read, and the turn of a fault isn't one of it.
+pub each_line_a_fault : IsServed site 0 1000 (call.Line 1 (read next_queue (line 1 (codes "A") Act (codes "TICK")) 1000 [] [])) (event.Refused 0 1000 (input.Fault 0 parse.Form) (refused.ParseFault 0 parse.Form) ∷ []) → ⊥
+each_line_a_fault served = served
+
+-- The queue SYS$BATCH was shown to A. A's next call goes on behind it, and B's call begins: it has no listing of A's.
+abbrev shown_to_a : List Turn
+shown_to_a =
+    record { node = 0; why = why.Line 1; moment = 1000; events = event.Took 0 1000 1 (codes "A" ∷ codes "B" ∷ []) (codes "A" ∷ codes "B" ∷ []) (codes "A" ∷ codes "B" ∷ []) None ∷ event.Shown 0 1000 (input.Show queues) ∷ [] } ∷ []
+
+pub a_goes_on : read next_queue (line 2 (codes "A") Items (codes "41 00000000")) 1000 (visits_of 0 site shown_to_a) []
+    ≡ input.Show (record queues { after = Some (after.Name (codes "SYS$BATCH")) })
+a_goes_on = refl
+
+pub b_begins : read next_queue (line 3 (codes "B") Items (codes "41 00000000")) 1000 (visits_of 1 site shown_to_a) [] ≡ input.Show queues
+b_begins = refl
