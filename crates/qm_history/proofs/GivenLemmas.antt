@@ -29,16 +29,16 @@ use Rattle.qm_history.specs.World.{system_in}
 -- ---- what stands in lists
 
 module _ {X : Type 0} where
-  abbrev IsAmong : X → List X → Type 0
+  abbrev pub IsAmong : X → List X → Type 0
   IsAmong x [] = ⊥
   IsAmong x (y ∷ ys) = (y ≡ x) ⊎ IsAmong x ys
 
-  among : (xs : List X) (x : X) → Contains xs x → IsAmong x xs
+  pub among : (xs : List X) (x : X) → Contains xs x → IsAmong x xs
   among [] x found = absurd (omega (arith, found.1))
   among (y ∷ ys) x (zero, within, is) = inl is
   among (y ∷ ys) x (suc k, within, is) = inr (among ys x (k, omega arith, is))
 
-  contained : (xs : List X) (x : X) → IsAmong x xs → Contains xs x
+  pub contained : (xs : List X) (x : X) → IsAmong x xs → Contains xs x
   contained [] x h = absurd h
   contained (y ∷ ys) x (inl is) = (zero, omega arith, is)
   contained (y ∷ ys) x (inr h) = let further = contained ys x h in (suc further.0, omega (arith, further.1), further.2)

@@ -30,3 +30,8 @@ pub mod ReachingLemmas
 pub mod WrongPrograms
 pub mod Cases
 pub mod ReadingLemmas
+pub mod CoverLemmas
+pub mod RequeueLemmas
+pub mod MasterLemmas
+pub mod LeftOut
+pub mod ReportLemmas

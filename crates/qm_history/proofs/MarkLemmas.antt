@@ -296,7 +296,7 @@ module _ (marks : ℕ → List ℕ) (next : ℕ) where
     of_system : Told Mine s.entries → Told Mine found.entries
     of_system h = told_map Mine (entry_at now) (λ e k. k) (filter (λ e. not (is_over now e.state)) s.entries) (told_filter Mine (λ e. not (is_over now e.state)) s.entries h)
 
-accepted_is : (o : Option Refusal) (x a : Accepted) → unless_refused o x ≡ Ok a → x ≡ a
+pub accepted_is : (o : Option Refusal) (x a : Accepted) → unless_refused o x ≡ Ok a → x ≡ a
 accepted_is None x a h = cc
 accepted_is (Some refusal) x a h = cc
 

@@ -73,7 +73,7 @@ read l reading earlier known =
     if l.line.number == 3 then input.Ask (request.Submit (print_job (codes "LP"))) else input.Fetch known
 
 -- the job as the node has it
-abbrev work : Work
+abbrev pub work : Work
 work = record {
   run = 1;
   entry = 1;
@@ -89,7 +89,7 @@ work = record {
   mark = [];
 }
 
-abbrev run_at : ℕ → KeptRun
+abbrev pub run_at : ℕ → KeptRun
 run_at block = record { run = 1; aborting = false; paused = false; work = work; place = record { at = block; used = 0 }; fetched = 3 }
 
 abbrev steps : List MadeStep

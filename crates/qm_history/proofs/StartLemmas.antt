@@ -30,7 +30,7 @@ module _ (HasSpelling : Record → Type 0) where
 -- ---- masters
 
 -- the numbers of a record have eight bytes
-abbrev IsSmall : MasterRecord → Type 0
+abbrev pub IsSmall : MasterRecord → Type 0
 IsSmall (Found cap file) = cap < 2 ^ 64
 IsSmall (Epoch epoch node) = epoch < 2 ^ 64
 IsSmall (Live file epoch) = epoch < 2 ^ 64
@@ -38,7 +38,7 @@ IsSmall (Live file epoch) = epoch < 2 ^ 64
 same_eight : (a b : ℕ) → a < 2 ^ 64 → b < 2 ^ 64 → to_le_bytes w64 a ≡ to_le_bytes w64 b → a ≡ b
 same_eight a b small_a small_b same = sym (from_le_bytes-to_le_bytes_8 a small_a) ∙ ap (from_le_bytes w64) same ∙ from_le_bytes-to_le_bytes_8 b small_b
 
-one_text : (a b : MasterRecord) → IsSmall a → IsSmall b → master_text a ≡ master_text b → a ≡ b
+pub one_text : (a b : MasterRecord) → IsSmall a → IsSmall b → master_text a ≡ master_text b → a ≡ b
 one_text (Found cap file) (Found c f) small_a small_b same =
     let number : cap ≡ c = same_eight cap c small_a small_b (ap (λ xs. take 8 (drop 2 xs)) same) in
     let last : file ≡ f = cc in
@@ -74,7 +74,7 @@ one_list (q ∷ a) (r ∷ b) small_a small_b same =
     let more : a ≡ b = one_list a b small_a.1 small_b.1 others in
     cc
 
-master_append : (m : MasterState) (a : List MasterRecord) (r : MasterRecord) → master_of m (a ++ r ∷ []) ≡ after_master (master_of m a) r
+pub master_append : (m : MasterState) (a : List MasterRecord) (r : MasterRecord) → master_of m (a ++ r ∷ []) ≡ after_master (master_of m a) r
 master_append m [] r = refl
 master_append m (x ∷ a) r = master_append (after_master m x) a r
 
@@ -89,7 +89,7 @@ later_small m (Found cap file) small h = absurd h
 later_small m (Epoch epoch node) small h = let below : epoch < 2 ^ 62 = h.1 in (omega arith, below)
 later_small m (Live file epoch) small h = let same : epoch ≡ m.epoch = h.1 in (omega arith, small)
 
-one_small : (before : List MasterRecord) (r : MasterRecord) → (master_of no_master before).epoch < 2 ^ 62 → CanStandInMaster before r
+pub one_small : (before : List MasterRecord) (r : MasterRecord) → (master_of no_master before).epoch < 2 ^ 62 → CanStandInMaster before r
     → IsSmall r × ((after_master (master_of no_master before) r).epoch < 2 ^ 62)
 one_small [] r small h = first_small r h
 one_small (first ∷ before) r small h = later_small (master_of no_master (first ∷ before)) r small h

@@ -35,3 +35,5 @@ pub mod Lines
 pub mod Acts
 pub mod Scans
 pub mod Reading
+pub mod Again
+pub mod Judged

@@ -1,33 +1,37 @@
 -- When each block of a print job was handed over, whatever stops and restarts came between.
 -- OpenVMS System Manager's Manual, Setting Up and Maintaining Queues, on jobs that restart at a checkpoint.
 -- This site's own: marks and ends of runs that a script tells.
-use Rattle.std.specs.Prelude.{◌≡◌, ℕ, ◌≤◌, ◌==◌, Bool, true, false, ◌&&◌, ◌||◌, is_some, List, [], ◌∷◌, ◌++◌, length, drop, slice_get, Option, None, Some, Contains}
+use Rattle.std.specs.Prelude.{◌≡◌, ℕ, ◌<◌, ◌≤◌, ◌==◌, Bool, true, false, ◌&&◌, ◌||◌, is_some, List, [], ◌∷◌, ◌++◌, length, drop, slice_get, Option, None, Some, IsNone, Contains}
 use Rattle.std.specs.List.{AllByRecursion}
 use Rattle.std.specs.Option.{option_map_or}
 use Rattle.qm_kinds.specs.declared.entry.Entry.{Entry}
 use Rattle.qm_kinds.specs.declared.entry.JobKind.TheVariants.{Print}
+use Rattle.qm_kinds.specs.declared.input.Input.{Input}
 use Rattle.qm_kinds.specs.declared.record.Record.{Record}
 use Rattle.qm_kinds.specs.declared.record.Body.{Body}
 use Rattle.qm_kinds.specs.declared.record.Body.TheVariants as body
 use Rattle.qm_kinds.specs.declared.request.Request.TheVariants as request
 use Rattle.qm_kinds.specs.declared.system.System.{System}
 use Rattle.qm_kinds.specs.declared.work.Report.TheVariants as report
+use Rattle.qm_kinds.specs.declared.work.Work.{Work}
 use Rattle.qm_model.specs.Batch.{normal_status}
 use Rattle.qm_model.specs.Find.{entry_numbered}
 use Rattle.qm_model.specs.Pages.{page_blocks}
-use Rattle.qm_model.specs.Reports.{printed}
+use Rattle.qm_model.specs.Reports.{begin, printed}
 use Rattle.qm_history.specs.declared.event.Event.{Event}
 use Rattle.qm_history.specs.declared.turn.Turn.{Turn}
 use Rattle.qm_history.specs.declared.turn.Why.{Why}
 use Rattle.qm_history.specs.declared.turn.Why.TheVariants as why
 use Rattle.qm_history.specs.declared.world.World.{World}
-use Rattle.qm_history.specs.Course.{MadeStep, WentOn, report_told}
+use Rattle.qm_history.specs.Course.{Extent, IsCourse, MadeStep, WentOn, report_told}
 use Rattle.qm_history.specs.Folding.{after_record}
-use Rattle.qm_history.specs.Legal.{after_turn}
+use Rattle.qm_history.specs.Legal.{after_turn, IsLegal}
 use Rattle.qm_history.specs.Marks.{reporting, finds_running, names_entry}
 use Rattle.qm_history.specs.Records.{record_of}
+use Rattle.qm_history.specs.Script.{UserLine}
 use Rattle.qm_history.specs.Step.{after_event}
-use Rattle.qm_history.specs.World.{system_in}
+use Rattle.qm_history.specs.Visits.{Visit}
+use Rattle.qm_history.specs.World.{system_in, IsSound}
 
 -- ---- what happened in a history
 
@@ -133,9 +137,34 @@ pub record Came (steps : ℕ → List MadeStep) (entry index : ℕ) (block : Lis
   pub at : step.run.place.at ≡ index
   pub is_block : slice_get (page_blocks step.run.work) index ≡ Some block
 
--- In a history in which the nodes made these steps, a job that was left alone, and whose run ended well, had each of its blocks
--- handed over at least once, behind the mark that it had in the first world.
-abbrev pub EachCame : World → List Turn → (ℕ → List MadeStep) → ℕ → Type 0
-EachCame w turns steps entry =
-    IsLeftAlone w turns entry → (node : ℕ) (m : MadeStep) → EndsWell w turns steps entry node m → (index : ℕ) (block : List ℕ)
-    → printed_before (system_in w) entry m ≤ index → slice_get (page_blocks m.run.work) index ≡ Some block → Came steps entry index block
+-- one of these steps, of the same fetch, handed over this block
+abbrev pub IsHandedOver : List MadeStep → Work → ℕ → Type 0
+IsHandedOver steps work index = (m : MadeStep) × Contains steps m × (m.run.work ≡ work) × (m.end ≡ WentOn) × (m.run.place.at ≡ index)
+
+-- before each step of a print run the blocks from the mark on with which it was fetched were handed over
+abbrev pub AreHandedBehindMarks : List MadeStep → Type 0
+AreHandedBehindMarks steps =
+    AllByRecursion (λ (m : MadeStep). m.run.work.kind ≡ Print → (index : ℕ) → (begin m.run.work).at ≤ index → index < m.run.place.at → IsHandedOver steps m.run.work index) steps
+
+-- a step of one node and one of another hand over the same block of a job: each stands behind the mark with which it was fetched,
+-- the later one too
+abbrev pub ComesAgainElsewhere : MadeStep → MadeStep → Type 0
+ComesAgainElsewhere a b =
+    a.run.work.kind ≡ Print → b.run.work.kind ≡ Print → a.run.work.entry ≡ b.run.work.entry → a.run.place.at ≡ b.run.place.at
+    → ((begin a.run.work).at ≤ b.run.place.at) × ((begin b.run.work).at ≤ a.run.place.at)
+
+-- How lines are read is a parameter of courses.
+module _ (HasSpelling : Record → Type 0) (read : UserLine → ℕ → List Visit → List ℕ → Input) where
+  -- the steps are those of a course of each node, whole or begun
+  abbrev pub AreMade : World → List Turn → (ℕ → List MadeStep) → Type 0
+  AreMade w turns steps =
+      (node : ℕ) → (extent : Extent) × (lines : List UserLine) × (faults : ℕ) × (h : IsCourse HasSpelling read extent w turns node lines faults) × (steps node ≡ h.steps)
+
+  -- In a legal history from a sound world in which nothing is in doubt, where the nodes made these steps, a job that was left
+  -- alone, and whose run ended well, had each of its blocks handed over at least once, behind the mark that it had in the first
+  -- world. A mark in doubt there would be one that no step of the history told.
+  abbrev pub EachCame : World → List Turn → (ℕ → List MadeStep) → ℕ → Type 0
+  EachCame w turns steps entry =
+      IsSound HasSpelling w → IsNone w.doubt → IsLegal HasSpelling w turns → AreMade w turns steps → IsLeftAlone w turns entry
+      → (node : ℕ) (m : MadeStep) → EndsWell w turns steps entry node m → (index : ℕ) (block : List ℕ)
+      → printed_before (system_in w) entry m ≤ index → slice_get (page_blocks m.run.work) index ≡ Some block → Came steps entry index block

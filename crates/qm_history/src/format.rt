@@ -23,4 +23,10 @@ pub trait FileFormat: Format {
 
     /// The bytes of a file are a log of these texts.
     ghost is_log: { List ℕ → List (List ℕ) → Type 0 };
+
+    /// A file is broken off at this place: neither a whole record nor a closed gate stands there.
+    ghost is_broken_at: { List ℕ → ℕ → Type 0 };
+
+    /// The place of the gate of the record of this number, counted from 0, in a file of these texts.
+    ghost place_of: { List (List ℕ) → ℕ → ℕ };
 }

@@ -2,6 +2,7 @@
 //! cite, and laws about them. It has no program: its functions are laws.
 #![tactic(auto)]
 
+mod again;
 mod answers;
 mod call;
 mod courses;
@@ -13,6 +14,8 @@ mod events;
 mod format;
 mod histories;
 mod marks;
+mod masters;
+mod printed;
 mod reading;
 mod sound;
 mod start;
@@ -21,9 +24,10 @@ mod turn;
 mod turns;
 mod world;
 
+pub use again::jobs_that_went_back_run_again;
 pub use answers::{full_files_are_full, journal_tells_of_disks};
 pub use call::{Answer, Call, Takeover};
-pub use courses::begun_courses_go_on;
+pub use courses::{begun_courses_go_on, reports_are_of_steps};
 pub use crashes::{
     crashes_leave_a_beginning, crashes_of_histories_are_of_turns, programs_go_on_after_crashes,
     programs_go_on_from_what_is_left, turns_have_one_event_or_two,
@@ -44,6 +48,8 @@ pub use histories::{
     other_epochs_are_fenced, texts_follow_turns,
 };
 pub use marks::entries_have_their_last_marks;
+pub use masters::masters_are_judged_once;
+pub use printed::{blocks_come_again_elsewhere_behind_marks, no_block_is_left_out_of_a_stretch};
 pub use reading::lines_are_read_as_they_are_served;
 pub use sound::{sound_worlds_are_consistent, worlds_on_queue_files_stay_sound, worlds_stay_sound};
 pub use start::{files_that_hold_a_log_begin_a_world, programs_begin_sound};
