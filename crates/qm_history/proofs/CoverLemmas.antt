@@ -77,9 +77,9 @@ module _ (index : ℕ) where
 handed : (all earlier : List MadeStep) (work : Work) (index : ℕ) → ((x : MadeStep) → IsAmong x earlier → Contains all x) → IsCovered earlier work index → IsHandedOver all work index
 handed all earlier work index inside (m, there, same, went, at) = (m, inside m there, same, went, at)
 
-one_more_inside : (all earlier steps : List MadeStep) (m : MadeStep) → ((x : MadeStep) → IsAmong x earlier → Contains all x) → Contains all m → (x : MadeStep) → IsAmong x (m ∷ earlier) → Contains all x
-one_more_inside all earlier steps m inside here x (inl is) = subst (λ y. Contains all y) is here
-one_more_inside all earlier steps m inside here x (inr there) = inside x there
+one_more_inside : (all earlier : List MadeStep) (m : MadeStep) → ((x : MadeStep) → IsAmong x earlier → Contains all x) → Contains all m → (x : MadeStep) → IsAmong x (m ∷ earlier) → Contains all x
+one_more_inside all earlier m inside here x (inl is) = subst (λ y. Contains all y) is here
+one_more_inside all earlier m inside here x (inr there) = inside x there
 
 handed_behind : (all earlier steps : List MadeStep) → ((x : MadeStep) → IsAmong x earlier → Contains all x) → ((x : MadeStep) → IsAmong x steps → Contains all x) → again.Came earlier
     → ComeInStretches earlier steps
@@ -87,7 +87,7 @@ handed_behind : (all earlier steps : List MadeStep) → ((x : MadeStep) → IsAm
 handed_behind all earlier [] inside others came h = tt
 handed_behind all earlier (m ∷ steps) inside others came h = (
   (λ print index behind below. handed all earlier m.run.work index inside (covered index earlier m.run came h.0 print behind below)),
-  handed_behind all (m ∷ earlier) steps (one_more_inside all earlier steps m inside (others m (inl refl))) (λ x there. others x (inr there)) (h.0, came) h.1,
+  handed_behind all (m ∷ earlier) steps (one_more_inside all earlier m inside (others m (inl refl))) (λ x there. others x (inr there)) (h.0, came) h.1,
 )
 
 pub all_handed_behind : (steps : List MadeStep) → ComeInStretches [] steps → AreHandedBehindMarks steps

@@ -231,9 +231,6 @@ module _ (number : ℕ) where
   abbrev Back : List (List ℕ) → EntryState → Entry → Type 0
   Back lost st e = e.number ≡ number → goes_back lost st e.restart ≡ true
 
-  never : (x : Entry) (e : Entry) (b : Bool) → x.number ≡ e.number → b ≡ false → (e.number ≡ number → b ≡ true) → Runs x
-  never x e b same isnt h = λ is. let yes : b ≡ true = h (sym same ∙ is) in cc
-
   interrupted_back : (queues : List Queue) (now : ℕ) (e : Entry) (b : Bool) → (e.number ≡ number → b ≡ true) → IfSome (cond b (Some (requeued e)) (ended queues now node_lost_status e)) Runs
   interrupted_back queues now e true h = λ is. refl
   interrupted_back queues now e false h = kept_at _ _ (λ is. let yes : false ≡ true = h is in cc)

@@ -20,7 +20,7 @@ pub fn begun_courses_go_on<F: Format>()
     ensures reaches_on { (read : UserLine → ℕ → List Visit → List ℕ → Input) (w : World) (turns : List Turn) (t : Turn) (node : ℕ) (lines : List UserLine) (steps more : List MadeStep) (then last : NodeState) (then_live last_live : Bool) → t.node ≡ node → Reaches F.has_spelling read (at_first lines) [] (is_live w node) (visits_of node w turns) steps then then_live → Reaches F.has_spelling read then (visits_of node w turns) then_live (record { before = after_turns w turns; turn = t } ∷ []) more last last_live → Reaches F.has_spelling read (at_first lines) [] (is_live w node) (visits_of node w (turns ++ t ∷ [])) (steps ++ more) last last_live }
 {}
 
-/// Each report that a node tells in a turn is of a step that it made, so nothing is told that no symbiont came to.
+/// Each report that a node tells in a turn is of a step that it made: of its run, and what that step came to.
 pub fn reports_are_of_steps<F: Format>()
     ensures { (read : UserLine → ℕ → List Visit → List ℕ → Input) (extent : Extent) (w : World) (turns : List Turn) (node : ℕ) (lines : List UserLine) (faults : ℕ) (h : IsCourse F.has_spelling read extent w turns node lines faults) → ReportSteps F.has_spelling read (visits_of node w turns) h.steps }
 {}

@@ -14,7 +14,7 @@ use qm_model::{nodes_keep_their_names, requests_keep_consistent};
 
 /// Each call of a node of the cluster has a turn, whatever its clock told and whatever a takeover finds of a record in doubt:
 /// where the call asks for nothing that is the queue manager's own, what it asks for keeps the rules on names, and what its turn
-/// records has a spelling. So no honest program is refused.
+/// records has a spelling. So the rules of turns leave no such call without a legal one.
 pub fn each_call_has_a_turn<F: Format>()
     ensures { (w : World) (node reading : ℕ) (kept : Option Bool) (asked : Call) → IsSound F.has_spelling w → node < length (system_in w).nodes → is_some kept ≡ is_some w.doubt → IsFromOutside (input_of asked) → IsLawfulInput (system_in w) node (input_of asked) → AreSpelled F.has_spelling (turn_of w node reading kept asked).events → IsTurnOf F.has_spelling w asked (turn_of w node reading kept asked) }
 {
