@@ -1,7 +1,6 @@
 -- Calls of two nodes as a table, the turns that they make, and what is printed of them; and what single turns and steps may be.
 use Rattle.std.proofs.Common.{◌≡◌, ℕ, lit<, Bool, true, false, List, [], ◌∷◌, ◌++◌, refl, None, Some}
 use Rattle.std.specs.Prelude.{codes}
-use Rattle.std.specs.Option.{option_map}
 use Rattle.std.specs.Fmt.{digits}
 use Rattle.qm_kinds.specs.declared.entry.JobKind.TheVariants as job
 use Rattle.qm_kinds.specs.declared.input.Input.{Input}
@@ -26,13 +25,7 @@ use Rattle.qm_history.specs.Legal.{after_turn}
 use Rattle.qm_history.specs.Room.{HaveRoom}
 use Rattle.qm_history.specs.Text.{text, cluster_text}
 use Rattle.qm_history.specs.Turn.{IsServed, IsTakeoverAlone}
-use Rattle.qm_history.proofs.Serving.{Asked, new_site, world_of, no_items}
-
--- the turns of calls at a site whose disks don't fail
-abbrev history : World → List Asked → List Turn
-history w [] = []
-history w (a ∷ asked) =
-    let t : Turn = turn_of w a.node a.reading (option_map (λ (r : Record). true) w.doubt) a.call in t ∷ history (after_turn w t) asked
+use Rattle.qm_history.proofs.Serving.{Asked, history, new_site, world_of, no_items}
 
 abbrev site : World
 site = world_of new_site
