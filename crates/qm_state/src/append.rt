@@ -1,5 +1,5 @@
 // Bytes are added to a file.
-ghost use Rattle.std.specs.Prelude.{◌≡◌, ◌<◌, ◌≤◌, ℕ, List, [], length, IfOk, Ok, IsSome};
+ghost use Rattle.std.specs.Prelude.{◌≡◌, ◌<◌, ◌≤◌, ℕ, List, length, IsSome};
 ghost use Rattle.qm_kinds.specs.declared.limits.TheConstants.{FILE_LIMIT};
 ghost use Rattle.qm_kinds.specs.declared.request.Request.TheVariants as request;
 ghost use Rattle.qm_model.specs.Appending.{append_refusal, appended, bytes_of};
@@ -7,8 +7,7 @@ ghost use Rattle.qm_model.specs.Find.{file_named};
 ghost use Rattle.qm_model.specs.Replying.{replied};
 ghost use Rattle.qm_state.specs.Deciding.{Prepares, Takes};
 ghost use Rattle.qm_state.specs.Image.{system_of};
-ghost use Rattle.qm_state.specs.Preparing.{found, outcome_of, IsReady, CanInsert, CanAppend};
-ghost use Rattle.qm_state.specs.Refusing.{Decides, KeepsRefused};
+ghost use Rattle.qm_state.specs.Preparing.{CanInsert, CanAppend};
 
 use crate::image::Image;
 use crate::prepared::Change;

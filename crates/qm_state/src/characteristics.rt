@@ -1,5 +1,5 @@
 // Characteristics are defined and deleted.
-ghost use Rattle.std.specs.Prelude.{◌≡◌, ℕ, List, [], None, IfOk};
+ghost use Rattle.std.specs.Prelude.{◌≡◌, None};
 ghost use Rattle.qm_kinds.specs.declared.request.Request.TheVariants as request;
 ghost use Rattle.qm_model.specs.Characteristics.{is_characteristic_taken, define_characteristic_refusal, characteristic_defined, delete_characteristic_refusal, characteristic_deleted};
 ghost use Rattle.qm_model.specs.Referring.{refused_by_queue};
@@ -7,8 +7,7 @@ ghost use Rattle.qm_model.specs.Replying.{replied};
 ghost use Rattle.qm_state.specs.Deciding.{Prepares, Takes};
 ghost use Rattle.qm_state.specs.Image.{system_of};
 ghost use Rattle.qm_state.specs.Naming.{has_one_of};
-ghost use Rattle.qm_state.specs.Preparing.{found, outcome_of, CanDefineCharacteristic, IsReady};
-ghost use Rattle.qm_state.specs.Refusing.{Decides, KeepsRefused};
+ghost use Rattle.qm_state.specs.Preparing.{CanDefineCharacteristic};
 
 use crate::image::Image;
 use crate::naming::{Named, has_one_of, refused_by_entry};

@@ -1,5 +1,5 @@
 // What is due at a moment: jobs that wait for it become pending, and those that are retained until then go.
-ghost use Rattle.std.specs.Prelude.{◌≡◌, ◌≤◌, All, Bool, length, filter, not, nat_le, true, false};
+ghost use Rattle.std.specs.Prelude.{◌≡◌, All, nat_le, true, false};
 ghost use Rattle.std.specs.Option.{option_map_or};
 ghost use Rattle.qm_entries.specs.Boxed.{contents};
 ghost use Rattle.qm_kinds.specs.declared.entry.EntryState.{EntryState as AnyState};

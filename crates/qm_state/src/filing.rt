@@ -1,14 +1,13 @@
 // A file is filled with lines, or dropped.
-ghost use Rattle.std.specs.Prelude.{◌≡◌, ℕ, List, [], length, find, None, IfOk, IsSome};
+ghost use Rattle.std.specs.Prelude.{◌≡◌, length, None, IfOk, IsSome};
 ghost use Rattle.qm_kinds.specs.declared.request.Request.TheVariants as request;
-ghost use Rattle.qm_model.specs.Appending.{append_refusal, appended};
+ghost use Rattle.qm_model.specs.Appending.{append_refusal};
 ghost use Rattle.qm_model.specs.Filing.{filling, fill_refusal, filled, drop_refusal, dropped};
 ghost use Rattle.qm_model.specs.Find.{file_named};
 ghost use Rattle.qm_model.specs.Replying.{replied};
 ghost use Rattle.qm_state.specs.Deciding.{Prepares, Takes};
 ghost use Rattle.qm_state.specs.Image.{system_of};
-ghost use Rattle.qm_state.specs.Preparing.{found, outcome_of, CanDrop, IsReady};
-ghost use Rattle.qm_state.specs.Refusing.{Decides, KeepsRefused};
+ghost use Rattle.qm_state.specs.Preparing.{CanDrop};
 
 use crate::image::Image;
 use crate::prepared::Change;

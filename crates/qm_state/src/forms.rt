@@ -1,13 +1,12 @@
 // Forms are defined and deleted.
-ghost use Rattle.std.specs.Prelude.{◌≡◌, ◌+◌, ℕ, nat_le, List, [], None, IfOk};
+ghost use Rattle.std.specs.Prelude.{◌≡◌, ◌+◌, nat_le, None};
 ghost use Rattle.qm_kinds.specs.declared.request.Request.TheVariants as request;
 ghost use Rattle.qm_model.specs.Forms.{is_bad_form, is_form_taken, define_form_refusal, form_defined, is_named, delete_form_refusal, form_deleted};
 ghost use Rattle.qm_model.specs.Referring.{refused_by_queue};
 ghost use Rattle.qm_model.specs.Replying.{replied};
 ghost use Rattle.qm_state.specs.Deciding.{Prepares, Takes};
 ghost use Rattle.qm_state.specs.Image.{system_of};
-ghost use Rattle.qm_state.specs.Preparing.{found, outcome_of, CanDefineForm, IsReady};
-ghost use Rattle.qm_state.specs.Refusing.{Decides, KeepsRefused};
+ghost use Rattle.qm_state.specs.Preparing.{CanDefineForm};
 
 use crate::image::Image;
 use crate::naming::{Named, is_named, refused_by_entry};

@@ -1,5 +1,5 @@
 // The waiting jobs of one queue are moved to another.
-ghost use Rattle.std.specs.Prelude.{◌≡◌, ◌≤◌, ℕ, List, [], IfOk};
+ghost use Rattle.std.specs.Prelude.{◌≡◌};
 ghost use Rattle.qm_kinds.specs.declared.request.Request.TheVariants as request;
 ghost use Rattle.qm_kinds.specs.declared.system.System.{System};
 ghost use Rattle.qm_model.specs.Consistent.{IsConsistent};
@@ -7,8 +7,6 @@ ghost use Rattle.qm_model.specs.Merging.{merge_refusal, merged};
 ghost use Rattle.qm_model.specs.Replying.{replied};
 ghost use Rattle.qm_state.specs.Deciding.{Prepares};
 ghost use Rattle.qm_state.specs.Image.{system_of};
-ghost use Rattle.qm_state.specs.Preparing.{found, outcome_of, IsReady};
-ghost use Rattle.qm_state.specs.Refusing.{Decides};
 
 use crate::image::Image;
 use crate::kinds::take_same_jobs;

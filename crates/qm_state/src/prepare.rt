@@ -1,4 +1,4 @@
-ghost use Rattle.std.specs.Prelude.{◌≡◌, ◌<◌, ◌≤◌, ℕ, List, IfOk, Ok, length, true};
+ghost use Rattle.std.specs.Prelude.{◌≡◌, ◌<◌, ◌≤◌, IfOk, Ok, length, true};
 ghost use Rattle.qm_model.specs.Applied.{applied};
 ghost use Rattle.qm_model.specs.Built.{is_built};
 ghost use Rattle.qm_model.specs.Consistent.{IsConsistent};

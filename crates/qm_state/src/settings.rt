@@ -1,13 +1,11 @@
 // The settings that SET QUEUE, START/QUEUE and INITIALIZE/QUEUE give: why they are refused, and what they are.
 ghost use Rattle.std.specs.Prelude.{◌≡◌, is_none};
 ghost use Rattle.std.specs.Option.{option_and_then, option_copied, option_map};
-ghost use Rattle.qm_kinds.specs.declared.queue.QueueChange.{QueueChange as AnyChange};
 ghost use Rattle.qm_kinds.specs.declared.system.System.{System};
 ghost use Rattle.qm_model.specs.Outcome.{refused_where};
-ghost use Rattle.qm_model.specs.Queues.{set_queue_refusal, started_queue};
-ghost use Rattle.qm_model.specs.Settings.{are_bad_sizes, is_bad_change, is_change_of_other_kind, change_refusal, with_change};
+ghost use Rattle.qm_model.specs.Queues.{set_queue_refusal};
+ghost use Rattle.qm_model.specs.Settings.{are_bad_sizes, is_bad_change, is_change_of_other_kind, change_refusal};
 ghost use Rattle.qm_model.specs.Wanted.{refused_form, refused_characteristics, form_named, characteristics_of};
-ghost use Rattle.qm_model.specs.Standing.{with_queue};
 ghost use Rattle.qm_state.specs.Settings.{HasForms, HasQueues, AreSettingsOf};
 
 use crate::kinds::{is_batch_queue, is_generic, is_print_queue};
