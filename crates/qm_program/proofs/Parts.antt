@@ -1,11 +1,14 @@
 -- A text is cut at its first line feed.
-use Rattle.std.proofs.Common.{◌≡◌, ◌<◌, ◌≤◌, ◌+◌, ◌-◌, ◌==◌, ℕ, true, false, cond, nat_lt, List, [], ◌∷◌, ◌++◌, length, take, drop, position, Option, None, Some, arith, refl, sym, ◌∙◌, ap}
+use Rattle.std.proofs.Common.{◌≡◌, ◌<◌, ◌≤◌, ◌+◌, ◌-◌, ◌==◌, ℕ, Bool, true, false, ◌&&◌, cond, if◌then◌else◌, nat_lt, List, [], ◌∷◌, ◌++◌, length, take, drop, position, Option, None, Some, arith, refl, sym, ◌∙◌, ap}
 use Rattle.std.specs.Option.{option_map}
 use Rattle.qm_model.specs.Script.{ScriptLine, lines_from, line_of}
 use Rattle.std.specs.List.{slice_split, position_or_len, count_by}
 use Rattle.std.proofs.lemmas.List.Splits.{slice_split_none, slice_split_first}
 use Rattle.std.proofs.lemmas.List.Sums.{fails_before_first}
 use Rattle.std.proofs.lemmas.Bool.Decides.{nat_tests}
+use Rattle.std.proofs.lemmas.List.{map-append}
+use Rattle.qm_program.specs.Lines.{lines_view, line_view}
+use Rattle.qm_program.specs.declared.script.Line.{Line}
 use Rattle.std.proofs.Common.{take_all, length-drop, append_assoc}
 use Rattle.std.proofs.lemmas.List.Splits.{length-slice_split}
 
@@ -63,3 +66,10 @@ module _ (number : ℕ) (rest text more : List ℕ) (front : List ScriptLine) (w
       let parts = some_part more in
       let step : lines_from number (text ∷ slice_split (λ b. b == 10) more) ≡ with_lines (line ∷ []) (lines_from (number + 1) (slice_split (λ b. b == 10) more)) = rw (parts.2, full, ← is) refl in
       with_more_lines front (line ∷ []) (lines_from (number + 1) (slice_split (λ b. b == 10) more)) ∙ ap (with_lines front) (sym step) ∙ here
+
+-- a line was put behind those so far, if all of them were
+pub line_put : (before put now : Bool) (lines more : List Line) (line : Line) (so_far : List ScriptLine) → now ≡ (before && put) → more ≡ (if put then lines ++ line ∷ [] else lines)
+    → (before ≡ true → lines_view lines ≡ so_far) → now ≡ true → lines_view more ≡ so_far ++ line_view line ∷ []
+line_put true true now lines more line so_far is more_is all e = rw (more_is, map-append) (ap (λ (front : List ScriptLine). front ++ line_view line ∷ []) (all refl))
+line_put true false now lines more line so_far is more_is all e = cc
+line_put false put now lines more line so_far is more_is all e = cc

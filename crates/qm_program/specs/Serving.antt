@@ -5,7 +5,7 @@ use Rattle.qm_kinds.specs.declared.input.Input.{Input}
 use Rattle.qm_kinds.specs.declared.input.Input.TheVariants.{Ask, Show, Fault}
 use Rattle.qm_model.specs.Built.{is_built}
 use Rattle.qm_model.specs.Listing.{IsOfOneEntry}
-use Rattle.qm_model.specs.Transcript.{line_text, journal_line}
+use Rattle.qm_model.specs.Transcript.{line_text}
 use Rattle.qm_show.specs.declared.answer.Prefix.{Prefix}
 use Rattle.qm_disk.specs.Disk.{Meaning, OneFailed, IsQuiet}
 use Rattle.qm_manager.specs.declared.manager.Manager.{Manager}
@@ -34,12 +34,7 @@ IsAskable (Show query) = IsOfOneEntry query
 IsAskable (Fault place kind) = Unit {0}
 IsAskable _ = ⊥
 
--- what says that the disk failed was made
-abbrev pub TellsFailure : Prefix → AnswerFault → Type 0
-TellsFailure prefix (Disk told) = told.items ≡ lines_behind prefix (journal_line ∷ [])
-TellsFailure prefix NoMemory = Unit {0}
-
--- It was handed to a sink, which took it, or failed, and then took a part of it.
+-- A text was handed to a sink, which took it, or failed, and then took a part of it.
 abbrev pub TellsThrough : Option (List ℕ) → Option (List ℕ) → ℕ → ℕ → List ℕ → ServeEnd → Type 0
 TellsThrough old new before now told ends.Journal = Appends old new told × (now ≡ before)
 TellsThrough old new before now told ends.Write = TakesPart old new told × (now ≡ counted before)
@@ -52,7 +47,7 @@ module _ {D : Type 0} (m : Meaning D) where
   LeavesSite before after old new (Ok text) = IsReady m new × (site_of new ≡ after) × IsQuiet m (disk_of old) (disk_of new)
   LeavesSite before after old new (Err NoMemory) =
       IsReady m new × ((site_of new ≡ before) ⊎ (site_of new ≡ after)) × IsQuiet m (disk_of old) (disk_of new)
-  LeavesSite before after old new (Err (Disk told)) = OneFailed m (disk_of old) (disk_of new)
+  LeavesSite before after old new (Err Disk) = OneFailed m (disk_of old) (disk_of new)
 
   -- how a manager answers a line: a crash at any moment leaves the site from before it or from after it
   pub record Serves {X : Type 0} (before after : Site) (old new : Manager D) (result : Result X AnswerFault) : Type 0 where

@@ -10,6 +10,7 @@ ghost use Rattle.qm_program.specs.Course.{MakesSteps, StopsWithin};
 ghost use Rattle.qm_program.specs.Running.{OfScript, ServesScript, RunsTo};
 ghost use Rattle.qm_program.specs.Surviving.{Survives, AreServed, AreServedTo};
 ghost use Rattle.qm_program.specs.declared.outcome.End.{End};
+ghost use Rattle.qm_program.specs.declared.script.TheConstants.{SCRIPT_BYTES};
 
 use crate::outcome::End;
 use qm_disk::Disk;
@@ -44,6 +45,11 @@ pub fn steps_print_their_text<D: Disk>(old: &D, new: &D)
 /// A queue file takes 134,217,728 bytes at most. Definitions cite the number by its name, so here it is said.
 pub fn a_queue_file_has_a_cap()
     ensures { QUEUE_CAP ≡ 134217728 }
+{}
+
+/// A script has 16,777,216 bytes at most. Definitions cite the number by its name, so here it is said.
+pub fn a_script_has_a_limit()
+    ensures { SCRIPT_BYTES ≡ 16777216 }
 {}
 
 /// The name of a node has at most 6 bytes, and that of a queue, a device, a form, a stock or a characteristic at most 31.

@@ -15,7 +15,7 @@ mod top_call;
 pub use laws::{
     a_crash_leaves_the_site_after_some_lines, a_queue_file_has_a_cap,
     a_run_that_ends_well_has_served_its_script, a_run_that_stops_has_served_its_first_lines,
-    names_have_limits, steps_print_their_text,
+    a_script_has_a_limit, names_have_limits, steps_print_their_text,
 };
 pub use outcome::{End, Outcome};
 pub use top_call::qman;

@@ -1,16 +1,13 @@
 // A script: lines for the nodes of a site, each ended by a line feed.
-ghost use Rattle.std.specs.Prelude.{◌≡◌, ◌==◌, ◌+◌, ◌<◌, ◌≤◌, ◌∷◌, [], not, nat_lt, map, length, position, Ok, Err, IsOk, IfOk, IfErr, OnOk, IfSome, MatchOption, MatchResult};
-ghost use Rattle.std.specs.List.{list_all, slice_split};
-ghost use Rattle.std.specs.Option.{option_map, option_copied};
-ghost use Rattle.std.specs.Str.{bytes_eq};
-ghost use Rattle.qm_kinds.specs.declared.script.ScriptKind.TheVariants.{Form};
+ghost use Rattle.std.specs.Prelude.{◌≡◌, ◌==◌, ◌<◌, ◌≤◌, length, position, IfSome};
+ghost use Rattle.std.specs.List.{list_all};
+ghost use Rattle.std.specs.Option.{option_map};
 ghost use Rattle.qm_model.specs.Texts.{cut_at_blank};
 ghost use Rattle.qm_model.specs.Script.{is_line_byte, node_name_of, sorted, line_of, script_of, are_of_node};
 ghost use Rattle.qm_program.specs.Lines.{line_view, lines_view, parts_view, CutsFirstLine, ReadsScript};
-ghost use Rattle.qm_program.specs.declared.script.ScriptEnd.TheVariants.{Fault, NoMemory};
 
 use qm_kinds::{NODE_NAME_BYTES, Name, ScriptKind};
-use std::alloc::{AllocError, AllocFailed, Global};
+use std::alloc::Global;
 
 /// The most bytes that a script may have.
 pub(crate) const SCRIPT_BYTES: usize = 16_777_216;
@@ -40,30 +37,6 @@ pub(crate) struct Line<'a> {
 pub(crate) enum ScriptEnd {
     Fault(ScriptKind),
     NoMemory,
-}
-
-impl From<ScriptKind> for ScriptEnd {
-    ghost from_gives = { λ kind end. end ≡ Fault kind };
-
-    fn from(kind: ScriptKind) -> ScriptEnd {
-        ScriptEnd::Fault(kind)
-    }
-}
-
-impl From<AllocError> for ScriptEnd {
-    ghost from_gives = { λ _ end. end ≡ NoMemory };
-
-    fn from(_: AllocError) -> ScriptEnd {
-        ScriptEnd::NoMemory
-    }
-}
-
-impl<T: Drop> From<AllocFailed<T>> for ScriptEnd {
-    ghost from_gives = { λ _ end. end ≡ NoMemory };
-
-    fn from(_: AllocFailed<T>) -> ScriptEnd {
-        ScriptEnd::NoMemory
-    }
 }
 
 // The place of the first such byte.
@@ -153,37 +126,14 @@ pub(crate) fn are_of_node(node: &Name, lines: &[Line<'_>]) -> bool
     true
 }
 
-// Whether the text is a script. It takes no memory.
-fn check_script(script: &[u8]) -> Result<(), ScriptKind>
-    requires { length script.now ≤ SCRIPT_BYTES }
-    ensures script { OnOk result (IsOk (script_of script.now)) }
-    ensures fault { IfErr result (λ kind. script_of script.now ≡ Err kind) }
-{
-    let mut rest = script;
-    let mut at_line = 1;
-    while let Some((text, more)) = cut_at_line_feed(rest) {
-        if !text.is_empty() {
-            let Some(_) = read_line(at_line, text) else {
-                return Err(ScriptKind::Form);
-            };
-        }
-        rest = more;
-        at_line += 1;
-    }
-    if rest.is_empty() {
-        Ok(())
-    } else {
-        Err(ScriptKind::Form)
-    }
-}
-
-/// The lines of a script that aren't empty. Memory is wanted for a script alone.
+/// The lines of a script that aren't empty. Where memory runs out the rest is read all the same, so that it is wanted for a
+/// script alone.
 pub(crate) fn read_script<'a>(alloc: Global, script: &'a [u8]) -> Result<Vec<Line<'a>>, ScriptEnd>
     requires { length script.now ≤ SCRIPT_BYTES }
     ensures { ReadsScript (λ lines. lines_view lines.items) (script_of script.now) result }
 {
-    check_script(script)?;
     let mut lines = Vec::new(alloc);
+    let mut are_all = true;
     let mut rest = script;
     let mut number = 1;
     while let Some((text, more)) = cut_at_line_feed(rest) {
@@ -191,15 +141,17 @@ pub(crate) fn read_script<'a>(alloc: Global, script: &'a [u8]) -> Result<Vec<Lin
             let Some(line) = read_line(number, text) else {
                 return Err(ScriptEnd::Fault(ScriptKind::Form));
             };
-            lines.reserve(1)?;
-            lines.push_reserved(line);
+            are_all &= lines.push(line).is_ok();
         }
         rest = more;
         number += 1;
     }
-    if rest.is_empty() {
+    if !rest.is_empty() {
+        return Err(ScriptEnd::Fault(ScriptKind::Form));
+    }
+    if are_all {
         Ok(lines)
     } else {
-        Err(ScriptEnd::Fault(ScriptKind::Form))
+        Err(ScriptEnd::NoMemory)
     }
 }

@@ -3,13 +3,14 @@ ghost use Rattle.std.specs.Prelude.{◌≡◌, ◌∷◌, [], true, IfOk, IfErr,
 ghost use Rattle.qm_model.specs.Built.{is_built};
 ghost use Rattle.qm_model.specs.Listing.{IsOfOneEntry};
 ghost use Rattle.qm_model.specs.Script.{are_of_node};
+ghost use Rattle.qm_model.specs.Transcript.{journal_line};
 ghost use Rattle.qm_model.specs.Words.{refusal_line};
 ghost use Rattle.qm_manager.specs.Asking.{HasShortLists};
 ghost use Rattle.qm_manager.specs.Manager.{site_of, node_of, IsReady};
 ghost use Rattle.qm_program.specs.Lines.{line_view, lines_view};
 ghost use Rattle.qm_program.specs.Transcript.{turn_of, turn, step_of, steps_of};
 ghost use Rattle.qm_program.specs.Course.{MakesStep, MakesSteps, StopsAtStep, StopsWithin};
-ghost use Rattle.qm_program.specs.Serving.{outside, lines_behind, IsAskable, Serves, CountsSink, TellsFailure, TellsThrough};
+ghost use Rattle.qm_program.specs.Serving.{outside, lines_behind, IsAskable, Serves, CountsSink, TellsThrough};
 ghost use Rattle.qm_program.specs.Ends.{end_of};
 ghost use Rattle.qm_program.specs.declared.serve.AnswerFault.TheVariants.{NoMemory};
 
@@ -34,10 +35,10 @@ pub(crate) enum ServeEnd {
 }
 
 // Why a line has no answer.
-#[derive(Debug, Drop)]
+#[derive(Clone, Copy)]
 enum AnswerFault {
-    /// The disk failed. What says so was made before it was asked, so that want of memory never hides it.
-    Disk { told: Vec<u8> },
+    /// The disk failed.
+    Disk,
     NoMemory,
 }
 
@@ -60,15 +61,13 @@ fn ask<D: Disk>(
     requires built { is_built request.now ≡ true }
     requires short { HasShortLists request.now }
     ensures text { IfOk result (λ text. text.items ≡ lines_behind prefix.now (turn_of (site_of manager.old) (Input.Ask request.now)).answer) }
-    ensures told { IfErr result (TellsFailure prefix.now) }
     ensures serves { Serves D.meaning (site_of manager.old) (turn_of (site_of manager.old) (Input.Ask request.now)).site manager.old manager.new result }
 {
-    let told = show_journal(alloc, prefix)?;
     match manager.ask(request) {
         Ok(reply) => Ok(show_reply(alloc, prefix, &reply)?),
         Err(AskFault::Refused(refusal)) => Ok(show_refusal(alloc, prefix, &refusal)?),
         Err(AskFault::Full { need, cap }) => Ok(show_full(alloc, prefix, need, cap)?),
-        Err(AskFault::Disk) => Err(AnswerFault::Disk { told }),
+        Err(AskFault::Disk) => Err(AnswerFault::Disk),
         Err(AskFault::NoMemory) => Err(AnswerFault::NoMemory),
     }
 }
@@ -112,7 +111,6 @@ fn answer<D: Disk>(
     requires ready { IsReady D.meaning manager.old }
     requires askable { IsAskable input.now }
     ensures text { IfOk result (λ text. text.items ≡ lines_behind prefix.now (turn_of (site_of manager.old) input.now).answer) }
-    ensures told { IfErr result (TellsFailure prefix.now) }
     ensures serves { Serves D.meaning (site_of manager.old) (turn_of (site_of manager.old) input.now).site manager.old manager.new result }
 {
     match input {
@@ -124,10 +122,10 @@ fn answer<D: Disk>(
 }
 
 // Tells that the disk failed at a line.
-fn tell_failure<O: Sink>(sink: &mut O, told: &[u8]) -> ServeEnd
-    ensures { TellsThrough (O.taken sink.old) (O.taken sink.new) (O.faults sink.old) (O.faults sink.new) told.now result }
+fn tell_failure<O: Sink>(sink: &mut O, prefix: &Prefix) -> ServeEnd
+    ensures { TellsThrough (O.taken sink.old) (O.taken sink.new) (O.faults sink.old) (O.faults sink.new) (lines_behind prefix.now (journal_line ∷ [])) result }
 {
-    match write_whole(sink, told) {
+    match write_whole(sink, show_journal(prefix).as_str().as_bytes()) {
         Ok(()) => ServeEnd::Journal,
         Err(_) => ServeEnd::Write,
     }
@@ -164,7 +162,7 @@ fn serve<O: Sink, D: Disk>(
             Ok(()) => Ok(()),
             Err(_) => Err(ServeEnd::Write),
         },
-        Err(AnswerFault::Disk { told }) => Err(tell_failure(sink, &told)),
+        Err(AnswerFault::Disk) => Err(tell_failure(sink, &prefix)),
         Err(AnswerFault::NoMemory) => Err(ServeEnd::NoMemory),
     }
 }

@@ -115,6 +115,12 @@ fn run<S: Source, O: Sink, D: Disk>(
 /// The ends are tried in this order: `Usage` (other words; nothing is read), `Read` (the source failed), `Script` (what was
 /// read isn't a script; the disk isn't touched), `Journal`, `Unformatted` and `Damaged` as opening tells, `Script` (a line is
 /// of another node than the file), then `Write` (the sink failed), `Journal` (the disk failed) and `NoMemory` as they arise.
+///
+/// Two laws say what follows from the clause `does` of a run. At `Ok` the script was served whole: the sink took its
+/// transcript over the site of the queue file, which is then that of the site after all lines
+/// ([`crate::a_run_that_ends_well_has_served_its_script`]). And a crash at any moment leaves the queue file of the site after
+/// the first lines of the script, none to all, or what a crash before the run might leave
+/// ([`crate::a_crash_leaves_the_site_after_some_lines`]).
 pub fn qman<S: Source, O: Sink, D: Disk>(
     alloc: Global,
     words: &[String],

@@ -6,7 +6,8 @@ ghost use Rattle.qm_show.specs.Prefix.{prefix_text};
 
 use crate::act::{ActWords, StartText, mark_value};
 use crate::refusal::RefusalText;
-use crate::row::RowText;
+use crate::row::{RowText, characters};
+use arrayvec::ArrayString;
 use qm_kinds::{Act, Name, Refusal, Reply, Row};
 use std::alloc::{AllocError, Global};
 use std::fmt;
@@ -130,9 +131,16 @@ pub fn show_full(alloc: Global, prefix: &Prefix, need: u64, cap: u64) -> Result<
     one_line(alloc, prefix, FullText { need, cap })
 }
 
-/// The line that says that the disk failed. Memory may run out.
-pub fn show_journal(alloc: Global, prefix: &Prefix) -> Result<Vec<u8>, AllocError>
-    ensures { IfOk result (λ text. text.items ≡ flat_map (line_text prefix.now.node prefix.now.line) (journal_line ∷ [])) }
+/// The line that says that the disk failed. It is made in place, so that want of memory never hides it: a name of at most
+/// 39 bytes, a number of at most ten digits, and 19 bytes beside them.
+pub fn show_journal(prefix: &Prefix) -> ArrayString<68>
+    ensures { result.bytes ≡ flat_map (line_text prefix.now.node prefix.now.line) (journal_line ∷ []) }
 {
-    one_line(alloc, prefix, "%QMAN-F-JOURNAL")
+    let mut digits = itoa::Buffer::new();
+    let mut text = ArrayString::new();
+    text.push_str(characters(&prefix.node));
+    text.push_str(" ");
+    text.push_str(digits.format(prefix.line));
+    text.push_str(": %QMAN-F-JOURNAL\n");
+    text
 }

@@ -77,7 +77,7 @@ impl fmt::Display for ListedText<'_> {
 }
 
 // The name as text. Each of its bytes is a character, so that the formatter fills it up by its length.
-fn characters(name: &Name) -> &str
+pub(crate) fn characters(name: &Name) -> &str
     ensures value { result.now ≡ name.now }
     ensures lawful { IsText is_name_byte name.now }
 {

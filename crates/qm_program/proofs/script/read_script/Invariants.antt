@@ -1,6 +1,6 @@
-use Rattle.std.proofs.Common.{◌≡◌, ◌+◌, ◌≤◌, ◌==◌, length}
+use Rattle.std.proofs.Common.{◌≡◌, ◌+◌, ◌≤◌, ◌==◌, true, List, length}
 use Rattle.std.specs.List.{slice_split}
-use Rattle.qm_model.specs.Script.{lines_from}
+use Rattle.qm_model.specs.Script.{ScriptLine, lines_from}
 use Rattle.qm_program.specs.Lines.{lines_view}
 use Rattle.qm_program.proofs.Parts.{with_lines}
 use Rattle.qm_program.proofs.script.read_script.Given as goal
@@ -8,7 +8,9 @@ use Rattle.qm_program.proofs.script.read_script.Given as goal
 -- the lines so far and those of the rest are those of the whole, and each line took a byte at least
 abbrev pub invariant-loop-text : goal.invariant-loop-text
 invariant-loop-text l = record {
-  lines : with_lines (lines_view l.lines.items) (lines_from l.number (slice_split (λ b. b == 10) l.rest)) ≡ lines_from 1 (slice_split (λ b. b == 10) l.script);
+  so_far : List ScriptLine;
+  lines : with_lines so_far (lines_from l.number (slice_split (λ b. b == 10) l.rest)) ≡ lines_from 1 (slice_split (λ b. b == 10) l.script);
+  all : l.are_all ≡ true → lines_view l.lines.items ≡ so_far;
   number : l.number + length l.rest ≤ length l.script + 1;
 }
 
