@@ -9,8 +9,8 @@ ghost use Rattle.qm_state.specs.Preparing.{StartAtMost};
 
 use crate::image::Image;
 use crate::prepared::Change;
-use qm_kinds::{Queue, QueueKind, QueueState, Start};
-use qm_sched::starts_are_few;
+use qm_kinds::{Queue, QueueState, Start};
+use qm_sched::{places, starts_are_few};
 use std::alloc::AllocError;
 
 // How many jobs a queue that is started can have at once; none can start in another one.
@@ -21,10 +21,7 @@ fn start_places_of(queue: &Queue) -> u32
     if queue.state != QueueState::Started {
         return 0;
     }
-    match queue.kind {
-        QueueKind::Batch | QueueKind::GenericBatch => u32::from(queue.limit),
-        QueueKind::Print | QueueKind::GenericPrint => 1,
-    }
+    u32::from(places(queue))
 }
 
 // The places of the queues that are started.
