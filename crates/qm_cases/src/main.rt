@@ -1,5 +1,5 @@
 //! The worked cases that are data. Each is two files of the folder: a script, `NAME.qman`, and what it prints,
-//! `NAME.transcript`. Each is served over a device in memory that holds a new site of the node A; a case whose name has a
+//! `NAME.transcript`. Each is served over a disk in memory that holds a new site of the node A; a case whose name has a
 //! `+` before it goes on over the site that the one before it left.
 #![tactic(auto)]
 
@@ -18,7 +18,7 @@ struct Ran {
     disk: MemoryDisk,
 }
 
-// The program with these words over a text and a device.
+// The program with these words over a text and a disk.
 fn run(alloc: Global, words: &[&str], text: Vec<u8>, disk: MemoryDisk) -> Result<Ran, AllocError> {
     let mut owned = Vec::new(alloc);
     for word in words {
@@ -34,7 +34,7 @@ fn run(alloc: Global, words: &[&str], text: Vec<u8>, disk: MemoryDisk) -> Result
     })
 }
 
-// A device with a new site of the node A.
+// A disk with a new site of the node A.
 fn new_site(alloc: Global) -> Result<MemoryDisk, AllocError> {
     let empty = MemoryDisk::new(
         alloc,
@@ -53,7 +53,7 @@ fn file_of(rt: &HostRuntime, name: &str, ending: &str) -> io::Result<Vec<u8>> {
     fs::read(rt, path.as_str())
 }
 
-// Serves a case over a device, and tells whether it printed its transcript.
+// Serves a case over a disk, and tells whether it printed its transcript.
 fn passes(rt: &HostRuntime, name: &str, disk: MemoryDisk) -> io::Result<(bool, MemoryDisk)> {
     let script = file_of(rt, name, "qman")?;
     let transcript = file_of(rt, name, "transcript")?;

@@ -30,10 +30,10 @@ use Rattle.qm_program.proofs.Going.{keeps_same, steps_are_quiet, steps_keep_othe
 -- ---- counts
 
 abbrev pub counts_of : ℕ → ℕ → ℕ → Counts
-counts_of source sink device = record { source = source; sink = sink; device = device }
+counts_of source sink disk = record { source = source; sink = sink; disk = disk }
 
-pub same_counts : (source sink device more_sink more_device : ℕ) → more_sink ≡ sink → more_device ≡ device → counts_of source more_sink more_device ≡ counts_of source sink device
-same_counts source sink device more_sink more_device s d = ap (λ (n : ℕ). counts_of source n more_device) s ∙ ap (λ (n : ℕ). counts_of source sink n) d
+pub same_counts : (source sink disk more_sink more_disk : ℕ) → more_sink ≡ sink → more_disk ≡ disk → counts_of source more_sink more_disk ≡ counts_of source sink disk
+same_counts source sink disk more_sink more_disk s d = ap (λ (n : ℕ). counts_of source n more_disk) s ∙ ap (λ (n : ℕ). counts_of source sink n) d
 
 module _ {D : Type 0} (m : Meaning D) where
   -- ---- a queue file that couldn't be opened
@@ -45,11 +45,11 @@ module _ {D : Type 0} (m : Meaning D) where
   opening_cause Faulty source sink old new (opening.Damaged file place) told counts = (same_counts source sink (m.faults old) sink (m.faults new) refl (counts.quiet (λ is. cc)), told)
   opening_cause Faulty source sink old new opening.NoMemory told counts = same_counts source sink (m.faults old) sink (m.faults new) refl (counts.quiet (λ is. cc))
 
-  looked_at : (old new : D) (taken : Option (List ℕ)) → OnlyLooks m old new → ServesNothing m (record { device = old; taken = taken }) (record { device = new; taken = taken })
-  looked_at old new taken looks = record { device = looks; taken = keeps_same taken }
+  looked_at : (old new : D) (taken : Option (List ℕ)) → OnlyLooks m old new → ServesNothing m (record { disk = old; taken = taken }) (record { disk = new; taken = taken })
+  looked_at old new taken looks = record { disk = looks; taken = keeps_same taken }
 
   pub opening_serves : (lines : List ScriptLine) (old new : D) (taken : Option (List ℕ)) (f : OpenFault) → (IsTrue m.tells → IsOpenFault (m.seen old 1) f) → OnlyLooks m old new
-      → ServesTo m lines (record { device = old; taken = taken }) (record { device = new; taken = taken }) (end_of_opening f)
+      → ServesTo m lines (record { disk = old; taken = taken }) (record { disk = new; taken = taken }) (end_of_opening f)
   opening_serves lines old new taken opening.Disk told looks = inl (looked_at old new taken looks)
   opening_serves lines old new taken (opening.Unformatted byte) told looks = looked_at old new taken looks
   opening_serves lines old new taken (opening.Damaged file place) told looks = looked_at old new taken looks
@@ -76,14 +76,14 @@ module _ {D : Type 0} (m : Meaning D) where
       (refl, record { site = site_of manager; node = node_of manager; found = found_site; another = other }),
     )
 
-    pub another_serves : (taken : Option (List ℕ)) → ServesTo m lines (record { device = old; taken = taken }) (record { device = disk_of manager; taken = taken }) (ends.Script 0 Node)
+    pub another_serves : (taken : Option (List ℕ)) → ServesTo m lines (record { disk = old; taken = taken }) (record { disk = disk_of manager; taken = taken }) (ends.Script 0 Node)
     another_serves taken = (looked_at old (disk_of manager) taken looks, refl)
 
     module _ (for_node : are_of_node (node_of manager) lines ≡ true) (taken now : Option (List ℕ)) (new : D) where
       -- what was opened is served so
       served : (goes : Site → List Step → Outside D → Outside D → Type 0)
-          → goes (site_of manager) (steps_of (site_of manager) lines) (record { device = disk_of manager; taken = taken }) (record { device = new; taken = now })
-          → Serves m goes (record { device = old; taken = taken }) (record { device = new; taken = now }) lines
+          → goes (site_of manager) (steps_of (site_of manager) lines) (record { disk = disk_of manager; taken = taken }) (record { disk = new; taken = now })
+          → Serves m goes (record { disk = old; taken = taken }) (record { disk = new; taken = now }) lines
       served goes serving = record {
         site = site_of manager;
         node = node_of manager;
@@ -96,29 +96,29 @@ module _ {D : Type 0} (m : Meaning D) where
         serving = serving;
       }
 
-      pub all_served : MakesSteps m (site_of manager) (steps_of (site_of manager) lines) (record { device = disk_of manager; taken = taken }) (record { device = new; taken = now })
-          → ServesTo m lines (record { device = old; taken = taken }) (record { device = new; taken = now }) ends.Ok
+      pub all_served : MakesSteps m (site_of manager) (steps_of (site_of manager) lines) (record { disk = disk_of manager; taken = taken }) (record { disk = new; taken = now })
+          → ServesTo m lines (record { disk = old; taken = taken }) (record { disk = new; taken = now }) ends.Ok
       all_served made = served (MakesSteps m) made
 
       pub all_cause : (Faulty : ScriptKind → Type 0) (source sink more : ℕ) → more ≡ sink
-          → MakesSteps m (site_of manager) (steps_of (site_of manager) lines) (record { device = disk_of manager; taken = taken }) (record { device = new; taken = now })
+          → MakesSteps m (site_of manager) (steps_of (site_of manager) lines) (record { disk = disk_of manager; taken = taken }) (record { disk = new; taken = now })
           → HasCause m.tells (m.seen old 1) Faulty (counts_of source sink (m.faults old)) (counts_of source more (m.faults new)) ends.Ok
       all_cause Faulty source sink more same made =
           same_counts source sink (m.faults old) more (m.faults new) same (steps_are_quiet m (site_of manager) (steps_of (site_of manager) lines) _ _ made ∙ quiet)
 
-      pub all_keep_others : MakesSteps m (site_of manager) (steps_of (site_of manager) lines) (record { device = disk_of manager; taken = taken }) (record { device = new; taken = now }) → OthersStay m old new
+      pub all_keep_others : MakesSteps m (site_of manager) (steps_of (site_of manager) lines) (record { disk = disk_of manager; taken = taken }) (record { disk = new; taken = now }) → OthersStay m old new
       all_keep_others made =
           others_on m old (disk_of manager) new (looks_keep_others m old (disk_of manager) looks) (steps_keep_others m (site_of manager) (steps_of (site_of manager) lines) _ _ made)
 
       abbrev StopsSo : End → Type 0
-      StopsSo end = StopsWithin m end (site_of manager) (steps_of (site_of manager) lines) (record { device = disk_of manager; taken = taken }) (record { device = new; taken = now })
+      StopsSo end = StopsWithin m end (site_of manager) (steps_of (site_of manager) lines) (record { disk = disk_of manager; taken = taken }) (record { disk = new; taken = now })
 
-      pub stopped_serves : (end : ServeEnd) → StopsSo (end_of end) → ServesTo m lines (record { device = old; taken = taken }) (record { device = new; taken = now }) (end_of end)
+      pub stopped_serves : (end : ServeEnd) → StopsSo (end_of end) → ServesTo m lines (record { disk = old; taken = taken }) (record { disk = new; taken = now }) (end_of end)
       stopped_serves serve.Journal stops = inr (served (StopsWithin m ends.Journal) stops)
       stopped_serves serve.Write stops = served (StopsWithin m ends.Write) stops
       stopped_serves serve.NoMemory stops = inr (served (StopsWithin m ends.NoMemory) stops)
 
-      quiet_before : (end : End) (stops : StopsSo end) → m.faults stops.next.device ≡ m.faults old
+      quiet_before : (end : End) (stops : StopsSo end) → m.faults stops.next.disk ≡ m.faults old
       quiet_before end stops = steps_are_quiet m (site_of manager) stops.made _ _ stops.so_far ∙ quiet
 
       pub stopped_cause : (Faulty : ScriptKind → Type 0) (source sink more : ℕ) (end : ServeEnd) → CountsSink {T = ℕ} sink more (Err end) → StopsSo (end_of end)
@@ -133,7 +133,7 @@ module _ {D : Type 0} (m : Meaning D) where
       pub stopped_keeps_others : (end : End) → StopsSo end → OthersStay m old new
       stopped_keeps_others end stops =
           others_on m old (disk_of manager) new (looks_keep_others m old (disk_of manager) looks)
-          (others_on m (disk_of manager) stops.next.device new (steps_keep_others m (site_of manager) stops.made _ _ stops.so_far) (others_of m stops.next.device new stops.stops.device.others))
+          (others_on m (disk_of manager) stops.next.disk new (steps_keep_others m (site_of manager) stops.made _ _ stops.so_far) (others_of m stops.next.disk new stops.stops.disk.others))
 
   -- ---- a script
 
@@ -252,18 +252,18 @@ sound_is_not_faulty tells told file (Some bytes) kind sound faulty = elim faulty
 
 -- over a sound script and queue file a run ends well, or memory runs out, where no fault was counted
 pub sound_completes : (tells : Bool) (told : IsTrue tells) (file : List ℕ) (left : Option (List ℕ)) (old new : Counts) (end : End) → (end ≡ ends.Usage → ⊥) → HasSoundScript left file
-    → IsWithoutFault old.source new.source → IsWithoutFault old.sink new.sink → IsWithoutFault old.device new.device
+    → IsWithoutFault old.source new.source → IsWithoutFault old.sink new.sink → IsWithoutFault old.disk new.disk
     → HasCause tells file (IsFaulty tells file left) old new end → (end ≡ ends.Ok) ⊎ (end ≡ ends.NoMemory)
-sound_completes tells told file left old new ends.Ok used sound source sink device cause = inl refl
-sound_completes tells told file left old new ends.Usage used sound source sink device cause = absurd (used refl)
-sound_completes tells told file left old new ends.Read used sound source sink device cause = absurd (no_count _ _ source cause.0)
-sound_completes tells told file left old new (ends.Script line kind) used sound source sink device cause = absurd (sound_is_not_faulty tells told file left kind sound cause.2)
-sound_completes tells told file left old new ends.Write used sound source sink device cause = absurd (no_count _ _ sink cause.0)
-sound_completes tells told file left old new ends.Journal used sound source sink device cause = absurd (no_count _ _ device cause.0)
-sound_completes tells told file left old new (ends.Unformatted byte) used sound source sink device cause =
+sound_completes tells told file left old new ends.Ok used sound source sink disk cause = inl refl
+sound_completes tells told file left old new ends.Usage used sound source sink disk cause = absurd (used refl)
+sound_completes tells told file left old new ends.Read used sound source sink disk cause = absurd (no_count _ _ source cause.0)
+sound_completes tells told file left old new (ends.Script line kind) used sound source sink disk cause = absurd (sound_is_not_faulty tells told file left kind sound cause.2)
+sound_completes tells told file left old new ends.Write used sound source sink disk cause = absurd (no_count _ _ sink cause.0)
+sound_completes tells told file left old new ends.Journal used sound source sink disk cause = absurd (no_count _ _ disk cause.0)
+sound_completes tells told file left old new (ends.Unformatted byte) used sound source sink disk cause =
     let begins = cause.1 told in
     absurd (begins.1 (begins.0 ∙ sound.1.so.is_site.formatted.begins))
-sound_completes tells told file left old new (ends.Damaged f place) used sound source sink device cause =
+sound_completes tells told file left old new (ends.Damaged f place) used sound source sink disk cause =
     let damaged = cause.1 told in
     absurd (site_not_damaged file place sound.1.so.some_site sound.1.so.is_site damaged.1)
-sound_completes tells told file left old new ends.NoMemory used sound source sink device cause = inr refl
+sound_completes tells told file left old new ends.NoMemory used sound source sink disk cause = inr refl

@@ -139,19 +139,19 @@ keeps_same (Some bytes) = refl
 
 module _ {D : Type 0} (m : Meaning D) where
   -- the other files stay over all steps
-  pub steps_keep_others : (site : Site) (steps : List Step) (old new : Outside D) → MakesSteps m site steps old new → OthersStay m old.device new.device
-  steps_keep_others site [] old new same = subst (λ (o : Outside D). OthersStay m old.device o.device) (sym same) (record { reads = λ f le other. refl; no_more = λ f c le other left. left })
+  pub steps_keep_others : (site : Site) (steps : List Step) (old new : Outside D) → MakesSteps m site steps old new → OthersStay m old.disk new.disk
+  steps_keep_others site [] old new same = subst (λ (o : Outside D). OthersStay m old.disk o.disk) (sym same) (record { reads = λ f le other. refl; no_more = λ f c le other left. left })
   steps_keep_others site (step ∷ steps) old new made =
       let rest = steps_keep_others step.after steps made.0 new made.1.1 in
-      let one = made.1.0.device.others in
+      let one = made.1.0.disk.others in
       record {
         reads = λ f le other. rest.reads f le other ∙ one.reads f le other;
         no_more = λ f c le other left. one.no_more f c le other (rest.no_more f c le other left);
       }
 
   -- and no fault was counted
-  pub steps_are_quiet : (site : Site) (steps : List Step) (old new : Outside D) → MakesSteps m site steps old new → IsQuiet m old.device new.device
-  steps_are_quiet site [] old new same = ap (λ (o : Outside D). m.faults o.device) same
+  pub steps_are_quiet : (site : Site) (steps : List Step) (old new : Outside D) → MakesSteps m site steps old new → IsQuiet m old.disk new.disk
+  steps_are_quiet site [] old new same = ap (λ (o : Outside D). m.faults o.disk) same
   steps_are_quiet site (step ∷ steps) old new made = steps_are_quiet step.after steps made.0 new made.1.1 ∙ made.1.0.quiet
 
   pub others_on : (old mid new : D) → OthersStay m old mid → OthersStay m mid new → OthersStay m old new

@@ -26,7 +26,7 @@ module _ {D : Type 0} (m : Meaning D) (line : ScriptLine) (old new : Manager D) 
   pub step_made : {X : Type 0} (text : X) (bytes : List ℕ) → Serves m {X = X} (site_of old) (turn (site_of old) line).site old new (Ok text)
       → bytes ≡ answer_text line (turn (site_of old) line).answer → Appends taken now bytes → MakesStep m (site_of old) (step_of (site_of old) line) (outside old taken) (outside new now)
   step_made text bytes serves answer took = record {
-    device = serves.steps;
+    disk = serves.steps;
     durable = durable text serves.leaves;
     printed = subst (λ (b : List ℕ). Appends taken now b) answer took;
     quiet = serves.leaves.2;
@@ -36,25 +36,25 @@ module _ {D : Type 0} (m : Meaning D) (line : ScriptLine) (old new : Manager D) 
   pub step_cut : {X : Type 0} (text : X) (bytes : List ℕ) → Serves m {X = X} (site_of old) (turn (site_of old) line).site old new (Ok text)
       → bytes ≡ answer_text line (turn (site_of old) line).answer → TakesPrefix taken now bytes → StopsAtStep m (site_of old) (step_of (site_of old) line) (outside old taken) (outside new now) ends.Write
   step_cut text bytes serves answer took = record {
-    device = serves.steps;
+    disk = serves.steps;
     ends = inl (serves.leaves.2, durable text serves.leaves, part_of_prefix taken now bytes _ answer took);
   }
 
   -- the disk failed, and the sink took what says so
   pub failure_told : Steps m (site_of old) (turn (site_of old) line).site (disk_of old) (disk_of new) → OneFailed m (disk_of old) (disk_of new)
       → Appends taken now (answer_text line (journal_line ∷ [])) → StopsAtStep m (site_of old) (step_of (site_of old) line) (outside old taken) (outside new now) ends.Journal
-  failure_told steps rose took = record { device = steps; ends = (rose, took) }
+  failure_told steps rose took = record { disk = steps; ends = (rose, took) }
 
   -- the disk failed, and the sink failed to take what says so
   pub failure_cut : Steps m (site_of old) (turn (site_of old) line).site (disk_of old) (disk_of new) → OneFailed m (disk_of old) (disk_of new)
       → TakesPart taken now (answer_text line (journal_line ∷ [])) → StopsAtStep m (site_of old) (step_of (site_of old) line) (outside old taken) (outside new now) ends.Write
-  failure_cut steps rose took = record { device = steps; ends = inr (rose, took) }
+  failure_cut steps rose took = record { disk = steps; ends = inr (rose, took) }
 
   -- memory ran out
   pub step_wanting : {X : Type 0} → Serves m {X = X} (site_of old) (turn (site_of old) line).site old new (Err fault.NoMemory)
       → StopsAtStep m (site_of old) (step_of (site_of old) line) (outside old taken) (outside new taken) ends.NoMemory
   step_wanting serves = record {
-    device = serves.steps;
+    disk = serves.steps;
     ends = (
       serves.leaves.2,
       keeps_same taken,

@@ -39,22 +39,22 @@ module _ {D : Type 0} (m : Meaning D) (only_now : (disk : D) (crashed : CrashSta
   ]
 
   -- all steps, and what stands behind them
-  steps_reach : (site : Site) (steps more : List Step) (old new : Outside D) → MakesSteps m site steps old new → IsTrue m.tells → IsSiteOf m site old.device
-      → LeavesOnly m old.device new.device (Reaches (m.may_leave old.device) site (steps ++ more))
-  steps_reach site [] more old new same told is = subst (λ (o : Outside D). LeavesOnly m old.device o.device (Reaches (m.may_leave old.device) site more)) (sym same)
-      (started m old.device (Reaches (m.may_leave old.device) site more) (λ crashed left. none_made site more old.device crashed is (only_now old.device crashed left)))
+  steps_reach : (site : Site) (steps more : List Step) (old new : Outside D) → MakesSteps m site steps old new → IsTrue m.tells → IsSiteOf m site old.disk
+      → LeavesOnly m old.disk new.disk (Reaches (m.may_leave old.disk) site (steps ++ more))
+  steps_reach site [] more old new same told is = subst (λ (o : Outside D). LeavesOnly m old.disk o.disk (Reaches (m.may_leave old.disk) site more)) (sym same)
+      (started m old.disk (Reaches (m.may_leave old.disk) site more) (λ crashed left. none_made site more old.disk crashed is (only_now old.disk crashed left)))
   steps_reach site (step ∷ steps) more old new made told is =
       let next = made.0 in
       let one = made.1.0 in
-      goes_further m old.device next.device new.device (Reaches (m.may_leave old.device) site (step ∷ steps ++ more)) (Reaches (m.may_leave next.device) step.after (steps ++ more))
-      (weaker m old.device next.device (BeforeOrAfter (m.may_leave old.device) site step.after) (Reaches (m.may_leave old.device) site (step ∷ steps ++ more)) (one.device.any_moment told)
-      (λ crashed left. within_step site step (steps ++ more) (m.may_leave old.device) crashed left))
+      goes_further m old.disk next.disk new.disk (Reaches (m.may_leave old.disk) site (step ∷ steps ++ more)) (Reaches (m.may_leave next.disk) step.after (steps ++ more))
+      (weaker m old.disk next.disk (BeforeOrAfter (m.may_leave old.disk) site step.after) (Reaches (m.may_leave old.disk) site (step ∷ steps ++ more)) (one.disk.any_moment told)
+      (λ crashed left. within_step site step (steps ++ more) (m.may_leave old.disk) crashed left))
       (steps_reach step.after steps more next new made.1.1 told (one.durable told))
-      (λ crashed reached. from_before site step (steps ++ more) old.device next.device one.device.others crashed reached)
+      (λ crashed reached. from_before site step (steps ++ more) old.disk next.disk one.disk.others crashed reached)
 
   -- behind all steps the queue file is that of the site behind them
-  at_end : (site : Site) (steps : List Step) (old new : Outside D) → MakesSteps m site steps old new → IsTrue m.tells → IsSiteOf m site old.device → IsSiteOf m (site_behind site steps) new.device
-  at_end site [] old new same told is = subst (λ (o : Outside D). IsSiteOf m site o.device) (sym same) is
+  at_end : (site : Site) (steps : List Step) (old new : Outside D) → MakesSteps m site steps old new → IsTrue m.tells → IsSiteOf m site old.disk → IsSiteOf m (site_behind site steps) new.disk
+  at_end site [] old new same told is = subst (λ (o : Outside D). IsSiteOf m site o.disk) (sym same) is
   at_end site (step ∷ steps) old new made told is = at_end step.after steps made.0 new made.1.1 told (made.1.0.durable told)
 
   site_behind-more : (site : Site) (xs : List Step) (step : Step) → site_behind site (xs ++ step ∷ []) ≡ step.after
@@ -62,17 +62,17 @@ module _ {D : Type 0} (m : Meaning D) (only_now : (disk : D) (crashed : CrashSta
   site_behind-more site (x ∷ xs) step = site_behind-more x.after xs step
 
   -- a run that stops within its steps
-  stop_reaches : (end : End) (site : Site) (steps : List Step) (old new : Outside D) → StopsWithin m end site steps old new → IsTrue m.tells → IsSiteOf m site old.device
-      → LeavesOnly m old.device new.device (Reaches (m.may_leave old.device) site steps)
+  stop_reaches : (end : End) (site : Site) (steps : List Step) (old new : Outside D) → StopsWithin m end site steps old new → IsTrue m.tells → IsSiteOf m site old.disk
+      → LeavesOnly m old.disk new.disk (Reaches (m.may_leave old.disk) site steps)
   stop_reaches end site steps old new stops told is =
       let made = stops.made in
       let step = stops.step in
       let behind = stops.behind in
       let next = stops.next in
       let kept = steps_keep_others m site made old next stops.so_far in
-      subst (λ (all : List Step). LeavesOnly m old.device new.device (Reaches (m.may_leave old.device) site all)) (sym stops.are)
-      (goes_further m old.device next.device new.device (Reaches (m.may_leave old.device) site (made ++ step ∷ behind)) (BeforeOrAfter (m.may_leave next.device) (site_behind site made) step.after)
-      (steps_reach site made (step ∷ behind) old next stops.so_far told is) (stops.stops.device.any_moment told)
+      subst (λ (all : List Step). LeavesOnly m old.disk new.disk (Reaches (m.may_leave old.disk) site all)) (sym stops.are)
+      (goes_further m old.disk next.disk new.disk (Reaches (m.may_leave old.disk) site (made ++ step ∷ behind)) (BeforeOrAfter (m.may_leave next.disk) (site_behind site made) step.after)
+      (steps_reach site made (step ∷ behind) old next stops.so_far told is) (stops.stops.disk.any_moment told)
       (λ crashed left. elim left.site [
         | inl before ↦ record { made = made; behind = step ∷ behind; are = refl; left = before; others = λ f le other. kept.no_more f (crashed f) le other (left.others f le other) }
         | inr after ↦ record {
@@ -86,14 +86,14 @@ module _ {D : Type 0} (m : Meaning D) (only_now : (disk : D) (crashed : CrashSta
 
   -- serving, after what was opened
   module _ (goes : Site → List Step → Outside D → Outside D → Type 0)
-      (reaches : (site : Site) (steps : List Step) (old new : Outside D) → goes site steps old new → IsTrue m.tells → IsSiteOf m site old.device → LeavesOnly m old.device new.device (Reaches (m.may_leave old.device) site steps))
+      (reaches : (site : Site) (steps : List Step) (old new : Outside D) → goes site steps old new → IsTrue m.tells → IsSiteOf m site old.disk → LeavesOnly m old.disk new.disk (Reaches (m.may_leave old.disk) site steps))
       (left : Option (List ℕ)) (old new : Outside D) where
-    script_survives : ServesScript m left goes old new → IsTrue m.tells → LeavesOnly m old.device new.device (Survives left (m.may_leave old.device) (m.seen old.device 1))
+    script_survives : ServesScript m left goes old new → IsTrue m.tells → LeavesOnly m old.disk new.disk (Survives left (m.may_leave old.disk) (m.seen old.disk 1))
     script_survives served told =
         let so = served.so in
-        goes_further m old.device so.opened new.device (Survives left (m.may_leave old.device) (m.seen old.device 1)) (Reaches (m.may_leave so.opened) so.site (steps_of so.site served.lines))
-        (weaker m old.device so.opened (IsLeft (m.may_leave old.device)) (Survives left (m.may_leave old.device) (m.seen old.device 1)) so.opening.any_moment (λ crashed l. inl l))
-        (reaches so.site (steps_of so.site served.lines) (record { device = so.opened; taken = old.taken }) new so.serving told (so.at_rest told))
+        goes_further m old.disk so.opened new.disk (Survives left (m.may_leave old.disk) (m.seen old.disk 1)) (Reaches (m.may_leave so.opened) so.site (steps_of so.site served.lines))
+        (weaker m old.disk so.opened (IsLeft (m.may_leave old.disk)) (Survives left (m.may_leave old.disk) (m.seen old.disk 1)) so.opening.any_moment (λ crashed l. inl l))
+        (reaches so.site (steps_of so.site served.lines) (record { disk = so.opened; taken = old.taken }) new so.serving told (so.at_rest told))
         (λ crashed reached. inr (record {
           text = served.text;
           lines = served.lines;
@@ -112,21 +112,21 @@ module _ {D : Type 0} (m : Meaning D) (only_now : (disk : D) (crashed : CrashSta
           );
         }))
 
-  nothing_survives : (left : Option (List ℕ)) (old new : Outside D) → ServesNothing m old new → LeavesOnly m old.device new.device (Survives left (m.may_leave old.device) (m.seen old.device 1))
+  nothing_survives : (left : Option (List ℕ)) (old new : Outside D) → ServesNothing m old new → LeavesOnly m old.disk new.disk (Survives left (m.may_leave old.disk) (m.seen old.disk 1))
   nothing_survives left old new nothing =
-      weaker m old.device new.device (IsLeft (m.may_leave old.device)) (Survives left (m.may_leave old.device) (m.seen old.device 1)) nothing.device.any_moment (λ crashed l. inl l)
+      weaker m old.disk new.disk (IsLeft (m.may_leave old.disk)) (Survives left (m.may_leave old.disk) (m.seen old.disk 1)) nothing.disk.any_moment (λ crashed l. inl l)
 
-  stays : (left : Option (List ℕ)) (old new : Outside D) → new ≡ old → LeavesOnly m old.device new.device (Survives left (m.may_leave old.device) (m.seen old.device 1))
-  stays left old new same = subst (λ (o : Outside D). LeavesOnly m old.device o.device (Survives left (m.may_leave old.device) (m.seen old.device 1))) (sym same)
-      (started m old.device (Survives left (m.may_leave old.device) (m.seen old.device 1)) (λ crashed l. inl (only_now old.device crashed l)))
+  stays : (left : Option (List ℕ)) (old new : Outside D) → new ≡ old → LeavesOnly m old.disk new.disk (Survives left (m.may_leave old.disk) (m.seen old.disk 1))
+  stays left old new same = subst (λ (o : Outside D). LeavesOnly m old.disk o.disk (Survives left (m.may_leave old.disk) (m.seen old.disk 1))) (sym same)
+      (started m old.disk (Survives left (m.may_leave old.disk) (m.seen old.disk 1)) (λ crashed l. inl (only_now old.disk crashed l)))
 
-  all_reach : (site : Site) (steps : List Step) (old new : Outside D) → MakesSteps m site steps old new → IsTrue m.tells → IsSiteOf m site old.device → LeavesOnly m old.device new.device (Reaches (m.may_leave old.device) site steps)
+  all_reach : (site : Site) (steps : List Step) (old new : Outside D) → MakesSteps m site steps old new → IsTrue m.tells → IsSiteOf m site old.disk → LeavesOnly m old.disk new.disk (Reaches (m.may_leave old.disk) site steps)
   all_reach site steps old new made told is =
-      subst (λ (all : List Step). LeavesOnly m old.device new.device (Reaches (m.may_leave old.device) site all)) (append-nil steps) (steps_reach site steps [] old new made told is)
+      subst (λ (all : List Step). LeavesOnly m old.disk new.disk (Reaches (m.may_leave old.disk) site all)) (append-nil steps) (steps_reach site steps [] old new made told is)
 
   -- what a crash leaves of a run, by its end
   pub run_survives : (left : Option (List ℕ)) (old new : Outside D) (end : End) → RunsTo m left old new end → IsTrue m.tells
-      → LeavesOnly m old.device new.device (Survives left (m.may_leave old.device) (m.seen old.device 1))
+      → LeavesOnly m old.disk new.disk (Survives left (m.may_leave old.disk) (m.seen old.disk 1))
   run_survives left old new ends.Ok runs told = script_survives (MakesSteps m) all_reach left old new runs told
   run_survives left old new ends.Usage runs told = absurd runs
   run_survives left old new ends.Read runs told = stays left old new runs
@@ -166,8 +166,8 @@ module _ {D : Type 0} (m : Meaning D) where
           node = so.node;
           found = so.found;
           for_node = so.for_node;
-          taken = steps_print so.site (steps_of so.site runs.lines) (record { device = so.opened; taken = old.taken }) new so.serving;
-          left = λ told. at_end m only_now so.site (steps_of so.site runs.lines) (record { device = so.opened; taken = old.taken }) new so.serving told (so.at_rest told);
+          taken = steps_print so.site (steps_of so.site runs.lines) (record { disk = so.opened; taken = old.taken }) new so.serving;
+          left = λ told. at_end m only_now so.site (steps_of so.site runs.lines) (record { disk = so.opened; taken = old.taken }) new so.serving told (so.at_rest told);
         };
       }
 
@@ -236,9 +236,9 @@ module _ {D : Type 0} (m : Meaning D) (counts_now : (disk : D) (t : ℕ) (crashe
           are = cut.are;
           next = stopped.next;
           taken = subst (λ (steps : List Step). Appends old.taken stopped.next.taken (text_of steps)) cut.made_are
-              (steps_print m so.site stopped.made (record { device = so.opened; taken = old.taken }) stopped.next stopped.so_far);
+              (steps_print m so.site stopped.made (record { disk = so.opened; taken = old.taken }) stopped.next stopped.so_far);
           stops = stops;
           left = λ told crashed left.
-              (holds_now m stopped.next.device new.device (BeforeOrAfter (m.may_leave stopped.next.device) here (turn here cut.line).site) (stops.device.any_moment told) (counts_now new.device) crashed left).site;
+              (holds_now m stopped.next.disk new.disk (BeforeOrAfter (m.may_leave stopped.next.disk) here (turn here cut.line).site) (stops.disk.any_moment told) (counts_now new.disk) crashed left).site;
         };
       }

@@ -10,9 +10,9 @@ use Rattle.qm_program.specs.Transcript.{Step, site_behind}
 use Rattle.qm_program.specs.declared.outcome.End.{End}
 use Rattle.qm_program.specs.declared.outcome.End.TheVariants as ends
 
--- the device, and what the sink took so far, where that is told
+-- the disk, and what the sink took so far, where that is told
 pub record Outside (D : Type 0) : Type 0 where
-  pub device : D
+  pub disk : D
   pub taken : Option (List ℕ)
 
 -- the sink took first bytes of a text: none or some, but not all
@@ -26,14 +26,14 @@ pub record TakesPart (old new : Option (List ℕ)) (text : List ℕ) : Type 0 wh
 module _ {D : Type 0} (m : Meaning D) where
   -- A step was made. A crash at any moment of it leaves the queue file of the site before it or after it, and of the other
   -- files what a crash before it might leave. Behind it the queue file is that of the site after it, which no crash can take
-  -- away, and the sink took what it prints. The device didn't fail.
+  -- away, and the sink took what it prints. The disk didn't fail.
   pub record MakesStep (site : Site) (step : Step) (old new : Outside D) : Type 0 where
-    pub device : Steps m site step.after old.device new.device
-    pub durable : IsTrue m.tells → IsSiteOf m step.after new.device
+    pub disk : Steps m site step.after old.disk new.disk
+    pub durable : IsTrue m.tells → IsSiteOf m step.after new.disk
     pub printed : Appends old.taken new.taken step.text
-    pub quiet : IsQuiet m old.device new.device
+    pub quiet : IsQuiet m old.disk new.disk
 
-  -- These steps were made, one behind the other: each begins with the device as the one before it left it, and what it
+  -- These steps were made, one behind the other: each begins with the disk as the one before it left it, and what it
   -- prints stands behind what that one printed.
   abbrev pub MakesSteps : Site → List Step → Outside D → Outside D → Type 0
   MakesSteps site [] old new = new ≡ old
@@ -42,16 +42,16 @@ module _ {D : Type 0} (m : Meaning D) where
   -- The sink failed at a step that was made; or the disk failed at it, and then the sink, which took a part of what says so.
   abbrev pub StopsWriting : Site → Step → Outside D → Outside D → Type 0
   StopsWriting site step old new =
-      (IsQuiet m old.device new.device × (IsTrue m.tells → IsSiteOf m step.after new.device) × TakesPart old.taken new.taken step.text)
-      ⊎ (OneFailed m old.device new.device × TakesPart old.taken new.taken step.failure)
+      (IsQuiet m old.disk new.disk × (IsTrue m.tells → IsSiteOf m step.after new.disk) × TakesPart old.taken new.taken step.text)
+      ⊎ (OneFailed m old.disk new.disk × TakesPart old.taken new.taken step.failure)
 
   -- The end of a run that stops at a step. At Journal the disk failed, and the sink took what says so. At NoMemory nothing
   -- of the step was printed, and the queue file is that of the site before it or after it, which no crash can change.
   abbrev pub EndsAtStep : Site → Step → Outside D → Outside D → End → Type 0
   EndsAtStep site step old new ends.Write = StopsWriting site step old new
-  EndsAtStep site step old new ends.Journal = OneFailed m old.device new.device × Appends old.taken new.taken step.failure
+  EndsAtStep site step old new ends.Journal = OneFailed m old.disk new.disk × Appends old.taken new.taken step.failure
   EndsAtStep site step old new ends.NoMemory =
-      IsQuiet m old.device new.device × Keeps old.taken new.taken × (IsTrue m.tells → IsSiteOf m site new.device ⊎ IsSiteOf m step.after new.device)
+      IsQuiet m old.disk new.disk × Keeps old.taken new.taken × (IsTrue m.tells → IsSiteOf m site new.disk ⊎ IsSiteOf m step.after new.disk)
   EndsAtStep site step old new ends.Ok = ⊥
   EndsAtStep site step old new ends.Usage = ⊥
   EndsAtStep site step old new ends.Read = ⊥
@@ -62,7 +62,7 @@ module _ {D : Type 0} (m : Meaning D) where
   -- A step is in work and isn't made whole: a crash at any moment of it leaves the queue file of the site before it or after
   -- it, and of the other files what a crash before it might leave.
   pub record StopsAtStep (site : Site) (step : Step) (old new : Outside D) (end : End) : Type 0 where
-    pub device : Steps m site step.after old.device new.device
+    pub disk : Steps m site step.after old.disk new.disk
     pub ends : EndsAtStep site step old new end
 
   -- the first of these steps were made, none to all but one, and one more is in work
@@ -75,8 +75,8 @@ module _ {D : Type 0} (m : Meaning D) where
     pub so_far : MakesSteps site made old next
     pub stops : StopsAtStep (site_behind site made) step next new end
 
-  -- Nothing was served: the sink took nothing, and the device was looked at alone. Its files read as they did, and a crash
+  -- Nothing was served: the sink took nothing, and the disk was looked at alone. Its files read as they did, and a crash
   -- leaves what it might leave before.
   pub record ServesNothing (old new : Outside D) : Type 0 where
-    pub device : OnlyLooks m old.device new.device
+    pub disk : OnlyLooks m old.disk new.disk
     pub taken : Keeps old.taken new.taken

@@ -1,4 +1,4 @@
--- What a run, and the making of a queue file, leave of the source, the sink and the device, by their end.
+-- What a run, and the making of a queue file, leave of the source, the sink and the disk, by their end.
 use Rattle.std.specs.Prelude.{◌≡◌, ◌≢◌, ◌⊎◌, ◌<◌, ◌≤◌, ◌+◌, ◌-◌, ◌^◌, ℕ, Bool, true, false, List, Option, None, Some, IfSome, IsSome, IsTrue, Ok, Err}
 use Rattle.std.specs.Io.KnownBytes.{Appends, Keeps, IsAtEnd}
 use Rattle.qm_disk.specs.Disk.{Meaning}
@@ -70,22 +70,22 @@ pub record IsForAnother (tells : Bool) (file : List ℕ) (lines : List ScriptLin
   pub another : are_of_node node lines ≡ false
 
 module _ {D : Type 0} (m : Meaning D) where
-  -- The queue file of a site was opened, and the device only looked at and didn't fail; every line is of the site's node. Then the file is
+  -- The queue file of a site was opened, and the disk only looked at and didn't fail; every line is of the site's node. Then the file is
   -- that of the site, as it reads and in each image that a crash may leave, and the steps of the lines go on from there.
   pub record Serves (goes : Site → List Step → Outside D → Outside D → Type 0) (old new : Outside D) (lines : List ScriptLine) : Type 0 where
     pub site : Site
     pub node : List ℕ
-    pub found : IsFound m.tells (m.seen old.device 1) site node
+    pub found : IsFound m.tells (m.seen old.disk 1) site node
     pub for_node : are_of_node node lines ≡ true
     pub opened : D
-    pub opening : OnlyLooks m old.device opened
-    pub quiet : IsQuiet m old.device opened
+    pub opening : OnlyLooks m old.disk opened
+    pub quiet : IsQuiet m old.disk opened
     pub at_rest : IsTrue m.tells → IsSiteOf m site opened
-    pub serving : goes site (steps_of site lines) (record { device = opened; taken = old.taken }) new
+    pub serving : goes site (steps_of site lines) (record { disk = opened; taken = old.taken }) new
 
   -- memory ran out at the opening of the queue file, which begins with a whole record
   abbrev pub LacksMemory : Outside D → Outside D → Type 0
-  LacksMemory old new = ServesNothing m old new × (IsTrue m.tells → BeginsWithRecord (m.seen old.device 1))
+  LacksMemory old new = ServesNothing m old new × (IsTrue m.tells → BeginsWithRecord (m.seen old.disk 1))
 
   -- a run over the script that a source had left, whose steps go on so
   abbrev pub ServesScript : Option (List ℕ) → (Site → List Step → Outside D → Outside D → Type 0) → Outside D → Outside D → Type 0
@@ -104,7 +104,7 @@ module _ {D : Type 0} (m : Meaning D) where
   ServesTo lines old new ends.NoMemory = LacksMemory old new ⊎ Serves (StopsWithin m ends.NoMemory) old new lines
 
   -- What a run over what a source had left leaves, by its end. At Ok all steps were made. At Read, and at Script for another
-  -- reason than the node of a line, the device wasn't looked at, nor where memory ran out before the script was known. At
+  -- reason than the node of a line, the disk wasn't looked at, nor where memory ran out before the script was known. At
   -- Journal and else at NoMemory either nothing was served, or the run stopped within its steps; at Write it did.
   abbrev pub RunsTo : Option (List ℕ) → Outside D → Outside D → End → Type 0
   RunsTo left old new ends.Ok = ServesScript left (MakesSteps m) old new
@@ -118,10 +118,10 @@ module _ {D : Type 0} (m : Meaning D) where
   RunsTo left old new ends.NoMemory = (new ≡ old) ⊎ ((LacksMemory old new × HasScript left) ⊎ ServesScript left (StopsWithin m ends.NoMemory) old new)
 
   -- What the making of a queue file leaves, by its end. At Ok and at Write the file is that of a new site of the node. At
-  -- Journal it may hold anything. At NoMemory the device is as it was.
+  -- Journal it may hold anything. At NoMemory the disk is as it was.
   abbrev pub MakesTo : List ℕ → Outside D → Outside D → End → Type 0
-  MakesTo node old new ends.Ok = (IsTrue m.tells → IsSiteOf m (new_site node) new.device) × Appends old.taken new.taken initialized
-  MakesTo node old new ends.Write = IsQuiet m old.device new.device × (IsTrue m.tells → IsSiteOf m (new_site node) new.device) × TakesPart old.taken new.taken initialized
+  MakesTo node old new ends.Ok = (IsTrue m.tells → IsSiteOf m (new_site node) new.disk) × Appends old.taken new.taken initialized
+  MakesTo node old new ends.Write = IsQuiet m old.disk new.disk × (IsTrue m.tells → IsSiteOf m (new_site node) new.disk) × TakesPart old.taken new.taken initialized
   MakesTo node old new ends.Journal = Keeps old.taken new.taken
   MakesTo node old new ends.NoMemory = new ≡ old
   MakesTo node old new ends.Usage = ⊥
@@ -133,7 +133,7 @@ module _ {D : Type 0} (m : Meaning D) where
   -- A crash at any moment of the making of a queue file leaves of the other files what a crash before it might.
   pub record Makes (node : List ℕ) (old new : Outside D) (end : End) : Type 0 where
     pub leaves : MakesTo node old new end
-    pub any_moment : IsTrue m.tells → LeavesOnly m old.device new.device (OthersLeft (m.may_leave old.device) 1)
+    pub any_moment : IsTrue m.tells → LeavesOnly m old.disk new.disk (OthersLeft (m.may_leave old.disk) 1)
 
   -- What the program does, by what its words ask for. Words that ask for nothing touch nothing, and a run alone reads.
   abbrev pub Does : {S : Type 0} → (S → Option (List ℕ)) → Option Task → S → S → Outside D → Outside D → End → Type 0
@@ -148,11 +148,11 @@ module _ {D : Type 0} (m : Meaning D) where
 
 -- ---- causes
 
--- how often the source, the sink and the device have failed
+-- how often the source, the sink and the disk have failed
 pub record Counts : Type 0 where
   pub source : ℕ
   pub sink : ℕ
-  pub device : ℕ
+  pub disk : ℕ
 
 -- what was read is no script, or a line is of another node than that of the queue file
 abbrev pub IsFaultyText : Bool → List ℕ → ScriptKind → List ℕ → Type 0
@@ -166,15 +166,15 @@ IsFaulty tells file left kind = IfSome left (IsFaultyText tells file kind)
 abbrev pub IsOfAnother : Bool → List ℕ → List ScriptLine → ScriptKind → Type 0
 IsOfAnother tells file lines kind = (kind ≡ Node) × IsForAnother tells file lines
 
--- Each end has its cause: a count rises only where the end says so, and then by one. At Write of a run the device may
+-- Each end has its cause: a count rises only where the end says so, and then by one. At Write of a run the disk may
 -- have failed before the sink did; what the run leaves says whether it did.
 abbrev pub HasCause : Bool → List ℕ → (ScriptKind → Type 0) → Counts → Counts → End → Type 0
 HasCause tells file Faulty old new ends.Ok = new ≡ old
 HasCause tells file Faulty old new ends.Usage = new ≡ old
 HasCause tells file Faulty old new (ends.Script line kind) = (new ≡ old) × (line ≡ 0) × Faulty kind
-HasCause tells file Faulty old new ends.Read = (new.source ≡ counted old.source) × (new.sink ≡ old.sink) × (new.device ≡ old.device)
-HasCause tells file Faulty old new ends.Write = (new.sink ≡ counted old.sink) × (new.source ≡ old.source) × ((new.device ≡ old.device) ⊎ (new.device ≡ counted old.device))
-HasCause tells file Faulty old new ends.Journal = (new.device ≡ counted old.device) × (new.source ≡ old.source) × (new.sink ≡ old.sink)
+HasCause tells file Faulty old new ends.Read = (new.source ≡ counted old.source) × (new.sink ≡ old.sink) × (new.disk ≡ old.disk)
+HasCause tells file Faulty old new ends.Write = (new.sink ≡ counted old.sink) × (new.source ≡ old.source) × ((new.disk ≡ old.disk) ⊎ (new.disk ≡ counted old.disk))
+HasCause tells file Faulty old new ends.Journal = (new.disk ≡ counted old.disk) × (new.source ≡ old.source) × (new.sink ≡ old.sink)
 HasCause tells file Faulty old new (ends.Unformatted byte) = (new ≡ old) × (IsTrue tells → (byte ≡ first_byte file) × (byte ≢ 1))
 HasCause tells file Faulty old new (ends.Damaged f place) = (new ≡ old) × (IsTrue tells → (f ≡ 1) × IsDamagedFile file place)
 HasCause tells file Faulty old new ends.NoMemory = new ≡ old

@@ -19,9 +19,9 @@ use Rattle.qm_program.specs.declared.serve.ServeEnd.TheVariants as ends
 use Rattle.qm_program.specs.declared.serve.AnswerFault.{AnswerFault}
 use Rattle.qm_program.specs.declared.serve.AnswerFault.TheVariants.{Disk, NoMemory}
 
--- the device of a manager, beside what a sink took
+-- the disk of a manager, beside what a sink took
 abbrev pub outside : {D : Type 0} → Manager D → Option (List ℕ) → Outside D
-outside manager taken = record { device = disk_of manager; taken = taken }
+outside manager taken = record { disk = disk_of manager; taken = taken }
 
 -- lines of the transcript, each behind the node and the number of the script's line
 abbrev pub lines_behind : Prefix → List (List ℕ) → List ℕ

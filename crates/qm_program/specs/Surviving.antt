@@ -28,10 +28,10 @@ Survives left may_leave file crashed =
 pub record AreServed {D : Type 0} (m : Meaning D) (old new : Outside D) (lines : List ScriptLine) : Type 0 where
   pub site : Site
   pub node : List ℕ
-  pub found : IsFound m.tells (m.seen old.device 1) site node
+  pub found : IsFound m.tells (m.seen old.disk 1) site node
   pub for_node : are_of_node node lines ≡ true
   pub taken : Appends old.taken new.taken (transcript site lines)
-  pub left : IsTrue m.tells → IsSiteOf m (after site lines) new.device
+  pub left : IsTrue m.tells → IsSiteOf m (after site lines) new.disk
 
 -- The run stopped within these lines: the first of them were served whole, none to all but one, each of the node of the site
 -- of the queue file; the sink took their transcript over that site, and then the run stopped at the next line. A crash leaves
@@ -39,7 +39,7 @@ pub record AreServed {D : Type 0} (m : Meaning D) (old new : Outside D) (lines :
 pub record AreServedTo {D : Type 0} (m : Meaning D) (end : End) (old new : Outside D) (lines : List ScriptLine) : Type 0 where
   pub site : Site
   pub node : List ℕ
-  pub found : IsFound m.tells (m.seen old.device 1) site node
+  pub found : IsFound m.tells (m.seen old.disk 1) site node
   pub for_node : are_of_node node lines ≡ true
   pub answered : List ScriptLine
   pub line : ScriptLine
@@ -48,5 +48,5 @@ pub record AreServedTo {D : Type 0} (m : Meaning D) (end : End) (old new : Outsi
   pub next : Outside D
   pub taken : Appends old.taken next.taken (transcript site answered)
   pub stops : StopsAtStep m (after site answered) (step_of (after site answered) line) next new end
-  pub left : IsTrue m.tells → (crashed : CrashState) → IsLeft (m.may_leave new.device) crashed
+  pub left : IsTrue m.tells → (crashed : CrashState) → IsLeft (m.may_leave new.disk) crashed
       → IsSite (crashed 1) (after site answered) ⊎ IsSite (crashed 1) (turn (after site answered) line).site

@@ -19,26 +19,26 @@ use qm_disk::Disk;
 /// the queue file of its site after the first lines of the script, none to all, and of the other files what a crash before
 /// the run might leave.
 pub fn a_crash_leaves_the_site_after_some_lines<D: Disk>(old: &D, new: &D)
-    ensures { (left taken printed : Option (List ℕ)) (end : End) → RunsTo D.meaning left (record { device = old.now; taken = taken }) (record { device = new.now; taken = printed }) end
+    ensures { (left taken printed : Option (List ℕ)) (end : End) → RunsTo D.meaning left (record { disk = old.now; taken = taken }) (record { disk = new.now; taken = printed }) end
         → IsTrue D.meaning.tells → LeavesOnly D.meaning old.now new.now (Survives left (D.meaning.may_leave old.now) (D.meaning.seen old.now 1)) }
 {}
 
 /// At `Ok` what the source had left is a script, which was served whole.
 pub fn a_run_that_ends_well_has_served_its_script<D: Disk>(old: &D, new: &D)
-    ensures { (left taken printed : Option (List ℕ)) → RunsTo D.meaning left (record { device = old.now; taken = taken }) (record { device = new.now; taken = printed }) End.Ok
-        → OfScript left (AreServed D.meaning (record { device = old.now; taken = taken }) (record { device = new.now; taken = printed })) }
+    ensures { (left taken printed : Option (List ℕ)) → RunsTo D.meaning left (record { disk = old.now; taken = taken }) (record { disk = new.now; taken = printed }) End.Ok
+        → OfScript left (AreServed D.meaning (record { disk = old.now; taken = taken }) (record { disk = new.now; taken = printed })) }
 {}
 
 /// Where a run that served a script stopped within it, the first lines were served whole, and it stopped at the next.
 pub fn a_run_that_stops_has_served_its_first_lines<D: Disk>(old: &D, new: &D)
     ensures { (left taken printed : Option (List ℕ)) (end : End)
-        → ServesScript D.meaning left (StopsWithin D.meaning end) (record { device = old.now; taken = taken }) (record { device = new.now; taken = printed })
-        → OfScript left (AreServedTo D.meaning end (record { device = old.now; taken = taken }) (record { device = new.now; taken = printed })) }
+        → ServesScript D.meaning left (StopsWithin D.meaning end) (record { disk = old.now; taken = taken }) (record { disk = new.now; taken = printed })
+        → OfScript left (AreServedTo D.meaning end (record { disk = old.now; taken = taken }) (record { disk = new.now; taken = printed })) }
 {}
 
 /// Where steps were made, the sink took what they print, one behind the other.
 pub fn steps_print_their_text<D: Disk>(old: &D, new: &D)
-    ensures { (site : Site) (steps : List Step) (taken printed : Option (List ℕ)) → MakesSteps D.meaning site steps (record { device = old.now; taken = taken }) (record { device = new.now; taken = printed })
+    ensures { (site : Site) (steps : List Step) (taken printed : Option (List ℕ)) → MakesSteps D.meaning site steps (record { disk = old.now; taken = taken }) (record { disk = new.now; taken = printed })
         → Appends taken printed (text_of steps) }
 {}
 

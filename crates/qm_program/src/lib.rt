@@ -1,4 +1,4 @@
-//! The top call: what the program does between its words and its status, over any source of bytes, any sink and any device
+//! The top call: what the program does between its words and its status, over any source of bytes, any sink and any disk
 //! with the queue file. What it writes is the transcript of the script that it reads, over the site that the file keeps.
 #![tactic(auto)]
 

@@ -105,7 +105,7 @@ impl fmt::Display for End {
     }
 }
 
-/// How the program ended, its status, and the device with the queue file.
+/// How the program ended, its status, and the disk with the queue file.
 #[derive(Drop)]
 pub struct Outcome<D: Disk> {
     pub status: u8,

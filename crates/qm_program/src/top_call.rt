@@ -31,9 +31,9 @@ fn make<O: Sink, D: Disk>(alloc: Global, node: Name, sink: &mut O, disk: D) -> O
 
     ensures status { result.status ≡ status_of result.end }
     ensures cause { (file : List ℕ) (source : ℕ) → HasCause D.meaning.tells file (λ kind. ⊥)
-        (record { source = source; sink = O.faults sink.old; device = D.meaning.faults disk })
-        (record { source = source; sink = O.faults sink.new; device = D.meaning.faults result.disk }) result.end }
-    ensures makes { Makes D.meaning node (record { device = disk; taken = O.taken sink.old }) (record { device = result.disk; taken = O.taken sink.new }) result.end }
+        (record { source = source; sink = O.faults sink.old; disk = D.meaning.faults disk })
+        (record { source = source; sink = O.faults sink.new; disk = D.meaning.faults result.disk }) result.end }
+    ensures makes { Makes D.meaning node (record { disk = disk; taken = O.taken sink.old }) (record { disk = result.disk; taken = O.taken sink.new }) result.end }
     ensures others { OthersStay D.meaning disk result.disk }
 {
     match init(alloc, disk, node) {
@@ -54,10 +54,10 @@ fn serve_site<O: Sink, D: Disk>(
 ) -> Outcome<D>
     ensures status { result.status ≡ status_of result.end }
     ensures cause { (source : ℕ) → HasCause D.meaning.tells (D.meaning.seen disk 1) (IsOfAnother D.meaning.tells (D.meaning.seen disk 1) (lines_view lines.now))
-        (record { source = source; sink = O.faults sink.old; device = D.meaning.faults disk })
-        (record { source = source; sink = O.faults sink.new; device = D.meaning.faults result.disk }) result.end }
+        (record { source = source; sink = O.faults sink.old; disk = D.meaning.faults disk })
+        (record { source = source; sink = O.faults sink.new; disk = D.meaning.faults result.disk }) result.end }
     ensures serves { ServesTo D.meaning (lines_view lines.now)
-        (record { device = disk; taken = O.taken sink.old }) (record { device = result.disk; taken = O.taken sink.new }) result.end }
+        (record { disk = disk; taken = O.taken sink.old }) (record { disk = result.disk; taken = O.taken sink.new }) result.end }
     ensures others { OthersStay D.meaning disk result.disk }
 {
     let mut manager = match Manager::open(alloc, disk) {
@@ -83,11 +83,11 @@ fn run<S: Source, O: Sink, D: Disk>(
 ) -> Outcome<D>
     ensures status { result.status ≡ status_of result.end }
     ensures cause { HasCause D.meaning.tells (D.meaning.seen disk 1) (IsFaulty D.meaning.tells (D.meaning.seen disk 1) (S.remaining source.old))
-        (record { source = S.faults source.old; sink = O.faults sink.old; device = D.meaning.faults disk })
-        (record { source = S.faults source.new; sink = O.faults sink.new; device = D.meaning.faults result.disk }) result.end }
+        (record { source = S.faults source.old; sink = O.faults sink.old; disk = D.meaning.faults disk })
+        (record { source = S.faults source.new; sink = O.faults sink.new; disk = D.meaning.faults result.disk }) result.end }
     ensures reads { Reads (S.remaining source.old) (S.remaining source.new) result.end }
     ensures runs { RunsTo D.meaning (S.remaining source.old)
-        (record { device = disk; taken = O.taken sink.old }) (record { device = result.disk; taken = O.taken sink.new }) result.end }
+        (record { disk = disk; taken = O.taken sink.old }) (record { disk = result.disk; taken = O.taken sink.new }) result.end }
     ensures others { OthersStay D.meaning disk result.disk }
 {
     let script = match read_whole(alloc, source, SCRIPT_BYTES) {
@@ -105,7 +105,7 @@ fn run<S: Source, O: Sink, D: Disk>(
 
 /// The program between its words and its status.
 ///
-/// With the words `init` and a node's name of at most six bytes the queue file of the device is made anew, whatever it held:
+/// With the words `init` and a node's name of at most six bytes the queue file of the disk is made anew, whatever it held:
 /// a site of this one node, with the form DEFAULT and the stopped queue SYS$BATCH; and `initialized` is written.
 ///
 /// With the word `run` a script of at most 16,777,216 bytes is read from the source to its end. The queue file is opened,
@@ -133,13 +133,13 @@ pub fn qman<S: Source, O: Sink, D: Disk>(
 
     // Each end has its cause, and no fault is hidden.
     ensures cause { HasCause D.meaning.tells (D.meaning.seen disk 1) (IsFaulty D.meaning.tells (D.meaning.seen disk 1) (S.remaining source.old))
-        (record { source = S.faults source.old; sink = O.faults sink.old; device = D.meaning.faults disk })
-        (record { source = S.faults source.new; sink = O.faults sink.new; device = D.meaning.faults result.disk }) result.end }
+        (record { source = S.faults source.old; sink = O.faults sink.old; disk = D.meaning.faults disk })
+        (record { source = S.faults source.new; sink = O.faults sink.new; disk = D.meaning.faults result.disk }) result.end }
 
-    // What is read, what the sink takes and what the device holds, then and at each moment, by what the words ask for and by
+    // What is read, what the sink takes and what the disk holds, then and at each moment, by what the words ask for and by
     // the end.
     ensures does { Does D.meaning S.remaining (task_of (map string_bytes words.now)) source.old source.new
-        (record { device = disk; taken = O.taken sink.old }) (record { device = result.disk; taken = O.taken sink.new }) result.end }
+        (record { disk = disk; taken = O.taken sink.old }) (record { disk = result.disk; taken = O.taken sink.new }) result.end }
     ensures others { OthersStay D.meaning disk result.disk }
 
     // Over a script and a queue file that are sound every line is answered, unless the outside fails or memory runs out.

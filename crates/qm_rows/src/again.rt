@@ -2,7 +2,7 @@
 use crate::by_hand::{
     APPEND, APPEND_AT_5, AT_0, Body, SUBMIT, SUBMIT_FRONT, SUBMIT_REST, site_and,
 };
-use crate::run::{check, device, run, serve};
+use crate::run::{check, disk_with, run, serve};
 use qm_program::End;
 use std::test::Fail;
 
@@ -75,7 +75,7 @@ fn a_job_waits_for_its_moment(rt: HostRuntime) -> Result<(), Fail> {
     let alloc = rt.alloc();
     for (change, printed) in CHANGES {
         let file = site_and(alloc, &[APPEND, SUBMIT_AFTER_7, change])?;
-        let ran = serve(alloc, b"A $ SHOW ENTRY 1\n", device(alloc, &file, &[])?)?;
+        let ran = serve(alloc, b"A $ SHOW ENTRY 1\n", disk_with(alloc, &file, &[])?)?;
         check(&rt, change, &ran, End::Ok, printed);
         assert_eq!(rt; ran.disk.held(1), file.as_slice());
     }
@@ -88,7 +88,7 @@ fn a_run_acts_at_the_moment_of_the_last_change(rt: HostRuntime) -> Result<(), Fa
     let alloc = rt.alloc();
     let file = site_and(alloc, &[APPEND_AT_5])?;
     let line = b"A ! LINE JOB.COM $ EXIT 1\n";
-    let ran = serve(alloc, line, device(alloc, &file, &[])?)?;
+    let ran = serve(alloc, line, disk_with(alloc, &file, &[])?)?;
     check(&rt, "run", &ran, End::Ok, b"A 1: file JOB.COM, 18 bytes\n");
     let both = site_and(alloc, &[APPEND_AT_5, APPEND_AT_5])?;
     assert_eq!(rt; ran.disk.held(1), both.as_slice());
@@ -101,7 +101,7 @@ fn what_lies_behind_the_closed_gate_does_not_count(rt: HostRuntime) -> Result<()
     let mut file = site_and(alloc, &[APPEND])?;
     file.extend_from_slice(b"\x01\x01\x01rest of a record that was being written")?;
     let script = b"A ! LINE JOB.COM x\nA $ SUBMIT JOB\n";
-    let ran = serve(alloc, script, device(alloc, &file, &[])?)?;
+    let ran = serve(alloc, script, disk_with(alloc, &file, &[])?)?;
     check(
         &rt,
         "run",

@@ -3,15 +3,15 @@ use crate::by_hand::{
     APPEND, APPEND_AT_4, APPEND_AT_5, AT_0, Body, EXIT_LINE, FORM, HEAD, JOB_COM, QUEUE, SUBMIT,
     TICK, queue_file, site_and,
 };
-use crate::run::{Ran, check, device, serve};
+use crate::run::{Ran, check, disk_with, serve};
 use qm_program::End;
 use std::alloc::{AllocError, Global};
 use std::process::Abort;
 use std::test::Fail;
 
-// A run over a device whose queue file holds these bytes.
+// A run over a disk whose queue file holds these bytes.
 fn over(alloc: Global, file: &[u8]) -> Result<Ran, AllocError> {
-    serve(alloc, b"A $ SHOW ENTRY 1\n", device(alloc, file, &[])?)
+    serve(alloc, b"A $ SHOW ENTRY 1\n", disk_with(alloc, file, &[])?)
 }
 
 fn damaged(place: u64) -> End {

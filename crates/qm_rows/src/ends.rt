@@ -1,5 +1,5 @@
 // Each end of a run, and what it leaves.
-use crate::run::{check, device, run, run_with, serve, site};
+use crate::run::{check, disk_with, run, run_with, serve, site};
 use qm_kinds::ScriptKind;
 use qm_program::End;
 use std::test::Fail;
@@ -86,7 +86,7 @@ fn a_text_of_another_shape_is_no_script(rt: HostRuntime) -> Result<(), Fail> {
     let alloc = rt.alloc();
     for script in OTHER_SHAPES {
         // It is told before the queue file is looked at.
-        let ran = serve(alloc, script, device(alloc, &[], &[])?)?;
+        let ran = serve(alloc, script, disk_with(alloc, &[], &[])?)?;
         check(&rt, script, &ran, FORM, NOTHING);
     }
     Ok(())
@@ -109,7 +109,7 @@ fn a_line_of_another_node_is_no_script_of_this_site(rt: HostRuntime) -> Result<(
         // No line was served.
         assert_eq!(rt; ran.disk.held(1), site(&rt)?.held(1));
         // Only the queue file knows its node.
-        let ran = serve(alloc, script, device(alloc, &[], &[])?)?;
+        let ran = serve(alloc, script, disk_with(alloc, &[], &[])?)?;
         check(&rt, script, &ran, End::Unformatted { byte: 0 }, NOTHING);
     }
     Ok(())

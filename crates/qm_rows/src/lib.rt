@@ -1,5 +1,5 @@
-//! Worked cases that are code, as tests on the top call over a device in memory, and once over real files: limits, each end,
-//! what a later run finds, each call of the device failing, and files that are none.
+//! Worked cases that are code, as tests on the top call over a disk in memory, and once over real files: limits, each end,
+//! what a later run finds, each call of the disk failing, and files that are none.
 #![tactic(auto)]
 
 #[cfg(test)]

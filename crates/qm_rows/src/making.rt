@@ -1,11 +1,11 @@
 // The making of a queue file.
 use crate::by_hand::site_and;
-use crate::run::{Ran, check, device, init, run_with, site};
+use crate::run::{Ran, check, disk_with, init, run_with, site};
 use qm_disk::MemoryDisk;
 use qm_program::End;
 use std::test::Fail;
 
-// Whatever the device held. The other files stay.
+// Whatever the disk held. The other files stay.
 #[test]
 fn a_new_site_is_its_rows(rt: HostRuntime) -> Result<(), Fail> {
     let alloc = rt.alloc();
@@ -33,7 +33,7 @@ fn a_new_site_is_its_rows(rt: HostRuntime) -> Result<(), Fail> {
 #[test]
 fn a_site_can_be_made_anew(rt: HostRuntime) -> Result<(), Fail> {
     let alloc = rt.alloc();
-    let made = init(alloc, "A", device(alloc, &[], &[])?)?;
+    let made = init(alloc, "A", disk_with(alloc, &[], &[])?)?;
     let Ran { disk, .. } = made.then(alloc, b"A ! LINE JOB.COM x\nA $ SUBMIT JOB\n")?;
     let again = init(alloc, "pluto", disk)?;
     check(&rt, "init again", &again, End::Ok, b"initialized\n");
@@ -55,13 +55,13 @@ PLUTO 2: %QMAN-E-NOSUCHFILE
 fn each_call_of_making_may_fail(rt: HostRuntime) -> Result<(), Fail> {
     let alloc = rt.alloc();
     for number in 1..=3 {
-        let ran = init(alloc, "A", device(alloc, b"\x07old", &[number])?)?;
+        let ran = init(alloc, "A", disk_with(alloc, b"\x07old", &[number])?)?;
         check(&rt, number, &ran, End::Journal, b"");
         let Ran { disk, .. } = ran;
         let again = init(alloc, "A", disk)?;
         check(&rt, number, &again, End::Ok, b"initialized\n");
     }
-    let ran = init(alloc, "A", device(alloc, b"\x07old", &[4])?)?;
+    let ran = init(alloc, "A", disk_with(alloc, b"\x07old", &[4])?)?;
     check(&rt, 4, &ran, End::Ok, b"initialized\n");
     Ok(())
 }
@@ -71,7 +71,14 @@ fn each_call_of_making_may_fail(rt: HostRuntime) -> Result<(), Fail> {
 fn making_writes_one_answer(rt: HostRuntime) -> Result<(), Fail> {
     let alloc = rt.alloc();
     let words = ["init", "A"];
-    let ran = run_with(alloc, &words, b"\xff", &[1], &[1], device(alloc, &[], &[])?)?;
+    let ran = run_with(
+        alloc,
+        &words,
+        b"\xff",
+        &[1],
+        &[1],
+        disk_with(alloc, &[], &[])?,
+    )?;
     check(&rt, "init", &ran, End::Write, b"");
     assert_eq!(rt; ran.disk.held(1), site(&rt)?.held(1));
     Ok(())

@@ -7,7 +7,7 @@ use std::fmt::Debug;
 use std::process::Abort;
 use std::test::Fail;
 
-/// How a run ended, what it printed, and the device that it handed back.
+/// How a run ended, what it printed, and the disk that it handed back.
 #[derive(Drop)]
 pub(crate) struct Ran {
     pub(crate) end: End,
@@ -16,7 +16,7 @@ pub(crate) struct Ran {
 }
 
 impl Ran {
-    /// A further run, over the device that this one handed back.
+    /// A further run, over the disk that this one handed back.
     pub(crate) fn then(self, alloc: Global, script: &[u8]) -> Result<Ran, AllocError> {
         let Ran { disk, .. } = self;
         serve(alloc, script, disk)
@@ -35,9 +35,9 @@ pub(crate) fn check<R: Abort, W: Debug + Drop>(
     assert_eq!(rt; ran.transcript.as_slice(), printed, "{told:?}");
 }
 
-/// A device whose queue file holds these bytes, and whose other files are empty. It fails at the calls that are listed,
+/// A disk whose queue file holds these bytes, and whose other files are empty. It fails at the calls that are listed,
 /// counted from 1.
-pub(crate) fn device(
+pub(crate) fn disk_with(
     alloc: Global,
     queue_file: &[u8],
     calls_that_fail: &[u64],
@@ -51,7 +51,7 @@ pub(crate) fn device(
     ))
 }
 
-/// Calls the program with these words: how it ended, what it printed, and the device that it handed back.
+/// Calls the program with these words: how it ended, what it printed, and the disk that it handed back.
 pub(crate) fn call<D: Disk + Drop>(
     alloc: Global,
     words: &[&str],
@@ -67,7 +67,7 @@ pub(crate) fn call<D: Disk + Drop>(
     Ok((end, sink.held().to_vec(alloc)?, disk))
 }
 
-/// Runs the program with these words over a text and a device. The source and the sink fail at the calls that are listed,
+/// Runs the program with these words over a text and a disk. The source and the sink fail at the calls that are listed,
 /// counted from 1.
 pub(crate) fn run_with(
     alloc: Global,
@@ -87,20 +87,20 @@ pub(crate) fn run_with(
     })
 }
 
-/// Makes the queue file of a device, with an outside that doesn't fail beside it.
+/// Makes the queue file of a disk, with an outside that doesn't fail beside it.
 pub(crate) fn init(alloc: Global, node: &str, disk: MemoryDisk) -> Result<Ran, AllocError> {
     run_with(alloc, &["init", node], b"", &[], &[], disk)
 }
 
-/// Serves a script over a device, with an outside that doesn't fail beside it.
+/// Serves a script over a disk, with an outside that doesn't fail beside it.
 pub(crate) fn serve(alloc: Global, script: &[u8], disk: MemoryDisk) -> Result<Ran, AllocError> {
     run_with(alloc, &["run"], script, &[], &[], disk)
 }
 
-/// The device with a new site of the node A.
+/// The disk with a new site of the node A.
 pub(crate) fn site<R: Abort + AllocGlobal>(rt: &R) -> Result<MemoryDisk, Fail> {
     let alloc = rt.alloc();
-    let made = init(alloc, "A", device(alloc, &[], &[])?)?;
+    let made = init(alloc, "A", disk_with(alloc, &[], &[])?)?;
     check(rt, "init", &made, End::Ok, b"initialized\n");
     let Ran { disk, .. } = made;
     Ok(disk)

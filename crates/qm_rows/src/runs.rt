@@ -1,8 +1,8 @@
-// A run over a device that fails at one of its calls, where queues are started and jobs run, and what a later run goes on
+// A run over a disk that fails at one of its calls, where queues are started and jobs run, and what a later run goes on
 // from: the site before the line in work, or behind it.
 //
 // Opening a new site is nine calls, and each of the accepted lines is four.
-use crate::run::{Ran, check, device, run, serve, site};
+use crate::run::{Ran, check, disk_with, run, serve, site};
 use qm_program::End;
 use std::process::Abort;
 use std::test::Fail;
@@ -107,7 +107,7 @@ A 5: Job JOB (queue SYS$BATCH, entry 2) started on SYS$BATCH
     ),
 ];
 
-// The calls of a line, whether a crash may leave the line where that call fails, and whether the device that is given back
+// The calls of a line, whether a crash may leave the line where that call fails, and whether the disk that is given back
 // has it. The third opens its gate, and the fourth makes that last.
 const CALLS: [(u64, bool, bool); 4] = [
     (1, false, false),
@@ -120,7 +120,7 @@ fn found((without, with): (&'static [u8], &'static [u8]), there: bool) -> &'stat
     if there { with } else { without }
 }
 
-// What a later run prints over the device as a crash of each kind leaves it. The second kind alone keeps a gate that
+// What a later run prints over the disk as a crash of each kind leaves it. The second kind alone keeps a gate that
 // wasn't synced.
 fn check_crashes<R: Abort + AllocGlobal>(
     rt: &R,
@@ -147,7 +147,7 @@ fn check_line<R: Abort + AllocGlobal>(
     let new = site(rt)?;
     for (place, may_stay, stays) in CALLS {
         let call = calls_before.wrapping_add(place);
-        let ran = serve(alloc, SCRIPT, device(alloc, new.held(1), &[call])?)?;
+        let ran = serve(alloc, SCRIPT, disk_with(alloc, new.held(1), &[call])?)?;
         check(rt, call, &ran, End::Journal, printed);
         check_crashes(rt, &ran, call, found(sites, false), found(sites, may_stay))?;
         let later = ran.then(alloc, LOOK)?;

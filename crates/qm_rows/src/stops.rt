@@ -1,9 +1,9 @@
-// A run over a device that fails at one of its calls, and what opening the queue file again finds.
+// A run over a disk that fails at one of its calls, and what opening the queue file again finds.
 //
 // Opening a new site is nine calls: a sync, the size, two reads for each of the three rows, and one of the closed gate. Each
 // accepted line is four: the record behind the gate is written and synced, and then the gate is. The first script has two
 // accepted lines and a listing.
-use crate::run::{Ran, check, device, run_with, serve, site};
+use crate::run::{Ran, check, disk_with, run_with, serve, site};
 use qm_program::End;
 use std::process::Abort;
 use std::test::Fail;
@@ -50,11 +50,11 @@ A 2: rows: 1
 A 2:      1 JOB              SYSTEM              1 pending
 ";
 
-// The script over a new site, on a device that fails at this call.
+// The script over a new site, on a disk that fails at this call.
 fn stopped<R: Abort + AllocGlobal>(rt: &R, call: u64) -> Result<Ran, Fail> {
     let alloc = rt.alloc();
     let new = site(rt)?;
-    Ok(serve(alloc, SCRIPT, device(alloc, new.held(1), &[call])?)?)
+    Ok(serve(alloc, SCRIPT, disk_with(alloc, new.held(1), &[call])?)?)
 }
 
 // What is found after a crash of each kind.
@@ -71,7 +71,7 @@ fn check_images<R: Abort + AllocGlobal>(
     Ok(())
 }
 
-// What a run prints on a device that fails at this call, and what is found on the device that was given back, and after a
+// What a run prints on a disk that fails at this call, and what is found on the disk that was given back, and after a
 // crash of each kind.
 fn check_stop<R: Abort + AllocGlobal>(
     rt: &R,
@@ -96,7 +96,7 @@ fn opening_may_fail_at_each_call(rt: HostRuntime) -> Result<(), Fail> {
     Ok(())
 }
 
-// A call of the two lines; what is printed where it fails; and what is found then on the device that was given back, and
+// A call of the two lines; what is printed where it fails; and what is found then on the disk that was given back, and
 // after a crash of each kind.
 type Stop = (u64, &'static [u8], &'static [u8], [&'static [u8]; 3]);
 
@@ -131,7 +131,7 @@ fn past_the_last_call_nothing_fails(rt: HostRuntime) -> Result<(), Fail> {
 #[test]
 fn a_failure_that_cannot_be_told_is_a_failed_write(rt: HostRuntime) -> Result<(), Fail> {
     let alloc = rt.alloc();
-    let disk = device(alloc, site(&rt)?.held(1), &[10])?;
+    let disk = disk_with(alloc, site(&rt)?.held(1), &[10])?;
     let ran = run_with(alloc, &["run"], SCRIPT, &[], &[1], disk)?;
     check(&rt, "run", &ran, End::Write, b"");
     check_images(&rt, &ran, 10, [NONE, NONE, NONE])
@@ -158,11 +158,11 @@ fn a_site_goes_on_from_crash_to_crash(rt: HostRuntime) -> Result<(), Fail> {
     let line = b"A ! LINE LOG.LIS one line\n";
     let mut file = site(&rt)?.held(1).to_vec(alloc)?;
     for (call, pick, end) in CRASHES {
-        let ran = serve(alloc, line, device(alloc, &file, &[call])?)?;
+        let ran = serve(alloc, line, disk_with(alloc, &file, &[call])?)?;
         assert_eq!(rt; ran.end, end, "call {call}, image {pick}");
         file = ran.disk.after_crash(pick)?.held(1).to_vec(alloc)?;
     }
-    let last = serve(alloc, line, device(alloc, &file, &[])?)?;
+    let last = serve(alloc, line, disk_with(alloc, &file, &[])?)?;
     check(
         &rt,
         "last",

@@ -3,4 +3,4 @@ use Rattle.qm_program.proofs.laws.a_run_that_stops_has_served_its_first_lines.Go
 
 pub returns : goal.returns
 returns g c = λ left taken printed end served.
-    served_to g.D.Disk.meaning g.met.D.Disk.counts_now left end (record { device = c.args.old.now; taken = taken }) (record { device = c.args.new.now; taken = printed }) served
+    served_to g.D.Disk.meaning g.met.D.Disk.counts_now left end (record { disk = c.args.old.now; taken = taken }) (record { disk = c.args.new.now; taken = printed }) served

@@ -3,4 +3,4 @@ use Rattle.qm_program.proofs.laws.steps_print_their_text.Goals as goal
 
 pub returns : goal.returns
 returns g c = λ site steps taken printed made.
-    steps_print g.D.Disk.meaning site steps (record { device = c.args.old.now; taken = taken }) (record { device = c.args.new.now; taken = printed }) made
+    steps_print g.D.Disk.meaning site steps (record { disk = c.args.old.now; taken = taken }) (record { disk = c.args.new.now; taken = printed }) made
