@@ -5,8 +5,8 @@ ghost use Rattle.qm_model.specs.Texts.{cut_at_blank};
 ghost use Rattle.qm_model.specs.Script.{act_of, done_act, drop_act, fill_act, is_act_word, line_act};
 ghost use Rattle.qm_program.specs.Wanting.{WantsMemory};
 
-use crate::number::act_number;
 use crate::script::cut_at_blank;
+use qm_digits::plain_number_up_to;
 use qm_kinds::{FileName, Input, ParseKind, Request, Seq};
 use std::alloc::{AllocError, Global};
 
@@ -58,7 +58,7 @@ fn read_fill_act(text: &[u8]) -> Input
     let Some(file) = FileName::read(file) else {
         return fault(ParseKind::Form);
     };
-    match act_number(FILL_LIMIT, lines) {
+    match plain_number_up_to(FILL_LIMIT, lines) {
         None | Some(0) => fault(ParseKind::Form),
         Some(lines) => Input::Ask(Request::Fill {
             file,
@@ -84,10 +84,10 @@ fn read_done_act(text: &[u8]) -> Input
     let Some((run, status)) = cut_at_blank(text) else {
         return fault(ParseKind::Form);
     };
-    let Some(run) = act_number(u64::MAX, run) else {
+    let Some(run) = plain_number_up_to(u64::MAX, run) else {
         return fault(ParseKind::Form);
     };
-    let Some(status) = act_number(u64::from(u32::MAX), status) else {
+    let Some(status) = plain_number_up_to(u64::from(u32::MAX), status) else {
         return fault(ParseKind::Form);
     };
     Input::Ask(Request::Done {

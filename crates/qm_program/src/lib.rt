@@ -5,7 +5,6 @@
 mod act;
 mod input;
 mod laws;
-mod number;
 mod outcome;
 mod script;
 mod serve;

@@ -73,6 +73,9 @@ fn a_site_in_real_files_outlives_its_runs(rt: HostRuntime) -> Result<(), Fail> {
             site_and(rt.alloc(), records)?
         );
     }
+    // The other files were asked for nothing, and so none was made.
+    assert!(rt; !fs::exists(&rt, "qm_rows_test/master")?);
+    assert!(rt; !fs::exists(&rt, "qm_rows_test/two")?);
     fs::remove_dir_all(&rt, "qm_rows_test")?;
     Ok(())
 }
