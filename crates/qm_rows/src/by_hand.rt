@@ -102,8 +102,8 @@ fn bytes_in(body: &[&[u8]]) -> u64 {
     bytes
 }
 
-/// Adds a record to a log: an open gate, the length of four bytes, and the body.
-pub(crate) fn add(log: &mut Vec<u8>, body: &[&[u8]]) -> Result<(), AllocError> {
+// Adds a record to a log: an open gate, the length of four bytes, and the body.
+fn add(log: &mut Vec<u8>, body: &[&[u8]]) -> Result<(), AllocError> {
     log.push(1)?;
     log.extend_from_slice(&bytes_in(body).to_le_bytes()[..4])?;
     for piece in body {

@@ -1,6 +1,5 @@
 // The limits that a script can meet.
-use crate::by_hand::{AT_0, JOB_COM, add, site_and};
-use crate::run::{check, disk_with, run, serve};
+use crate::run::{check, run};
 use qm_program::End;
 use std::test::Fail;
 
@@ -71,50 +70,6 @@ A 65539: rows: 1
 A 65539:  65536 J                SYSTEM              1 pending
 "
         )
-    );
-    Ok(())
-}
-
-// A file of 1,048,000 letters is made and dropped 128 times, which makes the queue file 134,151,071 bytes long. It takes
-// 134,217,728 at most.
-#[test]
-fn a_line_for_which_the_queue_file_has_no_room_is_refused(rt: HostRuntime) -> Result<(), Fail> {
-    let alloc = rt.alloc();
-    let letters = vec![in alloc; b'x'; 1_048_000]?;
-    let mut file = site_and(alloc, &[])?;
-    file.pop();
-    for _ in 0..128 {
-        add(
-            &mut file,
-            &[
-                b"\x01\x01",
-                AT_0,
-                b"\x00",
-                JOB_COM,
-                b"\xc0\xfd\x0f\x00",
-                &letters,
-            ],
-        )?;
-        add(&mut file, &[b"\x01\x03", AT_0, b"\x00", JOB_COM])?;
-    }
-    file.push(0)?;
-    let mut script = Vec::new(alloc);
-    for part in [
-        b"A ! LINE BIG.LIS ".as_slice(),
-        &letters,
-        b"\nA ! LINE BIG.LIS x\n",
-    ] {
-        script.extend_from_slice(part)?;
-    }
-    let ran = serve(alloc, &script, disk_with(alloc, &file, &[])?)?;
-    check(
-        &rt,
-        "run",
-        &ran,
-        End::Ok,
-        b"A 1: %QMAN-E-FULL, need 135199101, cap 134217728
-A 2: file BIG.LIS, 2 bytes
-",
     );
     Ok(())
 }
