@@ -71,7 +71,7 @@ pub record IsForAnother (tells : Bool) (file : List ℕ) (lines : List ScriptLin
 
 module _ {D : Type 0} (m : Meaning D) where
   -- The queue file of a site was opened, and the disk only looked at and didn't fail; every line is of the site's node. Then the file is
-  -- that of the site, as it reads and in each image that a crash may leave, and the steps of the lines go on from there.
+  -- that of the site, as it reads and in each crash state, and the steps of the lines go on from there.
   pub record Serves (goes : Site → List Step → Outside D → Outside D → Type 0) (old new : Outside D) (lines : List ScriptLine) : Type 0 where
     pub site : Site
     pub node : List ℕ

@@ -2,8 +2,9 @@
 ghost use Rattle.std.specs.Prelude.{◌≡◌, ℕ, List, Option, IsTrue};
 ghost use Rattle.std.specs.Io.KnownBytes.{Appends};
 ghost use Rattle.qm_disk.specs.Disk.{LeavesOnly};
+ghost use Rattle.qm_kinds.specs.declared.moment.TheConstants.{LAST_MOMENT};
 ghost use Rattle.qm_kinds.specs.declared.name.TheConstants.{NODE_NAME_BYTES, SHORT_NAME_BYTES};
-ghost use Rattle.qm_store.specs.declared.store.TheConstants.{QUEUE_CAP};
+ghost use Rattle.qm_store.specs.declared.store.TheConstants.{QUEUE_CAP, QUEUE_FILE};
 ghost use Rattle.qm_manager.specs.Site.{Site};
 ghost use Rattle.qm_program.specs.Transcript.{Step, text_of};
 ghost use Rattle.qm_program.specs.Course.{MakesSteps, StopsWithin};
@@ -45,6 +46,17 @@ pub fn steps_print_their_text<D: Disk>(old: &D, new: &D)
 /// A queue file takes 134,217,728 bytes at most. Definitions cite the number by its name, so here it is said.
 pub fn a_queue_file_has_a_cap()
     ensures { QUEUE_CAP ≡ 134217728 }
+{}
+
+/// The queue file is file 1 of a disk. Definitions cite the number by its name, so here it is said.
+pub fn the_queue_file_has_a_number()
+    ensures { QUEUE_FILE ≡ 1 }
+{}
+
+/// The last moment is 25,690,901,759,999 hundredths of a second behind the base date. Definitions cite the number by its name,
+/// so here it is said.
+pub fn moments_have_a_last_one()
+    ensures { LAST_MOMENT ≡ 25690901759999 }
 {}
 
 /// A script has 16,777,216 bytes at most. Definitions cite the number by its name, so here it is said.

@@ -58,7 +58,7 @@ fn stopped<R: Abort + AllocGlobal>(rt: &R, call: u64) -> Result<Ran, Fail> {
 }
 
 // What is found after a crash of each kind.
-fn check_images<R: Abort + AllocGlobal>(
+fn check_crash_states<R: Abort + AllocGlobal>(
     rt: &R,
     ran: &Ran,
     call: u64,
@@ -82,7 +82,7 @@ fn check_stop<R: Abort + AllocGlobal>(
 ) -> Result<(), Fail> {
     let ran = stopped(rt, call)?;
     check(rt, call, &ran, End::Journal, printed);
-    check_images(rt, &ran, call, after_crash)?;
+    check_crash_states(rt, &ran, call, after_crash)?;
     let later = ran.then(rt.alloc(), LOOK)?;
     check(rt, call, &later, End::Ok, given_back);
     Ok(())
@@ -100,8 +100,8 @@ fn opening_may_fail_at_each_call(rt: HostRuntime) -> Result<(), Fail> {
 // after a crash of each kind.
 type Stop = (u64, &'static [u8], &'static [u8], [&'static [u8]; 3]);
 
-// Before the gate opens the line is in no image. A write of the gate that fails, or isn't synced, may have been made or not;
-// the third image has half of that one byte, and so none of it.
+// Before the gate opens the line is in no crash state. A write of the gate that fails, or isn't synced, may have been made or not;
+// the third crash state has half of that one byte, and so none of it.
 const STOPS: [Stop; 8] = [
     (10, FIRST_FAILS, NONE, [NONE, NONE, NONE]),
     (11, FIRST_FAILS, NONE, [NONE, NONE, NONE]),
@@ -125,7 +125,7 @@ fn a_line_may_fail_at_each_call(rt: HostRuntime) -> Result<(), Fail> {
 fn past_the_last_call_nothing_fails(rt: HostRuntime) -> Result<(), Fail> {
     let ran = stopped(&rt, 18)?;
     check(&rt, "past the last call", &ran, End::Ok, NONE_FAILS);
-    check_images(&rt, &ran, 18, [BOTH, BOTH, BOTH])
+    check_crash_states(&rt, &ran, 18, [BOTH, BOTH, BOTH])
 }
 
 #[test]
@@ -134,11 +134,11 @@ fn a_failure_that_cannot_be_told_is_a_failed_write(rt: HostRuntime) -> Result<()
     let disk = disk_with(alloc, site(&rt)?.held(1), &[10])?;
     let ran = run_with(alloc, &["run"], SCRIPT, &[], &[1], disk)?;
     check(&rt, "run", &ran, End::Write, b"");
-    check_images(&rt, &ran, 10, [NONE, NONE, NONE])
+    check_crash_states(&rt, &ran, 10, [NONE, NONE, NONE])
 }
 
-// One crash after another. Each run goes on from the image that the one before left; its line is there where the gate was
-// written (the third and the fourth call behind opening) and the image has that write. Opening is two calls more for each
+// One crash after another. Each run goes on from the crash state that the one before left; its line is there where the gate was
+// written (the third and the fourth call behind opening) and the crash state has that write. Opening is two calls more for each
 // line that is there.
 const CRASHES: [(u64, u8, End); 9] = [
     (13, 1, End::Journal),
@@ -159,7 +159,7 @@ fn a_site_goes_on_from_crash_to_crash(rt: HostRuntime) -> Result<(), Fail> {
     let mut file = site(&rt)?.held(1).to_vec(alloc)?;
     for (call, pick, end) in CRASHES {
         let ran = serve(alloc, line, disk_with(alloc, &file, &[call])?)?;
-        assert_eq!(rt; ran.end, end, "call {call}, image {pick}");
+        assert_eq!(rt; ran.end, end, "call {call}, crash state {pick}");
         file = ran.disk.after_crash(pick)?.held(1).to_vec(alloc)?;
     }
     let last = serve(alloc, line, disk_with(alloc, &file, &[])?)?;
