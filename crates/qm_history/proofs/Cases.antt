@@ -52,7 +52,8 @@ calls =
     ∷ []
 
 -- Without this a START could take over and record its node a second time, a node that is down could be served, or a fault in a
--- line could bring a manager about. The lines stand node by node, and the last one says whose turn each was.
+-- line could bring a manager about. The lines stand node by node, and the last one says whose turn each was. (Which file a
+-- compaction makes the live one is left open here; where room is told it is the other one.)
 pub text_of_the_cluster : cluster_text no_items site (history site calls)
     ≡ codes "A 1: tick\nA 2: node A stopped\nA 3: %QMAN-E-NODEDOWN\nA 4: node A started\nA 5: %QMAN-E-INVPARVAL\n"
     ++ codes "A 9: compacted, live file 1\nA 10: %QMAN-E-PARSE, byte 3: word\n"

@@ -3,7 +3,7 @@ use Rattle.std.proofs.Common.{◌≡◌, ◌≢◌, inl, inr, ℕ, ◌+◌, ◌^
 use Rattle.std.specs.Prelude.{codes, ◌-◌, min, is_some, option_to_list}
 use Rattle.std.specs.List.{AllByRecursion}
 use Rattle.std.proofs.lemmas.List.{append-nil}
-use Rattle.qm_disk.specs.Disk.{Image, Meaning, IsLeft, OnlyLooks, TellsFaults}
+use Rattle.qm_disk.specs.Disk.{CrashState, Meaning, IsLeft, OnlyLooks, TellsFaults}
 use Rattle.qm_kinds.specs.declared.input.Input.{Input}
 use Rattle.qm_kinds.specs.declared.input.Input.TheVariants as input
 use Rattle.qm_kinds.specs.declared.query.After.TheVariants as after
@@ -25,7 +25,7 @@ use Rattle.qm_history.specs.declared.world.Role.{Role}
 use Rattle.qm_history.specs.declared.world.World.{World}
 use Rattle.qm_history.specs.Answering.{MayAnswer}
 use Rattle.qm_history.specs.Calls.{input_of}
-use Rattle.qm_history.specs.Chest.{AddsTurn}
+use Rattle.qm_history.specs.Chest.{AddsTurn, IsMadeFor}
 use Rattle.qm_history.specs.Contents.{Compacts, HoldWorld, IsEpochOf, Keeps, LeavesFiles, are_without_write}
 use Rattle.qm_history.specs.Course.{Whole}
 use Rattle.qm_history.specs.Faults.{is_journal}
@@ -90,19 +90,19 @@ module _ (IsLog : List ℕ → List (List ℕ) → Type 0) (HasSpelling : Record
   settled w log none (inr same) = ap system_of (same ∙ ap (λ (o : Option Record). w.log ++ option_to_list o) none ∙ append-nil w.log)
 
   -- It puts the last sync of an append off: a crash may still leave the log before a record that was acknowledged.
-  pub sync_put_off : {D : Type 0} (m : Meaning D) (w : World) (disk : D) (image : Image) (before : List Record) → w.doubt ≡ None → IsLeft (m.may_leave disk) image
-      → Hold IsLog HasSpelling text image before → system_of before ≢ system_in w → Keeps IsLog HasSpelling text m w disk → ⊥
-  sync_put_off m w disk image before none left holds other keeps =
-      let kept : HoldWorld IsLog HasSpelling text image w = keeps.crash image left in
-      other (hold_one IsLog HasSpelling text one_log one_record image before kept.log holds kept.holds ∙ settled w kept.log none kept.left)
+  pub sync_put_off : {D : Type 0} (m : Meaning D) (w : World) (disk : D) (crashed : CrashState) (before : List Record) → w.doubt ≡ None → IsLeft (m.may_leave disk) crashed
+      → Hold IsLog HasSpelling text crashed before → system_of before ≢ system_in w → Keeps IsLog HasSpelling text m w disk → ⊥
+  sync_put_off m w disk crashed before none left holds other keeps =
+      let kept : HoldWorld IsLog HasSpelling text crashed w = keeps.crash crashed left in
+      other (hold_one IsLog HasSpelling text one_log one_record crashed before kept.log holds kept.holds ∙ settled w kept.log none kept.left)
 
   -- Its COMPACT writes nothing.
-  pub nothing_compacted : (files : Image) (file : ℕ) (w : World) → Compacts IsLog HasSpelling text files files file w → ⊥
+  pub nothing_compacted : (files : CrashState) (file : ℕ) (w : World) → Compacts IsLog HasSpelling text files files file w → ⊥
   nothing_compacted files file w h =
       h.other (sym h.live ∙ ap (λ (m : _). m.live) (says_one IsLog HasSpelling text one_log one_record files h.says h.said _ _ h.is h.was))
 
   -- It writes no epoch into the master.
-  pub no_epoch : (files : Image) (w : World) (role : Role) → w.manager ≡ Some role → 0 < role.epoch → (h : HoldWorld IsLog HasSpelling text files w) → h.holds.says.epoch ≡ 0 → ⊥
+  pub no_epoch : (files : CrashState) (w : World) (role : Role) → w.manager ≡ Some role → 0 < role.epoch → (h : HoldWorld IsLog HasSpelling text files w) → h.holds.says.epoch ≡ 0 → ⊥
   no_epoch files w role up high h none =
       let same : h.holds.says.epoch ≡ role.epoch = subst (λ (o : Option Role). IsEpochOf w o h.holds.says.epoch) up h.epoch in omega (arith, high, none, same)
 
@@ -112,6 +112,15 @@ module _ (IsLog : List ℕ → List (List ℕ) → Type 0) (HasSpelling : Record
   rewritten_by_a_fenced_call m w old new asked t told node held current f is within other adds =
       let looks : OnlyLooks m old new = subst (λ (events : List Event). LeavesFiles m (are_without_write events) old new) is adds.files in
       other (looks.reads f within)
+
+  -- It tells that a file is damaged, though its disks hold the log.
+  pub damaged_on_good_files : {D : Type 0} (m : Meaning D) (w : World) (old new : D) (asked : Call) (t : Turn) (file place : ℕ)
+      → AddsTurn IsLog HasSpelling text m w old new asked t (answer.Damaged file place) → ⊥
+  damaged_on_good_files m w old new asked t file place adds = adds.undamaged file place refl
+
+-- It serves a call of one node as a turn of another.
+pub turn_of_another_node : (now : ℕ) (t : Turn) → t.node ≡ 1 → IsMadeFor 0 now (Some t) → ⊥
+turn_of_another_node now t is made = let same : ◌≡◌ {A = ℕ} 1 0 = sym is ∙ made.0 in absurd (omega (arith, same))
 
 -- ---- takeovers
 

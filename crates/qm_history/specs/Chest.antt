@@ -3,7 +3,7 @@
 -- This site's own: one value with the files and the image, and the notes of its turns.
 use Rattle.std.specs.Prelude.{◌≡◌, ◌⊎◌, ℕ, ◌+◌, ◌-◌, ◌^◌, ◌≤◌, min, Bool, true, List, [], ◌∷◌, ◌++◌, length, filter_map, is_some, Option, None, Some, IsTrue}
 use Rattle.std.specs.Option.{option_map}
-use Rattle.qm_disk.specs.Disk.{Meaning, LeavesOnly, TellsFaults}
+use Rattle.qm_disk.specs.Disk.{Meaning, LeavesOnly, OnlyLooks, TellsFaults}
 use Rattle.qm_kinds.specs.declared.record.Record.{Record}
 use Rattle.qm_kinds.specs.declared.system.System.{System}
 use Rattle.qm_history.specs.declared.call.Answer.{Answer}
@@ -16,7 +16,7 @@ use Rattle.qm_history.specs.Answering.{MayAnswer}
 use Rattle.qm_history.specs.Contents.{HoldWorld, HoldWithin, HoldIn, Keeps, LeavesFiles, CompactsFiles, are_without_write, compacted_by}
 use Rattle.qm_history.specs.Faults.{faults_told, is_journal}
 use Rattle.qm_history.specs.Legal.{after_turn, after_turns, IsLegal}
-use Rattle.qm_history.specs.Room.{AreAboveCap, AreWithinRoom, room_in}
+use Rattle.qm_history.specs.Room.{AreAboveCap, AreWithinRoom, TellsRoom, room_in}
 use Rattle.qm_history.specs.Start.{Starts}
 use Rattle.qm_history.specs.World.{system_in}
 
@@ -56,6 +56,11 @@ pub record TellsWorld {D : Type 0} (w : World) (c : Chest D) : Type 0 where
 abbrev pub turns_noted : List (Option Turn) → List Turn
 turns_noted notes = filter_map (λ (note : Option Turn). note) notes
 
+-- a turn that a call left is of the node that made it, at the moment that its clock told
+abbrev pub IsMadeFor : ℕ → ℕ → Option Turn → Type 0
+IsMadeFor node now None = Unit {0}
+IsMadeFor node now (Some t) = (t.node ≡ node) × (t.moment ≡ now)
+
 -- what is said of a file as a log, and how records are spelled
 module _ (IsLog : List ℕ → List (List ℕ) → Type 0) (HasSpelling : Record → Type 0) (record_text : Record → List ℕ) {D : Type 0} (m : Meaning D) where
   -- The chest began in this world, on disks that hold it. Its turns are legal there, and tell of room what is so. Behind them it
@@ -67,7 +72,7 @@ module _ (IsLog : List ℕ → List (List ℕ) → Type 0) (HasSpelling : Record
     pub caps : AreAboveCap starts.says.cap c.turns
     pub tells : TellsWorld (after_turns w c.turns) c
     pub keeps : Keeps IsLog HasSpelling record_text m (after_turns w c.turns) c.disk
-    pub moments : LeavesOnly m began c.disk (λ image. HoldIn IsLog HasSpelling record_text image w c.turns)
+    pub moments : LeavesOnly m began c.disk (λ crashed. HoldIn IsLog HasSpelling record_text crashed w c.turns)
 
   -- What holds of the chest and the notes of the turns that it was handed in: that is what a turnstile keeps between two turns.
   -- Of disks that don't tell their contents nothing is known but how many calls failed.
@@ -78,11 +83,12 @@ module _ (IsLog : List ℕ → List (List ℕ) → Type 0) (HasSpelling : Record
     pub told : faults_told c.turns ≡ c.failed + c.unread
     pub stands : IsTrue m.tells → StandsFor w began c
 
-  -- A call that left a turn: the turn is one of the call, with this answer; at each moment a crash leaves what it may within the
+  -- A call that left a turn: the turn is one of the call, with this answer, and no file is damaged; at each moment a crash leaves what it may within the
   -- turn; and where the turn writes nothing, the files are as they were.
   pub record AddsTurn (w : World) (old new : D) (asked : Call) (t : Turn) (told : Answer) : Type 0 where
     pub answers : MayAnswer HasSpelling w asked t told
-    pub moments : LeavesOnly m old new (λ image. HoldWithin IsLog HasSpelling record_text image w t)
+    pub undamaged : (file place : ℕ) → told ≡ answer.Damaged file place → ⊥
+    pub moments : LeavesOnly m old new (λ crashed. HoldWithin IsLog HasSpelling record_text crashed w t)
     pub files : LeavesFiles m (are_without_write t.events) old new
     pub compacts : CompactsFiles IsLog HasSpelling record_text m (after_turn w t) old new (compacted_by t.events)
 
@@ -90,18 +96,23 @@ module _ (IsLog : List ℕ → List (List ℕ) → Type 0) (HasSpelling : Record
   abbrev pub MayLeaveNone : List Turn → Answer → Type 0
   MayLeaveNone turns told = ((told ≡ answer.HistoryFull) × (length turns ≡ turns_kept)) ⊎ (told ≡ answer.NoMemory None)
 
-  -- a call that left none: at each moment a crash leaves what it might before
+  -- a call that left none: at each moment a crash leaves what it might before, and where no more turns are kept nothing is written
   pub record AddsNone (w : World) (old new : D) (turns : List Turn) (told : Answer) : Type 0 where
     pub why : MayLeaveNone turns told
-    pub moments : LeavesOnly m old new (λ image. HoldWorld IsLog HasSpelling record_text image w)
+    pub files : told ≡ answer.HistoryFull → OnlyLooks m old new
+    pub moments : LeavesOnly m old new (λ crashed. HoldWorld IsLog HasSpelling record_text crashed w)
 
   abbrev pub Adds : World → D → D → Call → List Turn → Option Turn → Answer → Type 0
   Adds w old new asked turns None told = AddsNone w old new turns told
   Adds w old new asked turns (Some t) told = AddsTurn w old new asked t told
 
-  -- What a call does to a chest that stands for a world and these notes, where its names, lists and spelling keep the rules: the
-  -- answer tells of a disk that failed just where one did, and the chest then stands for one note more.
-  pub record Serves (w : World) (began : D) (old new : Chest D) (notes : List (Option Turn)) (asked : Call) (note : Option Turn) (told : Answer) : Type 0 where
+  -- What a call of this node, with this reading, does to a chest that stands for a world and these notes, where its names, lists
+  -- and spelling keep the rules: the turn is of that node and reading; the answer tells of a disk that failed just where one did;
+  -- what it tells of room is so of this call; and the chest then stands for one note more.
+  pub record Serves (w : World) (began : D) (old new : Chest D) (notes : List (Option Turn)) (node now : ℕ) (asked : Call) (note : Option Turn) (told : Answer) : Type 0 where
+    pub made : IsMadeFor node now note
     pub faults : TellsFaults m old.disk new.disk (is_journal told ≡ true)
     pub adds : IsTrue m.tells → Adds (after_turns w old.turns) old.disk new.disk asked old.turns note told
+    pub room : IsTrue m.tells → (h : Starts IsLog HasSpelling record_text (m.seen began) w)
+        → TellsRoom record_text w (room_in record_text h.says h.hold.masters h.records) old.turns asked note
     pub stands : Stands w began new (notes ++ note ∷ [])

@@ -12,9 +12,11 @@ use Rattle.qm_history.specs.Course.{Extent, Whole, Begun}
 use Rattle.qm_history.specs.Folding.{system_of}
 use Rattle.qm_history.specs.Master.{MasterState}
 
--- how the turns of a node end: with its leave or while it is stopped, or at an answer behind which none can come
+-- how the turns of a node end: with its leave or while it is stopped; broken off, where the program ended before, by another node
+-- or by the sink; or at an answer behind which none can come
 pub data NodeEnd : Type 0 where
   Ended : NodeEnd
+  BrokenOff : NodeEnd
   TurnsSpent : NodeEnd
   FileDamaged : ℕ → ℕ → NodeEnd
   MemoryShort : NodeEnd
@@ -22,6 +24,7 @@ pub data NodeEnd : Type 0 where
 -- its course is whole, or begun
 abbrev pub extent_of : NodeEnd → Extent
 extent_of Ended = Whole
+extent_of BrokenOff = Begun
 extent_of TurnsSpent = Begun
 extent_of (FileDamaged file place) = Begun
 extent_of MemoryShort = Begun
@@ -33,6 +36,7 @@ BeginsWith text beginning = (more : List ℕ) × (text ≡ beginning ++ more)
 -- A node has printed the text of its turns; where it ended for want of memory or at a damaged file, a beginning of that.
 abbrev pub HasPrinted : NodeEnd → List ℕ → List ℕ → Type 0
 HasPrinted Ended text printed = printed ≡ text
+HasPrinted BrokenOff text printed = printed ≡ text
 HasPrinted TurnsSpent text printed = printed ≡ text
 HasPrinted (FileDamaged file place) text printed = BeginsWith text printed
 HasPrinted MemoryShort text printed = BeginsWith text printed
@@ -73,6 +77,7 @@ pub record NodeText : Type 0 where
 -- its text may not be whole, and nothing is printed behind it
 abbrev pub cuts_text : NodeEnd → Bool
 cuts_text Ended = false
+cuts_text BrokenOff = false
 cuts_text TurnsSpent = false
 cuts_text (FileDamaged file place) = true
 cuts_text MemoryShort = true
@@ -97,6 +102,20 @@ worse HistoryFull other = other
 worse DiskFailed Served = DiskFailed
 worse DiskFailed other = other
 worse Served other = other
+
+-- what the end of a node makes of the program's
+abbrev pub end_of_node : NodeEnd → ServingEnd
+end_of_node Ended = Served
+end_of_node BrokenOff = Served
+end_of_node TurnsSpent = HistoryFull
+end_of_node (FileDamaged file place) = Damaged file place
+end_of_node MemoryShort = NoMemory
+
+-- the end of the program: the worst of its nodes', and of what else there is, which is that the sink failed, that a disk did, or
+-- neither
+abbrev pub end_of : List NodeEnd → ServingEnd → ServingEnd
+end_of [] rest = rest
+end_of (e ∷ ends) rest = worse (end_of_node e) (end_of ends rest)
 
 -- the lines of a text, without anything in front of them
 abbrev pub lines_text : List (List ℕ) → List ℕ

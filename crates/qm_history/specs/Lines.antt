@@ -85,7 +85,7 @@ cut_short number (Err f) = Err f
 cut_short number (Ok l) = Err (record { line = number; kind = wrong.End })
 
 -- the lines of the parts between line feeds, of which the last has to be empty; of a command that goes on, the number of its first
--- part and its text so far are given
+-- part and its text so far are given. It goes on where the part itself ends in `-`; an empty one ends it
 abbrev pub lines_from : List (List ℕ) → Option (ℕ × List ℕ) → ℕ → List (List ℕ) → Result (List UserLine) LineFault
 lines_from names begun number [] = Ok []
 lines_from names None number (part ∷ []) = if length part == 0 then Ok [] else cut_short number (line_of names number part)
@@ -95,7 +95,7 @@ lines_from names None number (part ∷ next ∷ parts) =
     if goes_on part then lines_from names (Some (number, without_last part)) (number + 1) (next ∷ parts) else
     one_more (line_of names number part) (lines_from names None (number + 1) (next ∷ parts))
 lines_from names (Some begun) number (part ∷ next ∷ parts) =
-    if goes_on (begun.1 ++ part) then lines_from names (Some (begun.0, without_last (begun.1 ++ part))) (number + 1) (next ∷ parts) else
+    if ends_with nat_eq part (45 ∷ []) then lines_from names (Some (begun.0, without_last (begun.1 ++ part))) (number + 1) (next ∷ parts) else
     one_more (line_of names begun.0 (begun.1 ++ part)) (lines_from names None (number + 1) (next ∷ parts))
 
 -- the most bytes of a script

@@ -15,9 +15,9 @@ use Rattle.qm_history.specs.declared.event.Event.TheVariants as event
 use Rattle.qm_history.specs.declared.turn.Turn.{Turn}
 use Rattle.qm_history.specs.declared.world.World.{World}
 use Rattle.qm_history.specs.Calls.{input_of, acting}
-use Rattle.qm_history.specs.Faults.{tells_disk_fault}
+use Rattle.qm_history.specs.Faults.{faults_told, tells_disk_fault}
 use Rattle.qm_history.specs.Folding.{after_record}
-use Rattle.qm_history.specs.Legal.{after_turn}
+use Rattle.qm_history.specs.Legal.{after_turn, after_turns}
 use Rattle.qm_history.specs.Master.{MasterRecord, MasterState, Epoch, Live, master_text}
 use Rattle.qm_history.specs.Records.{request_record, image_of}
 use Rattle.qm_history.specs.Step.{after_event}
@@ -211,6 +211,16 @@ module _ (record_text : Record → List ℕ) where
   -- the turn of this call tells of room what is so
   abbrev pub IsRoomTold : World → Room → Call → Turn → Type 0
   IsRoomTold w m asked t = HaveRoom None w m t.moment (input_of asked) t.events
+
+  -- the room behind turns, as long as no disk failed
+  abbrev pub room_behind : World → Room → List Turn → Room
+  room_behind w m [] = m
+  room_behind w m (t ∷ turns) = room_behind (after_turn w t) (room_after_events w m t.events) turns
+
+  -- behind these turns this call's turn, if it left one, tells of room what is so, as long as no disk has failed
+  abbrev pub TellsRoom : World → Room → List Turn → Call → Option Turn → Type 0
+  TellsRoom w m turns asked None = Unit {0}
+  TellsRoom w m turns asked (Some t) = faults_told turns ≡ 0 → IsRoomTold (after_turns w turns) (room_behind w m turns) asked t
 
   module _ (HasSpelling : Record → Type 0) where
     -- it is the turn of some call, and tells of room what is so
