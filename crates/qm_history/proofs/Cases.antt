@@ -1,6 +1,6 @@
 -- Calls of two nodes as a table, the turns that they make, and what is printed of them; and what single turns and steps may be.
 use Rattle.std.proofs.Common.{◌≡◌, ℕ, lit<, Bool, true, false, List, [], ◌∷◌, ◌++◌, refl, None, Some}
-use Rattle.std.specs.Prelude.{codes}
+use Rattle.std.specs.Prelude.{codes, Ok}
 use Rattle.std.specs.Fmt.{digits}
 use Rattle.qm_kinds.specs.declared.entry.JobKind.TheVariants as job
 use Rattle.qm_kinds.specs.declared.input.Input.{Input}
@@ -22,7 +22,9 @@ use Rattle.qm_history.specs.Answering.{IsOneTakeover}
 use Rattle.qm_history.specs.Computed.{turn_of}
 use Rattle.qm_history.specs.Course.{KeptRun, NodeState, DeviceFailed, CutShort, WentOn, IsEndOf, at_first, behind_step, behind_step_line, report_told, next_at, Begun, Whole, IsBrokenOff, next_run}
 use Rattle.qm_history.specs.Legal.{after_turn}
+use Rattle.qm_history.specs.Lines.{script_lines}
 use Rattle.qm_history.specs.Room.{HaveRoom}
+use Rattle.qm_history.specs.Script.{UserLine, LineSort, Command, Act}
 use Rattle.qm_history.specs.Text.{text, cluster_text}
 use Rattle.qm_history.specs.Turn.{IsServed, IsTakeoverAlone}
 use Rattle.qm_history.proofs.Serving.{Asked, history, new_site, world_of, no_items}
@@ -161,3 +163,14 @@ a_begun_course_breaks_off = (refl, refl)
 
 pub a_whole_one_doesnt : IsBrokenOff Whole (next_run shown (next_at true shown shown.stage)) (Some first_run) → ⊥
 a_whole_one_doesnt off = off
+
+-- ---- lines
+
+abbrev asked_by_system : ℕ → LineSort → List ℕ → UserLine
+asked_by_system number sort what = record { line = record { number = number; node = codes "A"; sort = sort; text = what }; user = codes "SYSTEM" }
+
+-- A command goes on where the line itself ends in `-`, and an empty line ends it: what stands before that `-` stays. Without this
+-- the act behind it would be a part of the command.
+pub an_empty_line_ends_a_command : script_lines (codes "A" ∷ []) (codes "A $ X--\n\nA ! TICK\n")
+    ≡ Ok (asked_by_system 1 Command (codes "X-") ∷ asked_by_system 3 Act (codes "TICK") ∷ [])
+an_empty_line_ends_a_command = refl
