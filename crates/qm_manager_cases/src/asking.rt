@@ -28,7 +28,7 @@ fn file() -> FileName {
 }
 
 // These bytes for the end of a file.
-fn append_bytes(bytes: Vec<u8>) -> Request
+pub(crate) fn append_bytes(bytes: Vec<u8>) -> Request
     ensures built { is_built result ≡ true }
     ensures short { HasShortLists result }
 {
@@ -39,7 +39,7 @@ fn append_bytes(bytes: Vec<u8>) -> Request
 }
 
 // A line of nine bytes for the end of a file.
-fn append(alloc: Global) -> Result<Request, AllocError>
+pub(crate) fn append(alloc: Global) -> Result<Request, AllocError>
     ensures built { IfOk result (λ request. is_built request ≡ true) }
     ensures short { IfOk result HasShortLists }
 {
@@ -70,7 +70,7 @@ fn submit(alloc: Global) -> Request
 }
 
 // The disk of a new site, which fails at these calls from now on.
-fn new_site(alloc: Global, fail: &[u64]) -> Result<MemoryDisk, Fail> {
+pub(crate) fn new_site(alloc: Global, fail: &[u64]) -> Result<MemoryDisk, Fail> {
     let empty = MemoryDisk::new(
         alloc,
         Vec::new(alloc),
@@ -91,7 +91,7 @@ fn new_site(alloc: Global, fail: &[u64]) -> Result<MemoryDisk, Fail> {
 }
 
 // Asks for this, on a disk that is opened anew.
-fn ask(
+pub(crate) fn ask(
     alloc: Global,
     disk: MemoryDisk,
     request: &Request,
@@ -125,7 +125,7 @@ fn ask_for_job(
 }
 
 // What a reply says was done.
-fn act_of(answer: Result<Reply, AskFault>) -> Result<Act, AskFault> {
+pub(crate) fn act_of(answer: Result<Reply, AskFault>) -> Result<Act, AskFault> {
     match answer {
         Ok(reply) => Ok(reply.act),
         Err(fault) => Err(fault),
@@ -141,7 +141,7 @@ fn pending(entry: u32) -> Result<Act, AskFault> {
     })
 }
 
-fn filed(bytes: u32) -> Result<Act, AskFault> {
+pub(crate) fn filed(bytes: u32) -> Result<Act, AskFault> {
     Ok(Act::Filed {
         file: file(),
         bytes,
