@@ -10,7 +10,7 @@ returns-in-Err-Disk-clause-serves g c =
     let before = site_of c.args.manager.now in
     record {
       steps = subst (λ (after : Site). Steps g.D.Disk.meaning before after (disk_of c.args.manager.now) (disk_of c.ask.new.self)) (sym (told_site before (asked before c.args.request.now))) c.ask.ensures.steps;
-      leaves = rw c.in-Err-Disk.field-0-is at c.in-Err-Disk.ensures.disk;
+      leaves = rw c.in-Err-Disk.field-0-is at c.in-Err-Disk.ensures.device;
       node = c.ask.ensures.node;
     }
 
@@ -22,7 +22,7 @@ returns-in-Err-NoMemory-clause-serves g c =
       leaves = (
         (rw c.in-Err-NoMemory.field-0-is at c.in-Err-NoMemory.ensures.ready) (λ is. cc),
         inl (rw c.in-Err-NoMemory.field-0-is at c.in-Err-NoMemory.ensures.answer).1,
-        ap g.D.Disk.meaning.faults (rw c.in-Err-NoMemory.field-0-is at c.in-Err-NoMemory.ensures.disk),
+        ap g.D.Disk.meaning.faults (rw c.in-Err-NoMemory.field-0-is at c.in-Err-NoMemory.ensures.device),
       );
       node = c.ask.ensures.node;
     }
