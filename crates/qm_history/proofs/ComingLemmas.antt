@@ -31,8 +31,8 @@ use Rattle.qm_history.specs.declared.world.World.{World}
 use Rattle.qm_history.specs.Accepted.{cluster, IsListOfNodes, HasListsOfNodes, CanFollow}
 use Rattle.qm_history.specs.Calls.{input_of, acting, is_start, IsForUsers, IsFromOutside}
 use Rattle.qm_history.specs.Computed.{decided, asked_of, viewed, fenced_or, compacted, started, goes, going, own_events, takeover, taking, unless_refused_at_once, behind_takeover, unless_down, turn_of, IsLawfulInput, AreSpelled}
-use Rattle.qm_history.specs.Folding.{system_of}
-use Rattle.qm_history.specs.Records.{request_record}
+use Rattle.qm_model.specs.Folding.{system_of}
+use Rattle.qm_model.specs.Log.{request_record}
 use Rattle.qm_history.specs.Step.{unless_of, after_event, IsReply, CanCome, CanAllCome}
 use Rattle.qm_history.specs.Takeover.{takes_over, nodes_on, may_after, is_named}
 use Rattle.qm_history.specs.Turn.{Beside, Nothing, ATakeover, fence, start_refusal, has_other_manager, loss_of, is_down, IsTurnOf}

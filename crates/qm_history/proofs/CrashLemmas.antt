@@ -14,11 +14,12 @@ use Rattle.qm_history.specs.declared.event.Event.TheVariants as event
 use Rattle.qm_history.specs.declared.turn.Turn.{Turn}
 use Rattle.qm_history.specs.declared.world.World.{World}
 use Rattle.qm_history.specs.Accepted.{IsNext, AreNext, IsAccepted}
-use Rattle.qm_history.specs.Folding.{system_of}
+use Rattle.qm_model.specs.Folding.{system_of}
 use Rattle.qm_history.specs.Happening.{Begins, is_takeover, may_come_first, told_of_doubt, AreOneOrTwo}
 use Rattle.qm_history.specs.Leaving.{records_of, told_by, MayBeLeft, MayBeLeftBehind}
 use Rattle.qm_history.specs.Legal.{after_turn, IsLegalTurn}
-use Rattle.qm_history.specs.Records.{record_of, request_record}
+use Rattle.qm_history.specs.Records.{record_of}
+use Rattle.qm_model.specs.Log.{request_record}
 use Rattle.qm_history.specs.Step.{after_event, after_events, CanCome, CanAllCome}
 use Rattle.qm_history.specs.World.{log_read, doubt_read, system_in, IsSound}
 use Rattle.qm_history.proofs.EventLemmas.{begins_on, read_begins, events_begin}

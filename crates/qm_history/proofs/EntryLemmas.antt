@@ -41,7 +41,7 @@ use Rattle.qm_model.specs.States.{stopped_when_idle}
 use Rattle.qm_model.specs.Stopping.{entries_on_stop, with_fate, reset_in, reset_fate, is_running_in, entry_aborting}
 use Rattle.qm_model.specs.Submitting.{entry_of}
 use Rattle.qm_history.specs.Accepted.{AreNext, CanStandBehind}
-use Rattle.qm_history.specs.Folding.{after_body, after_record, replayed, system_after}
+use Rattle.qm_model.specs.Folding.{after_body, after_record, replayed, system_after}
 use Rattle.qm_history.specs.Marks.{HasEntry, finds_aborting, names_entry, is_run_on_one, can_end, ends_at, LeavesEntry, LeaveEntry}
 
 both_numbers : (a b : ℕ) → (a == b) ≡ true → a ≡ b

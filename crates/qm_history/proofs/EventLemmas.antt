@@ -10,7 +10,7 @@ use Rattle.qm_history.specs.declared.turn.Turn.{Turn}
 use Rattle.qm_history.specs.declared.world.World.{World}
 use Rattle.qm_history.specs.Happening.{events_of, epochs_taken, RiseFrom, Begins, is_without_change, acknowledged, told_of_doubt}
 use Rattle.qm_history.specs.Legal.{after_turn, after_turns, IsLegal}
-use Rattle.qm_history.specs.Records.{request_record}
+use Rattle.qm_model.specs.Log.{request_record}
 use Rattle.qm_history.specs.Step.{after_event, after_events, CanAllCome}
 use Rattle.qm_history.specs.World.{log_read}
 use Rattle.qm_history.proofs.SoundLemmas.{legal_comes}

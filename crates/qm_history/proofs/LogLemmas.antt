@@ -13,8 +13,8 @@ use Rattle.qm_model.specs.Consistent.{IsConsistent}
 use Rattle.qm_model.specs.Lawful.{IsLawful}
 use Rattle.qm_model.specs.Outcome.{Accepted}
 use Rattle.qm_history.specs.Accepted.{cluster, CanFollow, IsNext, AreNext, IsAccepted, CanStandBehind}
-use Rattle.qm_history.specs.Folding.{no_system, system_after, after_body, after_record, replayed, system_of}
-use Rattle.qm_history.specs.Records.{row, image_of}
+use Rattle.qm_model.specs.Folding.{no_system, system_after, after_body, after_record, replayed, system_of}
+use Rattle.qm_model.specs.Log.{row, image_of}
 
 -- ---- records one behind another
 

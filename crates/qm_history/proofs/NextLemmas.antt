@@ -13,10 +13,10 @@ use Rattle.qm_history.specs.declared.event.Event.TheVariants as event
 use Rattle.qm_history.specs.declared.turn.Turn.{Turn}
 use Rattle.qm_history.specs.declared.world.World.{World}
 use Rattle.qm_history.specs.Accepted.{IsNext, AreNext}
-use Rattle.qm_history.specs.Folding.{after_record, no_system, replayed, system_of}
+use Rattle.qm_model.specs.Folding.{after_record, no_system, replayed, system_of}
 use Rattle.qm_history.specs.Happening.{events_of}
 use Rattle.qm_history.specs.Legal.{after_turns, IsLegal}
-use Rattle.qm_history.specs.Records.{request_record}
+use Rattle.qm_model.specs.Log.{request_record}
 use Rattle.qm_history.specs.Step.{after_event, after_events, CanCome, CanAllCome}
 use Rattle.qm_history.specs.World.{system_in, log_read, IsSound}
 use Rattle.qm_history.proofs.EventLemmas.{all_come, world_of_events}

@@ -41,7 +41,7 @@ use Rattle.qm_history.specs.Accepted.{AreNext, IsNext}
 use Rattle.qm_history.specs.Again.{AreAgain, is_to_go_back, finds_going_back, goes_back, PutsBack}
 use Rattle.qm_history.specs.Blocks.{Gives, system_shown}
 use Rattle.qm_history.specs.Course.{answered}
-use Rattle.qm_history.specs.Folding.{after_record, replayed}
+use Rattle.qm_model.specs.Folding.{after_record, replayed}
 use Rattle.qm_history.specs.Visits.{Visit}
 use Rattle.qm_history.proofs.GivenLemmas.{IsAmong, among, gives_work}
 use Rattle.qm_history.proofs.LogLemmas.{next_keeps, all_keep}

@@ -23,7 +23,7 @@ use Rattle.qm_history.specs.declared.event.Event.TheVariants as event
 use Rattle.qm_history.specs.declared.world.World.{World}
 use Rattle.qm_history.specs.Calls.{input_of, acting}
 use Rattle.qm_history.specs.Computed.{decided, asked_of, viewed, fenced_or, compacted, started, going, own_events, takeover, taking, unless_refused_at_once, behind_takeover, unless_down, events_of_call}
-use Rattle.qm_history.specs.Folding.{system_of}
+use Rattle.qm_model.specs.Folding.{system_of}
 use Rattle.qm_history.specs.Step.{after_event}
 use Rattle.qm_history.specs.Takeover.{takes_over, nodes_on, is_named, StandsOrFails, UnlessRefused}
 use Rattle.qm_history.specs.Turn.{Beside, Nothing, ATakeover, fence, FencedOr, IsDecided, IsAsked, IsViewed, IsCompaction, IsChange, start_refusal, IsStarted, has_other_manager, loss_of, IsStopped, IsLeft, IsOwn, IsBehindTakeover, UnlessDown, is_down, IsServed}

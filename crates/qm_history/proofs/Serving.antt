@@ -12,7 +12,7 @@ use Rattle.qm_history.specs.declared.turn.Turn.{Turn}
 use Rattle.qm_history.specs.declared.world.World.{World}
 use Rattle.qm_history.specs.Computed.{turn_of}
 use Rattle.qm_history.specs.Legal.{after_turn}
-use Rattle.qm_history.specs.Records.{image_of}
+use Rattle.qm_model.specs.Log.{image_of}
 use Rattle.qm_history.specs.Site.{site_of}
 
 -- a call of a node, when its clock told this

@@ -13,10 +13,10 @@ use Rattle.qm_history.specs.declared.event.Event.TheVariants as event
 use Rattle.qm_history.specs.declared.world.Role.{Role}
 use Rattle.qm_history.specs.declared.world.World.{World}
 use Rattle.qm_history.specs.Accepted.{cluster, CanFollow, IsNext, IsAccepted}
-use Rattle.qm_history.specs.Folding.{system_of}
+use Rattle.qm_model.specs.Folding.{system_of}
 use Rattle.qm_history.specs.declared.turn.Turn.{Turn}
 use Rattle.qm_history.specs.Legal.{after_turn, after_turns, IsLegalTurn, IsLegal}
-use Rattle.qm_history.specs.Records.{request_record}
+use Rattle.qm_model.specs.Log.{request_record}
 use Rattle.qm_history.specs.Step.{unless_of, after_event, after_events, CanBeInDoubt, CanCome, CanAllCome}
 use Rattle.qm_history.specs.World.{system_in, log_read, doubt_read, IsSound}
 use Rattle.qm_history.proofs.LogLemmas.{one_more, accepted_append, next_cluster}

@@ -10,9 +10,9 @@ use Rattle.qm_kinds.specs.declared.record.Body.TheVariants as body
 use Rattle.qm_kinds.specs.declared.system.System.{System}
 use Rattle.qm_history.specs.declared.world.World.{World}
 use Rattle.qm_history.specs.Accepted.{AreNext, IsAccepted, CanStandBehind}
-use Rattle.qm_history.specs.Folding.{after_record, system_of}
+use Rattle.qm_model.specs.Folding.{after_record, system_of}
 use Rattle.qm_history.specs.Master.{MasterRecord, Found, Epoch, Live, MasterState, master_text, after_master, master_of, no_master, CanBeLater, CanStandInMaster, AllStandInMaster, AreMaster}
-use Rattle.qm_history.specs.Records.{image_of}
+use Rattle.qm_model.specs.Log.{image_of}
 use Rattle.qm_history.specs.Start.{first_world, Hold, HoldRecords, Starts}
 use Rattle.qm_history.specs.World.{system_in, IsSound}
 

@@ -29,7 +29,7 @@ use Rattle.qm_history.specs.Chest.{AddsTurn, IsMadeFor}
 use Rattle.qm_history.specs.Contents.{Compacts, HoldWorld, IsEpochOf, Keeps, LeavesFiles, are_without_write}
 use Rattle.qm_history.specs.Course.{Whole}
 use Rattle.qm_history.specs.Faults.{is_journal}
-use Rattle.qm_history.specs.Folding.{system_of}
+use Rattle.qm_model.specs.Folding.{system_of}
 use Rattle.qm_history.specs.Legal.{IsLegalTurn}
 use Rattle.qm_history.specs.Leaving.{MayBeLeftBehind}
 use Rattle.qm_history.specs.Order.{AreInOrder, nothing_served}

@@ -13,8 +13,8 @@ use Rattle.qm_model.specs.Applied.{applied}
 use Rattle.qm_model.specs.Consistent.{IsConsistent}
 use Rattle.qm_model.specs.Find.{is_among}
 use Rattle.qm_model.specs.Lawful.{IsLawful}
-use Rattle.qm_history.specs.Records.{request_record, image_of}
-use Rattle.qm_history.specs.Folding.{after_record}
+use Rattle.qm_model.specs.Log.{request_record, image_of}
+use Rattle.qm_model.specs.Folding.{EachStands}
 
 -- the names of the cluster's nodes, in its order
 abbrev pub cluster : System → List (List ℕ)
@@ -59,8 +59,7 @@ module _ (HasSpelling : Record → Type 0) where
 
   -- each record is the next one of those before it
   abbrev pub AreNext : System → List Record → Type 0
-  AreNext s [] = Unit {0}
-  AreNext s (r ∷ records) = IsNext s r × AreNext (after_record s r) records
+  AreNext s records = EachStands IsNext s records
 
   -- the rows of the image of a consistent system, and then requests
   pub record IsAccepted (log : List Record) : Type 0 where

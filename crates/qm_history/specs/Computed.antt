@@ -24,7 +24,7 @@ use Rattle.qm_history.specs.declared.event.Event.TheVariants as event
 use Rattle.qm_history.specs.declared.turn.Turn.{Turn}
 use Rattle.qm_history.specs.declared.world.World.{World}
 use Rattle.qm_history.specs.Calls.{input_of, why_of, acting}
-use Rattle.qm_history.specs.Folding.{system_of}
+use Rattle.qm_model.specs.Folding.{system_of}
 use Rattle.qm_history.specs.Records.{record_of}
 use Rattle.qm_history.specs.Step.{after_event}
 use Rattle.qm_history.specs.Takeover.{takes_over, nodes_on, may_after, is_named}

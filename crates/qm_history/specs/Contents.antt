@@ -12,7 +12,7 @@ use Rattle.qm_history.specs.declared.world.Role.{Role}
 use Rattle.qm_history.specs.declared.world.World.{World}
 use Rattle.qm_history.specs.Leaving.{MayBeLeft, MayBeLeftBehind, MayBeLeftIn}
 use Rattle.qm_history.specs.Master.{MasterState}
-use Rattle.qm_history.specs.Records.{image_of}
+use Rattle.qm_model.specs.Log.{image_of}
 use Rattle.qm_history.specs.Start.{Hold, HoldRecords}
 use Rattle.qm_history.specs.World.{system_in}
 

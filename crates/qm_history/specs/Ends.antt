@@ -9,7 +9,7 @@ use Rattle.qm_model.specs.Rows.{view}
 use Rattle.qm_model.specs.Transcript.{row_lines}
 use Rattle.qm_history.specs.Answers.{rows_shown}
 use Rattle.qm_history.specs.Course.{Extent, Whole, Begun}
-use Rattle.qm_history.specs.Folding.{system_of}
+use Rattle.qm_model.specs.Folding.{system_of}
 use Rattle.qm_history.specs.Master.{MasterState}
 
 -- how the turns of a node end: with its leave or while it is stopped; broken off, where the program ended before, by another node

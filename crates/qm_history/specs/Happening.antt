@@ -9,7 +9,7 @@ use Rattle.qm_kinds.specs.declared.request.Request.TheVariants as request
 use Rattle.qm_history.specs.declared.event.Event.{Event}
 use Rattle.qm_history.specs.declared.event.Event.TheVariants as event
 use Rattle.qm_history.specs.declared.turn.Turn.{Turn}
-use Rattle.qm_history.specs.Records.{request_record}
+use Rattle.qm_model.specs.Log.{request_record}
 
 -- the events of turns, in their order
 abbrev pub events_of : List Turn → List Event

@@ -1,5 +1,4 @@
 pub mod Records
-pub mod Folding
 pub mod Accepted
 pub mod World
 pub mod Step

@@ -19,7 +19,7 @@ use Rattle.qm_model.specs.Find.{is_among}
 use Rattle.qm_model.specs.JobStates.{is_aborting, runs_on}
 use Rattle.qm_model.specs.Runs.{entry_of_run}
 use Rattle.qm_model.specs.Standing.{node_at}
-use Rattle.qm_history.specs.Folding.{after_record}
+use Rattle.qm_model.specs.Folding.{after_record}
 
 -- the entry that a report names, as the moment finds it
 abbrev pub reporting : System → ℕ → ℕ → ℕ → Option Entry

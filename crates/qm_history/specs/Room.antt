@@ -16,10 +16,10 @@ use Rattle.qm_history.specs.declared.turn.Turn.{Turn}
 use Rattle.qm_history.specs.declared.world.World.{World}
 use Rattle.qm_history.specs.Calls.{input_of, acting}
 use Rattle.qm_history.specs.Faults.{faults_told, tells_disk_fault}
-use Rattle.qm_history.specs.Folding.{after_record}
+use Rattle.qm_model.specs.Folding.{after_record}
 use Rattle.qm_history.specs.Legal.{after_turn, after_turns}
 use Rattle.qm_history.specs.Master.{MasterRecord, MasterState, Epoch, Live, master_text}
-use Rattle.qm_history.specs.Records.{request_record, image_of}
+use Rattle.qm_model.specs.Log.{request_record, image_of}
 use Rattle.qm_history.specs.Step.{after_event}
 use Rattle.qm_history.specs.Takeover.{nodes_on, may_after, master_cap}
 use Rattle.qm_history.specs.Turn.{IsTurnOf, IsCutShort, loss_of}

@@ -11,9 +11,9 @@ use Rattle.qm_model.specs.Consistent.{IsInOrder, IsConsistent}
 use Rattle.qm_model.specs.Find.{name_cmp, file_name_cmp}
 use Rattle.qm_history.specs.declared.world.World.{World}
 use Rattle.qm_history.specs.Accepted.{IsAccepted, IsNext, AreNext}
-use Rattle.qm_history.specs.Folding.{system_of}
+use Rattle.qm_model.specs.Folding.{system_of}
 use Rattle.qm_history.specs.Master.{MasterRecord, MasterState, master_text, master_of, no_master, AreMaster, AllStandInMaster, CanStandInMaster}
-use Rattle.qm_history.specs.Records.{row}
+use Rattle.qm_model.specs.Log.{row}
 
 -- a program begins: each node is live and holds no epoch, and the epochs go on behind the greatest recorded one
 abbrev pub first_world : List Record → ℕ → World

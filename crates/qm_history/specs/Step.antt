@@ -18,8 +18,8 @@ use Rattle.qm_history.specs.declared.event.Event.TheVariants as event
 use Rattle.qm_history.specs.declared.world.Role.{Role}
 use Rattle.qm_history.specs.declared.world.World.{World}
 use Rattle.qm_history.specs.Accepted.{CanFollow}
-use Rattle.qm_history.specs.Folding.{system_of}
-use Rattle.qm_history.specs.Records.{request_record}
+use Rattle.qm_model.specs.Folding.{system_of}
+use Rattle.qm_model.specs.Log.{request_record}
 use Rattle.qm_history.specs.World.{system_in, is_live, held_by, epoch_of, log_read, doubt_read, gone_in, up_with}
 
 -- the role of manager, unless this node has it

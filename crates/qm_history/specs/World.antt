@@ -12,7 +12,7 @@ use Rattle.qm_model.specs.Standing.{node_at}
 use Rattle.qm_history.specs.declared.world.Role.{Role}
 use Rattle.qm_history.specs.declared.world.World.{World}
 use Rattle.qm_history.specs.Accepted.{cluster, IsAccepted, IsNext}
-use Rattle.qm_history.specs.Folding.{system_of}
+use Rattle.qm_model.specs.Folding.{system_of}
 
 -- the system that the log stands for
 abbrev pub system_in : World → System

@@ -12,7 +12,7 @@ ghost use Rattle.qm_history.specs.Accepted.{AreNext};
 ghost use Rattle.qm_history.specs.Again.{AreAgain, PutsBack};
 ghost use Rattle.qm_history.specs.Blocks.{Gives, system_shown};
 ghost use Rattle.qm_history.specs.Course.{answered};
-ghost use Rattle.qm_history.specs.Folding.{replayed};
+ghost use Rattle.qm_model.specs.Folding.{replayed};
 ghost use Rattle.qm_history.specs.Legal.{after_turns, IsLegal};
 ghost use Rattle.qm_history.specs.Visits.{Visit};
 ghost use Rattle.qm_history.specs.World.{system_in, IsSound};

@@ -5,7 +5,7 @@ ghost use Rattle.qm_history.specs.declared.event.Event.{Event};
 ghost use Rattle.qm_history.specs.declared.turn.Turn.{Turn};
 ghost use Rattle.qm_history.specs.declared.world.World.{World};
 ghost use Rattle.qm_history.specs.Accepted.{IsAccepted};
-ghost use Rattle.qm_history.specs.Folding.{system_of};
+ghost use Rattle.qm_model.specs.Folding.{system_of};
 ghost use Rattle.qm_history.specs.Happening.{events_of, Begins, AreOneOrTwo, acknowledged, told_of_doubt};
 ghost use Rattle.qm_history.specs.Leaving.{MayBeLeft, MayBeLeftBehind, MayBeLeftIn, IsLeftWithin};
 ghost use Rattle.qm_history.specs.Legal.{after_turn, after_turns, IsLegalTurn, IsLegal};

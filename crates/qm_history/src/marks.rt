@@ -9,7 +9,7 @@ ghost use Rattle.qm_model.specs.Outcome.{Accepted};
 ghost use Rattle.qm_history.specs.declared.turn.Turn.{Turn};
 ghost use Rattle.qm_history.specs.declared.world.World.{World};
 ghost use Rattle.qm_history.specs.Accepted.{AreNext};
-ghost use Rattle.qm_history.specs.Folding.{replayed};
+ghost use Rattle.qm_model.specs.Folding.{replayed};
 ghost use Rattle.qm_history.specs.Legal.{after_turns, IsLegal};
 ghost use Rattle.qm_history.specs.Marks.{mark_after, last_mark, HaveMarks};
 ghost use Rattle.qm_history.specs.World.{system_in, IsSound};

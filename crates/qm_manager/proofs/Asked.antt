@@ -1,8 +1,7 @@
 -- What a request that is done makes of a site.
 use Rattle.std.proofs.Common.{◌≡◌, inl, inr, ⊎_elim, ℕ, ◌+◌, ◌<◌, ◌≤◌, Bool, true, false, cond, nat_le, nat_lt, ◌&&◌, ◌||◌, List, [], ◌∷◌, ◌++◌, length, map, Option, None, Some, Ok, refl, sym, ap, subst, ◌∙◌, arith, append_assoc}
 use Rattle.std.specs.List.{AllByRecursion}
-use Rattle.std.specs.Option.{option_and_then}
-use Rattle.std.specs.Prelude.{IsTrue}
+use Rattle.std.specs.Prelude.{IsTrue, is_ok, Result}
 use Rattle.std.proofs.lemmas.List.{map-append}
 use Rattle.std.proofs.lemmas.Bool.Decides.{nat_tests}
 use Rattle.std.proofs.lemmas.Bool.{cases_lt}
@@ -23,11 +22,14 @@ use Rattle.qm_model.specs.Standing.{node_at}
 use Rattle.qm_model.specs.Appending.{append_refusal, is_spool_full, bytes_of, refused_as_named}
 use Rattle.qm_model.specs.First.{first_system}
 use Rattle.qm_model.specs.Outcome.{Accepted, unless_refused, first_refusal, refused_where}
-use Rattle.qm_record.specs.Spelling.{HasSpelling, record_text, request_record}
+use Rattle.qm_model.specs.Folding.{system_after}
+use Rattle.qm_model.specs.Log.{request_record}
+use Rattle.qm_record.specs.Spelling.{HasSpelling, record_text}
 use Rattle.qm_store.specs.Store.{Holds, IsAtRest}
 use Rattle.qm_store.specs.Appending.{TornAppend, Appends}
 use Rattle.qm_store.specs.declared.store.TheConstants.{QUEUE_CAP}
-use Rattle.qm_manager.specs.QueueFile.{accepted_system, after_record, replayed, first_rows, IsQueueFile}
+use Rattle.qm_manager.specs.QueueFile.{left_by, first_rows, IsQueueFile}
+use Rattle.qm_manager.proofs.Leading.{lead_more}
 use Rattle.qm_manager.specs.Site.{Site, IsLawful, IsSite, BeforeOrAfter}
 use Rattle.qm_manager.proofs.Sites.{site_is, steps_nowhere}
 use Rattle.qm_manager.specs.Asking.{Asked, Done, Full, IsDone, IsAccepted, Steps, record_of, kept, decided, asked, site_after}
@@ -76,18 +78,6 @@ all_and_one : {X : Type 0} (P : X → Type 0) (xs : List X) (y : X) → AllByRec
 all_and_one P [] y each one = (one, tt)
 all_and_one P (x ∷ xs) y each one = (each.0, all_and_one P xs y each.1 one)
 
-then_one : (o : Option System) (rs : List Record) (r : Record) (s t : System) → option_and_then (λ u. replayed u rs) o ≡ Some s → after_record s r ≡ Some t
-    → ((u : System) → replayed u rs ≡ Some s → replayed u (rs ++ r ∷ []) ≡ Some t) → option_and_then (λ u. replayed u (rs ++ r ∷ [])) o ≡ Some t
-then_one None rs r s t e one each = cc
-then_one (Some u) rs r s t e one each = each u e
-
-replayed_one_more : (first s t : System) (rs : List Record) (r : Record) → replayed first rs ≡ Some s → after_record s r ≡ Some t → replayed first (rs ++ r ∷ []) ≡ Some t
-replayed_one_more first s t [] r e one = ap (λ (o : Option System). option_and_then (λ u. replayed u []) o) (ap (λ (x : System). after_record x r) (same first s e) ∙ one)
-  where
-    same : (x y : System) → ◌≡◌ {A = Option System} (Some x) (Some y) → x ≡ y
-    same x y e = cc
-replayed_one_more first s t (x ∷ rs) r e one = then_one (after_record first x) rs r s t e one (λ u is. replayed_one_more u s t rs r is one)
-
 now_is_not_early : (last nodes : ℕ) (kept : Bool) → 0 < nodes → kept ≡ true → (nat_le last last && nat_lt 0 nodes && kept) ≡ true
 now_is_not_early last nodes kept some is = grind (arith, nat_tests)
 
@@ -95,12 +85,13 @@ some_node : (s : System) (node : List ℕ) → HasNode node s → 0 < length s.n
 some_node s node has = omega (arith, ap (λ ns. length ns) has)
 
 -- the record of a request that is accepted now
-pub accepted_now : (s : System) (node : List ℕ) (r : Request) (a : Accepted) → HasNode node s → is_built r ≡ true → applied s s.last 0 r ≡ Ok a → after_record s (record_of s r) ≡ Some a.system
+pub accepted_now : (s : System) (node : List ℕ) (r : Request) (a : Accepted) → HasNode node s → is_built r ≡ true → applied s s.last 0 r ≡ Ok a → left_by s (record_of s r) ≡ Some a.system
 accepted_now s node r a has is e =
-    ap (λ (b : Bool). cond b (accepted_system (applied s s.last 0 r)) None) (now_is_not_early s.last (length s.nodes) (is_built r) (some_node s node has) is)
-    ∙ ap accepted_system e
+    ap (λ (can : Bool). cond (can && is_ok (applied s s.last 0 r)) (Some (system_after s (applied s s.last 0 r))) None)
+    (now_is_not_early s.last (length s.nodes) (is_built r) (some_node s node has) is)
+    ∙ ap (λ (o : Result Accepted Refusal). cond (is_ok o) (Some (system_after s o)) None) e
 
-pub file_goes_on : (bodies : List (List ℕ)) (s t : System) (r : Record) → IsQueueFile bodies s → HasSpelling r → after_record s r ≡ Some t → IsQueueFile (bodies ++ record_text r ∷ []) t
+pub file_goes_on : (bodies : List (List ℕ)) (s t : System) (r : Record) → IsQueueFile bodies s → HasSpelling r → left_by s r ≡ Some t → IsQueueFile (bodies ++ record_text r ∷ []) t
 file_goes_on bodies s t r file fits leaves = record {
   node = file.node;
   requests = file.requests ++ r ∷ [];
@@ -109,7 +100,7 @@ file_goes_on bodies s t r file fits leaves = record {
   spelled = ap (λ (bs : List (List ℕ)). bs ++ record_text r ∷ []) file.spelled
       ∙ sym (map-append record_text (first_rows file.node ++ file.requests) (r ∷ []))
       ∙ ap (λ (rs : List Record). map record_text rs) (append_assoc (first_rows file.node) file.requests (r ∷ []));
-  leave = replayed_one_more (first_system file.node) s t file.requests r file.leave leaves;
+  lead = lead_more (first_system file.node) s t file.requests r file.lead leaves;
 }
 
 -- ---- what is answered

@@ -12,9 +12,10 @@ use Rattle.qm_kinds.specs.declared.record.Record.{Record}
 use Rattle.qm_kinds.specs.declared.system.System.{System}
 use Rattle.qm_kinds.specs.declared.name.TheConstants.{NODE_NAME_BYTES}
 use Rattle.qm_model.specs.First.{first_system}
+use Rattle.qm_model.specs.Log.{row, head_of}
 use Rattle.qm_record.specs.Spelling.{HasSpelling, record_text}
 use Rattle.qm_store.specs.Store.{OfBody}
-use Rattle.qm_manager.specs.QueueFile.{row, head_of, first_rows, IsQueueFile, Begins, IsFirstUnlawful}
+use Rattle.qm_manager.specs.QueueFile.{first_rows, IsQueueFile, Begins, IsFirstUnlawful}
 use Rattle.qm_manager.specs.Restoring.{short_name, named_by, IsOf, BeginsWithRows, Judges, IsRead, IsAt}
 use Rattle.qm_manager.specs.declared.restoring.RestoreEnd.{RestoreEnd}
 use Rattle.qm_manager.specs.declared.restoring.RestoreEnd.TheVariants.{Unlawful, NoMemory}
@@ -25,7 +26,7 @@ abbrev pub head_row : List ℕ → Record
 head_row node = row (head_of (first_system node))
 
 pub new_site_file : (node : List ℕ) → length node ≤ NODE_NAME_BYTES → AllByRecursion HasSpelling (first_rows node) → IsQueueFile (map record_text (first_rows node)) (first_system node)
-new_site_file node short fit = record { node = node; requests = []; short = short; fit = fit; spelled = refl; leave = refl }
+new_site_file node short fit = record { node = node; requests = []; short = short; fit = fit; spelled = refl; lead = record { stand = tt; leave = refl } }
 
 -- there is a queue file
 some_file : Begins []
@@ -129,7 +130,7 @@ next_is_row bodies more s node index below within f same =
 node_is : (first node : List ℕ) → ((more : List (List ℕ)) (s : System) (f : IsQueueFile (first ∷ more) s) → f.node ≡ node)
     → (bodies more : List (List ℕ)) (s : System) → bodies ≡ first ∷ more → (f : IsQueueFile bodies s) → f.node ≡ node
 node_is first node only bodies more s same f =
-    only more s (record { node = f.node; requests = f.requests; short = f.short; fit = f.fit; spelled = sym same ∙ f.spelled; leave = f.leave })
+    only more s (record { node = f.node; requests = f.requests; short = f.short; fit = f.fit; spelled = sym same ∙ f.spelled; lead = f.lead })
 
 node_of_front : (bodies : List (List ℕ)) (node : List ℕ) → IsOf bodies node → (index : ℕ) (more : List (List ℕ)) (s : System)
     → (f : IsQueueFile (take (index + 1) bodies ++ more) s) → f.node ≡ node

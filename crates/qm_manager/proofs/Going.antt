@@ -2,9 +2,8 @@
 use Rattle.std.proofs.Common.{◌≡◌, ℕ, ◌+◌, ◌<◌, ◌≤◌, List, [], ◌∷◌, ◌++◌, length, map, take, drop, Some, None, Result, Ok, Err, refl, sym, ap, subst, ◌∙◌, arith, append_assoc}
 use Rattle.std.specs.Prelude.{IfOk, IfErr, OnOk, IsErrOf}
 use Rattle.std.specs.List.{AllByRecursion, slice_get}
-use Rattle.std.specs.Option.{option_and_then}
 use Rattle.std.proofs.lemmas.List.{take_more, take_all, map-append, append-nil}
-use Rattle.std.proofs.lemmas.Option.{slice_get_within, get_or_from_slice_get, option_and_then_some}
+use Rattle.std.proofs.lemmas.Option.{slice_get_within, get_or_from_slice_get}
 use Rattle.qm_kinds.specs.declared.record.Record.{Record}
 use Rattle.qm_kinds.specs.declared.system.System.{System}
 use Rattle.qm_model.specs.First.{first_system}
@@ -14,45 +13,24 @@ use Rattle.qm_record.specs.Faults.{IsRead as IsReadSo, IsRecord}
 use Rattle.qm_record.specs.declared.fault.RecordFault.{RecordFault}
 use Rattle.qm_record.specs.declared.fault.RecordFault.TheVariants.{Bad}
 use Rattle.qm_record.specs.declared.fault.RecordFault.TheVariants as fault
-use Rattle.qm_manager.specs.QueueFile.{first_rows, after_record, replayed, IsQueueFile, IsFirstUnlawful}
+use Rattle.qm_manager.specs.QueueFile.{first_rows, left_by, LeadTo, IsQueueFile, IsFirstUnlawful}
 use Rattle.qm_manager.specs.Restoring.{BeginsWithRows, Judges, Leaves, LeavesNothing, LeavesBy, IsRefused, RefusesRead}
 use Rattle.qm_manager.specs.declared.restoring.RestoreEnd.{RestoreEnd}
 use Rattle.qm_manager.specs.declared.restoring.RestoreEnd.TheVariants.{Unlawful, NoMemory}
 use Rattle.qm_manager.proofs.Beginning.{new_site_file}
+use Rattle.qm_manager.proofs.Leading.{lead_more, first_leads, first_cannot}
 
 -- records with which a system goes on to another, by their bodies
 pub record GoesOn (s : System) (more : List (List ℕ)) (t : System) : Type 0 where
   pub records : List Record
   pub fit : AllByRecursion HasSpelling records
   pub spelled : more ≡ map record_text records
-  pub leave : replayed s records ≡ Some t
+  pub lead : LeadTo s records t
 
 -- These records are a queue file of this system, and each queue file that begins with them goes on from it.
 pub record Stands (front : List (List ℕ)) (s : System) : Type 0 where
   pub lawful : IsQueueFile front s
   pub goes_on : (more : List (List ℕ)) (t : System) → IsQueueFile (front ++ more) t → GoesOn s more t
-
--- ---- replaying
-
-same_system : (s t : System) → Some s ≡ Some t → s ≡ t
-same_system s t h = cc
-
-replayed_more : (s : System) (rs : List Record) (r : Record) (t u : System) → replayed s rs ≡ Some t → after_record t r ≡ Some u → replayed s (rs ++ r ∷ []) ≡ Some u
-replayed_more s [] r t u first next =
-    let same : s ≡ t = same_system s t first in
-    ap (option_and_then (λ (v : System). replayed v [])) (ap (λ (v : System). after_record v r) same ∙ next)
-replayed_more s (q ∷ rs) r t u first next =
-    option_and_then_some (λ (v : System). replayed v rs) (after_record s q) t first (λ v leaves others.
-    ap (option_and_then (λ (w : System). replayed w (rs ++ r ∷ []))) leaves ∙ replayed_more v rs r t u others next)
-
--- the first of the records leaves a system, from which the others go on
-first_leaves : (s t : System) (r : Record) (rs : List Record) (u : System) → after_record s r ≡ Some t → replayed s (r ∷ rs) ≡ Some u → replayed t rs ≡ Some u
-first_leaves s t r rs u leaves whole = sym (ap (option_and_then (λ (v : System). replayed v rs)) leaves) ∙ whole
-
-first_leaves_nothing : (s : System) (r : Record) (rs : List Record) (u : System) → after_record s r ≡ None → replayed s (r ∷ rs) ≡ Some u → ⊥
-first_leaves_nothing s r rs u leaves whole =
-    let none : None ≡ Some u = sym (ap (option_and_then (λ (v : System). replayed v rs)) leaves) ∙ whole in
-    cc
 
 fit_more : (rs : List Record) (r : Record) → AllByRecursion HasSpelling rs → HasSpelling r → AllByRecursion HasSpelling (rs ++ r ∷ [])
 fit_more [] r all fits = (fits, tt)
@@ -69,7 +47,7 @@ rows_stand bodies node b =
         records = f.requests;
         fit = f.fit.1.1.1;
         spelled = ap (λ (l : List (List ℕ)). drop 3 l) f.spelled;
-        leave = ap (λ (n : List ℕ). replayed (first_system n) f.requests) (sym (b.only more t f)) ∙ f.leave;
+        lead = subst (λ (n : List ℕ). LeadTo (first_system n) f.requests t) (b.only more t f) f.lead;
       };
     })
 
@@ -86,7 +64,7 @@ lawful_more front s body t f l = record {
   fit = fit_more (first_rows f.node ++ f.requests) l.value f.fit l.spells.fits;
   spelled = ap (λ (b : List ℕ). front ++ b ∷ []) l.spells.is ∙ ap (λ (x : List (List ℕ)). x ++ record_text l.value ∷ []) f.spelled
       ∙ sym (map-append record_text (first_rows f.node ++ f.requests) (l.value ∷ []));
-  leave = replayed_more (first_system f.node) f.requests l.value s t f.leave l.leaves;
+  lead = lead_more (first_system f.node) s t f.requests l.value f.lead l.leaves;
 }
 
 same_first : (a b : List ℕ) (xs ys : List (List ℕ)) → a ∷ xs ≡ b ∷ ys → a ≡ b
@@ -99,30 +77,30 @@ not_empty : (a : List ℕ) (xs : List (List ℕ)) → a ∷ xs ≡ [] → ⊥
 not_empty a xs h = cc
 
 from_records : (s : System) (body : List ℕ) (more : List (List ℕ)) (t u : System) → Leaves body s t → (rs : List Record) → AllByRecursion HasSpelling rs
-    → body ∷ more ≡ map record_text rs → replayed s rs ≡ Some u → GoesOn t more u
-from_records s body more t u l [] fit spelled leave = absurd (not_empty body more spelled)
-from_records s body more t u l (r ∷ rs) fit spelled leave =
+    → body ∷ more ≡ map record_text rs → LeadTo s rs u → GoesOn t more u
+from_records s body more t u l [] fit spelled lead = absurd (not_empty body more spelled)
+from_records s body more t u l (r ∷ rs) fit spelled lead =
     let is : body ≡ record_text r = same_first body (record_text r) more (map record_text rs) spelled in
-    let leaves : after_record s r ≡ Some t = ap (after_record s) (l.only r fit.0 is) ∙ l.leaves in
+    let leaves : left_by s r ≡ Some t = ap (left_by s) (l.only r fit.0 is) ∙ l.leaves in
     record {
       records = rs;
       fit = fit.1;
       spelled = same_others body (record_text r) more (map record_text rs) spelled;
-      leave = first_leaves s t r rs u leaves leave;
+      lead = first_leads s t r rs u leaves lead;
     }
 
 -- what goes on with a body goes on with a record of it
 goes_on_from : (s : System) (body : List ℕ) (more : List (List ℕ)) (t u : System) → Leaves body s t → GoesOn s (body ∷ more) u → GoesOn t more u
-goes_on_from s body more t u l g = from_records s body more t u l g.records g.fit g.spelled g.leave
+goes_on_from s body more t u l g = from_records s body more t u l g.records g.fit g.spelled g.lead
 
 none_from : (s : System) (body : List ℕ) (more : List (List ℕ)) (u : System) → LeavesNothing body s → (rs : List Record) → AllByRecursion HasSpelling rs
-    → body ∷ more ≡ map record_text rs → replayed s rs ≡ Some u → ⊥
-none_from s body more u none [] fit spelled leave = not_empty body more spelled
-none_from s body more u none (r ∷ rs) fit spelled leave =
-    first_leaves_nothing s r rs u (none r fit.0 (same_first body (record_text r) more (map record_text rs) spelled)) leave
+    → body ∷ more ≡ map record_text rs → LeadTo s rs u → ⊥
+none_from s body more u none [] fit spelled lead = not_empty body more spelled
+none_from s body more u none (r ∷ rs) fit spelled lead =
+    first_cannot s r rs u (none r fit.0 (same_first body (record_text r) more (map record_text rs) spelled)) lead
 
 nothing_goes_on : (s : System) (body : List ℕ) (more : List (List ℕ)) (u : System) → LeavesNothing body s → GoesOn s (body ∷ more) u → ⊥
-nothing_goes_on s body more u none g = none_from s body more u none g.records g.fit g.spelled g.leave
+nothing_goes_on s body more u none g = none_from s body more u none g.records g.fit g.spelled g.lead
 
 stand_more : (front : List (List ℕ)) (s : System) (body : List ℕ) (t : System) → Stands front s → Leaves body s t → Stands (front ++ body ∷ []) t
 stand_more front s body t stands l = record {
@@ -163,7 +141,7 @@ all_stand bodies index s end stands = subst (λ (x : List (List ℕ)). IsQueueFi
 -- ---- one record of the file
 
 pub read_leaves : (body : List ℕ) (r : Record) (s t : System) → Spells HasSpelling record_text r body
-    → ((other : Record) → HasSpelling other → body ≡ record_text other → r ≡ other) → after_record s r ≡ Some t → Leaves body s t
+    → ((other : Record) → HasSpelling other → body ≡ record_text other → r ≡ other) → left_by s r ≡ Some t → Leaves body s t
 read_leaves body r s t spells only leaves = record {
   value = r;
   spells = spells;
@@ -171,8 +149,8 @@ read_leaves body r s t spells only leaves = record {
   only = λ other fits is. sym (only other fits is);
 }
 
-pub read_leaves_nothing : (body : List ℕ) (r : Record) (s : System) → ((other : Record) → HasSpelling other → body ≡ record_text other → r ≡ other) → after_record s r ≡ None → LeavesNothing body s
-read_leaves_nothing body r s only leaves other fits is = ap (after_record s) (sym (only other fits is)) ∙ leaves
+pub read_leaves_nothing : (body : List ℕ) (r : Record) (s : System) → ((other : Record) → HasSpelling other → body ≡ record_text other → r ≡ other) → left_by s r ≡ None → LeavesNothing body s
+read_leaves_nothing body r s only leaves other fits is = ap (left_by s) (sym (only other fits is)) ∙ leaves
 
 pub on_ok : {X E P Q : Type 0} (result : Result X E) → (P → Q) → OnOk result P → OnOk result Q
 on_ok (Ok x) step holds = step holds

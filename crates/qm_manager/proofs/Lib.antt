@@ -1,5 +1,6 @@
 pub mod Rows
 pub mod Beginning
+pub mod Leading
 pub mod Going
 pub mod Asked
 pub mod OneSite

@@ -2,7 +2,6 @@
 use Rattle.std.proofs.Common.{◌≡◌, ℕ, List, [], ◌∷◌, ◌++◌, map, drop, refl, sym, ap, subst, ◌∙◌}
 use Rattle.std.specs.List.{AllByRecursion}
 use Rattle.std.proofs.lemmas.List.{append-nil}
-use Rattle.std.proofs.lemmas.Option.{same_Some}
 use Rattle.qm_store.proofs.Contents.{one_content}
 use Rattle.qm_kinds.specs.declared.record.Record.{Record}
 use Rattle.qm_kinds.specs.declared.record.Body.{Body}
@@ -10,9 +9,10 @@ use Rattle.qm_kinds.specs.declared.record.Body.TheVariants.{Head}
 use Rattle.qm_kinds.specs.declared.system.Node.{Node}
 use Rattle.qm_kinds.specs.declared.system.System.{System}
 use Rattle.qm_model.specs.First.{first_system}
+use Rattle.qm_model.specs.Folding.{replayed}
 use Rattle.qm_record.specs.Spelling.{HasSpelling, record_text}
 use Rattle.qm_manager.specs.Site.{Site, IsSite}
-use Rattle.qm_manager.specs.QueueFile.{first_rows, replayed, IsQueueFile}
+use Rattle.qm_manager.specs.QueueFile.{first_rows, IsQueueFile}
 
 -- the node that the first of these records names
 abbrev name_of_nodes : List Node → List ℕ
@@ -53,7 +53,7 @@ one_system law bodies s t f g =
     let records = same_records law (first_rows f.node ++ f.requests) (first_rows g.node ++ g.requests) f.fit g.fit (sym f.spelled ∙ g.spelled) in
     let node : f.node ≡ g.node = ap name_of_rows records in
     let requests : f.requests ≡ g.requests = ap (drop 3) records in
-    same_Some s t (sym f.leave ∙ ap (λ (n : List ℕ). replayed (first_system n) f.requests) node ∙ ap (λ (rs : List Record). replayed (first_system g.node) rs) requests ∙ g.leave)
+    sym f.lead.leave ∙ ap (λ (n : List ℕ). replayed (first_system n) f.requests) node ∙ ap (λ (rs : List Record). replayed (first_system g.node) rs) requests ∙ g.lead.leave
 
 abbrev site_of_parts : System → List (List ℕ) → Site
 site_of_parts system bodies = record { system = system; bodies = bodies }

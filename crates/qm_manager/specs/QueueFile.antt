@@ -1,57 +1,49 @@
 -- What the records of a queue file stand for.
-use Rattle.std.specs.Prelude.{◌≡◌, ℕ, ◌+◌, ◌<◌, ◌≤◌, nat_le, nat_lt, ◌&&◌, if◌then◌else◌, Bool, List, [], ◌∷◌, ◌++◌, length, map, take, Option, None, Some, Result, Ok, Err}
+use Rattle.std.specs.Prelude.{◌≡◌, ℕ, ◌+◌, ◌<◌, ◌≤◌, nat_le, nat_lt, ◌&&◌, is_ok, if◌then◌else◌, Bool, true, false, List, ◌++◌, length, map, take, Option, None, Some}
 use Rattle.std.specs.List.{AllByRecursion}
-use Rattle.std.specs.Option.{option_and_then}
 use Rattle.qm_kinds.specs.declared.record.Record.{Record}
 use Rattle.qm_kinds.specs.declared.record.Body.{Body}
-use Rattle.qm_kinds.specs.declared.record.Body.TheVariants.{Ask, Head, Form, Queue}
-use Rattle.qm_kinds.specs.declared.refusal.Refusal.{Refusal}
+use Rattle.qm_kinds.specs.declared.record.Body.TheVariants.{Ask, Head, Form, Characteristic, File, Queue, Entry}
 use Rattle.qm_kinds.specs.declared.request.Request.{Request}
 use Rattle.qm_kinds.specs.declared.system.System.{System}
 use Rattle.qm_kinds.specs.declared.name.TheConstants.{NODE_NAME_BYTES}
 use Rattle.qm_model.specs.Applied.{applied}
 use Rattle.qm_model.specs.Built.{is_built}
-use Rattle.qm_model.specs.First.{first_form, first_queue, first_system}
-use Rattle.qm_model.specs.Outcome.{Accepted}
+use Rattle.qm_model.specs.First.{first_system}
+use Rattle.qm_model.specs.Folding.{after_record, replayed, EachStands}
+use Rattle.qm_model.specs.Log.{image_of}
 use Rattle.qm_record.specs.Spelling.{HasSpelling, record_text}
-
--- a row has the first moment and the first node
-abbrev pub row : Body → Record
-row body = record { moment = 0; node = 0; body = body }
-
--- what a system has once
-abbrev pub head_of : System → Body
-head_of s = Head s.nodes s.may s.next_entry s.next_run s.last
 
 -- the rows with which the queue file of a new site begins
 abbrev pub first_rows : List ℕ → List Record
-first_rows node = row (head_of (first_system node)) ∷ row (Form first_form) ∷ row (Queue (first_queue node)) ∷ []
-
-abbrev pub accepted_system : Result Accepted Refusal → Option System
-accepted_system (Ok accepted) = Some accepted.system
-accepted_system (Err refusal) = None
+first_rows node = image_of (first_system node)
 
 -- a request can act: its moment doesn't go back, its node is there, and it is one that can be asked
 abbrev pub can_act : System → ℕ → ℕ → Request → Bool
 can_act s moment node request = nat_le s.last moment && nat_lt node (length s.nodes) && is_built request
 
--- What a request's record leaves of a system. There is nothing where the request can't act, or is refused.
-abbrev pub after_request : System → ℕ → ℕ → Request → Option System
-after_request s moment node request =
-    if can_act s moment node request then accepted_system (applied s moment node request) else None
+-- A record can stand behind others that leave this system: a request that can act and isn't refused. A row stands at the
+-- beginning alone.
+abbrev pub can_stand : System → ℕ → ℕ → Body → Bool
+can_stand s moment node (Ask request) = can_act s moment node request && is_ok (applied s moment node request)
+can_stand s moment node (Head nodes may next_entry next_run last) = false
+can_stand s moment node (Form form) = false
+can_stand s moment node (Characteristic characteristic) = false
+can_stand s moment node (File file) = false
+can_stand s moment node (Queue queue) = false
+can_stand s moment node (Entry entry) = false
 
--- a row stands at the beginning alone
-abbrev pub after_body : System → ℕ → ℕ → Body → Option System
-after_body s moment node (Ask request) = after_request s moment node request
-after_body s moment node _ = None
+abbrev pub CanStand : System → Record → Type 0
+CanStand s r = can_stand s r.moment r.node r.body ≡ true
 
-abbrev pub after_record : System → Record → Option System
-after_record s r = after_body s r.moment r.node r.body
+-- what a record leaves of a system, if it can stand there
+abbrev pub left_by : System → Record → Option System
+left_by s r = if can_stand s r.moment r.node r.body then Some (after_record s r) else None
 
--- what the records leave, one after the other
-abbrev pub replayed : System → List Record → Option System
-replayed s [] = Some s
-replayed s (r ∷ rs) = option_and_then (λ t. replayed t rs) (after_record s r)
+-- the records can stand one behind the other, and leave this system
+pub record LeadTo (s : System) (records : List Record) (t : System) : Type 0 where
+  pub stand : EachStands CanStand s records
+  pub leave : replayed s records ≡ t
 
 -- The records of a queue file, by their bodies, and the system that they stand for: the rows of a new site of a node, and
 -- requests that were accepted one after the other.
@@ -61,7 +53,7 @@ pub record IsQueueFile (bodies : List (List ℕ)) (s : System) : Type 0 where
   pub short : length node ≤ NODE_NAME_BYTES
   pub fit : AllByRecursion HasSpelling (first_rows node ++ requests)
   pub spelled : bodies ≡ map record_text (first_rows node ++ requests)
-  pub leave : replayed (first_system node) requests ≡ Some s
+  pub lead : LeadTo (first_system node) requests s
 
 -- some queue file begins with these records
 pub record Begins (bodies : List (List ℕ)) : Type 0 where

@@ -13,7 +13,7 @@ use Rattle.qm_record.specs.Faults.{IsRecord}
 use Rattle.qm_record.specs.declared.fault.RecordFault.{RecordFault}
 use Rattle.qm_record.specs.declared.fault.RecordFault.TheVariants.{Bad}
 use Rattle.qm_record.specs.declared.fault.RecordFault.TheVariants as fault
-use Rattle.qm_manager.specs.QueueFile.{first_rows, after_record, IsQueueFile, IsFirstUnlawful}
+use Rattle.qm_manager.specs.QueueFile.{first_rows, left_by, IsQueueFile, IsFirstUnlawful}
 use Rattle.qm_manager.specs.declared.restoring.RestoreEnd.{RestoreEnd}
 use Rattle.qm_manager.specs.declared.restoring.RestoreEnd.TheVariants.{Unlawful, NoMemory}
 
@@ -65,23 +65,23 @@ some_if made s = if made then Some s else None
 pub record Leaves (body : List ℕ) (old new : System) : Type 0 where
   pub value : Record
   pub spells : Spells HasSpelling record_text value body
-  pub leaves : after_record old value ≡ Some new
+  pub leaves : left_by old value ≡ Some new
   pub only : (other : Record) → HasSpelling other → body ≡ record_text other → other ≡ value
 
 -- it makes nothing of it
 abbrev pub LeavesNothing : List ℕ → System → Type 0
-LeavesNothing body old = (other : Record) → HasSpelling other → body ≡ record_text other → after_record old other ≡ None
+LeavesNothing body old = (other : Record) → HasSpelling other → body ≡ record_text other → left_by old other ≡ None
 
 -- what was read of a record makes this of a system
 abbrev pub LeavesBy : Result Record RecordFault → System → System → Type 0
-LeavesBy (Ok r) old new = after_record old r ≡ Some new
+LeavesBy (Ok r) old new = left_by old r ≡ Some new
 LeavesBy (Err fault) old new = ⊥
 
 -- What was read of the record with this index makes nothing of it. Memory is wanted for what can stand there alone, or was
 -- wanted where it was read.
 abbrev pub RefusesRead : ℕ → Result Record RecordFault → System → RestoreEnd → Type 0
-RefusesRead index (Ok r) s (Unlawful i) = (i ≡ index) × (after_record s r ≡ None)
-RefusesRead index (Ok r) s NoMemory = IsSome (after_record s r)
+RefusesRead index (Ok r) s (Unlawful i) = (i ≡ index) × (left_by s r ≡ None)
+RefusesRead index (Ok r) s NoMemory = IsSome (left_by s r)
 RefusesRead index (Err (Bad place)) s (Unlawful i) = i ≡ index
 RefusesRead index (Err (Bad place)) s NoMemory = ⊥
 RefusesRead index (Err fault.NoMemory) s (Unlawful i) = ⊥

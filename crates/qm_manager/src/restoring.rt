@@ -9,7 +9,7 @@ ghost use Rattle.qm_model.specs.Consistent.{IsConsistent};
 ghost use Rattle.qm_state.specs.Image.{system_of};
 ghost use Rattle.qm_store.specs.Store.{bodies_of, OfBody};
 ghost use Rattle.qm_manager.specs.declared.restoring.RestoreEnd.TheVariants.{NoMemory};
-ghost use Rattle.qm_manager.specs.QueueFile.{first_rows, can_act, after_record, IsQueueFile};
+ghost use Rattle.qm_manager.specs.QueueFile.{first_rows, can_act, left_by, IsQueueFile};
 ghost use Rattle.qm_manager.specs.Restoring.{named_by, some_if, IsOf, BeginsWithRows, Judges, Leaves, LeavesBy, IsRead, IsRefused, RefusesRead, IsAt, HasNode};
 
 use crate::site::{first_rows, first_system};
@@ -134,9 +134,9 @@ fn replay(image: &mut Image, what: &Record) -> Result<bool, AllocError>
     requires { IsConsistent (system_of image.old) }
     ensures sound { IsConsistent (system_of image.new) }
     ensures nodes { (system_of image.new).nodes ≡ (system_of image.old).nodes }
-    ensures done { IfOk result (λ done. after_record (system_of image.old) what.now ≡ some_if done (system_of image.new)) }
+    ensures done { IfOk result (λ done. left_by (system_of image.old) what.now ≡ some_if done (system_of image.new)) }
     // Memory is wanted for what can stand there alone.
-    ensures no_memory { IsErr result → IsSome (after_record (system_of image.old) what.now) }
+    ensures no_memory { IsErr result → IsSome (left_by (system_of image.old) what.now) }
 {
     let Body::Ask(request) = &what.body else {
         return Ok(false);

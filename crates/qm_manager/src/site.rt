@@ -2,7 +2,8 @@
 ghost use Rattle.std.specs.Prelude.{◌≡◌, ◌≤◌, ◌∷◌, [], length, All, IfOk};
 ghost use Rattle.qm_model.specs.First.{first_form, first_queue, first_system};
 ghost use Rattle.qm_record.specs.Spelling.{CanBeWritten};
-ghost use Rattle.qm_manager.specs.QueueFile.{row, head_of, first_rows};
+ghost use Rattle.qm_model.specs.Log.{row, head_of};
+ghost use Rattle.qm_manager.specs.QueueFile.{first_rows};
 
 use qm_kinds::{
     Body, CharacteristicSet, Form, Moment, Name, Node, Queue, QueueKind, QueueRetain, QueueState,

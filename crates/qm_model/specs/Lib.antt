@@ -47,3 +47,5 @@ pub mod Batch
 pub mod Reports
 pub mod Built
 pub mod Lawful
+pub mod Log
+pub mod Folding

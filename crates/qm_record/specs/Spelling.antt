@@ -183,10 +183,6 @@ text_of m n (Some parts) = front parts.0 m n ++ parts.1
 abbrev pub record_text : Record → List ℕ
 record_text r = text_of r.moment r.node (body_parts r.body)
 
--- the record of a request
-abbrev pub request_record : ℕ → ℕ → Request → Record
-request_record m n r = record { moment = m; node = n; body = body.Ask r }
-
 -- ---- what has a spelling
 
 abbrev pub IsByte : ℕ → Type 0

@@ -1,7 +1,8 @@
 ghost use Rattle.std.specs.Prelude.{◌≡◌, ◌<◌, ◌^◌, ◌++◌, OnOk, IfOk};
 ghost use Rattle.qm_bytes.specs.Laws.{Spells};
 ghost use Rattle.qm_bytes.specs.Spelling.{IsMoment};
-ghost use Rattle.qm_record.specs.Spelling.{body_parts, text_of, record_text, request_record, BodyFits, IsShortBody, CanBeWritten, CanBeRecorded, HasSpelling};
+ghost use Rattle.qm_model.specs.Log.{request_record};
+ghost use Rattle.qm_record.specs.Spelling.{body_parts, text_of, record_text, BodyFits, IsShortBody, CanBeWritten, CanBeRecorded, HasSpelling};
 
 use crate::kind::RecordKind;
 use crate::request::{put_front, put_request};

@@ -52,3 +52,8 @@ replayed s (r ∷ records) = replayed (after_record s r) records
 -- the system that a log stands for
 abbrev pub system_of : List Record → System
 system_of log = replayed no_system log
+
+-- each record may stand behind those before it, by a rule for one record and the system before it
+abbrev pub EachStands : (System → Record → Type 0) → System → List Record → Type 0
+EachStands Stands s [] = Unit {0}
+EachStands Stands s (r ∷ records) = Stands s r × EachStands Stands (after_record s r) records
