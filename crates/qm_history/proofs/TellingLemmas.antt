@@ -95,25 +95,26 @@ told_both None w (Some r) is some none = let no : IsNone {T = Record} (Some r) =
 told_both (Some kept) w None is some none = let no : IsSome {T = Record} None = some refl in cc
 told_both (Some kept) w (Some r) is some none = refl
 
-nothing_left : (before w : World) (node reading : ℕ) (on : Option (List (List ℕ))) (tried : ℕ) (events : List Event) → tried ≡ before.greatest + 1
-    → IsFailure before w node reading on tried events → IsNone w.doubt
-nothing_left before w node reading on tried [] new h = h new
-nothing_left before w node reading on tried (event.Doubt n moment (request.Took epoch gone up may) ∷ []) new h = h.4
-nothing_left before w node reading on tried (event.Full n need cap ∷ []) new h = h.3
-nothing_left before w node reading on tried (event.NoManager n ∷ []) new h = h.3
-nothing_left before w node reading on tried events new h = absurd h
+nothing_left : (before w : World) (node reading : ℕ) (on : Option (List (List ℕ))) (tried : ℕ) (e : Event) (events : List Event)
+    → IsFailure before w node reading on tried (e ∷ events) → IsNone w.doubt
+nothing_left before w node reading on tried (event.Doubt n moment (request.Took epoch gone up may)) [] h = h.4
+nothing_left before w node reading on tried (event.Full n need cap) [] h = h.3
+nothing_left before w node reading on tried (event.NoManager n) [] h = h.3
+nothing_left before w node reading on tried e events h = absurd h
 
 plain_tells : (w : World) (events : List Event) → IsPlain events → TellsWhatItRead w events
 plain_tells w [] h = tt
 plain_tells w (event.Took node moment epoch gone up may kept ∷ events) h = cc
-plain_tells w (event.TakeDoubt node tried kept ∷ events) h = cc
+plain_tells w (event.TakeDoubt node tried kept ∷ []) h = cc
+plain_tells w (event.TakeDoubt node tried kept ∷ e ∷ events) h = cc
 plain_tells w (e ∷ events) h = tt
 
 module _ (HasSpelling : Record → Type 0) (w : World) (node reading : ℕ) (on : Option (List (List ℕ))) (Then : World → List Event → Type 0) where
   stands_tells : (events : List Event) → CanAllCome HasSpelling w events → StandsOrFails w node reading on Then events → TellsWhatItRead w events
   stands_tells (event.Took n moment epoch gone up may kept ∷ events) can h = can.0.told
-  stands_tells (event.TakeDoubt n tried kept ∷ events) can h = λ new.
-      told_both kept w w.doubt refl can.0.1 (nothing_left w (after_event w (event.TakeDoubt n tried kept)) node reading on tried events new h.1)
+  stands_tells (event.TakeDoubt n tried kept ∷ []) can h = λ new. told_both kept w w.doubt refl can.0.1 (h.1 new)
+  stands_tells (event.TakeDoubt n tried kept ∷ e ∷ events) can h =
+      told_both kept w w.doubt refl can.0.1 (nothing_left w (after_event w (event.TakeDoubt n tried kept)) node reading on tried e events h.1)
   stands_tells events can h = absurd h
 
   refused_tells : (refused : Bool) (events : List Event) → CanAllCome HasSpelling w events → UnlessRefused refused node (StandsOrFails w node reading on Then events) events → TellsWhatItRead w events

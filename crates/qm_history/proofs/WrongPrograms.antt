@@ -133,6 +133,14 @@ hidden_doubt HasSpelling w t r doubt is legal =
     let worse : false ≡ true = bad ∙ ap (λ (o : Option Record). is_some o) doubt in
     cc
 
+-- Its takeover finds the master full, once it has read the files, and hides what became of the record in doubt.
+pub hidden_behind_a_full_master : (HasSpelling : Record → Type 0) (w : World) (t : Turn) (r : Record) (node need cap : ℕ) → w.doubt ≡ Some r
+    → t.events ≡ event.TakeDoubt t.node w.greatest None ∷ event.Full node need cap ∷ [] → IsLegalTurn HasSpelling w t → ⊥
+hidden_behind_a_full_master HasSpelling w t r node need cap doubt is legal =
+    let bad : false ≡ is_some w.doubt = subst (TellsWhatItRead w) is (turn_tells HasSpelling w t legal) in
+    let worse : false ≡ true = bad ∙ ap (λ (o : Option Record). is_some o) doubt in
+    cc
+
 -- ---- readers
 
 abbrev line : ℕ → List ℕ → LineSort → List ℕ → UserLine
