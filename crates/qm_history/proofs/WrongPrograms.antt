@@ -69,18 +69,11 @@ pub fault_behind_no_memory : (HasSpelling : Record → Type 0) (w : World) (aske
 fault_behind_no_memory HasSpelling w asked t first next is may =
     subst (λ (events : List Event). Rattle.qm_history.specs.Answering.IsOneTakeover events) is may.1
 
--- ---- clocks and order
+-- ---- clocks
 
 -- It never asks its clock, and takes the first moment.
 pub no_reading : (v : Visit) → v.turn.moment ≡ 0 → AreReadings Whole (1000 ∷ []) (v ∷ []) → ⊥
 no_reading v zero_is told = let same : ◌≡◌ {A = ℕ} 1000 0 = cc in absurd (omega (arith, same))
-
--- It serves all of one node before the other node's lines.
-abbrev turn : ℕ → Why → Turn
-turn node because = record { node = node; why = because; moment = 1000; events = [] }
-
-pub node_by_node : AreInOrder nothing_served (turn 0 (why.Line 1) ∷ turn 0 why.Fetch ∷ turn 0 why.Leave ∷ turn 1 (why.Line 2) ∷ []) → ⊥
-node_by_node order = order.1.1.1.0.1
 
 -- ---- files
 
@@ -160,6 +153,25 @@ site = world_of new_site
 -- Its reader finds a fault in each line: TICK is read, and the turn of a fault isn't one of it.
 pub each_line_a_fault : IsServed site 0 1000 (call.Line 1 (read next_queue (line 1 (codes "A") Act (codes "TICK")) 1000 [] [])) (event.Refused 0 1000 (input.Fault 0 parse.Form) (refused.ParseFault 0 parse.Form) ∷ []) → ⊥
 each_line_a_fault served = served
+
+-- ---- order
+
+abbrev turn : ℕ → Why → Turn
+turn node because = record { node = node; why = because; moment = 1000; events = [] }
+
+-- It serves all of one node before the other node's lines.
+pub node_by_node : AreInOrder site (nothing_served (1 ∷ 2 ∷ [])) (turn 0 (why.Line 1) ∷ turn 0 why.Fetch ∷ turn 0 why.Leave ∷ turn 1 (why.Line 2) ∷ []) → ⊥
+node_by_node order = let none : ◌≡◌ {A = List ℕ} (2 ∷ []) [] = order.1.0.0 in cc
+
+-- It leaves a line out.
+pub line_left_out : AreInOrder site (nothing_served (1 ∷ 2 ∷ [])) (turn 1 (why.Line 2) ∷ []) → ⊥
+line_left_out order = let same : ◌≡◌ {A = ℕ} 2 1 = order.0 in absurd (omega (arith, same))
+
+-- It lets the second node fetch before the first one has left.
+pub node_left_waiting : AreInOrder site (nothing_served []) (turn 0 why.Fetch ∷ turn 1 why.Fetch ∷ []) → ⊥
+node_left_waiting order = let down : true ≡ false = order.1.0.1.0 in cc
+
+-- ---- listings
 
 -- The queue SYS$BATCH was shown to A. A's next call goes on behind it, and B's call begins: it has no listing of A's.
 abbrev shown_to_a : List Turn

@@ -1,45 +1,47 @@
 -- The order of turns where one thread serves the whole script.
 -- This site's own: lines in their order, and then the nodes in the cluster's.
-use Rattle.std.specs.Prelude.{◌≡◌, ℕ, ◌<◌, ◌≤◌, List, [], ◌∷◌, Option, None, Some}
+use Rattle.std.specs.Prelude.{◌≡◌, ℕ, Bool, false, List, [], ◌∷◌, drop, take}
+use Rattle.std.specs.List.{AllByRecursion}
 use Rattle.qm_history.specs.declared.turn.Turn.{Turn}
 use Rattle.qm_history.specs.declared.turn.Why.{Why}
 use Rattle.qm_history.specs.declared.turn.Why.TheVariants as why
+use Rattle.qm_history.specs.declared.world.World.{World}
+use Rattle.qm_history.specs.Legal.{after_turn}
 
--- what has been served so far: the last line, the node that makes turns of its own, once one does, and the node of the last turn
+-- how far serving has come: the numbers of the script's lines that are left, and the node of the last turn
 pub record Served : Type 0 where
-  pub line : ℕ
-  pub own : Option ℕ
+  pub left : List ℕ
   pub node : ℕ
 
--- before the first turn nothing has been served
-abbrev pub nothing_served : Served
-nothing_served = record { line = 0; own = None; node = 0 }
+-- before the first turn all lines are left
+abbrev pub nothing_served : List ℕ → Served
+nothing_served numbers = record { left = numbers; node = 0 }
 
--- lines come before turns of the nodes' own
-abbrev pub IsReading : Option ℕ → Type 0
-IsReading None = Unit {0}
-IsReading (Some node) = ⊥
+-- the line is the next one
+abbrev pub IsNextLine : ℕ → List ℕ → Type 0
+IsNextLine line [] = ⊥
+IsNextLine line (next ∷ left) = line ≡ next
 
--- the nodes make turns of their own in the cluster's order
-abbrev pub IsNotBefore : Option ℕ → ℕ → Type 0
-IsNotBefore None node = Unit {0}
-IsNotBefore (Some last) node = last ≤ node
+-- no node before this one is live any more: each has left or is stopped
+abbrev pub AreOver : ℕ → List Bool → Type 0
+AreOver node live = AllByRecursion (λ (l : Bool). l ≡ false) (take node live)
 
--- a line behind those before it; a report or a leave right behind a turn of its node; and fetches node by node
-abbrev pub MayFollow : Served → ℕ → Why → Type 0
-MayFollow so_far node (why.Line line) = (so_far.line < line) × IsReading so_far.own
-MayFollow so_far node why.Report = node ≡ so_far.node
-MayFollow so_far node why.Leave = node ≡ so_far.node
-MayFollow so_far node why.Fetch = IsNotBefore so_far.own node
+-- each line behind the one before it; a report or a leave right behind a turn of its node; and behind the last line the nodes' own
+-- fetches, node by node
+abbrev pub MayFollow : World → Served → ℕ → Why → Type 0
+MayFollow w so_far node (why.Line line) = IsNextLine line so_far.left
+MayFollow w so_far node why.Report = node ≡ so_far.node
+MayFollow w so_far node why.Leave = node ≡ so_far.node
+MayFollow w so_far node why.Fetch = (so_far.left ≡ []) × AreOver node w.live
 
--- what has been served behind a turn
+-- how far serving has come behind a turn
 abbrev pub served_with : Served → ℕ → Why → Served
-served_with so_far node (why.Line line) = record so_far { line = line; node = node }
+served_with so_far node (why.Line line) = record { left = drop 1 so_far.left; node = node }
 served_with so_far node why.Report = record so_far { node = node }
 served_with so_far node why.Leave = record so_far { node = node }
-served_with so_far node why.Fetch = record so_far { own = Some node; node = node }
+served_with so_far node why.Fetch = record so_far { node = node }
 
--- the turns come as on one thread, behind what has been served
-abbrev pub AreInOrder : Served → List Turn → Type 0
-AreInOrder so_far [] = Unit {0}
-AreInOrder so_far (t ∷ turns) = MayFollow so_far t.node t.why × AreInOrder (served_with so_far t.node t.why) turns
+-- from a world on the turns come as on one thread, behind what has been served
+abbrev pub AreInOrder : World → Served → List Turn → Type 0
+AreInOrder w so_far [] = Unit {0}
+AreInOrder w so_far (t ∷ turns) = MayFollow w so_far t.node t.why × AreInOrder (after_turn w t) (served_with so_far t.node t.why) turns
