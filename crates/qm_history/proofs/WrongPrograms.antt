@@ -12,6 +12,7 @@ use Rattle.qm_kinds.specs.declared.query.Query.{Query}
 use Rattle.qm_kinds.specs.declared.record.Record.{Record}
 use Rattle.qm_kinds.specs.declared.refusal.ParseKind.TheVariants as parse
 use Rattle.qm_kinds.specs.declared.refusal.Refusal.TheVariants as refused
+use Rattle.qm_kinds.specs.declared.request.Request.{Request}
 use Rattle.qm_history.specs.declared.call.Answer.{Answer}
 use Rattle.qm_history.specs.declared.call.Answer.TheVariants as answer
 use Rattle.qm_history.specs.declared.call.Call.{Call}
@@ -24,8 +25,8 @@ use Rattle.qm_history.specs.declared.turn.Why.TheVariants as why
 use Rattle.qm_history.specs.declared.world.Role.{Role}
 use Rattle.qm_history.specs.declared.world.World.{World}
 use Rattle.qm_history.specs.Answering.{MayAnswer}
-use Rattle.qm_history.specs.Calls.{input_of}
-use Rattle.qm_history.specs.Chest.{AddsTurn, IsMadeFor}
+use Rattle.qm_history.specs.Calls.{input_of, acting}
+use Rattle.qm_history.specs.Chest.{AddsTurn, IsMadeFor, TellsRoom}
 use Rattle.qm_history.specs.Contents.{Compacts, HoldWorld, IsEpochOf, Keeps, LeavesFiles, are_without_write}
 use Rattle.qm_history.specs.Course.{Whole}
 use Rattle.qm_history.specs.Faults.{is_journal}
@@ -35,9 +36,11 @@ use Rattle.qm_history.specs.Leaving.{MayBeLeftBehind}
 use Rattle.qm_history.specs.Order.{AreInOrder, nothing_served}
 use Rattle.qm_history.specs.Reading.{read}
 use Rattle.qm_history.specs.Readings.{AreReadings}
-use Rattle.qm_history.specs.Room.{Room, IsAboveCap, IsRoomTold}
+use Rattle.qm_history.specs.Records.{request_record}
+use Rattle.qm_history.specs.Master.{MasterState}
+use Rattle.qm_history.specs.Room.{Room, IsAboveCap, IsRoomTold, HaveRoom, record_need, room_in}
 use Rattle.qm_history.specs.Script.{UserLine, LineSort, Items, Act}
-use Rattle.qm_history.specs.Start.{Hold}
+use Rattle.qm_history.specs.Start.{Hold, HoldRecords}
 use Rattle.qm_history.specs.Telling.{TellsWhatItRead}
 use Rattle.qm_history.specs.Turn.{IsServed}
 use Rattle.qm_history.specs.Visits.{Visit, visits_of}
@@ -56,6 +59,19 @@ full_with_room text w m asked t node need cap small is told =
     let above : AllByRecursion (IsAboveCap m.cap) (event.Full node need cap ∷ []) =
     subst (AllByRecursion (IsAboveCap m.cap)) is (all_above text None w m t.moment (input_of asked) t.events told) in
     omega (arith, small, above.0.0)
+
+fits_or_not : (a b : ℕ) → a ≤ b → b < a → ⊥
+fits_or_not a b within above = omega (arith, within, above)
+
+-- Once a disk has failed it tells of each request that the file is full: what is told is of the files as they are before the call.
+pub full_behind_a_fault : {D : Type 0} (IsLog : List ℕ → List (List ℕ) → Type 0) (HasSpelling : Record → Type 0) (text : Record → List ℕ) (m : Meaning D) (w : World) (files : CrashState) (says : MasterState)
+    (records : List Record) (holds : HoldRecords IsLog HasSpelling text files says records) (line : ℕ) (r : Request) (t : Turn) (node need cap : ℕ) → t.events ≡ event.Full node need cap ∷ []
+    → record_need text (room_in text says holds.masters records) (request_record (acting t.moment (system_in w)) node r) ≤ (room_in text says holds.masters records).cap
+    → TellsRoom IsLog HasSpelling text m w files (call.Line line (input.Ask r)) (Some t) → ⊥
+full_behind_a_fault IsLog HasSpelling text m w files says records holds line r t node need cap is fits tells =
+    let told : HaveRoom text None w (room_in text says holds.masters records) t.moment (input.Ask r) (event.Full node need cap ∷ []) =
+    subst (HaveRoom text None w (room_in text says holds.masters records) t.moment (input.Ask r)) is (tells says records holds) in
+    fits_or_not _ _ fits told.0.2
 
 -- It answers that a disk failed, where none did.
 pub journal_on_a_good_disk : {D : Type 0} (m : Meaning D) (old new : D) (told : Answer) → m.faults new ≡ m.faults old → m.faults old < 2 ^ 64 - 1

@@ -3,7 +3,7 @@
 -- This site's own: one value with the files and the image, and the notes of its turns.
 use Rattle.std.specs.Prelude.{◌≡◌, ◌⊎◌, ℕ, ◌+◌, ◌-◌, ◌^◌, ◌≤◌, min, Bool, true, List, [], ◌∷◌, ◌++◌, length, filter_map, is_some, Option, None, Some, IsTrue}
 use Rattle.std.specs.Option.{option_map}
-use Rattle.qm_disk.specs.Disk.{Meaning, LeavesOnly, OnlyLooks, TellsFaults}
+use Rattle.qm_disk.specs.Disk.{CrashState, Meaning, LeavesOnly, OnlyLooks, TellsFaults}
 use Rattle.qm_kinds.specs.declared.record.Record.{Record}
 use Rattle.qm_kinds.specs.declared.system.System.{System}
 use Rattle.qm_history.specs.declared.call.Answer.{Answer}
@@ -16,8 +16,9 @@ use Rattle.qm_history.specs.Answering.{MayAnswer}
 use Rattle.qm_history.specs.Contents.{HoldWorld, HoldWithin, HoldIn, Keeps, LeavesFiles, CompactsFiles, are_without_write, compacted_by}
 use Rattle.qm_history.specs.Faults.{faults_told, is_journal}
 use Rattle.qm_history.specs.Legal.{after_turn, after_turns, IsLegal}
-use Rattle.qm_history.specs.Room.{AreAboveCap, AreWithinRoom, TellsRoom, room_in}
-use Rattle.qm_history.specs.Start.{Starts}
+use Rattle.qm_history.specs.Master.{MasterState}
+use Rattle.qm_history.specs.Room.{AreAboveCap, AreWithinRoom, IsRoomTold, room_behind, room_in}
+use Rattle.qm_history.specs.Start.{HoldRecords, Starts}
 use Rattle.qm_history.specs.World.{system_in}
 
 -- the most turns that are kept
@@ -73,6 +74,11 @@ module _ (IsLog : List ℕ → List (List ℕ) → Type 0) (HasSpelling : Record
     pub tells : TellsWorld (after_turns w c.turns) c
     pub keeps : Keeps IsLog HasSpelling record_text m (after_turns w c.turns) c.disk
     pub moments : LeavesOnly m began c.disk (λ crashed. HoldIn IsLog HasSpelling record_text crashed w c.turns)
+    -- as long as no disk failed, the files reach as far as the turns tell
+    pub reaches :
+        faults_told c.turns ≡ 0
+        → room_in record_text keeps.reads.holds.says keeps.reads.holds.hold.masters keeps.reads.holds.records
+        ≡ room_behind record_text w (room_in record_text starts.says starts.hold.masters starts.records) c.turns
 
   -- What holds of the chest and the notes of the turns that it was handed in: that is what a turnstile keeps between two turns.
   -- Of disks that don't tell their contents nothing is known but how many calls failed.
@@ -83,8 +89,8 @@ module _ (IsLog : List ℕ → List (List ℕ) → Type 0) (HasSpelling : Record
     pub told : faults_told c.turns ≡ c.failed + c.unread
     pub stands : IsTrue m.tells → StandsFor w began c
 
-  -- A call that left a turn: the turn is one of the call, with this answer, and no file is damaged; at each moment a crash leaves what it may within the
-  -- turn; and where the turn writes nothing, the files are as they were.
+  -- A call that left a turn: the turn is one of the call, with this answer, and no file is damaged; at each moment a crash leaves
+  -- what it may within the turn; and where the turn writes nothing, the files are as they were.
   pub record AddsTurn (w : World) (old new : D) (asked : Call) (t : Turn) (told : Answer) : Type 0 where
     pub answers : MayAnswer HasSpelling w asked t told
     pub undamaged : (file place : ℕ) → told ≡ answer.Damaged file place → ⊥
@@ -106,6 +112,13 @@ module _ (IsLog : List ℕ → List (List ℕ) → Type 0) (HasSpelling : Record
   Adds w old new asked turns None told = AddsNone w old new turns told
   Adds w old new asked turns (Some t) told = AddsTurn w old new asked t told
 
+  -- The turn of this call, if it left one, tells of room what is so of the files as they were before it, whatever failed earlier.
+  abbrev pub TellsRoom : World → CrashState → Call → Option Turn → Type 0
+  TellsRoom w files asked None = Unit {0}
+  TellsRoom w files asked (Some t) =
+      (says : MasterState) (records : List Record) → (h : HoldRecords IsLog HasSpelling record_text files says records)
+      → IsRoomTold record_text w (room_in record_text says h.masters records) asked t
+
   -- What a call of this node, with this reading, does to a chest that stands for a world and these notes, where its names, lists
   -- and spelling keep the rules: the turn is of that node and reading; the answer tells of a disk that failed just where one did;
   -- what it tells of room is so of this call; and the chest then stands for one note more.
@@ -113,6 +126,5 @@ module _ (IsLog : List ℕ → List (List ℕ) → Type 0) (HasSpelling : Record
     pub made : IsMadeFor node now note
     pub faults : TellsFaults m old.disk new.disk (is_journal told ≡ true)
     pub adds : IsTrue m.tells → Adds (after_turns w old.turns) old.disk new.disk asked old.turns note told
-    pub room : IsTrue m.tells → (h : Starts IsLog HasSpelling record_text (m.seen began) w)
-        → TellsRoom record_text w (room_in record_text h.says h.hold.masters h.records) old.turns asked note
+    pub room : IsTrue m.tells → TellsRoom (after_turns w old.turns) (m.seen old.disk) asked note
     pub stands : Stands w began new (notes ++ note ∷ [])

@@ -15,9 +15,9 @@ use Rattle.qm_history.specs.declared.event.Event.TheVariants as event
 use Rattle.qm_history.specs.declared.turn.Turn.{Turn}
 use Rattle.qm_history.specs.declared.world.World.{World}
 use Rattle.qm_history.specs.Calls.{input_of, acting}
-use Rattle.qm_history.specs.Faults.{faults_told, tells_disk_fault}
-use Rattle.qm_model.specs.Folding.{after_record}
-use Rattle.qm_history.specs.Legal.{after_turn, after_turns}
+use Rattle.qm_history.specs.Faults.{tells_disk_fault}
+use Rattle.qm_history.specs.Folding.{after_record}
+use Rattle.qm_history.specs.Legal.{after_turn}
 use Rattle.qm_history.specs.Master.{MasterRecord, MasterState, Epoch, Live, master_text}
 use Rattle.qm_model.specs.Log.{request_record, image_of}
 use Rattle.qm_history.specs.Step.{after_event}
@@ -86,17 +86,6 @@ is_compaction other = false
 abbrev pub is_compacted_next : List Event → Bool
 is_compacted_next [] = false
 is_compacted_next (e ∷ events) = is_compaction e
-
--- COMPACT asks for it
-abbrev pub is_compact : Input → Bool
-is_compact input.Compact = true
-is_compact (input.Ask asked) = false
-is_compact (input.Show query) = false
-is_compact (input.Fetch known) = false
-is_compact input.StartNode = false
-is_compact input.StopNode = false
-is_compact (input.TakeManager on) = false
-is_compact (input.Fault place kind) = false
 
 -- whether a takeover that failed came to its epoch
 abbrev pub failed_by : World → Event → Option Bool
@@ -181,17 +170,25 @@ module _ (record_text : Record → List ℕ) where
   LacksBehind (Some false) w m node reading asked e = Lacks (epoch_need m (w.greatest + 1) node) master_cap e
   LacksBehind (Some true) w m node reading asked e = LacksForTakeover w m node reading asked e
 
+  -- an image has room, and so has the record by which the master makes its file the live one
+  abbrev pub HasRoomForImage : Room → ℕ → System → Type 0
+  HasRoomForImage m epoch s = (image_need s ≤ m.cap) × (live_need m epoch ≤ master_cap)
+
+  -- a record that is in doubt has room, or at COMPACT the image in its place
+  abbrev pub HasRoomInDoubt : World → Room → Input → Record → Type 0
+  HasRoomInDoubt w m input.Compact r = (record_need m r ≤ m.cap) ⊎ HasRoomForImage m w.greatest (after_record (system_in w) r)
+  HasRoomInDoubt w m asked r = record_need m r ≤ m.cap
+
   -- what an event writes, or tried to, has room; of what has none the need and the cap are told
   abbrev pub HasRoom : Option Bool → World → Room → ℕ → Input → Event → List Event → Type 0
   HasRoom failed w m reading asked (event.Done node moment r reply) events = record_need m (request_record moment node r) ≤ m.cap
-  HasRoom failed w m reading asked (event.Doubt node moment r) events =
-      Unless (is_compact asked) (record_need m (request_record moment node r) ≤ m.cap)
+  HasRoom failed w m reading asked (event.Doubt node moment r) events = HasRoomInDoubt w m asked (request_record moment node r)
   HasRoom failed w m reading asked (event.Took node moment epoch gone up may kept) events =
       (epoch_need m epoch node ≤ master_cap)
       × Unless (is_compacted_next events) (record_need m (request_record moment node (request.Took epoch gone up may)) ≤ m.cap)
   HasRoom failed w m reading asked (event.TakeDoubt node tried kept) events = Unless (tried == w.greatest) (epoch_need m tried node ≤ master_cap)
   HasRoom failed w m reading asked (event.Compacted node epoch file) events =
-      (file ≡ other_file m.file) × (image_need (system_in w) ≤ m.cap) × (live_need m epoch ≤ master_cap)
+      (file ≡ other_file m.file) × HasRoomForImage m epoch (system_in w)
   HasRoom failed w m reading asked (event.Full node need cap) events = LacksBehind failed w m node reading asked (event.Full node need cap)
   HasRoom failed w m reading asked (event.Refused node moment input refusal) events = Unit {0}
   HasRoom failed w m reading asked (event.Shown node moment input) events = Unit {0}
@@ -200,7 +197,7 @@ module _ (record_text : Record → List ℕ) where
   HasRoom failed w m reading asked (event.Stopped node) events = Unit {0}
   HasRoom failed w m reading asked (event.Left node) events = Unit {0}
   HasRoom failed w m reading asked (event.Started node) events = Unit {0}
-  HasRoom failed w m reading asked (event.CompactDoubt node) events = Unit {0}
+  HasRoom failed w m reading asked (event.CompactDoubt node) events = HasRoomForImage m w.greatest (system_in w)
 
   -- the events of a call, behind a takeover that failed or not, have room or tell what has none
   abbrev pub HaveRoom : Option Bool → World → Room → ℕ → Input → List Event → Type 0
@@ -216,11 +213,6 @@ module _ (record_text : Record → List ℕ) where
   abbrev pub room_behind : World → Room → List Turn → Room
   room_behind w m [] = m
   room_behind w m (t ∷ turns) = room_behind (after_turn w t) (room_after_events w m t.events) turns
-
-  -- behind these turns this call's turn, if it left one, tells of room what is so, as long as no disk has failed
-  abbrev pub TellsRoom : World → Room → List Turn → Call → Option Turn → Type 0
-  TellsRoom w m turns asked None = Unit {0}
-  TellsRoom w m turns asked (Some t) = faults_told turns ≡ 0 → IsRoomTold (after_turns w turns) (room_behind w m turns) asked t
 
   module _ (HasSpelling : Record → Type 0) where
     -- it is the turn of some call, and tells of room what is so
