@@ -26,7 +26,7 @@ use Rattle.qm_history.specs.declared.world.Role.{Role}
 use Rattle.qm_history.specs.declared.world.World.{World}
 use Rattle.qm_history.specs.Answering.{MayAnswer}
 use Rattle.qm_history.specs.Calls.{input_of, acting}
-use Rattle.qm_history.specs.Chest.{AddsTurn, IsMadeFor, TellsRoom}
+use Rattle.qm_history.specs.Chest.{AddsTurn, IsMadeFor, LeavesTurn, TellsRoom}
 use Rattle.qm_history.specs.Contents.{Compacts, HoldWorld, IsEpochOf, Keeps, LeavesFiles, are_without_write}
 use Rattle.qm_history.specs.Course.{Whole}
 use Rattle.qm_history.specs.Faults.{is_journal}
@@ -128,8 +128,13 @@ module _ (IsLog : List ℕ → List (List ℕ) → Type 0) (HasSpelling : Record
   damaged_on_good_files m w old new asked t file place adds = adds.undamaged file place refl
 
 -- It serves a call of one node as a turn of another.
-pub turn_of_another_node : (now : ℕ) (t : Turn) → t.node ≡ 1 → IsMadeFor 0 now (Some t) → ⊥
-turn_of_another_node now t is made = let same : ◌≡◌ {A = ℕ} 1 0 = sym is ∙ made.0 in absurd (omega (arith, same))
+pub turn_of_another_node : (now : ℕ) (asked : Call) (t : Turn) → t.node ≡ 1 → IsMadeFor 0 now asked (Some t) → ⊥
+turn_of_another_node now asked t is made = let same : ◌≡◌ {A = ℕ} 1 0 = sym is ∙ made.0 in absurd (omega (arith, same))
+
+-- It tells that no more turns are kept before any is.
+pub full_at_once : LeavesTurn [] None answer.HistoryFull → ⊥
+full_at_once (inl spent) = let none : ◌≡◌ {A = ℕ} 0 1000000 = spent.1 in absurd (omega (arith, none))
+full_at_once (inr short) = cc
 
 -- ---- takeovers
 

@@ -1,7 +1,7 @@
 -- What the value stands for on which the nodes work in turns: its own turns behind the world with which it began.
 -- OpenVMS System Manager's Manual, Managing the Queue Manager and Queue Database, on the queue manager process and its files.
 -- This site's own: one value with the files and the image, and the notes of its turns.
-use Rattle.std.specs.Prelude.{◌≡◌, ◌⊎◌, ℕ, ◌+◌, ◌-◌, ◌^◌, ◌≤◌, min, Bool, true, List, [], ◌∷◌, ◌++◌, length, filter_map, is_some, Option, None, Some, IsTrue}
+use Rattle.std.specs.Prelude.{◌≡◌, ◌≢◌, ◌⊎◌, ℕ, ◌+◌, ◌-◌, ◌^◌, ◌≤◌, min, Bool, true, List, [], ◌∷◌, ◌++◌, length, filter_map, is_some, Option, None, Some, IsTrue, IsNone}
 use Rattle.std.specs.Option.{option_map}
 use Rattle.qm_disk.specs.Disk.{CrashState, Meaning, LeavesOnly, OnlyLooks, TellsFaults}
 use Rattle.qm_kinds.specs.declared.record.Record.{Record}
@@ -13,6 +13,7 @@ use Rattle.qm_history.specs.declared.turn.Turn.{Turn}
 use Rattle.qm_history.specs.declared.world.Role.{Role}
 use Rattle.qm_history.specs.declared.world.World.{World}
 use Rattle.qm_history.specs.Answering.{MayAnswer}
+use Rattle.qm_history.specs.Calls.{why_of}
 use Rattle.qm_history.specs.Contents.{HoldWorld, HoldWithin, HoldIn, Keeps, LeavesFiles, CompactsFiles, are_without_write, compacted_by}
 use Rattle.qm_history.specs.Faults.{faults_told, is_journal}
 use Rattle.qm_history.specs.Legal.{after_turn, after_turns, IsLegal}
@@ -57,10 +58,19 @@ pub record TellsWorld {D : Type 0} (w : World) (c : Chest D) : Type 0 where
 abbrev pub turns_noted : List (Option Turn) → List Turn
 turns_noted notes = filter_map (λ (note : Option Turn). note) notes
 
--- a turn that a call left is of the node that made it, at the moment that its clock told
-abbrev pub IsMadeFor : ℕ → ℕ → Option Turn → Type 0
-IsMadeFor node now None = Unit {0}
-IsMadeFor node now (Some t) = (t.node ≡ node) × (t.moment ≡ now)
+-- a turn that a call left is of the node that made it, at the moment that its clock told, and says why it was made
+abbrev pub IsMadeFor : ℕ → ℕ → Call → Option Turn → Type 0
+IsMadeFor node now asked None = Unit {0}
+IsMadeFor node now asked (Some t) = (t.node ≡ node) × (t.moment ≡ now) × (t.why ≡ why_of asked)
+
+-- why a call left no turn: as many are kept as can be, or memory was short before a takeover
+abbrev pub MayLeaveNone : List Turn → Answer → Type 0
+MayLeaveNone turns told = ((told ≡ answer.HistoryFull) × (length turns ≡ turns_kept)) ⊎ (told ≡ answer.NoMemory None)
+
+-- behind these turns the call left one more, or none for a reason; that no more are kept is told only where it left none
+abbrev pub LeavesTurn : List Turn → Option Turn → Answer → Type 0
+LeavesTurn turns None told = MayLeaveNone turns told
+LeavesTurn turns (Some t) told = told ≢ answer.HistoryFull
 
 -- what is said of a file as a log, and how records are spelled
 module _ (IsLog : List ℕ → List (List ℕ) → Type 0) (HasSpelling : Record → Type 0) (record_text : Record → List ℕ) {D : Type 0} (m : Meaning D) where
@@ -98,19 +108,14 @@ module _ (IsLog : List ℕ → List (List ℕ) → Type 0) (HasSpelling : Record
     pub files : LeavesFiles m (are_without_write t.events) old new
     pub compacts : CompactsFiles IsLog HasSpelling record_text m (after_turn w t) old new (compacted_by t.events)
 
-  -- why a call left no turn: as many are kept as can be, or memory was short before a takeover
-  abbrev pub MayLeaveNone : List Turn → Answer → Type 0
-  MayLeaveNone turns told = ((told ≡ answer.HistoryFull) × (length turns ≡ turns_kept)) ⊎ (told ≡ answer.NoMemory None)
-
   -- a call that left none: at each moment a crash leaves what it might before, and where no more turns are kept nothing is written
-  pub record AddsNone (w : World) (old new : D) (turns : List Turn) (told : Answer) : Type 0 where
-    pub why : MayLeaveNone turns told
+  pub record AddsNone (w : World) (old new : D) (told : Answer) : Type 0 where
     pub files : told ≡ answer.HistoryFull → OnlyLooks m old new
     pub moments : LeavesOnly m old new (λ crashed. HoldWorld IsLog HasSpelling record_text crashed w)
 
-  abbrev pub Adds : World → D → D → Call → List Turn → Option Turn → Answer → Type 0
-  Adds w old new asked turns None told = AddsNone w old new turns told
-  Adds w old new asked turns (Some t) told = AddsTurn w old new asked t told
+  abbrev pub Adds : World → D → D → Call → Option Turn → Answer → Type 0
+  Adds w old new asked None told = AddsNone w old new told
+  Adds w old new asked (Some t) told = AddsTurn w old new asked t told
 
   -- The turn of this call, if it left one, tells of room what is so of the files as they were before it, whatever failed earlier.
   abbrev pub TellsRoom : World → CrashState → Call → Option Turn → Type 0
@@ -120,11 +125,14 @@ module _ (IsLog : List ℕ → List (List ℕ) → Type 0) (HasSpelling : Record
       → IsRoomTold record_text w (room_in record_text says h.masters records) asked t
 
   -- What a call of this node, with this reading, does to a chest that stands for a world and these notes, where its names, lists
-  -- and spelling keep the rules: the turn is of that node and reading; the answer tells of a disk that failed just where one did;
-  -- what it tells of room is so of this call; and the chest then stands for one note more.
+  -- and spelling keep the rules: the turn is of that node, reading and call, or there is none for a reason; the answer tells of a
+  -- disk that failed just where one did, and then no manager is up; what it tells of room is so of this call; and the chest then
+  -- stands for one note more.
   pub record Serves (w : World) (began : D) (old new : Chest D) (notes : List (Option Turn)) (node now : ℕ) (asked : Call) (note : Option Turn) (told : Answer) : Type 0 where
-    pub made : IsMadeFor node now note
+    pub made : IsMadeFor node now asked note
+    pub leaves : LeavesTurn old.turns note told
     pub faults : TellsFaults m old.disk new.disk (is_journal told ≡ true)
-    pub adds : IsTrue m.tells → Adds (after_turns w old.turns) old.disk new.disk asked old.turns note told
+    pub down : is_journal told ≡ true → IsNone new.manager
+    pub adds : IsTrue m.tells → Adds (after_turns w old.turns) old.disk new.disk asked note told
     pub room : IsTrue m.tells → TellsRoom (after_turns w old.turns) (m.seen old.disk) asked note
     pub stands : Stands w began new (notes ++ note ∷ [])
