@@ -1,6 +1,7 @@
 -- How a node's turns end, how the program ends, and what the sink has then.
 -- DCL Dictionary, SHOW QUEUE, on its display. This site's own: the ends of a program, and what each says of the transcript.
 use Rattle.std.specs.Prelude.{◌≡◌, ℕ, Bool, true, false, if◌then◌else◌, List, [], ◌∷◌, ◌++◌, length, flat_map, decimal, codes, None}
+use Rattle.std.specs.List.{AllByRecursion}
 use Rattle.qm_kinds.specs.declared.query.Query.{Query}
 use Rattle.qm_kinds.specs.declared.query.Listing.TheVariants as listing
 use Rattle.qm_kinds.specs.declared.record.Record.{Record}
@@ -12,8 +13,8 @@ use Rattle.qm_history.specs.Course.{Extent, Whole, Begun}
 use Rattle.qm_model.specs.Folding.{system_of}
 use Rattle.qm_history.specs.Master.{MasterState}
 
--- how the turns of a node end: with its leave or while it is stopped; broken off, where the program ended before, by another node
--- or by the sink; or at an answer behind which none can come
+-- how the turns of a node end: with its leave or while it is stopped; broken off, where one thread serves all nodes and stopped
+-- before, by another node's end or by the sink; or at an answer behind which none can come
 pub data NodeEnd : Type 0 where
   Ended : NodeEnd
   BrokenOff : NodeEnd
@@ -102,6 +103,33 @@ worse HistoryFull other = other
 worse DiskFailed Served = DiskFailed
 worse DiskFailed other = other
 worse Served other = other
+
+-- one thread serves all nodes, or each node has a thread of its own
+pub data Threads : Type 0 where
+  OneForAll : Threads
+  OneForEach : Threads
+
+-- Serving ends so where a node was broken off: never with the whole script. A node with a thread of its own goes on to its own end.
+abbrev pub MayBreakOff : Threads → ServingEnd → Type 0
+MayBreakOff OneForEach end = ⊥
+MayBreakOff OneForAll Served = ⊥
+MayBreakOff OneForAll DiskFailed = ⊥
+MayBreakOff OneForAll SinkFailed = Unit {0}
+MayBreakOff OneForAll HistoryFull = Unit {0}
+MayBreakOff OneForAll (Damaged file place) = Unit {0}
+MayBreakOff OneForAll NoMemory = Unit {0}
+
+-- the node can have ended so where serving ended so
+abbrev pub MayEndSo : Threads → ServingEnd → NodeEnd → Type 0
+MayEndSo threads end Ended = Unit {0}
+MayEndSo threads end BrokenOff = MayBreakOff threads end
+MayEndSo threads end TurnsSpent = Unit {0}
+MayEndSo threads end (FileDamaged file place) = Unit {0}
+MayEndSo threads end MemoryShort = Unit {0}
+
+-- each of them can
+abbrev pub AllMayEndSo : Threads → ServingEnd → List NodeEnd → Type 0
+AllMayEndSo threads end ends = AllByRecursion (MayEndSo threads end) ends
 
 -- what the end of a node makes of the program's
 abbrev pub end_of_node : NodeEnd → ServingEnd
