@@ -36,7 +36,7 @@ use Rattle.qm_history.specs.Leaving.{MayBeLeftBehind}
 use Rattle.qm_history.specs.Order.{AreInOrder, nothing_served}
 use Rattle.qm_history.specs.Reading.{read}
 use Rattle.qm_history.specs.Readings.{AreReadings}
-use Rattle.qm_history.specs.Records.{request_record}
+use Rattle.qm_model.specs.Log.{request_record}
 use Rattle.qm_history.specs.Master.{MasterState}
 use Rattle.qm_history.specs.Room.{Room, IsAboveCap, IsRoomTold, HaveRoom, record_need, room_in}
 use Rattle.qm_history.specs.Script.{UserLine, LineSort, Items, Act}

@@ -16,7 +16,7 @@ use Rattle.qm_history.specs.declared.turn.Turn.{Turn}
 use Rattle.qm_history.specs.declared.world.World.{World}
 use Rattle.qm_history.specs.Calls.{input_of, acting}
 use Rattle.qm_history.specs.Faults.{tells_disk_fault}
-use Rattle.qm_history.specs.Folding.{after_record}
+use Rattle.qm_model.specs.Folding.{after_record}
 use Rattle.qm_history.specs.Legal.{after_turn}
 use Rattle.qm_history.specs.Master.{MasterRecord, MasterState, Epoch, Live, master_text}
 use Rattle.qm_model.specs.Log.{request_record, image_of}
