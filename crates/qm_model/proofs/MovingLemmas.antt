@@ -3,7 +3,7 @@ use Rattle.std.proofs.Common.{◌≡◌, ℕ, ◌+◌, ◌≤◌, Bool, true, fa
 use Rattle.std.specs.Option.{option_map_or}
 use Rattle.qm_kinds.specs.declared.entry.Entry.{Entry}
 use Rattle.qm_kinds.specs.declared.request.Request.{Request}
-use Rattle.qm_kinds.specs.declared.request.Request.TheVariants.{Append, InitializeQueue, SetQueue, StartQueue, StopQueue, AbortJob, DeleteQueue, Submit, SetEntry, DeleteEntry, Mark, Done, NodeUp, NodeLost, Took}
+use Rattle.qm_kinds.specs.declared.request.Request.TheVariants.{Append, InitializeQueue, SetQueue, StartQueue, StopQueue, AbortJob, DeleteQueue, Submit, SetEntry, DeleteEntry, Mark, Done, Tick, NodeUp, NodeLost, Took}
 use Rattle.qm_kinds.specs.declared.system.Node.{Node}
 use Rattle.qm_kinds.specs.declared.system.System.{System}
 use Rattle.qm_kinds.specs.declared.entry.EntryState.TheVariants.{Pending}
@@ -135,8 +135,11 @@ built_nodes s now node (StopQueue name how) built = refl
 built_nodes s now node (AbortJob queue entry requeue) built = refl
 built_nodes s now node (DeleteQueue name) built = refl
 built_nodes s now node (Submit job) built = refl
+built_nodes s now node (SetEntry entry change) built =
+    option_nodes s (λ e. entry_set_to s entry (changed_entry s now change e)) (entry_numbered entry s.entries) (replied s (EntryIs entry Pending)) (λ e. refl) refl
 built_nodes s now node (DeleteEntry entry) built = either_nodes s (option_map_or is_executing (entry_numbered entry s.entries) false) _ _ refl refl
 built_nodes s now node (Done run status) built = option_nodes s (reported_of s now run (EndReport status)) (entry_of_run s node run) _ (λ e. refl) refl
+built_nodes s now node Tick built = refl
 built_nodes s now node _ built = cc
 
 pub nodes_are_kept : (s : System) (now node : ℕ) (request : Request) (a : Accepted) → is_built request ≡ true → applied s now node request ≡ Ok a → a.system.nodes ≡ s.nodes

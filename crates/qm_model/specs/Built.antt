@@ -1,14 +1,14 @@
 -- What can be asked of this queue manager so far. DCL Dictionary, DEFINE/FORM, DELETE/FORM, DEFINE/CHARACTERISTIC,
 -- DELETE/CHARACTERISTIC, INITIALIZE/QUEUE, SET QUEUE, START/QUEUE, STOP/QUEUE, DELETE/QUEUE, ASSIGN/MERGE, SUBMIT, PRINT,
--- DELETE/ENTRY and SHOW ENTRY; OpenVMS System Services Reference Manual, $SNDJBC, on the end of a run.
--- This site's own: LINE and FILL add lines to a file, and DROP takes it away.
+-- SET ENTRY, DELETE/ENTRY and SHOW ENTRY; OpenVMS System Services Reference Manual, $SNDJBC, on the end of a run.
+-- This site's own: LINE and FILL add lines to a file, DROP takes it away, and TICK looks at the clock.
 use Rattle.std.specs.Prelude.{ℕ, nat_le, length, List, Bool, true, false, not, ◌&&◌}
 use Rattle.std.specs.Char.{is_ascii_digit}
 use Rattle.std.specs.List.{list_all}
 use Rattle.std.specs.Option.{option_map_or}
 use Rattle.qm_kinds.specs.declared.name.TheConstants.{SHORT_NAME_BYTES}
 use Rattle.qm_kinds.specs.declared.request.Request.{Request}
-use Rattle.qm_kinds.specs.declared.request.Request.TheVariants.{Append, Fill, Drop, DefineForm, DeleteForm, DefineCharacteristic, DeleteCharacteristic, InitializeQueue, SetQueue, StartQueue, StopQueue, AbortJob, DeleteQueue, Merge, Submit, DeleteEntry, Mark, Done, Tick}
+use Rattle.qm_kinds.specs.declared.request.Request.TheVariants.{Append, Fill, Drop, DefineForm, DeleteForm, DefineCharacteristic, DeleteCharacteristic, InitializeQueue, SetQueue, StartQueue, StopQueue, AbortJob, DeleteQueue, Merge, Submit, SetEntry, DeleteEntry, Mark, Done, Tick}
 
 -- a name that a queue, a device and a stock can have
 abbrev pub is_short : List ℕ → Bool
@@ -19,8 +19,8 @@ abbrev pub is_definable : List ℕ → Bool
 is_definable name = is_short name && not (list_all is_ascii_digit name)
 
 -- The requests that are built: files get bytes and lines and are dropped; forms and characteristics are defined and deleted;
--- queues are made, set, started, stopped and deleted; jobs are submitted, moved to another queue, cut short and deleted; and
--- runs end. What is new has a name that it can have, and so have its device and its stock.
+-- queues are made, set, started, stopped and deleted; jobs are submitted, changed, moved to another queue, cut short and
+-- deleted; runs end; and the clock is looked at. What is new has a name that it can have, and so have its device and its stock.
 abbrev pub is_built : Request → Bool
 is_built (Append file bytes) = true
 is_built (Fill file lines) = true
@@ -37,11 +37,13 @@ is_built (AbortJob queue entry requeue) = true
 is_built (DeleteQueue name) = true
 is_built (Merge to from) = true
 is_built (Submit job) = true
+is_built (SetEntry entry change) = true
 is_built (DeleteEntry entry) = true
 is_built (Done run status) = true
+is_built Tick = true
 is_built _ = false
 
--- the requests whose records are spelled: those that are built, a checkpoint of a run, and a look at the clock
+-- the requests whose records are spelled: those that are built, and a checkpoint of a run
 abbrev pub has_record : Request → Bool
 has_record (Append file bytes) = true
 has_record (Fill file lines) = true
@@ -58,6 +60,7 @@ has_record (AbortJob queue entry requeue) = true
 has_record (DeleteQueue name) = true
 has_record (Merge to from) = true
 has_record (Submit job) = true
+has_record (SetEntry entry change) = true
 has_record (DeleteEntry entry) = true
 has_record (Mark run value) = true
 has_record (Done run status) = true
