@@ -2,6 +2,7 @@
 use Rattle.std.proofs.Common.{◌≡◌, ℕ, Bool, List, Option, None, Some, refl, sym, ap, subst, ◌∙◌}
 use Rattle.qm_kinds.specs.declared.request.Request.{Request}
 use Rattle.qm_kinds.specs.declared.request.Request.TheVariants as ask
+use Rattle.qm_kinds.specs.declared.request.EntryChange.{EntryChange}
 use Rattle.qm_kinds.specs.declared.request.Job.{Job}
 use Rattle.qm_kinds.specs.declared.file.FileName.{FileName}
 use Rattle.qm_kinds.specs.declared.queue.Queue.{Queue}
@@ -22,9 +23,9 @@ use Rattle.qm_record.specs.declared.kind.RecordKind.{RecordKind}
 use Rattle.qm_record.specs.declared.kind.RecordKind.TheVariants as record_kind
 use Rattle.qm_record.specs.Kinds.{is_row_kind}
 use Rattle.qm_record.specs.Spelling.{body_parts, fields_in, is_row, RequestFits, BodyFits}
-use Rattle.qm_record.specs.Reading.{append_at, fill_at, drop_at, define_form_at, delete_form_at, define_characteristic_at, delete_characteristic_at, initialize_at, set_queue_at, start_queue_at, stop_queue_at, abort_job_at, delete_queue_at, merge_at, submit_at, delete_entry_at, run_mark_at, done_at, head_at, form_row_at, queue_row_at, body_at}
+use Rattle.qm_record.specs.Reading.{append_at, fill_at, drop_at, define_form_at, delete_form_at, define_characteristic_at, delete_characteristic_at, initialize_at, set_queue_at, start_queue_at, stop_queue_at, abort_job_at, delete_queue_at, merge_at, submit_at, set_entry_at, delete_entry_at, run_mark_at, done_at, head_at, form_row_at, queue_row_at, body_at}
 use Rattle.qm_record.proofs.Codes.{stop_mode_reader}
-use Rattle.qm_record.proofs.Fields.{u16_reader, u32_reader, u64_reader, node_reader, form_reader, characteristic_reader, queue_reader, change_reader, new_queue_reader, job_reader}
+use Rattle.qm_record.proofs.Fields.{u16_reader, u32_reader, u64_reader, node_reader, form_reader, characteristic_reader, queue_reader, change_reader, new_queue_reader, entry_change_reader, job_reader}
 
 -- what a body of each kind is made of
 abbrev Given : RecordKind → Type 0
@@ -43,6 +44,7 @@ Given record_kind.AbortJob = List ℕ × (Option ℕ × (Bool × Unit {0}))
 Given record_kind.DeleteQueue = List ℕ
 Given record_kind.Merge = List ℕ × List ℕ
 Given record_kind.Submit = Job
+Given record_kind.SetEntry = ℕ × EntryChange
 Given record_kind.DeleteEntry = ℕ
 Given record_kind.Mark = ℕ × List ℕ
 Given record_kind.Done = ℕ × ℕ
@@ -67,6 +69,7 @@ body_of record_kind.AbortJob x = body.Ask (ask.AbortJob x.0 x.1.0 x.1.1.0)
 body_of record_kind.DeleteQueue x = body.Ask (ask.DeleteQueue x)
 body_of record_kind.Merge x = body.Ask (ask.Merge x.0 x.1)
 body_of record_kind.Submit x = body.Ask (ask.Submit x)
+body_of record_kind.SetEntry x = body.Ask (ask.SetEntry x.0 x.1)
 body_of record_kind.DeleteEntry x = body.Ask (ask.DeleteEntry x)
 body_of record_kind.Mark x = body.Ask (ask.Mark x.0 x.1)
 body_of record_kind.Done x = body.Ask (ask.Done x.0 x.1)
@@ -97,6 +100,7 @@ kind_of_request (ask.AbortJob queue_name entry requeue) fits =
 kind_of_request (ask.DeleteQueue name) fits = made_of record_kind.DeleteQueue name refl refl refl
 kind_of_request (ask.Merge to from) fits = made_of record_kind.Merge (to, from) refl refl refl
 kind_of_request (ask.Submit j) fits = made_of record_kind.Submit j refl refl refl
+kind_of_request (ask.SetEntry entry change) fits = made_of record_kind.SetEntry (entry, change) refl refl refl
 kind_of_request (ask.DeleteEntry entry) fits = made_of record_kind.DeleteEntry entry refl refl refl
 kind_of_request (ask.Mark run value) fits = made_of record_kind.Mark (run, value) refl refl refl
 kind_of_request (ask.Done run status) fits = made_of record_kind.Done (run, status) refl refl refl
@@ -184,7 +188,7 @@ reads {k} {Fit} {text} reader parts_are fit =
 -- ---- the body of each kind
 
 reader_of : (k : RecordKind) → IsReader (BodyAt k) (body_at k)
-unfolding body_at append_at fill_at drop_at define_form_at delete_form_at define_characteristic_at delete_characteristic_at initialize_at set_queue_at start_queue_at stop_queue_at abort_job_at delete_queue_at merge_at submit_at delete_entry_at run_mark_at done_at head_at form_row_at queue_row_at
+unfolding body_at append_at fill_at drop_at define_form_at delete_form_at define_characteristic_at delete_characteristic_at initialize_at set_queue_at start_queue_at stop_queue_at abort_job_at delete_queue_at merge_at submit_at set_entry_at delete_entry_at run_mark_at done_at head_at form_row_at queue_row_at
 reader_of record_kind.Append =
     reads (file_name_reader ⊗ λ file fits. long_bytes_reader ⊗ λ bytes bytes_fit. composed (fits, bytes_fit))
     (λ x. refl) (λ x fits. fits.0 & fits.1 & tt)
@@ -210,6 +214,8 @@ reader_of record_kind.DeleteQueue = reads (ends name_reader (λ x fits. fits)) (
 reader_of record_kind.Merge =
     reads (name_reader ⊗ λ to fits. ends name_reader (λ from from_fits. (fits, from_fits))) (λ x. refl) (λ x fits. fits)
 reader_of record_kind.Submit = reads (ends job_reader (λ x fits. fits)) (λ x. refl) (λ x fits. fits)
+reader_of record_kind.SetEntry =
+    reads (u32_reader ⊗ λ entry fits. ends entry_change_reader (λ change change_fits. (fits, change_fits))) (λ x. refl) (λ x fits. fits)
 reader_of record_kind.DeleteEntry = reads (ends u32_reader (λ x fits. fits)) (λ x. refl) (λ x fits. fits)
 reader_of record_kind.Mark =
     reads (u64_reader ⊗ λ run fits. ends mark_reader (λ value value_fits. (fits, value_fits))) (λ x. refl) (λ x fits. fits)

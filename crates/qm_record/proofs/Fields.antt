@@ -10,8 +10,8 @@ use Rattle.qm_bytes.specs.Spelling.{low_first, byte, short_bytes, moment, IsName
 use Rattle.qm_bytes.proofs.Readers.{Then, Made, Last, Passes, made, after, last, said, byte_reader}
 use Rattle.qm_bytes.proofs.Products.{◌&◌, ◌⊗◌, composed, ends, of_fields}
 use Rattle.qm_bytes.proofs.Fields.{lies_between, passes_between, number_reader, truth_reader, optional_reader, list_reader, name_reader, file_name_reader, set_reader, moment_reader}
-use Rattle.qm_record.specs.Spelling.{IsByte, job_retain, name_or_number, node, shape, form, characteristic, queue, queue_retain, limits, queue_change, new_queue, job_text, RetainFits, NameOrNumberFits, NodeFits, ShapeFits, FormFits, CharacteristicFits, QueueFits, LimitsFit, ChangeFits, NewQueueFits, JobFits}
-use Rattle.qm_record.specs.Reading.{byte_at, plain_retain_of, job_retain_at, name_or_number_at, node_at, shape_at, form_at, characteristic_at, queue_at, queue_retain_at, limits_at, change_at, new_queue_at, job_at}
+use Rattle.qm_record.specs.Spelling.{IsByte, job_retain, name_or_number, node, shape, form, characteristic, queue, queue_retain, limits, queue_change, new_queue, entry_change, job_text, RetainFits, NameOrNumberFits, NodeFits, ShapeFits, FormFits, CharacteristicFits, QueueFits, LimitsFit, ChangeFits, NewQueueFits, EntryChangeFits, JobFits}
+use Rattle.qm_record.specs.Reading.{byte_at, plain_retain_of, job_retain_at, name_or_number_at, node_at, shape_at, form_at, characteristic_at, queue_at, queue_retain_at, limits_at, change_at, new_queue_at, entry_change_at, job_at}
 use Rattle.qm_record.proofs.Codes.{job_kind_reader, queue_kind_reader, queue_state_reader, queue_retain_reader}
 
 -- ---- numbers
@@ -265,3 +265,29 @@ job_reader =
     (λ j. refl) (λ p fits. refl)
     (λ j fits. fits.user_fits & tt & fits.queue_fits & fits.file_fits & fits.name_fits & fits.priority_fits & fits.after_fits & tt
     & fits.retain_fits & tt & fits.characteristics_fit & fits.form_fits & fits.copies_fits & tt & tt)
+
+-- ---- what is changed of entries
+
+pub entry_change_reader : IsReader (Spells EntryChangeFits entry_change) entry_change_at
+unfolding entry_change_at
+entry_change_reader =
+    of_fields
+    (λ c. c.release & c.hold & c.after & c.priority & c.name & c.characteristics & c.form & c.queue & c.restart & c.retain & tt)
+    (truth_reader ⊗ λ release release_fits. truth_reader ⊗ λ hold hold_fits.
+    optional_reader (optional_reader moment_reader) ⊗ λ not_before after_fits.
+    optional_reader one_byte_reader ⊗ λ priority priority_fits. optional_reader name_reader ⊗ λ name name_fits.
+    optional_reader (list_reader name_or_number_reader) ⊗ λ characteristics characteristics_fit.
+    optional_reader name_or_number_reader ⊗ λ stock form_fits. optional_reader name_reader ⊗ λ home queue_fits.
+    optional_reader truth_reader ⊗ λ restart restart_fits. optional_reader job_retain_reader ⊗ λ kept retain_fits.
+    composed (record {
+      after_fits = after_fits;
+      priority_fits = priority_fits;
+      name_fits = name_fits;
+      characteristics_fit = characteristics_fit;
+      form_fits = form_fits;
+      queue_fits = queue_fits;
+      retain_fits = retain_fits;
+    }))
+    (λ c. refl) (λ p fits. refl)
+    (λ c fits. tt & tt & fits.after_fits & fits.priority_fits & fits.name_fits & fits.characteristics_fit & fits.form_fits
+    & fits.queue_fits & anything c.restart & fits.retain_fits & tt)

@@ -5,7 +5,7 @@ use Rattle.qm_bytes.specs.Laws.{Spells, Stops, IsReader}
 use Rattle.qm_bytes.specs.Spelling.{byte}
 use Rattle.qm_bytes.proofs.Readers.{same_value, same_rest}
 use Rattle.qm_record.specs.declared.kind.RecordKind.{RecordKind}
-use Rattle.qm_record.specs.declared.kind.RecordKind.TheVariants.{Append, Fill, Drop, DefineForm, DeleteForm, DefineCharacteristic, DeleteCharacteristic, InitializeQueue, SetQueue, StartQueue, StopQueue, AbortJob, DeleteQueue, Merge, Submit, DeleteEntry, Mark, Done, Tick, Head, Form, Queue}
+use Rattle.qm_record.specs.declared.kind.RecordKind.TheVariants.{Append, Fill, Drop, DefineForm, DeleteForm, DefineCharacteristic, DeleteCharacteristic, InitializeQueue, SetQueue, StartQueue, StopQueue, AbortJob, DeleteQueue, Merge, Submit, SetEntry, DeleteEntry, Mark, Done, Tick, Head, Form, Queue}
 use Rattle.qm_record.specs.Kinds.{number_of, kind_of}
 use Rattle.qm_record.specs.Reading.{told, record_kind_at}
 
@@ -25,6 +25,7 @@ kind_again AbortJob = refl
 kind_again DeleteQueue = refl
 kind_again Merge = refl
 kind_again Submit = refl
+kind_again SetEntry = refl
 kind_again DeleteEntry = refl
 kind_again Mark = refl
 kind_again Done = refl
@@ -69,6 +70,7 @@ number_back n k =
     (tells n DeleteQueue k
     (tells n Merge k
     (tells n Submit k
+    (tells n SetEntry k
     (tells n DeleteEntry k
     (tells n Mark k
     (tells n Done k
@@ -76,7 +78,7 @@ number_back n k =
     (tells n Head k
     (tells n Form k
     (tells n Queue k
-    (tells_none n k))))))))))))))))))))))
+    (tells_none n k)))))))))))))))))))))))
 
 abbrev pub KindSpelled : RecordKind → List ℕ → Type 0
 KindSpelled = Spells (λ k. Unit {0}) (λ k. byte (number_of k))

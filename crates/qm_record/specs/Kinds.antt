@@ -1,7 +1,7 @@
 -- The kinds of records and their numbers.
 use Rattle.std.specs.Prelude.{ℕ, ◌==◌, Bool, true, false, if◌then◌else◌, Option, None, Some}
 use Rattle.qm_record.specs.declared.kind.RecordKind.{RecordKind}
-use Rattle.qm_record.specs.declared.kind.RecordKind.TheVariants.{Append, Fill, Drop, DefineForm, DeleteForm, DefineCharacteristic, DeleteCharacteristic, InitializeQueue, SetQueue, StartQueue, StopQueue, AbortJob, DeleteQueue, Merge, Submit, DeleteEntry, Mark, Done, Tick, Head, Form, Queue}
+use Rattle.qm_record.specs.declared.kind.RecordKind.TheVariants.{Append, Fill, Drop, DefineForm, DeleteForm, DefineCharacteristic, DeleteCharacteristic, InitializeQueue, SetQueue, StartQueue, StopQueue, AbortJob, DeleteQueue, Merge, Submit, SetEntry, DeleteEntry, Mark, Done, Tick, Head, Form, Queue}
 
 -- the number of each kind: of requests up to 32, of the rows of an image from 33 on
 abbrev pub number_of : RecordKind → ℕ
@@ -20,6 +20,7 @@ number_of AbortJob = 12
 number_of DeleteQueue = 13
 number_of Merge = 14
 number_of Submit = 15
+number_of SetEntry = 16
 number_of DeleteEntry = 17
 number_of Mark = 18
 number_of Done = 19
@@ -46,6 +47,7 @@ kind_of n =
     if n == 13 then Some DeleteQueue else
     if n == 14 then Some Merge else
     if n == 15 then Some Submit else
+    if n == 16 then Some SetEntry else
     if n == 17 then Some DeleteEntry else
     if n == 18 then Some Mark else
     if n == 19 then Some Done else
@@ -72,6 +74,7 @@ is_row_kind AbortJob = false
 is_row_kind DeleteQueue = false
 is_row_kind Merge = false
 is_row_kind Submit = false
+is_row_kind SetEntry = false
 is_row_kind DeleteEntry = false
 is_row_kind Mark = false
 is_row_kind Done = false

@@ -1,6 +1,7 @@
 -- Reading records.
 use Rattle.std.specs.Prelude.{◌≡◌, ℕ, suc, ◌-◌, ◌==◌, if◌then◌else◌, List, [], ◌∷◌, length, Option, None, Some, Result, Ok, Err}
 use Rattle.qm_kinds.specs.declared.request.Request.TheVariants as ask
+use Rattle.qm_kinds.specs.declared.request.EntryChange.{EntryChange}
 use Rattle.qm_kinds.specs.declared.request.Job.{Job}
 use Rattle.qm_kinds.specs.declared.request.NameOrNumber.{NameOrNumber}
 use Rattle.qm_kinds.specs.declared.request.NameOrNumber.TheVariants.{Name, Number}
@@ -300,6 +301,37 @@ merge_at = do
   from ← name_at
   pure (body.Ask (ask.Merge to from))
 
+unfoldable pub entry_change_at : Reader EntryChange
+entry_change_at = do
+  release ← truth_at
+  hold ← truth_at
+  after ← optional_at (optional_at moment_at)
+  priority ← optional_at byte_at
+  name ← optional_at name_at
+  characteristics ← optional_at (list_at name_or_number_at)
+  form ← optional_at name_or_number_at
+  queue ← optional_at name_at
+  restart ← optional_at truth_at
+  retain ← optional_at job_retain_at
+  pure (record {
+    release = release;
+    hold = hold;
+    after = after;
+    priority = priority;
+    name = name;
+    characteristics = characteristics;
+    form = form;
+    queue = queue;
+    restart = restart;
+    retain = retain;
+  })
+
+unfoldable pub set_entry_at : Reader Body
+set_entry_at = do
+  entry ← number_at 4
+  change ← entry_change_at
+  pure (body.Ask (ask.SetEntry entry change))
+
 unfoldable pub delete_entry_at : Reader Body
 delete_entry_at = number_at 4 >>= λ entry. pure (body.Ask (ask.DeleteEntry entry))
 
@@ -347,6 +379,7 @@ body_at record_kind.AbortJob = abort_job_at
 body_at record_kind.DeleteQueue = delete_queue_at
 body_at record_kind.Merge = merge_at
 body_at record_kind.Submit = submit_at
+body_at record_kind.SetEntry = set_entry_at
 body_at record_kind.DeleteEntry = delete_entry_at
 body_at record_kind.Mark = run_mark_at
 body_at record_kind.Done = done_at

@@ -2,6 +2,7 @@
 use Rattle.std.specs.Prelude.{◌≡◌, ℕ, ◌<◌, ◌^◌, Bool, true, false, List, [], ◌∷◌, ◌++◌, length, Option, None, Some}
 use Rattle.qm_kinds.specs.declared.request.Request.{Request}
 use Rattle.qm_kinds.specs.declared.request.Request.TheVariants as ask
+use Rattle.qm_kinds.specs.declared.request.EntryChange.{EntryChange}
 use Rattle.qm_kinds.specs.declared.request.Job.{Job}
 use Rattle.qm_kinds.specs.declared.request.NameOrNumber.{NameOrNumber}
 use Rattle.qm_kinds.specs.declared.request.NameOrNumber.TheVariants.{Name, Number}
@@ -112,6 +113,13 @@ new_queue n = fields (
     short_bytes n.name ∷ byte (queue_kind_code n.kind) ∷ optional short_bytes n.node ∷ optional short_bytes n.device ∷
     list short_bytes n.targets ∷ queue_change n.change ∷ truth n.start ∷ [])
 
+-- what is changed of an entry
+abbrev pub entry_change : EntryChange → List ℕ
+entry_change c = fields (
+    truth c.release ∷ truth c.hold ∷ optional (optional moment) c.after ∷ optional byte c.priority ∷ optional short_bytes c.name ∷
+    optional (list name_or_number) c.characteristics ∷ optional name_or_number c.form ∷ optional short_bytes c.queue ∷
+    optional truth c.restart ∷ optional job_retain c.retain ∷ [])
+
 -- ---- records
 
 -- the fields of a job, in their order
@@ -147,7 +155,7 @@ request_parts (ask.AbortJob queue_name entry requeue) = Some (record_kind.AbortJ
 request_parts (ask.DeleteQueue name) = Some (record_kind.DeleteQueue, short_bytes name)
 request_parts (ask.Merge to from) = Some (record_kind.Merge, short_bytes to ++ short_bytes from)
 request_parts (ask.Submit j) = Some (record_kind.Submit, job_text j)
-request_parts (ask.SetEntry entry change) = None
+request_parts (ask.SetEntry entry change) = Some (record_kind.SetEntry, low_first 4 entry ++ entry_change change)
 request_parts (ask.DeleteEntry entry) = Some (record_kind.DeleteEntry, low_first 4 entry)
 request_parts (ask.Mark run value) = Some (record_kind.Mark, low_first 8 run ++ short_bytes value)
 request_parts (ask.Done run status) = Some (record_kind.Done, low_first 8 run ++ low_first 4 status)
@@ -258,6 +266,15 @@ pub record NewQueueFits (n : NewQueue) : Type 0 where
   pub targets_fit : IsList IsName n.targets
   pub change_fits : ChangeFits n.change
 
+pub record EntryChangeFits (c : EntryChange) : Type 0 where
+  pub after_fits : AllOf (AllOf IsMoment) c.after
+  pub priority_fits : AllOf IsByte c.priority
+  pub name_fits : AllOf IsName c.name
+  pub characteristics_fit : AllOf (IsList NameOrNumberFits) c.characteristics
+  pub form_fits : AllOf NameOrNumberFits c.form
+  pub queue_fits : AllOf IsName c.queue
+  pub retain_fits : AllOf RetainFits c.retain
+
 abbrev pub IsEntryNumber : ℕ → Type 0
 IsEntryNumber n = n < 2 ^ 32
 
@@ -277,6 +294,7 @@ RequestFits (ask.AbortJob queue_name entry requeue) = IsName queue_name × AllOf
 RequestFits (ask.DeleteQueue name) = IsName name
 RequestFits (ask.Merge to from) = IsName to × IsName from
 RequestFits (ask.Submit j) = JobFits j
+RequestFits (ask.SetEntry entry change) = IsEntryNumber entry × EntryChangeFits change
 RequestFits (ask.DeleteEntry entry) = IsEntryNumber entry
 RequestFits (ask.Mark run value) = (run < 2 ^ 64) × IsMark value
 RequestFits (ask.Done run status) = (run < 2 ^ 64) × (status < 2 ^ 32)
@@ -314,6 +332,9 @@ pub record HasSpelling (r : Record) : Type 0 where
 abbrev pub IsShortChange : QueueChange → Type 0
 IsShortChange c = AllOf (λ (xs : List NameOrNumber). length xs < 2 ^ 16) c.characteristics
 
+abbrev pub IsShortEntryChange : EntryChange → Type 0
+IsShortEntryChange c = AllOf (λ (xs : List NameOrNumber). length xs < 2 ^ 16) c.characteristics
+
 pub record IsShortQueue (n : NewQueue) : Type 0 where
   pub targets : length n.targets < 2 ^ 16
   pub change : IsShortChange n.change
@@ -325,6 +346,7 @@ AreListsShort (ask.InitializeQueue new) = IsShortQueue new
 AreListsShort (ask.SetQueue name change) = IsShortChange change
 AreListsShort (ask.StartQueue name change) = IsShortChange change
 AreListsShort (ask.Submit j) = length j.characteristics < 2 ^ 16
+AreListsShort (ask.SetEntry entry change) = IsShortEntryChange change
 AreListsShort other = Unit {0}
 
 -- What is asked of a request whose record is written.

@@ -1,19 +1,20 @@
 // What lists and optional fields are made of.
 ghost use Rattle.std.specs.Prelude.{◌≡◌, ◌<◌, ◌^◌, ◌++◌, ℕ, List, length, OnOk, IfOk};
 ghost use Rattle.std.specs.List.{AllByRecursion};
-ghost use Rattle.qm_bytes.specs.Spelling.{short_bytes, low_first, byte, truth, each, list, optional, IsName, IsList, AllOf};
-ghost use Rattle.qm_bytes.specs.Reading.{Reader, Gives, GivesKept, name_at, number_at, truth_at, list_at, optional_at, repeat_at};
-ghost use Rattle.qm_record.specs.Spelling.{node, name_or_number, queue_retain, limits, IsByte, IsEntryNumber, NodeFits, NameOrNumberFits, LimitsFit};
-ghost use Rattle.qm_record.specs.Reading.{Passes, byte_at, node_at, name_or_number_at, queue_retain_at, limits_at};
+ghost use Rattle.qm_bytes.specs.Spelling.{short_bytes, low_first, byte, truth, moment, each, list, optional, IsName, IsMoment, IsList, AllOf};
+ghost use Rattle.qm_bytes.specs.Reading.{Reader, Gives, GivesKept, name_at, number_at, truth_at, moment_at, list_at, optional_at, repeat_at};
+ghost use Rattle.qm_record.specs.Spelling.{node, name_or_number, queue_retain, job_retain, limits, IsByte, IsEntryNumber, NodeFits, NameOrNumberFits, RetainFits, LimitsFit};
+ghost use Rattle.qm_record.specs.Reading.{Passes, byte_at, node_at, name_or_number_at, queue_retain_at, job_retain_at, limits_at};
 
 use crate::field::{
-    put_limits, put_name_or_number, put_node, queue_retain_code, read_limits, read_name_or_number,
-    read_node, read_queue_retain,
+    put_job_retain, put_limits, put_name_or_number, put_node, queue_retain_code, read_job_retain,
+    read_limits, read_name_or_number, read_node, read_queue_retain,
 };
 use qm_bytes::{
-    BadField, Width, put_name, put_number, put_truth, read_byte, read_name, read_number, read_truth,
+    BadField, Width, put_name, put_number, put_optional_moment, put_truth, read_byte, read_name,
+    read_number, read_optional_moment, read_truth,
 };
-use qm_kinds::{Name, NameOrNumber, Node, QueueRetain, Seq};
+use qm_kinds::{JobRetain, Moment, Name, NameOrNumber, Node, QueueRetain, Seq};
 use std::alloc::{AllocError, Global};
 
 /// A value that is read and written as a field.
@@ -146,6 +147,39 @@ impl Element for QueueRetain {
     fn put(&self, out: &mut Vec<u8>) -> Result<(), AllocError> {
         out.push(queue_retain_code(*self))?;
         Ok(())
+    }
+}
+
+impl Element for JobRetain {
+    ghost fits = { RetainFits };
+
+    ghost spelling = { job_retain };
+
+    ghost reading = { job_retain_at };
+
+    fn read(bytes: &mut &[u8]) -> Result<JobRetain, BadField> {
+        read_job_retain(bytes)
+    }
+
+    fn put(&self, out: &mut Vec<u8>) -> Result<(), AllocError> {
+        put_job_retain(out, self)
+    }
+}
+
+// A moment, or that there is none.
+impl Element for Option<Moment> {
+    ghost fits = { AllOf IsMoment };
+
+    ghost spelling = { optional moment };
+
+    ghost reading = { optional_at moment_at };
+
+    fn read(bytes: &mut &[u8]) -> Result<Option<Moment>, BadField> {
+        read_optional_moment(bytes)
+    }
+
+    fn put(&self, out: &mut Vec<u8>) -> Result<(), AllocError> {
+        put_optional_moment(out, *self)
     }
 }
 

@@ -3,6 +3,7 @@
 
 mod definition_request;
 mod element;
+mod entry_request;
 mod fault;
 mod field;
 mod file_request;

@@ -10,6 +10,7 @@ ghost use Rattle.qm_record.specs.Faults.{IsRead, IsRecord, IsFirstFault};
 use crate::definition_request::{
     read_define_characteristic, read_define_form, read_delete_characteristic, read_delete_form,
 };
+use crate::entry_request::{read_delete_entry, read_set_entry};
 use crate::fault::RecordFault;
 use crate::file_request::{read_append, read_drop, read_fill};
 use crate::kind::RecordKind;
@@ -17,7 +18,7 @@ use crate::queue_request::{
     read_abort_job, read_delete_queue, read_initialize, read_merge, read_set_queue,
     read_start_queue, read_stop_queue,
 };
-use crate::request::{read_delete_entry, read_done, read_run_mark, read_submit};
+use crate::request::{read_done, read_run_mark, read_submit};
 use crate::row::{read_form_row, read_head, read_queue_row};
 use qm_bytes::{BadField, Width, read_byte, read_number_up_to};
 use qm_kinds::{Body, LAST_MOMENT, Moment, Record, Request};
@@ -67,6 +68,7 @@ fn read_body(
         RecordKind::DeleteQueue => read_delete_queue(bytes),
         RecordKind::Merge => read_merge(bytes),
         RecordKind::Submit => read_submit(alloc, bytes),
+        RecordKind::SetEntry => read_set_entry(alloc, bytes),
         RecordKind::DeleteEntry => read_delete_entry(bytes),
         RecordKind::Mark => read_run_mark(bytes),
         RecordKind::Done => read_done(bytes),

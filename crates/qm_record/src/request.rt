@@ -4,10 +4,11 @@ ghost use Rattle.qm_bytes.specs.Spelling.{short_bytes, low_first, IsMoment, IsMa
 ghost use Rattle.qm_bytes.specs.Reading.{Gives, GivesKept};
 ghost use Rattle.qm_model.specs.Built.{has_record};
 ghost use Rattle.qm_record.specs.Spelling.{job_text, front, fields_in, text_of, request_parts, JobFits, RequestFits, CanBeRecorded};
-ghost use Rattle.qm_record.specs.Reading.{submit_at, delete_entry_at, run_mark_at, done_at};
+ghost use Rattle.qm_record.specs.Reading.{submit_at, run_mark_at, done_at};
 
 use crate::definition_request::put_characteristic;
 use crate::element::{put_list, put_optional, read_list, read_optional};
+use crate::entry_request::put_set_entry;
 use crate::field::{job_kind_code, put_job_retain, read_job_kind, read_job_retain};
 use crate::file_request::{put_append, put_fill};
 use crate::kind::RecordKind;
@@ -59,6 +60,7 @@ fn kind_of(request: &Request) -> RecordKind
         Request::DeleteQueue { .. } => RecordKind::DeleteQueue,
         Request::Merge { .. } => RecordKind::Merge,
         Request::Submit(_) => RecordKind::Submit,
+        Request::SetEntry { .. } => RecordKind::SetEntry,
         Request::DeleteEntry { .. } => RecordKind::DeleteEntry,
         Request::Mark { .. } => RecordKind::Mark,
         Request::Done { .. } => RecordKind::Done,
@@ -111,6 +113,7 @@ fn put_fields(out: &mut Vec<u8>, request: &Request) -> Result<(), AllocError>
         } => put_abort(out, queue, entry, *requeue),
         Request::Merge { to, from } => put_merge(out, to, from),
         Request::Submit(job) => put_submit(out, job),
+        Request::SetEntry { entry, change } => put_set_entry(out, *entry, change),
         Request::DeleteEntry { entry } => put_number(out, Width::Four, u64::from(*entry)),
         Request::Mark { run, value } => put_run_mark(out, *run, value),
         Request::Done { run, status } => put_done(out, *run, *status),
@@ -204,18 +207,6 @@ pub(crate) fn read_submit(
         })))),
         Err(fault) => Ok(Err(fault)),
     }
-}
-
-/// Reads the fields of a request to delete an entry.
-#[tactic(auto, unfolding(crate::specs::Reading::delete_entry_at))]
-#[inline(never)]
-pub(crate) fn read_delete_entry(bytes: &mut &[u8]) -> Result<Result<Body, AllocError>, BadField>
-    ensures { GivesKept result bytes.new.now (delete_entry_at bytes.old.now) }
-{
-    let entry = read_number(bytes, Width::Four)?;
-    Ok(Ok(Body::Ask(Request::DeleteEntry {
-        entry: entry as u32,
-    })))
 }
 
 /// Reads the fields of the report of a mark.
