@@ -15,3 +15,4 @@ pub mod Handing
 pub mod Ready
 pub mod Committed
 pub mod Asking
+pub mod Changed

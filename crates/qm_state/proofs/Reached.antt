@@ -4,7 +4,7 @@ use Rattle.std.specs.List.{All}
 use Rattle.std.specs.Option.{option_map_or}
 use Rattle.std.specs.Str.{bytes_eq}
 use Rattle.std.proofs.lemmas.Bool.Decides.{nat_tests}
-use Rattle.std.proofs.lemmas.List.Elements.{All-weaker}
+use Rattle.std.proofs.lemmas.List.Elements.{All-filter, All-map, All-weaker}
 use Rattle.qm_kinds.specs.declared.entry.Entry.{Entry}
 use Rattle.qm_kinds.specs.declared.entry.EntryState.{EntryState}
 use Rattle.qm_kinds.specs.declared.entry.EntryState.TheVariants.{Pending, Holding, Timed, Running, Aborting, Retained}
@@ -71,3 +71,11 @@ no_run_found name now es none = none_left (runs_for name) (λ (e : Entry). not (
 -- no entry that is left names a file that none named
 pub unnamed_found : (name : FileName) (now : ℕ) (es : List Entry) → find (λ e. same_file_name e.file name) es ≡ None → find (λ e. same_file_name e.file name) (map (entry_at now) (filter (λ e. not (is_over now e.state)) es)) ≡ None
 unnamed_found name now es none = none_left (λ (e : Entry). same_file_name e.file name) (λ (e : Entry). not (is_over now e.state)) (entry_at now) (λ e. refl) es none
+
+-- each entry that is left names the file that it named
+abbrev pub NamesItsFile : Entry → Entry → Type 0
+NamesItsFile entry e = e.number ≡ entry.number → e.file ≡ entry.file
+
+pub file_found : (entry : Entry) (now : ℕ) (es : List Entry) → All (NamesItsFile entry) es → All (NamesItsFile entry) (map (entry_at now) (filter (λ e. not (is_over now e.state)) es))
+file_found entry now es all =
+    All-map (NamesItsFile entry) (entry_at now) (filter (λ e. not (is_over now e.state)) es) (All-filter (λ e. not (is_over now e.state)) (NamesItsFile entry) es all)

@@ -1,5 +1,6 @@
 -- A change that can be made on an image can still be made on one that has lost entries, and no more.
 use Rattle.std.proofs.Common.{◌≡◌, ◌∙◌, ℕ, ◌≤◌, ◌<◌, false, not, List, length, filter, find, map, None, refl, sym, ap, subst, arith}
+use Rattle.std.specs.List.{All}
 use Rattle.std.specs.Option.{IsSome}
 use Rattle.std.proofs.lemmas.List.{length-map}
 use Rattle.std.proofs.lemmas.List.Filters.{length-filter_both}
@@ -14,10 +15,10 @@ use Rattle.qm_model.specs.Forms.{is_form_taken}
 use Rattle.qm_model.specs.Queues.{runs_for}
 use Rattle.qm_sched.specs.Tables.{Tables}
 use Rattle.qm_spool.specs.Kept.{Kept, HasRoomFor}
-use Rattle.qm_state.proofs.Reached.{no_run_found, unnamed_found}
+use Rattle.qm_state.proofs.Reached.{NamesItsFile, file_found, no_run_found, unnamed_found}
 use Rattle.qm_state.specs.declared.image.Image.{Image}
 use Rattle.qm_state.specs.declared.prepared.Change.{Change}
-use Rattle.qm_state.specs.declared.prepared.Change.TheVariants.{NewFile, MoreBytes, MoreLines, RemoveFile, NewForm, RemoveForm, NewCharacteristic, RemoveCharacteristic, NewEntry, PutQueue, SetQueue, StopQueue, CutShort, RemoveQueue, Merge, RemoveEntry, EndRun}
+use Rattle.qm_state.specs.declared.prepared.Change.TheVariants.{NewFile, MoreBytes, MoreLines, RemoveFile, NewForm, RemoveForm, NewCharacteristic, RemoveCharacteristic, NewEntry, PutQueue, SetQueue, StopQueue, CutShort, RemoveQueue, Merge, ReplaceEntry, RemoveEntry, EndRun, Tick}
 use Rattle.qm_state.specs.Image.{system_of}
 use Rattle.qm_state.specs.Preparing.{found, IsReady}
 
@@ -29,6 +30,7 @@ record IsLeft (old new : Image) : Type 0 where
   fewer : length new.parts.entries ≤ length old.parts.entries
   unnamed : (name : FileName) → find (λ e. same_file_name e.file name) old.parts.entries ≡ None → find (λ e. same_file_name e.file name) new.parts.entries ≡ None
   without_run : (name : List ℕ) → find (runs_for name) old.parts.entries ≡ None → find (runs_for name) new.parts.entries ≡ None
+  with_file : (entry : Entry) → All (NamesItsFile entry) old.parts.entries → All (NamesItsFile entry) new.parts.entries
 
 module _ (old new : Image) (left : IsLeft old new) where
   of_files : (P : Kept → Type 0) → P (record old.spool { counts = new.spool.counts }) → P new.spool
@@ -71,14 +73,16 @@ module _ (old new : Image) (left : IsLeft old new) where
   ready_left (CutShort entry fate) h = tt
   ready_left (RemoveQueue name) h = left.without_run name h
   ready_left (Merge to from) h = tt
+  ready_left (ReplaceEntry entry) h = record { idle = h.idle; file = left.with_file entry h.file }
   ready_left (RemoveEntry entry) h = tt
   ready_left (EndRun run status) h = tt
+  ready_left Tick h = tt
 
 -- room for runs alone
 pub ready_with_runs : (old new : Image) (n : ℕ) → new ≡ record old { parts = record old.parts { spare_runs = n } } → (change : Change) → IsReady old change → IsReady new change
 ready_with_runs old new n is change h =
     subst (λ (i : Image). IsReady i change) (sym is) (ready_left old (record old { parts = record old.parts { spare_runs = n } })
-    (record { files = refl; tables = refl; next = refl; fewer = omega arith; unnamed = λ name none. none; without_run = λ name none. none }) change h)
+    (record { files = refl; tables = refl; next = refl; fewer = omega arith; unnamed = λ name none. none; without_run = λ name none. none; with_file = λ entry all. all }) change h)
 
 -- what the moment finds
 module _ (now : ℕ) (old new : Image) (rows : system_of new ≡ found now (system_of old)) (files : new.spool ≡ record old.spool { counts = new.spool.counts })
@@ -107,4 +111,5 @@ module _ (now : ℕ) (old new : Image) (rows : system_of new ≡ found now (syst
     fewer = no_more;
     unnamed = λ name none. subst (λ (es : List Entry). find (λ e. same_file_name e.file name) es ≡ None) (sym entries_are) (unnamed_found name now old.parts.entries none);
     without_run = λ name none. subst (λ (es : List Entry). find (runs_for name) es ≡ None) (sym entries_are) (no_run_found name now old.parts.entries none);
+    with_file = λ entry all. subst (All (NamesItsFile entry)) (sym entries_are) (file_found entry now old.parts.entries all);
   })

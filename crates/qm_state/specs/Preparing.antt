@@ -1,5 +1,5 @@
 -- Changes that are decided, and for which memory is taken.
-use Rattle.std.specs.Prelude.{◌≡◌, ◌<◌, ◌≤◌, ◌+◌, ◌^◌, ℕ, false, List, [], ◌∷◌, ◌++◌, length, find, Option, None, IfSome, IsSome, vec_capacity}
+use Rattle.std.specs.Prelude.{◌≡◌, ◌<◌, ◌≤◌, ◌+◌, ◌^◌, ℕ, false, List, [], ◌∷◌, ◌++◌, length, find, All, Option, None, IfSome, IsSome, vec_capacity}
 use Rattle.qm_kinds.specs.declared.entry.Entry.{Entry}
 use Rattle.qm_kinds.specs.declared.file.FileName.{FileName}
 use Rattle.qm_kinds.specs.declared.form.Characteristic.{Characteristic}
@@ -14,11 +14,13 @@ use Rattle.qm_model.specs.Applied.{at_moment, completed}
 use Rattle.qm_model.specs.Consistent.{IsConsistent}
 use Rattle.qm_model.specs.Due.{due}
 use Rattle.qm_model.specs.Characteristics.{is_characteristic_taken, characteristic_defined, characteristic_deleted}
+use Rattle.qm_model.specs.Entries.{entry_set_to}
 use Rattle.qm_model.specs.Filing.{dropped}
 use Rattle.qm_model.specs.Find.{file_named, same_file_name}
 use Rattle.qm_model.specs.Forms.{is_form_taken, form_defined, form_deleted}
 use Rattle.qm_model.specs.JobStates.{run_of}
 use Rattle.qm_model.specs.Merging.{merged}
+use Rattle.qm_model.specs.Nodes.{ticked}
 use Rattle.qm_model.specs.Outcome.{Accepted}
 use Rattle.qm_model.specs.Queues.{queue_deleted, runs_for}
 use Rattle.qm_model.specs.Replying.{replied, replied_with_queue}
@@ -34,7 +36,7 @@ use Rattle.qm_spool.specs.Kept.{HasRoomFor}
 use Rattle.qm_state.specs.declared.image.Image.{Image}
 use Rattle.qm_state.specs.declared.prepared.Prepared.{Prepared}
 use Rattle.qm_state.specs.declared.prepared.Change.{Change}
-use Rattle.qm_state.specs.declared.prepared.Change.TheVariants.{NewFile, MoreBytes, MoreLines, RemoveFile, NewForm, RemoveForm, NewCharacteristic, RemoveCharacteristic, NewEntry, PutQueue, SetQueue, StopQueue, CutShort, RemoveQueue, Merge, RemoveEntry, EndRun}
+use Rattle.qm_state.specs.declared.prepared.Change.TheVariants.{NewFile, MoreBytes, MoreLines, RemoveFile, NewForm, RemoveForm, NewCharacteristic, RemoveCharacteristic, NewEntry, PutQueue, SetQueue, StopQueue, CutShort, RemoveQueue, Merge, ReplaceEntry, RemoveEntry, EndRun, Tick}
 use Rattle.qm_state.specs.Image.{system_of}
 
 -- the entry stands behind the others, and its number isn't given again
@@ -60,6 +62,10 @@ with_left number left s = record s { entries = with_entry number (λ e. left) s.
 abbrev pub entry_removed : System → ℕ → Accepted
 entry_removed s number = replied (with_left number None s) (EntryDeleted number)
 
+-- the entry takes the place of the one of its number
+abbrev pub entry_replaced : System → Entry → Accepted
+entry_replaced s entry = entry_set_to s entry.number entry
+
 -- the run has ended, with this status
 abbrev pub run_ended : System → ℕ → List ℕ → ℕ → ℕ → Accepted
 run_ended s now node run status = run_reported s now node run (EndReport status)
@@ -82,8 +88,10 @@ outcome_of (StopQueue name how) now node s = queue_stopped s name how
 outcome_of (CutShort entry fate) now node s = entry_aborting s fate entry
 outcome_of (RemoveQueue name) now node s = queue_deleted s name
 outcome_of (Merge to from) now node s = merged s to from
+outcome_of (ReplaceEntry entry) now node s = entry_replaced s entry
 outcome_of (RemoveEntry entry) now node s = entry_removed s entry
 outcome_of (EndRun run status) now node s = run_ended s now node run status
+outcome_of Tick now node s = ticked s
 
 -- the system as the acting moment finds it
 abbrev pub found : ℕ → System → System
@@ -132,6 +140,11 @@ pub record IsNewEntry (image : Image) (entry : Entry) : Type 0 where
   pub room : 0 < image.parts.spare_entries
   pub file : IsSome (file_named entry.file image.spool.files)
 
+-- the entry has no run, and names the file that the one of its number names
+pub record CanReplace (image : Image) (entry : Entry) : Type 0 where
+  pub idle : run_of entry.state ≡ None
+  pub file : All (λ e. e.number ≡ entry.number → e.file ≡ entry.file) image.parts.entries
+
 -- how many jobs start behind a change of the system that the moment finds
 abbrev pub starts_behind : Change → ℕ → List ℕ → System → ℕ
 starts_behind change now node s = length (settled (stopped_when_idle (outcome_of change now node (found now s)).system)).started
@@ -141,8 +154,8 @@ abbrev pub StartAtMost : ℕ → Change → System → Type 0
 StartAtMost most change s = (now : ℕ) (node : List ℕ) → starts_behind change now node s ≤ most
 
 -- The change can be made on the image: for what comes there is room, a new form or characteristic has a name and a number of its
--- own, a new entry has the next number and no run, its file is there and may be named once more, no entry names a file that
--- goes, and no job runs for a queue that goes.
+-- own, a new entry has the next number and no run, its file is there and may be named once more, an entry that is changed has no
+-- run and keeps its file, no entry names a file that goes, and no job runs for a queue that goes.
 abbrev pub IsReady : Image → Change → Type 0
 IsReady image (NewFile name bytes) = CanInsert image name bytes.items
 IsReady image (MoreBytes name bytes) = CanAppend image name bytes.now
@@ -159,8 +172,10 @@ IsReady image (StopQueue name how) = Unit {0}
 IsReady image (CutShort entry fate) = Unit {0}
 IsReady image (RemoveQueue name) = find (runs_for name) image.parts.entries ≡ None
 IsReady image (Merge to from) = Unit {0}
+IsReady image (ReplaceEntry entry) = CanReplace image entry
 IsReady image (RemoveEntry entry) = Unit {0}
 IsReady image (EndRun run status) = Unit {0}
+IsReady image Tick = Unit {0}
 
 -- What is prepared can be made on the image: the change can, it leaves a consistent system before any job is started, and there
 -- is room for the jobs that start behind it.
@@ -171,7 +186,7 @@ pub record IsPrepared (image : Image) (prepared : Prepared) : Type 0 where
   pub started_room : length (made prepared (system_of image)).reply.started ≤ vec_capacity prepared.started
   pub run_room : length (made prepared (system_of image)).reply.started ≤ image.parts.spare_runs
 
--- what a run leaves of the entry of a number: it has no run any more, or keeps its own, and names the same file
+-- what may be left of the entry of a number: it has no run any more, and names the same file
 pub record IsLeftOf (left : Entry) (number : ℕ) (old : Option Entry) : Type 0 where
   pub number_stays : left.number ≡ number
   pub file_stays : IfSome old (λ e. e.file ≡ left.file)

@@ -60,8 +60,10 @@ pub fn is_built(request: &Request) -> bool
         | Request::DeleteQueue { .. }
         | Request::Merge { .. }
         | Request::Submit(_)
+        | Request::SetEntry { .. }
         | Request::DeleteEntry { .. }
-        | Request::Done { .. } => true,
+        | Request::Done { .. }
+        | Request::Tick => true,
         _ => false,
     }
 }

@@ -66,8 +66,10 @@ impl Image {
             Change::CutShort { entry, fate } => self.cut_short(entry, fate),
             Change::RemoveQueue { name } => self.remove_queue(&name),
             Change::Merge { to, from } => self.merge(&to, &from),
+            Change::ReplaceEntry { entry } => self.replace_entry(entry),
             Change::RemoveEntry { entry } => self.remove_entry(entry),
             Change::EndRun { run, status } => self.end_run(now, node, run, status),
+            Change::Tick => Act::Ticked,
         }
     }
 }

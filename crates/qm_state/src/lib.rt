@@ -4,6 +4,7 @@
 
 mod append;
 mod built;
+mod changing;
 mod characteristics;
 mod commit;
 mod due;

@@ -8,7 +8,7 @@ ghost use Rattle.qm_model.specs.Replying.{replied};
 ghost use Rattle.qm_model.specs.Standing.{with_queue};
 ghost use Rattle.qm_model.specs.Stopping.{queue_stopped, stopped_queue, entries_on_stop, entry_aborting};
 ghost use Rattle.qm_state.specs.Image.{system_of};
-ghost use Rattle.qm_state.specs.Preparing.{queue_put, queue_changed, entry_removed, run_ended, with_left, IsLeftOf};
+ghost use Rattle.qm_state.specs.Preparing.{queue_put, queue_changed, entry_replaced, entry_removed, run_ended, with_left, CanReplace, IsLeftOf};
 
 use crate::due::earliest;
 use crate::ending::{Reported, after_report, end_act, report_act};
@@ -132,7 +132,7 @@ impl Image {
         Act::EntryDeleted { entry }
     }
 
-    // What is left of an entry takes its place, or it goes.
+    // What is left of an entry takes its place, or it goes. Each entry that is changed, but for what is due, comes by here.
     #[tactic(auto, unfolding(crate::specs::Image::system_of))]
     fn leave(&mut self, number: u32, left: Option<Entry>)
         requires order { IsInOrder nat_cmp (λ e. e.number) self.old.parts.entries }
@@ -146,6 +146,24 @@ impl Image {
                 self.next_due = earliest(self.next_due, &entry.state);
                 self.parts.replace_entry(entry);
             }
+        }
+    }
+
+    /// The entry takes the place of the one of its number.
+    #[tactic(auto, unfolding(crate::specs::Image::system_of))]
+    #[inline(never)]
+    pub(crate) fn replace_entry(&mut self, entry: Entry) -> Act
+        requires sound { IsConsistent (system_of self.old) }
+        requires ready { CanReplace self.old entry }
+        ensures done { entry_replaced (system_of self.old) entry ≡ replied (system_of self.new) result }
+        ensures room { self.old.parts.spare_runs ≤ self.new.parts.spare_runs }
+    {
+        let number = entry.number;
+        let state = entry.state;
+        self.leave(number, Some(entry));
+        Act::EntryIs {
+            entry: number,
+            state,
         }
     }
 

@@ -97,8 +97,10 @@ impl Image {
             Request::DeleteQueue { name } => self.prepare_delete_queue(name),
             Request::Merge { to, from } => self.prepare_merge(to, from),
             Request::Submit(job) => self.prepare_submit(now, job),
+            Request::SetEntry { entry, change } => self.prepare_set_entry(now, *entry, change),
             Request::DeleteEntry { entry } => self.prepare_delete_entry(*entry),
             Request::Done { run, status } => self.prepare_end(node, *run, *status),
+            Request::Tick => self.prepare_tick(),
             _ => unreachable!(),
         }
     }

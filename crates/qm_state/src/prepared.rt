@@ -86,6 +86,10 @@ pub(crate) enum Change<'a> {
         to: Name,
         from: Name,
     },
+    /// An entry takes the place of the one of its number.
+    ReplaceEntry {
+        entry: Entry,
+    },
     /// An entry goes.
     RemoveEntry {
         entry: u32,
@@ -95,4 +99,6 @@ pub(crate) enum Change<'a> {
         run: u64,
         status: u32,
     },
+    /// No more than what is due.
+    Tick,
 }

@@ -12,7 +12,7 @@ use crate::kinds::{is_batch_queue, is_generic, is_print_queue};
 use crate::refusals::{first_refusal, refused_where};
 use qm_forms::FormTable;
 use qm_kinds::{
-    CharacteristicSet, Name, NameOrNumber, Queue, QueueChange, QueueKind, QueueState, Refusal,
+    CharacteristicSet, Name, NameOrNumber, Queue, QueueChange, QueueKind, QueueState, Refusal, Seq,
 };
 use qm_queues::{QueueTable, Settings};
 
@@ -54,11 +54,14 @@ pub(crate) fn refused_form(forms: &FormTable, form: Option<NameOrNumber>) -> Opt
     }
 }
 
-// The first characteristic that is asked for and isn't there.
-fn refused_characteristics(forms: &FormTable, change: &QueueChange) -> Option<Refusal>
-    ensures { (s : System) → HasForms s forms.now → result ≡ option_and_then (refused_characteristics s.characteristics) change.now.characteristics }
+/// The first characteristic that is asked for and isn't there.
+pub(crate) fn refused_characteristics(
+    forms: &FormTable,
+    characteristics: &Option<Seq<NameOrNumber>>,
+) -> Option<Refusal>
+    ensures { (s : System) → HasForms s forms.now → result ≡ option_and_then (refused_characteristics s.characteristics) characteristics.now }
 {
-    match &change.characteristics {
+    match characteristics {
         None => None,
         Some(wanted) => forms.refused_characteristics(wanted.as_slice()),
     }
@@ -75,7 +78,7 @@ pub(crate) fn change_refusal(
     let refusals = [
         refused_where(is_change_of_other_kind(kind, change), Refusal::WrongKind),
         refused_form(forms, change.form),
-        refused_characteristics(forms, change),
+        refused_characteristics(forms, &change.characteristics),
     ];
     first_refusal(&refusals)
 }
@@ -116,18 +119,21 @@ pub(crate) fn set_queue_refusal(
     first_refusal(&refusals)
 }
 
-// The set of the characteristics that are asked for.
-fn characteristics_of(forms: &FormTable, change: &QueueChange) -> Option<CharacteristicSet>
-    ensures { (s : System) → HasForms s forms.now → result ≡ option_map (characteristics_of s) change.now.characteristics }
+/// The set of the characteristics that are asked for.
+pub(crate) fn characteristics_of(
+    forms: &FormTable,
+    characteristics: &Option<Seq<NameOrNumber>>,
+) -> Option<CharacteristicSet>
+    ensures { (s : System) → HasForms s forms.now → result ≡ option_map (characteristics_of s) characteristics.now }
 {
-    match &change.characteristics {
+    match characteristics {
         None => None,
         Some(wanted) => Some(forms.set_of(wanted.as_slice())),
     }
 }
 
-// The name of the form that is asked for, where it is defined.
-fn form_named(forms: &FormTable, form: Option<NameOrNumber>) -> Option<Name>
+/// The name of the form that is asked for, where it is defined.
+pub(crate) fn form_named(forms: &FormTable, form: Option<NameOrNumber>) -> Option<Name>
     ensures { (s : System) → HasForms s forms.now → result ≡ option_and_then (form_named s.forms) form }
 {
     let form = forms.form(&form?)?;
@@ -140,7 +146,7 @@ pub(crate) fn settings_of(forms: &FormTable, change: &QueueChange) -> Settings
 {
     Settings {
         limit: change.limit,
-        characteristics: characteristics_of(forms, change),
+        characteristics: characteristics_of(forms, &change.characteristics),
         mounted: form_named(forms, change.form),
         sizes: change.blocks,
         by_size: change.by_size,

@@ -35,8 +35,8 @@ fn has_bad_value(job: &Job) -> bool
         || job.kind == JobKind::Batch && (job.form.is_some() || job.flag || job.copies != 1)
 }
 
-// A job waits while it is held, and until its moment.
-fn state_of(hold: bool, after: Option<Moment>, now: Moment) -> EntryState
+/// The state of a job that has no run: it waits while it is held, and until its moment.
+pub(crate) fn state_of(hold: bool, after: Option<Moment>, now: Moment) -> EntryState
     ensures { result ≡ state_of hold after now }
 {
     match after {

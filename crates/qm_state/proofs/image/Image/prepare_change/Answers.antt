@@ -48,8 +48,14 @@ returns-in-Merge c = handed (sym c.in-Merge.is) (c.prepare_merge.ensures c.args.
 pub returns-in-Submit : goal.returns-in-Submit
 returns-in-Submit c = handed (sym c.in-Submit.is) (c.prepare_submit.ensures c.args.node.now)
 
+pub returns-in-SetEntry : goal.returns-in-SetEntry
+returns-in-SetEntry c = handed (sym c.in-SetEntry.is) (c.prepare_set_entry.ensures c.args.node.now)
+
 pub returns-in-DeleteEntry : goal.returns-in-DeleteEntry
 returns-in-DeleteEntry c = handed (sym c.in-DeleteEntry.is) (c.prepare_delete_entry.ensures c.args.now c.args.node.now)
 
 pub returns-in-Done : goal.returns-in-Done
 returns-in-Done c = handed (sym c.in-Done.is) (c.prepare_end.ensures c.args.now)
+
+pub returns-in-Tick : goal.returns-in-Tick
+returns-in-Tick c = handed (sym c.in-Tick.is) (c.prepare_tick.ensures c.args.now c.args.node.now)

@@ -1,0 +1,166 @@
+-- An entry that is changed: it is found as the moment finds it, and what it becomes takes its place.
+use Rattle.std.proofs.Common.{◌≡◌, ◌∙◌, ℕ, ◌==◌, Bool, true, false, cond, not, ◌&&◌, List, [], ◌∷◌, filter, find, map, Option, None, Some, Ok, refl, sym, ap, subst}
+use Rattle.std.specs.Prelude.{is_none, IfSome}
+use Rattle.std.specs.List.{All}
+use Rattle.std.specs.Option.{option_map_or, option_and_then}
+use Rattle.std.specs.Ordering.{nat_cmp}
+use Rattle.std.proofs.lemmas.Bool.{eqb-true}
+use Rattle.std.proofs.lemmas.List.Elements.{All-weaker}
+use Rattle.std.proofs.lemmas.Option.{same_Some}
+use Rattle.qm_kinds.specs.declared.entry.Entry.{Entry}
+use Rattle.qm_kinds.specs.declared.entry.EntryState.{EntryState}
+use Rattle.qm_kinds.specs.declared.entry.EntryState.TheVariants.{Pending, Holding, Timed, Running, Aborting, Retained}
+use Rattle.qm_kinds.specs.declared.refusal.Refusal.{Refusal}
+use Rattle.qm_kinds.specs.declared.refusal.Refusal.TheVariants.{NoSuchEntry, EntryBusy, NotHeld, WrongKind}
+use Rattle.qm_kinds.specs.declared.reply.Act.TheVariants.{EntryIs}
+use Rattle.qm_kinds.specs.declared.request.EntryChange.{EntryChange}
+use Rattle.qm_kinds.specs.declared.request.Request.TheVariants as request
+use Rattle.qm_kinds.specs.declared.system.System.{System}
+use Rattle.qm_model.specs.Consistent.{IsInOrder}
+use Rattle.qm_model.specs.Due.{is_over, entry_at}
+use Rattle.qm_model.specs.Entries.{refused_queue, is_entry_of_other_kind, entry_change_refusal, set_entry_refusal, changed_entry, entry_set_to, entry_set}
+use Rattle.qm_model.specs.Find.{entry_numbered}
+use Rattle.qm_model.specs.JobStates.{is_pending, is_waiting}
+use Rattle.qm_model.specs.Outcome.{first_refusal, refused_where}
+use Rattle.qm_model.specs.Replying.{replied}
+use Rattle.qm_model.specs.Wanted.{refused_form, refused_characteristics}
+use Rattle.qm_sched.proofs.Ordered.{each_found}
+use Rattle.qm_state.proofs.Accepting.{waits_at_first}
+use Rattle.qm_state.proofs.Found.{found_all}
+use Rattle.qm_state.proofs.Reached.{NamesItsFile}
+use Rattle.qm_state.proofs.Refusing.{none_first, none_where}
+use Rattle.qm_state.specs.declared.image.Image.{Image}
+use Rattle.qm_state.specs.declared.prepared.Change.TheVariants.{ReplaceEntry}
+use Rattle.qm_state.specs.Deciding.{PreparesAt}
+use Rattle.qm_state.specs.Image.{system_of}
+use Rattle.qm_state.specs.Preparing.{found, CanReplace}
+
+abbrev numbered : ℕ → Entry → Bool
+numbered n e = e.number == n
+
+abbrev stays : ℕ → Entry → Bool
+stays now e = not (is_over now e.state)
+
+-- ---- what is found under a number
+
+number_at : (n : ℕ) (e x : Entry) (es : List Entry) (b : Bool) → numbered n x ≡ b → cond b (Some x) (find (numbered n) es) ≡ Some e → (find (numbered n) es ≡ Some e → e.number ≡ n) → e.number ≡ n
+number_at n e x es true is found later = subst (λ (y : Entry). y.number ≡ n) (same_Some x e found) (eqb-true x.number n is)
+number_at n e x es false is found later = later found
+
+-- it has that number
+pub number_found : (n : ℕ) (e : Entry) (es : List Entry) → entry_numbered n es ≡ Some e → e.number ≡ n
+number_found n e [] found = absurd cc
+number_found n e (x ∷ es) found = number_at n e x es (numbered n x) refl found (number_found n e es)
+
+-- and a job that isn't over is there at the moment too
+left_at : (n now : ℕ) (e x : Entry) (es : List Entry) (over b : Bool) → is_over now x.state ≡ over → numbered n x ≡ b → is_over now e.state ≡ false → cond b (Some x) (find (numbered n) es) ≡ Some e
+    → (find (numbered n) es ≡ Some e → find (numbered n) (map (entry_at now) (filter (stays now) es)) ≡ Some (entry_at now e))
+    → find (numbered n) (map (entry_at now) (cond (not over) (x ∷ filter (stays now) es) (filter (stays now) es))) ≡ Some (entry_at now e)
+left_at n now e x es true true gone is there found later =
+    let same : x ≡ e = same_Some x e found in
+    absurd (no (sym gone ∙ ap (λ (y : Entry). is_over now y.state) same ∙ there))
+  where
+    no : true ≡ false → ⊥
+    no h = cc
+left_at n now e x es true false gone is there found later = later found
+left_at n now e x es false true gone is there found later =
+    ap (λ (b : Bool). cond b (Some (entry_at now x)) (find (numbered n) (map (entry_at now) (filter (stays now) es)))) is
+    ∙ ap (λ (y : Entry). Some (entry_at now y)) (same_Some x e found)
+left_at n now e x es false false gone is there found later =
+    ap (λ (b : Bool). cond b (Some (entry_at now x)) (find (numbered n) (map (entry_at now) (filter (stays now) es)))) is ∙ later found
+
+pub entry_left : (n now : ℕ) (e : Entry) (es : List Entry) → is_over now e.state ≡ false → entry_numbered n es ≡ Some e
+    → entry_numbered n (map (entry_at now) (filter (λ x. not (is_over now x.state)) es)) ≡ Some (entry_at now e)
+entry_left n now e [] there found = absurd cc
+entry_left n now e (x ∷ es) there found = left_at n now e x es (is_over now x.state) (numbered n x) refl refl there found (entry_left n now e es there)
+
+-- ---- an entry that nothing refuses to change
+
+is_not_false : (b : Bool) → not b ≡ false → b ≡ true
+is_not_false true h = refl
+is_not_false false h = cc
+
+-- it waits
+waits : (s : System) (change : EntryChange) (e : Entry) → entry_change_refusal s change e ≡ None → is_waiting e.state ≡ true
+waits s change e clear =
+    let r1 = none_first (refused_where (not (is_waiting e.state)) (EntryBusy e.state)) _ clear in
+    is_not_false (is_waiting e.state) (none_where (not (is_waiting e.state)) (EntryBusy e.state) r1.0)
+
+-- so it isn't over at any moment
+waiting_is_left : (now : ℕ) (state : EntryState) → is_waiting state ≡ true → is_over now state ≡ false
+waiting_is_left now Pending h = refl
+waiting_is_left now Holding h = refl
+waiting_is_left now (Timed at) h = refl
+waiting_is_left now (Running queue node run) h = refl
+waiting_is_left now (Aborting queue node run fate) h = refl
+waiting_is_left now (Retained status until) h = cc
+
+-- each entry of its number is the entry itself
+same_entry : (e x : Entry) (es : List Entry) → entry_numbered e.number es ≡ Some e → find (λ (y : Entry). y.number == x.number) es ≡ Some x → x.number ≡ e.number → x ≡ e
+same_entry e x es found back same = same_Some x e (sym back ∙ ap (λ (n : ℕ). entry_numbered n es) same ∙ found)
+
+keeps_file : (e : Entry) (es : List Entry) → IsInOrder nat_cmp (λ (x : Entry). x.number) es → entry_numbered e.number es ≡ Some e → All (NamesItsFile e) es
+keeps_file e es order found =
+    All-weaker (λ (x : Entry). find (λ (y : Entry). y.number == x.number) es ≡ Some x) (NamesItsFile e)
+    (λ x back same. ap (λ (y : Entry). y.file) (same_entry e x es found back same)) es (each_found (λ (x : Entry). x.number) es order)
+
+-- what the model makes of it is what becomes of it before the moment
+becomes : (s : System) (now number : ℕ) (change : EntryChange) (e : Entry) → entry_numbered number s.entries ≡ Some e → is_over now e.state ≡ false
+    → entry_set (found now s) now number change ≡ entry_set_to (found now s) number (changed_entry s now change e)
+becomes s now number change e there left =
+    let then : System = found now s in
+    ap (λ (o : Option Entry). option_map_or (λ x. entry_set_to then number (changed_entry then now change x)) o (replied then (EntryIs number Pending)))
+    (entry_left number now e s.entries left there)
+
+replaced : (s : System) (now number : ℕ) (change : EntryChange) (e new : Entry) → entry_numbered number s.entries ≡ Some e → is_over now e.state ≡ false → new ≡ changed_entry s now change e
+    → entry_set_to (found now s) new.number new ≡ entry_set (found now s) now number change
+replaced s now number change e new there left is =
+    ap (λ (x : Entry). entry_set_to (found now s) x.number x) is
+    ∙ ap (λ (n : ℕ). entry_set_to (found now s) n (changed_entry s now change e)) (number_found number e s.entries there)
+    ∙ sym (becomes s now number change e there left)
+
+decided : (s : System) (number : ℕ) (change : EntryChange) (e : Entry) → entry_numbered number s.entries ≡ Some e → entry_change_refusal s change e ≡ None → set_entry_refusal s number change ≡ None
+decided s number change e there clear =
+    (λ t. first_refusal (refused_where (is_none (there t)) (NoSuchEntry number) ∷ option_and_then (entry_change_refusal s change) (there t) ∷ []))
+    ∙ ap (λ (o : Option Refusal). first_refusal (o ∷ [])) clear
+
+can_replace : (image : Image) (s : System) (now number : ℕ) (change : EntryChange) (e new : Entry) → IsInOrder nat_cmp (λ (x : Entry). x.number) image.parts.entries
+    → entry_numbered number image.parts.entries ≡ Some e → new ≡ changed_entry s now change e → CanReplace image new
+can_replace image s now number change e new order there is =
+    let after : Entry = changed_entry s now change e in
+    let itself : entry_numbered e.number image.parts.entries ≡ Some e = ap (λ (n : ℕ). entry_numbered n image.parts.entries) (number_found number e image.parts.entries there) ∙ there in
+    subst (CanReplace image) (sym is) (record { idle = waits_at_first after.held after.after now; file = keeps_file e image.parts.entries order itself })
+
+-- what becomes of it can take its place, and is what the model makes of it
+pub entry_prepared : (image : Image) (now number : ℕ) (node : List ℕ) (change : EntryChange) (e new : Entry) → IsInOrder nat_cmp (λ (x : Entry). x.number) image.parts.entries
+    → entry_numbered number image.parts.entries ≡ Some e → entry_change_refusal (system_of image) change e ≡ None → new ≡ changed_entry (system_of image) now change e
+    → PreparesAt now node (request.SetEntry number change) image image (Ok (ReplaceEntry new))
+unfolding system_of
+entry_prepared image now number node change e new order there clear is =
+    let s : System = system_of image in
+    record {
+      decided = decided s number change e there clear;
+      untouched = tt;
+      takes = record {
+        rows = refl;
+        ready = can_replace image s now number change e new order there is;
+        made = replaced s now number change e new there (waiting_is_left now e.state (waits s change e clear)) is;
+      };
+    }
+
+-- an entry that is replaced is the one whose file is kept
+pub file_is_kept : (entry : Entry) (es : List Entry) (o : Option Entry) → entry_numbered entry.number es ≡ o → All (NamesItsFile entry) es → IfSome o (λ e. e.file ≡ entry.file)
+file_is_kept entry es None found all = tt
+file_is_kept entry es (Some e) found all = found_all (NamesItsFile entry) (numbered entry.number) es e all found (number_found entry.number e es found)
+
+-- ---- the refusals that were found, in the model's order
+
+pub gathered : (s : System) (change : EntryChange) (e : Entry) (busy held queue wrong form characteristics : Option Refusal)
+    → busy ≡ refused_where (not (is_waiting e.state)) (EntryBusy e.state)
+    → held ≡ refused_where (change.release && is_pending e.state) NotHeld
+    → queue ≡ option_and_then (refused_queue s) change.queue
+    → wrong ≡ refused_where (is_entry_of_other_kind s e change) WrongKind
+    → form ≡ option_and_then (refused_form s) change.form
+    → characteristics ≡ option_and_then (refused_characteristics s.characteristics) change.characteristics
+    → first_refusal (busy ∷ held ∷ queue ∷ wrong ∷ form ∷ characteristics ∷ []) ≡ entry_change_refusal s change e
+gathered s change e busy held queue wrong form characteristics eb eh eq ew ef ec = λ t. first_refusal (eb t ∷ eh t ∷ eq t ∷ ew t ∷ ef t ∷ ec t ∷ [])
