@@ -7,12 +7,12 @@ use Rattle.qm_kinds.specs.declared.record.Body.TheVariants.{Ask}
 use Rattle.qm_kinds.specs.declared.refusal.Refusal.{Refusal}
 use Rattle.qm_kinds.specs.declared.reply.Reply.{Reply}
 use Rattle.qm_kinds.specs.declared.request.Request.{Request}
-use Rattle.qm_kinds.specs.declared.request.Request.TheVariants.{InitializeQueue, SetQueue, StartQueue, Submit}
+use Rattle.qm_kinds.specs.declared.request.Request.TheVariants.{InitializeQueue, SetQueue, StartQueue, Submit, SetEntry}
 use Rattle.qm_kinds.specs.declared.system.System.{System}
 use Rattle.qm_model.specs.Applied.{applied}
 use Rattle.qm_model.specs.Outcome.{Accepted}
 use Rattle.qm_glog.specs.Log.{need_of}
-use Rattle.qm_record.specs.Spelling.{record_text, IsShortQueue, IsShortChange}
+use Rattle.qm_record.specs.Spelling.{record_text, IsShortQueue, IsShortChange, IsShortEntryChange}
 use Rattle.qm_store.specs.declared.store.TheConstants.{QUEUE_CAP}
 use Rattle.qm_manager.specs.Site.{Site, BeforeOrAfter}
 use Rattle.qm_manager.specs.declared.fault.AskFault.{AskFault}
@@ -25,6 +25,7 @@ HasShortLists (InitializeQueue new) = IsShortQueue new
 HasShortLists (SetQueue name change) = IsShortChange change
 HasShortLists (StartQueue name change) = IsShortChange change
 HasShortLists (Submit job) = length job.characteristics < 2 ^ 16
+HasShortLists (SetEntry entry change) = IsShortEntryChange change
 HasShortLists _ = Unit {0}
 
 -- done, with the site after it; refused by the rules; or the queue file would take so many bytes, which is more than its cap

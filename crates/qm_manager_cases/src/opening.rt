@@ -33,12 +33,28 @@ const OF_NODE_1: &[u8] =
 
 const TICK: &[u8] = b"\x01\x0b\x00\x00\x00\x01\x14\x05\x00\x00\x00\x00\x00\x00\x00\x00";
 
+// A mark of run 1, which nobody reports so far.
+const MARK: &[u8] =
+    b"\x01\x14\x00\x00\x00\x01\x12\x05\x00\x00\x00\x00\x00\x00\x00\x00\x01\x00\x00\x00\x00\x00\x00\x00\x00";
+
 // No record: its version is 2.
 const OTHER_VERSION: &[u8] = b"\x01\x0b\x00\x00\x00\x02\x14\x05\x00\x00\x00\x00\x00\x00\x00\x00";
 
 // F is submitted to SYS$BATCH as the batch job J of user U, at moment 5.
 const SUBMIT: &[u8] =
     b"\x01\x27\x00\x00\x00\x01\x0f\x05\x00\x00\x00\x00\x00\x00\x00\x00\x01U\x01\x09SYS$BATCH\x01F\x00\x01J\x64\x00\x00\x00\x00\x00\x00\x00\x01\x00";
+
+// The same of a job that waits for moment 6.
+const SUBMIT_LATER: &[u8] =
+    b"\x01\x2f\x00\x00\x00\x01\x0f\x05\x00\x00\x00\x00\x00\x00\x00\x00\x01U\x01\x09SYS$BATCH\x01F\x00\x01J\x64\x01\x06\x00\x00\x00\x00\x00\x00\x00\x00\x00\x00\x00\x00\x00\x01\x00";
+
+// Entry 1 is held, at moment 5.
+const HOLD: &[u8] =
+    b"\x01\x19\x00\x00\x00\x01\x10\x05\x00\x00\x00\x00\x00\x00\x00\x00\x01\x00\x00\x00\x00\x01\x00\x00\x00\x00\x00\x00\x00\x00";
+
+// Entry 1 is released, at moment 7.
+const RELEASE: &[u8] =
+    b"\x01\x19\x00\x00\x00\x01\x10\x07\x00\x00\x00\x00\x00\x00\x00\x00\x01\x00\x00\x00\x01\x00\x00\x00\x00\x00\x00\x00\x00\x00";
 
 fn node() -> Name
     ensures { length result ≤ NODE_NAME_BYTES }
@@ -135,10 +151,13 @@ fn files_without_a_record_are_unformatted(rt: HostRuntime) -> Result<(), Fail> {
 }
 
 // Files of these records, and how many rows the first entry has in each.
-const FOUND: [(&[&[u8]], usize); 3] = [
+const FOUND: [(&[&[u8]], usize); 5] = [
     (&[HEAD, FORM, QUEUE], 0),
     (&[HEAD, FORM, QUEUE, APPEND], 0),
     (&[HEAD, FORM, QUEUE, EARLIER, APPEND, SUBMIT], 1),
+    (&[HEAD, FORM, QUEUE, APPEND, SUBMIT, HOLD, TICK, RELEASE], 1),
+    // Its moment has come, but nothing was done at it.
+    (&[HEAD, FORM, QUEUE, APPEND, SUBMIT_LATER, RELEASE], 1),
 ];
 
 #[test]
@@ -152,7 +171,7 @@ fn requests_are_done_again(rt: HostRuntime) -> Result<(), Fail> {
 
 // Files of these records, and the place of the damage: the gate of the first one that can't stand, or of the end. The rows
 // stand first, at 0, 47 and 88, and end at 161.
-const DAMAGED: [(&[&[u8]], u64); 14] = [
+const DAMAGED: [(&[&[u8]], u64); 16] = [
     (&[FORM, HEAD, QUEUE], 0),
     (&[TICK], 0),
     (&[OTHER_VERSION], 0),
@@ -161,12 +180,17 @@ const DAMAGED: [(&[&[u8]], u64); 14] = [
     (&[HEAD, FORM], 88),
     (&[HEAD], 47),
     (&[HEAD, FORM, QUEUE, SUBMIT], 161),
-    (&[HEAD, FORM, QUEUE, TICK], 161),
+    (&[HEAD, FORM, QUEUE, MARK], 161),
     (&[HEAD, FORM, QUEUE, HEAD], 161),
     (&[HEAD, FORM, QUEUE, OTHER_VERSION], 161),
     (&[HEAD, FORM, QUEUE, OF_NODE_1], 161),
     (&[HEAD, FORM, QUEUE, APPEND, EARLIER], 185),
-    (&[HEAD, FORM, QUEUE, APPEND, SUBMIT, SUBMIT, TICK], 273),
+    (&[HEAD, FORM, QUEUE, APPEND, SUBMIT, SUBMIT, MARK], 273),
+    (&[HEAD, FORM, QUEUE, APPEND, SUBMIT, RELEASE], 229),
+    (
+        &[HEAD, FORM, QUEUE, APPEND, SUBMIT_LATER, RELEASE, RELEASE],
+        267,
+    ),
 ];
 
 #[test]

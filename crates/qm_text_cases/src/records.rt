@@ -1,8 +1,8 @@
 // Records, as they stand in a queue file.
 use crate::names::name;
 use qm_kinds::{
-    Body, FileName, Form, Job, JobKind, JobRetain, Moment, NameOrNumber, NewQueue, QueueChange,
-    QueueKind, QueueRetain, Record, Request, Seq, Shape,
+    Body, EntryChange, FileName, Form, Job, JobKind, JobRetain, Moment, NameOrNumber, NewQueue,
+    QueueChange, QueueKind, QueueRetain, Record, Request, Seq, Shape,
 };
 use qm_record::{RecordFault, read_record, write_record, write_request};
 use std::test::Fail;
@@ -31,6 +31,9 @@ const MERGE: &[u8] = b"\x01\x0e\x00\x00\x00\x00\x00\x00\x00\x00\x00\x02\x4c\x50\
 
 const SUBMIT: &[u8] =
     b"\x01\x0f\x00\x00\x00\x00\x00\x00\x00\x00\x00\x05\x53\x4d\x49\x54\x48\x02\x02\x4c\x50\x01\x41\x00\x01\x41\x64\x01\x07\x00\x00\x00\x00\x00\x00\x00\x01\x03\x07\x00\x00\x00\x00\x00\x00\x00\x00\x02\x00\x00\x04\x46\x41\x53\x54\x01\x03\x00\x01\x01\x01\x02\x02\x01";
+
+const SET_ENTRY: &[u8] =
+    b"\x01\x10\x00\x00\x00\x00\x00\x00\x00\x00\x00\x07\x00\x00\x00\x00\x01\x01\x01\x07\x00\x00\x00\x00\x00\x00\x00\x01\xc8\x01\x03\x50\x41\x59\x01\x02\x00\x00\x04\x46\x41\x53\x54\x01\x03\x00\x01\x01\x01\x02\x01\x02\x4c\x50\x01\x00\x01\x03\x07\x00\x00\x00\x00\x00\x00\x00";
 
 const TICK: &[u8] = b"\x01\x14\x00\x00\x00\x00\x00\x00\x00\x00\x00";
 
@@ -85,6 +88,7 @@ fn number(body: &Body) -> u8 {
         Body::Ask(Request::DeleteQueue { .. }) => 13,
         Body::Ask(Request::Merge { .. }) => 14,
         Body::Ask(Request::Submit(_)) => 15,
+        Body::Ask(Request::SetEntry { .. }) => 16,
         Body::Ask(Request::DeleteEntry { .. }) => 17,
         Body::Ask(Request::Mark { .. }) => 18,
         Body::Ask(Request::Done { .. }) => 19,
@@ -104,7 +108,7 @@ fn place_in<R: AllocGlobal>(rt: &R, bytes: &[u8]) -> Option<usize> {
     }
 }
 
-const RECORDS: [&[u8]; 22] = [
+const RECORDS: [&[u8]; 23] = [
     APPEND,
     FILL,
     DROP,
@@ -120,6 +124,7 @@ const RECORDS: [&[u8]; 22] = [
     DELETE_QUEUE,
     MERGE,
     SUBMIT,
+    SET_ENTRY,
     DELETE_ENTRY,
     MARK,
     DONE,
@@ -148,7 +153,7 @@ fn records_are_read(rt: HostRuntime) -> Result<(), Fail> {
 }
 
 // Bytes that are no record, and the place that is told.
-const FAULTS: [(&str, usize); 14] = [
+const FAULTS: [(&str, usize); 15] = [
     ("\x02\x14\0\0\0\0\0\0\0\0\0", 0),
     ("\x01\x63\0\0\0\0\0\0\0\0\0", 1),
     // A moment past the last.
@@ -177,6 +182,11 @@ const FAULTS: [(&str, usize); 14] = [
     ("\x01\x08\0\0\0\0\0\0\0\0\0\x01Q\x03\0\0\x02\0\x01A", 20),
     // A byte behind the number of a characteristic.
     ("\x01\x06\0\0\0\0\0\0\0\0\0\x01A\x7f\0", 14),
+    // A moment that is given, and is neither one nor none.
+    (
+        "\x01\x10\0\0\0\0\0\0\0\0\0\x01\0\0\0\0\0\x01\x02",
+        18,
+    ),
 ];
 
 #[test]
@@ -224,6 +234,29 @@ fn a_job_is_written(rt: HostRuntime) -> Result<(), Fail> {
     });
     let text = write_request(rt.alloc(), Moment::BASE, 0, &request)?;
     assert_eq!(rt; text.as_slice(), SUBMIT);
+    Ok(())
+}
+
+#[test]
+fn a_changed_entry_is_written(rt: HostRuntime) -> Result<(), Fail> {
+    let wanted = vec![in rt.alloc(); NameOrNumber::Name(name(b"FAST")), NameOrNumber::Number(3)]?;
+    let request = Request::SetEntry {
+        entry: 7,
+        change: EntryChange {
+            release: false,
+            hold: true,
+            after: Some(Moment::new(7)),
+            priority: Some(200),
+            name: Some(name(b"PAY")),
+            characteristics: Some(Seq::of(wanted)),
+            form: Some(NameOrNumber::Number(513)),
+            queue: Some(name(b"LP")),
+            restart: Some(false),
+            retain: Some(JobRetain::Until(Moment::new(7).unwrap_or(Moment::BASE))),
+        },
+    };
+    let text = write_request(rt.alloc(), Moment::BASE, 0, &request)?;
+    assert_eq!(rt; text.as_slice(), SET_ENTRY);
     Ok(())
 }
 
