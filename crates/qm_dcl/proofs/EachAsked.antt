@@ -193,5 +193,5 @@ module _ {P : Input → Type 0} (each : OfEach P) (user : List ℕ) where
   of_named text (Some c) = of_built (is_built text (tokens_in text) c) text c
 
   -- it holds of what a text asks for
-  pub of_asked : (text : List ℕ) → IfOk (command_of user text) P
-  of_asked text = of_named text (named_command text (tokens_in text))
+  pub of_asked : (now : ℕ) (text : List ℕ) → IfOk (command_of user now text) P
+  of_asked now text = of_named text (named_command text (tokens_in text))

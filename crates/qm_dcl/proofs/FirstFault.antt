@@ -68,8 +68,8 @@ module _ (user text : List ℕ) where
   right_named (Some c) = right_built (is_built text (tokens_in text) c) c
 
   -- only a command of the grammar asks for something
-  pub is_command : IfOk (command_of user text) (λ _. IsOk (command_in text))
-  is_command = right_named (named_command text (tokens_in text))
+  pub is_command : (now : ℕ) → IfOk (command_of user now text) (λ _. IsOk (command_in text))
+  is_command now = right_named (named_command text (tokens_in text))
 
   not_behind : (f g : Fault) → told not_built ≡ told g → g.place ≤ f.place
   not_behind f g is = let same = same_told not_built g is in let at : g.place ≡ 0 = ap (λ (x : Fault). x.place) (sym same) in omega (arith, at)
@@ -84,5 +84,5 @@ module _ (user text : List ℕ) where
   first_named (Some c) f g wrong is = first_built (is_built text (tokens_in text) c) c f g wrong is
 
   -- no fault is told behind the first one of the grammar
-  pub is_first : (f g : Fault) → command_in text ≡ wrong f → command_of user text ≡ told g → g.place ≤ f.place
-  is_first f g wrong is = first_named (named_command text (tokens_in text)) f g wrong is
+  pub is_first : (now : ℕ) (f g : Fault) → command_in text ≡ wrong f → command_of user now text ≡ told g → g.place ≤ f.place
+  is_first now f g wrong is = first_named (named_command text (tokens_in text)) f g wrong is

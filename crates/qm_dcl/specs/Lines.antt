@@ -12,7 +12,7 @@ abbrev pub or_fault : Result Input Fault → Input
 or_fault (Ok asked) = asked
 or_fault (Err f) = input.Fault f.place f.kind
 
--- what a line asks for: a command, or an act at the site
-abbrev pub input_of : Sort → List ℕ → Input
-input_of Command text = or_fault (command_of system_user text)
-input_of Site text = act_of text
+-- what a line asks for that is read at a moment: a command, or an act at the site
+abbrev pub input_of : Sort → ℕ → List ℕ → Input
+input_of Command now text = or_fault (command_of system_user now text)
+input_of Site now text = act_of text

@@ -13,7 +13,7 @@ use crate::settings::{Settings, settings_of};
 use crate::show::query_of;
 use crate::submit::job_of;
 use qm_grammar::{Command, Fault, Parsed, named_command, parse};
-use qm_kinds::{Input, JobKind, Name, ParseKind, Request};
+use qm_kinds::{Input, JobKind, Moment, Name, ParseKind, Request};
 use std::alloc::Global;
 
 const NOT_BUILT: Fault = Fault {
@@ -109,7 +109,7 @@ fn meant(
     }
 }
 
-/// What the command of a user asks for.
+/// What the command of a user asks for that is read at a moment, from which its relative times count.
 ///
 /// Built are, with the options and qualifiers that are named here:
 /// - `SUBMIT file` and `PRINT file` with `/QUEUE=name`, `/NAME=name`, `/PRIORITY=0..255`, `/RESTART`, `/NORESTART` and
@@ -136,10 +136,16 @@ fn meant(
 /// of it that isn't built, or is cut, stands behind a `/`, whatever else is wrong, and where another form of a command has
 /// nothing wrong; `Value` at the first byte of a name, a number, a word or a file that can't be read; and those of the grammar.
 /// `NoMemory`, where memory for the tokens, the parts and the lists ran out.
-pub fn read_command(alloc: Global, text: &[u8], user: Name) -> Result<Input, DclFault>
-    ensures read { IfOk result (λ input. command_of user text.now ≡ Ok input) }
-    ensures fault { IfErr result (Explains (command_of user text.now)) }
+pub fn read_command(
+    alloc: Global,
+    text: &[u8],
+    user: Name,
+    now: Moment,
+) -> Result<Input, DclFault>
+    ensures read { IfOk result (λ input. command_of user now text.now ≡ Ok input) }
+    ensures fault { IfErr result (Explains (command_of user now text.now)) }
 {
+    let _ = now;
     let Ok(parsed) = parse(alloc, text) else {
         return Err(DclFault::NoMemory);
     };

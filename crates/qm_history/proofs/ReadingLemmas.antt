@@ -27,11 +27,11 @@ no_more false x y is = refl
 
 module _ (items_mean : ℕ → List ℕ → List ℕ → Input) where
   pub commands_same : (l : served.ScriptLine) (reading : ℕ) (earlier : List Visit) (known : List ℕ) → l.sort ≡ served.Command
-      → read items_mean (line_by_system l) reading earlier known ≡ input_of l.sort l.text
+      → read items_mean (line_by_system l) reading earlier known ≡ input_of l.sort reading l.text
   commands_same l reading earlier known is = same l.sort is
     where
       same : (sort : served.Sort) → sort ≡ served.Command
-          → text_asked items_mean (sort_served sort) system_user l.text (scans_of earlier) known ≡ input_of sort l.text
+          → text_asked items_mean (sort_served sort) system_user reading l.text (scans_of earlier) known ≡ input_of sort reading l.text
       same served.Command is = refl
       same served.Site is = cc
 
@@ -56,7 +56,7 @@ pub steps_fetch : (items_mean : ℕ → List ℕ → List ℕ → Input) (l : Us
     → read items_mean l reading earlier known ≡ input.Fetch known
 steps_fetch items_mean l reading earlier known steps is = by_sort l.line.sort is
   where
-    by_sort : (sort : LineSort) → steps_asked sort l.line.text ≡ Some steps → text_asked items_mean sort l.user l.line.text (scans_of earlier) known ≡ input.Fetch known
+    by_sort : (sort : LineSort) → steps_asked sort l.line.text ≡ Some steps → text_asked items_mean sort l.user reading l.line.text (scans_of earlier) known ≡ input.Fetch known
     by_sort Command is = cc
     by_sort Items is = cc
     by_sort Act is = step_cut known l.line.text steps (cut_at_blank l.line.text) is is

@@ -47,13 +47,13 @@ module _ (items_mean : ℕ → List ℕ → List ℕ → Input) where
   items_from user s None = malformed
   items_from user s (Some parts) = items_by user s (function_of parts.0) (hex_bytes parts.1)
 
-  -- what a text of a sort asks for
-  abbrev pub text_asked : LineSort → List ℕ → List ℕ → Scans → List ℕ → Input
-  text_asked Command user text s known = or_fault (command_of user text)
-  text_asked Items user text s known = items_from user s (cut_at_blank text)
-  text_asked Act user text s known = act_asked known text
+  -- what a text of a sort asks for that is read at a moment
+  abbrev pub text_asked : LineSort → List ℕ → ℕ → List ℕ → Scans → List ℕ → Input
+  text_asked Command user reading text s known = or_fault (command_of user reading text)
+  text_asked Items user reading text s known = items_from user s (cut_at_blank text)
+  text_asked Act user reading text s known = act_asked known text
 
-  -- What a line asks for: by its text and its user; for an item list, by the listings that the node has begun in its turns; and for
-  -- STEP, by the runs that it keeps. No command that is built asks for the time.
+  -- What a line asks for: by its text and its user; for a command, by what the node's clock told, from which relative times count;
+  -- for an item list, by the listings that the node has begun in its turns; and for STEP, by the runs that it keeps.
   abbrev pub read : UserLine → ℕ → List Visit → List ℕ → Input
-  read l reading earlier known = text_asked l.line.sort l.user l.line.text (scans_of earlier) known
+  read l reading earlier known = text_asked l.line.sort l.user reading l.line.text (scans_of earlier) known

@@ -14,7 +14,7 @@ ghost use Rattle.qm_history.specs.Visits.{Visit};
 /// A command of SYSTEM, and an act whose word is served, ask for what they do where a script is served. A line behind which steps
 /// may follow asks for the node's runs.
 pub fn lines_are_read_as_they_are_served()
-    ensures commands { (items_mean : ℕ → List ℕ → List ℕ → Input) (l : served.ScriptLine) (reading : ℕ) (earlier : List Visit) (known : List ℕ) → l.sort ≡ served.Command → read items_mean (line_by_system l) reading earlier known ≡ input_of l.sort l.text }
+    ensures commands { (items_mean : ℕ → List ℕ → List ℕ → Input) (l : served.ScriptLine) (reading : ℕ) (earlier : List Visit) (known : List ℕ) → l.sort ≡ served.Command → read items_mean (line_by_system l) reading earlier known ≡ input_of l.sort reading l.text }
     ensures acts { (known text word rest : List ℕ) → cut_at_blank text ≡ Some (word, rest) → served.is_act_word word ≡ true → act_asked known text ≡ served.act_of text }
     ensures steps { (items_mean : ℕ → List ℕ → List ℕ → Input) (l : UserLine) (reading : ℕ) (earlier : List Visit) (known : List ℕ) (steps : ℕ) → steps_asked l.line.sort l.line.text ≡ Some steps → read items_mean l reading earlier known ≡ Fetch known }
 {}

@@ -1,7 +1,8 @@
--- What stands behind a source over a reader and a sink over a writer.
+-- What stands behind a source over a reader, a sink over a writer, and a clock over that of the system.
 use Rattle.std.specs.Prelude.{ℕ, Bool}
 use Rattle.qm_io.specs.declared.adapters.InputSource.{InputSource}
 use Rattle.qm_io.specs.declared.adapters.OutputSink.{OutputSink}
+use Rattle.qm_io.specs.declared.clock.SystemClock.{SystemClock}
 
 -- the reader that a source reads from
 abbrev pub reader_of : {R : Type 0} → InputSource R → R
@@ -26,3 +27,11 @@ is_lost sink = sink.is_lost
 -- how often a sink has failed
 abbrev pub output_faults : {W : Type 0} → OutputSink W → ℕ
 output_faults sink = sink.faults
+
+-- the system whose time a clock tells
+abbrev pub system_of : {S : Type 0} → SystemClock S → S
+system_of clock = clock.system
+
+-- the moment that a clock told last
+abbrev pub last_told : {S : Type 0} → SystemClock S → ℕ
+last_told clock = clock.last

@@ -119,12 +119,12 @@ act_askable text None = faulty (is_act_word text)
 act_askable text (Some parts) = act_or_not (bytes_eq parts.0 (codes "LINE")) (bytes_eq parts.0 (codes "FILL")) (bytes_eq parts.0 (codes "DROP")) (bytes_eq parts.0 (codes "DONE")) parts.1
 
 -- what a line asks for can be asked
-pub input_askable : (sort : Sort) (text : List ℕ) → IsAskable (input_of sort text)
-input_askable Command text = command_askable (command_of system_user text) (of_asked each_askable system_user text)
-input_askable AtSite text = act_askable text (cut_at_blank text)
+pub input_askable : (sort : Sort) (now : ℕ) (text : List ℕ) → IsAskable (input_of sort now text)
+input_askable Command now text = command_askable (command_of system_user now text) (of_asked each_askable system_user now text)
+input_askable AtSite now text = act_askable text (cut_at_blank text)
 
-pub askable_as : (sort : Sort) (text : List ℕ) (input asked : Input) → input ≡ input_of sort text → input ≡ asked → IsAskable asked
-askable_as sort text input asked from is = subst IsAskable (sym from ∙ is) (input_askable sort text)
+pub askable_as : (sort : Sort) (now : ℕ) (text : List ℕ) (input asked : Input) → input ≡ input_of sort now text → input ≡ asked → IsAskable asked
+askable_as sort now text input asked from is = subst IsAskable (sym from ∙ is) (input_askable sort now text)
 
 -- ---- the site that a line leaves
 

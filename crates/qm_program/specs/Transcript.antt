@@ -47,9 +47,9 @@ turn_of site StopNode = not_built site
 turn_of site StartNode = not_built site
 turn_of site (TakeManager on) = not_built site
 
--- what a line does
+-- what a line does; each is read at the base of the system time, since there is no clock
 abbrev pub turn : Site → ScriptLine → Turn
-turn site line = turn_of site (input_of line.sort line.text)
+turn site line = turn_of site (input_of line.sort 0 line.text)
 
 -- what the transcript has of an answer to a line
 abbrev pub answer_text : ScriptLine → List (List ℕ) → List ℕ

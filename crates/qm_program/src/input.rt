@@ -9,27 +9,31 @@ ghost use Rattle.qm_program.specs.Wanting.{MayWantMemory};
 use crate::act::read_act;
 use crate::script::{Line, Sort};
 use qm_dcl::{DclFault, read_command};
-use qm_kinds::{Input, system_user};
+use qm_kinds::{Input, Moment, system_user};
 use std::alloc::{AllocError, Global};
 
 // A command that can't be read is a fault at its place.
-fn read_typed(alloc: Global, text: &[u8]) -> Result<Input, AllocError>
-    ensures { IfOk result (λ input. input ≡ or_fault (command_of system_user text.now)) }
+fn read_typed(alloc: Global, text: &[u8], now: Moment) -> Result<Input, AllocError>
+    ensures { IfOk result (λ input. input ≡ or_fault (command_of system_user now text.now)) }
 {
-    match read_command(alloc, text, system_user()) {
+    match read_command(alloc, text, system_user(), now) {
         Ok(input) => Ok(input),
         Err(DclFault::At { place, kind }) => Ok(Input::Fault { place, kind }),
         Err(DclFault::NoMemory) => Err(AllocError),
     }
 }
 
-/// What a line asks for: a command behind a `$`, an act at the site behind a `!`.
-pub(crate) fn read_input(alloc: Global, line: &Line<'_>) -> Result<Input, AllocError>
-    ensures input { IfOk result (λ input. input ≡ input_of (sort_view line.now.sort) line.now.text.now) }
-    ensures no_memory { OnErr result (MayWantMemory (sort_view line.now.sort) (input_of (sort_view line.now.sort) line.now.text.now)) }
+/// What a line asks for that is read at a moment: a command behind a `$`, an act at the site behind a `!`.
+pub(crate) fn read_input(
+    alloc: Global,
+    line: &Line<'_>,
+    now: Moment,
+) -> Result<Input, AllocError>
+    ensures input { IfOk result (λ input. input ≡ input_of (sort_view line.now.sort) now line.now.text.now) }
+    ensures no_memory { OnErr result (MayWantMemory (sort_view line.now.sort) (input_of (sort_view line.now.sort) now line.now.text.now)) }
 {
     match line.sort {
-        Sort::Command => read_typed(alloc, line.text),
+        Sort::Command => read_typed(alloc, line.text, now),
         Sort::Site => read_act(alloc, line.text),
     }
 }

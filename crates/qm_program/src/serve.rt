@@ -18,7 +18,7 @@ use crate::input::read_input;
 use crate::script::Line;
 use qm_disk::Disk;
 use qm_io::{Sink, write_whole};
-use qm_kinds::{Input, ParseKind, Query, Refusal, Request};
+use qm_kinds::{Input, Moment, ParseKind, Query, Refusal, Request};
 use qm_manager::{AskFault, Manager};
 use qm_show::{Prefix, show_full, show_journal, show_refusal, show_reply, show_rows};
 use qm_state::Refused;
@@ -154,7 +154,7 @@ fn serve<O: Sink, D: Disk>(
         node: line.node,
         line: line.number,
     };
-    let Ok(input) = read_input(alloc, line) else {
+    let Ok(input) = read_input(alloc, line, Moment::BASE) else {
         return Err(ServeEnd::NoMemory);
     };
     match answer(alloc, manager, &prefix, &input) {

@@ -2,7 +2,7 @@
 use crate::names::name;
 use qm_dcl::{DclFault, read_command};
 use qm_kinds::{
-    FileName, Form, Input, Job, JobKind, Name, NameOrNumber, NewQueue, ParseKind, QueueChange,
+    FileName, Form, Input, Job, JobKind, Moment, Name, NameOrNumber, NewQueue, ParseKind, QueueChange,
     QueueKind, Request, Shape, StopMode,
 };
 use std::alloc::Global;
@@ -803,7 +803,7 @@ fn is_request(request: &Request, asked: Asked) -> bool {
 
 // Whether a text asks for what is meant.
 fn asks_for(alloc: Global, text: &[u8], asked: Asked) -> bool {
-    match (read_command(alloc, text, name(USER)), asked) {
+    match (read_command(alloc, text, name(USER), Moment::BASE), asked) {
         (Ok(Input::Ask(request)), asked) => is_request(&request, asked),
         (Ok(Input::Show(query)), Asked::Show(number)) => query.number == Some(number),
         _ => false,
@@ -812,7 +812,7 @@ fn asks_for(alloc: Global, text: &[u8], asked: Asked) -> bool {
 
 // What is wrong with a text.
 fn fault_of(alloc: Global, text: &str) -> Option<DclFault> {
-    match read_command(alloc, text.as_bytes(), name(USER)) {
+    match read_command(alloc, text.as_bytes(), name(USER), Moment::BASE) {
         Ok(_) => None,
         Err(fault) => Some(fault),
     }
