@@ -1,7 +1,7 @@
 // Clocks: the trait, one in memory, and the system's.
 ghost use Rattle.std.specs.Prelude.{◌≡◌, ◌++◌, ◌∷◌, [], ℕ, ◌<◌, List, Option, length, slice_get, is_some, Some, None};
 ghost use Rattle.std.specs.Io.KnownBytes.{Appends};
-ghost use Rattle.core.specs.Duration.{as_nanos};
+ghost use Rattle.std.specs.Duration.{as_nanos};
 ghost use Rattle.qm_io.specs.Adapters.{system_of, last_told};
 ghost use Rattle.qm_io.specs.Clock.{behind_next, moment_since_1970};
 
