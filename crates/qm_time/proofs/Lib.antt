@@ -6,3 +6,4 @@ pub mod ReadingLemmas
 pub mod PrintedLemmas
 pub mod SameLemmas
 pub mod FaultLemmas
+pub mod LengthLemmas

@@ -1,5 +1,5 @@
-//! The texts of moments. `text_of` and `print_time` print one as 17-NOV-1858 00:00:00.00. The calendar and the printed
-//! text are defined in `specs/`; the dates are found by `jiff`.
+//! The texts of moments. `text_of` and `print_time` print one as 17-NOV-1858 00:00:00.00, and `read_time` reads one. The
+//! calendar, the printed text and the grammar of times are defined in `specs/`; the dates are found by `jiff`.
 #![tactic(auto)]
 
 mod clock;
@@ -13,6 +13,6 @@ mod text;
 mod time;
 
 pub use fault::TimeFault;
-pub use laws::{no_time_goes_on_at_a_fault, printed_moments_read_back};
-pub use moment::read_time;
+pub use laws::{no_time_goes_on_at_a_fault, printed_moments_read_back, times_are_short};
+pub use moment::{TIME_BYTES, read_time};
 pub use text::{TimeText, print_time, text_of};

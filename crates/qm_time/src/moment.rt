@@ -13,6 +13,9 @@ const DAY: u64 = 8_640_000;
 // Hundredths of a second from the first of January of the year 0 to 17-NOV-1858.
 const BASE: u64 = 678_941 * DAY;
 
+/// The most bytes that a time has: a date, a blank, a clock time, a sign and a delta.
+pub const TIME_BYTES: usize = 40;
+
 /// The moment that a text names, where `now` is the present one: `+` or `-` and a delta, or an absolute time and
 /// behind it, or not, `+` or `-` and a delta. `Form` tells where the text goes wrong. `Range` says that the text is a
 /// time, whose date doesn't exist or whose moment lies before 17-NOV-1858 or behind 31-DEC-9999. It takes no memory.
