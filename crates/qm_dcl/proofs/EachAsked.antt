@@ -11,8 +11,9 @@ use Rattle.qm_kinds.specs.declared.input.Input.{Input}
 use Rattle.qm_kinds.specs.declared.input.Input.TheVariants.{Ask, Show}
 use Rattle.qm_kinds.specs.declared.queue.NewQueue.{NewQueue}
 use Rattle.qm_kinds.specs.declared.queue.QueueChange.{QueueChange}
+use Rattle.qm_kinds.specs.declared.request.EntryChange.{EntryChange}
 use Rattle.qm_kinds.specs.declared.request.Job.{Job}
-use Rattle.qm_kinds.specs.declared.request.Request.TheVariants.{DefineForm, DeleteForm, DefineCharacteristic, DeleteCharacteristic, InitializeQueue, SetQueue, StartQueue, StopQueue, AbortJob, DeleteQueue, Merge, Submit, DeleteEntry}
+use Rattle.qm_kinds.specs.declared.request.Request.TheVariants.{DefineForm, DeleteForm, DefineCharacteristic, DeleteCharacteristic, InitializeQueue, SetQueue, StartQueue, StopQueue, AbortJob, DeleteQueue, Merge, Submit, SetEntry, DeleteEntry}
 use Rattle.qm_kinds.specs.declared.request.StopMode.{StopMode}
 use Rattle.qm_kinds.specs.declared.request.StopMode.TheVariants as mode
 use Rattle.qm_grammar.specs.declared.fault.Fault.{Fault}
@@ -32,6 +33,7 @@ use Rattle.qm_dcl.specs.Forms.{form_named}
 use Rattle.qm_dcl.specs.Settings.{settings_of}
 use Rattle.qm_dcl.specs.Lists.{lists_of}
 use Rattle.qm_dcl.specs.Submitting.{job_of}
+use Rattle.qm_dcl.specs.Entries.{entry_change_of}
 use Rattle.qm_dcl.specs.Showing.{query_of}
 use Rattle.qm_dcl.specs.Queues.{change_of, new_queue_of, stop_of, queue_request}
 use Rattle.qm_dcl.specs.Command.{asked, not_built, judged, asked_with, meant, command_named, command_of}
@@ -67,6 +69,7 @@ or_empty (Some xs) few = few
 pub record OfEach (P : Input → Type 0) : Type 0 where
   pub shows : (number : ℕ) → P (Show (query_of number))
   pub submits : (job : Job) → HasFew job.characteristics → P (Ask (Submit job))
+  pub sets_entry : (number : ℕ) (change : EntryChange) → HasFewIfGiven change.characteristics → P (Ask (SetEntry number change))
   pub deletes_entry : (number : ℕ) → P (Ask (DeleteEntry number))
   pub defines_form : (form : Form) → is_built_request (DefineForm form) ≡ true → P (Ask (DefineForm form))
   pub deletes_form : (name : List ℕ) → P (Ask (DeleteForm name))
@@ -149,6 +152,10 @@ module _ {P : Input → Type 0} (each : OfEach P) (user : List ℕ) where
     of_file kind None = tt
     of_file kind (Some file) = each.submits (job_of user kind file s lists) (or_empty lists.characteristics short.0)
 
+    of_changed : (number : Option ℕ) → IfSome (option_map Ask (option_map (λ n. SetEntry n (entry_change_of s.job s.queue lists.characteristics)) number)) P
+    of_changed None = tt
+    of_changed (Some number) = each.sets_entry number (entry_change_of s.job s.queue lists.characteristics) short.0
+
     of_request : (c : Command) (name : List ℕ) → IsShort name → IfSome (option_map Ask (queue_request name c s lists)) P
     of_request command.InitializeQueue name is =
         each.initializes (new_queue_of name s.queue_settings lists) (new_built name s lists is fit) (or_empty lists.targets short.1) short.0
@@ -167,6 +174,7 @@ module _ {P : Input → Type 0} (each : OfEach P) (user : List ℕ) where
     of_command command.ShowEntry = of_shown s.entry
     of_command command.Submit = of_file Batch s.file
     of_command command.Print = of_file Print s.file
+    of_command command.SetEntry = of_changed s.entry
     of_command command.DeleteEntry = of_entry s.entry
     of_command command.DefineForm = of_form s.definition s.definition.name s.definition.form_number fit.2 fit.3
     of_command command.DefineCharacteristic = of_characteristic s.definition.name s.definition.characteristic_number fit.2
@@ -182,16 +190,16 @@ module _ {P : Input → Type 0} (each : OfEach P) (user : List ℕ) where
   of_given c lists (Ok s) short fit = or_not_built (asked user c s lists) (of_command s lists fit short c)
   of_given c lists (Err f) short fit = tt
 
-  of_built : (built : Bool) (text : List ℕ) (c : Command) → IfOk (cond built (meant user text c) (Err not_built)) P
-  of_built true text c =
-      of_given c (lists_of text (parts_in text)) (judged (command_in text) (settings_of text c (parts_in text))) (lists_are_short text)
-      (judged_fit (command_in text) (settings_of text c (parts_in text)) (settings_are_fit text c (parts_in text)))
-  of_built false text c = tt
+  of_built : (built : Bool) (now : ℕ) (text : List ℕ) (c : Command) → IfOk (cond built (meant user now text c) (Err not_built)) P
+  of_built true now text c =
+      of_given c (lists_of text (parts_in text)) (judged (command_in text) (settings_of now text c (parts_in text))) (lists_are_short text)
+      (judged_fit (command_in text) (settings_of now text c (parts_in text)) (settings_are_fit now text c (parts_in text)))
+  of_built false now text c = tt
 
-  of_named : (text : List ℕ) (named : Option Command) → IfOk (command_named user text named) P
-  of_named text None = tt
-  of_named text (Some c) = of_built (is_built text (tokens_in text) c) text c
+  of_named : (now : ℕ) (text : List ℕ) (named : Option Command) → IfOk (command_named user now text named) P
+  of_named now text None = tt
+  of_named now text (Some c) = of_built (is_built text (tokens_in text) c) now text c
 
   -- it holds of what a text asks for
   pub of_asked : (now : ℕ) (text : List ℕ) → IfOk (command_of user now text) P
-  of_asked now text = of_named text (named_command text (tokens_in text))
+  of_asked now text = of_named now text (named_command text (tokens_in text))

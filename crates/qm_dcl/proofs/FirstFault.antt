@@ -58,31 +58,31 @@ module _ (user : List ℕ) (c : Command) (lists : Lists) where
       let P : Fault → Type 0 = λ x. g.place ≤ x.place in
       subst P a (earlier (nat_lt value.place e.place) value e g refl is)
 
-module _ (user text : List ℕ) where
-  right_built : (built : Bool) (c : Command) → IfOk (cond built (meant user text c) (Err not_built)) (λ _. IsOk (command_in text))
-  right_built true c = right user c (lists_of text (parts_in text)) (command_in text) (settings_of text c (parts_in text))
+module _ (user : List ℕ) (now : ℕ) (text : List ℕ) where
+  right_built : (built : Bool) (c : Command) → IfOk (cond built (meant user now text c) (Err not_built)) (λ _. IsOk (command_in text))
+  right_built true c = right user c (lists_of text (parts_in text)) (command_in text) (settings_of now text c (parts_in text))
   right_built false c = tt
 
-  right_named : (named : Option Command) → IfOk (command_named user text named) (λ _. IsOk (command_in text))
+  right_named : (named : Option Command) → IfOk (command_named user now text named) (λ _. IsOk (command_in text))
   right_named None = tt
   right_named (Some c) = right_built (is_built text (tokens_in text) c) c
 
   -- only a command of the grammar asks for something
-  pub is_command : (now : ℕ) → IfOk (command_of user now text) (λ _. IsOk (command_in text))
-  is_command now = right_named (named_command text (tokens_in text))
+  pub is_command : IfOk (command_of user now text) (λ _. IsOk (command_in text))
+  is_command = right_named (named_command text (tokens_in text))
 
   not_behind : (f g : Fault) → told not_built ≡ told g → g.place ≤ f.place
   not_behind f g is = let same = same_told not_built g is in let at : g.place ≡ 0 = ap (λ (x : Fault). x.place) (sym same) in omega (arith, at)
 
   first_built : (built : Bool) (c : Command) (f g : Fault) → command_in text ≡ wrong f
-      → cond built (meant user text c) (Err not_built) ≡ told g → g.place ≤ f.place
-  first_built true c f g wrong is = first user c (lists_of text (parts_in text)) (command_in text) (settings_of text c (parts_in text)) f g wrong is
+      → cond built (meant user now text c) (Err not_built) ≡ told g → g.place ≤ f.place
+  first_built true c f g wrong is = first user c (lists_of text (parts_in text)) (command_in text) (settings_of now text c (parts_in text)) f g wrong is
   first_built false c f g wrong is = not_behind f g is
 
-  first_named : (named : Option Command) (f g : Fault) → command_in text ≡ wrong f → command_named user text named ≡ told g → g.place ≤ f.place
+  first_named : (named : Option Command) (f g : Fault) → command_in text ≡ wrong f → command_named user now text named ≡ told g → g.place ≤ f.place
   first_named None f g wrong is = not_behind f g is
   first_named (Some c) f g wrong is = first_built (is_built text (tokens_in text) c) c f g wrong is
 
   -- no fault is told behind the first one of the grammar
-  pub is_first : (now : ℕ) (f g : Fault) → command_in text ≡ wrong f → command_of user now text ≡ told g → g.place ≤ f.place
-  is_first now f g wrong is = first_named (named_command text (tokens_in text)) f g wrong is
+  pub is_first : (f g : Fault) → command_in text ≡ wrong f → command_of user now text ≡ told g → g.place ≤ f.place
+  is_first f g wrong is = first_named (named_command text (tokens_in text)) f g wrong is

@@ -2,6 +2,8 @@
 use Rattle.std.proofs.Common.{◌≡◌, ℕ, Bool, true, false, cond, ◌==◌, ◌+◌, List, [], ◌∷◌, take, drop, Option, None, Some, Result, Ok, Err, IfOk, IfSome, refl, sym, subst}
 use Rattle.std.specs.Prelude.{option_map, option_and_then, position}
 use Rattle.qm_kinds.specs.Files.{name_of, file_name_of}
+use Rattle.qm_kinds.specs.declared.entry.JobRetain.{JobRetain}
+use Rattle.qm_kinds.specs.declared.entry.JobRetain.TheVariants.{Until}
 use Rattle.qm_lex.specs.declared.token.Token.{Token}
 use Rattle.qm_grammar.specs.declared.fault.Fault.{Fault}
 use Rattle.qm_grammar.specs.declared.table.Command.{Command}
@@ -15,10 +17,10 @@ use Rattle.qm_dcl.specs.declared.settings.Settings.{Settings}
 use Rattle.qm_dcl.specs.declared.settings.QueueSettings.{QueueSettings}
 use Rattle.qm_dcl.specs.declared.value.Location.{Location}
 use Rattle.qm_dcl.specs.declared.value.Side.{Side}
-use Rattle.qm_dcl.specs.Values.{said_by, raised_by, are_digits, byte_said, form_number_said, entry_said, blocks_said, if_passes, short_name_said, definable_name_said, node_said, form_said, characteristic_said, behind_colon, before_colon, device_said, has_equals, located, location_cut_at, location_said, schedule_said, side_said}
+use Rattle.qm_dcl.specs.Values.{said_by, raised_by, are_digits, byte_said, form_number_said, entry_said, blocks_said, if_passes, short_name_said, definable_name_said, node_said, form_said, characteristic_said, behind_colon, before_colon, device_said, has_equals, located, location_cut_at, location_said, schedule_said, queue_retain_said, job_retain_said, is_until, side_said, moment_said}
 use Rattle.qm_dcl.specs.Forms.{with_margin}
-use Rattle.qm_dcl.specs.Given.{queue_marked, with_word, with_job, with_queue_settings, with_definition, with_shape, queue_given, entry_given, blocks_with, valued, schedule_given, margin_given, definable_given, form_given, characteristic_given, merge_given, file_given, parametered}
-use Rattle.qm_dcl.specs.Settings.{nothing_given, or_value_fault, with_key, with_value, inner_value, with_part, on_settings, settings_from, settings_of}
+use Rattle.qm_dcl.specs.Given.{queue_marked, with_word, with_job, with_queue_settings, with_definition, with_shape, queue_given, entry_given, blocks_with, valued, schedule_given, queue_retain_given, with_retain, until_given, after_given, margin_given, definable_given, form_given, characteristic_given, merge_given, file_given, parametered}
+use Rattle.qm_dcl.specs.Settings.{nothing_given, or_value_fault, with_key, with_until, with_retain_word, with_job_retain, is_of_queue, with_retained, with_value, inner_value, with_part, on_settings, settings_from, settings_of}
 
 abbrev pub IsShort : List ℕ → Type 0
 IsShort name = is_short name ≡ true
@@ -103,6 +105,7 @@ marked_location queue words.Batch = refl
 marked_location queue words.Start = refl
 marked_location queue words.BlockLimit = refl
 marked_location queue words.NoBlockLimit = refl
+marked_location queue words.NoRetain = refl
 marked_location queue _ = refl
 
 word_fit : (s : Settings) (word : Word) → AreFit s → AreFit (with_word s word)
@@ -114,6 +117,7 @@ queue_fit s said fit = giving IsShort (λ name. record s { queue = Some name }) 
 valued_fit : (s : Settings) (word : Option Word) (said : List ℕ) → AreFit s → IfSome (valued s word said) AreFit
 valued_fit s None said fit = tt
 valued_fit s (Some words.Queue) said fit = queue_fit s said fit
+valued_fit s (Some words.Requeue) said fit = queue_fit s said fit
 valued_fit s (Some words.Entry) said fit = kept (λ number. record s { entry = Some number }) (entry_said said) (λ number. fit)
 valued_fit s (Some words.Name) said fit = kept (λ name. with_job s (record s.job { name = Some name })) (name_of said) (λ name. fit)
 valued_fit s (Some words.Priority) said fit = kept (λ number. with_job s (record s.job { priority = Some number })) (byte_said said) (λ number. fit)
@@ -158,6 +162,7 @@ file_fit s said fit = kept (λ file. record s { file = Some file }) (file_name_o
 parametered_fit : (s : Settings) (c : Command) (said : List ℕ) → AreFit s → IfSome (parametered s c said) AreFit
 parametered_fit s command.Submit said fit = file_fit s said fit
 parametered_fit s command.Print said fit = file_fit s said fit
+parametered_fit s command.SetEntry said fit = kept (λ number. record s { entry = Some number }) (entry_said said) (λ number. fit)
 parametered_fit s command.ShowEntry said fit = shown_fit s said (are_digits said) fit
 parametered_fit s command.InitializeQueue said fit = queue_fit s said fit
 parametered_fit s command.SetQueue said fit = queue_fit s said fit
@@ -193,28 +198,56 @@ key_fit text s key (Some side) (Some number) fit =
 key_fit text s key None inner fit = tt
 key_fit text s key (Some side) None fit = equals_fit s key (has_equals text key) fit
 
-value_fit : (text : List ℕ) (s : Settings) (word : Option Word) (token : Token) (inner : Option Token) → AreFit s → IfOk (with_value text s word token inner) AreFit
-value_fit text s (Some words.Margin) token inner fit = key_fit text s token (side_said (raised_by text token)) inner fit
-value_fit text s (Some words.Schedule) token inner fit =
+until_fit : (now : ℕ) (text : List ℕ) (s : Settings) (token : Token) (inner : Option Token) → AreFit s → IfOk (with_until now text s token inner) AreFit
+until_fit now text s token None fit = equals_fit s token (has_equals text token) fit
+until_fit now text s token (Some time) fit =
+    or_fault_fit time (until_given s (moment_said now (raised_by text time)))
+    (kept (λ at. with_retain s (Until at)) (moment_said now (raised_by text time)) (λ at. fit))
+
+retain_word_fit : (s : Settings) (token : Token) (retain : Option JobRetain) (inner : Option Token) → AreFit s → IfOk (with_retain_word s token retain inner) AreFit
+retain_word_fit s token None inner fit = tt
+retain_word_fit s token (Some retain) None fit = fit
+retain_word_fit s token (Some retain) (Some value) fit = tt
+
+job_retain_fit : (now : ℕ) (text : List ℕ) (s : Settings) (token : Token) (raised : List ℕ) (inner : Option Token) (until : Bool) → AreFit s
+    → IfOk (cond until (with_until now text s token inner) (with_retain_word s token (job_retain_said raised) inner)) AreFit
+job_retain_fit now text s token raised inner true fit = until_fit now text s token inner fit
+job_retain_fit now text s token raised inner false fit = retain_word_fit s token (job_retain_said raised) inner fit
+
+retained_fit : (now : ℕ) (text : List ℕ) (s : Settings) (token : Token) (raised : List ℕ) (inner : Option Token) (queue : Bool) → AreFit s
+    → IfOk (cond queue (or_value_fault token (queue_retain_given s raised)) (with_job_retain now text s token raised inner)) AreFit
+retained_fit now text s token raised inner true fit =
+    or_fault_fit token (queue_retain_given s raised)
+    (kept (λ retain. with_queue_settings s (record s.queue_settings { retain = Some retain })) (queue_retain_said raised) (λ retain. fit))
+retained_fit now text s token raised inner false fit = job_retain_fit now text s token raised inner (is_until raised) fit
+
+value_fit : (now : ℕ) (text : List ℕ) (c : Command) (s : Settings) (word : Option Word) (token : Token) (inner : Option Token) → AreFit s
+    → IfOk (with_value now text c s word token inner) AreFit
+value_fit now text c s (Some words.Margin) token inner fit = key_fit text s token (side_said (raised_by text token)) inner fit
+value_fit now text c s (Some words.After) token inner fit =
+    or_fault_fit token (after_given s (moment_said now (raised_by text token)))
+    (kept (λ at. with_job s (record s.job { after = Some (Some at) })) (moment_said now (raised_by text token)) (λ at. fit))
+value_fit now text c s (Some words.Retain) token inner fit = retained_fit now text s token (raised_by text token) inner (is_of_queue c) fit
+value_fit now text c s (Some words.Schedule) token inner fit =
     or_fault_fit token (schedule_given s (raised_by text token))
     (kept (λ by_size. with_queue_settings s (record s.queue_settings { by_size = Some by_size })) (schedule_said (raised_by text token)) (λ by_size. fit))
-value_fit text s word token inner fit = or_fault_fit token (valued s word (said_by text token)) (valued_fit s word (said_by text token) fit)
+value_fit now text c s word token inner fit = or_fault_fit token (valued s word (said_by text token)) (valued_fit s word (said_by text token) fit)
 
-part_fit : (text : List ℕ) (c : Command) (s : Settings) (part : Part) (behind : List Part) → AreFit s → IfOk (with_part text c s part behind) AreFit
-part_fit text c s (Parameter token) behind fit = parameter_fit text c s token s.awaits_object fit
-part_fit text c s (Qualifier word place) behind fit = word_fit s word fit
-part_fit text c s (Value token) behind fit = value_fit text s s.word token (inner_value behind) fit
-part_fit text c s (KeyValue token) behind fit = fit
+part_fit : (now : ℕ) (text : List ℕ) (c : Command) (s : Settings) (part : Part) (behind : List Part) → AreFit s → IfOk (with_part now text c s part behind) AreFit
+part_fit now text c s (Parameter token) behind fit = parameter_fit text c s token s.awaits_object fit
+part_fit now text c s (Qualifier word place) behind fit = word_fit s word fit
+part_fit now text c s (Value token) behind fit = value_fit now text c s s.word token (inner_value behind) fit
+part_fit now text c s (KeyValue token) behind fit = fit
 
 then_fit : (given : Result Settings Fault) (go_on : Settings → Result Settings Fault) → IfOk given AreFit
     → ((s : Settings) → AreFit s → IfOk (go_on s) AreFit) → IfOk (on_settings given go_on) AreFit
 then_fit (Ok s) go_on fit next = next s fit
 then_fit (Err f) go_on fit next = tt
 
-parts_fit : (text : List ℕ) (c : Command) (s : Settings) (parts : List Part) → AreFit s → IfOk (settings_from text c s parts) AreFit
-parts_fit text c s [] fit = fit
-parts_fit text c s (part ∷ parts) fit =
-    then_fit (with_part text c s part parts) (λ t. settings_from text c t parts) (part_fit text c s part parts fit) (λ t fit. parts_fit text c t parts fit)
+parts_fit : (now : ℕ) (text : List ℕ) (c : Command) (s : Settings) (parts : List Part) → AreFit s → IfOk (settings_from now text c s parts) AreFit
+parts_fit now text c s [] fit = fit
+parts_fit now text c s (part ∷ parts) fit =
+    then_fit (with_part now text c s part parts) (λ t. settings_from now text c t parts) (part_fit now text c s part parts fit) (λ t fit. parts_fit now text c t parts fit)
 
-pub settings_are_fit : (text : List ℕ) (c : Command) (parts : List Part) → IfOk (settings_of text c parts) AreFit
-settings_are_fit text c parts = parts_fit text c (nothing_given c) parts (tt, tt, tt, tt)
+pub settings_are_fit : (now : ℕ) (text : List ℕ) (c : Command) (parts : List Part) → IfOk (settings_of now text c parts) AreFit
+settings_are_fit now text c parts = parts_fit now text c (nothing_given c) parts (tt, tt, tt, tt)

@@ -11,7 +11,6 @@ use Rattle.qm_grammar.specs.Finding.{word_in, begins_name}
 
 -- some form of the command is built
 abbrev pub is_built_command : Command → Bool
-is_built_command command.SetEntry = false
 is_built_command command.StartManager = false
 is_built_command command.ShowForms = false
 is_built_command command.ShowCharacteristics = false
@@ -19,6 +18,7 @@ is_built_command command.ShowManagers = false
 is_built_command command.ShowQueue = false
 is_built_command command.InitializeQueue = true
 is_built_command command.SetQueue = true
+is_built_command command.SetEntry = true
 is_built_command command.StartQueue = true
 is_built_command command.StopQueue = true
 is_built_command command.DeleteQueue = true
@@ -39,12 +39,6 @@ is_built_word words.Managers = false
 is_built_word words.ShownCharacteristics = false
 is_built_word words.Device = false
 is_built_word words.AllJobs = false
-is_built_word words.Retain = false
-is_built_word words.NoRetain = false
-is_built_word words.After = false
-is_built_word words.NoAfter = false
-is_built_word words.Hold = false
-is_built_word words.Release = false
 is_built_word words.Notify = false
 is_built_word words.NoNotify = false
 is_built_word words.Identify = false
@@ -52,6 +46,12 @@ is_built_word words.NoIdentify = false
 is_built_word words.NoLogFile = false
 is_built_word words.NoPrinter = false
 is_built_word words.Keep = false
+is_built_word words.Retain = true
+is_built_word words.NoRetain = true
+is_built_word words.After = true
+is_built_word words.NoAfter = true
+is_built_word words.Hold = true
+is_built_word words.Release = true
 is_built_word words.Queue = true
 is_built_word words.Entry = true
 is_built_word words.Batch = true

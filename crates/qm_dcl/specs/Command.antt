@@ -6,7 +6,7 @@ use Rattle.qm_kinds.specs.declared.input.Input.TheVariants.{Ask, Show}
 use Rattle.qm_kinds.specs.declared.refusal.ParseKind.TheVariants as fault
 use Rattle.qm_kinds.specs.declared.entry.JobKind.TheVariants.{Batch, Print}
 use Rattle.qm_kinds.specs.declared.request.Request.{Request}
-use Rattle.qm_kinds.specs.declared.request.Request.TheVariants.{DefineForm, DeleteForm, DefineCharacteristic, DeleteCharacteristic, Submit, DeleteEntry}
+use Rattle.qm_kinds.specs.declared.request.Request.TheVariants.{DefineForm, DeleteForm, DefineCharacteristic, DeleteCharacteristic, Submit, SetEntry, DeleteEntry}
 use Rattle.qm_grammar.specs.declared.fault.Fault.{Fault}
 use Rattle.qm_grammar.specs.declared.table.Command.{Command}
 use Rattle.qm_grammar.specs.declared.table.Command.TheVariants as command
@@ -19,6 +19,7 @@ use Rattle.qm_dcl.specs.Forms.{form_of, characteristic_of}
 use Rattle.qm_dcl.specs.Settings.{settings_of}
 use Rattle.qm_dcl.specs.Lists.{lists_of}
 use Rattle.qm_dcl.specs.Submitting.{job_of}
+use Rattle.qm_dcl.specs.Entries.{entry_change_of}
 use Rattle.qm_dcl.specs.Showing.{query_of}
 use Rattle.qm_dcl.specs.Queues.{queue_request}
 
@@ -26,6 +27,8 @@ use Rattle.qm_dcl.specs.Queues.{queue_request}
 abbrev pub request_of : List ℕ → Command → Settings → Lists → Option Request
 request_of user command.Submit s lists = option_map (λ file. Submit (job_of user Batch file s lists)) s.file
 request_of user command.Print s lists = option_map (λ file. Submit (job_of user Print file s lists)) s.file
+request_of user command.SetEntry s lists =
+    option_map (λ number. SetEntry number (entry_change_of s.job s.queue lists.characteristics)) s.entry
 request_of user command.DeleteEntry s lists = option_map DeleteEntry s.entry
 request_of user command.DefineForm s lists = option_map DefineForm (form_of s.definition)
 request_of user command.DefineCharacteristic s lists = option_map DefineCharacteristic (characteristic_of s.definition)
@@ -53,16 +56,16 @@ asked_with user c lists (Ok s) = ok_or (asked user c s lists) not_built
 asked_with user c lists (Err f) = Err f
 
 -- what a text asks for that names a command which is built
-abbrev pub meant : List ℕ → List ℕ → Command → Result Input Fault
-meant user text c = asked_with user c (lists_of text (parts_in text)) (judged (command_in text) (settings_of text c (parts_in text)))
+abbrev pub meant : List ℕ → ℕ → List ℕ → Command → Result Input Fault
+meant user now text c = asked_with user c (lists_of text (parts_in text)) (judged (command_in text) (settings_of now text c (parts_in text)))
 
 -- what a text asks for that names a command
-abbrev pub command_named : List ℕ → List ℕ → Option Command → Result Input Fault
-command_named user text None = Err not_built
-command_named user text (Some c) = if is_built text (tokens_in text) c then meant user text c else Err not_built
+abbrev pub command_named : List ℕ → ℕ → List ℕ → Option Command → Result Input Fault
+command_named user now text None = Err not_built
+command_named user now text (Some c) = if is_built text (tokens_in text) c then meant user now text c else Err not_built
 
--- What the text of a user asks for at a moment, or the fault with the least place. A text that names no command that is built, or
+-- What the text of a user asks for that is read at a moment, or the fault with the least place. A text that names no command that is built, or
 -- has a qualifier of it that isn't, isn't built, whatever else is wrong with it; nor is another form of a command, where nothing is
 -- wrong.
 abbrev pub command_of : List ℕ → ℕ → List ℕ → Result Input Fault
-command_of user now text = command_named user text (named_command text (tokens_in text))
+command_of user now text = command_named user now text (named_command text (tokens_in text))

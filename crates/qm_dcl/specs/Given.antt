@@ -2,7 +2,10 @@
 -- DCL Dictionary, on the commands of queues, jobs, forms and characteristics.
 use Rattle.std.specs.Prelude.{ℕ, true, false, if◌then◌else◌, List, Option, None, Some, option_map}
 use Rattle.qm_kinds.specs.Files.{name_of, file_name_of}
+use Rattle.qm_kinds.specs.declared.entry.JobRetain.{JobRetain}
+use Rattle.qm_kinds.specs.declared.entry.JobRetain.TheVariants.{Until}
 use Rattle.qm_kinds.specs.declared.form.Shape.{Shape}
+use Rattle.qm_kinds.specs.declared.queue.QueueRetain.TheVariants.{Nothing}
 use Rattle.qm_grammar.specs.declared.table.Command.{Command}
 use Rattle.qm_grammar.specs.declared.table.Command.TheVariants as command
 use Rattle.qm_grammar.specs.declared.word.Word.{Word}
@@ -15,7 +18,7 @@ use Rattle.qm_dcl.specs.declared.settings.Stop.{Stop}
 use Rattle.qm_dcl.specs.declared.settings.Stop.TheVariants as stop
 use Rattle.qm_dcl.specs.declared.value.Side.{Side}
 use Rattle.qm_dcl.specs.Forms.{with_default_margins, with_margin}
-use Rattle.qm_dcl.specs.Values.{are_digits, byte_said, form_number_said, entry_said, blocks_said, short_name_said, definable_name_said, form_said, characteristic_said, location_said, schedule_said}
+use Rattle.qm_dcl.specs.Values.{are_digits, byte_said, form_number_said, entry_said, blocks_said, short_name_said, definable_name_said, form_said, characteristic_said, location_said, schedule_said, queue_retain_said}
 
 -- ---- what a qualifier gives by itself
 
@@ -24,6 +27,9 @@ job_marked job words.Restart = record job { restart = Some true }
 job_marked job words.NoRestart = record job { restart = Some false }
 job_marked job words.Flag = record job { flag = true }
 job_marked job words.NoFlag = record job { flag = false }
+job_marked job words.Hold = record job { hold = true }
+job_marked job words.Release = record job { release = true }
+job_marked job words.NoAfter = record job { after = Some None }
 job_marked job _ = job
 
 -- /BLOCK_LIMIT begins without limits, whatever was given before
@@ -32,6 +38,7 @@ queue_marked queue words.Batch = record queue { batch = true }
 queue_marked queue words.Start = record queue { start = true }
 queue_marked queue words.BlockLimit = record queue { blocks = None }
 queue_marked queue words.NoBlockLimit = record queue { blocks = Some (1, 4294967295) }
+queue_marked queue words.NoRetain = record queue { retain = Some Nothing }
 queue_marked queue _ = queue
 
 -- /MARGIN begins with the margins of a form for which none are given
@@ -85,10 +92,11 @@ abbrev pub blocks_with : Option (ℕ × ℕ) → ℕ → ℕ × ℕ
 blocks_with None upper = (1, upper)
 blocks_with (Some limits) upper = (limits.1, upper)
 
--- The value of a qualifier; those of a list are only judged here. The words of /SCHEDULE and the keys of /MARGIN are read below,
--- and no other qualifier that is built takes a value.
+-- The value of a qualifier; those of a list are only judged here. The words of /SCHEDULE and /RETAIN, the keys of /MARGIN and the
+-- times of /AFTER are read below, and no other qualifier that is built takes a value.
 abbrev pub valued : Settings → Option Word → List ℕ → Option Settings
 valued s (Some words.Queue) said = queue_given s said
+valued s (Some words.Requeue) said = queue_given s said
 valued s (Some words.Entry) said = entry_given s said
 valued s (Some words.Name) said = option_map (λ name. with_job s (record s.job { name = Some name })) (name_of said)
 valued s (Some words.Priority) said = option_map (λ number. with_job s (record s.job { priority = Some number })) (byte_said said)
@@ -108,6 +116,22 @@ valued s _ said = None
 -- the order in which jobs start
 abbrev pub schedule_given : Settings → List ℕ → Option Settings
 schedule_given s raised = option_map (λ by_size. with_queue_settings s (record s.queue_settings { by_size = Some by_size })) (schedule_said raised)
+
+-- which jobs a queue keeps
+abbrev pub queue_retain_given : Settings → List ℕ → Option Settings
+queue_retain_given s raised = option_map (λ retain. with_queue_settings s (record s.queue_settings { retain = Some retain })) (queue_retain_said raised)
+
+-- whether a job is kept
+abbrev pub with_retain : Settings → JobRetain → Settings
+with_retain s retain = with_job s (record s.job { retain = Some retain })
+
+-- the moment until which a job is kept
+abbrev pub until_given : Settings → Option ℕ → Option Settings
+until_given s moment = option_map (λ at. with_retain s (Until at)) moment
+
+-- the moment before which a job doesn't start
+abbrev pub after_given : Settings → Option ℕ → Option Settings
+after_given s moment = option_map (λ at. with_job s (record s.job { after = Some (Some at) })) moment
 
 -- the margin of a side
 abbrev pub margin_given : Settings → Side → List ℕ → Option Settings
@@ -140,6 +164,7 @@ file_given s said = option_map (λ file. record s { file = Some file }) (file_na
 abbrev pub parametered : Settings → Command → List ℕ → Option Settings
 parametered s command.Submit said = file_given s said
 parametered s command.Print said = file_given s said
+parametered s command.SetEntry said = entry_given s said
 parametered s command.ShowEntry said = if are_digits said then entry_given s said else Some s
 parametered s command.InitializeQueue said = queue_given s said
 parametered s command.SetQueue said = queue_given s said

@@ -5,6 +5,7 @@ pub mod Given
 pub mod Settings
 pub mod Lists
 pub mod Submitting
+pub mod Entries
 pub mod Showing
 pub mod Queues
 pub mod Command

@@ -26,7 +26,7 @@ change_of s characteristics = record {
   form = s.form;
   blocks = s.blocks;
   by_size = s.by_size;
-  retain = None;
+  retain = s.retain;
 }
 
 -- a queue for batch jobs or for print jobs, which is generic or not

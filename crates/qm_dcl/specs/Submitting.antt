@@ -30,8 +30,8 @@ abbrev pub with_type : FileName → List ℕ → Option (List ℕ) → FileName
 with_type file type None = record file { extension = Some type }
 with_type file type (Some extension) = file
 
--- A job of a user for a file: where nothing else is given, in the queue of its kind, under the file's name. Only PRINT has
--- qualifiers that give a form, copies and a flag page.
+-- A job of a user for a file: where nothing else is given, in the queue of its kind, under the file's name, and kept as the queue
+-- says. Only PRINT has qualifiers that give a form, copies and a flag page.
 abbrev pub job_of : List ℕ → JobKind → FileName → Settings → Lists → Job
 job_of user kind file s lists = record {
   user = user;
@@ -40,9 +40,9 @@ job_of user kind file s lists = record {
   file = with_type file (default_type kind) file.extension;
   name = unwrap_or s.job.name file.name;
   priority = unwrap_or s.job.priority 100;
-  after = None;
-  hold = false;
-  retain = Default;
+  after = unwrap_or s.job.after None;
+  hold = s.job.hold;
+  retain = unwrap_or s.job.retain Default;
   restart = unwrap_or s.job.restart (default_restart kind);
   characteristics = unwrap_or lists.characteristics [];
   form = s.job.form;

@@ -1,18 +1,24 @@
 -- What the values of commands say.
--- OpenVMS User's Manual, on entering commands: names, numbers and quoted strings. DCL Dictionary, INITIALIZE/QUEUE, on /ON and
--- /SCHEDULE, and DEFINE/FORM, on /MARGIN.
+-- OpenVMS User's Manual, on entering commands: names, numbers, quoted strings and times. DCL Dictionary, INITIALIZE/QUEUE, on /ON,
+-- /SCHEDULE and /RETAIN, SUBMIT, on /RETAIN, and DEFINE/FORM, on /MARGIN.
 use Rattle.std.specs.Prelude.{ℕ, ◌+◌, ◌-◌, ◌==◌, nat_lt, nat_le, Bool, true, false, ◌&&◌, ◌||◌, if◌then◌else◌, List, [], ◌∷◌, length, take, drop, map, position, codes, Option, None, Some, option_map, option_and_then}
 use Rattle.std.specs.List.{list_all}
 use Rattle.std.specs.Char.{is_ascii_digit, to_ascii_uppercase}
+use Rattle.std.specs.Result.{result_ok}
 use Rattle.std.specs.Str.{bytes_eq}
 use Rattle.qm_kinds.specs.Files.{name_of}
+use Rattle.qm_kinds.specs.declared.entry.JobRetain.{JobRetain}
+use Rattle.qm_kinds.specs.declared.entry.JobRetain.TheVariants as retain
 use Rattle.qm_kinds.specs.declared.name.TheConstants.{NODE_NAME_BYTES}
+use Rattle.qm_kinds.specs.declared.queue.QueueRetain.{QueueRetain}
+use Rattle.qm_kinds.specs.declared.queue.QueueRetain.TheVariants.{Failed, All}
 use Rattle.qm_kinds.specs.declared.request.NameOrNumber.{NameOrNumber}
 use Rattle.qm_kinds.specs.declared.request.NameOrNumber.TheVariants.{Name, Number}
 use Rattle.qm_lex.specs.declared.token.Token.{Token}
 use Rattle.qm_grammar.specs.Spelled.{is_word, bytes_of}
 use Rattle.qm_model.specs.Built.{is_short, is_definable}
 use Rattle.qm_model.specs.Texts.{value_of}
+use Rattle.qm_time.specs.Moments.{moment_at}
 use Rattle.qm_dcl.specs.declared.value.Location.{Location}
 use Rattle.qm_dcl.specs.declared.value.Side.{Side}
 use Rattle.qm_dcl.specs.declared.value.Side.TheVariants.{Top, Bottom, Left, Right}
@@ -132,6 +138,23 @@ has_equals text token = leads_to_equals (drop token.end text)
 abbrev pub schedule_said : List ℕ → Option Bool
 schedule_said raised = if bytes_eq raised (codes "SIZE") then Some true else if bytes_eq raised (codes "NOSIZE") then Some false else None
 
+-- which jobs a queue keeps: ALL or ERROR
+abbrev pub queue_retain_said : List ℕ → Option QueueRetain
+queue_retain_said raised =
+    if bytes_eq raised (codes "ALL") then Some All else if bytes_eq raised (codes "ERROR") then Some Failed else None
+
+-- whether a job is kept, in one word: ALWAYS, ERROR or DEFAULT
+abbrev pub job_retain_said : List ℕ → Option JobRetain
+job_retain_said raised =
+    if bytes_eq raised (codes "ALWAYS") then Some retain.Always
+    else if bytes_eq raised (codes "ERROR") then Some retain.Failed
+    else if bytes_eq raised (codes "DEFAULT") then Some retain.Default
+    else None
+
+-- the word behind which the moment stands until which a job is kept
+abbrev pub is_until : List ℕ → Bool
+is_until raised = bytes_eq raised (codes "UNTIL")
+
 -- a side of a page
 abbrev pub side_said : List ℕ → Option Side
 side_said raised =
@@ -140,3 +163,9 @@ side_said raised =
     else if bytes_eq raised (codes "LEFT") then Some Left
     else if bytes_eq raised (codes "RIGHT") then Some Right
     else None
+
+-- ---- times
+
+-- the moment that a time names; a relative one counts from now
+abbrev pub moment_said : ℕ → List ℕ → Option ℕ
+moment_said now raised = result_ok (moment_at raised now)

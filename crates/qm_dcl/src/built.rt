@@ -11,8 +11,7 @@ fn is_built_command(command: Command) -> bool
     ensures { result ≡ is_built_command command }
 {
     match command {
-        Command::SetEntry
-        | Command::StartManager
+        Command::StartManager
         | Command::ShowForms
         | Command::ShowCharacteristics
         | Command::ShowManagers
@@ -31,12 +30,6 @@ fn is_built_word(word: Word) -> bool
         | Word::ShownCharacteristics
         | Word::Device
         | Word::AllJobs
-        | Word::Retain
-        | Word::NoRetain
-        | Word::After
-        | Word::NoAfter
-        | Word::Hold
-        | Word::Release
         | Word::Notify
         | Word::NoNotify
         | Word::Identify

@@ -6,6 +6,7 @@ ghost use Rattle.qm_dcl.specs.Faults.{Explains};
 
 use crate::built::is_built;
 use crate::define::{characteristic_of, form_of};
+use crate::entry::entry_change_of;
 use crate::fault::DclFault;
 use crate::lists::{Lists, lists_of};
 use crate::queue::queue_request;
@@ -35,6 +36,10 @@ fn request_of(
     let request = match command {
         Command::Submit => Request::Submit(job_of(alloc, user, JobKind::Batch, s.file?, s, lists)),
         Command::Print => Request::Submit(job_of(alloc, user, JobKind::Print, s.file?, s, lists)),
+        Command::SetEntry => Request::SetEntry {
+            entry: s.entry?,
+            change: entry_change_of(&s.job, s.queue, lists.characteristics),
+        },
         Command::DeleteEntry => Request::DeleteEntry { entry: s.entry? },
         Command::DefineForm => Request::DefineForm(form_of(definition)?),
         Command::DefineCharacteristic => {
@@ -87,15 +92,16 @@ fn meant(
     alloc: Global,
     text: &[u8],
     user: Name,
+    now: Moment,
     command: Command,
     parsed: &Parsed,
 ) -> Result<Input, DclFault>
     requires parts { parsed.now.parts.items ≡ parts_in text.now }
     requires command { parsed.now.command ≡ command_in text.now }
-    ensures read { IfOk result (λ input. meant user text.now command ≡ Ok input) }
-    ensures fault { IfErr result (Explains (meant user text.now command)) }
+    ensures read { IfOk result (λ input. meant user now text.now command ≡ Ok input) }
+    ensures fault { IfErr result (Explains (meant user now text.now command)) }
 {
-    let given = settings_of(text, command, &parsed.parts);
+    let given = settings_of(text, now, command, &parsed.parts);
     let s = match judged(parsed.command, given) {
         Ok(s) => s,
         Err(fault) => return Err(told(fault)),
@@ -112,13 +118,17 @@ fn meant(
 /// What the command of a user asks for that is read at a moment, from which its relative times count.
 ///
 /// Built are, with the options and qualifiers that are named here:
-/// - `SUBMIT file` and `PRINT file` with `/QUEUE=name`, `/NAME=name`, `/PRIORITY=0..255`, `/RESTART`, `/NORESTART` and
-///   `/CHARACTERISTICS=(name or 0..255, ..)`; `PRINT` also with `/FORM=name or 0..65535`, `/COPIES=0..255`, `/FLAG` and `/NOFLAG`;
+/// - `SUBMIT file` and `PRINT file` with `/QUEUE=name`, `/NAME=name`, `/PRIORITY=0..255`, `/AFTER=time`, `/HOLD`,
+///   `/RETAIN=ALWAYS`, `ERROR`, `DEFAULT` or `UNTIL=time`, `/RESTART`, `/NORESTART` and `/CHARACTERISTICS=(name or 0..255, ..)`;
+///   `PRINT` also with `/FORM=name or 0..65535`, `/COPIES=0..255`, `/FLAG` and `/NOFLAG`;
+/// - `SET ENTRY number` with `/RELEASE`, `/HOLD`, `/AFTER=time`, `/NOAFTER`, `/PRIORITY=0..255`, `/NAME=name`,
+///   `/CHARACTERISTICS=(name or 0..255, ..)`, `/FORM=name or 0..65535`, `/REQUEUE=name`, which is a queue, `/RESTART`, `/NORESTART`
+///   and `/RETAIN=` as a job;
 /// - `SHOW ENTRY number` and `DELETE/ENTRY=number`;
 /// - `INITIALIZE/QUEUE name` with `/BATCH`, `/GENERIC=(name, ..)`, `/ON=node::` or `/ON=node::device:`, `/START` and what can be
 ///   set for a queue: `/JOB_LIMIT=0..255`, `/CHARACTERISTICS=(name or 0..255, ..)`, `/NOCHARACTERISTICS`,
-///   `/FORM_MOUNTED=name or 0..65535`, `/BLOCK_LIMIT=upper` or `(lower, upper)` of 0 to 2 ^ 32 - 1, `/NOBLOCK_LIMIT`, and
-///   `/SCHEDULE=SIZE` or `NOSIZE`;
+///   `/FORM_MOUNTED=name or 0..65535`, `/BLOCK_LIMIT=upper` or `(lower, upper)` of 0 to 2 ^ 32 - 1, `/NOBLOCK_LIMIT`,
+///   `/SCHEDULE=SIZE` or `NOSIZE`, `/RETAIN=ALL` or `ERROR`, and `/NORETAIN`;
 /// - `SET QUEUE name` and `START/QUEUE name` with what can be set for a queue;
 /// - `STOP/QUEUE name` with `/NEXT`, `/RESET`, `/ABORT`, `/REQUEUE` and `/ENTRY=number`;
 /// - `DELETE/QUEUE name`, and `ASSIGN/MERGE target source`;
@@ -128,13 +138,14 @@ fn meant(
 ///
 /// The name of a queue, a form, a characteristic, a stock or a device has 1 to 31 bytes, that of a node 1 to 6, that of a job
 /// 1 to 39; that of a form or a characteristic isn't digits alone, which stand for its number. A number is decimal digits, that
-/// of an entry below 2 ^ 32; zeros may stand in front. A list has at most 65,535 values. What is asked for has `None`, or an
+/// of an entry below 2 ^ 32; zeros may stand in front. A time is as `read_time` of `qm_time` takes it, in capital letters where it is
+/// quoted, and one with a blank must be. A list has at most 65,535 values. What is asked for has `None`, or an
 /// empty list, for what isn't given, but a form has all its settings, and a job too; what the rules refuse is read, as a limit
 /// of 0.
 ///
 /// Errors: `At` with the fault of the least place: `NotBuilt` at byte 0 where no command that is built is named, or where a name
 /// of it that isn't built, or is cut, stands behind a `/`, whatever else is wrong, and where another form of a command has
-/// nothing wrong; `Value` at the first byte of a name, a number, a word or a file that can't be read; and those of the grammar.
+/// nothing wrong; `Value` at the first byte of a name, a number, a word, a time or a file that can't be read; and those of the grammar.
 /// `NoMemory`, where memory for the tokens, the parts and the lists ran out.
 pub fn read_command(
     alloc: Global,
@@ -145,13 +156,12 @@ pub fn read_command(
     ensures read { IfOk result (λ input. command_of user now text.now ≡ Ok input) }
     ensures fault { IfErr result (Explains (command_of user now text.now)) }
 {
-    let _ = now;
     let Ok(parsed) = parse(alloc, text) else {
         return Err(DclFault::NoMemory);
     };
     match named_command(text, &parsed.tokens) {
         Some(command) if is_built(text, &parsed.tokens, command) => {
-            meant(alloc, text, user, command, &parsed)
+            meant(alloc, text, user, now, command, &parsed)
         }
         _ => Err(told(NOT_BUILT)),
     }

@@ -1,16 +1,16 @@
 // What a qualifier, its value, or a parameter gives.
 ghost use Rattle.std.specs.Prelude.{◌≡◌};
 ghost use Rattle.qm_dcl.specs.Forms.{with_default_margins, with_margin};
-ghost use Rattle.qm_dcl.specs.Given.{job_marked, queue_marked, shape_marked, stop_marked, with_word, with_job, with_queue_settings, with_definition, with_shape, queue_given, entry_given, blocks_with, valued, schedule_given, margin_given, definable_given, form_given, characteristic_given, merge_given, file_given, parametered};
+ghost use Rattle.qm_dcl.specs.Given.{job_marked, queue_marked, shape_marked, stop_marked, with_word, with_job, with_queue_settings, with_definition, with_shape, queue_given, entry_given, blocks_with, valued, schedule_given, queue_retain_given, with_retain, until_given, after_given, margin_given, definable_given, form_given, characteristic_given, merge_given, file_given, parametered};
 ghost use Rattle.qm_dcl.specs.Values.{raised_by};
 
 use crate::settings::{DEFAULT_SHAPE, Definition, JobSettings, QueueSettings, Settings, Stop};
 use crate::value::{
     Side, are_digits, blocks_said, byte_said, characteristic_said, definable_name_said, entry_said,
-    form_number_said, form_said, location_said, schedule_said, short_name_said,
+    form_number_said, form_said, location_said, queue_retain_said, schedule_said, short_name_said,
 };
 use qm_grammar::{Command, Word};
-use qm_kinds::{FileName, Name, Shape};
+use qm_kinds::{FileName, JobRetain, Moment, Name, QueueRetain, Shape};
 use qm_lex::Token;
 
 // What a qualifier gives of a job.
@@ -28,6 +28,15 @@ fn job_marked(job: JobSettings, word: Word) -> JobSettings
         },
         Word::Flag => JobSettings { flag: true, ..job },
         Word::NoFlag => JobSettings { flag: false, ..job },
+        Word::Hold => JobSettings { hold: true, ..job },
+        Word::Release => JobSettings {
+            release: true,
+            ..job
+        },
+        Word::NoAfter => JobSettings {
+            after: Some(None),
+            ..job
+        },
         _ => job,
     }
 }
@@ -51,6 +60,10 @@ fn queue_marked(queue: QueueSettings, word: Word) -> QueueSettings
         },
         Word::NoBlockLimit => QueueSettings {
             blocks: Some((1, u32::MAX)),
+            ..queue
+        },
+        Word::NoRetain => QueueSettings {
+            retain: Some(QueueRetain::Nothing),
             ..queue
         },
         _ => queue,
@@ -333,7 +346,7 @@ pub(crate) fn valued(s: &Settings, said: &[u8]) -> Option<Settings>
     ensures { result ≡ valued s.now s.now.word said.now }
 {
     match s.word? {
-        Word::Queue => queue_given(s, said),
+        Word::Queue | Word::Requeue => queue_given(s, said),
         Word::Entry => entry_given(s, said),
         Word::Name => name_given(s, said),
         Word::Priority => priority_given(s, said),
@@ -362,6 +375,49 @@ pub(crate) fn schedule_given(text: &[u8], s: &Settings, token: Token) -> Option<
         ..s.queue_settings
     };
     Some(with_queue_settings(s, settings))
+}
+
+/// Which jobs a queue keeps, if it can be these.
+pub(crate) fn queue_retain_given(text: &[u8], s: &Settings, token: Token) -> Option<Settings>
+    ensures { result ≡ queue_retain_given s.now (raised_by text.now token) }
+{
+    let retain = queue_retain_said(text, token)?;
+    let settings = QueueSettings {
+        retain: Some(retain),
+        ..s.queue_settings
+    };
+    Some(with_queue_settings(s, settings))
+}
+
+/// Whether a job is kept.
+pub(crate) fn with_retain(s: &Settings, retain: JobRetain) -> Settings
+    ensures { result ≡ with_retain s.now retain }
+{
+    let job = JobSettings {
+        retain: Some(retain),
+        ..s.job
+    };
+    with_job(s, job)
+}
+
+/// The moment until which a job is kept, if there is one.
+pub(crate) fn until_given(s: &Settings, moment: Option<Moment>) -> Option<Settings>
+    ensures { result ≡ until_given s.now moment }
+{
+    let moment = moment?;
+    Some(with_retain(s, JobRetain::Until(moment)))
+}
+
+/// The moment before which a job doesn't start, if there is one.
+pub(crate) fn after_given(s: &Settings, moment: Option<Moment>) -> Option<Settings>
+    ensures { result ≡ after_given s.now moment }
+{
+    let moment = moment?;
+    let job = JobSettings {
+        after: Some(Some(moment)),
+        ..s.job
+    };
+    Some(with_job(s, job))
 }
 
 // The shape with one margin.
@@ -469,6 +525,7 @@ pub(crate) fn parametered(s: &Settings, command: Command, said: &[u8]) -> Option
 {
     match command {
         Command::Submit | Command::Print => file_given(s, said),
+        Command::SetEntry => entry_given(s, said),
         Command::ShowEntry if are_digits(said) => entry_given(s, said),
         Command::ShowEntry => Some(*s),
         Command::InitializeQueue

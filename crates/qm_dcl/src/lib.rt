@@ -6,6 +6,7 @@
 mod built;
 mod command;
 mod define;
+mod entry;
 mod fault;
 mod given;
 mod laws;

@@ -18,7 +18,7 @@ fn change_of(s: &QueueSettings, characteristics: Option<Seq<NameOrNumber>>) -> Q
         form: s.form,
         blocks: s.blocks,
         by_size: s.by_size,
-        retain: None,
+        retain: s.retain,
     }
 }
 

@@ -1,12 +1,17 @@
 // What the parts of a command give.
 ghost use Rattle.std.specs.Prelude.{◌≡◌};
-ghost use Rattle.qm_dcl.specs.Settings.{has_object, no_job, no_queue_settings, no_definition, nothing_given, or_value_fault, with_parameter, with_key, with_value, inner_value, with_part, settings_of};
+ghost use Rattle.qm_dcl.specs.Settings.{has_object, no_job, no_queue_settings, no_definition, nothing_given, or_value_fault, with_parameter, with_key, with_until, with_retain_word, with_job_retain, is_of_queue, with_retained, with_value, inner_value, with_part, settings_of};
 ghost use Rattle.qm_dcl.specs.Values.{raised_by, side_said};
 
-use crate::given::{margin_given, parametered, schedule_given, valued, with_word};
-use crate::value::{Location, has_equals, said_by, side_said};
+use crate::given::{
+    after_given, margin_given, parametered, queue_retain_given, schedule_given, until_given,
+    valued, with_retain, with_word,
+};
+use crate::value::{
+    Location, has_equals, is_until, job_retain_said, moment_said, said_by, side_said,
+};
 use qm_grammar::{Command, Fault, Part, Word};
-use qm_kinds::{FileName, Name, NameOrNumber, ParseKind, Shape};
+use qm_kinds::{FileName, JobRetain, Moment, Name, NameOrNumber, ParseKind, QueueRetain, Shape};
 use qm_lex::Token;
 
 /// How a queue is stopped, or a job of it.
@@ -23,6 +28,12 @@ pub(crate) enum Stop {
 pub(crate) struct JobSettings {
     pub(crate) name: Option<Name>,
     pub(crate) priority: Option<u8>,
+    /// The moment before which the job doesn't start. Some of none takes away the one that it has.
+    pub(crate) after: Option<Option<Moment>>,
+    pub(crate) hold: bool,
+    /// Whether it waits no longer, neither held nor for a moment.
+    pub(crate) release: bool,
+    pub(crate) retain: Option<JobRetain>,
     /// Whether the job may start again.
     pub(crate) restart: Option<bool>,
     pub(crate) form: Option<NameOrNumber>,
@@ -42,6 +53,8 @@ pub(crate) struct QueueSettings {
     pub(crate) blocks: Option<(u32, u32)>,
     /// Whether jobs stand in order of their sizes.
     pub(crate) by_size: Option<bool>,
+    /// Which jobs the queue keeps after they end.
+    pub(crate) retain: Option<QueueRetain>,
     /// Whether the queue is for batch jobs.
     pub(crate) batch: bool,
     pub(crate) location: Option<Location>,
@@ -98,6 +111,10 @@ fn has_object(command: Command) -> bool
 const NO_JOB: JobSettings = JobSettings {
     name: None,
     priority: None,
+    after: None,
+    hold: false,
+    release: false,
+    retain: None,
     restart: None,
     form: None,
     copies: 1,
@@ -109,6 +126,7 @@ const NO_QUEUE_SETTINGS: QueueSettings = QueueSettings {
     form: None,
     blocks: None,
     by_size: None,
+    retain: None,
     batch: false,
     location: None,
     start: false,
@@ -196,18 +214,101 @@ fn with_key(text: &[u8], s: &Settings, key: Token, inner: Option<Token>) -> Resu
     }
 }
 
-// A value of a qualifier, and the value behind its =, if there is one.
-fn with_value(
+// UNTIL, behind whose = the moment stands until which a job is kept. Where that can be no value, it is at fault by the grammar, and
+// not the word.
+fn with_until(
     text: &[u8],
+    now: Moment,
     s: &Settings,
     token: Token,
     inner: Option<Token>,
 ) -> Result<Settings, Fault>
-    ensures { result ≡ with_value text.now s.now s.now.word token inner }
+    ensures { result ≡ with_until now text.now s.now token inner }
+{
+    match inner {
+        Some(time) => or_value_fault(time, until_given(s, moment_said(text, time, now))),
+        None if has_equals(text, token) => Ok(*s),
+        None => or_value_fault(token, None),
+    }
+}
+
+// A word that says whether a job is kept. It takes no value.
+fn with_retain_word(
+    s: &Settings,
+    token: Token,
+    retain: Option<JobRetain>,
+    inner: Option<Token>,
+) -> Result<Settings, Fault>
+    ensures { result ≡ with_retain_word s.now token retain inner }
+{
+    match (retain, inner) {
+        (Some(retain), None) => Ok(with_retain(s, retain)),
+        (Some(_), Some(value)) => or_value_fault(value, None),
+        (None, _) => or_value_fault(token, None),
+    }
+}
+
+// The value of /RETAIN of a job.
+fn with_job_retain(
+    text: &[u8],
+    now: Moment,
+    s: &Settings,
+    token: Token,
+    inner: Option<Token>,
+) -> Result<Settings, Fault>
+    ensures { result ≡ with_job_retain now text.now s.now token (raised_by text.now token) inner }
+{
+    if is_until(text, token) {
+        with_until(text, now, s, token, inner)
+    } else {
+        with_retain_word(s, token, job_retain_said(text, token), inner)
+    }
+}
+
+// Whether a command sets what a queue does with its jobs.
+fn is_of_queue(command: Command) -> bool
+    ensures { result ≡ is_of_queue command }
+{
+    match command {
+        Command::InitializeQueue | Command::SetQueue | Command::StartQueue => true,
+        _ => false,
+    }
+}
+
+// The value of /RETAIN, of a queue or of a job.
+fn with_retained(
+    text: &[u8],
+    now: Moment,
+    command: Command,
+    s: &Settings,
+    token: Token,
+    inner: Option<Token>,
+) -> Result<Settings, Fault>
+    ensures { result ≡ with_retained now text.now command s.now token (raised_by text.now token) inner }
+{
+    if is_of_queue(command) {
+        or_value_fault(token, queue_retain_given(text, s, token))
+    } else {
+        with_job_retain(text, now, s, token, inner)
+    }
+}
+
+// A value of a qualifier, and the value behind its =, if there is one.
+fn with_value(
+    text: &[u8],
+    now: Moment,
+    command: Command,
+    s: &Settings,
+    token: Token,
+    inner: Option<Token>,
+) -> Result<Settings, Fault>
+    ensures { result ≡ with_value now text.now command s.now s.now.word token inner }
 {
     match s.word {
         Some(Word::Margin) => with_key(text, s, token, inner),
         Some(Word::Schedule) => or_value_fault(token, schedule_given(text, s, token)),
+        Some(Word::After) => or_value_fault(token, after_given(s, moment_said(text, token, now))),
+        Some(Word::Retain) => with_retained(text, now, command, s, token, inner),
         _ => or_value_fault(token, valued(s, said_by(text, token))),
     }
 }
@@ -225,31 +326,38 @@ fn inner_value(behind: &[Part]) -> Option<Token>
 // One more part, with these behind it.
 fn with_part(
     text: &[u8],
+    now: Moment,
     command: Command,
     s: &Settings,
     part: Part,
     behind: &[Part],
 ) -> Result<Settings, Fault>
-    ensures { result ≡ with_part text.now command s.now part behind.now }
+    ensures { result ≡ with_part now text.now command s.now part behind.now }
 {
     match part {
         Part::Parameter { token } => with_parameter(text, command, s, token),
         Part::Qualifier { word, .. } => Ok(with_word(s, word)),
-        Part::Value { token } => with_value(text, s, token, inner_value(behind)),
+        Part::Value { token } => with_value(text, now, command, s, token, inner_value(behind)),
         Part::KeyValue { .. } => Ok(*s),
     }
 }
 
-/// What the parts of a command give, but for lists. Of a qualifier that is given twice the last one counts.
+/// What the parts of a command give, but for lists. Of a qualifier that is given twice the last one counts. Relative times count
+/// from `now`.
 ///
 /// Errors: the first value that can't be read, with the kind `Value` at its first byte.
-pub(crate) fn settings_of(text: &[u8], command: Command, parts: &[Part]) -> Result<Settings, Fault>
-    ensures { result ≡ settings_of text.now command parts.now }
+pub(crate) fn settings_of(
+    text: &[u8],
+    now: Moment,
+    command: Command,
+    parts: &[Part],
+) -> Result<Settings, Fault>
+    ensures { result ≡ settings_of now text.now command parts.now }
 {
     let mut s = nothing_given(command);
     let mut rest = parts;
     while let [part, behind @ ..] = rest {
-        match with_part(text, command, &s, *part, behind) {
+        match with_part(text, now, command, &s, *part, behind) {
             Ok(next) => s = next,
             Err(fault) => return Err(fault),
         }

@@ -51,7 +51,7 @@ fn with_type(file: FileName, extension: Name) -> FileName
 }
 
 /// The job of a user for a file that is asked for. Where nothing else is given, it goes into the queue of its kind, under the
-/// file's name.
+/// file's name, and is kept as the queue says.
 pub(crate) fn job_of(
     alloc: Global,
     user: Name,
@@ -82,9 +82,9 @@ pub(crate) fn job_of(
         file,
         name,
         priority,
-        after: None,
-        hold: false,
-        retain: JobRetain::Default,
+        after: s.job.after.unwrap_or(None),
+        hold: s.job.hold,
+        retain: s.job.retain.unwrap_or(JobRetain::Default),
         restart,
         characteristics,
         form: s.job.form,

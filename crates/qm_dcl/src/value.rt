@@ -1,17 +1,20 @@
 // What the values of commands say.
-ghost use Rattle.std.specs.Prelude.{◌≡◌, ◌<◌, ◌≤◌, ◌^◌, ◌==◌, IfSome, length, position};
+ghost use Rattle.std.specs.Prelude.{◌≡◌, ◌<◌, ◌≤◌, ◌^◌, ◌==◌, IfSome, length, map, position};
 ghost use Rattle.std.specs.List.{list_all};
-ghost use Rattle.std.specs.Char.{is_ascii_digit};
+ghost use Rattle.std.specs.Char.{is_ascii_digit, to_ascii_uppercase};
 ghost use Rattle.std.specs.Option.{option_copied};
 ghost use Rattle.std.specs.Str.{bytes_eq};
 ghost use Rattle.qm_grammar.specs.Spelled.{is_raised_to};
 ghost use Rattle.qm_model.specs.Built.{is_definable};
-ghost use Rattle.qm_dcl.specs.Values.{unquoted, said_by, raised_by, are_digits, number_to, byte_said, form_number_said, entry_said, blocks_said, short_name_said, definable_name_said, node_said, reference_said, form_said, characteristic_said, before_colon, device_said, located, location_said, leads_to_equals, has_equals, schedule_said, side_said};
+ghost use Rattle.qm_dcl.specs.Values.{unquoted, said_by, raised_by, are_digits, number_to, byte_said, form_number_said, entry_said, blocks_said, short_name_said, definable_name_said, node_said, reference_said, form_said, characteristic_said, before_colon, device_said, located, location_said, leads_to_equals, has_equals, schedule_said, queue_retain_said, job_retain_said, is_until, side_said, moment_said};
 
 use qm_digits::number_up_to;
 use qm_grammar::bytes_of;
-use qm_kinds::{NODE_NAME_BYTES, Name, NameOrNumber, SHORT_NAME_BYTES};
+use qm_kinds::{
+    JobRetain, Moment, NODE_NAME_BYTES, Name, NameOrNumber, QueueRetain, SHORT_NAME_BYTES,
+};
 use qm_lex::{Token, TokenKind};
+use qm_time::{TIME_BYTES, read_time};
 
 /// A margin of a page.
 #[derive(Clone, Copy)]
@@ -266,6 +269,67 @@ pub(crate) fn schedule_said(text: &[u8], token: Token) -> Option<bool>
         Some(false)
     } else {
         None
+    }
+}
+
+/// Which jobs a queue keeps: `ALL` or `ERROR`.
+pub(crate) fn queue_retain_said(text: &[u8], token: Token) -> Option<QueueRetain>
+    ensures { result ≡ queue_retain_said (raised_by text.now token) }
+{
+    if is_said(text, token, b"ALL") {
+        Some(QueueRetain::All)
+    } else if is_said(text, token, b"ERROR") {
+        Some(QueueRetain::Failed)
+    } else {
+        None
+    }
+}
+
+/// Whether a job is kept, in one word: `ALWAYS`, `ERROR` or `DEFAULT`.
+pub(crate) fn job_retain_said(text: &[u8], token: Token) -> Option<JobRetain>
+    ensures { result ≡ job_retain_said (raised_by text.now token) }
+{
+    if is_said(text, token, b"ALWAYS") {
+        Some(JobRetain::Always)
+    } else if is_said(text, token, b"ERROR") {
+        Some(JobRetain::Failed)
+    } else if is_said(text, token, b"DEFAULT") {
+        Some(JobRetain::Default)
+    } else {
+        None
+    }
+}
+
+/// Whether this is the word behind which the moment stands until which a job is kept: `UNTIL`.
+pub(crate) fn is_until(text: &[u8], token: Token) -> bool
+    ensures { result ≡ is_until (raised_by text.now token) }
+{
+    is_said(text, token, b"UNTIL")
+}
+
+// The moment that a word names once it is raised.
+fn moment_raised(word: &[u8], now: Moment) -> Option<Moment>
+    ensures { result ≡ moment_said now (map to_ascii_uppercase word.now) }
+{
+    if word.len() > TIME_BYTES {
+        return None;
+    }
+    let mut buffer = [0; TIME_BYTES];
+    let raised = &mut buffer[..word.len()];
+    raised.copy_from_slice(word);
+    raised.make_ascii_uppercase();
+    read_time(raised, now).ok()
+}
+
+/// The moment that a time names. A relative one counts from `now`.
+pub(crate) fn moment_said(text: &[u8], token: Token, now: Moment) -> Option<Moment>
+    ensures { result ≡ moment_said now (raised_by text.now token) }
+{
+    let bytes = bytes_of(text, token);
+    if token.kind == TokenKind::Word {
+        moment_raised(bytes, now)
+    } else {
+        read_time(unquoted(bytes), now).ok()
     }
 }
 
