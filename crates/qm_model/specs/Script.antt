@@ -8,7 +8,7 @@ use Rattle.qm_kinds.specs.Files.{name_of, file_name_of}
 use Rattle.qm_kinds.specs.declared.file.FileName.{FileName}
 use Rattle.qm_kinds.specs.declared.input.Input.{Input}
 use Rattle.qm_kinds.specs.declared.input.Input.TheVariants.{Ask, Fault}
-use Rattle.qm_kinds.specs.declared.request.Request.TheVariants.{Append, Fill, Drop, Done}
+use Rattle.qm_kinds.specs.declared.request.Request.TheVariants.{Append, Fill, Drop, Done, Tick}
 use Rattle.qm_kinds.specs.declared.name.TheConstants.{NODE_NAME_BYTES}
 use Rattle.qm_kinds.specs.declared.script.ScriptKind.{ScriptKind}
 use Rattle.qm_kinds.specs.declared.script.ScriptKind.TheVariants.{Form, Long}
@@ -114,16 +114,21 @@ drop_act (Some file) = Ask (Drop file)
 abbrev pub is_act_word : List ℕ → Bool
 is_act_word word =
     bytes_eq word (codes "LINE") || bytes_eq word (codes "FILL") || bytes_eq word (codes "DROP") || bytes_eq word (codes "DONE")
+    || bytes_eq word (codes "TICK")
 
--- the acts that are built: a word, and behind a blank what it takes
+-- an act whose word is or isn't built takes something else
+abbrev pub malformed_act : List ℕ → Input
+malformed_act word = if is_act_word word then Fault 0 parse.Form else Fault 0 parse.NotBuilt
+
+-- the acts that are built: TICK alone; and each other word with what it takes behind a blank
 abbrev pub act_from : List ℕ → Option (List ℕ × List ℕ) → Input
-act_from text None = if is_act_word text then Fault 0 parse.Form else Fault 0 parse.NotBuilt
+act_from text None = if bytes_eq text (codes "TICK") then Ask Tick else malformed_act text
 act_from text (Some parts) =
     if bytes_eq parts.0 (codes "LINE") then line_act (cut_at_blank parts.1)
     else if bytes_eq parts.0 (codes "FILL") then fill_act (cut_at_blank parts.1)
     else if bytes_eq parts.0 (codes "DROP") then drop_act (file_name_of parts.1)
     else if bytes_eq parts.0 (codes "DONE") then done_act (cut_at_blank parts.1)
-    else Fault 0 parse.NotBuilt
+    else malformed_act parts.0
 
 -- what the text of an act asks for
 abbrev pub act_of : List ℕ → Input

@@ -8,7 +8,7 @@ use Rattle.qm_kinds.specs.Files.{file_name_of}
 use Rattle.qm_kinds.specs.declared.file.FileName.{FileName}
 use Rattle.qm_kinds.specs.declared.input.Input.{Input}
 use Rattle.qm_kinds.specs.declared.input.Input.TheVariants.{Ask, Show, Fault}
-use Rattle.qm_kinds.specs.declared.request.Request.TheVariants.{Fill, Drop}
+use Rattle.qm_kinds.specs.declared.request.Request.TheVariants.{Fill, Drop, Tick}
 use Rattle.qm_kinds.specs.declared.query.Row.{Row}
 use Rattle.qm_kinds.specs.declared.refusal.ParseKind.TheVariants as parse
 use Rattle.qm_kinds.specs.declared.refusal.Refusal.{Refusal}
@@ -22,7 +22,7 @@ use Rattle.qm_bytes.specs.Spelling.{AllOf}
 use Rattle.qm_record.specs.Spelling.{IsShortChange}
 use Rattle.qm_kinds.specs.declared.request.NameOrNumber.{NameOrNumber}
 use Rattle.qm_kinds.specs.declared.queue.QueueChange.{QueueChange}
-use Rattle.qm_model.specs.Script.{Sort, Command, Site as AtSite, act_from, act_number, is_act_word, done_by, done_act, line_act, append_to, filled_by, fill_act, drop_act}
+use Rattle.qm_model.specs.Script.{Sort, Command, Site as AtSite, act_from, act_number, is_act_word, done_by, done_act, line_act, append_to, filled_by, fill_act, drop_act, malformed_act}
 use Rattle.qm_manager.specs.declared.manager.Manager.{Manager}
 use Rattle.qm_manager.specs.Site.{Site}
 use Rattle.qm_manager.proofs.Sites.{steps_nowhere}
@@ -48,6 +48,7 @@ each_askable : OfEach IsAskable
 each_askable = record {
   shows = λ number. (refl, refl);
   submits = λ job few. (refl, few);
+  sets_entry = λ number change few. (refl, short_given change.characteristics few);
   deletes_entry = λ number. (refl, tt);
   defines_form = λ form built. (built, tt);
   deletes_form = λ name. (refl, tt);
@@ -78,6 +79,11 @@ faulty : (b : Bool) → IsAskable (cond b (Fault 0 parse.Form) (Fault 0 parse.No
 faulty true = tt
 faulty false = tt
 
+-- a word alone
+alone : (tick : Bool) (text : List ℕ) → IsAskable (cond tick (Ask Tick) (malformed_act text))
+alone true text = (refl, tt)
+alone false text = faulty (is_act_word text)
+
 done_by_askable : (run status : Option ℕ) → IsAskable (done_by run status)
 done_by_askable None status = tt
 done_by_askable (Some run) None = tt
@@ -105,18 +111,18 @@ drop_askable None = tt
 drop_askable (Some file) = (refl, tt)
 
 -- which act it is
-act_or_not : (line fill drop done : Bool) (rest : List ℕ)
+act_or_not : (line fill drop done : Bool) (word rest : List ℕ)
     → IsAskable (cond line (line_act (cut_at_blank rest)) (cond fill (fill_act (cut_at_blank rest))
-    (cond drop (drop_act (file_name_of rest)) (cond done (done_act (cut_at_blank rest)) (Fault 0 parse.NotBuilt)))))
-act_or_not true fill drop done rest = line_askable (cut_at_blank rest)
-act_or_not false true drop done rest = fill_askable (cut_at_blank rest)
-act_or_not false false true done rest = drop_askable (file_name_of rest)
-act_or_not false false false true rest = done_askable (cut_at_blank rest)
-act_or_not false false false false rest = tt
+    (cond drop (drop_act (file_name_of rest)) (cond done (done_act (cut_at_blank rest)) (malformed_act word)))))
+act_or_not true fill drop done word rest = line_askable (cut_at_blank rest)
+act_or_not false true drop done word rest = fill_askable (cut_at_blank rest)
+act_or_not false false true done word rest = drop_askable (file_name_of rest)
+act_or_not false false false true word rest = done_askable (cut_at_blank rest)
+act_or_not false false false false word rest = faulty (is_act_word word)
 
 act_askable : (text : List ℕ) (parts : Option (List ℕ × List ℕ)) → IsAskable (act_from text parts)
-act_askable text None = faulty (is_act_word text)
-act_askable text (Some parts) = act_or_not (bytes_eq parts.0 (codes "LINE")) (bytes_eq parts.0 (codes "FILL")) (bytes_eq parts.0 (codes "DROP")) (bytes_eq parts.0 (codes "DONE")) parts.1
+act_askable text None = alone (bytes_eq text (codes "TICK")) text
+act_askable text (Some parts) = act_or_not (bytes_eq parts.0 (codes "LINE")) (bytes_eq parts.0 (codes "FILL")) (bytes_eq parts.0 (codes "DROP")) (bytes_eq parts.0 (codes "DONE")) parts.0 parts.1
 
 -- what a line asks for can be asked
 pub input_askable : (sort : Sort) (now : ℕ) (text : List ℕ) → IsAskable (input_of sort now text)

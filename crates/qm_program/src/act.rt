@@ -2,7 +2,7 @@
 ghost use Rattle.std.specs.Prelude.{◌≡◌, ◌++◌, ◌∷◌, [], IfOk, OnErr};
 ghost use Rattle.qm_kinds.specs.Files.{file_name_of};
 ghost use Rattle.qm_model.specs.Texts.{cut_at_blank};
-ghost use Rattle.qm_model.specs.Script.{act_of, done_act, drop_act, fill_act, is_act_word, line_act};
+ghost use Rattle.qm_model.specs.Script.{act_of, done_act, drop_act, fill_act, is_act_word, line_act, malformed_act};
 ghost use Rattle.qm_program.specs.Wanting.{WantsMemory};
 
 use crate::script::cut_at_blank;
@@ -18,6 +18,8 @@ const FILL: &[u8] = b"FILL";
 
 const LINE: &[u8] = b"LINE";
 
+const TICK: &[u8] = b"TICK";
+
 /// The most lines of a `FILL`.
 const FILL_LIMIT: u64 = 1024;
 
@@ -25,26 +27,37 @@ const FILL_LIMIT: u64 = 1024;
 fn is_act_word(word: &[u8]) -> bool
     ensures { result ≡ is_act_word word.now }
 {
-    word == LINE || word == FILL || word == DROP || word == DONE
+    word == LINE || word == FILL || word == DROP || word == DONE || word == TICK
 }
 
 /// What an act asks for: a word, and behind a blank what the word takes. The words that are built are `LINE`, which takes
 /// a file's name, a blank and a line of text for the end of that file; `FILL`, which takes a file's name, a blank and how
-/// many lines (1 to 1,024) of 63 letters go to its end; `DROP`, which takes the name of a file that goes; and `DONE`, which
-/// takes the number of a run that has ended, a blank and its status. Another word isn't built, and what a word doesn't take
+/// many lines (1 to 1,024) of 63 letters go to its end; `DROP`, which takes the name of a file that goes; `DONE`, which
+/// takes the number of a run that has ended, a blank and its status; and `TICK`, which takes nothing. Another word isn't built, and what a word doesn't take
 /// is a fault of form. Memory is wanted for the bytes of a `LINE` alone.
 pub(crate) fn read_act(alloc: Global, text: &[u8]) -> Result<Input, AllocError>
     ensures input { IfOk result (λ input. input ≡ act_of text.now) }
     ensures no_memory { OnErr result (WantsMemory (act_of text.now)) }
 {
     match cut_at_blank(text) {
-        None if is_act_word(text) => Ok(fault(ParseKind::Form)),
-        None => Ok(fault(ParseKind::NotBuilt)),
+        None if text == TICK => Ok(Input::Ask(Request::Tick)),
+        None => Ok(malformed_act(text)),
         Some((word, rest)) if word == LINE => read_line_act(alloc, rest),
         Some((word, rest)) if word == FILL => Ok(read_fill_act(rest)),
         Some((word, rest)) if word == DROP => Ok(read_drop_act(rest)),
         Some((word, rest)) if word == DONE => Ok(read_done_act(rest)),
-        Some(_) => Ok(fault(ParseKind::NotBuilt)),
+        Some((word, _)) => Ok(malformed_act(word)),
+    }
+}
+
+// An act whose word is or isn't built, and takes something else.
+fn malformed_act(word: &[u8]) -> Input
+    ensures { result ≡ malformed_act word.now }
+{
+    if is_act_word(word) {
+        fault(ParseKind::Form)
+    } else {
+        fault(ParseKind::NotBuilt)
     }
 }
 
