@@ -1,5 +1,5 @@
 -- Lines that are read as they are served, and STEP lines.
-use Rattle.std.proofs.Common.{◌≡◌, ℕ, Bool, true, false, List, refl, sym, ◌∙◌, ap, Option, None, Some}
+use Rattle.std.proofs.Common.{◌≡◌, ℕ, Bool, true, false, List, refl, sym, ◌∙◌, ap, subst, Option, None, Some}
 use Rattle.std.specs.Prelude.{codes, if◌then◌else◌}
 use Rattle.std.specs.Option.{option_and_then}
 use Rattle.std.specs.Str.{bytes_eq}
@@ -8,10 +8,10 @@ use Rattle.qm_kinds.specs.declared.input.Input.{Input}
 use Rattle.qm_kinds.specs.declared.input.Input.TheVariants as input
 use Rattle.qm_kinds.specs.Names.{system_user}
 use Rattle.qm_model.specs.Script as served
-use Rattle.qm_model.specs.Script.{act_of, is_act_word}
+use Rattle.qm_model.specs.Script.{act_of, act_from, is_act_word}
 use Rattle.qm_model.specs.Texts.{cut_at_blank}
 use Rattle.qm_dcl.specs.Lines.{input_of}
-use Rattle.qm_history.specs.Acts.{act_asked, act_with, step_act}
+use Rattle.qm_history.specs.Acts.{act_asked, act_with, word_act, step_act}
 use Rattle.qm_history.specs.Reading.{read, text_asked}
 use Rattle.qm_history.specs.Scans.{scans_of}
 use Rattle.qm_history.specs.Script.{UserLine, LineSort, Command, Items, Act, line_by_system, sort_served, step_number, steps_in, steps_asked}
@@ -37,6 +37,28 @@ module _ (items_mean : ℕ → List ℕ → List ℕ → Input) where
 
 pub acts_same : (known text word rest : List ℕ) → cut_at_blank text ≡ Some (word, rest) → is_act_word word ≡ true → act_asked known text ≡ act_of text
 acts_same known text word rest cut is = ap (act_with known text) cut ∙ yes (is_act_word word) (act_of text) _ is
+
+-- a word alone that is served is none of those that aren't
+other_word : (text word : List ℕ) → is_act_word text ≡ true → is_act_word word ≡ false → bytes_eq text word ≡ false
+other_word text word served not_served = by_test (bytes_eq text word) refl
+  where
+    by_test : (b : Bool) → bytes_eq text word ≡ b → b ≡ false
+    by_test true same = let is : text ≡ word = (bytes_eq-Decides text word).0 same in
+        let moved : is_act_word word ≡ true = subst (λ (w : List ℕ). is_act_word w ≡ true) is served in cc
+    by_test false same = refl
+
+alone_by : (text : List ℕ) (tick : Bool) → bytes_eq text (codes "TICK") ≡ tick → is_act_word text ≡ true → word_act text ≡ act_from text None
+alone_by text true is served = yes (bytes_eq text (codes "TICK")) _ _ is ∙ sym (yes (bytes_eq text (codes "TICK")) _ _ is)
+alone_by text false is served =
+    no_more (bytes_eq text (codes "TICK")) _ _ is
+    ∙ no_more (bytes_eq text (codes "COMPACT")) _ _ (other_word text (codes "COMPACT") served refl)
+    ∙ no_more (bytes_eq text (codes "STOP")) _ _ (other_word text (codes "STOP") served refl)
+    ∙ no_more (bytes_eq text (codes "START")) _ _ (other_word text (codes "START") served refl)
+    ∙ sym (no_more (bytes_eq text (codes "TICK")) _ _ is ∙ yes (is_act_word text) _ _ served)
+
+pub alone_same : (known text : List ℕ) → cut_at_blank text ≡ None → is_act_word text ≡ true → act_asked known text ≡ act_of text
+alone_same known text cut served =
+    ap (act_with known text) cut ∙ alone_by text (bytes_eq text (codes "TICK")) refl served ∙ sym (ap (act_from text) cut)
 
 step_cut : (known text : List ℕ) (steps : ℕ) (o : Option (List ℕ × List ℕ)) → steps_in text ≡ Some steps
     → option_and_then (λ (parts : List ℕ × List ℕ). if bytes_eq parts.0 (codes "STEP") then step_number parts.1 else None) o ≡ Some steps

@@ -1,5 +1,5 @@
 // How the lines of a script are read.
-ghost use Rattle.std.specs.Prelude.{◌≡◌, ℕ, true, List, Some};
+ghost use Rattle.std.specs.Prelude.{◌≡◌, ℕ, true, List, None, Some};
 ghost use Rattle.qm_kinds.specs.Names.{system_user};
 ghost use Rattle.qm_kinds.specs.declared.input.Input.{Input};
 ghost use Rattle.qm_kinds.specs.declared.input.Input.TheVariants.{Fetch};
@@ -16,5 +16,6 @@ ghost use Rattle.qm_history.specs.Visits.{Visit};
 pub fn lines_are_read_as_they_are_served()
     ensures commands { (items_mean : ℕ → List ℕ → List ℕ → Input) (l : served.ScriptLine) (reading : ℕ) (earlier : List Visit) (known : List ℕ) → l.sort ≡ served.Command → read items_mean (line_by_system l) reading earlier known ≡ input_of l.sort reading l.text }
     ensures acts { (known text word rest : List ℕ) → cut_at_blank text ≡ Some (word, rest) → served.is_act_word word ≡ true → act_asked known text ≡ served.act_of text }
+    ensures alone { (known text : List ℕ) → cut_at_blank text ≡ None → served.is_act_word text ≡ true → act_asked known text ≡ served.act_of text }
     ensures steps { (items_mean : ℕ → List ℕ → List ℕ → Input) (l : UserLine) (reading : ℕ) (earlier : List Visit) (known : List ℕ) (steps : ℕ) → steps_asked l.line.sort l.line.text ≡ Some steps → read items_mean l reading earlier known ≡ Fetch known }
 {}
