@@ -1,7 +1,7 @@
 -- What the value stands for on which the nodes work in turns: its own turns behind the world with which it began.
 -- OpenVMS System Manager's Manual, Managing the Queue Manager and Queue Database, on the queue manager process and its files.
 -- This site's own: one value with the files and the image, and the notes of its turns.
-use Rattle.std.specs.Prelude.{◌≡◌, ◌≢◌, ◌⊎◌, ℕ, ◌+◌, ◌-◌, ◌^◌, ◌≤◌, min, Bool, true, List, [], ◌∷◌, ◌++◌, length, filter_map, is_some, Option, None, Some, IsTrue, IsNone}
+use Rattle.std.specs.Prelude.{◌≡◌, ◌≢◌, ◌⊎◌, ℕ, ◌+◌, ◌-◌, ◌^◌, ◌≤◌, min, Bool, true, false, List, [], ◌∷◌, ◌++◌, length, filter_map, is_some, Option, None, Some, IsTrue, IsNone}
 use Rattle.std.specs.Option.{option_map}
 use Rattle.qm_disk.specs.Disk.{CrashState, Meaning, LeavesOnly, OnlyLooks, TellsFaults}
 use Rattle.qm_kinds.specs.declared.record.Record.{Record}
@@ -15,10 +15,10 @@ use Rattle.qm_history.specs.declared.world.World.{World}
 use Rattle.qm_history.specs.Answering.{MayAnswer}
 use Rattle.qm_history.specs.Calls.{why_of}
 use Rattle.qm_history.specs.Contents.{HoldWorld, HoldWithin, HoldIn, Keeps, LeavesFiles, CompactsFiles, are_without_write, compacted_by}
-use Rattle.qm_history.specs.Faults.{faults_told, is_journal}
+use Rattle.qm_history.specs.Faults.{faults_told, is_journal, tells_disk_fault}
 use Rattle.qm_history.specs.Legal.{after_turn, after_turns, IsLegal}
 use Rattle.qm_history.specs.Master.{MasterState}
-use Rattle.qm_history.specs.Room.{AreAboveCap, AreWithinRoom, IsRoomTold, room_behind, room_in}
+use Rattle.qm_history.specs.Room.{Room, AreAboveCap, AreWithinRoom, IsRoomTold, room_after_events, room_in}
 use Rattle.qm_history.specs.Start.{HoldRecords, Starts}
 use Rattle.qm_history.specs.World.{system_in}
 
@@ -63,7 +63,7 @@ abbrev pub IsMadeFor : ℕ → ℕ → Call → Option Turn → Type 0
 IsMadeFor node now asked None = Unit {0}
 IsMadeFor node now asked (Some t) = (t.node ≡ node) × (t.moment ≡ now) × (t.why ≡ why_of asked)
 
--- why a call left no turn: as many are kept as can be, or memory was short before a takeover
+-- why a call left no turn: as many are kept as can be, or memory was short and no takeover had come
 abbrev pub MayLeaveNone : List Turn → Answer → Type 0
 MayLeaveNone turns told = ((told ≡ answer.HistoryFull) × (length turns ≡ turns_kept)) ⊎ (told ≡ answer.NoMemory None)
 
@@ -84,11 +84,6 @@ module _ (IsLog : List ℕ → List (List ℕ) → Type 0) (HasSpelling : Record
     pub tells : TellsWorld (after_turns w c.turns) c
     pub keeps : Keeps IsLog HasSpelling record_text m (after_turns w c.turns) c.disk
     pub moments : LeavesOnly m began c.disk (λ crashed. HoldIn IsLog HasSpelling record_text crashed w c.turns)
-    -- as long as no disk failed, the files reach as far as the turns tell
-    pub reaches :
-        faults_told c.turns ≡ 0
-        → room_in record_text keeps.reads.holds.says keeps.reads.holds.hold.masters keeps.reads.holds.records
-        ≡ room_behind record_text w (room_in record_text starts.says starts.hold.masters starts.records) c.turns
 
   -- What holds of the chest and the notes of the turns that it was handed in: that is what a turnstile keeps between two turns.
   -- Of disks that don't tell their contents nothing is known but how many calls failed.
@@ -99,19 +94,30 @@ module _ (IsLog : List ℕ → List (List ℕ) → Type 0) (HasSpelling : Record
     pub told : faults_told c.turns ≡ c.failed + c.unread
     pub stands : IsTrue m.tells → StandsFor w began c
 
+  -- how far the later files reach, by how far the earlier ones did
+  abbrev pub Grow : CrashState → CrashState → (Room → Room) → Type 0
+  Grow before after grown =
+      (said says : MasterState) (old new : List Record) → (was : HoldRecords IsLog HasSpelling record_text before said old)
+      → (is : HoldRecords IsLog HasSpelling record_text after says new)
+      → room_in record_text says is.masters new ≡ grown (room_in record_text said was.masters old)
+
   -- A call that left a turn: the turn is one of the call, with this answer, and no file is damaged; at each moment a crash leaves
-  -- what it may within the turn; and where the turn writes nothing, the files are as they were.
+  -- what it may within the turn; where the turn writes nothing, the files are as they were; and where no disk failed in it, they
+  -- then reach as far as its events tell.
   pub record AddsTurn (w : World) (old new : D) (asked : Call) (t : Turn) (told : Answer) : Type 0 where
     pub answers : MayAnswer HasSpelling w asked t told
     pub undamaged : (file place : ℕ) → told ≡ answer.Damaged file place → ⊥
     pub moments : LeavesOnly m old new (λ crashed. HoldWithin IsLog HasSpelling record_text crashed w t)
     pub files : LeavesFiles m (are_without_write t.events) old new
     pub compacts : CompactsFiles IsLog HasSpelling record_text m (after_turn w t) old new (compacted_by t.events)
+    pub reaches : tells_disk_fault t.events ≡ false → Grow (m.seen old) (m.seen new) (λ room. room_after_events record_text w room t.events)
 
-  -- a call that left none: at each moment a crash leaves what it might before, and where no more turns are kept nothing is written
+  -- a call that left none: at each moment a crash leaves what it might before, the files reach no further, and where no more
+  -- turns are kept nothing is written
   pub record AddsNone (w : World) (old new : D) (told : Answer) : Type 0 where
     pub files : told ≡ answer.HistoryFull → OnlyLooks m old new
     pub moments : LeavesOnly m old new (λ crashed. HoldWorld IsLog HasSpelling record_text crashed w)
+    pub reaches : Grow (m.seen old) (m.seen new) (λ room. room)
 
   abbrev pub Adds : World → D → D → Call → Option Turn → Answer → Type 0
   Adds w old new asked None told = AddsNone w old new told

@@ -109,7 +109,8 @@ pub data Threads : Type 0 where
   OneForAll : Threads
   OneForEach : Threads
 
--- Serving ends so where a node was broken off: never with the whole script. A node with a thread of its own goes on to its own end.
+-- Serving ends so where a node was broken off: never with the whole script. A node with a thread of its own goes on to its own
+-- end.
 abbrev pub MayBreakOff : Threads → ServingEnd → Type 0
 MayBreakOff OneForEach end = ⊥
 MayBreakOff OneForAll Served = ⊥

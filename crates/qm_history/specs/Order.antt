@@ -26,8 +26,8 @@ IsNextLine line (next ∷ left) = line ≡ next
 abbrev pub AreOver : ℕ → List Bool → Type 0
 AreOver node live = AllByRecursion (λ (l : Bool). l ≡ false) (take node live)
 
--- each line behind the one before it; a report or a leave right behind a turn of its node; and behind the last line the nodes' own
--- fetches, node by node
+-- each line behind the one before it; a report or a leave right behind a turn of its node; and behind the last line the nodes'
+-- own fetches, node by node
 abbrev pub MayFollow : World → Served → ℕ → Why → Type 0
 MayFollow w so_far node (why.Line line) = IsNextLine line so_far.left
 MayFollow w so_far node why.Report = node ≡ so_far.node

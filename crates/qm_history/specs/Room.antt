@@ -209,11 +209,6 @@ module _ (record_text : Record → List ℕ) where
   abbrev pub IsRoomTold : World → Room → Call → Turn → Type 0
   IsRoomTold w m asked t = HaveRoom None w m t.moment (input_of asked) t.events
 
-  -- the room behind turns, as long as no disk failed
-  abbrev pub room_behind : World → Room → List Turn → Room
-  room_behind w m [] = m
-  room_behind w m (t ∷ turns) = room_behind (after_turn w t) (room_after_events w m t.events) turns
-
   module _ (HasSpelling : Record → Type 0) where
     -- it is the turn of some call, and tells of room what is so
     pub record IsWithinRoom (w : World) (m : Room) (t : Turn) : Type 0 where
