@@ -1,7 +1,8 @@
 // What the laws ask of the format of the files.
-ghost use Rattle.std.specs.Prelude.{ℕ, List};
+ghost use Rattle.std.specs.Prelude.{ℕ, List, take};
+ghost use Rattle.qm_glog.specs.Records.{IsLog, IsDamaged, size_of};
 ghost use Rattle.qm_kinds.specs.declared.record.Record.{Record};
-ghost use Rattle.qm_record.specs.Spelling.{HasSpelling};
+ghost use Rattle.qm_record.specs.Spelling.{HasSpelling, record_text};
 
 /// A format of records: which ones have a spelling. The laws hold of each, so they stay when more records get one.
 pub trait Format {
@@ -29,4 +30,11 @@ pub trait FileFormat: Format {
 
     /// The place of the gate of the record of this number, counted from 0, in a file of these texts.
     ghost place_of: { List (List ℕ) → ℕ → ℕ };
+}
+
+impl FileFormat for QueueFile {
+    ghost text = { record_text };
+    ghost is_log = { IsLog };
+    ghost is_broken_at = { IsDamaged };
+    ghost place_of = { λ bodies index. size_of (take index bodies) };
 }

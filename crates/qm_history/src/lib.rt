@@ -48,7 +48,7 @@ pub use histories::{
     other_epochs_are_fenced, texts_follow_turns,
 };
 pub use marks::entries_have_their_last_marks;
-pub use masters::masters_are_judged_once;
+pub use masters::{masters_are_judged_once, queue_files_read_one_way};
 pub use printed::{blocks_come_again_elsewhere_behind_marks, no_block_is_left_out_of_a_stretch};
 pub use reading::lines_are_read_as_they_are_served;
 pub use sound::{sound_worlds_are_consistent, worlds_on_queue_files_stay_sound, worlds_stay_sound};
