@@ -147,12 +147,7 @@ fn meant(
 /// of it that isn't built, or is cut, stands behind a `/`, whatever else is wrong, and where another form of a command has
 /// nothing wrong; `Value` at the first byte of a name, a number, a word, a time or a file that can't be read; and those of the grammar.
 /// `NoMemory`, where memory for the tokens, the parts and the lists ran out.
-pub fn read_command(
-    alloc: Global,
-    text: &[u8],
-    user: Name,
-    now: Moment,
-) -> Result<Input, DclFault>
+pub fn read_command(alloc: Global, text: &[u8], user: Name, now: Moment) -> Result<Input, DclFault>
     ensures read { IfOk result (λ input. command_of user now text.now ≡ Ok input) }
     ensures fault { IfErr result (Explains (command_of user now text.now)) }
 {
