@@ -15,6 +15,7 @@ use Rattle.qm_kinds.specs.declared.refusal.Refusal.TheVariants.{NumbersSpent, Sp
 use Rattle.qm_kinds.specs.declared.request.Request.{Request}
 use Rattle.qm_kinds.specs.declared.request.Request.TheVariants.{Append}
 use Rattle.qm_kinds.specs.declared.system.System.{System}
+use Rattle.qm_model.specs.Acting.{acting}
 use Rattle.qm_model.specs.Applied.{applied, first_refusal_of, refusal_of, change_of, completed, at_moment, asks_for_numbers, are_numbers_spent}
 use Rattle.qm_model.specs.Built.{is_built}
 use Rattle.qm_model.specs.Due.{due}
@@ -78,17 +79,22 @@ all_and_one : {X : Type 0} (P : X → Type 0) (xs : List X) (y : X) → AllByRec
 all_and_one P [] y each one = (one, tt)
 all_and_one P (x ∷ xs) y each one = (each.0, all_and_one P xs y each.1 one)
 
-now_is_not_early : (last nodes : ℕ) (kept : Bool) → 0 < nodes → kept ≡ true → (nat_le last last && nat_lt 0 nodes && kept) ≡ true
-now_is_not_early last nodes kept some is = grind (arith, nat_tests)
+acts_not_early : (last moment nodes : ℕ) (kept : Bool) → last ≤ moment → 0 < nodes → kept ≡ true → (nat_le last moment && nat_lt 0 nodes && kept) ≡ true
+acts_not_early last moment nodes kept later some is = grind (arith, nat_tests)
+
+-- no moment goes back
+acts_later : (now : ℕ) (s : System) → s.last ≤ acting now s
+acts_later now s = omega arith
 
 some_node : (s : System) (node : List ℕ) → HasNode node s → 0 < length s.nodes
 some_node s node has = omega (arith, ap (λ ns. length ns) has)
 
 -- the record of a request that is accepted now
-pub accepted_now : (s : System) (node : List ℕ) (r : Request) (a : Accepted) → HasNode node s → is_built r ≡ true → applied s s.last 0 r ≡ Ok a → left_by s (record_of s r) ≡ Some a.system
-accepted_now s node r a has is e =
-    ap (λ (can : Bool). cond (can && is_ok (applied s s.last 0 r)) (Some (system_after s (applied s s.last 0 r))) None)
-    (now_is_not_early s.last (length s.nodes) (is_built r) (some_node s node has) is)
+pub accepted_now : (s : System) (now : ℕ) (node : List ℕ) (r : Request) (a : Accepted) → HasNode node s → is_built r ≡ true → applied s (acting now s) 0 r ≡ Ok a
+    → left_by s (record_of s now r) ≡ Some a.system
+accepted_now s now node r a has is e =
+    ap (λ (can : Bool). cond (can && is_ok (applied s (acting now s) 0 r)) (Some (system_after s (applied s (acting now s) 0 r))) None)
+    (acts_not_early s.last (acting now s) (length s.nodes) (is_built r) (acts_later now s) (some_node s node has) is)
     ∙ ap (λ (o : Result Accepted Refusal). cond (is_ok o) (Some (system_after s o)) None) e
 
 pub file_goes_on : (bodies : List (List ℕ)) (s t : System) (r : Record) → IsQueueFile bodies s → HasSpelling r → left_by s r ≡ Some t → IsQueueFile (bodies ++ record_text r ∷ []) t
@@ -113,40 +119,40 @@ no_room_is cap need over = grind (arith, nat_tests)
 
 -- ---- what is done where there is room for the record
 
-module _ (site : Site) (r : Request) (a : Accepted) (accepted : applied site.system site.system.last 0 r ≡ Ok a)
-    (bodies : List (List ℕ)) (same : bodies ≡ site.bodies) (body : List ℕ) (text_is : body ≡ record_text (record_of site.system r)) where
-  need_is : need_of bodies body ≡ need_of site.bodies (record_text (record_of site.system r))
+module _ (site : Site) (now : ℕ) (r : Request) (a : Accepted) (accepted : applied site.system (acting now site.system) 0 r ≡ Ok a)
+    (bodies : List (List ℕ)) (same : bodies ≡ site.bodies) (body : List ℕ) (text_is : body ≡ record_text (record_of site.system now r)) where
+  need_is : need_of bodies body ≡ need_of site.bodies (record_text (record_of site.system now r))
   need_is = ap (λ (bs : List (List ℕ)). need_of bs body) same ∙ ap (need_of site.bodies) text_is
 
   -- the site once it is done
   abbrev pub site_done : Site
-  site_done = record { system = a.system; bodies = site.bodies ++ record_text (record_of site.system r) ∷ [] }
+  site_done = record { system = a.system; bodies = site.bodies ++ record_text (record_of site.system now r) ∷ [] }
 
-  pub done_there : need_of bodies body ≤ QUEUE_CAP → asked site r ≡ Done site_done a.reply
-  done_there fits = ap (decided site r) accepted
-      ∙ ap (λ (b : Bool). cond b (Full (need_of site.bodies (record_text (record_of site.system r))) QUEUE_CAP) (Done site_done a.reply))
-      (room_is QUEUE_CAP (need_of site.bodies (record_text (record_of site.system r))) (subst (λ (n : ℕ). n ≤ QUEUE_CAP) need_is fits))
+  pub done_there : need_of bodies body ≤ QUEUE_CAP → asked site now r ≡ Done site_done a.reply
+  done_there fits = ap (decided site now r) accepted
+      ∙ ap (λ (b : Bool). cond b (Full (need_of site.bodies (record_text (record_of site.system now r))) QUEUE_CAP) (Done site_done a.reply))
+      (room_is QUEUE_CAP (need_of site.bodies (record_text (record_of site.system now r))) (subst (λ (n : ℕ). n ≤ QUEUE_CAP) need_is fits))
 
-  pub full_there : QUEUE_CAP < need_of bodies body → asked site r ≡ Full (need_of bodies body) QUEUE_CAP
-  full_there over = ap (decided site r) accepted
-      ∙ ap (λ (b : Bool). cond b (Full (need_of site.bodies (record_text (record_of site.system r))) QUEUE_CAP) (Done site_done a.reply))
-      (no_room_is QUEUE_CAP (need_of site.bodies (record_text (record_of site.system r))) (subst (λ (n : ℕ). QUEUE_CAP < n) need_is over))
+  pub full_there : QUEUE_CAP < need_of bodies body → asked site now r ≡ Full (need_of bodies body) QUEUE_CAP
+  full_there over = ap (decided site now r) accepted
+      ∙ ap (λ (b : Bool). cond b (Full (need_of site.bodies (record_text (record_of site.system now r))) QUEUE_CAP) (Done site_done a.reply))
+      (no_room_is QUEUE_CAP (need_of site.bodies (record_text (record_of site.system now r))) (subst (λ (n : ℕ). QUEUE_CAP < n) need_is over))
       ∙ ap (λ (n : ℕ). Full n QUEUE_CAP) (sym need_is)
 
-  pub is_done : need_of bodies body ≤ QUEUE_CAP → IsDone (asked site r)
+  pub is_done : need_of bodies body ≤ QUEUE_CAP → IsDone (asked site now r)
   is_done fits = subst IsDone (sym (done_there fits)) tt
 
   -- whether or not there is room for it, the rules accept it
-  pub is_accepted : IsAccepted (asked site r)
+  pub is_accepted : IsAccepted (asked site now r)
   is_accepted = elim (cases_lt QUEUE_CAP (need_of bodies body)) [
     | inl over ↦ subst IsAccepted (sym (full_there over)) tt
     | inr fits ↦ subst IsAccepted (sym (done_there fits)) tt
   ]
 
   -- the records are still those of a queue file
-  pub lawful_done : IsLawful site → (node : List ℕ) → HasNode node site.system → is_built r ≡ true → HasSpelling (record_of site.system r) → IsLawful site_done
+  pub lawful_done : IsLawful site → (node : List ℕ) → HasNode node site.system → is_built r ≡ true → HasSpelling (record_of site.system now r) → IsLawful site_done
   lawful_done lawful node has built fits =
-      file_goes_on site.bodies site.system a.system (record_of site.system r) lawful fits (accepted_now site.system node r a has built accepted)
+      file_goes_on site.bodies site.system a.system (record_of site.system now r) lawful fits (accepted_now site.system now node r a has built accepted)
 
   -- and after the append those of the site once it is done
   pub lawful_after : IsLawful site_done → (after_ : List (List ℕ)) → after_ ≡ bodies ++ body ∷ [] → (t : System) → a.system ≡ t → IsQueueFile after_ t
@@ -156,7 +162,7 @@ module _ (site : Site) (r : Request) (a : Accepted) (accepted : applied site.sys
 
   -- the record may be there while it is written
   may_be_there : (may_leave : ℕ → List ℕ → Type 0) → IsLawful site → IsLawful site_done → need_of bodies body ≤ QUEUE_CAP → (crashed : CrashState) → TornAppend may_leave bodies body crashed
-      → BeforeOrAfter may_leave site (site_after site (asked site r)) crashed
+      → BeforeOrAfter may_leave site (site_after site (asked site now r)) crashed
   may_be_there may_leave before lawful fits crashed left = record {
     site = ⊎_elim (λ old. inl (site_is site crashed before (subst (λ (bs : List (List ℕ)). Holds bs crashed) same old)))
         (λ new. inr (subst (λ (x : Asked). IsSite (crashed 1) (site_after site x)) (sym (done_there fits))
@@ -168,35 +174,35 @@ module _ (site : Site) (r : Request) (a : Accepted) (accepted : applied site.sys
     -- what a crash leaves while the record is written, or isn't since there is no room
     pub steps_done : IsLawful site → IsLawful site_done → (IsTrue m.tells → IsAtRest m site.bodies old) → ((crashed : CrashState) → m.left_since old (m.moment old) crashed → IsLeft (m.may_leave old) crashed)
         → (QUEUE_CAP < need_of bodies body → new ≡ old) → Appends m bodies body old new
-        → Steps m site (site_after site (asked site r)) old new
+        → Steps m site (site_after site (asked site now r)) old new
     steps_done before lawful rest only_now unchanged appends = elim (cases_lt QUEUE_CAP (need_of bodies body)) [
-      | inl over ↦ steps_nowhere m site (site_after site (asked site r)) old new (unchanged over) before rest only_now
+      | inl over ↦ steps_nowhere m site (site_after site (asked site now r)) old new (unchanged over) before rest only_now
       | inr fits ↦ record {
-        any_moment = λ told. weaker m old new (TornAppend (m.may_leave old) bodies body) (BeforeOrAfter (m.may_leave old) site (site_after site (asked site r))) (appends.any_moment told) (may_be_there (m.may_leave old) before lawful fits);
+        any_moment = λ told. weaker m old new (TornAppend (m.may_leave old) bodies body) (BeforeOrAfter (m.may_leave old) site (site_after site (asked site now r))) (appends.any_moment told) (may_be_there (m.may_leave old) before lawful fits);
         others = appends.others;
       }
     ]
 
--- ---- the same, by what the calls say that make the request: it acts at this moment, which is the last
+-- ---- the same, by what the calls say that make the request: it acts at this moment
 
-module _ (site : Site) (r : Request) (a : Accepted) (now : ℕ) (last : now ≡ site.system.last) (accepted : applied site.system now 0 r ≡ Ok a)
-    (bodies : List (List ℕ)) (same : bodies ≡ site.bodies) (body : List ℕ) (text_is : body ≡ record_text (request_record now 0 r)) (fits : HasSpelling (request_record now 0 r))
+module _ (site : Site) (now : ℕ) (r : Request) (a : Accepted) (moment : ℕ) (acts : moment ≡ acting now site.system) (accepted : applied site.system moment 0 r ≡ Ok a)
+    (bodies : List (List ℕ)) (same : bodies ≡ site.bodies) (body : List ℕ) (text_is : body ≡ record_text (request_record moment 0 r)) (fits : HasSpelling (request_record moment 0 r))
     (node : List ℕ) (has : HasNode node site.system) (built : is_built r ≡ true) (lawful : IsLawful site) where
-  accepted_last : applied site.system site.system.last 0 r ≡ Ok a
-  accepted_last = subst (λ (n : ℕ). applied site.system n 0 r ≡ Ok a) last accepted
+  accepted_there : applied site.system (acting now site.system) 0 r ≡ Ok a
+  accepted_there = subst (λ (n : ℕ). applied site.system n 0 r ≡ Ok a) acts accepted
 
-  text_last : body ≡ record_text (record_of site.system r)
-  text_last = text_is ∙ ap (λ (n : ℕ). record_text (request_record n 0 r)) last
+  text_there : body ≡ record_text (record_of site.system now r)
+  text_there = text_is ∙ ap (λ (n : ℕ). record_text (request_record n 0 r)) acts
 
-  lawful_last : IsLawful (site_done site r a accepted_last bodies same body text_last)
-  lawful_last = lawful_done site r a accepted_last bodies same body text_last lawful node has built (subst (λ (n : ℕ). HasSpelling (request_record n 0 r)) last fits)
+  lawful_there : IsLawful (site_done site now r a accepted_there bodies same body text_there)
+  lawful_there = lawful_done site now r a accepted_there bodies same body text_there lawful node has built (subst (λ (n : ℕ). HasSpelling (request_record n 0 r)) acts fits)
 
   pub appended_is_lawful : (after : List (List ℕ)) → after ≡ bodies ++ body ∷ [] → (t : System) → a.system ≡ t → IsQueueFile after t
-  appended_is_lawful after is t system_is = lawful_after site r a accepted_last bodies same body text_last lawful_last after is t system_is
+  appended_is_lawful after is t system_is = lawful_after site now r a accepted_there bodies same body text_there lawful_there after is t system_is
 
   pub steps_appending : {D : Type 0} (m : Meaning D) (old mid new : D) → mid ≡ old → (IsTrue m.tells → IsAtRest m site.bodies old)
       → ((crashed : CrashState) → m.left_since old (m.moment old) crashed → IsLeft (m.may_leave old) crashed)
-      → (QUEUE_CAP < need_of bodies body → new ≡ mid) → Appends m bodies body mid new → Steps m site (site_after site (asked site r)) old new
+      → (QUEUE_CAP < need_of bodies body → new ≡ mid) → Appends m bodies body mid new → Steps m site (site_after site (asked site now r)) old new
   steps_appending m old mid new reserved rest only_now unchanged appends =
-      steps_done site r a accepted_last bodies same body text_last m old new lawful lawful_last rest only_now
+      steps_done site now r a accepted_there bodies same body text_there m old new lawful lawful_there rest only_now
       (λ over. unchanged over ∙ reserved) (subst (λ d. Appends m bodies body d new) reserved appends)

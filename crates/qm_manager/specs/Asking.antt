@@ -3,13 +3,14 @@ use Rattle.std.specs.Prelude.{◌≡◌, ◌<◌, ◌^◌, ℕ, nat_lt, if◌the
 use Rattle.qm_disk.specs.Disk.{Meaning}
 use Rattle.qm_disk.specs.Disk.{KeepsOthers, LeavesOnly, OneFailed, IsQuiet}
 use Rattle.qm_kinds.specs.declared.record.Record.{Record}
-use Rattle.qm_kinds.specs.declared.record.Body.TheVariants.{Ask}
 use Rattle.qm_kinds.specs.declared.refusal.Refusal.{Refusal}
 use Rattle.qm_kinds.specs.declared.reply.Reply.{Reply}
 use Rattle.qm_kinds.specs.declared.request.Request.{Request}
 use Rattle.qm_kinds.specs.declared.request.Request.TheVariants.{InitializeQueue, SetQueue, StartQueue, Submit, SetEntry}
 use Rattle.qm_kinds.specs.declared.system.System.{System}
+use Rattle.qm_model.specs.Acting.{acting}
 use Rattle.qm_model.specs.Applied.{applied}
+use Rattle.qm_model.specs.Log.{request_record}
 use Rattle.qm_model.specs.Outcome.{Accepted}
 use Rattle.qm_glog.specs.Log.{need_of}
 use Rattle.qm_record.specs.Spelling.{record_text, IsShortQueue, IsShortChange, IsShortEntryChange}
@@ -34,9 +35,9 @@ pub data Asked : Type 0 where
   Refused : Refusal → Asked
   Full : ℕ → ℕ → Asked
 
--- The record of a request that is accepted now. There is no clock yet, so it acts at the moment of the last change.
-abbrev pub record_of : System → Request → Record
-record_of s request = record { moment = s.last; node = 0; body = Ask request }
+-- the record of a request that is accepted, where the clock told this before: it has the moment at which the request acts
+abbrev pub record_of : System → ℕ → Request → Record
+record_of s now request = request_record (acting now s) 0 request
 
 -- what is accepted is done where the queue file has room for its record
 abbrev pub kept : Site → Accepted → List ℕ → Asked
@@ -44,13 +45,13 @@ kept site accepted body =
     if nat_lt QUEUE_CAP (need_of site.bodies body) then Full (need_of site.bodies body) QUEUE_CAP
     else Done (record { system = accepted.system; bodies = site.bodies ++ body ∷ [] }) accepted.reply
 
-abbrev pub decided : Site → Request → Result Accepted Refusal → Asked
-decided site request (Err refusal) = Refused refusal
-decided site request (Ok accepted) = kept site accepted (record_text (record_of site.system request))
+abbrev pub decided : Site → ℕ → Request → Result Accepted Refusal → Asked
+decided site now request (Err refusal) = Refused refusal
+decided site now request (Ok accepted) = kept site accepted (record_text (record_of site.system now request))
 
--- what the one node of a site is answered that asks for this
-abbrev pub asked : Site → Request → Asked
-asked site request = decided site request (applied site.system site.system.last 0 request)
+-- what the one node of a site is answered that asks for this, where its clock told this before
+abbrev pub asked : Site → ℕ → Request → Asked
+asked site now request = decided site now request (applied site.system (acting now site.system) 0 request)
 
 -- the site once a request was answered so
 abbrev pub site_after : Site → Asked → Site
@@ -59,8 +60,8 @@ site_after site (Refused refusal) = site
 site_after site (Full need cap) = site
 
 -- the site once it was asked for this
-abbrev pub site_asked : Site → Request → Site
-site_asked site request = site_after site (asked site request)
+abbrev pub site_asked : Site → ℕ → Request → Site
+site_asked site now request = site_after site (asked site now request)
 
 abbrev pub IsDone : Asked → Type 0
 IsDone (Done site reply) = Unit {0}

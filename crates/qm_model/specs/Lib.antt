@@ -22,6 +22,7 @@ pub mod Settling
 pub mod Starting
 pub mod Tables
 pub mod Due
+pub mod Acting
 pub mod Retaining
 pub mod Ending
 pub mod Losing

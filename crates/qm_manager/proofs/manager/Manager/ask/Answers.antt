@@ -27,22 +27,22 @@ commit-requires-clause-sound g c =
 pub returns-in-Err-By-clause-steps : goal.returns-in-Err-By-clause-steps
 returns-in-Err-By-clause-steps g c =
     let site = site_of c.args.self.now in
-    steps_nowhere g.D.Disk.meaning site (site_after site (asked site c.args.request.now)) (disk_of c.args.self.now) (disk_of c.args.self.now) refl c.requires.ready.lawful c.requires.ready.rest (g.met.D.Disk.only_now (disk_of c.args.self.now))
+    steps_nowhere g.D.Disk.meaning site (site_after site (asked site c.args.now c.args.request.now)) (disk_of c.args.self.now) (disk_of c.args.self.now) refl c.requires.ready.lawful c.requires.ready.rest (g.met.D.Disk.only_now (disk_of c.args.self.now))
 
 pub returns-in-Err-NoMemory-clause-steps : goal.returns-in-Err-NoMemory-clause-steps
 returns-in-Err-NoMemory-clause-steps g c =
     let site = site_of c.args.self.now in
-    steps_nowhere g.D.Disk.meaning site (site_after site (asked site c.args.request.now)) (disk_of c.args.self.now) (disk_of c.args.self.now) refl c.requires.ready.lawful c.requires.ready.rest (g.met.D.Disk.only_now (disk_of c.args.self.now))
+    steps_nowhere g.D.Disk.meaning site (site_after site (asked site c.args.now c.args.request.now)) (disk_of c.args.self.now) (disk_of c.args.self.now) refl c.requires.ready.lawful c.requires.ready.rest (g.met.D.Disk.only_now (disk_of c.args.self.now))
 
 pub returns-in_err-body-clause-steps : goal.returns-in_err-body-clause-steps
 returns-in_err-body-clause-steps g c =
     let site = site_of c.args.self.now in
-    steps_nowhere g.D.Disk.meaning site (site_after site (asked site c.args.request.now)) (disk_of c.args.self.now) (disk_of c.args.self.now) refl c.requires.ready.lawful c.requires.ready.rest (g.met.D.Disk.only_now (disk_of c.args.self.now))
+    steps_nowhere g.D.Disk.meaning site (site_after site (asked site c.args.now c.args.request.now)) (disk_of c.args.self.now) (disk_of c.args.self.now) refl c.requires.ready.lawful c.requires.ready.rest (g.met.D.Disk.only_now (disk_of c.args.self.now))
 
 pub returns-in_err-reserve-clause-steps : goal.returns-in_err-reserve-clause-steps
 returns-in_err-reserve-clause-steps g c =
     let site = site_of c.args.self.now in
-    steps_nowhere g.D.Disk.meaning site (site_after site (asked site c.args.request.now)) (disk_of c.args.self.now) (store.disk_of c.reserve.new.self) c.reserve.ensures.disk c.requires.ready.lawful c.requires.ready.rest (g.met.D.Disk.only_now (disk_of c.args.self.now))
+    steps_nowhere g.D.Disk.meaning site (site_after site (asked site c.args.now c.args.request.now)) (disk_of c.args.self.now) (store.disk_of c.reserve.new.self) c.reserve.ensures.disk c.requires.ready.lawful c.requires.ready.rest (g.met.D.Disk.only_now (disk_of c.args.self.now))
 
 pub invariant_of-self-in-Ok-append : goal.invariant_of-self-in-Ok-append
 invariant_of-self-in-Ok-append g c =
@@ -50,14 +50,14 @@ invariant_of-self-in-Ok-append g c =
     record {
       named = ap (λ (x : Accepted). x.system.nodes) (sym c.commit.ensures.done)
           ∙ ap (λ (t : System). (made c.in-Ok.prepared t).system.nodes) c.prepare.ensures.rows
-          ∙ c.nodes_keep_their_names.ensures.built s c.last-moment.result 0 c.args.request.now (made c.in-Ok.prepared s) c.requires.built c.in-Ok.ensures.accepted
+          ∙ c.nodes_keep_their_names.ensures.built s c.acting-moment.result 0 c.args.request.now (made c.in-Ok.prepared s) c.requires.built c.in-Ok.ensures.accepted
           ∙ c.args.self.now.named;
     }
 
 pub returns-in-Ok-append-clause-steps : goal.returns-in-Ok-append-clause-steps
 returns-in-Ok-append-clause-steps g c =
     let a : Accepted = made c.in-Ok.prepared (system_of c.args.self.now.image) in
-    steps_appending (site_of c.args.self.now) c.args.request.now a c.last-moment.result c.last-moment.ensures c.in-Ok.ensures.accepted
+    steps_appending (site_of c.args.self.now) c.args.now c.args.request.now a c.acting-moment.result c.acting-moment.ensures.moment c.in-Ok.ensures.accepted
     (store.bodies_of c.reserve.new.self) c.reserve.ensures.bodies c.deref.result.now (c.deref.ensures.value ∙ c.in_ok-body.ensures.is) c.in_ok-body.ensures.fits
     c.args.self.now.node c.args.self.now.named c.requires.built c.requires.ready.lawful
     g.D.Disk.meaning (disk_of c.args.self.now) (store.disk_of c.reserve.new.self) (store.disk_of c.append.new.self) c.reserve.ensures.disk
@@ -66,7 +66,7 @@ returns-in-Ok-append-clause-steps g c =
 pub returns-in-Err-Full-clause-steps : goal.returns-in-Err-Full-clause-steps
 returns-in-Err-Full-clause-steps g c =
     let a : Accepted = made c.in-Ok.prepared (system_of c.args.self.now.image) in
-    steps_appending (site_of c.args.self.now) c.args.request.now a c.last-moment.result c.last-moment.ensures c.in-Ok.ensures.accepted
+    steps_appending (site_of c.args.self.now) c.args.now c.args.request.now a c.acting-moment.result c.acting-moment.ensures.moment c.in-Ok.ensures.accepted
     (store.bodies_of c.reserve.new.self) c.reserve.ensures.bodies c.deref.result.now (c.deref.ensures.value ∙ c.in_ok-body.ensures.is) c.in_ok-body.ensures.fits
     c.args.self.now.node c.args.self.now.named c.requires.built c.requires.ready.lawful
     g.D.Disk.meaning (disk_of c.args.self.now) (store.disk_of c.reserve.new.self) (store.disk_of c.append.new.self) c.reserve.ensures.disk
@@ -75,7 +75,7 @@ returns-in-Err-Full-clause-steps g c =
 pub returns-clause-steps : goal.returns-clause-steps
 returns-clause-steps g c =
     let a : Accepted = made c.in-Ok.prepared (system_of c.args.self.now.image) in
-    steps_appending (site_of c.args.self.now) c.args.request.now a c.last-moment.result c.last-moment.ensures c.in-Ok.ensures.accepted
+    steps_appending (site_of c.args.self.now) c.args.now c.args.request.now a c.acting-moment.result c.acting-moment.ensures.moment c.in-Ok.ensures.accepted
     (store.bodies_of c.reserve.new.self) c.reserve.ensures.bodies c.deref.result.now (c.deref.ensures.value ∙ c.in_ok-body.ensures.is) c.in_ok-body.ensures.fits
     c.args.self.now.node c.args.self.now.named c.requires.built c.requires.ready.lawful
     g.D.Disk.meaning (disk_of c.args.self.now) (store.disk_of c.reserve.new.self) (store.disk_of c.append.new.self) c.reserve.ensures.disk
@@ -85,7 +85,7 @@ pub returns-in-Ok-append-clause-ready : goal.returns-in-Ok-append-clause-ready
 returns-in-Ok-append-clause-ready g c = λ not.
     let a : Accepted = made c.in-Ok.prepared (system_of c.args.self.now.image) in
     record {
-      lawful = appended_is_lawful (site_of c.args.self.now) c.args.request.now a c.last-moment.result c.last-moment.ensures c.in-Ok.ensures.accepted
+      lawful = appended_is_lawful (site_of c.args.self.now) c.args.now c.args.request.now a c.acting-moment.result c.acting-moment.ensures.moment c.in-Ok.ensures.accepted
           (store.bodies_of c.reserve.new.self) c.reserve.ensures.bodies c.deref.result.now (c.deref.ensures.value ∙ c.in_ok-body.ensures.is) c.in_ok-body.ensures.fits
           c.args.self.now.node c.args.self.now.named c.requires.built c.requires.ready.lawful
           (store.bodies_of c.append.new.self) c.in-Ok-append.ensures.answer.1.bodies (system_of c.commit.new.self)
