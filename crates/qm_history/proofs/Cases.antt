@@ -1,6 +1,6 @@
 -- Calls of two nodes as a table, the turns that they make, and what is printed of them; and what single turns and steps may be.
 use Rattle.std.proofs.Common.{◌≡◌, ℕ, lit<, Bool, true, false, List, [], ◌∷◌, ◌++◌, refl, None, Some}
-use Rattle.std.specs.Prelude.{codes, Ok}
+use Rattle.std.specs.Prelude.{codes, Ok, Err}
 use Rattle.std.specs.Fmt.{digits}
 use Rattle.qm_kinds.specs.declared.entry.JobKind.TheVariants as job
 use Rattle.qm_kinds.specs.declared.input.Input.{Input}
@@ -8,6 +8,7 @@ use Rattle.qm_kinds.specs.declared.input.Input.TheVariants as input
 use Rattle.qm_kinds.specs.declared.record.Record.{Record}
 use Rattle.qm_kinds.specs.declared.refusal.ParseKind.TheVariants as parse
 use Rattle.qm_kinds.specs.declared.request.Request.TheVariants as request
+use Rattle.qm_kinds.specs.declared.script.ScriptKind.TheVariants as wrong
 use Rattle.qm_kinds.specs.declared.work.Duty.{Duty}
 use Rattle.qm_kinds.specs.declared.work.Report.TheVariants as report
 use Rattle.qm_kinds.specs.declared.work.Work.{Work}
@@ -171,6 +172,11 @@ asked_by_system number sort what = record { line = record { number = number; nod
 
 -- A command goes on where the line itself ends in `-`, and an empty line ends it: what stands before that `-` stays. Without this
 -- the act behind it would be a part of the command.
-pub an_empty_line_ends_a_command : script_lines (codes "A" ∷ []) (codes "A $ X--\n\nA ! TICK\n")
+pub an_empty_line_ends_a_command : script_lines (Some (codes "A" ∷ [])) (codes "A $ X--\n\nA ! TICK\n")
     ≡ Ok (asked_by_system 1 Command (codes "X-") ∷ asked_by_system 3 Act (codes "TICK") ∷ [])
 an_empty_line_ends_a_command = refl
+
+-- Where the files can't be read no node is asked for, and what else is wrong is told, though an earlier line names no node of the
+-- cluster.
+pub no_node_is_asked_for : script_lines None (codes "Z $ X\nA\n") ≡ Err (record { line = 2; kind = wrong.Form })
+no_node_is_asked_for = refl

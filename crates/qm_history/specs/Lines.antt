@@ -1,6 +1,6 @@
 -- A script whole: lines of users, commands that go on in the next line, item lists, and which fault is told.
 -- OpenVMS User's Manual, on command procedures and continued lines; DCL Dictionary, SUBMIT, /USER. This site's own: the form.
-use Rattle.std.specs.Prelude.{ℕ, nat_eq, ◌==◌, ◌+◌, nat_lt, Bool, false, if◌then◌else◌, List, [], ◌∷◌, ◌++◌, length, take, position, ◌-◌, Option, None, Some, Result, Ok, Err}
+use Rattle.std.specs.Prelude.{ℕ, nat_eq, ◌==◌, ◌+◌, nat_lt, Bool, true, false, if◌then◌else◌, List, [], ◌∷◌, ◌++◌, length, take, position, ◌-◌, Option, None, Some, Result, Ok, Err}
 use Rattle.std.specs.List.{list_all, slice_split, ends_with}
 use Rattle.std.specs.Option.{option_map, option_and_then}
 use Rattle.qm_kinds.specs.Files.{name_of}
@@ -45,13 +45,18 @@ line_from number None = None
 line_from number (Some parts) =
     option_and_then (λ (asker : List ℕ × List ℕ). option_map (line_made number asker) (sorted parts.1)) (asker_of parts.0)
 
--- a line whose node is in the cluster
-abbrev pub of_cluster : List (List ℕ) → ℕ → Option UserLine → Result UserLine LineFault
+-- the node is in the cluster, or no cluster is known
+abbrev pub may_be_of : Option (List (List ℕ)) → List ℕ → Bool
+may_be_of None node = true
+may_be_of (Some names) node = is_among names node
+
+-- a line whose node may be in the cluster
+abbrev pub of_cluster : Option (List (List ℕ)) → ℕ → Option UserLine → Result UserLine LineFault
 of_cluster names number None = Err (record { line = number; kind = wrong.Form })
-of_cluster names number (Some l) = if is_among names l.line.node then Ok l else Err (record { line = number; kind = wrong.Node })
+of_cluster names number (Some l) = if may_be_of names l.line.node then Ok l else Err (record { line = number; kind = wrong.Node })
 
 -- the line that a text is, or what is wrong with it: a byte, its form, or its node
-abbrev pub line_of : List (List ℕ) → ℕ → List ℕ → Result UserLine LineFault
+abbrev pub line_of : Option (List (List ℕ)) → ℕ → List ℕ → Result UserLine LineFault
 line_of names number text =
     if list_all is_line_byte text then of_cluster names number (line_from number (cut_at_blank text)) else
     Err (record { line = number; kind = wrong.Byte })
@@ -86,7 +91,7 @@ cut_short number (Ok l) = Err (record { line = number; kind = wrong.End })
 
 -- the lines of the parts between line feeds, of which the last has to be empty; of a command that goes on, the number of its first
 -- part and its text so far are given. It goes on where the part itself ends in `-`; an empty one ends it
-abbrev pub lines_from : List (List ℕ) → Option (ℕ × List ℕ) → ℕ → List (List ℕ) → Result (List UserLine) LineFault
+abbrev pub lines_from : Option (List (List ℕ)) → Option (ℕ × List ℕ) → ℕ → List (List ℕ) → Result (List UserLine) LineFault
 lines_from names begun number [] = Ok []
 lines_from names None number (part ∷ []) = if length part == 0 then Ok [] else cut_short number (line_of names number part)
 lines_from names (Some begun) number (part ∷ []) = cut_short begun.0 (line_of names begun.0 (begun.1 ++ part))
@@ -102,8 +107,9 @@ lines_from names (Some begun) number (part ∷ next ∷ parts) =
 abbrev pub script_bytes : ℕ
 script_bytes = 16777216
 
--- the lines of a script for a cluster of these nodes, or the least line that is none and what is wrong with it
-abbrev pub script_lines : List (List ℕ) → List ℕ → Result (List UserLine) LineFault
+-- The lines of a script for a cluster of these nodes, or the least line that is none and what is wrong with it. Where the files
+-- can't be read, no cluster is known, and no node is asked for.
+abbrev pub script_lines : Option (List (List ℕ)) → List ℕ → Result (List UserLine) LineFault
 script_lines names bytes =
     if nat_lt script_bytes (length bytes) then Err (record { line = 0; kind = wrong.Long }) else
     lines_from names None 1 (slice_split (λ (b : ℕ). b == 10) bytes)
