@@ -1,9 +1,11 @@
 -- What the value stands for on which the nodes work in turns: its own turns behind the world with which it began.
 -- OpenVMS System Manager's Manual, Managing the Queue Manager and Queue Database, on the queue manager process and its files.
 -- This site's own: one value with the files and the image, and the notes of its turns.
-use Rattle.std.specs.Prelude.{◌≡◌, ◌≢◌, ◌⊎◌, ℕ, ◌+◌, ◌-◌, ◌^◌, ◌≤◌, min, Bool, true, false, List, [], ◌∷◌, ◌++◌, length, filter_map, is_some, Option, None, Some, IsTrue, IsNone}
+use Rattle.std.specs.Prelude.{◌≡◌, ◌≢◌, ◌⊎◌, ℕ, ◌+◌, ◌-◌, ◌^◌, ◌<◌, ◌≤◌, min, Bool, true, false, List, [], ◌∷◌, ◌++◌, length, filter_map, is_some, Option, None, Some, IsTrue, IsNone}
+use Rattle.std.specs.List.{AllByRecursion}
 use Rattle.std.specs.Option.{option_map}
 use Rattle.qm_disk.specs.Disk.{CrashState, Meaning, LeavesOnly, OnlyLooks, TellsFaults}
+use Rattle.qm_kinds.specs.declared.input.Input.TheVariants as input
 use Rattle.qm_kinds.specs.declared.record.Record.{Record}
 use Rattle.qm_kinds.specs.declared.system.System.{System}
 use Rattle.qm_history.specs.declared.call.Answer.{Answer}
@@ -13,11 +15,13 @@ use Rattle.qm_history.specs.declared.turn.Turn.{Turn}
 use Rattle.qm_history.specs.declared.world.Role.{Role}
 use Rattle.qm_history.specs.declared.world.World.{World}
 use Rattle.qm_history.specs.Answering.{MayAnswer}
-use Rattle.qm_history.specs.Calls.{why_of}
+use Rattle.qm_history.specs.Calls.{input_of, why_of, IsFromOutside}
+use Rattle.qm_history.specs.Computed.{turn_of, AreSpelled, IsLawfulInput}
 use Rattle.qm_history.specs.Contents.{HoldWorld, HoldWithin, HoldIn, Keeps, LeavesFiles, CompactsFiles, are_without_write, compacted_by}
 use Rattle.qm_history.specs.Faults.{faults_told, is_journal, tells_disk_fault}
 use Rattle.qm_history.specs.Legal.{after_turn, after_turns, IsLegal}
 use Rattle.qm_history.specs.Master.{MasterState}
+use Rattle.qm_history.specs.Records.{image_of}
 use Rattle.qm_history.specs.Room.{Room, AreAboveCap, AreWithinRoom, IsRoomTold, room_after_events, room_in}
 use Rattle.qm_history.specs.Start.{HoldRecords, Starts}
 use Rattle.qm_history.specs.World.{system_in}
@@ -71,6 +75,19 @@ MayLeaveNone turns told = ((told ≡ answer.HistoryFull) × (length turns ≡ tu
 abbrev pub LeavesTurn : List Turn → Option Turn → Answer → Type 0
 LeavesTurn turns None told = MayLeaveNone turns told
 LeavesTurn turns (Some t) told = told ≢ answer.HistoryFull
+
+module _ (HasSpelling : Record → Type 0) where
+  -- What is asked of a call that is served: its node is one of the cluster, it asks for nothing that is the queue manager's own, its
+  -- names keep the rules, and what it may record has a spelling, whatever a takeover finds of the record in doubt; at COMPACT the
+  -- rows of the image have.
+  pub record KeepsRules (w : World) (node now : ℕ) (asked : Call) : Type 0 where
+    pub node_there : node < length (system_in w).nodes
+    pub outside : IsFromOutside (input_of asked)
+    pub names : IsLawfulInput (system_in w) node (input_of asked)
+    pub spelled : (kept : Option Bool) → is_some kept ≡ is_some w.doubt → AreSpelled HasSpelling (turn_of w node now kept asked).events
+    pub rows :
+        (kept : Option Bool) → is_some kept ≡ is_some w.doubt → input_of asked ≡ input.Compact
+        → AllByRecursion HasSpelling (image_of (system_in (after_turn w (turn_of w node now kept asked))))
 
 -- what is said of a file as a log, and how records are spelled
 module _ (IsLog : List ℕ → List (List ℕ) → Type 0) (HasSpelling : Record → Type 0) (record_text : Record → List ℕ) {D : Type 0} (m : Meaning D) where
@@ -130,8 +147,8 @@ module _ (IsLog : List ℕ → List (List ℕ) → Type 0) (HasSpelling : Record
       (says : MasterState) (records : List Record) → (h : HoldRecords IsLog HasSpelling record_text files says records)
       → IsRoomTold record_text w (room_in record_text says h.masters records) asked t
 
-  -- What a call of this node, with this reading, does to a chest that stands for a world and these notes, where its names, lists
-  -- and spelling keep the rules: the turn is of that node, reading and call, or there is none for a reason; the answer tells of a
+  -- What a call of this node, with this reading, does to a chest that stands for a world and these notes, where it keeps the
+  -- rules: the turn is of that node, reading and call, or there is none for a reason; the answer tells of a
   -- disk that failed just where one did, and then no manager is up; what it tells of room is so of this call; and the chest then
   -- stands for one note more.
   pub record Serves (w : World) (began : D) (old new : Chest D) (notes : List (Option Turn)) (node now : ℕ) (asked : Call) (note : Option Turn) (told : Answer) : Type 0 where
