@@ -95,6 +95,8 @@ module _ (IsLog : List ℕ → List (List ℕ) → Type 0) (HasSpelling : Record
   -- stands for the world that they leave: in memory, on the disks, and at each moment since it began in what a crash leaves.
   pub record StandsFor (w : World) (began : D) (c : Chest D) : Type 0 where
     pub starts : Starts IsLog HasSpelling record_text (m.seen began) w
+    -- so early that all turns that can be kept find epochs that a master can hold
+    pub early : starts.says.epoch < 2 ^ 61
     pub legal : IsLegal HasSpelling w c.turns
     pub room : AreWithinRoom record_text HasSpelling w (room_in record_text starts.says starts.hold.masters starts.records) c.turns
     pub caps : AreAboveCap starts.says.cap c.turns
