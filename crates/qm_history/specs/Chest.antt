@@ -77,9 +77,9 @@ LeavesTurn turns None told = MayLeaveNone turns told
 LeavesTurn turns (Some t) told = told ≢ answer.HistoryFull
 
 module _ (HasSpelling : Record → Type 0) where
-  -- What is asked of a call that is served: its node is one of the cluster, it asks for nothing that is the queue manager's own, its
-  -- names keep the rules, and what it may record has a spelling, whatever a takeover finds of the record in doubt; at COMPACT the
-  -- rows of the image have.
+  -- What is asked of a call that is served: its node is one of the cluster, it asks for nothing that is the queue manager's own,
+  -- its names keep the rules, and what it may record has a spelling, whatever a takeover finds of the record in doubt; at COMPACT
+  -- the rows of the image have.
   pub record KeepsRules (w : World) (node now : ℕ) (asked : Call) : Type 0 where
     pub node_there : node < length (system_in w).nodes
     pub outside : IsFromOutside (input_of asked)

@@ -140,8 +140,8 @@ end_of_node TurnsSpent = HistoryFull
 end_of_node (FileDamaged file place) = Damaged file place
 end_of_node MemoryShort = NoMemory
 
--- the end of the program: the worst of its nodes', and of what else there is, which is that memory was short outside of its nodes,
--- that the sink failed, that a disk did, or none of these
+-- the end of the program: the worst of its nodes', and of what else there is, which is that memory was short outside of its
+-- nodes, that the sink failed, that a disk did, or none of these
 abbrev pub end_of : List NodeEnd → ServingEnd → ServingEnd
 end_of [] rest = rest
 end_of (e ∷ ends) rest = worse (end_of_node e) (end_of ends rest)
