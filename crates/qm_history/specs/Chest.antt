@@ -21,7 +21,7 @@ use Rattle.qm_history.specs.Contents.{HoldWorld, HoldWithin, HoldIn, Keeps, Leav
 use Rattle.qm_history.specs.Faults.{faults_told, is_journal, tells_disk_fault}
 use Rattle.qm_history.specs.Legal.{after_turn, after_turns, IsLegal}
 use Rattle.qm_history.specs.Master.{MasterState}
-use Rattle.qm_history.specs.Records.{image_of}
+use Rattle.qm_model.specs.Log.{image_of}
 use Rattle.qm_history.specs.Room.{Room, AreAboveCap, AreWithinRoom, IsRoomTold, room_after_events, room_in}
 use Rattle.qm_history.specs.Start.{HoldRecords, Starts}
 use Rattle.qm_history.specs.World.{system_in}
