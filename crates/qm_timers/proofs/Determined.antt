@@ -7,7 +7,7 @@ use Rattle.qm_timers.proofs.Orders.{before-trans, before-itself}
 use Rattle.qm_timers.proofs.Numbers.{timer_of-All, all_absent}
 
 -- the first one is the timer of its number
-first_has : (t : ℕ × ℕ) (ts : List (ℕ × ℕ)) → timer_of t.1 (t ∷ ts) ≡ Some t
+pub first_has : (t : ℕ × ℕ) (ts : List (ℕ × ℕ)) → timer_of t.1 (t ∷ ts) ≡ Some t
 first_has t ts = let same : (t.1 == t.1) ≡ true = grind (arith, nat_tests) in rw same refl
 
 -- a timer that a number has is the first one, or stands behind it

@@ -1,9 +1,10 @@
 -- Timers by their numbers: which one a number has, and what an insertion and a removal make of that.
-use Rattle.std.proofs.Common.{◌≡◌, ◌≢◌, ℕ, zero, suc, ◌<◌, ◌==◌, nat_lt, Bool, true, false, not, cond, if◌then◌else◌, List, [], ◌∷◌, length, get_or, Option, Some, None, refl, sym, ◌∙◌, ap, subst, arith}
+use Rattle.std.proofs.Common.{◌≡◌, ◌≢◌, ℕ, zero, suc, ◌+◌, ◌<◌, ◌==◌, nat_lt, Bool, true, false, not, cond, if◌then◌else◌, List, [], ◌∷◌, length, get_or, Option, Some, None, refl, sym, ◌∙◌, ap, subst, arith}
 use Rattle.std.specs.List.{All, remove, filter}
+use Rattle.std.specs.Option.{option_map, option_and_then}
 use Rattle.std.proofs.lemmas.Bool.Decides.{nat_tests}
 use Rattle.std.proofs.lemmas.List.Elements.{All-nil, All-cons, All-head, All-tail, All-weaker, All-filter}
-use Rattle.qm_timers.specs.Timers.{is_before, IsRising, HasEachNumberOnce, timer_of, inserted_by, without}
+use Rattle.qm_timers.specs.Timers.{is_before, IsRising, HasEachNumberOnce, timer_of, moment_of, inserted_by, with_timer, without, later_than}
 use Rattle.qm_timers.specs.Kept.{has_less, Parts}
 use Rattle.qm_timers.proofs.Orders.{Parts-tail, Parts-first, Parts-later, before-itself, All-inserted}
 
@@ -89,6 +90,105 @@ timer_of-without n m (u ∷ us) =
         stays true true first second = absurd (grind (arith, nat_tests))
         stays true false first second = refl
         stays false c first second = refl
+
+-- a number that goes has no timer then
+pub timer_of-gone : (n : ℕ) (ts : List (ℕ × ℕ)) → timer_of n (without n ts) ≡ None
+timer_of-gone n ts = let same : (n == n) ≡ true = grind (arith, nat_tests) in timer_of-without n n ts ∙ ap (λ (b : Bool). cond b None (timer_of n ts)) same
+
+-- and behind a timer that is set
+pub timer_of-with : (m n : ℕ) (at : Option ℕ) (ts : List (ℕ × ℕ)) → timer_of n (with_timer m at ts) ≡ cond (m == n) (option_map (λ a. (a, m)) at) (timer_of n ts)
+timer_of-with m n None ts = timer_of-without n m ts
+timer_of-with m n (Some a) ts =
+    timer_of-inserted is_before (a, m) (without m ts) (absent_all m (without m ts) (timer_of-gone m ts)) n
+    ∙ ap (λ (r : Option (ℕ × ℕ)). cond (m == n) (Some (a, m)) r) (timer_of-without n m ts) ∙ twice (m == n)
+  where
+    twice : (b : Bool) → cond b (Some (a, m)) (cond b None (timer_of n ts)) ≡ cond b (Some (a, m)) (timer_of n ts)
+    twice true = refl
+    twice false = refl
+
+-- of the timers that pass a test, a number has its own, where that passes
+pub timer_of-filter : (test : (ℕ × ℕ) → Bool) (n : ℕ) (ts : List (ℕ × ℕ)) → HasEachNumberOnce ts → timer_of n (filter test ts) ≡ option_and_then (λ t. cond (test t) (Some t) None) (timer_of n ts)
+timer_of-filter test n [] once = refl
+timer_of-filter test n (u ∷ us) once = step (u.1 == n) refl (test u) refl (timer_of-filter test n us once.1)
+  where
+    passed : Option (ℕ × ℕ) → Option (ℕ × ℕ)
+    passed o = option_and_then (λ t. cond (test t) (Some t) None) o
+
+    step : (b : Bool) → (u.1 == n) ≡ b → (c : Bool) → test u ≡ c → timer_of n (filter test us) ≡ passed (timer_of n us) → timer_of n (cond c (u ∷ filter test us) (filter test us)) ≡ passed (cond b (Some u) (timer_of n us))
+    step true is true passes later = ap (λ (x : Bool). cond x (Some u) (timer_of n (filter test us))) is ∙ sym (ap (λ (x : Bool). cond x (Some u) None) passes)
+    step true is false passes later =
+        let number : u.1 ≡ n = grind (arith, nat_tests) in
+        let none : timer_of n us ≡ None = all_absent n us (subst (λ (k : ℕ). All (λ v. v.1 ≢ k) us) number once.0) in
+        later ∙ ap passed none ∙ sym (ap (λ (x : Bool). cond x (Some u) None) passes)
+    step false is true passes later = ap (λ (x : Bool). cond x (Some u) (timer_of n (filter test us))) is ∙ later
+    step false is false passes later = later
+
+-- so with the moments of those that have some,
+pub moment_of-later : (now n : ℕ) (ts : List (ℕ × ℕ)) → HasEachNumberOnce ts → moment_of n (later_than now ts) ≡ option_and_then (λ at. cond (nat_lt now at) (Some at) None) (moment_of n ts)
+moment_of-later now n ts once = ap (option_map (λ (t : ℕ × ℕ). t.0)) (timer_of-filter (λ t. nat_lt now t.0) n ts once) ∙ at_it (timer_of n ts)
+  where
+    on : (t : ℕ × ℕ) (b : Bool) → option_map (λ (t : ℕ × ℕ). t.0) (cond b (Some t) None) ≡ cond b (Some t.0) None
+    on t true = refl
+    on t false = refl
+
+    at_it : (o : Option (ℕ × ℕ)) → option_map (λ (t : ℕ × ℕ). t.0) (option_and_then (λ (t : ℕ × ℕ). cond (nat_lt now t.0) (Some t) None) o) ≡ option_and_then (λ at. cond (nat_lt now at) (Some at) None) (option_map (λ (t : ℕ × ℕ). t.0) o)
+    at_it None = refl
+    at_it (Some t) = on t (nat_lt now t.0)
+
+-- with a timer that is set,
+pub moment_of-with : (m n : ℕ) (at : Option ℕ) (ts : List (ℕ × ℕ)) → moment_of n (with_timer m at ts) ≡ cond (m == n) at (moment_of n ts)
+moment_of-with m n at ts = ap (option_map (λ (t : ℕ × ℕ). t.0)) (timer_of-with m n at ts) ∙ at_it (m == n) at
+  where
+    at_it : (b : Bool) (o : Option ℕ) → option_map (λ (t : ℕ × ℕ). t.0) (cond b (option_map (λ a. (a, m)) o) (timer_of n ts)) ≡ cond b o (moment_of n ts)
+    at_it true None = refl
+    at_it true (Some a) = refl
+    at_it false o = refl
+
+no_moment : (b : Bool) (o : Option ℕ) → o ≡ cond b o o
+no_moment true o = refl
+no_moment false o = refl
+
+-- and with numbers that are kept
+pub moment_of-kept : (kept : ℕ → Bool) (n : ℕ) (ts : List (ℕ × ℕ)) → moment_of n (filter (λ t. kept t.1) ts) ≡ cond (kept n) (moment_of n ts) None
+moment_of-kept kept n [] = no_moment (kept n) None
+moment_of-kept kept n (u ∷ us) = step (u.1 == n) refl (kept u.1) refl (moment_of-kept kept n us)
+  where
+    moment : Option (ℕ × ℕ) → Option ℕ
+    moment o = option_map (λ t. t.0) o
+
+    step : (b : Bool) → (u.1 == n) ≡ b → (c : Bool) → kept u.1 ≡ c → moment_of n (filter (λ t. kept t.1) us) ≡ cond (kept n) (moment_of n us) None
+        → moment_of n (cond c (u ∷ filter (λ t. kept t.1) us) (filter (λ t. kept t.1) us)) ≡ cond (kept n) (moment (cond b (Some u) (timer_of n us))) None
+    step true is true stays later =
+        let number : u.1 ≡ n = grind (arith, nat_tests) in
+        ap (λ (x : Bool). moment (cond x (Some u) (timer_of n (filter (λ t. kept t.1) us)))) is ∙ sym (ap (λ (x : Bool). cond x (Some u.0) None) (ap kept (sym number) ∙ stays))
+    step true is false goes later =
+        let number : u.1 ≡ n = grind (arith, nat_tests) in
+        let none : kept n ≡ false = ap kept (sym number) ∙ goes in
+        later ∙ ap (λ (x : Bool). cond x (moment_of n us) None) none ∙ sym (ap (λ (x : Bool). cond x (Some u.0) None) none)
+    step false is true stays later = ap (λ (x : Bool). moment (cond x (Some u) (timer_of n (filter (λ t. kept t.1) us)))) is ∙ later
+    step false is false goes later = later
+
+-- how many there are with one more,
+pub length-inserted : (comes_before : (ℕ × ℕ) → (ℕ × ℕ) → Bool) (t : ℕ × ℕ) (ts : List (ℕ × ℕ)) → length (inserted_by comes_before t ts) ≡ length ts + 1
+length-inserted comes_before t [] = refl
+length-inserted comes_before t (u ∷ us) =
+    let later = length-inserted comes_before t us in
+    elim (comes_before u t) as (λ b. length (if b then u ∷ inserted_by comes_before t us else t ∷ u ∷ us) ≡ length (u ∷ us) + 1) [
+      | true ↦ omega (arith, later)
+      | false ↦ omega arith
+    ]
+
+-- and that a number that has a timer takes one away
+pub length-without : (n : ℕ) (ts : List (ℕ × ℕ)) (t : ℕ × ℕ) → HasEachNumberOnce ts → timer_of n ts ≡ Some t → length (without n ts) + 1 ≡ length ts
+length-without n [] t once found = absurd (cc)
+length-without n (u ∷ us) t once found = step (u.1 == n) refl found (λ found'. length-without n us t once.1 found')
+  where
+    step : (b : Bool) → (u.1 == n) ≡ b → cond b (Some u) (timer_of n us) ≡ Some t → (timer_of n us ≡ Some t → length (without n us) + 1 ≡ length us) → length (cond (not b) (u ∷ without n us) (without n us)) + 1 ≡ length (u ∷ us)
+    step true is found' later =
+        let number : u.1 ≡ n = grind (arith, nat_tests) in
+        let others : without n us ≡ us = without-absent n us (subst (λ (k : ℕ). All (λ v. v.1 ≢ k) us) number once.0) in
+        omega (arith, ap length others)
+    step false is found' later = omega (arith, later found')
 
 -- each number once stays so
 pub HasEachNumberOnce-inserted : (comes_before : (ℕ × ℕ) → (ℕ × ℕ) → Bool) (t : ℕ × ℕ) (ts : List (ℕ × ℕ)) → All (λ u. u.1 ≢ t.1) ts → HasEachNumberOnce ts → HasEachNumberOnce (inserted_by comes_before t ts)

@@ -1,5 +1,5 @@
 -- Timers in an order: where one belongs, and what its insertion gives.
-use Rattle.std.proofs.Common.{◌≡◌, ◌≢◌, ℕ, zero, suc, ◌<◌, Bool, true, false, if◌then◌else◌, List, [], ◌∷◌, length, get_or, refl, ap, subst, inl, inr, arith}
+use Rattle.std.proofs.Common.{◌≡◌, ◌≢◌, ℕ, zero, suc, ◌<◌, nat_le, Bool, true, false, if◌then◌else◌, List, [], ◌∷◌, length, get_or, take, refl, sym, ap, subst, inl, inr, arith}
 use Rattle.std.specs.List.{All, insert, filter}
 use Rattle.std.specs.List.Sorted.{IsPartitionedBy}
 use Rattle.std.proofs.lemmas.Bool.{cases_lt}
@@ -40,6 +40,23 @@ less-trans a b c first second = grind (arith, nat_tests)
 
 pub less-other : (a b : ℕ × ℕ) → b.1 ≢ a.1 → has_less b a ≡ false → has_less a b ≡ true
 less-other a b other not_less = grind (arith, nat_tests)
+
+-- none passes
+none_pass : (test : (ℕ × ℕ) → Bool) (ts : List (ℕ × ℕ)) → All (λ t. test t ≡ false) ts → filter test ts ≡ []
+none_pass test [] none = refl
+none_pass test (t ∷ ts) none = rw (All-head (λ u. test u ≡ false) t ts none) (none_pass test ts (All-tail (λ u. test u ≡ false) t ts none))
+
+-- those before the place are those that pass
+pub take_passing : (test : (ℕ × ℕ) → Bool) (ts : List (ℕ × ℕ)) (i : ℕ) → Parts test ts i → take i ts ≡ filter test ts
+take_passing test [] zero parts = refl
+take_passing test [] (suc i) parts = absurd (omega (arith, parts.within))
+take_passing test (u ∷ us) zero parts = sym (none_pass test (u ∷ us) (λ k d within. parts.behind k d (omega arith) within))
+take_passing test (u ∷ us) (suc i) parts =
+    rw (Parts-later test u us i parts) (ap (λ (r : List (ℕ × ℕ)). u ∷ r) (take_passing test us i (Parts-tail test u us i parts)))
+
+-- a timer that comes before another has no later moment
+no_later : (a b : ℕ × ℕ) (now : ℕ) → is_before a b ≡ true → nat_le b.0 now ≡ true → nat_le a.0 now ≡ true
+no_later a b now before come = grind (arith, nat_tests)
 
 module _ (comes_before : (ℕ × ℕ) → (ℕ × ℕ) → Bool) where
   -- an insertion at the place is the one in order
@@ -98,3 +115,10 @@ module _ (comes_before : (ℕ × ℕ) → (ℕ × ℕ) → Bool) where
         step false is others =
             let first : comes_before t u ≡ true = All-head (λ v. comes_before v t ≡ false → comes_before t v ≡ true) u us total is in
             (All-cons (λ v. comes_before t v ≡ true) u us first (All-weaker (λ v. comes_before u v ≡ true) (λ v. comes_before t v ≡ true) (λ v less. follows t u v first less) us rising.0), rising)
+
+-- those whose moment has come stand before the others
+pub due_parted : (ts : List (ℕ × ℕ)) (now : ℕ) → IsRising is_before ts → IsPartitionedBy (λ t. nat_le t.0 now) ts
+due_parted ts now rising i j d le within come = elim (cases_lt i j) [
+  | inl less ↦ no_later (get_or ts i d) (get_or ts j d) now (rises is_before before-trans ts i j d rising less within) come
+  | inr same ↦ let one : j ≡ i = omega arith in subst (λ (k : ℕ). nat_le (get_or ts k d).0 now ≡ true) one come
+]

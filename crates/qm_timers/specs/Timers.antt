@@ -1,5 +1,6 @@
 -- Timers, each a moment and the number that it is for: what their callers see, and what the calls make of it.
-use Rattle.std.specs.Prelude.{◌≡◌, ◌≢◌, ◌⊎◌, ℕ, ◌==◌, nat_lt, Bool, true, ◌&&◌, ◌||◌, not, if◌then◌else◌, List, [], ◌∷◌, Option, find, filter, All, Contains}
+use Rattle.std.specs.Prelude.{◌≡◌, ◌≢◌, ◌⊎◌, ℕ, ◌==◌, nat_lt, nat_le, Bool, true, ◌&&◌, ◌||◌, not, if◌then◌else◌, List, [], ◌∷◌, Option, None, Some, find, filter, All, Contains}
+use Rattle.std.specs.Option.{option_map}
 
 -- the timers in their order, and how many more have room
 pub record Waiting : Type 0 where
@@ -29,6 +30,10 @@ pub record IsInOrder (ts : List (ℕ × ℕ)) : Type 0 where
 abbrev pub timer_of : ℕ → List (ℕ × ℕ) → Option (ℕ × ℕ)
 timer_of number ts = find (λ t. t.1 == number) ts
 
+-- the moment for which a number has a timer, if it has one
+abbrev pub moment_of : ℕ → List (ℕ × ℕ) → Option ℕ
+moment_of number ts = option_map (λ t. t.0) (timer_of number ts)
+
 -- the timers and one more, which stands before the first that doesn't come before it, in an order
 abbrev pub inserted_by : ((ℕ × ℕ) → (ℕ × ℕ) → Bool) → (ℕ × ℕ) → List (ℕ × ℕ) → List (ℕ × ℕ)
 inserted_by comes_before t [] = t ∷ []
@@ -41,6 +46,19 @@ inserted t ts = inserted_by is_before t ts
 -- the timers but that of a number
 abbrev pub without : ℕ → List (ℕ × ℕ) → List (ℕ × ℕ)
 without number ts = filter (λ t. not (t.1 == number)) ts
+
+-- the timers with one of this number for a moment in place of any other, or with none of it
+abbrev pub with_timer : ℕ → Option ℕ → List (ℕ × ℕ) → List (ℕ × ℕ)
+with_timer number None ts = without number ts
+with_timer number (Some at) ts = inserted (at, number) (without number ts)
+
+-- the timers whose moment has come
+abbrev pub due_at : ℕ → List (ℕ × ℕ) → List (ℕ × ℕ)
+due_at now ts = filter (λ t. nat_le t.0 now) ts
+
+-- the others
+abbrev pub later_than : ℕ → List (ℕ × ℕ) → List (ℕ × ℕ)
+later_than now ts = filter (λ t. nat_lt now t.0) ts
 
 -- one of the timers, before all others
 abbrev pub IsLeast : (ℕ × ℕ) → List (ℕ × ℕ) → Type 0

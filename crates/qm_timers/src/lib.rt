@@ -3,6 +3,7 @@
 
 mod laws;
 mod places;
+mod sifting;
 mod timers;
 
 pub use laws::{numbers_determine_the_timers, other_numbers_keep_their_timers};

@@ -1,5 +1,5 @@
-// Where timers stand, or belong. Both searches ask a logarithm of the timers.
-ghost use Rattle.std.specs.Prelude.{◌≡◌, nat_lt, MatchOption, None};
+// Where timers stand, or belong. Each search asks a logarithm of the timers.
+ghost use Rattle.std.specs.Prelude.{◌≡◌, nat_lt, nat_le, MatchOption, None};
 ghost use Rattle.qm_timers.specs.Timers.{is_before, timer_of, IsRising};
 ghost use Rattle.qm_timers.specs.Kept.{has_less, IsTimerAt, Parts};
 
@@ -36,6 +36,14 @@ pub(crate) fn place_by_number(timers: &[Timer], number: u32) -> usize
     ensures { Parts (λ t. nat_lt t.1 number) timers.now result }
 {
     timers.partition_point(|other| has_less(*other, number))
+}
+
+/// How many of these have a moment that has come.
+pub(crate) fn place_by_now(timers: &[Timer], now: Moment) -> usize
+    requires { IsRising is_before timers.now }
+    ensures { Parts (λ t. nat_le t.0 now) timers.now result }
+{
+    timers.partition_point(|timer| timer.0 <= now)
 }
 
 /// Where the timer of a number stands, if it has one.
