@@ -69,7 +69,7 @@ fn entries(parts: &Parts) -> &[Box<Entry>]
 }
 
 /// That the entries stand in order of their numbers. It costs nothing.
-pub(crate) fn see_entries(parts: &Parts)
+pub fn see_entries(parts: &Parts)
     ensures { IsInOrder nat_cmp (λ e. e.number) parts.now.entries }
 {
     see_order(&parts.entries, &parts.runs);

@@ -14,7 +14,7 @@ mod running;
 mod settling;
 mod sweeping;
 
-pub use choosing::places;
+pub use choosing::{places, see_entries};
 pub use laws::starts_are_few;
 pub use parts::Parts;
 pub use settling::settle;
