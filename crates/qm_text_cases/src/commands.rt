@@ -2,56 +2,55 @@
 use crate::names::name;
 use qm_dcl::{DclFault, read_command};
 use qm_kinds::{
-    EntryChange, FileName, Form, Input, Job, JobKind, JobRetain, LAST_MOMENT, Moment, Name,
-    NameOrNumber, NewQueue, ParseKind, QueueChange, QueueKind, QueueRetain, Request, Seq, Shape,
-    StopMode,
+    EntryChange, FileName, Form, Input, Job, JobKind, JobRetain, Moment, Name, NameOrNumber,
+    NewQueue, ParseKind, QueueChange, QueueKind, QueueRetain, Request, Seq, Shape, StopMode,
 };
 use std::alloc::Global;
 use std::test::Fail;
 
 // The user that types.
-const USER: &[u8] = b"SMITH";
+pub(crate) const USER: &[u8] = b"SMITH";
 
 // Hundredths of a second in an hour and in a day.
-const HOUR: u64 = 360_000;
+pub(crate) const HOUR: u64 = 360_000;
 
-const DAY: u64 = 24 * HOUR;
+pub(crate) const DAY: u64 = 24 * HOUR;
 
 // 1-JAN-2030, 62,502 days behind 17-NOV-1858.
-const NEW_YEAR: u64 = 62_502 * DAY;
+pub(crate) const NEW_YEAR: u64 = 62_502 * DAY;
 
 // 1-JAN-2030 15:00, when the texts are read.
-const NOW: u64 = NEW_YEAR + 15 * HOUR;
+pub(crate) const NOW: u64 = NEW_YEAR + 15 * HOUR;
 
 // A moment, in hundredths of a second from 17-NOV-1858; the base where there is none.
-fn at(hundredths: u64) -> Moment {
+pub(crate) fn at(hundredths: u64) -> Moment {
     Moment::new(hundredths).unwrap_or(Moment::BASE)
 }
 
 // A form or a characteristic that is meant.
 #[derive(Clone, Copy)]
-enum Wanted {
+pub(crate) enum Wanted {
     Named(&'static str),
     Numbered(u16),
 }
 
 // A job that is meant.
 #[derive(Clone, Copy)]
-struct WantedJob {
-    queue: &'static str,
-    file: &'static str,
-    title: &'static str,
-    priority: u8,
-    after: Option<u64>,
-    hold: bool,
-    retain: WantedRetain,
-    restart: bool,
-    characteristics: &'static [Wanted],
+pub(crate) struct WantedJob {
+    pub(crate) queue: &'static str,
+    pub(crate) file: &'static str,
+    pub(crate) title: &'static str,
+    pub(crate) priority: u8,
+    pub(crate) after: Option<u64>,
+    pub(crate) hold: bool,
+    pub(crate) retain: WantedRetain,
+    pub(crate) restart: bool,
+    pub(crate) characteristics: &'static [Wanted],
 }
 
 // How a job is meant to be kept.
 #[derive(Clone, Copy)]
-enum WantedRetain {
+pub(crate) enum WantedRetain {
     Default,
     Always,
     Failed,
@@ -60,45 +59,45 @@ enum WantedRetain {
 
 // What is meant to be changed of an entry.
 #[derive(Clone, Copy)]
-struct WantedEntry {
-    release: bool,
-    hold: bool,
-    after: Option<Option<u64>>,
-    priority: Option<u8>,
-    title: Option<&'static str>,
-    characteristics: Option<&'static [Wanted]>,
-    form: Option<Wanted>,
-    queue: Option<&'static str>,
-    restart: Option<bool>,
-    retain: Option<WantedRetain>,
+pub(crate) struct WantedEntry {
+    pub(crate) release: bool,
+    pub(crate) hold: bool,
+    pub(crate) after: Option<Option<u64>>,
+    pub(crate) priority: Option<u8>,
+    pub(crate) title: Option<&'static str>,
+    pub(crate) characteristics: Option<&'static [Wanted]>,
+    pub(crate) form: Option<Wanted>,
+    pub(crate) queue: Option<&'static str>,
+    pub(crate) restart: Option<bool>,
+    pub(crate) retain: Option<WantedRetain>,
 }
 
 // What is meant to be changed of a queue.
 #[derive(Clone, Copy)]
-struct WantedChange {
-    limit: Option<u8>,
-    characteristics: Option<&'static [Wanted]>,
-    form: Option<Wanted>,
-    blocks: Option<(u32, u32)>,
-    by_size: Option<bool>,
-    retain: Option<QueueRetain>,
+pub(crate) struct WantedChange {
+    pub(crate) limit: Option<u8>,
+    pub(crate) characteristics: Option<&'static [Wanted]>,
+    pub(crate) form: Option<Wanted>,
+    pub(crate) blocks: Option<(u32, u32)>,
+    pub(crate) by_size: Option<bool>,
+    pub(crate) retain: Option<QueueRetain>,
 }
 
 // A queue that is meant.
 #[derive(Clone, Copy)]
-struct WantedQueue {
-    title: &'static str,
-    kind: QueueKind,
-    node: Option<&'static str>,
-    device: Option<&'static str>,
-    targets: &'static [&'static str],
-    change: WantedChange,
-    start: bool,
+pub(crate) struct WantedQueue {
+    pub(crate) title: &'static str,
+    pub(crate) kind: QueueKind,
+    pub(crate) node: Option<&'static str>,
+    pub(crate) device: Option<&'static str>,
+    pub(crate) targets: &'static [&'static str],
+    pub(crate) change: WantedChange,
+    pub(crate) start: bool,
 }
 
 // What a text is to ask for.
 #[derive(Clone, Copy)]
-enum Asked {
+pub(crate) enum Asked {
     Batch(WantedJob),
     // The job, its form, how many copies, and whether it has a flag page.
     Print(WantedJob, Option<Wanted>, u8, bool),
@@ -121,7 +120,7 @@ enum Asked {
     DeleteCharacteristic(&'static str),
 }
 
-const NO_CHANGE: WantedChange = WantedChange {
+pub(crate) const NO_CHANGE: WantedChange = WantedChange {
     limit: None,
     characteristics: None,
     form: None,
@@ -130,7 +129,7 @@ const NO_CHANGE: WantedChange = WantedChange {
     retain: None,
 };
 
-const NEW_QUEUE: WantedQueue = WantedQueue {
+pub(crate) const NEW_QUEUE: WantedQueue = WantedQueue {
     title: "X",
     kind: QueueKind::Print,
     node: None,
@@ -140,7 +139,7 @@ const NEW_QUEUE: WantedQueue = WantedQueue {
     start: false,
 };
 
-const BATCH_JOB: WantedJob = WantedJob {
+pub(crate) const BATCH_JOB: WantedJob = WantedJob {
     queue: "SYS$BATCH",
     file: "J.COM",
     title: "J",
@@ -152,7 +151,7 @@ const BATCH_JOB: WantedJob = WantedJob {
     characteristics: &[],
 };
 
-const SAME_ENTRY: WantedEntry = WantedEntry {
+pub(crate) const SAME_ENTRY: WantedEntry = WantedEntry {
     release: false,
     hold: false,
     after: None,
@@ -165,7 +164,7 @@ const SAME_ENTRY: WantedEntry = WantedEntry {
     retain: None,
 };
 
-const PRINT_JOB: WantedJob = WantedJob {
+pub(crate) const PRINT_JOB: WantedJob = WantedJob {
     queue: "SYS$PRINT",
     file: "J.LIS",
     restart: true,
@@ -184,7 +183,7 @@ const SHAPE: Shape = Shape {
 };
 
 // Texts that ask for something that is built.
-static ASKING: [(&str, Asked); 66] = [
+static ASKING: [(&str, Asked); 52] = [
     (
         "SUBMIT JOB",
         Asked::Batch(WantedJob {
@@ -245,45 +244,7 @@ static ASKING: [(&str, Asked); 66] = [
             ..BATCH_JOB
         }),
     ),
-    (
-        "SUBMIT/AFTER=22:00/HOLD/RETAIN=UNTIL=TOMORROW+9:00 J",
-        Asked::Batch(WantedJob {
-            after: Some(NEW_YEAR + 22 * HOUR),
-            hold: true,
-            retain: WantedRetain::Until(NEW_YEAR + 33 * HOUR),
-            ..BATCH_JOB
-        }),
-    ),
-    (
-        "submit/after=tomorrow/retain=until=\"1-JAN-2030 16:00\"/retain=always j",
-        Asked::Batch(WantedJob {
-            after: Some(NEW_YEAR + DAY),
-            retain: WantedRetain::Always,
-            ..BATCH_JOB
-        }),
-    ),
-    (
-        "SUBMIT/AFTER=+0:10/AFTER=(\"-1-0:00\") J",
-        Asked::Batch(WantedJob {
-            after: Some(NOW - DAY),
-            ..BATCH_JOB
-        }),
-    ),
     ("PRINT J", Asked::Print(PRINT_JOB, None, 1, false)),
-    (
-        "PRINT/HOLD J/RETAIN=(DEFAULT)/AFTER=2-jan-2030:9:00/RETAIN=error",
-        Asked::Print(
-            WantedJob {
-                after: Some(NEW_YEAR + 33 * HOUR),
-                hold: true,
-                retain: WantedRetain::Failed,
-                ..PRINT_JOB
-            },
-            None,
-            1,
-            false,
-        ),
-    ),
     (
         "print/queue=lp/form=letter/copies=0/flag/norestart rep.txt/name=r/priority=1",
         Asked::Print(
@@ -512,117 +473,6 @@ static ASKING: [(&str, Asked); 66] = [
             },
         ),
     ),
-    (
-        "INIT/QUEUE/RETAIN=ERROR/RETAIN=all X",
-        Asked::Initialize(WantedQueue {
-            change: WantedChange {
-                retain: Some(QueueRetain::All),
-                ..NO_CHANGE
-            },
-            ..NEW_QUEUE
-        }),
-    ),
-    (
-        "SET QUEUE X/RETAIN=ERROR",
-        Asked::Set(
-            "X",
-            WantedChange {
-                retain: Some(QueueRetain::Failed),
-                ..NO_CHANGE
-            },
-        ),
-    ),
-    (
-        "SET QUEUE X/RETAIN=ERROR/NORETAIN",
-        Asked::Set(
-            "X",
-            WantedChange {
-                retain: Some(QueueRetain::Nothing),
-                ..NO_CHANGE
-            },
-        ),
-    ),
-    (
-        "START/QUEUE X/NORETAIN/RETAIN=\"ALL\"",
-        Asked::Start(
-            "X",
-            WantedChange {
-                retain: Some(QueueRetain::All),
-                ..NO_CHANGE
-            },
-        ),
-    ),
-    (
-        "SET ENTRY 2/AFTER=22:00/PRIORITY=200",
-        Asked::Entry(
-            2,
-            WantedEntry {
-                after: Some(Some(NEW_YEAR + 22 * HOUR)),
-                priority: Some(200),
-                ..SAME_ENTRY
-            },
-        ),
-    ),
-    (
-        "SET ENTRY 7/RELEASE/AFTER=+1:00/NOAFTER",
-        Asked::Entry(
-            7,
-            WantedEntry {
-                release: true,
-                after: Some(None),
-                ..SAME_ENTRY
-            },
-        ),
-    ),
-    (
-        "set/hold entry 0000004294967295/noafter/after=\"TOMORROW\" /norestart/restart/retain=until=today",
-        Asked::Entry(
-            u32::MAX,
-            WantedEntry {
-                hold: true,
-                after: Some(Some(NEW_YEAR + DAY)),
-                restart: Some(true),
-                retain: Some(WantedRetain::Until(NEW_YEAR)),
-                ..SAME_ENTRY
-            },
-        ),
-    ),
-    (
-        "SET ENTRY 1/NAME=payroll/CHARACTERISTICS=(A,2)/FORM=12/REQUEUE=night/NORESTART/RETAIN=DEFAULT",
-        Asked::Entry(
-            1,
-            WantedEntry {
-                title: Some("PAYROLL"),
-                characteristics: Some(&[Wanted::Named("A"), Wanted::Numbered(2)]),
-                form: Some(Wanted::Numbered(12)),
-                queue: Some("NIGHT"),
-                restart: Some(false),
-                retain: Some(WantedRetain::Default),
-                ..SAME_ENTRY
-            },
-        ),
-    ),
-    (
-        "SET ENTRY 1/REQUEUE=A/FORM=LETTER/REQUEUE=\"b\"",
-        Asked::Entry(
-            1,
-            WantedEntry {
-                form: Some(Wanted::Named("LETTER")),
-                queue: Some("B"),
-                ..SAME_ENTRY
-            },
-        ),
-    ),
-    (
-        "SET ENTRY 3/RELEASE",
-        Asked::Entry(
-            3,
-            WantedEntry {
-                release: true,
-                ..SAME_ENTRY
-            },
-        ),
-    ),
     ("START/QUEUE X", Asked::Start("X", NO_CHANGE)),
     (
         "START X/JOB_LIMIT=2/QUEUE/FORM_MOUNTED=BLUE",
@@ -725,7 +575,7 @@ const NOT_BUILT: [&str; 19] = [
 ];
 
 // Texts that are wrong, with the byte at which they go wrong, and how.
-const FAULTS: [(&str, usize, ParseKind); 111] = [
+const FAULTS: [(&str, usize, ParseKind); 76] = [
     ("SUBMIT", 6, ParseKind::Missing),
     ("SUBMIT A B", 9, ParseKind::Extra),
     ("SUBMIT/BAD J", 6, ParseKind::Qualifier),
@@ -850,104 +700,6 @@ const FAULTS: [(&str, usize, ParseKind); 111] = [
     ("DELETE/CHARACTERISTIC 12", 22, ParseKind::Value),
     ("ASSIGN/MERGE A B.C", 15, ParseKind::Value),
     ("ASSIGN/MERGE A", 14, ParseKind::Missing),
-    ("SUBMIT/BAD J K/HOLD", 6, ParseKind::Qualifier),
-    ("SUBMIT/NOAFTER J", 6, ParseKind::Qualifier),
-    ("SUBMIT/RELEASE J", 6, ParseKind::Qualifier),
-    ("SUBMIT/AFTER J", 14, ParseKind::Missing),
-    ("SUBMIT/HOLD=X J", 12, ParseKind::Value),
-    (
-        "SUBMIT/QUEUE=NIGHT/AFTER=24:00 BACKUP",
-        25,
-        ParseKind::Value,
-    ),
-    ("SUBMIT/AFTER=1-JAN-2030 9:00 J", 24, ParseKind::Value),
-    ("SUBMIT/AFTER=(TODAY,TOMORROW) J", 20, ParseKind::Value),
-    (
-        "SUBMIT/AFTER=01-JAN-2030:10:00:00.00+9999-10:00:00.000 J",
-        13,
-        ParseKind::Value,
-    ),
-    ("SUBMIT/RETAIN=UNTIL J", 14, ParseKind::Value),
-    ("SUBMIT J/RETAIN=UNTIL=", 22, ParseKind::Missing),
-    ("SUBMIT/RETAIN=UNTIL=(TODAY,TODAY) J", 27, ParseKind::Value),
-    ("SUBMIT/RETAIN=ALWAYS=5 J", 21, ParseKind::Value),
-    ("SUBMIT/RETAIN=ALL J", 14, ParseKind::Value),
-    ("SUBMIT/RETAIN=UNTI=TODAY J", 14, ParseKind::Value),
-    ("SUBMIT/RETAIN=\"always\" J", 14, ParseKind::Value),
-    ("SET QUEUE X/RETAIN=ALWAYS", 19, ParseKind::Value),
-    ("SET QUEUE X/RETAIN=UNTIL=TODAY", 19, ParseKind::Value),
-    ("SET QUEUE X/RETAIN=ALL=1", 22, ParseKind::Form),
-    ("INIT/QUEUE X/NORETAIN=ALL", 22, ParseKind::Value),
-    ("SET ENTRY 5", 11, ParseKind::Missing),
-    ("SET ENTRY/HOLD", 14, ParseKind::Missing),
-    ("SET ENTRY X/HOLD", 10, ParseKind::Value),
-    ("SET ENTRY 4294967296/HOLD", 10, ParseKind::Value),
-    ("SET ENTRY 5 6/HOLD", 12, ParseKind::Extra),
-    ("SET ENTRY 5/QUEUE=A", 11, ParseKind::Qualifier),
-    ("SET ENTRY 5/NORETAIN", 11, ParseKind::Qualifier),
-    ("SET ENTRY 5/REQUEUE=A.B", 20, ParseKind::Value),
-    ("SET ENTRY 5/RELEASE/HOLD", 19, ParseKind::Conflict),
-    ("SET ENTRY 5/AFTER=TODAY/RELEASE", 23, ParseKind::Conflict),
-    (
-        "SET ENTRY 5/NOAFTER/AFTER=TODAY/RELEASE",
-        31,
-        ParseKind::Conflict,
-    ),
-    ("SET ENTRY 5/AFTER=X/RELEASE/HOLD", 18, ParseKind::Value),
-    ("SET ENTRY 5/RELEASE/HOLD/AFTER=X", 19, ParseKind::Conflict),
-    (
-        "SET ENTRY 5/AFTER=TODAY/AFTER=X/NOAFTER",
-        30,
-        ParseKind::Value,
-    ),
-    ("SET ENTRY 5/RETAIN=UNTIL=10:60", 25, ParseKind::Value),
-];
-
-// Where a time may stand: what is in front of it, and what is behind.
-const TIMED: [(&str, &str); 6] = [
-    ("SUBMIT/AFTER=", " J"),
-    ("SUBMIT/RETAIN=UNTIL=", " J"),
-    ("PRINT J/AFTER=(", ")"),
-    ("PRINT J/RETAIN=UNTIL=(", ")"),
-    ("SET ENTRY 5/AFTER=", ""),
-    ("SET ENTRY 5/RETAIN=(UNTIL=", ")"),
-];
-
-// Times, and the moments that they name.
-const TIMES: [(&str, u64); 15] = [
-    ("TODAY", NEW_YEAR),
-    ("TOMORROW", NEW_YEAR + DAY),
-    ("0:00", NEW_YEAR),
-    ("23:59:59.99", NEW_YEAR + DAY - 1),
-    ("09:05:07", NEW_YEAR + 9 * HOUR + 5 * 6000 + 700),
-    ("2-JAN-2030", NEW_YEAR + DAY),
-    ("02-JAN-2030:1:00", NEW_YEAR + DAY + HOUR),
-    ("17-NOV-1858", 0),
-    ("31-DEC-9999:23:59:59.99", LAST_MOMENT),
-    ("+0:10", NOW + 60_000),
-    ("-1-0:00:00.01", NOW - DAY - 1),
-    ("+9999-23:59:59.99", NOW + 10_000 * DAY - 1),
-    ("TODAY-0:00:00.01", NEW_YEAR - 1),
-    ("1-JAN-2030:15:00+1-9:00", NOW + DAY + 9 * HOUR),
-    ("31-DEC-2029:23:59:59.99+0001-00:00:00.01", NEW_YEAR + DAY),
-];
-
-// What is no time, or names no moment.
-const NO_TIMES: [&str; 14] = [
-    "NOW",
-    "TODA",
-    "TODAYS",
-    "24:00",
-    "10:60",
-    "1:2:3.4",
-    "9",
-    "1-JAN-99",
-    "30-FEB-2030",
-    "1-JAN-2030:",
-    "+",
-    "+10000-0:00",
-    "31-DEC-9999+1-0:00",
-    "17-NOV-1858-0:00:00.01",
 ];
 
 // Whether a name is the one that is meant.
@@ -1170,7 +922,7 @@ fn is_request(request: &Request, asked: Asked) -> bool {
 }
 
 // Whether a text asks for what is meant.
-fn asks_for(alloc: Global, text: &[u8], asked: Asked) -> bool {
+pub(crate) fn asks_for(alloc: Global, text: &[u8], asked: Asked) -> bool {
     match (read_command(alloc, text, name(USER), at(NOW)), asked) {
         (Ok(Input::Ask(request)), asked) => is_request(&request, asked),
         (Ok(Input::Show(query)), Asked::Show(number)) => query.number == Some(number),
@@ -1179,7 +931,7 @@ fn asks_for(alloc: Global, text: &[u8], asked: Asked) -> bool {
 }
 
 // What is wrong with a text.
-fn fault_of(alloc: Global, text: &str) -> Option<DclFault> {
+pub(crate) fn fault_of(alloc: Global, text: &str) -> Option<DclFault> {
     match read_command(alloc, text.as_bytes(), name(USER), at(NOW)) {
         Ok(_) => None,
         Err(fault) => Some(fault),
@@ -1216,65 +968,4 @@ fn the_first_fault_is_told_at_its_place(rt: HostRuntime) {
         let fault = DclFault::At { place, kind };
         assert_eq!(rt; fault_of(rt.alloc(), text), Some(fault), "{text}");
     }
-}
-
-// The moment before which a job of these settings doesn't start, or else until which it is kept.
-fn moment_of(after: Option<Moment>, retain: JobRetain) -> Option<Moment> {
-    match (after, retain) {
-        (Some(moment), _) => Some(moment),
-        (None, JobRetain::Until(moment)) => Some(moment),
-        _ => None,
-    }
-}
-
-// The one moment that a text names for a job.
-fn moment_asked(alloc: Global, text: &str) -> Option<u64> {
-    let Ok(Input::Ask(request)) = read_command(alloc, text.as_bytes(), name(USER), at(NOW)) else {
-        return None;
-    };
-    let moment = match &request {
-        Request::Submit(job) => moment_of(job.after, job.retain)?,
-        Request::SetEntry { change, .. } => moment_of(
-            change.after.unwrap_or(None),
-            change.retain.unwrap_or(JobRetain::Default),
-        )?,
-        _ => return None,
-    };
-    Some(moment.hundredths())
-}
-
-#[test]
-fn times_are_read_wherever_one_may_stand(rt: HostRuntime) -> Result<(), Fail> {
-    let alloc = rt.alloc();
-    for (front, behind) in TIMED {
-        for (time, moment) in TIMES {
-            let bare = format!(in alloc; "{front}{time}{behind}")?;
-            let quoted = format!(in alloc; "{front}\"{time}\"{behind}")?;
-            assert_eq!(rt; moment_asked(alloc, bare.as_str()), Some(moment), "{bare}");
-            assert_eq!(rt;
-                moment_asked(alloc, quoted.as_str()),
-                Some(moment),
-                "{quoted}"
-            );
-        }
-    }
-    Ok(())
-}
-
-#[test]
-fn a_wrong_time_is_told_at_its_first_byte(rt: HostRuntime) -> Result<(), Fail> {
-    let alloc = rt.alloc();
-    for (front, behind) in TIMED {
-        let fault = DclFault::At {
-            place: front.len(),
-            kind: ParseKind::Value,
-        };
-        for time in NO_TIMES {
-            let bare = format!(in alloc; "{front}{time}{behind}")?;
-            let quoted = format!(in alloc; "{front}\"{time}\"{behind}")?;
-            assert_eq!(rt; fault_of(alloc, bare.as_str()), Some(fault), "{bare}");
-            assert_eq!(rt; fault_of(alloc, quoted.as_str()), Some(fault), "{quoted}");
-        }
-    }
-    Ok(())
 }

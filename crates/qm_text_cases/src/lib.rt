@@ -16,3 +16,5 @@ mod shown;
 mod times;
 #[cfg(test)]
 mod tokens;
+#[cfg(test)]
+mod waiting;

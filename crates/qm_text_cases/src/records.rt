@@ -183,10 +183,7 @@ const FAULTS: [(&str, usize); 15] = [
     // A byte behind the number of a characteristic.
     ("\x01\x06\0\0\0\0\0\0\0\0\0\x01A\x7f\0", 14),
     // A moment that is given, and is neither one nor none.
-    (
-        "\x01\x10\0\0\0\0\0\0\0\0\0\x01\0\0\0\0\0\x01\x02",
-        18,
-    ),
+    ("\x01\x10\0\0\0\0\0\0\0\0\0\x01\0\0\0\0\0\x01\x02", 18),
 ];
 
 #[test]
