@@ -52,7 +52,7 @@ queue_found q (p ∷ qs) order (inr among) =
 number_differs : (m n : ℕ) → nat_cmp m n ≡ Less → (m == n) ≡ false
 number_differs m n h = grind (arith, nat_tests)
 
-entry_found : (e : Entry) (es : List Entry) → Pairs (λ a b. nat_cmp a.number b.number ≡ Less) es → IsIn e es → entry_numbered e.number es ≡ Some e
+pub entry_found : (e : Entry) (es : List Entry) → Pairs (λ a b. nat_cmp a.number b.number ≡ Less) es → IsIn e es → entry_numbered e.number es ≡ Some e
 entry_found e [] order among = absurd among
 entry_found e (x ∷ es) order (inl here) =
     let is : (x.number == e.number) ≡ true = (Decides-eqb x.number e.number).1 (ap (λ (z : Entry). z.number) (sym here)) in

@@ -1,10 +1,9 @@
 -- An entry that is changed: it is found as the moment finds it, and what it becomes takes its place.
-use Rattle.std.proofs.Common.{◌≡◌, ◌∙◌, ℕ, ◌==◌, Bool, true, false, cond, not, ◌&&◌, List, [], ◌∷◌, filter, find, map, Option, None, Some, Ok, refl, sym, ap, subst}
-use Rattle.std.specs.Prelude.{is_none, IfSome}
+use Rattle.std.proofs.Common.{◌≡◌, ◌∙◌, ℕ, ◌==◌, Bool, true, false, cond, not, ◌&&◌, List, [], ◌∷◌, filter, find, map, Option, None, Some, Ok, Err, nat_le, ◌<◌, refl, sym, ap, subst}
+use Rattle.std.specs.Prelude.{is_none, IfSome, IsSome}
 use Rattle.std.specs.List.{All}
 use Rattle.std.specs.Option.{option_map_or, option_and_then}
 use Rattle.std.specs.Ordering.{nat_cmp}
-use Rattle.std.proofs.lemmas.Bool.{eqb-true}
 use Rattle.std.proofs.lemmas.List.Elements.{All-weaker}
 use Rattle.std.proofs.lemmas.Option.{same_Some}
 use Rattle.qm_kinds.specs.declared.entry.Entry.{Entry}
@@ -17,23 +16,26 @@ use Rattle.qm_kinds.specs.declared.request.EntryChange.{EntryChange}
 use Rattle.qm_kinds.specs.declared.request.Request.TheVariants as request
 use Rattle.qm_kinds.specs.declared.system.System.{System}
 use Rattle.qm_model.specs.Consistent.{IsInOrder}
-use Rattle.qm_model.specs.Due.{is_over, entry_at}
+use Rattle.qm_model.specs.Due.{is_over, state_at, entry_at}
 use Rattle.qm_model.specs.Entries.{refused_queue, is_entry_of_other_kind, entry_change_refusal, set_entry_refusal, changed_entry, entry_set_to, entry_set}
 use Rattle.qm_model.specs.Find.{entry_numbered}
 use Rattle.qm_model.specs.JobStates.{is_pending, is_waiting}
 use Rattle.qm_model.specs.Outcome.{first_refusal, refused_where}
 use Rattle.qm_model.specs.Replying.{replied}
 use Rattle.qm_model.specs.Wanted.{refused_form, refused_characteristics}
+use Rattle.qm_sched.specs.Tables.{Tables}
 use Rattle.qm_sched.proofs.Ordered.{each_found}
 use Rattle.qm_state.proofs.Accepting.{waits_at_first}
 use Rattle.qm_state.proofs.Found.{found_all}
+use Rattle.qm_state.proofs.Numbered.{number_found}
 use Rattle.qm_state.proofs.Reached.{NamesItsFile}
 use Rattle.qm_state.proofs.Refusing.{none_first, none_where}
 use Rattle.qm_state.specs.declared.image.Image.{Image}
 use Rattle.qm_state.specs.declared.prepared.Change.TheVariants.{ReplaceEntry}
+use Rattle.qm_state.specs.declared.refused.Refused.TheVariants.{NoMemory}
 use Rattle.qm_state.specs.Deciding.{PreparesAt}
 use Rattle.qm_state.specs.Image.{system_of}
-use Rattle.qm_state.specs.Preparing.{found, CanReplace}
+use Rattle.qm_state.specs.Preparing.{found, IsWaiting, CanReplace}
 
 abbrev numbered : ℕ → Entry → Bool
 numbered n e = e.number == n
@@ -43,16 +45,7 @@ stays now e = not (is_over now e.state)
 
 -- ---- what is found under a number
 
-number_at : (n : ℕ) (e x : Entry) (es : List Entry) (b : Bool) → numbered n x ≡ b → cond b (Some x) (find (numbered n) es) ≡ Some e → (find (numbered n) es ≡ Some e → e.number ≡ n) → e.number ≡ n
-number_at n e x es true is found later = subst (λ (y : Entry). y.number ≡ n) (same_Some x e found) (eqb-true x.number n is)
-number_at n e x es false is found later = later found
-
--- it has that number
-pub number_found : (n : ℕ) (e : Entry) (es : List Entry) → entry_numbered n es ≡ Some e → e.number ≡ n
-number_found n e [] found = absurd cc
-number_found n e (x ∷ es) found = number_at n e x es (numbered n x) refl found (number_found n e es)
-
--- and a job that isn't over is there at the moment too
+-- a job that isn't over is there at the moment too
 left_at : (n now : ℕ) (e x : Entry) (es : List Entry) (over b : Bool) → is_over now x.state ≡ over → numbered n x ≡ b → is_over now e.state ≡ false → cond b (Some x) (find (numbered n) es) ≡ Some e
     → (find (numbered n) es ≡ Some e → find (numbered n) (map (entry_at now) (filter (stays now) es)) ≡ Some (entry_at now e))
     → find (numbered n) (map (entry_at now) (cond (not over) (x ∷ filter (stays now) es) (filter (stays now) es))) ≡ Some (entry_at now e)
@@ -86,14 +79,44 @@ waits s change e clear =
     let r1 = none_first (refused_where (not (is_waiting e.state)) (EntryBusy e.state)) _ clear in
     is_not_false (is_waiting e.state) (none_where (not (is_waiting e.state)) (EntryBusy e.state) r1.0)
 
--- so it isn't over at any moment
-waiting_is_left : (now : ℕ) (state : EntryState) → is_waiting state ≡ true → is_over now state ≡ false
+-- so it isn't over at any moment,
+pub waiting_is_left : (now : ℕ) (state : EntryState) → is_waiting state ≡ true → is_over now state ≡ false
 waiting_is_left now Pending h = refl
 waiting_is_left now Holding h = refl
 waiting_is_left now (Timed at) h = refl
 waiting_is_left now (Running queue node run) h = refl
 waiting_is_left now (Aborting queue node run fate) h = refl
 waiting_is_left now (Retained status until) h = cc
+
+-- and waits still
+waits_still : (now : ℕ) (state : EntryState) → is_waiting state ≡ true → is_waiting (state_at now state) ≡ true
+waits_still now Pending h = refl
+waits_still now Holding h = refl
+waits_still now (Timed at) h = either (nat_le at now)
+  where
+    either : (b : Bool) → is_waiting (cond b Pending (Timed at)) ≡ true
+    either true = refl
+    either false = refl
+waits_still now (Running queue node run) h = cc
+waits_still now (Aborting queue node run fate) h = cc
+waits_still now (Retained status until) h = cc
+
+abbrev waits_if : Option Entry → Bool
+waits_if o = option_map_or (λ (e : Entry). is_waiting e.state) o false
+
+waiting_at : (n now : ℕ) (es : List Entry) (o : Option Entry) → entry_numbered n es ≡ o → waits_if o ≡ true → IsWaiting n (map (entry_at now) (filter (λ x. not (is_over now x.state)) es))
+waiting_at n now es None found waits = absurd (cc)
+waiting_at n now es (Some e) found waits = ap waits_if (entry_left n now e es (waiting_is_left now e.state waits) found) ∙ waits_still now e.state waits
+
+pub waiting_found : (n now : ℕ) (es : List Entry) → IsWaiting n es → IsWaiting n (map (entry_at now) (filter (λ x. not (is_over now x.state)) es))
+waiting_found n now es waits = waiting_at n now es (entry_numbered n es) refl waits
+
+there_at : (o : Option Entry) → waits_if o ≡ true → IsSome o
+there_at None h = cc
+there_at (Some e) h = refl
+
+pub waiting_there : (n : ℕ) (es : List Entry) → IsWaiting n es → IsSome (entry_numbered n es)
+waiting_there n es waits = there_at (entry_numbered n es) waits
 
 -- each entry of its number is the entry itself
 same_entry : (e x : Entry) (es : List Entry) → entry_numbered e.number es ≡ Some e → find (λ (y : Entry). y.number == x.number) es ≡ Some x → x.number ≡ e.number → x ≡ e
@@ -125,28 +148,46 @@ decided s number change e there clear =
     ∙ ap (λ (o : Option Refusal). first_refusal (o ∷ [])) clear
 
 can_replace : (image : Image) (s : System) (now number : ℕ) (change : EntryChange) (e new : Entry) → IsInOrder nat_cmp (λ (x : Entry). x.number) image.parts.entries
-    → entry_numbered number image.parts.entries ≡ Some e → new ≡ changed_entry s now change e → CanReplace image new
-can_replace image s now number change e new order there is =
+    → entry_numbered number image.parts.entries ≡ Some e → is_waiting e.state ≡ true → new ≡ changed_entry s now change e → 0 < image.timers.spare → CanReplace image new
+can_replace image s now number change e new order there waiting is room =
     let after : Entry = changed_entry s now change e in
     let itself : entry_numbered e.number image.parts.entries ≡ Some e = ap (λ (n : ℕ). entry_numbered n image.parts.entries) (number_found number e image.parts.entries there) ∙ there in
-    subst (CanReplace image) (sym is) (record { idle = waits_at_first after.held after.after now; file = keeps_file e image.parts.entries order itself })
+    subst (CanReplace image) (sym is) (record {
+      idle = waits_at_first after.held after.after now;
+      waits = ap waits_if itself ∙ waiting;
+      timer = room;
+      file = keeps_file e image.parts.entries order itself;
+    })
 
--- what becomes of it can take its place, and is what the model makes of it
-pub entry_prepared : (image : Image) (now number : ℕ) (node : List ℕ) (change : EntryChange) (e new : Entry) → IsInOrder nat_cmp (λ (x : Entry). x.number) image.parts.entries
+-- what becomes of it can take its place, and is what the model makes of it, where there is room for a timer
+pub entry_prepared : (image reserved : Image) (now number : ℕ) (node : List ℕ) (change : EntryChange) (e new : Entry) → IsInOrder nat_cmp (λ (x : Entry). x.number) image.parts.entries
     → entry_numbered number image.parts.entries ≡ Some e → entry_change_refusal (system_of image) change e ≡ None → new ≡ changed_entry (system_of image) now change e
-    → PreparesAt now node (request.SetEntry number change) image image (Ok (ReplaceEntry new))
+    → system_of reserved ≡ system_of image → reserved.parts ≡ image.parts → 0 < reserved.timers.spare → PreparesAt now node (request.SetEntry number change) image reserved (Ok (ReplaceEntry new))
 unfolding system_of
-entry_prepared image now number node change e new order there clear is =
+entry_prepared image reserved now number node change e new order there clear is rows same room =
     let s : System = system_of image in
     record {
       decided = decided s number change e there clear;
       untouched = tt;
       takes = record {
-        rows = refl;
-        ready = can_replace image s now number change e new order there is;
+        rows = rows;
+        ready =
+            can_replace reserved s now number change e new (subst (λ (t : Tables). IsInOrder nat_cmp (λ (x : Entry). x.number) t.entries) (sym same) order)
+            (subst (λ (t : Tables). entry_numbered number t.entries ≡ Some e) (sym same) there) (waits s change e clear) is room;
         made = replaced s now number change e new there (waiting_is_left now e.state (waits s change e clear)) is;
       };
     }
+
+-- and where there is no memory for one, nothing refuses the request
+pub entry_unprepared : (image reserved : Image) (now number : ℕ) (node : List ℕ) (change : EntryChange) (e : Entry)
+    → entry_numbered number image.parts.entries ≡ Some e → entry_change_refusal (system_of image) change e ≡ None
+    → system_of reserved ≡ system_of image → PreparesAt now node (request.SetEntry number change) image reserved (Err NoMemory)
+unfolding system_of
+entry_unprepared image reserved now number node change e there clear rows = record {
+  decided = decided (system_of image) number change e there clear;
+  untouched = tt;
+  takes = record { rows = rows; ready = tt; made = tt };
+}
 
 -- an entry that is replaced is the one whose file is kept
 pub file_is_kept : (entry : Entry) (es : List Entry) (o : Option Entry) → entry_numbered entry.number es ≡ o → All (NamesItsFile entry) es → IfSome o (λ e. e.file ≡ entry.file)

@@ -1,22 +1,34 @@
 -- A change that was prepared is made on what the moment finds, and the jobs are started behind it.
 use Rattle.std.proofs.Common.{◌≡◌, ◌∙◌, ℕ, zero, suc, ◌+◌, ◌≤◌, true, List, [], ◌∷◌, length, map, Option, None, Some, refl, sym, ap, subst}
 use Rattle.std.specs.Option.{option_map_or}
+use Rattle.std.specs.Ordering.{nat_cmp}
+use Rattle.std.specs.declared.cmp.Ordering.TheVariants.{Less}
 use Rattle.qm_kinds.specs.declared.entry.Entry.{Entry}
+use Rattle.qm_kinds.specs.declared.entry.EntryState.{EntryState}
+use Rattle.qm_kinds.specs.declared.entry.EntryState.TheVariants.{Pending, Holding, Timed, Running, Aborting, Retained}
 use Rattle.qm_kinds.specs.declared.reply.Act.{Act}
 use Rattle.qm_kinds.specs.declared.run.Start.{Start}
 use Rattle.qm_kinds.specs.declared.system.System.{System}
 use Rattle.qm_model.specs.Applied.{completed}
+use Rattle.qm_model.specs.Consistent.{IsConsistent}
+use Rattle.qm_model.specs.Find.{entry_numbered}
+use Rattle.qm_model.specs.JobStates.{is_pending}
 use Rattle.qm_model.specs.Outcome.{Accepted}
 use Rattle.qm_model.specs.Settling.{Choice, Settled, settled, settled_within, next_choice, after_start, start_of, preceded_by, made_running}
-use Rattle.qm_model.specs.States.{when_idle}
+use Rattle.qm_model.specs.States.{when_idle, stopped_when_idle}
+use Rattle.qm_model.proofs.ListLemmas.{pairs_of}
+use Rattle.qm_model.proofs.SettlingLemmas.{fits_pending}
+use Rattle.qm_model.proofs.SoundLemmas.{choice_is, start_is_consistent}
+use Rattle.qm_sched.proofs.Left.{that_one}
+use Rattle.qm_sched.proofs.Starting.{entry_found}
 use Rattle.qm_sched.specs.Tables.{Tables, with_tables}
 use Rattle.qm_spool.proofs.Counting.{counts_changed}
 use Rattle.qm_spool.specs.Counts.{CountsOf}
 use Rattle.qm_spool.specs.Kept.{Counted}
-use Rattle.qm_state.proofs.Entries.{Waits, with_all}
+use Rattle.qm_state.proofs.Timed.{wanted_changed}
 use Rattle.qm_state.specs.declared.image.Image.{Image}
 use Rattle.qm_state.specs.declared.prepared.Prepared.{Prepared}
-use Rattle.qm_state.specs.Due.{is_due_from}
+use Rattle.qm_state.specs.Timers.{moment_in, AreTimersOf}
 use Rattle.qm_state.specs.Image.{system_of}
 use Rattle.qm_state.specs.Preparing.{found, made, changed, outcome_of}
 
@@ -38,32 +50,58 @@ settled_same s t tables = within_same (length tables.entries) s t tables
 
 -- ---- a start leaves what is counted and what waits
 
-module _ (P : List Entry → Type 0) (starts : (s : System) (c : Choice) → P s.entries → P (after_start s c).entries) where
-  within_keeps : (n : ℕ) (s : System) → P s.entries → P (settled_within n s).system.entries
+module _ (P : System → Type 0) (starts : (s : System) (c : Choice) → next_choice s ≡ Some c → P s → P (after_start s c)) where
+  within_keeps : (n : ℕ) (s : System) → P s → P (settled_within n s).system
   within_keeps zero s has = has
-  within_keeps (suc n) s has = step (next_choice s) (λ (c : Choice). within_keeps n (after_start s c) (starts s c has))
+  within_keeps (suc n) s has = step (next_choice s) refl (λ (c : Choice) (is : next_choice s ≡ Some c). within_keeps n (after_start s c) (starts s c is has))
     where
-      step : (o : Option Choice) → ((c : Choice) → P (settled_within n (after_start s c)).system.entries)
-          → P (option_map_or (λ c. preceded_by (start_of s c) (settled_within n (after_start s c))) o (record { system = s; started = [] })).system.entries
-      step None later = has
-      step (Some c) later = later c
+      step : (o : Option Choice) → next_choice s ≡ o → ((c : Choice) → next_choice s ≡ Some c → P (settled_within n (after_start s c)).system)
+          → P (option_map_or (λ c. preceded_by (start_of s c) (settled_within n (after_start s c))) o (record { system = s; started = [] })).system
+      step None is later = has
+      step (Some c) is later = later c is
 
-  pub settled_keeps : (s : System) (tables : Tables) (started : List Start) (t : Tables) → settled (with_tables s tables) ≡ record { system = with_tables s t; started = started } → P tables.entries → P t.entries
+  pub settled_keeps : (s : System) (tables : Tables) (started : List Start) (t : Tables) → settled (with_tables s tables) ≡ record { system = with_tables s t; started = started } → P (with_tables s tables) → P (with_tables s t)
   settled_keeps s tables started t is has =
-      let same : (settled (with_tables s tables)).system.entries ≡ t.entries = ap (λ (x : Settled). x.system.entries) is in
+      let same : (settled (with_tables s tables)).system ≡ with_tables s t = ap (λ (x : Settled). x.system) is in
       subst P same (within_keeps (length tables.entries) (with_tables s tables) has)
 
-start_counts : (counts : List Counted) (s : System) (c : Choice) → CountsOf s.entries counts → CountsOf (after_start s c).entries counts
-start_counts counts s c of = counts_changed c.entry.number (made_running s.next_run c.queue) (λ e. refl) s.entries counts of
+start_counts : (counts : List Counted) (s : System) (c : Choice) → next_choice s ≡ Some c → CountsOf s.entries counts → CountsOf (after_start s c).entries counts
+start_counts counts s c is of = counts_changed c.entry.number (made_running s.next_run c.queue) (λ e. refl) s.entries counts of
 
-start_waits : (next : Option ℕ) (s : System) (c : Choice) → Waits next s.entries → Waits next (after_start s c).entries
-start_waits next s c waits = with_all (λ e. is_due_from next e.state ≡ true) c.entry.number (λ e. Some (made_running s.next_run c.queue e)) (λ e h. refl) s.entries waits
+-- a pending job wants no timer, and one that runs neither
+pending_moment : (state : EntryState) → is_pending state ≡ true → moment_in state ≡ None
+pending_moment Pending h = refl
+pending_moment Holding h = refl
+pending_moment (Timed at) h = absurd (cc)
+pending_moment (Running queue node run) h = refl
+pending_moment (Aborting queue node run fate) h = refl
+pending_moment (Retained status until) h = absurd (cc)
+
+record Keeps (timers : List (ℕ × ℕ)) (s : System) : Type 0 where
+  sound : IsConsistent s
+  timed : AreTimersOf s.entries timers
+
+start_timers : (timers : List (ℕ × ℕ)) (s : System) (c : Choice) → next_choice s ≡ Some c → Keeps timers s → Keeps timers (after_start s c)
+start_timers timers s c is keeps =
+    let choice = choice_is s c is in
+    let found : entry_numbered c.entry.number s.entries ≡ Some c.entry =
+    entry_found c.entry s.entries (pairs_of (λ (a b : Entry). nat_cmp a.number b.number ≡ Less) s.entries keeps.sound.entries.order) choice.entry in
+    let only = that_one c.entry.number c.entry s.entries keeps.sound.entries.order found in
+    record {
+      sound = start_is_consistent s c keeps.sound choice;
+      timed = λ m.
+          keeps.timed m
+          ∙ sym (wanted_changed (made_running s.next_run c.queue) m c.entry.number (λ e. refl) s.entries
+          (λ k d within is'.
+          sym (ap (λ (e : Entry). moment_in e.state) (only k d within is') ∙ pending_moment c.entry.state (fits_pending s c.entry c.queue choice.fit))));
+    }
 
 pub settled_counts : (counts : List Counted) (s : System) (tables : Tables) (started : List Start) (t : Tables) → settled (with_tables s tables) ≡ record { system = with_tables s t; started = started } → CountsOf tables.entries counts → CountsOf t.entries counts
-settled_counts counts s tables started t is of = settled_keeps (λ es. CountsOf es counts) (start_counts counts) s tables started t is of
+settled_counts counts s tables started t is of = settled_keeps (λ u. CountsOf u.entries counts) (start_counts counts) s tables started t is of
 
-pub settled_waits : (next : Option ℕ) (s : System) (tables : Tables) (started : List Start) (t : Tables) → settled (with_tables s tables) ≡ record { system = with_tables s t; started = started } → Waits next tables.entries → Waits next t.entries
-settled_waits next s tables started t is waits = settled_keeps (λ es. Waits next es) (start_waits next) s tables started t is waits
+pub settled_timers : (timers : List (ℕ × ℕ)) (s : System) (tables : Tables) (started : List Start) (t : Tables) → settled (with_tables s tables) ≡ record { system = with_tables s t; started = started }
+    → IsConsistent (with_tables s tables) → AreTimersOf tables.entries timers → AreTimersOf t.entries timers
+settled_timers timers s tables started t is sound timed = (settled_keeps (Keeps timers) (start_timers timers) s tables started t is (record { sound = sound; timed = timed })).timed
 
 -- ---- what is made
 
@@ -73,6 +111,12 @@ module _ (p : Prepared) (old reached new : Image) (act : Act) (idle : Tables) (r
   is_changed : changed p (system_of old) ≡ record { system = system_of new; reply = record { act = act; started = [] } }
   unfolding changed
   is_changed = ap (λ (s : System). outcome_of p.change p.at p.node s) (sym rows) ∙ done
+
+  pub idle_sound : IsConsistent (stopped_when_idle (changed p (system_of old)).system) → IsConsistent (with_tables (system_of new) idle)
+  unfolding system_of
+  idle_sound sound =
+      let left : IsConsistent (stopped_when_idle (system_of new)) = subst (λ (a : Accepted). IsConsistent (stopped_when_idle a.system)) is_changed sound in
+      subst (λ (t : Tables). IsConsistent (with_tables (system_of new) t)) (sym stopped) left
 
   after : Tables → Accepted
   after t = record { system = (settled (with_tables (system_of new) t)).system; reply = record { act = act; started = (settled (with_tables (system_of new) t)).started } }

@@ -1,6 +1,6 @@
 -- What is left of an entry whose run ended.
 use Rattle.std.proofs.Common.{◌≡◌, ◌∙◌, ℕ, Bool, true, false, cond, List, [], find, Option, Some, None, refl, sym, ap, subst}
-use Rattle.std.specs.Option.{IfSome, option_map_or}
+use Rattle.std.specs.Option.{IfSome, IsSome, option_map_or}
 use Rattle.std.specs.Ordering.{nat_cmp}
 use Rattle.qm_kinds.specs.Sizes.{is_success}
 use Rattle.qm_kinds.specs.declared.entry.Entry.{Entry}
@@ -30,11 +30,14 @@ module _ (queues : List Queue) (now : ℕ) (e : Entry) (es : List Entry) (back :
   abbrev Left : Option Entry → Type 0
   Left left = IfSome left (λ l. IsLeftOf l e.number (entry_numbered e.number es))
 
+  there : IsSome (entry_numbered e.number es)
+  there = subst (λ (o : Option Entry). IsSome o) (sym back) refl
+
   same_file : (l : Entry) → l.file ≡ e.file → IfSome (entry_numbered e.number es) (λ x. x.file ≡ l.file)
   same_file l same = subst (λ o. IfSome o (λ x. x.file ≡ l.file)) (sym back) (sym same)
 
   retained_left : (status : ℕ) (until : Option ℕ) (b : Bool) → Left (cond b (Some (record e { state = Retained status until })) None)
-  retained_left status until true = record { number_stays = refl; file_stays = same_file (record e { state = Retained status until }) refl; idle = refl }
+  retained_left status until true = record { there = there; number_stays = refl; file_stays = same_file (record e { state = Retained status until }) refl; idle = refl }
   retained_left status until false = tt
 
   ended_left : (status : ℕ) → Left (ended queues now status e)
@@ -42,7 +45,7 @@ module _ (queues : List Queue) (now : ℕ) (e : Entry) (es : List Entry) (back :
 
   end_left_at : (status : ℕ) (fate : Option Fate) → Left (after_report queues now (EndReport status) fate e)
   end_left_at status None = ended_left status
-  end_left_at status (Some Requeue) = record { number_stays = refl; file_stays = same_file (requeued e) refl; idle = refl }
+  end_left_at status (Some Requeue) = record { there = there; number_stays = refl; file_stays = same_file (requeued e) refl; idle = refl }
   end_left_at status (Some Finish) = ended_left aborted_status
   end_left_at status (Some Remove) = tt
 

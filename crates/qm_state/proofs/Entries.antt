@@ -1,5 +1,5 @@
 -- What holds of the entries still, after one of them came, went or changed.
-use Rattle.std.proofs.Common.{◌≡◌, ◌∙◌, ℕ, ◌+◌, ◌<◌, ◌==◌, Bool, true, false, cond, if◌then◌else◌, List, [], ◌∷◌, ◌++◌, map, find, Option, Some, None, refl, sym, ap, arith, subst}
+use Rattle.std.proofs.Common.{◌≡◌, ◌∙◌, ℕ, ◌+◌, ◌<◌, Bool, true, false, cond, List, [], ◌∷◌, ◌++◌, get_or, map, find, Option, Some, None, refl, sym, ap, arith, subst}
 use Rattle.std.specs.List.{All, count_by}
 use Rattle.std.specs.Option.{IfSome}
 use Rattle.std.specs.Ordering.{nat_cmp}
@@ -8,9 +8,8 @@ use Rattle.qm_model.specs.Consistent.{IsInOrder}
 use Rattle.qm_model.specs.Find.{same_file_name, entry_numbered}
 use Rattle.qm_sched.proofs.Left.{absent_stays, agree_at_it}
 use Rattle.qm_spool.proofs.NamedRows.{itself}
-use Rattle.std.specs.Prelude.{option_to_list}
 use Rattle.std.proofs.lemmas.List.{append-nil}
-use Rattle.std.proofs.lemmas.List.Elements.{All-nil, All-cons, All-head, All-tail, All-map, All-push, All-weaker}
+use Rattle.std.proofs.lemmas.List.Elements.{All-head, All-tail}
 use Rattle.qm_kinds.specs.declared.entry.Entry.{Entry}
 use Rattle.qm_kinds.specs.declared.entry.Fate.{Fate}
 use Rattle.qm_kinds.specs.declared.entry.EntryState.{EntryState}
@@ -21,51 +20,39 @@ use Rattle.qm_model.specs.Stopping.{is_running_in, state_with_fate, with_fate, r
 use Rattle.qm_spool.specs.Kept.{Counted, count_of}
 use Rattle.qm_spool.specs.Counts.{CountsOf, IsCountedAs}
 use Rattle.qm_spool.proofs.Counting.{counts_entered, counts_kept, counts_changed}
-use Rattle.qm_state.specs.Due.{is_due_from}
+use Rattle.qm_state.specs.Timers.{moment_in, AreTimersOf}
+use Rattle.qm_state.proofs.Timed.{wanted_map, wanted_changed}
 use Rattle.qm_state.specs.Preparing.{IsLeftOf}
 
--- ---- what holds of each entry still
+-- ---- the timers that entries want
 
-module _ (P : Entry → Type 0) (number : ℕ) (outcome : Entry → Option Entry) where
-  pub with_all : ((e : Entry) → P e → IfSome (outcome e) P) → (es : List Entry) → All P es → All P (with_entry number outcome es)
-  with_all holds [] all = All-nil P
-  with_all holds (e ∷ es) all =
-      step (e.number == number) (outcome e) (holds e (All-head P e es all)) (with_all holds es (All-tail P e es all))
-    where
-      step : (b : Bool) (o : Option Entry) → IfSome o P → All P (with_entry number outcome es) → All P ((if b then option_to_list o else e ∷ []) ++ with_entry number outcome es)
-      step true None h rest = rest
-      step true (Some x) h rest = All-cons P x (with_entry number outcome es) h rest
-      step false o h rest = All-cons P e (with_entry number outcome es) (All-head P e es all) rest
+-- a job that is to be cut short wants those that it had
+fate_moment : (fate : Fate) (state : EntryState) → moment_in (state_with_fate fate state) ≡ moment_in state
+fate_moment fate Pending = refl
+fate_moment fate Holding = refl
+fate_moment fate (Timed at) = refl
+fate_moment fate (Running queue node run) = refl
+fate_moment fate (Aborting queue node run old) = refl
+fate_moment fate (Retained status until) = refl
 
--- ---- nothing is due before the first moment
-
-abbrev pub Waits : Option ℕ → List Entry → Type 0
-Waits next es = All (λ e. is_due_from next e.state ≡ true) es
-
--- a job that is to be cut short isn't due
-fate_waits : (next : Option ℕ) (fate : Fate) (state : EntryState) → is_due_from next state ≡ true → is_due_from next (state_with_fate fate state) ≡ true
-fate_waits next fate Pending h = refl
-fate_waits next fate Holding h = refl
-fate_waits next fate (Timed at) h = h
-fate_waits next fate (Running queue node run) h = refl
-fate_waits next fate (Aborting queue node run old) h = refl
-fate_waits next fate (Retained status until) h = h
-
-pub waits_with_fate : (next : Option ℕ) (number : ℕ) (fate : Fate) (es : List Entry) → Waits next es → Waits next (with_entry number (λ e. Some (with_fate fate e)) es)
-waits_with_fate next number fate es waits =
-    with_all (λ e. is_due_from next e.state ≡ true) number (λ e. Some (with_fate fate e)) (λ e h. fate_waits next fate e.state h) es waits
+pub timers_with_fate : (number : ℕ) (fate : Fate) (es : List Entry) (timers : List (ℕ × ℕ)) → AreTimersOf es timers → AreTimersOf (with_entry number (λ e. Some (with_fate fate e)) es) timers
+timers_with_fate number fate es timers are = λ m.
+    are m ∙ sym (wanted_changed (with_fate fate) m number (λ e. refl) es (λ k d within is. fate_moment fate (get_or es k d).state))
 
 pub counts_with_fate : (number : ℕ) (fate : Fate) (es : List Entry) (counts : List Counted) → CountsOf es counts → CountsOf (with_entry number (λ e. Some (with_fate fate e)) es) counts
 counts_with_fate number fate es counts of = counts_changed number (with_fate fate) (λ e. refl) es counts of
 
-reset_waits : (next : Option ℕ) (e : Entry) (b : Bool) → is_due_from next e.state ≡ true → is_due_from next (cond b (with_fate (reset_fate e) e) e).state ≡ true
-reset_waits next e true h = fate_waits next (reset_fate e) e.state h
-reset_waits next e false h = h
+number_of_reset : (e : Entry) (b : Bool) → (cond b (with_fate (reset_fate e) e) e).number ≡ e.number
+number_of_reset e true = refl
+number_of_reset e false = refl
 
-pub waits_reset : (next : Option ℕ) (name : List ℕ) (es : List Entry) → Waits next es → Waits next (map (reset_in name) es)
-waits_reset next name es waits =
-    All-map (λ (e : Entry). is_due_from next e.state ≡ true) (reset_in name) es
-    (All-weaker (λ (e : Entry). is_due_from next e.state ≡ true) (λ (e : Entry). is_due_from next (reset_in name e).state ≡ true) (λ e h. reset_waits next e (is_running_in name e.state) h) es waits)
+moment_of_reset : (e : Entry) (b : Bool) → moment_in (cond b (with_fate (reset_fate e) e) e).state ≡ moment_in e.state
+moment_of_reset e true = fate_moment (reset_fate e) e.state
+moment_of_reset e false = refl
+
+pub timers_reset : (name : List ℕ) (es : List Entry) (timers : List (ℕ × ℕ)) → AreTimersOf es timers → AreTimersOf (map (reset_in name) es) timers
+timers_reset name es timers are = λ m.
+    are m ∙ sym (wanted_map (reset_in name) m (λ e. number_of_reset e (is_running_in name e.state)) (λ e. moment_of_reset e (is_running_in name e.state)) es)
 
 file_of_reset : (e : Entry) (b : Bool) → (cond b (with_fate (reset_fate e) e) e).file ≡ e.file
 file_of_reset e true = refl
@@ -82,29 +69,19 @@ file_of_moved to e false = refl
 pub counts_moved : (to from : List ℕ) (es : List Entry) (counts : List Counted) → CountsOf es counts → CountsOf (map (moved_to to from) es) counts
 counts_moved to from es counts of = counts_kept es (moved_to to from) counts (λ e. file_of_moved to e (waits_in from e)) of
 
-moved_waits : (next : Option ℕ) (to : List ℕ) (e : Entry) (b : Bool) → is_due_from next e.state ≡ true → is_due_from next (cond b (record e { home = to }) e).state ≡ true
-moved_waits next to e true h = h
-moved_waits next to e false h = h
+number_of_moved : (to : List ℕ) (e : Entry) (b : Bool) → (cond b (record e { home = to }) e).number ≡ e.number
+number_of_moved to e true = refl
+number_of_moved to e false = refl
 
-pub waits_moved : (next : Option ℕ) (to from : List ℕ) (es : List Entry) → Waits next es → Waits next (map (moved_to to from) es)
-waits_moved next to from es waits =
-    All-map (λ (e : Entry). is_due_from next e.state ≡ true) (moved_to to from) es
-    (All-weaker (λ (e : Entry). is_due_from next e.state ≡ true) (λ (e : Entry). is_due_from next (moved_to to from e).state ≡ true) (λ e h. moved_waits next to e (waits_in from e) h) es waits)
+moment_of_moved : (to : List ℕ) (e : Entry) (b : Bool) → moment_in (cond b (record e { home = to }) e).state ≡ moment_in e.state
+moment_of_moved to e true = refl
+moment_of_moved to e false = refl
 
--- an entry that goes
-pub waits_without : (next : Option ℕ) (number : ℕ) (es : List Entry) → Waits next es → Waits next (with_entry number (λ e. None) es)
-waits_without next number es waits = with_all (λ e. is_due_from next e.state ≡ true) number (λ e. None) (λ e h. tt) es waits
+pub timers_moved : (to from : List ℕ) (es : List Entry) (timers : List (ℕ × ℕ)) → AreTimersOf es timers → AreTimersOf (map (moved_to to from) es) timers
+timers_moved to from es timers are = λ m.
+    are m ∙ sym (wanted_map (moved_to to from) m (λ e. number_of_moved to e (waits_in from e)) (λ e. moment_of_moved to e (waits_in from e)) es)
 
--- another entry in the place of one, or behind all, with the first moment that there is then
-module _ (next new : Option ℕ) (e : Entry) (es : List Entry) (waits : Waits next es) (here : is_due_from new e.state ≡ true) (others : (other : EntryState) → is_due_from next other ≡ true → is_due_from new other ≡ true) where
-  still : Waits new es
-  still = All-weaker (λ (x : Entry). is_due_from next x.state ≡ true) (λ (x : Entry). is_due_from new x.state ≡ true) (λ x h. others x.state h) es waits
-
-  pub waits_replaced : (number : ℕ) → Waits new (with_entry number (λ x. Some e) es)
-  waits_replaced number = with_all (λ x. is_due_from new x.state ≡ true) number (λ x. Some e) (λ x h. here) es still
-
-  pub waits_entered : Waits new (es ++ e ∷ [])
-  waits_entered = All-push (λ (x : Entry). is_due_from new x.state ≡ true) es e still here
+-- ---- an entry comes
 
 pub counts_behind : (old new : List Counted) (e : Entry) (es : List Entry) → CountsOf es old → IsCountedAs e.file (count_of e.file old + 1) old new → CountsOf (es ++ e ∷ []) new
 counts_behind old new e es of changed = counts_entered old new e es [] (subst (λ xs. CountsOf xs old) (sym (append-nil es)) of) changed

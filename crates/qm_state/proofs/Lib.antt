@@ -2,6 +2,9 @@ pub mod Given
 pub mod Found
 pub mod Refusing
 pub mod Entries
+pub mod Numbered
+pub mod Timed
+pub mod Kept
 pub mod Filling
 pub mod Ended
 pub mod Stopped

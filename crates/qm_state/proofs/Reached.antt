@@ -1,42 +1,17 @@
 -- What an acting moment leaves of what holds of the entries.
-use Rattle.std.proofs.Common.{◌≡◌, ◌∙◌, ℕ, Bool, true, false, cond, not, ◌&&◌, ◌||◌, List, [], ◌∷◌, filter, find, map, nat_le, Option, None, Some, refl, ap, arith}
+use Rattle.std.proofs.Common.{◌≡◌, ◌∙◌, ℕ, Bool, true, false, cond, not, ◌&&◌, ◌||◌, List, [], ◌∷◌, filter, find, map, nat_le, None, Some, refl, ap}
 use Rattle.std.specs.List.{All}
 use Rattle.std.specs.Option.{option_map_or}
 use Rattle.std.specs.Str.{bytes_eq}
-use Rattle.std.proofs.lemmas.Bool.Decides.{nat_tests}
-use Rattle.std.proofs.lemmas.List.Elements.{All-filter, All-map, All-weaker}
+use Rattle.std.proofs.lemmas.List.Elements.{All-filter, All-map}
 use Rattle.qm_kinds.specs.declared.entry.Entry.{Entry}
 use Rattle.qm_kinds.specs.declared.entry.EntryState.{EntryState}
 use Rattle.qm_kinds.specs.declared.entry.EntryState.TheVariants.{Pending, Holding, Timed, Running, Aborting, Retained}
 use Rattle.qm_kinds.specs.declared.file.FileName.{FileName}
-use Rattle.qm_model.specs.Due.{state_at, is_over, entry_at, is_due}
+use Rattle.qm_model.specs.Due.{state_at, is_over, entry_at}
 use Rattle.qm_model.specs.JobStates.{run_of, runs_in}
 use Rattle.qm_model.specs.Find.{same_file_name}
 use Rattle.qm_model.specs.Queues.{runs_for}
-use Rattle.qm_state.specs.Due.{is_due_from}
-
--- ---- nothing is due at a moment before the first one
-
-abbrev is_reached : Option ℕ → ℕ → Bool
-is_reached next now = option_map_or (λ n. nat_le n now) next false
-
-later_stays : (next now at : ℕ) → nat_le next now ≡ false → nat_le next at ≡ true → nat_le at now ≡ false
-later_stays next now at early from = grind (arith, nat_tests)
-
-not_due : (next : Option ℕ) (now : ℕ) (state : EntryState) → is_reached next now ≡ false → is_due_from next state ≡ true → is_due now state ≡ false
-not_due next now Pending early from = refl
-not_due next now Holding early from = refl
-not_due None now (Timed at) early from = cc
-not_due (Some n) now (Timed at) early from = later_stays n now at early from
-not_due next now (Running queue node run) early from = refl
-not_due next now (Aborting queue node run fate) early from = refl
-not_due next now (Retained status None) early from = refl
-not_due None now (Retained status (Some until)) early from = cc
-not_due (Some n) now (Retained status (Some until)) early from = later_stays n now until early from
-
-pub none_due : (next : Option ℕ) (now : ℕ) (es : List Entry) → is_reached next now ≡ false → All (λ e. is_due_from next e.state ≡ true) es → All (λ e. is_due now e.state ≡ false) es
-none_due next now es early waits =
-    All-weaker (λ (e : Entry). is_due_from next e.state ≡ true) (λ (e : Entry). is_due now e.state ≡ false) (λ e from. not_due next now e.state early from) es waits
 
 -- ---- what isn't found still isn't
 

@@ -20,17 +20,20 @@ use Rattle.qm_state.specs.declared.image.Image.{Image}
 use Rattle.qm_state.specs.declared.prepared.Change.{Change}
 use Rattle.qm_state.specs.declared.prepared.Change.TheVariants.{NewFile, MoreBytes, MoreLines, RemoveFile, NewForm, RemoveForm, NewCharacteristic, RemoveCharacteristic, NewEntry, PutQueue, SetQueue, StopQueue, CutShort, RemoveQueue, Merge, ReplaceEntry, RemoveEntry, EndRun, Tick}
 use Rattle.qm_state.specs.Image.{system_of}
-use Rattle.qm_state.specs.Preparing.{found, IsReady}
+use Rattle.qm_state.specs.Preparing.{found, IsReady, IsWaiting}
+use Rattle.qm_state.proofs.Changed.{waiting_found}
 
 -- the files, the tables and the next number stay, but for how often files are named, and for entries, none of which comes
 record IsLeft (old new : Image) : Type 0 where
   files : new.spool ≡ record old.spool { counts = new.spool.counts }
   tables : new.parts ≡ record old.parts { entries = new.parts.entries; spare_runs = new.parts.spare_runs }
   next : old.next_entry ≡ new.next_entry
+  timers : old.timers.spare ≤ new.timers.spare
   fewer : length new.parts.entries ≤ length old.parts.entries
   unnamed : (name : FileName) → find (λ e. same_file_name e.file name) old.parts.entries ≡ None → find (λ e. same_file_name e.file name) new.parts.entries ≡ None
   without_run : (name : List ℕ) → find (runs_for name) old.parts.entries ≡ None → find (runs_for name) new.parts.entries ≡ None
   with_file : (entry : Entry) → All (NamesItsFile entry) old.parts.entries → All (NamesItsFile entry) new.parts.entries
+  waits : (number : ℕ) → IsWaiting number old.parts.entries → IsWaiting number new.parts.entries
 
 module _ (old new : Image) (left : IsLeft old new) where
   of_files : (P : Kept → Type 0) → P (record old.spool { counts = new.spool.counts }) → P new.spool
@@ -65,6 +68,7 @@ module _ (old new : Image) (left : IsLeft old new) where
     next = omega (arith, h.next, left.next);
     few = omega (arith, h.few, left.fewer);
     room = of_tables (λ t. 0 < t.spare_entries) h.room;
+    timer = omega (arith, h.timer, left.timers);
     file = of_files (λ k. IsSome (file_named entry.file k.files)) h.file;
   }
   ready_left (PutQueue queue) h = of_tables (λ t. 0 < t.spare_queues) h
@@ -73,20 +77,20 @@ module _ (old new : Image) (left : IsLeft old new) where
   ready_left (CutShort entry fate) h = tt
   ready_left (RemoveQueue name) h = left.without_run name h
   ready_left (Merge to from) h = tt
-  ready_left (ReplaceEntry entry) h = record { idle = h.idle; file = left.with_file entry h.file }
+  ready_left (ReplaceEntry entry) h = record { idle = h.idle; waits = left.waits entry.number h.waits; timer = omega (arith, h.timer, left.timers); file = left.with_file entry h.file }
   ready_left (RemoveEntry entry) h = tt
-  ready_left (EndRun run status) h = tt
+  ready_left (EndRun run status) h = omega (arith, h, left.timers)
   ready_left Tick h = tt
 
 -- room for runs alone
 pub ready_with_runs : (old new : Image) (n : ℕ) → new ≡ record old { parts = record old.parts { spare_runs = n } } → (change : Change) → IsReady old change → IsReady new change
 ready_with_runs old new n is change h =
     subst (λ (i : Image). IsReady i change) (sym is) (ready_left old (record old { parts = record old.parts { spare_runs = n } })
-    (record { files = refl; tables = refl; next = refl; fewer = omega arith; unnamed = λ name none. none; without_run = λ name none. none; with_file = λ entry all. all }) change h)
+    (record { files = refl; tables = refl; next = refl; timers = omega arith; fewer = omega arith; unnamed = λ name none. none; without_run = λ name none. none; with_file = λ entry all. all; waits = λ number waits. waits }) change h)
 
 -- what the moment finds
 module _ (now : ℕ) (old new : Image) (rows : system_of new ≡ found now (system_of old)) (files : new.spool ≡ record old.spool { counts = new.spool.counts })
-    (tables : new.parts ≡ record old.parts { entries = new.parts.entries }) where
+    (tables : new.parts ≡ record old.parts { entries = new.parts.entries; spare_runs = new.parts.spare_runs }) (room : old.timers.spare ≤ new.timers.spare) where
   entries_are : new.parts.entries ≡ map (entry_at now) (filter (λ e. not (is_over now e.state)) old.parts.entries)
   unfolding system_of
   entries_are = ap (λ (s : System). s.entries) rows
@@ -106,10 +110,12 @@ module _ (now : ℕ) (old new : Image) (rows : system_of new ≡ found now (syst
   pub ready_found : (change : Change) → IsReady old change → IsReady new change
   ready_found = ready_left old new (record {
     files = files;
-    tables = tables ∙ ap (λ n. record old.parts { entries = new.parts.entries; spare_runs = n }) (sym (ap (λ (t : Tables). t.spare_runs) tables));
+    tables = tables;
     next = same_next;
+    timers = room;
     fewer = no_more;
     unnamed = λ name none. subst (λ (es : List Entry). find (λ e. same_file_name e.file name) es ≡ None) (sym entries_are) (unnamed_found name now old.parts.entries none);
     without_run = λ name none. subst (λ (es : List Entry). find (runs_for name) es ≡ None) (sym entries_are) (no_run_found name now old.parts.entries none);
     with_file = λ entry all. subst (All (NamesItsFile entry)) (sym entries_are) (file_found entry now old.parts.entries all);
+    waits = λ number waits. subst (IsWaiting number) (sym entries_are) (waiting_found number now old.parts.entries waits);
   })

@@ -1,5 +1,5 @@
 -- The entries of a system, put into its tables one after another.
-use Rattle.std.proofs.Common.{◌≡◌, ◌≢◌, ◌∙◌, ℕ, ◌+◌, ◌<◌, ◌==◌, Bool, true, false, List, [], ◌∷◌, ◌++◌, length, get_or, take, Option, None, Some, IfSome, refl, sym, ap, subst, arith}
+use Rattle.std.proofs.Common.{◌≡◌, ◌≢◌, ◌∙◌, ℕ, ◌+◌, ◌<◌, ◌==◌, Bool, true, false, cond, List, [], ◌∷◌, ◌++◌, length, get_or, take, Option, None, Some, IfSome, refl, sym, ap, subst, arith}
 use Rattle.std.specs.List.{All, AllPairs, list_any}
 use Rattle.std.specs.Option.{option_map_or}
 use Rattle.std.specs.Ordering.{nat_cmp}
@@ -19,6 +19,9 @@ use Rattle.qm_model.specs.Standing.{has_run}
 use Rattle.qm_sched.specs.Mirror.{run_of_entry, run_in_state}
 use Rattle.qm_sched.specs.Tables.{Tables, with_tables}
 use Rattle.qm_spool.specs.Kept.{Counted, count_of}
+use Rattle.qm_timers.specs.Timers.{moment_of}
+use Rattle.qm_state.specs.Timers.{AreTimersOf, moment_in}
+use Rattle.qm_state.proofs.Timed.{timers_behind}
 use Rattle.qm_spool.specs.Counts.{CountsOf, IsCountedAs}
 use Rattle.qm_spool.proofs.Counting.{counts_entered}
 
@@ -88,3 +91,6 @@ module _ (s : System) (h : IsConsistent s) (i : ℕ) (e : Entry) (within : i < l
     counted_more old counts of changed =
         subst (λ (es : List Entry). CountsOf es counts) (sym more)
         (counts_entered old counts e t.entries [] (subst (λ (es : List Entry). CountsOf es old) (sym (append-nil t.entries)) of) changed)
+
+    pub timed_more : (old timers : List (ℕ × ℕ)) → AreTimersOf t.entries old → ((m : ℕ) → moment_of m timers ≡ cond (e.number == m) (moment_in e.state) (moment_of m old)) → AreTimersOf new.entries timers
+    timed_more old timers are set = subst (λ (es : List Entry). AreTimersOf es timers) (sym more) (timers_behind e t.entries old timers number_last are set)

@@ -1,5 +1,5 @@
 -- What a stop makes of the queue of a name.
-use Rattle.std.proofs.Common.{◌≡◌, ◌∙◌, ℕ, suc, Bool, true, false, cond, List, [], ◌∷◌, get_or, Option, Some, None, refl, sym, ap, arith}
+use Rattle.std.proofs.Common.{◌≡◌, ◌∙◌, ℕ, suc, Bool, true, false, cond, List, [], ◌∷◌, get_or, Some, None, refl, sym, ap, arith}
 use Rattle.std.specs.List.{All}
 use Rattle.std.specs.Str.{bytes_eq}
 use Rattle.std.specs.Cmp.{tied_itself}
@@ -19,7 +19,8 @@ use Rattle.qm_model.specs.States.{state_on_stop}
 use Rattle.qm_model.specs.Stopping.{stopped_queue, entries_on_stop}
 use Rattle.qm_spool.specs.Kept.{Counted}
 use Rattle.qm_spool.specs.Counts.{CountsOf}
-use Rattle.qm_state.proofs.Entries.{Waits, waits_reset, counts_reset}
+use Rattle.qm_state.proofs.Entries.{timers_reset, counts_reset}
+use Rattle.qm_state.specs.Timers.{AreTimersOf}
 
 module _ (name : List ℕ) where
   abbrev named : Queue → Bool
@@ -82,10 +83,10 @@ stop_one name how state qs it order found is =
     agree name (λ (q : Queue). record q { state = state }) (stopped_queue how) it (ap (λ (st : QueueState). record it { state = st }) is) qs order (sym found)
 
 -- what holds of the entries still, once a reset may have cut jobs short
-pub waits_on_stop : (next : Option ℕ) (how : StopMode) (name : List ℕ) (es : List Entry) → Waits next es → Waits next (entries_on_stop how name es)
-waits_on_stop next Pause name es waits = waits
-waits_on_stop next Next name es waits = waits
-waits_on_stop next Reset name es waits = waits_reset next name es waits
+pub timers_on_stop : (how : StopMode) (name : List ℕ) (es : List Entry) (timers : List (ℕ × ℕ)) → AreTimersOf es timers → AreTimersOf (entries_on_stop how name es) timers
+timers_on_stop Pause name es timers are = are
+timers_on_stop Next name es timers are = are
+timers_on_stop Reset name es timers are = timers_reset name es timers are
 
 pub counts_on_stop : (how : StopMode) (name : List ℕ) (es : List Entry) (counts : List Counted) → CountsOf es counts → CountsOf (entries_on_stop how name es) counts
 counts_on_stop Pause name es counts of = of

@@ -1,9 +1,10 @@
 pub mod Settings
-pub mod Due
+pub mod Timers
 pub mod Leaving
 pub mod Ending
 pub mod Refusing
 pub mod Image
+pub mod Keeping
 pub mod Naming
 pub mod Preparing
 pub mod Deciding

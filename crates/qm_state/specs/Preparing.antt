@@ -1,5 +1,6 @@
 -- Changes that are decided, and for which memory is taken.
-use Rattle.std.specs.Prelude.{◌≡◌, ◌<◌, ◌≤◌, ◌+◌, ◌^◌, ℕ, false, List, [], ◌∷◌, ◌++◌, length, find, All, Option, None, IfSome, IsSome, vec_capacity}
+use Rattle.std.specs.Prelude.{◌≡◌, ◌<◌, ◌≤◌, ◌+◌, ◌^◌, ℕ, true, false, List, [], ◌∷◌, ◌++◌, length, find, All, Option, None, IfSome, IsSome, vec_capacity}
+use Rattle.std.specs.Option.{option_map_or}
 use Rattle.qm_kinds.specs.declared.entry.Entry.{Entry}
 use Rattle.qm_kinds.specs.declared.file.FileName.{FileName}
 use Rattle.qm_kinds.specs.declared.form.Characteristic.{Characteristic}
@@ -16,9 +17,9 @@ use Rattle.qm_model.specs.Due.{due}
 use Rattle.qm_model.specs.Characteristics.{is_characteristic_taken, characteristic_defined, characteristic_deleted}
 use Rattle.qm_model.specs.Entries.{entry_set_to}
 use Rattle.qm_model.specs.Filing.{dropped}
-use Rattle.qm_model.specs.Find.{file_named, same_file_name}
+use Rattle.qm_model.specs.Find.{entry_numbered, file_named, same_file_name}
 use Rattle.qm_model.specs.Forms.{is_form_taken, form_defined, form_deleted}
-use Rattle.qm_model.specs.JobStates.{run_of}
+use Rattle.qm_model.specs.JobStates.{is_waiting, run_of}
 use Rattle.qm_model.specs.Merging.{merged}
 use Rattle.qm_model.specs.Nodes.{ticked}
 use Rattle.qm_model.specs.Outcome.{Accepted}
@@ -131,18 +132,25 @@ pub record CanDefineCharacteristic (image : Image) (characteristic : Characteris
   pub small : characteristic.number ≤ LAST_CHARACTERISTIC
   pub free : is_characteristic_taken image.parts.characteristics characteristic ≡ false
 
--- there is room for the entry, which has the next number and no run, and its file is there
+-- there is room for the entry and a timer, the entry has the next number and no run, and its file is there
 pub record IsNewEntry (image : Image) (entry : Entry) : Type 0 where
   pub number : entry.number ≡ image.next_entry
   pub idle : run_of entry.state ≡ None
   pub next : image.next_entry + 1 < 2 ^ 32
   pub few : length image.parts.entries < ENTRIES_LIMIT
   pub room : 0 < image.parts.spare_entries
+  pub timer : 0 < image.timers.spare
   pub file : IsSome (file_named entry.file image.spool.files)
 
--- the entry has no run, and names the file that the one of its number names
+-- the entry of a number is there, and waits: for its start, for its release or for its moment
+abbrev pub IsWaiting : ℕ → List Entry → Type 0
+IsWaiting number entries = option_map_or (λ e. is_waiting e.state) (entry_numbered number entries) false ≡ true
+
+-- the entry has no run, and the one of its number is there, waits and names the same file; and there is room for a timer
 pub record CanReplace (image : Image) (entry : Entry) : Type 0 where
   pub idle : run_of entry.state ≡ None
+  pub waits : IsWaiting entry.number image.parts.entries
+  pub timer : 0 < image.timers.spare
   pub file : All (λ e. e.number ≡ entry.number → e.file ≡ entry.file) image.parts.entries
 
 -- how many jobs start behind a change of the system that the moment finds
@@ -154,8 +162,9 @@ abbrev pub StartAtMost : ℕ → Change → System → Type 0
 StartAtMost most change s = (now : ℕ) (node : List ℕ) → starts_behind change now node s ≤ most
 
 -- The change can be made on the image: for what comes there is room, a new form or characteristic has a name and a number of its
--- own, a new entry has the next number and no run, its file is there and may be named once more, an entry that is changed has no
--- run and keeps its file, no entry names a file that goes, and no job runs for a queue that goes.
+-- own, a new entry has the next number and no run, its file is there and may be named once more, an entry that is changed waits,
+-- has no run then and keeps its file, no entry names a file that goes, and no job runs for a queue that goes. For what may wait for
+-- a moment, or be kept until one, there is room for a timer.
 abbrev pub IsReady : Image → Change → Type 0
 IsReady image (NewFile name bytes) = CanInsert image name bytes.items
 IsReady image (MoreBytes name bytes) = CanAppend image name bytes.now
@@ -174,7 +183,7 @@ IsReady image (RemoveQueue name) = find (runs_for name) image.parts.entries ≡ 
 IsReady image (Merge to from) = Unit {0}
 IsReady image (ReplaceEntry entry) = CanReplace image entry
 IsReady image (RemoveEntry entry) = Unit {0}
-IsReady image (EndRun run status) = Unit {0}
+IsReady image (EndRun run status) = 0 < image.timers.spare
 IsReady image Tick = Unit {0}
 
 -- What is prepared can be made on the image: the change can, it leaves a consistent system before any job is started, and there
@@ -186,8 +195,9 @@ pub record IsPrepared (image : Image) (prepared : Prepared) : Type 0 where
   pub started_room : length (made prepared (system_of image)).reply.started ≤ vec_capacity prepared.started
   pub run_room : length (made prepared (system_of image)).reply.started ≤ image.parts.spare_runs
 
--- what may be left of the entry of a number: it has no run any more, and names the same file
+-- what is left of the entry of a number, which is there: it has no run, and names the same file
 pub record IsLeftOf (left : Entry) (number : ℕ) (old : Option Entry) : Type 0 where
+  pub there : IsSome old
   pub number_stays : left.number ≡ number
   pub file_stays : IfSome old (λ e. e.file ≡ left.file)
   pub idle : run_of left.state ≡ None

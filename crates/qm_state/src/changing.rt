@@ -23,6 +23,7 @@ use crate::submit::state_of;
 use qm_forms::FormTable;
 use qm_kinds::{Entry, EntryChange, EntryState, JobKind, Moment, Name, Refusal};
 use qm_queues::QueueTable;
+use std::alloc::AllocError;
 
 // Whether a job in this state waits: for its start, for its release or for its moment.
 fn is_waiting(state: &EntryState) -> bool
@@ -167,17 +168,17 @@ impl Image {
         changed_entry(self.parts.form_table(), now, change, entry)
     }
 
-    /// Decides on an entry that is changed. Whether it waits is judged before what is due at the acting moment is done; its
+    /// Decides on an entry that is changed, and takes the room for a timer: it may wait for a moment then. Whether it waits is judged before what is due at the acting moment is done; its
     /// new state goes by that moment.
     #[tactic(auto, unfolding(crate::specs::Image::system_of))]
     #[inline(never)]
     pub(crate) fn prepare_set_entry<'a>(
-        &self,
+        &mut self,
         now: Moment,
         number: u32,
         change: &EntryChange,
     ) -> Result<Change<'a>, Refused>
-        ensures { (node : List ℕ) → PreparesAt now node (request.SetEntry number change.now) self.now self.now result }
+        ensures { (node : List ℕ) → PreparesAt now node (request.SetEntry number change.now) self.old self.new result }
     {
         let Some(entry) = self.parts.entry(number) else {
             return Err(Refused::By(Refusal::NoSuchEntry { number }));
@@ -185,9 +186,11 @@ impl Image {
         if let Some(refusal) = self.entry_change_refusal(change, entry) {
             return Err(Refused::By(refusal));
         }
-        Ok(Change::ReplaceEntry {
-            entry: self.changed_entry(now, change, entry),
-        })
+        let entry = self.changed_entry(now, change, entry);
+        match self.reserve_timer() {
+            Ok(()) => Ok(Change::ReplaceEntry { entry }),
+            Err(AllocError) => Err(Refused::NoMemory),
+        }
     }
 
     /// Decides on a look at the clock, which nothing refuses.

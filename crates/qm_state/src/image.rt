@@ -1,10 +1,11 @@
-ghost use Rattle.std.specs.Prelude.{◌≡◌, All, true};
+ghost use Rattle.std.proofs.Props.{props};
 ghost use Rattle.qm_spool.specs.Counts.{CountsOf};
-ghost use Rattle.qm_state.specs.Due.{is_due_from};
+ghost use Rattle.qm_state.specs.Timers.{AreTimersOf};
 
 use qm_kinds::{Moment, Name, Seq};
 use qm_sched::Parts;
 use qm_spool::Spool;
+use qm_timers::Timers;
 use std::alloc::Global;
 
 /// A queue system in memory.
@@ -15,10 +16,10 @@ pub struct Image {
     pub(crate) spool: Spool,
     /// The nodes that may be queue manager.
     pub(crate) may: Seq<Name>,
-    /// Nothing is due before this moment, and nothing at any moment where there is none.
-    pub(crate) next_due: Option<Moment>,
+    /// The moments that entries wait for, and those until which they are kept, each under the entry's number.
+    pub(crate) timers: Timers,
     pub(crate) next_entry: u32,
     pub(crate) last: Moment,
     ghost counted: { CountsOf parts.entries spool.counts },
-    ghost waits: { All (λ e. is_due_from next_due e.state ≡ true) parts.entries },
+    ghost timed: { AreTimersOf parts.entries timers.timers } by { Prim.hlevel props },
 }

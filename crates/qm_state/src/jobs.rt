@@ -1,15 +1,17 @@
 // Jobs are cut short and deleted, and runs end: what is decided.
-ghost use Rattle.std.specs.Prelude.{◌≡◌, ◌&&◌, not, ℕ, if◌then◌else◌};
+ghost use Rattle.std.specs.Prelude.{◌≡◌, ◌<◌, ◌&&◌, not, ℕ, OnOk, if◌then◌else◌};
 ghost use Rattle.qm_kinds.specs.declared.entry.Entry.{Entry as AnyEntry};
 ghost use Rattle.qm_kinds.specs.declared.request.Request.TheVariants as request;
 ghost use Rattle.qm_model.specs.Standing.{is_executing};
 ghost use Rattle.qm_state.specs.Deciding.{Prepares, PreparesAt};
+ghost use Rattle.qm_state.specs.Image.{system_of};
 
 use crate::image::Image;
 use crate::kinds::is_generic;
 use crate::prepared::Change;
 use crate::refused::Refused;
 use qm_kinds::{Entry, EntryState, Fate, Name, Refusal};
+use std::alloc::AllocError;
 
 // What becomes of a job that is cut short.
 fn abort_fate(requeue: bool) -> Fate
@@ -83,22 +85,35 @@ impl Image {
         Ok(Change::RemoveEntry { entry: number })
     }
 
-    /// Decides on the end of a run that a node reports.
+    /// Makes room for one timer more.
+    #[tactic(auto, unfolding(crate::specs::Image::system_of))]
+    pub(crate) fn reserve_timer(&mut self) -> Result<(), AllocError>
+        ensures rows { system_of self.new ≡ system_of self.old }
+        ensures tables { self.new.parts ≡ self.old.parts }
+        ensures room { OnOk result (0 < self.new.timers.spare) }
+    {
+        self.timers.reserve()
+    }
+
+    /// Decides on the end of a run that a node reports, and takes the room for a timer: the job may be kept until a moment.
     #[tactic(auto, unfolding(crate::specs::Image::system_of))]
     #[inline(never)]
     pub(crate) fn prepare_end<'a>(
-        &self,
+        &mut self,
         node: &Name,
         run: u64,
         status: u32,
     ) -> Result<Change<'a>, Refused>
-        ensures { (at : ℕ) → PreparesAt at node.now (request.Done run status) self.now self.now result }
+        ensures { (at : ℕ) → PreparesAt at node.now (request.Done run status) self.old self.new result }
     {
         if self.parts.entry_of_run(run, node).is_none() {
             return Err(Refused::By(Refusal::StaleRun {
                 next: self.parts.next_run(),
             }));
         }
-        Ok(Change::EndRun { run, status })
+        match self.reserve_timer() {
+            Ok(()) => Ok(Change::EndRun { run, status }),
+            Err(AllocError) => Err(Refused::NoMemory),
+        }
     }
 }

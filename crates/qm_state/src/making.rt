@@ -1,5 +1,5 @@
 // The changes that were prepared are made.
-ghost use Rattle.std.specs.Prelude.{◌≡◌, ◌<◌, ◌≤◌, find, None, Some, IfSome};
+ghost use Rattle.std.specs.Prelude.{◌≡◌, ◌<◌, ◌≤◌, ◌+◌, find, None, Some, IfSome, length};
 ghost use Rattle.std.specs.Ordering.{nat_cmp};
 ghost use Rattle.qm_model.specs.Consistent.{IsConsistent, IsInOrder};
 ghost use Rattle.qm_model.specs.Find.{entry_numbered};
@@ -8,16 +8,19 @@ ghost use Rattle.qm_model.specs.Replying.{replied};
 ghost use Rattle.qm_model.specs.Standing.{with_queue};
 ghost use Rattle.qm_model.specs.Stopping.{queue_stopped, stopped_queue, entries_on_stop, entry_aborting};
 ghost use Rattle.qm_state.specs.Image.{system_of};
+ghost use Rattle.qm_state.specs.Keeping.{KeepsOthers};
+ghost use Rattle.qm_state.specs.Timers.{is_at_home, moment_left};
+ghost use Rattle.qm_timers.specs.Timers.{with_timer, without};
 ghost use Rattle.qm_state.specs.Preparing.{queue_put, queue_changed, entry_replaced, entry_removed, run_ended, with_left, CanReplace, IsLeftOf};
 
-use crate::due::earliest;
+use crate::due::moment_in;
 use crate::ending::{Reported, after_report, end_act, report_act};
 use crate::image::Image;
 use crate::leaving::{Leaving, leave_files};
 use crate::stopping::state_on_stop;
 use qm_kinds::{Act, Entry, Fate, Moment, Name, Queue, QueueState, StopMode};
 use qm_queues::Settings;
-use qm_sched::Parts;
+use qm_sched::{Parts, see_entries};
 
 // The queue has the state that a stop leaves, if it is there.
 fn set_stopped(parts: &mut Parts, name: &Name, how: StopMode)
@@ -37,6 +40,16 @@ fn reset_jobs(parts: &mut Parts, name: &Name, how: StopMode)
     match how {
         StopMode::Pause | StopMode::Next => {}
         StopMode::Reset => parts.reset_queue(name),
+    }
+}
+
+// Whether the entry of a number has this queue as its home.
+fn is_at_home(parts: &Parts, number: u32, home: &Name) -> bool
+    ensures { result ≡ is_at_home number home.now parts.now.entries }
+{
+    match parts.entry(number) {
+        None => false,
+        Some(entry) => entry.home == *home,
     }
 }
 
@@ -101,17 +114,23 @@ impl Image {
         ensures done { queue_deleted (system_of self.old) name.now ≡ replied (system_of self.new) result }
         ensures room { self.new.parts.spare_runs ≡ self.old.parts.spare_runs }
     {
+        see_entries(&self.parts);
         leave_files(&mut self.spool, self.parts.entries(), &Leaving::Of(name));
+        let parts = &self.parts;
+        self.timers
+            .retain(|number| !is_at_home(parts, number, name));
         self.parts.remove_of_home(name);
         self.parts.remove_queue(name);
         Act::QueueDeleted { queue: *name }
     }
 
-    // The entry goes, if it is there, and doesn't name its file any more.
+    // The entry goes, if it is there, with its timer, and doesn't name its file any more.
     #[tactic(auto, unfolding(crate::specs::Image::system_of))]
     fn take_out(&mut self, number: u32)
         ensures rows { system_of self.new ≡ with_left number None (system_of self.old) }
-        ensures room { self.old.parts.spare_runs ≤ self.new.parts.spare_runs }
+        ensures others { KeepsOthers self.old self.new }
+        ensures timers { self.new.timers.timers ≡ without number self.old.timers.timers }
+        ensures room { self.new.timers.spare + length self.new.timers.timers ≡ self.old.timers.spare + length self.old.timers.timers }
     {
         let Some(entry) = self.parts.entry(number) else {
             return;
@@ -119,6 +138,7 @@ impl Image {
         let file = entry.file;
         let _ = self.parts.remove_entry(number);
         self.spool.leave(&file);
+        self.timers.set(number, None);
     }
 
     /// The entry goes.
@@ -132,18 +152,22 @@ impl Image {
         Act::EntryDeleted { entry }
     }
 
-    // What is left of an entry takes its place, or it goes. Each entry that is changed, but for what is due, comes by here.
+    /// What is left of an entry takes its place, with the timer that it wants, or it goes. Each entry that is changed, but for
+    /// what is due in one pass, comes by here.
     #[tactic(auto, unfolding(crate::specs::Image::system_of))]
-    fn leave(&mut self, number: u32, left: Option<Entry>)
+    pub(crate) fn leave(&mut self, number: u32, left: Option<Entry>)
         requires order { IsInOrder nat_cmp (λ e. e.number) self.old.parts.entries }
         requires left { IfSome left (λ e. IsLeftOf e number (entry_numbered number self.old.parts.entries)) }
+        requires timer { IfSome (moment_left left) (λ _. 0 < self.old.timers.spare) }
         ensures rows { system_of self.new ≡ with_left number left (system_of self.old) }
-        ensures room { self.old.parts.spare_runs ≤ self.new.parts.spare_runs }
+        ensures others { KeepsOthers self.old self.new }
+        ensures timers { self.new.timers.timers ≡ with_timer number (moment_left left) self.old.timers.timers }
+        ensures room { self.new.timers.spare + length self.new.timers.timers ≡ self.old.timers.spare + length self.old.timers.timers }
     {
         match left {
             None => self.take_out(number),
             Some(entry) => {
-                self.next_due = earliest(self.next_due, &entry.state);
+                self.timers.set(number, moment_in(&entry.state));
                 self.parts.replace_entry(entry);
             }
         }
@@ -171,7 +195,8 @@ impl Image {
     #[tactic(auto, unfolding(crate::specs::Image::system_of))]
     #[inline(never)]
     pub(crate) fn end_run(&mut self, now: Moment, node: &Name, run: u64, status: u32) -> Act
-        requires { IsConsistent (system_of self.old) }
+        requires sound { IsConsistent (system_of self.old) }
+        requires timer { 0 < self.old.timers.spare }
         ensures done { run_ended (system_of self.old) now node.now run status ≡ replied (system_of self.new) result }
         ensures room { self.old.parts.spare_runs ≤ self.new.parts.spare_runs }
     {

@@ -1,5 +1,5 @@
 // The image of a system's rows.
-ghost use Rattle.std.specs.Prelude.{◌≡◌, IfOk, OnOk, [], ◌∷◌, ◌++◌, ◌<◌, All, IsSome};
+ghost use Rattle.std.specs.Prelude.{◌≡◌, ℕ, IfOk, OnOk, [], ◌∷◌, ◌++◌, ◌<◌, ◌==◌, All, IsSome, if◌then◌else◌};
 ghost use Rattle.qm_kinds.specs.declared.limits.TheConstants.{ENTRIES_LIMIT};
 ghost use Rattle.qm_model.specs.Consistent.{IsConsistent};
 ghost use Rattle.qm_model.specs.Find.{file_named};
@@ -8,14 +8,17 @@ ghost use Rattle.qm_spool.specs.Kept.{count_of};
 ghost use Rattle.qm_spool.specs.Counts.{CountsOf};
 ghost use Rattle.qm_state.specs.Image.{system_of};
 ghost use Rattle.qm_state.specs.Restoring.{HasOwnRun, DifferInEntries, IsNamedOnceMore};
+ghost use Rattle.qm_state.specs.Timers.{AreTimersOf, moment_in};
+ghost use Rattle.qm_timers.specs.Timers.{moment_of};
 
-use crate::due::first_due;
+use crate::due::moment_in;
 use crate::image::Image;
 use qm_forms::FormTable;
 use qm_kinds::{Entry, Queue, Seq, System};
 use qm_queues::QueueTable;
 use qm_sched::Parts;
 use qm_spool::Spool;
+use qm_timers::Timers;
 use std::alloc::{AllocError, Global};
 
 // A copy of a queue.
@@ -64,8 +67,13 @@ fn tables_of(alloc: Global, system: &System) -> Result<Parts, AllocError>
     Ok(Parts::new(alloc, nodes, forms, queues, system.next_run))
 }
 
-// Puts one entry more into tables, and counts that it names its file.
-fn restore_one(parts: &mut Parts, spool: &mut Spool, entry: &Entry) -> Result<(), AllocError>
+// Puts one entry more into tables, with the timer that it wants, and counts that it names its file.
+fn restore_one(
+    parts: &mut Parts,
+    spool: &mut Spool,
+    timers: &mut Timers,
+    entry: &Entry,
+) -> Result<(), AllocError>
     requires there { IsSome (file_named entry.now.file spool.old.files) }
     requires few { count_of entry.now.file spool.old.counts < ENTRIES_LIMIT }
     requires last { All (λ e. e.number < entry.now.number) parts.old.entries }
@@ -74,26 +82,36 @@ fn restore_one(parts: &mut Parts, spool: &mut Spool, entry: &Entry) -> Result<()
     ensures tables { DifferInEntries parts.old parts.new }
     ensures files { spool.new ≡ record spool.old { counts = spool.new.counts } }
     ensures counts { OnOk result (IsNamedOnceMore entry.now.file spool.old.counts spool.new.counts) }
+    ensures timers { OnOk result ((number : ℕ) → moment_of number timers.new.timers ≡ (if entry.now.number == number then moment_in entry.now.state else moment_of number timers.old.timers)) }
 {
+    timers.reserve()?;
     parts.reserve_entry()?;
     parts.reserve_runs(1)?;
+    timers.set(entry.number, moment_in(&entry.state));
     spool.enter(&entry.file);
     parts.restore_entry(*entry);
     Ok(())
 }
 
-// Puts the entries of a system into its tables, and counts which files they name.
-fn restore_entries(parts: &mut Parts, spool: &mut Spool, system: &System) -> Result<(), AllocError>
+// Puts the entries of a system into its tables, with the timers that they want, and counts which files they name.
+fn restore_entries(
+    parts: &mut Parts,
+    spool: &mut Spool,
+    timers: &mut Timers,
+    system: &System,
+) -> Result<(), AllocError>
     requires consistent { IsConsistent system.now }
     requires tables { with_tables system.now parts.old ≡ record system.now { entries = [] } }
     requires files { spool.old.files ≡ system.now.files }
     requires unnamed { CountsOf [] spool.old.counts }
+    requires untimed { AreTimersOf [] timers.old.timers }
     ensures tables { OnOk result (with_tables system.now parts.new ≡ system.now) }
     ensures files { spool.new.files ≡ spool.old.files }
     ensures counts { OnOk result (CountsOf parts.new.entries spool.new.counts) }
+    ensures timers { OnOk result (AreTimersOf parts.new.entries timers.new.timers) }
 {
     for entry in system.entries.as_slice() {
-        restore_one(parts, spool, entry)?;
+        restore_one(parts, spool, timers, entry)?;
     }
     Ok(())
 }
@@ -115,14 +133,14 @@ impl Image {
         let mut parts = tables_of(alloc, system)?;
         let mut spool = Spool::from_files(alloc, system.files.as_slice())?;
         let may = Seq::of(Vec::from_slice(alloc, system.may.as_slice())?);
-        restore_entries(&mut parts, &mut spool, system)?;
-        let next_due = first_due(parts.entries());
+        let mut timers = Timers::new(alloc);
+        restore_entries(&mut parts, &mut spool, &mut timers, system)?;
         Ok(Image {
             alloc,
             parts,
             spool,
             may,
-            next_due,
+            timers,
             next_entry: next_number(system),
             last: system.last,
         })

@@ -14,7 +14,7 @@ ghost use Rattle.qm_state.specs.Deciding.{Makes, PreparesAt};
 ghost use Rattle.qm_state.specs.Image.{system_of};
 ghost use Rattle.qm_state.specs.Preparing.{found, entered, IsNewEntry, IsReady};
 
-use crate::due::earliest;
+use crate::due::moment_in;
 use crate::image::Image;
 use crate::kinds::is_other_kind;
 use crate::prepared::Change;
@@ -162,12 +162,14 @@ impl Image {
         }
     }
 
-    // Makes room for one entry more.
+    // Makes room for one entry more, and a timer.
     #[tactic(auto, unfolding(crate::specs::Image::system_of))]
     fn reserve_entry(&mut self) -> Result<(), AllocError>
         ensures rows { system_of self.new ≡ system_of self.old }
         ensures room { OnOk result (0 < self.new.parts.spare_entries) }
+        ensures timer { OnOk result (0 < self.new.timers.spare) }
     {
+        self.timers.reserve()?;
         self.parts.reserve_entry()
     }
 
@@ -177,6 +179,7 @@ impl Image {
     fn new_entry<'a>(&self, now: Moment, job: &Job) -> Change<'a>
         requires accepted { submit_refusal (system_of self.now) job.now ≡ None }
         requires room { 0 < self.now.parts.spare_entries }
+        requires timer { 0 < self.now.timers.spare }
         ensures ready { IsReady self.now result }
         ensures made { (node : List ℕ) → Makes now node (request.Submit job.now) (found now (system_of self.now)) result }
     {
@@ -215,7 +218,7 @@ impl Image {
         ensures room { self.new.parts.spare_runs ≡ self.old.parts.spare_runs }
     {
         let act = submitted(&entry);
-        self.next_due = earliest(self.next_due, &entry.state);
+        self.timers.set(entry.number, moment_in(&entry.state));
         self.next_entry += 1;
         self.spool.enter(&entry.file);
         self.parts.insert_entry(entry);

@@ -4,8 +4,8 @@ use Rattle.qm_model.specs.Consistent.{IsConsistent}
 use Rattle.qm_sched.specs.Tables.{Tables}
 use Rattle.qm_spool.specs.Counts.{CountsOf}
 use Rattle.qm_state.proofs.Ready.{ready_found}
-use Rattle.qm_state.proofs.Committed.{few_starts, is_done, settled_counts, settled_waits}
-use Rattle.qm_state.proofs.Entries.{Waits}
+use Rattle.qm_state.proofs.Committed.{few_starts, is_done, idle_sound, settled_counts, settled_timers}
+use Rattle.qm_state.specs.Timers.{AreTimersOf}
 use Rattle.qm_state.specs.Image.{system_of}
 use Rattle.qm_state.specs.Preparing.{made}
 use Rattle.qm_state.proofs.image.Image.commit.Goals as goal
@@ -15,7 +15,7 @@ make-act-requires-clause-sound c = subst IsConsistent (sym c.reach.ensures.rows)
 
 pub make-act-requires-clause-ready : goal.make-act-requires-clause-ready
 make-act-requires-clause-ready c =
-    ready_found c.args.prepared.at c.args.self.now c.reach.new.self c.reach.ensures.rows c.reach.ensures.files c.reach.ensures.tables c.args.prepared.change c.requires.prepared.ready
+    ready_found c.args.prepared.at c.args.self.now c.reach.new.self c.reach.ensures.rows c.reach.ensures.others.files c.reach.ensures.others.tables c.reach.ensures.room c.args.prepared.change c.requires.prepared.ready
 
 pub settle-requires-clause-room : goal.settle-requires-clause-room
 settle-requires-clause-room c =
@@ -25,7 +25,7 @@ settle-requires-clause-room c =
 pub settle-requires-clause-runs : goal.settle-requires-clause-runs
 settle-requires-clause-runs c =
     let room : length (made c.args.prepared (system_of c.args.self.now)).reply.started ≤ c.stop_idle.new.self.spare_runs =
-    omega (arith, c.requires.prepared.run_room, ap (λ (t : Tables). t.spare_runs) c.reach.ensures.tables, c.make-act.ensures.room, ap (λ (t : Tables). t.spare_runs) c.stop_idle.ensures) in
+    omega (arith, c.requires.prepared.run_room, c.reach.ensures.others.runs, c.make-act.ensures.room, ap (λ (t : Tables). t.spare_runs) c.stop_idle.ensures) in
     few_starts c.args.prepared c.args.self.now c.reach.new.self c.make-act.new.self c.make-act.result c.stop_idle.new.self c.reach.ensures.rows c.make-act.ensures.done c.stop_idle.ensures
     c.stop_idle.new.self.spare_runs room
 
@@ -35,8 +35,9 @@ invariant_of-self c =
     record {
       counted = settled_counts c.make-act.new.self.spool.counts (system_of c.make-act.new.self) c.stop_idle.new.self c.settle.new.out.items c.settle.new.parts (c.settle.ensures.settled (system_of c.make-act.new.self))
           (subst (λ (es : List Entry). CountsOf es c.make-act.new.self.spool.counts) same c.make-act.new.self.counted);
-      waits = settled_waits c.make-act.new.self.next_due (system_of c.make-act.new.self) c.stop_idle.new.self c.settle.new.out.items c.settle.new.parts (c.settle.ensures.settled (system_of c.make-act.new.self))
-          (subst (λ (es : List Entry). Waits c.make-act.new.self.next_due es) same c.make-act.new.self.waits);
+      timed = settled_timers c.make-act.new.self.timers.timers (system_of c.make-act.new.self) c.stop_idle.new.self c.settle.new.out.items c.settle.new.parts (c.settle.ensures.settled (system_of c.make-act.new.self))
+          (idle_sound c.args.prepared c.args.self.now c.reach.new.self c.make-act.new.self c.make-act.result c.stop_idle.new.self c.reach.ensures.rows c.make-act.ensures.done c.stop_idle.ensures c.requires.prepared.sound)
+          (subst (λ (es : List Entry). AreTimersOf es c.make-act.new.self.timers.timers) same c.make-act.new.self.timed);
     }
 
 pub returns : goal.returns

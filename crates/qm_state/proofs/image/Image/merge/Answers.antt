@@ -2,7 +2,7 @@ use Rattle.std.proofs.Common.{arith}
 use Rattle.std.proofs.lemmas.List.Sums.{count_by-le-length}
 use Rattle.qm_model.specs.Merging.{waits_in}
 use Rattle.qm_state.specs.Image.{system_of}
-use Rattle.qm_state.proofs.Entries.{waits_moved, counts_moved}
+use Rattle.qm_state.proofs.Entries.{timers_moved, counts_moved}
 use Rattle.qm_state.proofs.image.Image.merge.Goals as goal
 
 pub overflow_cast-result : goal.overflow_cast-result
@@ -14,5 +14,5 @@ pub invariant_of-self : goal.invariant_of-self
 invariant_of-self c =
     rw c.merge-moved.ensures.entries record {
       counted = counts_moved c.args.to.now c.args.from.now c.args.self.now.parts.entries c.args.self.now.spool.counts c.args.self.now.counted;
-      waits = waits_moved c.args.self.now.next_due c.args.to.now c.args.from.now c.args.self.now.parts.entries c.args.self.now.waits;
+      timed = timers_moved c.args.to.now c.args.from.now c.args.self.now.parts.entries c.args.self.now.timers.timers c.args.self.now.timed;
     }

@@ -19,5 +19,6 @@ returns-clause-ready c =
       next = number_left c.args.self.now.next_entry (omega (arith, c.next_number-number.ensures.value, c.next_number-number.ensures.fits)) holds.number;
       few = holds.few;
       room = c.requires.room;
+      timer = c.requires.timer;
       file = subst (λ (n : FileName). IsSome (file_named n c.args.self.now.spool.files)) (sym (ap (λ (x : Entry). x.file) e)) holds.there;
     }

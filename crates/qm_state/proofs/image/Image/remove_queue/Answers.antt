@@ -1,11 +1,10 @@
-use Rattle.std.proofs.Common.{◌≡◌, ◌∙◌, not, List, filter, ap, sym, subst, true}
+use Rattle.std.proofs.Common.{◌≡◌, ◌∙◌, not, List, filter, ap, sym, subst}
 use Rattle.std.specs.Str.{bytes_eq}
-use Rattle.std.proofs.lemmas.List.Elements.{All-filter}
 use Rattle.qm_kinds.specs.declared.entry.Entry.{Entry}
 use Rattle.qm_sched.specs.Tables.{Tables}
 use Rattle.qm_spool.specs.Counts.{CountsOf}
-use Rattle.qm_state.proofs.Entries.{Waits}
-use Rattle.qm_state.specs.Due.{is_due_from}
+use Rattle.qm_state.specs.Timers.{AreTimersOf}
+use Rattle.qm_state.proofs.Timed.{timers_elsewhere}
 use Rattle.qm_state.proofs.image.Image.remove_queue.Goals as goal
 
 pub invariant_of-self : goal.invariant_of-self
@@ -15,6 +14,6 @@ invariant_of-self c =
     record {
       counted = subst (λ (es : List Entry). CountsOf es c.leave_files.new.spool.counts)
           (ap (λ (es : List Entry). filter (λ (e : Entry). not (bytes_eq e.home c.args.name.now)) es) c.entries.ensures ∙ sym left) c.leave_files.ensures.counts;
-      waits = subst (λ (es : List Entry). Waits c.args.self.now.next_due es) (sym left)
-          (All-filter (λ (e : Entry). not (bytes_eq e.home c.args.name.now)) (λ (e : Entry). is_due_from c.args.self.now.next_due e.state ≡ true) c.args.self.now.parts.entries c.args.self.now.waits);
+      timed = subst (λ (es : List Entry). AreTimersOf es c.retain.new.self.timers) (sym left)
+          (timers_elsewhere c.args.name.now c.args.self.now.parts.entries c.args.self.now.timers.timers c.retain.new.self.timers c.see_entries.ensures c.args.self.now.timed c.retain.ensures.each);
     }

@@ -1,11 +1,17 @@
 use Rattle.std.proofs.Common.{refl}
 use Rattle.qm_model.specs.Find.{entry_numbered}
-use Rattle.qm_state.proofs.Changed.{file_is_kept}
+use Rattle.qm_state.proofs.Changed.{file_is_kept, waiting_there}
+use Rattle.qm_state.specs.Timers.{moment_in}
+use Rattle.qm_state.proofs.Timed.{room_for}
 use Rattle.qm_state.proofs.image.Image.replace_entry.Goals as goal
 
 pub leave-requires-clause-left : goal.leave-requires-clause-left
 leave-requires-clause-left c = record {
+  there = waiting_there c.args.entry.number c.args.self.now.parts.entries c.requires.ready.waits;
   number_stays = refl;
   file_stays = file_is_kept c.args.entry c.args.self.now.parts.entries (entry_numbered c.args.entry.number c.args.self.now.parts.entries) refl c.requires.ready.file;
   idle = c.requires.ready.idle;
 }
+
+pub leave-requires-clause-timer : goal.leave-requires-clause-timer
+leave-requires-clause-timer c = room_for c.args.self.now.timers.spare (moment_in c.args.entry.state) c.requires.ready.timer

@@ -1,7 +1,7 @@
 use Rattle.std.proofs.Common.{◌≡◌, ◌∙◌, ap}
 use Rattle.qm_model.specs.Stopping.{entries_on_stop}
 use Rattle.qm_sched.specs.Tables.{Tables}
-use Rattle.qm_state.proofs.Stopped.{waits_on_stop, counts_on_stop}
+use Rattle.qm_state.proofs.Stopped.{timers_on_stop, counts_on_stop}
 use Rattle.qm_state.proofs.image.Image.stop_queue.Goals as goal
 
 pub invariant_of-self : goal.invariant_of-self
@@ -10,5 +10,5 @@ invariant_of-self c =
     ap (λ (t : Tables). t.entries) c.reset_jobs.ensures ∙ ap (λ (t : Tables). entries_on_stop c.args.how c.args.name.now t.entries) c.set_stopped.ensures in
     rw same record {
       counted = counts_on_stop c.args.how c.args.name.now c.args.self.now.parts.entries c.args.self.now.spool.counts c.args.self.now.counted;
-      waits = waits_on_stop c.args.self.now.next_due c.args.how c.args.name.now c.args.self.now.parts.entries c.args.self.now.waits;
+      timed = timers_on_stop c.args.how c.args.name.now c.args.self.now.parts.entries c.args.self.now.timers.timers c.args.self.now.timed;
     }

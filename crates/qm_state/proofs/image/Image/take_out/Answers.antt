@@ -3,7 +3,8 @@ use Rattle.qm_kinds.specs.declared.entry.Entry.{Entry}
 use Rattle.qm_sched.proofs.Left.{absent_stays}
 use Rattle.qm_spool.proofs.Counting.{counts_gone}
 use Rattle.qm_state.specs.Image.{system_of}
-use Rattle.qm_state.proofs.Entries.{waits_without, found_is_counted}
+use Rattle.qm_state.proofs.Entries.{found_is_counted}
+use Rattle.qm_state.proofs.Timed.{timers_without, no_timer}
 use Rattle.qm_state.proofs.image.Image.take_out.Goals as goal
 
 pub leave-requires : goal.leave-requires
@@ -14,10 +15,13 @@ pub invariant_of-self : goal.invariant_of-self
 invariant_of-self c =
     rw c.remove_entry.ensures.tables record {
       counted = counts_gone c.args.number c.args.self.now.parts.entries c.in-Some.entry.now c.args.self.now.spool.counts c.leave.new.self.counts c.in-Some.ensures.in_order (sym c.in-Some.ensures.found) c.args.self.now.counted c.leave.ensures.counts;
-      waits = waits_without c.args.self.now.next_due c.args.number c.args.self.now.parts.entries c.args.self.now.waits;
+      timed = timers_without c.args.number c.args.self.now.parts.entries c.args.self.now.timers.timers c.set.new.self.timers c.args.self.now.timed c.set.ensures.each;
     }
 
 pub returns-in_default-clause-rows : goal.returns-in_default-clause-rows
 unfolding system_of
 returns-in_default-clause-rows c =
     rw (absent_stays c.args.number (λ (e : Entry). None) c.args.self.now.parts.entries (sym c.in_default.ensures.found)) refl
+
+pub returns-in_default-clause-timers : goal.returns-in_default-clause-timers
+returns-in_default-clause-timers c = no_timer c.args.number c.args.self.now.parts.entries c.args.self.now.timers.timers c.args.self.now.timed (sym c.in_default.ensures.found)
