@@ -15,15 +15,17 @@ use Rattle.qm_manager.specs.Site.{Site, IsLawful, IsSite, IsSiteOf}
 use Rattle.qm_manager.proofs.Sites.{site_at_rest, site_not_damaged, site_kept}
 use Rattle.qm_manager.specs.Opened.{IsOpenFault}
 use Rattle.qm_manager.specs.Manager.{site_of, node_of, disk_of, IsReady}
-use Rattle.qm_program.specs.Transcript.{Step, steps_of}
-use Rattle.qm_program.specs.Course.{Outside, MakesSteps, StopsWithin, ServesNothing}
-use Rattle.qm_program.specs.Running.{IsRead, Reads, OfScript, HasScript, IsFound, Serves, ServesTo, RunsTo, OthersStay, Counts, IsFaulty, IsOfAnother, HasCause, IsWithoutFault, HasSoundScript}
+use Rattle.qm_program.specs.Transcript.{steps_of}
+use Rattle.qm_program.specs.Course.{Outside, AnswersLines, StopsWithin, ServesNothing}
+use Rattle.qm_program.specs.Running.{IsRead, Reads, OfScript, HasScript, IsFound, Serves, ServesTo, RunsTo, MakesTo, Makes, Does, OthersStay, Counts, IsFaulty, IsOfAnother, HasCause, IsWithoutFault, HasSoundScript}
 use Rattle.qm_program.specs.Serving.{CountsSink}
 use Rattle.qm_program.specs.Ends.{end_of, end_of_opening}
 use Rattle.qm_program.specs.declared.script.TheConstants.{SCRIPT_BYTES}
 use Rattle.qm_program.specs.declared.outcome.End.{End}
 use Rattle.qm_program.specs.declared.outcome.End.TheVariants as ends
 use Rattle.qm_program.specs.declared.serve.ServeEnd.{ServeEnd}
+use Rattle.qm_program.specs.declared.task.Task.{Task}
+use Rattle.qm_program.specs.declared.task.Task.TheVariants.{Init}
 use Rattle.qm_program.specs.declared.serve.ServeEnd.TheVariants as serve
 use Rattle.qm_program.proofs.Going.{keeps_same, steps_are_quiet, steps_keep_others, others_of, others_on, looks_keep_others}
 
@@ -45,15 +47,16 @@ module _ {D : Type 0} (m : Meaning D) where
   opening_cause Faulty source sink old new (opening.Damaged file place) told counts = (same_counts source sink (m.faults old) sink (m.faults new) refl (counts.quiet (λ is. cc)), told)
   opening_cause Faulty source sink old new opening.NoMemory told counts = same_counts source sink (m.faults old) sink (m.faults new) refl (counts.quiet (λ is. cc))
 
-  looked_at : (old new : D) (taken : Option (List ℕ)) → OnlyLooks m old new → ServesNothing m (record { disk = old; taken = taken }) (record { disk = new; taken = taken })
-  looked_at old new taken looks = record { disk = looks; taken = keeps_same taken }
+  looked_at : (old new : D) (taken told : Option (List ℕ)) → OnlyLooks m old new
+      → ServesNothing m (record { disk = old; taken = taken; told = told }) (record { disk = new; taken = taken; told = told })
+  looked_at old new taken told looks = record { disk = looks; taken = keeps_same taken; told = refl }
 
-  pub opening_serves : (lines : List ScriptLine) (old new : D) (taken : Option (List ℕ)) (f : OpenFault) → (IsTrue m.tells → IsOpenFault (m.seen old 1) f) → OnlyLooks m old new
-      → ServesTo m lines (record { disk = old; taken = taken }) (record { disk = new; taken = taken }) (end_of_opening f)
-  opening_serves lines old new taken opening.Disk told looks = inl (looked_at old new taken looks)
-  opening_serves lines old new taken (opening.Unformatted byte) told looks = looked_at old new taken looks
-  opening_serves lines old new taken (opening.Damaged file place) told looks = looked_at old new taken looks
-  opening_serves lines old new taken opening.NoMemory told looks = inl (looked_at old new taken looks, told)
+  pub opening_serves : (lines : List ScriptLine) (old new : D) (taken told : Option (List ℕ)) (f : OpenFault) → (IsTrue m.tells → IsOpenFault (m.seen old 1) f) → OnlyLooks m old new
+      → ServesTo m lines (record { disk = old; taken = taken; told = told }) (record { disk = new; taken = taken; told = told }) (end_of_opening f)
+  opening_serves lines old new taken told opening.Disk is looks = inl (looked_at old new taken told looks)
+  opening_serves lines old new taken told (opening.Unformatted byte) is looks = looked_at old new taken told looks
+  opening_serves lines old new taken told (opening.Damaged file place) is looks = looked_at old new taken told looks
+  opening_serves lines old new taken told opening.NoMemory is looks = inl (looked_at old new taken told looks, is)
 
   -- ---- a queue file that was made
 
@@ -76,14 +79,21 @@ module _ {D : Type 0} (m : Meaning D) where
       (refl, record { site = site_of manager; node = node_of manager; found = found_site; another = other }),
     )
 
-    pub another_serves : (taken : Option (List ℕ)) → ServesTo m lines (record { disk = old; taken = taken }) (record { disk = disk_of manager; taken = taken }) (ends.Script 0 Node)
-    another_serves taken = (looked_at old (disk_of manager) taken looks, refl)
+    pub another_serves : (taken told : Option (List ℕ))
+        → ServesTo m lines (record { disk = old; taken = taken; told = told }) (record { disk = disk_of manager; taken = taken; told = told }) (ends.Script 0 Node)
+    another_serves taken told = (looked_at old (disk_of manager) taken told looks, refl)
 
-    module _ (for_node : are_of_node (node_of manager) lines ≡ true) (taken now : Option (List ℕ)) (new : D) where
+    module _ (for_node : are_of_node (node_of manager) lines ≡ true) (taken now told later : Option (List ℕ)) (new : D) where
+      -- what was opened, and how it was left
+      abbrev begins : Outside D
+      begins = record { disk = disk_of manager; taken = taken; told = told }
+
+      abbrev leaves : Outside D
+      leaves = record { disk = new; taken = now; told = later }
+
       -- what was opened is served so
-      served : (goes : Site → List Step → Outside D → Outside D → Type 0)
-          → goes (site_of manager) (steps_of (site_of manager) lines) (record { disk = disk_of manager; taken = taken }) (record { disk = new; taken = now })
-          → Serves m goes (record { disk = old; taken = taken }) (record { disk = new; taken = now }) lines
+      served : (goes : Site → List ScriptLine → Outside D → Outside D → Type 0) → goes (site_of manager) lines begins leaves
+          → Serves m goes (record { disk = old; taken = taken; told = told }) leaves lines
       served goes serving = record {
         site = site_of manager;
         node = node_of manager;
@@ -96,30 +106,29 @@ module _ {D : Type 0} (m : Meaning D) where
         serving = serving;
       }
 
-      pub all_served : MakesSteps m (site_of manager) (steps_of (site_of manager) lines) (record { disk = disk_of manager; taken = taken }) (record { disk = new; taken = now })
-          → ServesTo m lines (record { disk = old; taken = taken }) (record { disk = new; taken = now }) ends.Ok
-      all_served made = served (MakesSteps m) made
+      pub all_served : AnswersLines m (site_of manager) lines begins leaves → ServesTo m lines (record { disk = old; taken = taken; told = told }) leaves ends.Ok
+      all_served made = served (AnswersLines m) made
 
-      pub all_cause : (Faulty : ScriptKind → Type 0) (source sink more : ℕ) → more ≡ sink
-          → MakesSteps m (site_of manager) (steps_of (site_of manager) lines) (record { disk = disk_of manager; taken = taken }) (record { disk = new; taken = now })
+      pub all_cause : (Faulty : ScriptKind → Type 0) (source sink more : ℕ) → more ≡ sink → AnswersLines m (site_of manager) lines begins leaves
           → HasCause m.tells (m.seen old 1) Faulty (counts_of source sink (m.faults old)) (counts_of source more (m.faults new)) ends.Ok
       all_cause Faulty source sink more same made =
-          same_counts source sink (m.faults old) more (m.faults new) same (steps_are_quiet m (site_of manager) (steps_of (site_of manager) lines) _ _ made ∙ quiet)
+          same_counts source sink (m.faults old) more (m.faults new) same (steps_are_quiet m (site_of manager) (steps_of (site_of manager) made.answered) begins leaves made.made ∙ quiet)
 
-      pub all_keep_others : MakesSteps m (site_of manager) (steps_of (site_of manager) lines) (record { disk = disk_of manager; taken = taken }) (record { disk = new; taken = now }) → OthersStay m old new
+      pub all_keep_others : AnswersLines m (site_of manager) lines begins leaves → OthersStay m old new
       all_keep_others made =
-          others_on m old (disk_of manager) new (looks_keep_others m old (disk_of manager) looks) (steps_keep_others m (site_of manager) (steps_of (site_of manager) lines) _ _ made)
+          others_on m old (disk_of manager) new (looks_keep_others m old (disk_of manager) looks)
+          (steps_keep_others m (site_of manager) (steps_of (site_of manager) made.answered) begins leaves made.made)
 
       abbrev StopsSo : End → Type 0
-      StopsSo end = StopsWithin m end (site_of manager) (steps_of (site_of manager) lines) (record { disk = disk_of manager; taken = taken }) (record { disk = new; taken = now })
+      StopsSo end = StopsWithin m end (site_of manager) lines begins leaves
 
-      pub stopped_serves : (end : ServeEnd) → StopsSo (end_of end) → ServesTo m lines (record { disk = old; taken = taken }) (record { disk = new; taken = now }) (end_of end)
+      pub stopped_serves : (end : ServeEnd) → StopsSo (end_of end) → ServesTo m lines (record { disk = old; taken = taken; told = told }) leaves (end_of end)
       stopped_serves serve.Journal stops = inr (served (StopsWithin m ends.Journal) stops)
       stopped_serves serve.Write stops = served (StopsWithin m ends.Write) stops
       stopped_serves serve.NoMemory stops = inr (served (StopsWithin m ends.NoMemory) stops)
 
       quiet_before : (end : End) (stops : StopsSo end) → m.faults stops.next.disk ≡ m.faults old
-      quiet_before end stops = steps_are_quiet m (site_of manager) stops.made _ _ stops.so_far ∙ quiet
+      quiet_before end stops = steps_are_quiet m (site_of manager) (steps_of (site_of manager) stops.answered) begins stops.next stops.so_far ∙ quiet
 
       pub stopped_cause : (Faulty : ScriptKind → Type 0) (source sink more : ℕ) (end : ServeEnd) → CountsSink {T = ℕ} sink more (Err end) → StopsSo (end_of end)
           → HasCause m.tells (m.seen old 1) Faulty (counts_of source sink (m.faults old)) (counts_of source more (m.faults new)) (end_of end)
@@ -133,7 +142,7 @@ module _ {D : Type 0} (m : Meaning D) where
       pub stopped_keeps_others : (end : End) → StopsSo end → OthersStay m old new
       stopped_keeps_others end stops =
           others_on m old (disk_of manager) new (looks_keep_others m old (disk_of manager) looks)
-          (others_on m (disk_of manager) stops.next.disk new (steps_keep_others m (site_of manager) stops.made _ _ stops.so_far) (others_of m stops.next.disk new stops.stops.disk.others))
+          (others_on m (disk_of manager) stops.next.disk new (steps_keep_others m (site_of manager) (steps_of (site_of manager) stops.answered) begins stops.next stops.so_far) (others_of m stops.next.disk new stops.stops.disk.others))
 
   -- ---- a script
 
@@ -143,6 +152,15 @@ module _ {D : Type 0} (m : Meaning D) where
   -- no run answers that the words ask for nothing
   pub never_usage : (left : Option (List ℕ)) (old new : Outside D) (end : End) → RunsTo m left old new end → end ≡ ends.Usage → ⊥
   never_usage left old new end runs is = subst (λ (e : End). RunsTo m left old new e) is runs
+
+  -- what the making of a queue file does is done where the words ask for it
+  pub makes_as_asked : {S C : Type 0} (remaining : S → Option (List ℕ)) (asked : Option Task) (node : List ℕ) → asked ≡ Some (Init node) → (source : S) (clock : C) (old new : Outside D) (end : End)
+      → Makes m node old new end → Does m remaining asked source source clock clock old new end
+  makes_as_asked remaining asked node is source clock old new end makes = subst (λ (o : Option Task). Does m remaining o source source clock clock old new end) (sym is) (refl, refl, makes)
+
+  -- nor the making of a queue file
+  pub never_usage_made : (node : List ℕ) (old new : Outside D) (end : End) → Makes m node old new end → end ≡ ends.Usage → ⊥
+  never_usage_made node old new end makes is = subst (λ (e : End). MakesTo m node old new e) is makes.leaves
 
   -- a source whose script was served was read to its end
   pub reads_whole : (left rest : Option (List ℕ)) (lines : List ScriptLine) (old new : Outside D) (end : End) → ServesTo m lines old new end
@@ -187,6 +205,10 @@ module _ {D : Type 0} (m : Meaning D) where
     script_cause tells file old new (ends.Unformatted byte) cause = cause
     script_cause tells file old new (ends.Damaged f place) cause = cause
     script_cause tells file old new ends.NoMemory cause = cause
+
+-- words that ask for something aren't those that ask for nothing
+pub asks_for_something : (asked : Option Task) (task : Task) → asked ≡ Some task → asked ≡ None → ⊥
+asks_for_something asked task some none = cc
 
 -- what was read is a script
 pub is_script : (left : Option (List ℕ)) (text : List ℕ) → IsRead left text → IsOk (script_of text) → HasScript left

@@ -1,20 +1,24 @@
 -- The first script that a newcomer runs, and the lines that it prints; and refusals as they are printed.
-use Rattle.std.proofs.Common.{◌≡◌, ℕ, List, [], ◌∷◌, ◌++◌, Result, Ok, Err, refl}
+use Rattle.std.proofs.Common.{◌≡◌, ℕ, List, [], ◌∷◌, ◌++◌, map, Result, Ok, Err, refl}
 use Rattle.std.specs.Prelude.{codes}
 use Rattle.std.specs.List.{flat_map}
 use Rattle.std.specs.Fmt.{digits}
 use Rattle.qm_kinds.specs.declared.script.ScriptKind.{ScriptKind}
 use Rattle.qm_model.specs.Script.{ScriptLine, script_of}
 use Rattle.qm_manager.specs.Site.{new_site}
-use Rattle.qm_program.specs.Transcript.{transcript}
+use Rattle.qm_program.specs.Transcript.{LineAt, transcript}
 
 -- lines, each ended by a line feed
 abbrev pub lines_of : List (List ℕ) → List ℕ
 lines_of lines = flat_map (λ line. line ++ 10 ∷ []) lines
 
--- what lines print over a new site of node A
+-- these lines, all at one reading of the clock
+abbrev pub all_at : ℕ → List ScriptLine → List LineAt
+all_at reading lines = map (λ line. record { line = line; reading = reading }) lines
+
+-- what lines print over a new site of node A, where the clock stands at 1-JAN-2030 10:00:00.00
 abbrev pub printed_by : Result (List ScriptLine) ScriptKind → List ℕ
-printed_by (Ok lines) = transcript (new_site (codes "A")) lines
+printed_by (Ok lines) = transcript (new_site (codes "A")) (all_at 540020880000 lines)
 printed_by (Err kind) = []
 
 pub first_job : printed_by (script_of (lines_of

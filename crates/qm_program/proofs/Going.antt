@@ -1,6 +1,6 @@
 -- How far serving has come with a script.
 use Rattle.std.proofs.Common.{◌≡◌, ◌<◌, ◌≤◌, ℕ, zero, suc, Bool, true, false, ◌&&◌, List, [], ◌∷◌, ◌++◌, length, take, drop, Option, None, Some, refl, sym, ◌∙◌, ap, subst, append_assoc, ◌+◌, get_or, drop-cons, add-one, arith, length-drop, Err}
-use Rattle.std.proofs.lemmas.List.{append-nil, take-append-drop, drop_all}
+use Rattle.std.proofs.lemmas.List.{append-nil, map-append, take-append-drop, drop_all}
 use Rattle.std.specs.Str.{bytes_eq}
 use Rattle.std.specs.Io.KnownBytes.{Keeps}
 use Rattle.std.proofs.lemmas.Slice.Eq.{bytes_eq-Decides}
@@ -9,8 +9,8 @@ use Rattle.qm_io.specs.Bytes.{TakesPrefix}
 use Rattle.qm_model.specs.Script.{ScriptLine, are_of_node}
 use Rattle.qm_manager.specs.Site.{Site}
 use Rattle.qm_program.specs.Lines.{lines_view, line_view}
-use Rattle.qm_program.specs.Transcript.{Step, turn, step_of, steps_of, site_behind, after}
-use Rattle.qm_program.specs.Course.{Outside, TakesPart, MakesStep, MakesSteps, StopsAtStep, StopsWithin}
+use Rattle.qm_program.specs.Transcript.{Step, LineAt, turn, step_of, steps_of, lines_of, site_behind, after}
+use Rattle.qm_program.specs.Course.{Outside, TakesPart, MakesStep, MakesSteps, StopsAtStep, AnswersLines, StopsWithin}
 use Rattle.qm_program.specs.Running.{OthersStay}
 use Rattle.qm_program.specs.declared.outcome.End.{End}
 use Rattle.qm_program.specs.declared.serve.ServeEnd.{ServeEnd}
@@ -25,15 +25,15 @@ pub site_behind-append : (site : Site) (xs ys : List Step) → site_behind site 
 site_behind-append site [] ys = refl
 site_behind-append site (x ∷ xs) ys = site_behind-append x.after xs ys
 
-pub steps_of-append : (site : Site) (xs ys : List ScriptLine) → steps_of site (xs ++ ys) ≡ steps_of site xs ++ steps_of (after site xs) ys
+pub steps_of-append : (site : Site) (xs ys : List LineAt) → steps_of site (xs ++ ys) ≡ steps_of site xs ++ steps_of (after site xs) ys
 steps_of-append site [] ys = refl
 steps_of-append site (x ∷ xs) ys = ap (λ (steps : List Step). step_of site x ∷ steps) (steps_of-append (turn site x).site xs ys)
 
 -- a line behind others leaves what it leaves of the site behind them
-after_one : (site : Site) (lines : List ScriptLine) (line : ScriptLine) → after site (lines ++ line ∷ []) ≡ (turn (after site lines) line).site
-after_one site lines line =
-    ap (site_behind site) (steps_of-append site lines (line ∷ []))
-    ∙ site_behind-append site (steps_of site lines) (step_of (after site lines) line ∷ [])
+pub after_one : (site : Site) (ls : List LineAt) (l : LineAt) → after site (ls ++ l ∷ []) ≡ (turn (after site ls) l).site
+after_one site ls l =
+    ap (site_behind site) (steps_of-append site ls (l ∷ []))
+    ∙ site_behind-append site (steps_of site ls) (step_of (after site ls) l ∷ [])
 
 module _ {D : Type 0} (m : Meaning D) where
   -- one step more
@@ -42,10 +42,10 @@ module _ {D : Type 0} (m : Meaning D) where
   one_step_more site [] step old mid new so_far one = (new, (subst (λ (o : Outside D). MakesStep m site step o new) so_far one, refl))
   one_step_more site (first ∷ steps) step old mid new so_far one = (so_far.0, (so_far.1.0, one_step_more first.after steps step so_far.0 mid new so_far.1.1 one))
 
-  -- the lines before these made their steps, and left this site
+  -- the lines before these made their steps, each at a reading of its own, and left this site
   pub record Goes (first : Site) (lines : List ScriptLine) (site : Site) (rest : List ScriptLine) (old now : Outside D) : Type 0 where
-    pub answered : List ScriptLine
-    pub are : lines ≡ answered ++ rest
+    pub answered : List LineAt
+    pub are : lines ≡ lines_of answered ++ rest
     pub here : site ≡ after first answered
     pub so_far : MakesSteps m first (steps_of first answered) old now
 
@@ -54,39 +54,44 @@ module _ {D : Type 0} (m : Meaning D) where
 
   module _ (first : Site) (lines : List ScriptLine) (site : Site) (rest : List ScriptLine) (old now : Outside D) (g : Goes first lines site rest old now) where
     -- no line is left
-    pub goes_to_end : rest ≡ [] → MakesSteps m first (steps_of first lines) old now
-    goes_to_end none =
-        let all : g.answered ≡ lines = sym (append-nil g.answered) ∙ ap (λ (r : List ScriptLine). g.answered ++ r) (sym none) ∙ sym g.are in
-        subst (λ (done : List ScriptLine). MakesSteps m first (steps_of first done) old now) all g.so_far
+    pub goes_to_end : rest ≡ [] → AnswersLines m first lines old now
+    goes_to_end none = record {
+      answered = g.answered;
+      are = g.are ∙ ap (λ (r : List ScriptLine). lines_of g.answered ++ r) none ∙ append-nil (lines_of g.answered);
+      made = g.so_far;
+    }
 
-    module _ (line : ScriptLine) (behind : List ScriptLine) (is : rest ≡ line ∷ behind) where
-      are_before : lines ≡ g.answered ++ line ∷ behind
-      are_before = g.are ∙ ap (λ (r : List ScriptLine). g.answered ++ r) is
+    module _ (line : ScriptLine) (behind : List ScriptLine) (is : rest ≡ line ∷ behind) (reading : ℕ) where
+      -- the next line, at its reading
+      abbrev next_line : LineAt
+      next_line = record { line = line; reading = reading }
 
-      steps_are : steps_of first lines ≡ steps_of first g.answered ++ step_of (after first g.answered) line ∷ steps_of (turn (after first g.answered) line).site behind
-      steps_are = ap (steps_of first) are_before ∙ steps_of-append first g.answered (line ∷ behind)
+      are_begun : lines ≡ lines_of (g.answered ++ next_line ∷ []) ++ behind
+      are_begun = g.are ∙ ap (λ (r : List ScriptLine). lines_of g.answered ++ r) is
+          ∙ sym (append_assoc (lines_of g.answered) (line ∷ []) behind)
+          ∙ ap (λ (ls : List ScriptLine). ls ++ behind) (sym (map-append (λ (l : LineAt). l.line) g.answered (next_line ∷ [])))
 
       -- the line made its step
-      pub goes_on : (next : Site) (new : Outside D) → next ≡ (turn site line).site → MakesStep m site (step_of site line) now new → Goes first lines next behind old new
+      pub goes_on : (next : Site) (new : Outside D) → next ≡ (turn site next_line).site → MakesStep m site (step_of site next_line) now new → Goes first lines next behind old new
       goes_on next new same made = record {
-        answered = g.answered ++ line ∷ [];
-        are = are_before ∙ sym (append_assoc g.answered (line ∷ []) behind);
-        here = same ∙ ap (λ (s : Site). (turn s line).site) g.here ∙ sym (after_one first g.answered line);
-        so_far = subst (λ (steps : List Step). MakesSteps m first steps old new) (sym (steps_of-append first g.answered (line ∷ [])))
-            (one_step_more first (steps_of first g.answered) (step_of (after first g.answered) line) old now new g.so_far
-            (subst (λ (s : Site). MakesStep m s (step_of s line) now new) g.here made));
+        answered = g.answered ++ next_line ∷ [];
+        are = are_begun;
+        here = same ∙ ap (λ (s : Site). (turn s next_line).site) g.here ∙ sym (after_one first g.answered next_line);
+        so_far = subst (λ (steps : List Step). MakesSteps m first steps old new) (sym (steps_of-append first g.answered (next_line ∷ [])))
+            (one_step_more first (steps_of first g.answered) (step_of (after first g.answered) next_line) old now new g.so_far
+            (subst (λ (s : Site). MakesStep m s (step_of s next_line) now new) g.here made));
       }
 
       -- the run stopped at it
-      pub stops_here : (new : Outside D) (end : End) → StopsAtStep m site (step_of site line) now new end → StopsWithin m end first (steps_of first lines) old new
+      pub stops_here : (new : Outside D) (end : End) → StopsAtStep m site (step_of site next_line) now new end → StopsWithin m end first lines old new
       stops_here new end stops = record {
-        made = steps_of first g.answered;
-        step = step_of (after first g.answered) line;
-        behind = steps_of (turn (after first g.answered) line).site behind;
-        are = steps_are;
+        answered = g.answered;
+        stopped = next_line;
+        behind = behind;
+        are = are_begun;
         next = now;
         so_far = g.so_far;
-        stops = subst (λ (s : Site). StopsAtStep m s (step_of s line) now new end) g.here stops;
+        stops = subst (λ (s : Site). StopsAtStep m s (step_of s next_line) now new end) g.here stops;
       }
 
 -- ---- lines of the script in memory

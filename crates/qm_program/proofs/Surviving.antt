@@ -1,19 +1,64 @@
 -- What a crash leaves of steps, and of a run that makes them.
 use Rattle.std.proofs.Common.{◌≡◌, ◌≤◌, inl, inr, ⊎_elim, ℕ, List, [], ◌∷◌, ◌++◌, Option, None, Some, IsTrue, refl, sym, ◌∙◌, ap, subst, append_assoc}
-use Rattle.std.proofs.lemmas.List.{append-nil}
+use Rattle.std.proofs.lemmas.List.{append-nil, map-append}
 use Rattle.std.specs.Io.KnownBytes.{Appends}
 use Rattle.std.proofs.KnownBytes.{Appends-trans}
 use Rattle.qm_disk.specs.Disk.{Meaning, CrashState, IsLeft, LeavesOnly, KeepsOthers}
 use Rattle.qm_disk.proofs.Moments.{started, weaker, goes_further, holds_now}
 use Rattle.qm_model.specs.Script.{ScriptLine}
 use Rattle.qm_manager.specs.Site.{Site, IsSite, IsSiteOf, BeforeOrAfter}
-use Rattle.qm_program.specs.Transcript.{Step, turn, step_of, steps_of, site_behind, text_of, after}
-use Rattle.qm_program.specs.Course.{Outside, MakesSteps, StopsAtStep, StopsWithin, ServesNothing}
+use Rattle.qm_program.specs.Transcript.{Step, LineAt, turn, step_of, steps_of, lines_of, readings_of, readings_taken, site_behind, text_of, after}
+use Rattle.qm_program.specs.Course.{Outside, MakesSteps, StopsAtStep, AnswersLines, StopsWithin, ServesNothing}
 use Rattle.qm_program.specs.Running.{OfScript, ServesScript, RunsTo}
-use Rattle.qm_program.specs.Surviving.{Reaches, Survives, AreServed, AreServedTo}
+use Rattle.qm_program.specs.Surviving.{Reaches, AreBegun, Survives, AreServed, AreServedTo}
 use Rattle.qm_program.specs.declared.outcome.End.{End}
 use Rattle.qm_program.specs.declared.outcome.End.TheVariants as ends
-use Rattle.qm_program.proofs.Going.{steps_keep_others}
+use Rattle.qm_program.proofs.Going.{site_behind-append, steps_of-append, steps_keep_others}
+
+-- ---- what the sink took, and what the clock told
+
+nothing_more : (known : Option (List ℕ)) → Appends known known []
+nothing_more None = tt
+nothing_more (Some xs) = sym (append-nil xs)
+
+-- the readings that lines take are those of their steps
+readings_are : (site : Site) (ls : List LineAt) → readings_taken (steps_of site ls) ≡ readings_of ls
+readings_are site [] = refl
+readings_are site (l ∷ ls) = ap (λ (readings : List ℕ). l.reading ∷ readings) (readings_are (turn site l).site ls)
+
+module _ {D : Type 0} (m : Meaning D) where
+  pub steps_print : (site : Site) (steps : List Step) (old new : Outside D) → MakesSteps m site steps old new → Appends old.taken new.taken (text_of steps)
+  steps_print site [] old new same = subst (λ (o : Outside D). Appends old.taken o.taken []) (sym same) (nothing_more old.taken)
+  steps_print site (step ∷ steps) old new made =
+      Appends-trans old.taken made.0.taken new.taken step.text (text_of steps) made.1.0.printed (steps_print step.after steps made.0 new made.1.1)
+
+  pub steps_told : (site : Site) (steps : List Step) (old new : Outside D) → MakesSteps m site steps old new → Appends old.told new.told (readings_taken steps)
+  steps_told site [] old new same = subst (λ (o : Outside D). Appends old.told o.told []) (sym same) (nothing_more old.told)
+  steps_told site (step ∷ steps) old new made =
+      Appends-trans old.told made.0.told new.told (step.reading ∷ []) (readings_taken steps) made.1.0.told (steps_told step.after steps made.0 new made.1.1)
+
+  lines_told : (site : Site) (ls : List LineAt) (old new : Outside D) → MakesSteps m site (steps_of site ls) old new → Appends old.told new.told (readings_of ls)
+  lines_told site ls old new made = subst (Appends old.told new.told) (readings_are site ls) (steps_told site (steps_of site ls) old new made)
+
+  -- every line was begun
+  all_begun : (site : Site) (lines : List ScriptLine) (old new : Outside D) (a : AnswersLines m site lines old new) → AreBegun old.told new.told lines a.answered
+  all_begun site lines old new a = record {
+    behind = [];
+    are = a.are ∙ sym (append-nil (lines_of a.answered));
+    told = lines_told site a.answered old new a.made;
+  }
+
+  -- those up to the one at which the run stopped
+  some_begun : (end : End) (site : Site) (lines : List ScriptLine) (old new : Outside D) (s : StopsWithin m end site lines old new)
+      → AreBegun old.told new.told lines (s.answered ++ s.stopped ∷ [])
+  some_begun end site lines old new s = record {
+    behind = s.behind;
+    are = s.are;
+    told = subst (Appends old.told new.told) (sym (map-append (λ (l : LineAt). l.reading) s.answered (s.stopped ∷ [])))
+        (Appends-trans old.told s.next.told new.told (readings_of s.answered) (s.stopped.reading ∷ []) (lines_told site s.answered old s.next s.so_far) s.stops.told);
+  }
+
+-- ---- what a crash leaves
 
 module _ {D : Type 0} (m : Meaning D) (only_now : (disk : D) (crashed : CrashState) → m.left_since disk (m.moment disk) crashed → IsLeft (m.may_leave disk) crashed) where
   -- before the first step
@@ -57,105 +102,119 @@ module _ {D : Type 0} (m : Meaning D) (only_now : (disk : D) (crashed : CrashSta
   at_end site [] old new same told is = subst (λ (o : Outside D). IsSiteOf m site o.disk) (sym same) is
   at_end site (step ∷ steps) old new made told is = at_end step.after steps made.0 new made.1.1 told (made.1.0.durable told)
 
-  site_behind-more : (site : Site) (xs : List Step) (step : Step) → site_behind site (xs ++ step ∷ []) ≡ step.after
-  site_behind-more site [] step = refl
-  site_behind-more site (x ∷ xs) step = site_behind-more x.after xs step
+  all_reach : (site : Site) (steps : List Step) (old new : Outside D) → MakesSteps m site steps old new → IsTrue m.tells → IsSiteOf m site old.disk → LeavesOnly m old.disk new.disk (Reaches (m.may_leave old.disk) site steps)
+  all_reach site steps old new made told is =
+      subst (λ (all : List Step). LeavesOnly m old.disk new.disk (Reaches (m.may_leave old.disk) site all)) (append-nil steps) (steps_reach site steps [] old new made told is)
 
-  -- a run that stops within its steps
-  stop_reaches : (end : End) (site : Site) (steps : List Step) (old new : Outside D) → StopsWithin m end site steps old new → IsTrue m.tells → IsSiteOf m site old.disk
-      → LeavesOnly m old.disk new.disk (Reaches (m.may_leave old.disk) site steps)
-  stop_reaches end site steps old new stops told is =
-      let made = stops.made in
-      let step = stops.step in
-      let behind = stops.behind in
-      let next = stops.next in
-      let kept = steps_keep_others m site made old next stops.so_far in
-      subst (λ (all : List Step). LeavesOnly m old.disk new.disk (Reaches (m.may_leave old.disk) site all)) (sym stops.are)
-      (goes_further m old.disk next.disk new.disk (Reaches (m.may_leave old.disk) site (made ++ step ∷ behind)) (BeforeOrAfter (m.may_leave next.disk) (site_behind site made) step.after)
-      (steps_reach site made (step ∷ behind) old next stops.so_far told is) (stops.stops.disk.any_moment told)
+  -- all steps but the last, within which the run stopped
+  stop_reaches : (site : Site) (made : List Step) (step : Step) (old next new : Outside D) (end : End) → MakesSteps m site made old next → StopsAtStep m (site_behind site made) step next new end
+      → IsTrue m.tells → IsSiteOf m site old.disk → LeavesOnly m old.disk new.disk (Reaches (m.may_leave old.disk) site (made ++ step ∷ []))
+  stop_reaches site made step old next new end so_far stops told is =
+      let kept = steps_keep_others m site made old next so_far in
+      goes_further m old.disk next.disk new.disk (Reaches (m.may_leave old.disk) site (made ++ step ∷ [])) (BeforeOrAfter (m.may_leave next.disk) (site_behind site made) step.after)
+      (steps_reach site made (step ∷ []) old next so_far told is) (stops.disk.any_moment told)
       (λ crashed left. elim left.site [
-        | inl before ↦ record { made = made; behind = step ∷ behind; are = refl; left = before; others = λ f le other. kept.no_more f (crashed f) le other (left.others f le other) }
+        | inl before ↦ record { made = made; behind = step ∷ []; are = refl; left = before; others = λ f le other. kept.no_more f (crashed f) le other (left.others f le other) }
         | inr after ↦ record {
           made = made ++ step ∷ [];
-          behind = behind;
-          are = sym (append_assoc made (step ∷ []) behind);
-          left = subst (IsSite (crashed 1)) (sym (site_behind-more site made step)) after;
+          behind = [];
+          are = sym (append-nil (made ++ step ∷ []));
+          left = subst (IsSite (crashed 1)) (sym (site_behind-append site made (step ∷ []))) after;
           others = λ f le other. kept.no_more f (crashed f) le other (left.others f le other);
         }
-      ]))
+      ])
+
+  -- ---- lines
+
+  -- the lines that were begun, and what a crash leaves of them
+  record ReachesLines (site : Site) (lines : List ScriptLine) (old new : Outside D) : Type 0 where
+    begun : List LineAt
+    are : AreBegun old.told new.told lines begun
+    leaves : LeavesOnly m old.disk new.disk (Reaches (m.may_leave old.disk) site (steps_of site begun))
+
+  answered_reach : (site : Site) (lines : List ScriptLine) (old new : Outside D) → AnswersLines m site lines old new → IsTrue m.tells → IsSiteOf m site old.disk → ReachesLines site lines old new
+  answered_reach site lines old new a told is = record {
+    begun = a.answered;
+    are = all_begun m site lines old new a;
+    leaves = all_reach site (steps_of site a.answered) old new a.made told is;
+  }
+
+  stopped_reach : (end : End) (site : Site) (lines : List ScriptLine) (old new : Outside D) → StopsWithin m end site lines old new → IsTrue m.tells → IsSiteOf m site old.disk → ReachesLines site lines old new
+  stopped_reach end site lines old new s told is = record {
+    begun = s.answered ++ s.stopped ∷ [];
+    are = some_begun m end site lines old new s;
+    leaves = subst (λ (steps : List Step). LeavesOnly m old.disk new.disk (Reaches (m.may_leave old.disk) site steps)) (sym (steps_of-append site s.answered (s.stopped ∷ [])))
+        (stop_reaches site (steps_of site s.answered) (step_of (after site s.answered) s.stopped) old s.next new end s.so_far s.stops told is);
+  }
 
   -- serving, after what was opened
-  module _ (goes : Site → List Step → Outside D → Outside D → Type 0)
-      (reaches : (site : Site) (steps : List Step) (old new : Outside D) → goes site steps old new → IsTrue m.tells → IsSiteOf m site old.disk → LeavesOnly m old.disk new.disk (Reaches (m.may_leave old.disk) site steps))
+  module _ (goes : Site → List ScriptLine → Outside D → Outside D → Type 0)
+      (reaches : (site : Site) (lines : List ScriptLine) (old new : Outside D) → goes site lines old new → IsTrue m.tells → IsSiteOf m site old.disk → ReachesLines site lines old new)
       (left : Option (List ℕ)) (old new : Outside D) where
-    script_survives : ServesScript m left goes old new → IsTrue m.tells → LeavesOnly m old.disk new.disk (Survives left (m.may_leave old.disk) (m.seen old.disk 1))
+    script_survives : ServesScript m left goes old new → IsTrue m.tells → LeavesOnly m old.disk new.disk (Survives left old.told new.told (m.may_leave old.disk) (m.seen old.disk 1))
     script_survives served told =
         let so = served.so in
-        goes_further m old.disk so.opened new.disk (Survives left (m.may_leave old.disk) (m.seen old.disk 1)) (Reaches (m.may_leave so.opened) so.site (steps_of so.site served.lines))
-        (weaker m old.disk so.opened (IsLeft (m.may_leave old.disk)) (Survives left (m.may_leave old.disk) (m.seen old.disk 1)) so.opening.any_moment (λ crashed l. inl l))
-        (reaches so.site (steps_of so.site served.lines) (record { disk = so.opened; taken = old.taken }) new so.serving told (so.at_rest told))
+        let r = reaches so.site served.lines (record { disk = so.opened; taken = old.taken; told = old.told }) new so.serving told (so.at_rest told) in
+        goes_further m old.disk so.opened new.disk (Survives left old.told new.told (m.may_leave old.disk) (m.seen old.disk 1)) (Reaches (m.may_leave so.opened) so.site (steps_of so.site r.begun))
+        (weaker m old.disk so.opened (IsLeft (m.may_leave old.disk)) (Survives left old.told new.told (m.may_leave old.disk) (m.seen old.disk 1)) so.opening.any_moment (λ crashed l. inl l))
+        r.leaves
         (λ crashed reached. inr (record {
           text = served.text;
           lines = served.lines;
           read = served.read;
           script = served.script;
-          so = (
-            so.site,
-            so.found.told told,
-            record {
+          so = record {
+            site = so.site;
+            is_site = so.found.told told;
+            begun = r.begun;
+            are = r.are;
+            reached = record {
               made = reached.made;
               behind = reached.behind;
               are = reached.are;
               left = reached.left;
               others = λ f le other. so.opening.no_more f (crashed f) le (reached.others f le other);
-            },
-          );
+            };
+          };
         }))
 
-  nothing_survives : (left : Option (List ℕ)) (old new : Outside D) → ServesNothing m old new → LeavesOnly m old.disk new.disk (Survives left (m.may_leave old.disk) (m.seen old.disk 1))
+  -- what a run may leave of which nothing was served
+  abbrev Left : Option (List ℕ) → Outside D → Outside D → CrashState → Type 0
+  Left left old new = Survives left old.told new.told (m.may_leave old.disk) (m.seen old.disk 1)
+
+  nothing_survives : (left : Option (List ℕ)) (old new : Outside D) → ServesNothing m old new → LeavesOnly m old.disk new.disk (Left left old new)
   nothing_survives left old new nothing =
-      weaker m old.disk new.disk (IsLeft (m.may_leave old.disk)) (Survives left (m.may_leave old.disk) (m.seen old.disk 1)) nothing.disk.any_moment (λ crashed l. inl l)
+      weaker m old.disk new.disk (IsLeft (m.may_leave old.disk)) (Left left old new) nothing.disk.any_moment (λ crashed l. inl l)
 
-  stays : (left : Option (List ℕ)) (old new : Outside D) → new ≡ old → LeavesOnly m old.disk new.disk (Survives left (m.may_leave old.disk) (m.seen old.disk 1))
-  stays left old new same = subst (λ (o : Outside D). LeavesOnly m old.disk o.disk (Survives left (m.may_leave old.disk) (m.seen old.disk 1))) (sym same)
-      (started m old.disk (Survives left (m.may_leave old.disk) (m.seen old.disk 1)) (λ crashed l. inl (only_now old.disk crashed l)))
-
-  all_reach : (site : Site) (steps : List Step) (old new : Outside D) → MakesSteps m site steps old new → IsTrue m.tells → IsSiteOf m site old.disk → LeavesOnly m old.disk new.disk (Reaches (m.may_leave old.disk) site steps)
-  all_reach site steps old new made told is =
-      subst (λ (all : List Step). LeavesOnly m old.disk new.disk (Reaches (m.may_leave old.disk) site all)) (append-nil steps) (steps_reach site steps [] old new made told is)
+  stays : (left : Option (List ℕ)) (old new : Outside D) → new ≡ old → LeavesOnly m old.disk new.disk (Left left old new)
+  stays left old new same = subst (λ (o : Outside D). LeavesOnly m old.disk o.disk (Left left old o)) (sym same)
+      (started m old.disk (Left left old old) (λ crashed l. inl (only_now old.disk crashed l)))
 
   -- what a crash leaves of a run, by its end
   pub run_survives : (left : Option (List ℕ)) (old new : Outside D) (end : End) → RunsTo m left old new end → IsTrue m.tells
-      → LeavesOnly m old.disk new.disk (Survives left (m.may_leave old.disk) (m.seen old.disk 1))
-  run_survives left old new ends.Ok runs told = script_survives (MakesSteps m) all_reach left old new runs told
+      → LeavesOnly m old.disk new.disk (Survives left old.told new.told (m.may_leave old.disk) (m.seen old.disk 1))
+  run_survives left old new ends.Ok runs told = script_survives (AnswersLines m) answered_reach left old new runs told
   run_survives left old new ends.Usage runs told = absurd runs
   run_survives left old new ends.Read runs told = stays left old new runs
   run_survives left old new (ends.Script line kind) runs told = nothing_survives left old new runs.0
-  run_survives left old new ends.Write runs told = script_survives (StopsWithin m ends.Write) (stop_reaches ends.Write) left old new runs told
+  run_survives left old new ends.Write runs told = script_survives (StopsWithin m ends.Write) (stopped_reach ends.Write) left old new runs told
   run_survives left old new ends.Journal runs told =
-      ⊎_elim (λ nothing. nothing_survives left old new nothing.0) (λ served. script_survives (StopsWithin m ends.Journal) (stop_reaches ends.Journal) left old new served told) runs
+      ⊎_elim (λ nothing. nothing_survives left old new nothing.0) (λ served. script_survives (StopsWithin m ends.Journal) (stopped_reach ends.Journal) left old new served told) runs
   run_survives left old new (ends.Unformatted byte) runs told = nothing_survives left old new runs.0
   run_survives left old new (ends.Damaged file place) runs told = nothing_survives left old new runs.0
   run_survives left old new ends.NoMemory runs told =
       ⊎_elim (λ same. stays left old new same) (λ opened.
-      ⊎_elim (λ nothing. nothing_survives left old new nothing.0.0) (λ served. script_survives (StopsWithin m ends.NoMemory) (stop_reaches ends.NoMemory) left old new served told) opened) runs
+      ⊎_elim (λ nothing. nothing_survives left old new nothing.0.0) (λ served. script_survives (StopsWithin m ends.NoMemory) (stopped_reach ends.NoMemory) left old new served told) opened) runs
 
--- ---- what the sink took
-
-nothing_taken : (taken : Option (List ℕ)) → Appends taken taken []
-nothing_taken None = tt
-nothing_taken (Some xs) = sym (append-nil xs)
+-- ---- the lines of a run
 
 module _ {D : Type 0} (m : Meaning D) where
-  pub steps_print : (site : Site) (steps : List Step) (old new : Outside D) → MakesSteps m site steps old new → Appends old.taken new.taken (text_of steps)
-  steps_print site [] old new same = subst (λ (o : Outside D). Appends old.taken o.taken []) (sym same) (nothing_taken old.taken)
-  steps_print site (step ∷ steps) old new made =
-      Appends-trans old.taken made.0.taken new.taken step.text (text_of steps) made.1.0.printed (steps_print step.after steps made.0 new made.1.1)
-
   pub served_whole : (only_now : (disk : D) (crashed : CrashState) → m.left_since disk (m.moment disk) crashed → IsLeft (m.may_leave disk) crashed)
       → (left : Option (List ℕ)) (old new : Outside D) → RunsTo m left old new ends.Ok → OfScript left (AreServed m old new)
   served_whole only_now left old new runs =
       let so = runs.so in
+      let all = so.serving in
+      let begins : Outside D = record { disk = so.opened; taken = old.taken; told = old.told } in
       record {
         text = runs.text;
         lines = runs.lines;
@@ -166,60 +225,21 @@ module _ {D : Type 0} (m : Meaning D) where
           node = so.node;
           found = so.found;
           for_node = so.for_node;
-          taken = steps_print so.site (steps_of so.site runs.lines) (record { disk = so.opened; taken = old.taken }) new so.serving;
-          left = λ told. at_end m only_now so.site (steps_of so.site runs.lines) (record { disk = so.opened; taken = old.taken }) new so.serving told (so.at_rest told);
+          answered = all.answered;
+          are = all.are;
+          told = lines_told m so.site all.answered begins new all.made;
+          taken = steps_print m so.site (steps_of so.site all.answered) begins new all.made;
+          left = λ told. at_end m only_now so.site (steps_of so.site all.answered) begins new all.made told (so.at_rest told);
         };
       }
-
--- ---- the lines of a run that stopped
-
--- steps of lines, cut at one of them, are those of the lines before it, and its own
-record CutAt (site : Site) (lines : List ScriptLine) (made : List Step) (step : Step) : Type 0 where
-  answered : List ScriptLine
-  line : ScriptLine
-  rest : List ScriptLine
-  are : lines ≡ answered ++ line ∷ rest
-  made_are : made ≡ steps_of site answered
-  step_is : step ≡ step_of (after site answered) line
-
-first_step : (x y : Step) (xs ys : List Step) → x ∷ xs ≡ y ∷ ys → x ≡ y
-first_step x y xs ys e = cc
-
-other_steps : (x y : Step) (xs ys : List Step) → x ∷ xs ≡ y ∷ ys → xs ≡ ys
-other_steps x y xs ys e = cc
-
-cut_at : (site : Site) (lines : List ScriptLine) (made : List Step) (step : Step) (behind : List Step) → steps_of site lines ≡ made ++ step ∷ behind → CutAt site lines made step
-cut_at site [] [] step behind e = cc
-cut_at site [] (x ∷ made) step behind e = cc
-cut_at site (l ∷ ls) [] step behind e = record {
-  answered = [];
-  line = l;
-  rest = ls;
-  are = refl;
-  made_are = refl;
-  step_is = sym (first_step _ _ _ _ e);
-}
-cut_at site (l ∷ ls) (x ∷ made) step behind e =
-    let cut = cut_at (turn site l).site ls made step behind (other_steps _ _ _ _ e) in
-    record {
-      answered = l ∷ cut.answered;
-      line = cut.line;
-      rest = cut.rest;
-      are = ap (λ (rest : List ScriptLine). l ∷ rest) cut.are;
-      made_are = ap (λ (s : Step). s ∷ made) (sym (first_step _ _ _ _ e)) ∙ ap (λ (rest : List Step). step_of site l ∷ rest) cut.made_are;
-      step_is = cut.step_is;
-    }
 
 module _ {D : Type 0} (m : Meaning D) (counts_now : (disk : D) (t : ℕ) (crashed : CrashState) → t ≤ m.moment disk → IsLeft (m.may_leave disk) crashed → m.left_since disk t crashed) where
   pub served_to : (left : Option (List ℕ)) (end : End) (old new : Outside D) → ServesScript m left (StopsWithin m end) old new → OfScript left (AreServedTo m end old new)
   served_to left end old new served =
       let so = served.so in
       let stopped = so.serving in
-      let cut = cut_at so.site served.lines stopped.made stopped.step stopped.behind stopped.are in
-      let here = after so.site cut.answered in
-      let same : site_behind so.site stopped.made ≡ here = ap (site_behind so.site) cut.made_are in
-      let stops : StopsAtStep m here (step_of here cut.line) stopped.next new end =
-      subst (λ (s : Step). StopsAtStep m here s stopped.next new end) cut.step_is (subst (λ (s : Site). StopsAtStep m s stopped.step stopped.next new end) same stopped.stops) in
+      let here = after so.site stopped.answered in
+      let begins : Outside D = record { disk = so.opened; taken = old.taken; told = old.told } in
       record {
         text = served.text;
         lines = served.lines;
@@ -230,15 +250,14 @@ module _ {D : Type 0} (m : Meaning D) (counts_now : (disk : D) (t : ℕ) (crashe
           node = so.node;
           found = so.found;
           for_node = so.for_node;
-          answered = cut.answered;
-          line = cut.line;
-          behind = cut.rest;
-          are = cut.are;
+          answered = stopped.answered;
+          stopped = stopped.stopped;
+          are = some_begun m end so.site served.lines begins new stopped;
           next = stopped.next;
-          taken = subst (λ (steps : List Step). Appends old.taken stopped.next.taken (text_of steps)) cut.made_are
-              (steps_print m so.site stopped.made (record { disk = so.opened; taken = old.taken }) stopped.next stopped.so_far);
-          stops = stops;
+          told = lines_told m so.site stopped.answered begins stopped.next stopped.so_far;
+          taken = steps_print m so.site (steps_of so.site stopped.answered) begins stopped.next stopped.so_far;
+          stops = stopped.stops;
           left = λ told crashed left.
-              (holds_now m stopped.next.disk new.disk (BeforeOrAfter (m.may_leave stopped.next.disk) here (turn here cut.line).site) (stops.disk.any_moment told) (counts_now new.disk) crashed left).site;
+              (holds_now m stopped.next.disk new.disk (BeforeOrAfter (m.may_leave stopped.next.disk) here (turn here stopped.stopped).site) (stopped.stops.disk.any_moment told) (counts_now new.disk) crashed left).site;
         };
       }

@@ -6,14 +6,16 @@ use Rattle.qm_disk.specs.Disk.{OneFailed, IsQuiet}
 use Rattle.qm_disk.specs.Disk.{OnlyLooks}
 use Rattle.qm_manager.specs.Site.{Site, IsSiteOf}
 use Rattle.qm_manager.specs.Asking.{Steps}
-use Rattle.qm_program.specs.Transcript.{Step, site_behind}
+use Rattle.qm_model.specs.Script.{ScriptLine}
+use Rattle.qm_program.specs.Transcript.{Step, LineAt, step_of, steps_of, lines_of, after}
 use Rattle.qm_program.specs.declared.outcome.End.{End}
 use Rattle.qm_program.specs.declared.outcome.End.TheVariants as ends
 
--- the disk, and what the sink took so far, where that is told
+-- the disk, and what the sink took and the clock told so far, where these tell it
 pub record Outside (D : Type 0) : Type 0 where
   pub disk : D
   pub taken : Option (List ℕ)
+  pub told : Option (List ℕ)
 
 -- the sink took first bytes of a text: none or some, but not all
 pub record TakesPart (old new : Option (List ℕ)) (text : List ℕ) : Type 0 where
@@ -26,11 +28,12 @@ pub record TakesPart (old new : Option (List ℕ)) (text : List ℕ) : Type 0 wh
 module _ {D : Type 0} (m : Meaning D) where
   -- A step was made. A crash at any moment of it leaves the queue file of the site before it or after it, and of the other
   -- files what a crash before it might leave. Behind it the queue file is that of the site after it, which no crash can take
-  -- away, and the sink took what it prints. The disk didn't fail.
+  -- away, and the sink took what it prints. The clock told its reading, and no other moment. The disk didn't fail.
   pub record MakesStep (site : Site) (step : Step) (old new : Outside D) : Type 0 where
     pub disk : Steps m site step.after old.disk new.disk
     pub durable : IsTrue m.tells → IsSiteOf m step.after new.disk
     pub printed : Appends old.taken new.taken step.text
+    pub told : Appends old.told new.told (step.reading ∷ [])
     pub quiet : IsQuiet m old.disk new.disk
 
   -- These steps were made, one behind the other: each begins with the disk as the one before it left it, and what it
@@ -60,23 +63,32 @@ module _ {D : Type 0} (m : Meaning D) where
   EndsAtStep site step old new (ends.Damaged file place) = ⊥
 
   -- A step is in work and isn't made whole: a crash at any moment of it leaves the queue file of the site before it or after
-  -- it, and of the other files what a crash before it might leave.
+  -- it, and of the other files what a crash before it might leave. The clock told its reading, and no other moment.
   pub record StopsAtStep (site : Site) (step : Step) (old new : Outside D) (end : End) : Type 0 where
     pub disk : Steps m site step.after old.disk new.disk
+    pub told : Appends old.told new.told (step.reading ∷ [])
     pub ends : EndsAtStep site step old new end
 
-  -- the first of these steps were made, none to all but one, and one more is in work
-  pub record StopsWithin (end : End) (site : Site) (steps : List Step) (old new : Outside D) : Type 0 where
-    pub made : List Step
-    pub step : Step
-    pub behind : List Step
-    pub are : steps ≡ made ++ step ∷ behind
-    pub next : Outside D
-    pub so_far : MakesSteps site made old next
-    pub stops : StopsAtStep (site_behind site made) step next new end
+  -- Each of these lines made its step, in order, at a reading of its own.
+  pub record AnswersLines (site : Site) (lines : List ScriptLine) (old new : Outside D) : Type 0 where
+    pub answered : List LineAt
+    pub are : lines ≡ lines_of answered
+    pub made : MakesSteps site (steps_of site answered) old new
 
-  -- Nothing was served: the sink took nothing, and the disk was looked at alone. Its files read as they did, and a crash
-  -- leaves what it might leave before.
+  -- The first of these lines made their steps, none to all but one, and that of the next is in work; each took a reading of
+  -- its own, and those behind took none.
+  pub record StopsWithin (end : End) (site : Site) (lines : List ScriptLine) (old new : Outside D) : Type 0 where
+    pub answered : List LineAt
+    pub stopped : LineAt
+    pub behind : List ScriptLine
+    pub are : lines ≡ lines_of (answered ++ stopped ∷ []) ++ behind
+    pub next : Outside D
+    pub so_far : MakesSteps site (steps_of site answered) old next
+    pub stops : StopsAtStep (after site answered) (step_of (after site answered) stopped) next new end
+
+  -- Nothing was served: the sink took nothing, the clock told nothing, and the disk was looked at alone. Its files read as
+  -- they did, and a crash leaves what it might leave before.
   pub record ServesNothing (old new : Outside D) : Type 0 where
     pub disk : OnlyLooks m old.disk new.disk
     pub taken : Keeps old.taken new.taken
+    pub told : new.told ≡ old.told

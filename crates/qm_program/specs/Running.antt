@@ -14,9 +14,8 @@ use Rattle.qm_model.specs.Script.{ScriptLine, script_of, are_of_node}
 use Rattle.qm_manager.specs.Site.{Site, IsSite, IsSiteOf, new_site}
 use Rattle.qm_manager.specs.Opened.{IsDamagedFile}
 use Rattle.qm_manager.specs.Restoring.{HasNode}
-use Rattle.qm_program.specs.Transcript.{Step, steps_of}
 use Rattle.qm_program.specs.Task.{initialized}
-use Rattle.qm_program.specs.Course.{Outside, TakesPart, MakesSteps, StopsWithin, ServesNothing}
+use Rattle.qm_program.specs.Course.{Outside, TakesPart, AnswersLines, StopsWithin, ServesNothing}
 use Rattle.qm_program.specs.declared.script.TheConstants.{SCRIPT_BYTES}
 use Rattle.qm_program.specs.declared.outcome.End.{End}
 use Rattle.qm_program.specs.declared.outcome.End.TheVariants as ends
@@ -70,9 +69,10 @@ pub record IsForAnother (tells : Bool) (file : List ℕ) (lines : List ScriptLin
   pub another : are_of_node node lines ≡ false
 
 module _ {D : Type 0} (m : Meaning D) where
-  -- The queue file of a site was opened, and the disk only looked at and didn't fail; every line is of the site's node. Then the file is
-  -- that of the site, as it reads and in each crash state, and the steps of the lines go on from there.
-  pub record Serves (goes : Site → List Step → Outside D → Outside D → Type 0) (old new : Outside D) (lines : List ScriptLine) : Type 0 where
+  -- The queue file of a site was opened, and the disk only looked at and didn't fail, and the clock wasn't asked; every line
+  -- is of the site's node. Then the file is that of the site, as it reads and in each crash state, and the lines go on from
+  -- there.
+  pub record Serves (goes : Site → List ScriptLine → Outside D → Outside D → Type 0) (old new : Outside D) (lines : List ScriptLine) : Type 0 where
     pub site : Site
     pub node : List ℕ
     pub found : IsFound m.tells (m.seen old.disk 1) site node
@@ -81,19 +81,19 @@ module _ {D : Type 0} (m : Meaning D) where
     pub opening : OnlyLooks m old.disk opened
     pub quiet : IsQuiet m old.disk opened
     pub at_rest : IsTrue m.tells → IsSiteOf m site opened
-    pub serving : goes site (steps_of site lines) (record { disk = opened; taken = old.taken }) new
+    pub serving : goes site lines (record { disk = opened; taken = old.taken; told = old.told }) new
 
   -- memory ran out at the opening of the queue file, which begins with a whole record
   abbrev pub LacksMemory : Outside D → Outside D → Type 0
   LacksMemory old new = ServesNothing m old new × (IsTrue m.tells → BeginsWithRecord (m.seen old.disk 1))
 
-  -- a run over the script that a source had left, whose steps go on so
-  abbrev pub ServesScript : Option (List ℕ) → (Site → List Step → Outside D → Outside D → Type 0) → Outside D → Outside D → Type 0
+  -- a run over the script that a source had left, whose lines go on so
+  abbrev pub ServesScript : Option (List ℕ) → (Site → List ScriptLine → Outside D → Outside D → Type 0) → Outside D → Outside D → Type 0
   ServesScript left goes old new = OfScript left (Serves goes old new)
 
   -- What serving these lines leaves, by its end.
   abbrev pub ServesTo : List ScriptLine → Outside D → Outside D → End → Type 0
-  ServesTo lines old new ends.Ok = Serves (MakesSteps m) old new lines
+  ServesTo lines old new ends.Ok = Serves (AnswersLines m) old new lines
   ServesTo lines old new ends.Usage = ⊥
   ServesTo lines old new ends.Read = ⊥
   ServesTo lines old new (ends.Script line kind) = ServesNothing m old new × (kind ≡ Node)
@@ -103,11 +103,11 @@ module _ {D : Type 0} (m : Meaning D) where
   ServesTo lines old new (ends.Damaged file place) = ServesNothing m old new
   ServesTo lines old new ends.NoMemory = LacksMemory old new ⊎ Serves (StopsWithin m ends.NoMemory) old new lines
 
-  -- What a run over what a source had left leaves, by its end. At Ok all steps were made. At Read, and at Script for another
-  -- reason than the node of a line, the disk wasn't looked at, nor where memory ran out before the script was known. At
-  -- Journal and else at NoMemory either nothing was served, or the run stopped within its steps; at Write it did.
+  -- What a run over what a source had left leaves, by its end. At Ok all lines were answered. At Read, and at Script for
+  -- another reason than the node of a line, the disk wasn't looked at, nor where memory ran out before the script was known.
+  -- At Journal and else at NoMemory either nothing was served, or the run stopped within its lines; at Write it did.
   abbrev pub RunsTo : Option (List ℕ) → Outside D → Outside D → End → Type 0
-  RunsTo left old new ends.Ok = ServesScript left (MakesSteps m) old new
+  RunsTo left old new ends.Ok = ServesScript left (AnswersLines m) old new
   RunsTo left old new ends.Usage = ⊥
   RunsTo left old new ends.Read = new ≡ old
   RunsTo left old new (ends.Script line kind) = ServesNothing m old new × (kind ≢ Node → new ≡ old)
@@ -135,11 +135,12 @@ module _ {D : Type 0} (m : Meaning D) where
     pub leaves : MakesTo node old new end
     pub any_moment : IsTrue m.tells → LeavesOnly m old.disk new.disk (OthersLeft (m.may_leave old.disk) 1)
 
-  -- What the program does, by what its words ask for. Words that ask for nothing touch nothing, and a run alone reads.
-  abbrev pub Does : {S : Type 0} → (S → Option (List ℕ)) → Option Task → S → S → Outside D → Outside D → End → Type 0
-  Does remaining None source rest old new end = (rest ≡ source) × (new ≡ old)
-  Does remaining (Some Run) source rest old new end = Reads (remaining source) (remaining rest) end × RunsTo (remaining source) old new end
-  Does remaining (Some (Init node)) source rest old new end = (rest ≡ source) × Makes node old new end
+  -- What the program does, by what its words ask for. Words that ask for nothing touch nothing, and a run alone reads and
+  -- asks the clock.
+  abbrev pub Does : {S C : Type 0} → (S → Option (List ℕ)) → Option Task → S → S → C → C → Outside D → Outside D → End → Type 0
+  Does remaining None source rest clock later old new end = (rest ≡ source) × (later ≡ clock) × (new ≡ old)
+  Does remaining (Some Run) source rest clock later old new end = Reads (remaining source) (remaining rest) end × RunsTo (remaining source) old new end
+  Does remaining (Some (Init node)) source rest clock later old new end = (rest ≡ source) × (later ≡ clock) × Makes node old new end
 
   -- the files other than the queue file read as before, and a crash leaves nothing else of them than it might before
   pub record OthersStay (old new : D) : Type 0 where

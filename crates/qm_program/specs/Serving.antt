@@ -19,9 +19,9 @@ use Rattle.qm_program.specs.declared.serve.ServeEnd.TheVariants as ends
 use Rattle.qm_program.specs.declared.serve.AnswerFault.{AnswerFault}
 use Rattle.qm_program.specs.declared.serve.AnswerFault.TheVariants.{Disk, NoMemory}
 
--- the disk of a manager, beside what a sink took
-abbrev pub outside : {D : Type 0} → Manager D → Option (List ℕ) → Outside D
-outside manager taken = record { disk = disk_of manager; taken = taken }
+-- the disk of a manager, beside what a sink took and a clock told
+abbrev pub outside : {D : Type 0} → Manager D → Option (List ℕ) → Option (List ℕ) → Outside D
+outside manager taken told = record { disk = disk_of manager; taken = taken; told = told }
 
 -- lines of the transcript, each behind the node and the number of the script's line
 abbrev pub lines_behind : Prefix → List (List ℕ) → List ℕ

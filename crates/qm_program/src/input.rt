@@ -23,10 +23,12 @@ fn read_typed(alloc: Global, text: &[u8], now: Moment) -> Result<Input, AllocErr
     }
 }
 
-/// What a line asks for that is read at a moment: a command behind a `$`, an act at the site behind a `!`.
+/// What a line asks for: a command behind a `$`, an act at the site behind a `!`. The clock told this moment before; times of
+/// a command that are relative count from it.
 pub(crate) fn read_input(alloc: Global, line: &Line<'_>, now: Moment) -> Result<Input, AllocError>
     ensures input { IfOk result (λ input. input ≡ input_of (sort_view line.now.sort) now line.now.text.now) }
-    ensures no_memory { OnErr result (MayWantMemory (sort_view line.now.sort) (input_of (sort_view line.now.sort) now line.now.text.now)) }
+    ensures no_memory { OnErr result (MayWantMemory (sort_view line.now.sort)
+        (input_of (sort_view line.now.sort) now line.now.text.now)) }
 {
     match line.sort {
         Sort::Command => read_typed(alloc, line.text, now),

@@ -6,7 +6,7 @@ ghost use Rattle.qm_kinds.specs.declared.moment.TheConstants.{LAST_MOMENT};
 ghost use Rattle.qm_kinds.specs.declared.name.TheConstants.{NODE_NAME_BYTES, SHORT_NAME_BYTES};
 ghost use Rattle.qm_store.specs.declared.store.TheConstants.{QUEUE_CAP, QUEUE_FILE};
 ghost use Rattle.qm_manager.specs.Site.{Site};
-ghost use Rattle.qm_program.specs.Transcript.{Step, text_of};
+ghost use Rattle.qm_program.specs.Transcript.{Step, readings_taken, text_of};
 ghost use Rattle.qm_program.specs.Course.{MakesSteps, StopsWithin};
 ghost use Rattle.qm_program.specs.Running.{OfScript, ServesScript, RunsTo};
 ghost use Rattle.qm_program.specs.Surviving.{Survives, AreServed, AreServedTo};
@@ -17,30 +17,41 @@ use crate::outcome::End;
 use qm_disk::Disk;
 
 /// A crash at any moment of a run leaves what a crash before it might leave; or, where what the source had left is a script,
-/// the queue file of its site after the first lines of the script, none to all, and of the other files what a crash before
-/// the run might leave.
+/// the queue file of its site after the first lines of the script, none to all, at the readings that the clock told in this
+/// call, and of the other files what a crash before the run might leave.
 pub fn a_crash_leaves_the_site_after_some_lines<D: Disk>(old: &D, new: &D)
-    ensures { (left taken printed : Option (List ℕ)) (end : End) → RunsTo D.meaning left (record { disk = old.now; taken = taken }) (record { disk = new.now; taken = printed }) end
-        → IsTrue D.meaning.tells → LeavesOnly D.meaning old.now new.now (Survives left (D.meaning.may_leave old.now) (D.meaning.seen old.now 1)) }
+    ensures { (left taken printed told later : Option (List ℕ)) (end : End) → RunsTo D.meaning left
+        (record { disk = old.now; taken = taken; told = told }) (record { disk = new.now; taken = printed; told = later }) end
+        → IsTrue D.meaning.tells → LeavesOnly D.meaning old.now new.now
+        (Survives left told later (D.meaning.may_leave old.now) (D.meaning.seen old.now 1)) }
 {}
 
-/// At `Ok` what the source had left is a script, which was served whole.
+/// At `Ok` what the source had left is a script, which was served whole, each line at a reading that the clock told in this
+/// call, and the clock told no other.
 pub fn a_run_that_ends_well_has_served_its_script<D: Disk>(old: &D, new: &D)
-    ensures { (left taken printed : Option (List ℕ)) → RunsTo D.meaning left (record { disk = old.now; taken = taken }) (record { disk = new.now; taken = printed }) End.Ok
-        → OfScript left (AreServed D.meaning (record { disk = old.now; taken = taken }) (record { disk = new.now; taken = printed })) }
+    ensures { (left taken printed told later : Option (List ℕ)) → RunsTo D.meaning left
+        (record { disk = old.now; taken = taken; told = told }) (record { disk = new.now; taken = printed; told = later }) End.Ok
+        → OfScript left (AreServed D.meaning
+        (record { disk = old.now; taken = taken; told = told }) (record { disk = new.now; taken = printed; told = later })) }
 {}
 
-/// Where a run that served a script stopped within it, the first lines were served whole, and it stopped at the next.
+/// Where a run that served a script stopped within it, the first lines were served whole, and it stopped at the next. The
+/// clock told a reading for each of these lines, in this call, and no other.
 pub fn a_run_that_stops_has_served_its_first_lines<D: Disk>(old: &D, new: &D)
-    ensures { (left taken printed : Option (List ℕ)) (end : End)
-        → ServesScript D.meaning left (StopsWithin D.meaning end) (record { disk = old.now; taken = taken }) (record { disk = new.now; taken = printed })
-        → OfScript left (AreServedTo D.meaning end (record { disk = old.now; taken = taken }) (record { disk = new.now; taken = printed })) }
+    ensures { (left taken printed told later : Option (List ℕ)) (end : End) → ServesScript D.meaning left (StopsWithin D.meaning end)
+        (record { disk = old.now; taken = taken; told = told }) (record { disk = new.now; taken = printed; told = later })
+        → OfScript left (AreServedTo D.meaning end
+        (record { disk = old.now; taken = taken; told = told }) (record { disk = new.now; taken = printed; told = later })) }
 {}
 
-/// Where steps were made, the sink took what they print, one behind the other.
+/// Where steps were made, the sink took what they print, one behind the other, and the clock told the reading of each.
 pub fn steps_print_their_text<D: Disk>(old: &D, new: &D)
-    ensures { (site : Site) (steps : List Step) (taken printed : Option (List ℕ)) → MakesSteps D.meaning site steps (record { disk = old.now; taken = taken }) (record { disk = new.now; taken = printed })
+    ensures text { (site : Site) (steps : List Step) (taken printed told later : Option (List ℕ)) → MakesSteps D.meaning site steps
+        (record { disk = old.now; taken = taken; told = told }) (record { disk = new.now; taken = printed; told = later })
         → Appends taken printed (text_of steps) }
+    ensures readings { (site : Site) (steps : List Step) (taken printed told later : Option (List ℕ)) → MakesSteps D.meaning site steps
+        (record { disk = old.now; taken = taken; told = told }) (record { disk = new.now; taken = printed; told = later })
+        → Appends told later (readings_taken steps) }
 {}
 
 /// A queue file takes 134,217,728 bytes at most. Definitions cite the number by its name, so here it is said.

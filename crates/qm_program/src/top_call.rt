@@ -1,5 +1,5 @@
 // The top call.
-ghost use Rattle.std.specs.Prelude.{◌≡◌, ◌⊎◌, ◌≤◌, ◌↔◌, ℕ, List, map, length, IsTrue, None, Some};
+ghost use Rattle.std.specs.Prelude.{◌≡◌, ◌⊎◌, ◌≤◌, ◌↔◌, ℕ, List, map, length, IsTrue, Option, None, Some};
 ghost use Rattle.std.specs.String.{string_bytes};
 ghost use Rattle.qm_program.specs.Ends.{status_of};
 ghost use Rattle.qm_program.specs.Lines.{lines_view};
@@ -13,7 +13,7 @@ use crate::script::{Line, SCRIPT_BYTES, ScriptEnd, are_of_node, read_script};
 use crate::serve::serve_lines;
 use crate::task::{Task, read_task};
 use qm_disk::Disk;
-use qm_io::{ReadEnd, Sink, Source, read_whole, write_whole};
+use qm_io::{Clock, ReadEnd, Sink, Source, read_whole, write_whole};
 use qm_kinds::{NODE_NAME_BYTES, Name, ScriptKind};
 use qm_manager::{Manager, init};
 use std::alloc::Global;
@@ -33,7 +33,8 @@ fn make<O: Sink, D: Disk>(alloc: Global, node: Name, sink: &mut O, disk: D) -> O
     ensures cause { (file : List ℕ) (source : ℕ) → HasCause D.meaning.tells file (λ kind. ⊥)
         (record { source = source; sink = O.faults sink.old; disk = D.meaning.faults disk })
         (record { source = source; sink = O.faults sink.new; disk = D.meaning.faults result.disk }) result.end }
-    ensures makes { Makes D.meaning node (record { disk = disk; taken = O.taken sink.old }) (record { disk = result.disk; taken = O.taken sink.new }) result.end }
+    ensures makes { (told : Option (List ℕ)) → Makes D.meaning node (record { disk = disk; taken = O.taken sink.old; told = told })
+        (record { disk = result.disk; taken = O.taken sink.new; told = told }) result.end }
     ensures others { OthersStay D.meaning disk result.disk }
 {
     match init(alloc, disk, node) {
@@ -46,18 +47,20 @@ fn make<O: Sink, D: Disk>(alloc: Global, node: Name, sink: &mut O, disk: D) -> O
 }
 
 // Serves lines over the site of the queue file.
-fn serve_site<O: Sink, D: Disk>(
+fn serve_site<O: Sink, D: Disk, C: Clock>(
     alloc: Global,
     lines: &[Line<'_>],
     sink: &mut O,
     disk: D,
+    clock: &mut C,
 ) -> Outcome<D>
     ensures status { result.status ≡ status_of result.end }
     ensures cause { (source : ℕ) → HasCause D.meaning.tells (D.meaning.seen disk 1) (IsOfAnother D.meaning.tells (D.meaning.seen disk 1) (lines_view lines.now))
         (record { source = source; sink = O.faults sink.old; disk = D.meaning.faults disk })
         (record { source = source; sink = O.faults sink.new; disk = D.meaning.faults result.disk }) result.end }
     ensures serves { ServesTo D.meaning (lines_view lines.now)
-        (record { disk = disk; taken = O.taken sink.old }) (record { disk = result.disk; taken = O.taken sink.new }) result.end }
+        (record { disk = disk; taken = O.taken sink.old; told = C.told clock.old })
+        (record { disk = result.disk; taken = O.taken sink.new; told = C.told clock.new }) result.end }
     ensures others { OthersStay D.meaning disk result.disk }
 {
     let mut manager = match Manager::open(alloc, disk) {
@@ -67,7 +70,7 @@ fn serve_site<O: Sink, D: Disk>(
     if !are_of_node(&manager.node(), lines) {
         return Outcome::of(script_end(ScriptKind::Node), manager.give_back());
     }
-    let end = match serve_lines(alloc, &mut manager, lines, sink) {
+    let end = match serve_lines(alloc, &mut manager, lines, sink, clock) {
         Ok(()) => End::Ok,
         Err(end) => End::from(end),
     };
@@ -75,11 +78,12 @@ fn serve_site<O: Sink, D: Disk>(
 }
 
 // Serves a script.
-fn run<S: Source, O: Sink, D: Disk>(
+fn run<S: Source, O: Sink, D: Disk, C: Clock>(
     alloc: Global,
     source: &mut S,
     sink: &mut O,
     disk: D,
+    clock: &mut C,
 ) -> Outcome<D>
     ensures status { result.status ≡ status_of result.end }
     ensures cause { HasCause D.meaning.tells (D.meaning.seen disk 1) (IsFaulty D.meaning.tells (D.meaning.seen disk 1) (S.remaining source.old))
@@ -87,7 +91,8 @@ fn run<S: Source, O: Sink, D: Disk>(
         (record { source = S.faults source.new; sink = O.faults sink.new; disk = D.meaning.faults result.disk }) result.end }
     ensures reads { Reads (S.remaining source.old) (S.remaining source.new) result.end }
     ensures runs { RunsTo D.meaning (S.remaining source.old)
-        (record { disk = disk; taken = O.taken sink.old }) (record { disk = result.disk; taken = O.taken sink.new }) result.end }
+        (record { disk = disk; taken = O.taken sink.old; told = C.told clock.old })
+        (record { disk = result.disk; taken = O.taken sink.new; told = C.told clock.new }) result.end }
     ensures others { OthersStay D.meaning disk result.disk }
 {
     let script = match read_whole(alloc, source, SCRIPT_BYTES) {
@@ -97,7 +102,7 @@ fn run<S: Source, O: Sink, D: Disk>(
         Err(ReadEnd::NoMemory) => return Outcome::of(End::NoMemory, disk),
     };
     match read_script(alloc, &script) {
-        Ok(lines) => serve_site(alloc, &lines, sink, disk),
+        Ok(lines) => serve_site(alloc, &lines, sink, disk, clock),
         Err(ScriptEnd::Fault(kind)) => Outcome::of(script_end(kind), disk),
         Err(ScriptEnd::NoMemory) => Outcome::of(End::NoMemory, disk),
     }
@@ -109,24 +114,27 @@ fn run<S: Source, O: Sink, D: Disk>(
 /// a site of this one node, with the form DEFAULT and the stopped queue SYS$BATCH; and `initialized` is written.
 ///
 /// With the word `run` a script of at most 16,777,216 bytes is read from the source to its end. The queue file is opened,
-/// what its records say is done again, and the script's lines are served in order. What a line changes is on the disk, by a
-/// record that no crash can take away, before its answer is written; the answer is written before the next line is served.
+/// what its records say is done again, and the script's lines are served in order. Each line takes one reading of the clock,
+/// before its text is read, whatever it is answered; nothing else asks the clock. A request acts at that reading, or at the
+/// moment of the last change where the clock was set back. What a line changes is on the disk, by a record that no crash can
+/// take away, before its answer is written; the answer is written before the next line is served.
 ///
 /// The ends are tried in this order: `Usage` (other words; nothing is read), `Read` (the source failed), `Script` (what was
 /// read isn't a script; the disk isn't touched), `Journal`, `Unformatted` and `Damaged` as opening tells, `Script` (a line is
 /// of another node than the file), then `Write` (the sink failed), `Journal` (the disk failed) and `NoMemory` as they arise.
 ///
 /// Two laws say what follows from the clause `does` of a run. At `Ok` the script was served whole: the sink took its
-/// transcript over the site of the queue file, which is then that of the site after all lines
-/// ([`crate::a_run_that_ends_well_has_served_its_script`]). And a crash at any moment leaves the queue file of the site after
+/// transcript over the site of the queue file, at the readings that the clock told in this call, one for each line, and the
+/// file is then that of the site after all lines ([`crate::a_run_that_ends_well_has_served_its_script`]). And a crash at any moment leaves the queue file of the site after
 /// the first lines of the script, none to all, or what a crash before the run might leave
 /// ([`crate::a_crash_leaves_the_site_after_some_lines`]).
-pub fn qman<S: Source, O: Sink, D: Disk>(
+pub fn qman<S: Source, O: Sink, D: Disk, C: Clock>(
     alloc: Global,
     words: &[String],
     source: &mut S,
     sink: &mut O,
     disk: D,
+    clock: &mut C,
 ) -> Outcome<D>
     ensures status { result.status ≡ status_of result.end }
     ensures usage { (result.end ≡ End.Usage) ↔ (task_of (map string_bytes words.now) ≡ None) }
@@ -136,10 +144,11 @@ pub fn qman<S: Source, O: Sink, D: Disk>(
         (record { source = S.faults source.old; sink = O.faults sink.old; disk = D.meaning.faults disk })
         (record { source = S.faults source.new; sink = O.faults sink.new; disk = D.meaning.faults result.disk }) result.end }
 
-    // What is read, what the sink takes and what the disk holds, then and at each moment, by what the words ask for and by
-    // the end.
-    ensures does { Does D.meaning S.remaining (task_of (map string_bytes words.now)) source.old source.new
-        (record { disk = disk; taken = O.taken sink.old }) (record { disk = result.disk; taken = O.taken sink.new }) result.end }
+    // What is read, what the sink takes, what the clock tells and what the disk holds, then and at each moment, by what the
+    // words ask for and by the end.
+    ensures does { Does D.meaning S.remaining (task_of (map string_bytes words.now)) source.old source.new clock.old clock.new
+        (record { disk = disk; taken = O.taken sink.old; told = C.told clock.old })
+        (record { disk = result.disk; taken = O.taken sink.new; told = C.told clock.new }) result.end }
     ensures others { OthersStay D.meaning disk result.disk }
 
     // Over a script and a queue file that are sound every line is answered, unless the outside fails or memory runs out.
@@ -150,7 +159,7 @@ pub fn qman<S: Source, O: Sink, D: Disk>(
 {
     let task = read_task(words);
     match &task {
-        Some(Task::Run) => run(alloc, source, sink, disk),
+        Some(Task::Run) => run(alloc, source, sink, disk, clock),
         Some(Task::Init(node)) => make(alloc, *node, sink, disk),
         None => Outcome::of(End::Usage, disk),
     }

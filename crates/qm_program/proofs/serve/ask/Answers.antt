@@ -9,7 +9,7 @@ pub returns-in-Err-Disk-clause-serves : goal.returns-in-Err-Disk-clause-serves
 returns-in-Err-Disk-clause-serves g c =
     let before = site_of c.args.manager.now in
     record {
-      steps = subst (λ (after : Site). Steps g.D.Disk.meaning before after (disk_of c.args.manager.now) (disk_of c.ask.new.self)) (sym (told_site before (asked before c.args.request.now))) c.ask.ensures.steps;
+      steps = subst (λ (after : Site). Steps g.D.Disk.meaning before after (disk_of c.args.manager.now) (disk_of c.ask.new.self)) (sym (told_site before (asked before c.args.now c.args.request.now))) c.ask.ensures.steps;
       leaves = rw c.in-Err-Disk.field-0-is at c.in-Err-Disk.ensures.device;
       node = c.ask.ensures.node;
     }
@@ -18,7 +18,7 @@ pub returns-in-Err-NoMemory-clause-serves : goal.returns-in-Err-NoMemory-clause-
 returns-in-Err-NoMemory-clause-serves g c =
     let before = site_of c.args.manager.now in
     record {
-      steps = subst (λ (after : Site). Steps g.D.Disk.meaning before after (disk_of c.args.manager.now) (disk_of c.ask.new.self)) (sym (told_site before (asked before c.args.request.now))) c.ask.ensures.steps;
+      steps = subst (λ (after : Site). Steps g.D.Disk.meaning before after (disk_of c.args.manager.now) (disk_of c.ask.new.self)) (sym (told_site before (asked before c.args.now c.args.request.now))) c.ask.ensures.steps;
       leaves = (
         (rw c.in-Err-NoMemory.field-0-is at c.in-Err-NoMemory.ensures.ready) (λ is. cc),
         inl (rw c.in-Err-NoMemory.field-0-is at c.in-Err-NoMemory.ensures.answer).1,

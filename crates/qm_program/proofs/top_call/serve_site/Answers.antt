@@ -17,12 +17,12 @@ pub returns-clause-cause : goal.returns-clause-cause
 returns-clause-cause g c source = rw (c.of-2.ensures.end, c.of-2.ensures.disk, c.give_back-2.ensures) (elim c.match-serve_lines.branch [
   | in-Ok-serve_lines w ↦ rw w.end-is
       (all_cause g.D.Disk.meaning (lines_view c.args.lines.now) c.args.disk c.in-Ok.manager c.in-Ok.ensures.found c.in-Ok.ensures.ready c.in-Ok.ensures.looks (c.in-Ok.ensures.faults.quiet (λ never. never))
-      (rw c.node.ensures at (sym c.if-not-are_of_node.ensures)) (g.O.Sink.taken c.args.sink.now) (g.O.Sink.taken c.serve_lines.new.sink) (disk_of c.serve_lines.new.manager)
+      (rw c.node.ensures at (sym c.if-not-are_of_node.ensures)) (g.O.Sink.taken c.args.sink.now) (g.O.Sink.taken c.serve_lines.new.sink) (g.C.Clock.told c.args.clock.now) (g.C.Clock.told c.serve_lines.new.clock) (disk_of c.serve_lines.new.manager)
       (IsOfAnother g.D.Disk.meaning.tells (g.D.Disk.meaning.seen c.args.disk 1) (lines_view c.args.lines.now))
       source (g.O.Sink.faults c.args.sink.now) (g.O.Sink.faults c.serve_lines.new.sink) w.in-Ok-serve_lines.ensures.sink w.in-Ok-serve_lines.ensures.made)
   | in-Err-serve_lines w ↦ rw (w.end-is, w.from-end.ensures)
       (stopped_cause g.D.Disk.meaning (lines_view c.args.lines.now) c.args.disk c.in-Ok.manager c.in-Ok.ensures.found c.in-Ok.ensures.ready c.in-Ok.ensures.looks (c.in-Ok.ensures.faults.quiet (λ never. never))
-      (rw c.node.ensures at (sym c.if-not-are_of_node.ensures)) (g.O.Sink.taken c.args.sink.now) (g.O.Sink.taken c.serve_lines.new.sink) (disk_of c.serve_lines.new.manager)
+      (rw c.node.ensures at (sym c.if-not-are_of_node.ensures)) (g.O.Sink.taken c.args.sink.now) (g.O.Sink.taken c.serve_lines.new.sink) (g.C.Clock.told c.args.clock.now) (g.C.Clock.told c.serve_lines.new.clock) (disk_of c.serve_lines.new.manager)
       (IsOfAnother g.D.Disk.meaning.tells (g.D.Disk.meaning.seen c.args.disk 1) (lines_view c.args.lines.now))
       source (g.O.Sink.faults c.args.sink.now) (g.O.Sink.faults c.serve_lines.new.sink) w.in-Err-serve_lines.end w.in-Err-serve_lines.ensures.sink w.in-Err-serve_lines.ensures.stops)
 ])
@@ -31,11 +31,11 @@ pub returns-clause-serves : goal.returns-clause-serves
 returns-clause-serves g c = rw (c.of-2.ensures.end, c.of-2.ensures.disk, c.give_back-2.ensures) (elim c.match-serve_lines.branch [
   | in-Ok-serve_lines w ↦ rw w.end-is
       (all_served g.D.Disk.meaning (lines_view c.args.lines.now) c.args.disk c.in-Ok.manager c.in-Ok.ensures.found c.in-Ok.ensures.ready c.in-Ok.ensures.looks (c.in-Ok.ensures.faults.quiet (λ never. never))
-      (rw c.node.ensures at (sym c.if-not-are_of_node.ensures)) (g.O.Sink.taken c.args.sink.now) (g.O.Sink.taken c.serve_lines.new.sink) (disk_of c.serve_lines.new.manager)
+      (rw c.node.ensures at (sym c.if-not-are_of_node.ensures)) (g.O.Sink.taken c.args.sink.now) (g.O.Sink.taken c.serve_lines.new.sink) (g.C.Clock.told c.args.clock.now) (g.C.Clock.told c.serve_lines.new.clock) (disk_of c.serve_lines.new.manager)
       w.in-Ok-serve_lines.ensures.made)
   | in-Err-serve_lines w ↦ rw (w.end-is, w.from-end.ensures)
       (stopped_serves g.D.Disk.meaning (lines_view c.args.lines.now) c.args.disk c.in-Ok.manager c.in-Ok.ensures.found c.in-Ok.ensures.ready c.in-Ok.ensures.looks (c.in-Ok.ensures.faults.quiet (λ never. never))
-      (rw c.node.ensures at (sym c.if-not-are_of_node.ensures)) (g.O.Sink.taken c.args.sink.now) (g.O.Sink.taken c.serve_lines.new.sink) (disk_of c.serve_lines.new.manager)
+      (rw c.node.ensures at (sym c.if-not-are_of_node.ensures)) (g.O.Sink.taken c.args.sink.now) (g.O.Sink.taken c.serve_lines.new.sink) (g.C.Clock.told c.args.clock.now) (g.C.Clock.told c.serve_lines.new.clock) (disk_of c.serve_lines.new.manager)
       w.in-Err-serve_lines.end w.in-Err-serve_lines.ensures.stops)
 ])
 
@@ -43,10 +43,10 @@ pub returns-clause-others : goal.returns-clause-others
 returns-clause-others g c = rw (c.of-2.ensures.disk, c.give_back-2.ensures) (elim c.match-serve_lines.branch [
   | in-Ok-serve_lines w ↦
       all_keep_others g.D.Disk.meaning (lines_view c.args.lines.now) c.args.disk c.in-Ok.manager c.in-Ok.ensures.found c.in-Ok.ensures.ready c.in-Ok.ensures.looks (c.in-Ok.ensures.faults.quiet (λ never. never))
-      (rw c.node.ensures at (sym c.if-not-are_of_node.ensures)) (g.O.Sink.taken c.args.sink.now) (g.O.Sink.taken c.serve_lines.new.sink) (disk_of c.serve_lines.new.manager)
+      (rw c.node.ensures at (sym c.if-not-are_of_node.ensures)) (g.O.Sink.taken c.args.sink.now) (g.O.Sink.taken c.serve_lines.new.sink) (g.C.Clock.told c.args.clock.now) (g.C.Clock.told c.serve_lines.new.clock) (disk_of c.serve_lines.new.manager)
       w.in-Ok-serve_lines.ensures.made
   | in-Err-serve_lines w ↦
       stopped_keeps_others g.D.Disk.meaning (lines_view c.args.lines.now) c.args.disk c.in-Ok.manager c.in-Ok.ensures.found c.in-Ok.ensures.ready c.in-Ok.ensures.looks (c.in-Ok.ensures.faults.quiet (λ never. never))
-      (rw c.node.ensures at (sym c.if-not-are_of_node.ensures)) (g.O.Sink.taken c.args.sink.now) (g.O.Sink.taken c.serve_lines.new.sink) (disk_of c.serve_lines.new.manager)
+      (rw c.node.ensures at (sym c.if-not-are_of_node.ensures)) (g.O.Sink.taken c.args.sink.now) (g.O.Sink.taken c.serve_lines.new.sink) (g.C.Clock.told c.args.clock.now) (g.C.Clock.told c.serve_lines.new.clock) (disk_of c.serve_lines.new.manager)
       (end_of w.in-Err-serve_lines.end) w.in-Err-serve_lines.ensures.stops
 ])
