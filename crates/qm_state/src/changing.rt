@@ -1,4 +1,4 @@
-// Entries are changed: why that is refused, and what they become. Nothing is changed here.
+// Entries are changed, and the clock is looked at: why that is refused, and what entries become. Nothing is changed here.
 ghost use Rattle.std.specs.Prelude.{◌≡◌, ◌&&◌, ◌||◌, not, ℕ, List, unwrap_or, if◌then◌else◌, None, false};
 ghost use Rattle.std.specs.Option.{option_and_then, option_map_or};
 ghost use Rattle.qm_kinds.specs.declared.request.Request.TheVariants as request;
