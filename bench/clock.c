@@ -8,15 +8,13 @@
  * The file $READINGS, where it is named, gets a byte for each reading.
  */
 #define _GNU_SOURCE
-#include <dlfcn.h>
 #include <fcntl.h>
 #include <stdio.h>
 #include <stdlib.h>
 #include <string.h>
+#include <sys/syscall.h>
 #include <time.h>
 #include <unistd.h>
-
-#define REAL(type, name, ...) ((type (*)(__VA_ARGS__))dlsym(RTLD_NEXT, name))
 
 static struct timespec *moments;
 static size_t count, told;
@@ -81,7 +79,7 @@ static void note_reading(void)
 int clock_gettime(clockid_t clock, struct timespec *time)
 {
 	if (clock != CLOCK_REALTIME || count == 0)
-		return REAL(int, "clock_gettime", clockid_t, struct timespec *)(clock, time);
+		return syscall(SYS_clock_gettime, clock, time);
 	if (readings != NULL)
 		note_reading();
 	*time = moments[told];
