@@ -1,5 +1,5 @@
-//! The program: standard input and output and the files of the folder for the top call, the end's line on standard error,
-//! and its status.
+//! The program: standard input and output, the files of the folder and the system's clock for the top call, the end's line
+//! on standard error, and its status.
 #![tactic(auto)]
 
 ghost use Rattle.std.specs.Prelude.{◌≡◌};
@@ -10,7 +10,7 @@ mod advice;
 
 use advice::advice;
 use qm_files::FileDisk;
-use qm_io::{InputSource, OutputSink};
+use qm_io::{InputSource, OutputSink, SystemClock};
 use qm_program::{End, Outcome, qman};
 use std::alloc::AllocError;
 use std::io::IsTerminal;
@@ -48,9 +48,17 @@ fn run(rt: &HostRuntime) -> (End, bool) {
     let Ok(disk) = files(rt) else {
         return (End::NoMemory, false);
     };
+    let mut clock = SystemClock::new(rt);
     let mut source = InputSource::new(rt.stdin());
     let mut sink = OutputSink::new(rt.stdout());
-    let Outcome { end, disk, .. } = qman(rt.alloc(), &words, &mut source, &mut sink, disk);
+    let Outcome { end, disk, .. } = qman(
+        rt.alloc(),
+        &words,
+        &mut source,
+        &mut sink,
+        disk,
+        &mut clock,
+    );
     let is_in_use = disk.is_in_use();
     disk.close();
     (end, is_in_use)
