@@ -6,8 +6,8 @@ ghost use Rattle.qm_manager.specs.Asking.{HasShortLists};
 
 use qm_disk::MemoryDisk;
 use qm_kinds::{
-    Act, EntryState, FileName, Job, JobKind, JobRetain, NODE_NAME_BYTES, Name, Refusal, Reply,
-    Request, Seq, batch_queue,
+    Act, EntryState, FileName, Job, JobKind, JobRetain, Moment, NODE_NAME_BYTES, Name, Refusal,
+    Reply, Request, Seq, batch_queue,
 };
 use qm_manager::{AskFault, Manager, init};
 use std::alloc::{AllocError, Global};
@@ -90,7 +90,7 @@ pub(crate) fn new_site(alloc: Global, fail: &[u64]) -> Result<MemoryDisk, Fail> 
     }
 }
 
-// Asks for this, on a disk that is opened anew.
+// Asks for this, on a disk that is opened anew, at the base of the system time.
 pub(crate) fn ask(
     alloc: Global,
     disk: MemoryDisk,
@@ -101,7 +101,7 @@ pub(crate) fn ask(
 {
     match Manager::open(alloc, disk) {
         Ok(mut manager) => {
-            let answer = manager.ask(request);
+            let answer = manager.ask(Moment::BASE, request);
             Ok((manager.give_back(), answer))
         }
         Err((_disk, fault)) => Err(fault.into()),

@@ -7,6 +7,8 @@ mod again;
 #[cfg(test)]
 mod by_hand;
 #[cfg(test)]
+mod clocks;
+#[cfg(test)]
 mod damage;
 #[cfg(test)]
 mod ends;

@@ -1,6 +1,9 @@
 // Runs of the program over memory.
+ghost use Rattle.std.specs.Prelude.{◌<◌, length};
+
 use qm_disk::{Disk, MemoryDisk};
-use qm_io::{MemorySink, MemorySource};
+use qm_io::{MemoryClock, MemorySink, MemorySource};
+use qm_kinds::Moment;
 use qm_program::{End, Outcome, qman};
 use std::alloc::{AllocError, Global};
 use std::fmt::Debug;
@@ -51,19 +54,27 @@ pub(crate) fn disk_with(
     ))
 }
 
-/// Calls the program with these words: how it ended, what it printed, and the disk that it handed back.
+/// What a clock tells that stands at the base of the system time.
+pub(crate) const STANDING: &[Moment] = &[Moment::BASE];
+
+/// Calls the program with these words, where the clock tells these moments: how it ended, what it printed, and the disk that
+/// it handed back.
 pub(crate) fn call<D: Disk + Drop>(
     alloc: Global,
     words: &[&str],
     mut source: MemorySource,
     mut sink: MemorySink,
     disk: D,
-) -> Result<(End, Vec<u8>, D), AllocError> {
+    moments: &[Moment],
+) -> Result<(End, Vec<u8>, D), AllocError>
+    requires { 0 < length moments.now }
+{
     let mut owned = Vec::new(alloc);
     for word in words {
         owned.push(String::from_str(alloc, word)?)?;
     }
-    let Outcome { end, disk, .. } = qman(alloc, &owned, &mut source, &mut sink, disk);
+    let mut clock = MemoryClock::new(moments.to_vec(alloc)?);
+    let Outcome { end, disk, .. } = qman(alloc, &owned, &mut source, &mut sink, disk, &mut clock);
     Ok((end, sink.held().to_vec(alloc)?, disk))
 }
 
@@ -79,7 +90,7 @@ pub(crate) fn run_with(
 ) -> Result<Ran, AllocError> {
     let source = MemorySource::new(script.to_vec(alloc)?, reads_that_fail.to_vec(alloc)?);
     let sink = MemorySink::new(alloc, writes_that_fail.to_vec(alloc)?);
-    let (end, transcript, disk) = call(alloc, words, source, sink, disk)?;
+    let (end, transcript, disk) = call(alloc, words, source, sink, disk, STANDING)?;
     Ok(Ran {
         end,
         transcript,
