@@ -29,7 +29,8 @@ use Rattle.qm_history.specs.declared.event.Event.TheVariants as event
 use Rattle.qm_history.specs.declared.world.Role.{Role}
 use Rattle.qm_history.specs.declared.world.World.{World}
 use Rattle.qm_history.specs.Accepted.{cluster, IsListOfNodes, HasListsOfNodes, CanFollow}
-use Rattle.qm_history.specs.Calls.{input_of, acting, is_start, IsForUsers, IsFromOutside}
+use Rattle.qm_history.specs.Calls.{input_of, is_start, IsForUsers, IsFromOutside}
+use Rattle.qm_model.specs.Acting.{acting}
 use Rattle.qm_history.specs.Computed.{decided, asked_of, viewed, fenced_or, compacted, started, goes, going, own_events, takeover, taking, unless_refused_at_once, behind_takeover, unless_down, turn_of, IsLawfulInput, AreSpelled}
 use Rattle.qm_model.specs.Folding.{system_of}
 use Rattle.qm_model.specs.Log.{request_record}

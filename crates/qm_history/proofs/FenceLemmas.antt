@@ -21,7 +21,8 @@ use Rattle.qm_history.specs.declared.event.Event.TheVariants as event
 use Rattle.qm_history.specs.declared.turn.Turn.{Turn}
 use Rattle.qm_history.specs.declared.world.Role.{Role}
 use Rattle.qm_history.specs.declared.world.World.{World}
-use Rattle.qm_history.specs.Calls.{input_of, acting}
+use Rattle.qm_history.specs.Calls.{input_of}
+use Rattle.qm_model.specs.Acting.{acting}
 use Rattle.qm_history.specs.Happening.{is_fence, has_fence}
 use Rattle.qm_history.specs.Legal.{after_turn, IsLegalTurn}
 use Rattle.qm_history.specs.Step.{after_event, after_events}

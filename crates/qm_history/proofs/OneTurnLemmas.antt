@@ -22,7 +22,8 @@ use Rattle.qm_history.specs.declared.event.Event.TheVariants as event
 use Rattle.qm_history.specs.declared.turn.Turn.{Turn}
 use Rattle.qm_history.specs.declared.turn.Why.{Why}
 use Rattle.qm_history.specs.declared.world.World.{World}
-use Rattle.qm_history.specs.Calls.{input_of, why_of, acting}
+use Rattle.qm_history.specs.Calls.{input_of, why_of}
+use Rattle.qm_model.specs.Acting.{acting}
 use Rattle.qm_history.specs.Computed.{decided, asked_of, viewed, fenced_or, compacted, come_up, started, goes, going, own_events, takeover, taking, unless_refused_at_once, behind_takeover, unless_down, events_of_call, turn_of, AreAllDetermined, AreDetermined}
 use Rattle.qm_model.specs.Folding.{system_of}
 use Rattle.qm_history.specs.Leaving.{told_by}

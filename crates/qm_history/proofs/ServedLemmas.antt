@@ -21,7 +21,8 @@ use Rattle.qm_history.specs.declared.call.Call.TheVariants as call
 use Rattle.qm_history.specs.declared.event.Event.{Event}
 use Rattle.qm_history.specs.declared.event.Event.TheVariants as event
 use Rattle.qm_history.specs.declared.world.World.{World}
-use Rattle.qm_history.specs.Calls.{input_of, acting}
+use Rattle.qm_history.specs.Calls.{input_of}
+use Rattle.qm_model.specs.Acting.{acting}
 use Rattle.qm_history.specs.Computed.{decided, asked_of, viewed, fenced_or, compacted, started, going, own_events, takeover, taking, unless_refused_at_once, behind_takeover, unless_down, events_of_call}
 use Rattle.qm_model.specs.Folding.{system_of}
 use Rattle.qm_history.specs.Step.{after_event}

@@ -25,7 +25,8 @@ use Rattle.qm_history.specs.declared.turn.Why.TheVariants as why
 use Rattle.qm_history.specs.declared.world.Role.{Role}
 use Rattle.qm_history.specs.declared.world.World.{World}
 use Rattle.qm_history.specs.Answering.{MayAnswer}
-use Rattle.qm_history.specs.Calls.{input_of, acting}
+use Rattle.qm_history.specs.Calls.{input_of}
+use Rattle.qm_model.specs.Acting.{acting}
 use Rattle.qm_history.specs.Chest.{AddsTurn, IsMadeFor, LeavesTurn, TellsRoom}
 use Rattle.qm_history.specs.Contents.{Compacts, HoldWorld, IsEpochOf, Keeps, LeavesFiles, are_without_write}
 use Rattle.qm_history.specs.Course.{Whole}

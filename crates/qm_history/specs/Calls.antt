@@ -1,11 +1,10 @@
 -- What a call asks for, and why its turn is made.
 -- OpenVMS System Services Reference Manual, $SNDJBC, on what symbionts and users ask for. This site's own: that a node leaves.
-use Rattle.std.specs.Prelude.{ℕ, Bool, true, false, max}
+use Rattle.std.specs.Prelude.{ℕ, Bool, true, false}
 use Rattle.qm_kinds.specs.declared.input.Input.{Input}
 use Rattle.qm_kinds.specs.declared.input.Input.TheVariants as input
 use Rattle.qm_kinds.specs.declared.request.Request.{Request}
 use Rattle.qm_kinds.specs.declared.request.Request.TheVariants as request
-use Rattle.qm_kinds.specs.declared.system.System.{System}
 use Rattle.qm_kinds.specs.declared.work.Report.{Report}
 use Rattle.qm_kinds.specs.declared.work.Report.TheVariants as report
 use Rattle.qm_history.specs.declared.call.Call.{Call}
@@ -48,7 +47,3 @@ IsFromOutside asked = Unit {0}
 abbrev pub is_start : Input → Bool
 is_start input.StartNode = true
 is_start asked = false
-
--- the moment at which a turn acts on a system: what its node's clock told, or the last change where that is later
-abbrev pub acting : ℕ → System → ℕ
-acting reading s = max reading s.last

@@ -23,7 +23,8 @@ use Rattle.qm_history.specs.declared.event.Event.{Event}
 use Rattle.qm_history.specs.declared.event.Event.TheVariants as event
 use Rattle.qm_history.specs.declared.turn.Turn.{Turn}
 use Rattle.qm_history.specs.declared.world.World.{World}
-use Rattle.qm_history.specs.Calls.{input_of, why_of, acting}
+use Rattle.qm_history.specs.Calls.{input_of, why_of}
+use Rattle.qm_model.specs.Acting.{acting}
 use Rattle.qm_model.specs.Folding.{system_of}
 use Rattle.qm_history.specs.Records.{record_of}
 use Rattle.qm_history.specs.Step.{after_event}

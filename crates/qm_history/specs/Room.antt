@@ -14,7 +14,8 @@ use Rattle.qm_history.specs.declared.event.Event.{Event}
 use Rattle.qm_history.specs.declared.event.Event.TheVariants as event
 use Rattle.qm_history.specs.declared.turn.Turn.{Turn}
 use Rattle.qm_history.specs.declared.world.World.{World}
-use Rattle.qm_history.specs.Calls.{input_of, acting}
+use Rattle.qm_history.specs.Calls.{input_of}
+use Rattle.qm_model.specs.Acting.{acting}
 use Rattle.qm_history.specs.Faults.{tells_disk_fault}
 use Rattle.qm_model.specs.Folding.{after_record}
 use Rattle.qm_history.specs.Legal.{after_turn}

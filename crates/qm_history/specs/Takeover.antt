@@ -12,7 +12,7 @@ use Rattle.qm_history.specs.declared.event.Event.{Event}
 use Rattle.qm_history.specs.declared.event.Event.TheVariants as event
 use Rattle.qm_history.specs.declared.world.World.{World}
 use Rattle.qm_history.specs.Accepted.{cluster}
-use Rattle.qm_history.specs.Calls.{acting}
+use Rattle.qm_model.specs.Acting.{acting}
 use Rattle.qm_model.specs.Folding.{system_of}
 use Rattle.qm_history.specs.Step.{after_event}
 use Rattle.qm_history.specs.World.{system_in, log_read}

@@ -24,7 +24,8 @@ use Rattle.qm_history.specs.declared.event.Event.TheVariants as event
 use Rattle.qm_history.specs.declared.turn.Turn.{Turn}
 use Rattle.qm_history.specs.declared.world.Role.{Role}
 use Rattle.qm_history.specs.declared.world.World.{World}
-use Rattle.qm_history.specs.Calls.{input_of, why_of, IsFromOutside, is_start, acting}
+use Rattle.qm_history.specs.Calls.{input_of, why_of, IsFromOutside, is_start}
+use Rattle.qm_model.specs.Acting.{acting}
 use Rattle.qm_history.specs.Step.{CanAllCome}
 use Rattle.qm_history.specs.Takeover.{takes_over, nodes_on, TakesOverThen}
 use Rattle.qm_history.specs.World.{system_in, is_live, held_by, role_in}
