@@ -8,6 +8,7 @@ use std::time::Duration;
 use std::{io, time};
 
 // A system that tells the time which it was given, counted from 1-JAN-1970, and fails where it has none.
+#[derive(Drop)]
 struct Given {
     time: Cell<Option<Duration>>,
 }
