@@ -163,8 +163,8 @@ StartAtMost most change s = (now : ℕ) (node : List ℕ) → starts_behind chan
 
 -- The change can be made on the image: for what comes there is room, a new form or characteristic has a name and a number of its
 -- own, a new entry has the next number and no run, its file is there and may be named once more, an entry that is changed waits,
--- has no run then and keeps its file, no entry names a file that goes, and no job runs for a queue that goes. For what may wait for
--- a moment, or be kept until one, there is room for a timer.
+-- has no run then and keeps its file, no entry names a file that goes, and no job runs for a queue that goes. For what may wait
+-- for a moment, or be kept until one, there is room for a timer.
 abbrev pub IsReady : Image → Change → Type 0
 IsReady image (NewFile name bytes) = CanInsert image name bytes.items
 IsReady image (MoreBytes name bytes) = CanAppend image name bytes.now

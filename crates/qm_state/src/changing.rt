@@ -168,8 +168,8 @@ impl Image {
         changed_entry(self.parts.form_table(), now, change, entry)
     }
 
-    /// Decides on an entry that is changed, and takes the room for a timer: it may wait for a moment then. Whether it waits is judged before what is due at the acting moment is done; its
-    /// new state goes by that moment.
+    /// Decides on an entry that is changed, and takes the room for a timer: it may wait for a moment then. Whether it waits is
+    /// judged before what is due at the acting moment is done; its new state goes by that moment.
     #[tactic(auto, unfolding(crate::specs::Image::system_of))]
     #[inline(never)]
     pub(crate) fn prepare_set_entry<'a>(
