@@ -10,7 +10,7 @@ use Rattle.qm_kinds.specs.declared.work.Report.TheVariants.{Done}
 use Rattle.qm_model.specs.Pages.{lines}
 use Rattle.qm_model.specs.Batch.{BatchMove, move_at, normal_status, line_limit_status}
 use Rattle.qm_model.specs.Reports.{Step, Handed, Reported, line_limit, steps_of, batch_steps, course_of, course, next_report, blocks_before_report}
-use Rattle.qm_symb.specs.Device.{Meaning, Takes, OneFailed, IsQuiet, blocks_of_run}
+use Rattle.qm_symb.specs.Device.{Meaning, Takes, OneFailed, IsQuiet, handed_by}
 use Rattle.qm_symb.specs.Symbiont.{GoesOn, Fails}
 
 -- ---- the course from a line on, move by move
@@ -50,16 +50,16 @@ at_limit w used line full = ap (λ n. batch_steps n (lines w.text) w.again w.mar
 -- ---- how far a step came
 
 module _ {D : Type 0} (m : Meaning D) where
-  -- so much of a course is left, and the blocks before that were handed over, but no report was given
-  pub record Passed (run : ℕ) (all left : List Step) (old new : D) : Type 0 where
+  -- so much of a run's course is left, and the blocks before that were handed over, but no report was given
+  pub record Passed (w : Work) (at : Place) (left : List Step) (old new : D) : Type 0 where
     pub handed : List (List ℕ)
-    pub report : next_report all ≡ next_report left
-    pub blocks : blocks_before_report all ≡ handed ++ blocks_before_report left
-    pub took : Takes m run handed old new
+    pub report : next_report (course w at) ≡ next_report left
+    pub blocks : blocks_before_report (course w at) ≡ handed ++ blocks_before_report left
+    pub took : Takes m w.run w.device handed old new
     pub quiet : IsQuiet m old new
 
-  pub nothing_passed : (run : ℕ) (all left : List Step) (old : D) → all ≡ left → Passed run all left old old
-  nothing_passed run all left old is = record {
+  pub nothing_passed : (w : Work) (at : Place) (left : List Step) (old : D) → course w at ≡ left → Passed w at left old old
+  nothing_passed w at left old is = record {
     handed = [];
     report = ap next_report is;
     blocks = ap blocks_before_report is;
@@ -67,47 +67,47 @@ module _ {D : Type 0} (m : Meaning D) where
     quiet = refl;
   }
 
-  module _ (run : ℕ) (all : List Step) (old : D) where
-    pub passed_same : (left other : List Step) (new : D) → Passed run all left old new → left ≡ other → Passed run all other old new
-    passed_same left other new p is = subst (λ l. Passed run all l old new) is p
+  module _ (w : Work) (at : Place) (old : D) where
+    pub passed_same : (left other : List Step) (new : D) → Passed w at left old new → left ≡ other → Passed w at other old new
+    passed_same left other new p is = subst (λ l. Passed w at l old new) is p
 
     -- one more block was handed over
-    pub passed_block : (left rest : List Step) (block given : List ℕ) (mid new : D) → Passed run all left old mid → left ≡ Handed block ∷ rest
-        → given ≡ block → Takes m run (given ∷ []) mid new → IsQuiet m mid new → Passed run all rest old new
+    pub passed_block : (left rest : List Step) (block given : List ℕ) (mid new : D) → Passed w at left old mid → left ≡ Handed block ∷ rest
+        → given ≡ block → Takes m w.run w.device (given ∷ []) mid new → IsQuiet m mid new → Passed w at rest old new
     passed_block left rest block given mid new p is same taken quiet = record {
       handed = p.handed ++ block ∷ [];
       report = p.report ∙ ap next_report is;
       blocks = p.blocks ∙ ap (λ l. p.handed ++ blocks_before_report l) is ∙ sym (append_assoc p.handed (block ∷ []) (blocks_before_report rest));
       took = λ tells. taken tells
-          ∙ ap (λ b. m.taken mid ++ blocks_of_run run (b ∷ [])) same
-          ∙ ap (λ l. l ++ blocks_of_run run (block ∷ [])) (p.took tells)
-          ∙ append_assoc (m.taken old) (blocks_of_run run p.handed) (blocks_of_run run (block ∷ []))
-          ∙ ap (λ l. m.taken old ++ l) (sym (map-append (λ b. (run, b)) p.handed (block ∷ [])));
+          ∙ ap (λ b. m.taken mid ++ handed_by w.run w.device (b ∷ [])) same
+          ∙ ap (λ l. l ++ handed_by w.run w.device (block ∷ [])) (p.took tells)
+          ∙ append_assoc (m.taken old) (handed_by w.run w.device p.handed) (handed_by w.run w.device (block ∷ []))
+          ∙ ap (λ l. m.taken old ++ l) (sym (map-append (λ (b : List ℕ). record { run = w.run; device = w.device; block = b }) p.handed (block ∷ [])));
       quiet = quiet ∙ p.quiet;
     }
 
     -- the next report is given
-    pub comes_to_report : (left rest : List Step) (told due : Report) (new : D) → Passed run all left old new → left ≡ Reported due ∷ rest → told ≡ due → GoesOn m run all told old new
+    pub comes_to_report : (left rest : List Step) (told due : Report) (new : D) → Passed w at left old new → left ≡ Reported due ∷ rest → told ≡ due → GoesOn m w at told old new
     comes_to_report left rest told due new p is same =
-        let handed : blocks_before_report all ≡ p.handed = p.blocks ∙ ap (λ l. p.handed ++ blocks_before_report l) is ∙ append-nil p.handed in
+        let handed : blocks_before_report (course w at) ≡ p.handed = p.blocks ∙ ap (λ l. p.handed ++ blocks_before_report l) is ∙ append-nil p.handed in
         record {
           next = same ∙ sym (p.report ∙ ap next_report is);
-          blocks = λ tells. p.took tells ∙ ap (λ l. m.taken old ++ blocks_of_run run l) (sym handed);
+          blocks = λ tells. p.took tells ∙ ap (λ l. m.taken old ++ handed_by w.run w.device l) (sym handed);
           quiet = p.quiet;
         }
 
-    front_handed : (left : List Step) (new : D) (p : Passed run all left old new) → take (length p.handed) (blocks_before_report all) ≡ p.handed
+    front_handed : (left : List Step) (new : D) (p : Passed w at left old new) → take (length p.handed) (blocks_before_report (course w at)) ≡ p.handed
     front_handed left new p = ap (take (length p.handed)) p.blocks ∙ take_at p.handed (blocks_before_report left) (length p.handed) refl
 
     -- the device fails at a block
-    pub fails_at_block : (left rest : List Step) (block : List ℕ) (mid new : D) → Passed run all left old mid → left ≡ Handed block ∷ rest
-        → Takes m run [] mid new → OneFailed m mid new → Fails m run all (Done 1028) old new
+    pub fails_at_block : (left rest : List Step) (block : List ℕ) (mid new : D) → Passed w at left old mid → left ≡ Handed block ∷ rest
+        → Takes m w.run w.device [] mid new → OneFailed m mid new → Fails m w at (Done 1028) old new
     fails_at_block left rest block mid new p is taken failed = record {
       ended = refl;
       blocks = (
         length p.handed,
         omega (arith, ap length p.blocks, length-append p.handed (blocks_before_report left), ap (λ l. length (blocks_before_report l)) is),
-        λ tells. taken tells ∙ append-nil (m.taken mid) ∙ p.took tells ∙ ap (λ l. m.taken old ++ blocks_of_run run l) (sym (front_handed left mid p)),
+        λ tells. taken tells ∙ append-nil (m.taken mid) ∙ p.took tells ∙ ap (λ l. m.taken old ++ handed_by w.run w.device l) (sym (front_handed left mid p)),
       );
       rose = failed ∙ ap (λ n. min (n + 1) (2 ^ 64 - 1)) p.quiet;
     }

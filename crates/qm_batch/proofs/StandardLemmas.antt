@@ -38,14 +38,14 @@ module _ (w : Work) (p : Place) (is : w.kind ≡ Print) (cursor : pages.Cursor) 
       go (block ∷ blocks) here =
           subst (λ r. IfGoesOn r (λ next. IsAtBlock w next cursor)) (sym (report_of_next w p block blocks is here)) (marked (length (page_blocks w)) (p.at + 1) refl)
 
-  stands_after : {D : Type 0} (m : Meaning D) (report : Report) (old new : D) → Steps m w.run (course w p) report old new → IfGoesOn report (λ next. IsAtBlock w next cursor)
+  stands_after : {D : Type 0} (m : Meaning D) (report : Report) (old new : D) → Steps m w p report old new → IfGoesOn report (λ next. IsAtBlock w next cursor)
   stands_after m report old new steps =
       ⊎_elim (λ goes. subst (λ r. IfGoesOn r (λ next. IsAtBlock w next cursor)) (sym goes.next) next_stands)
       (λ fails. subst (λ r. IfGoesOn r (λ next. IsAtBlock w next cursor)) (sym fails.ended) tt) steps
 
 -- the same of what a step answers
 pub step_stands : (w : Work) (p : Place) (cursor : pages.Cursor) {D E : Type 0} (m : Meaning D) (old new : D) (answer : Result Report E) → w.kind ≡ Print
-    → IfOk answer (λ report. Steps m w.run (course w p) report old new) → IfOk answer (λ report. blocks_from w cursor ≡ drop (p.at + 1) (page_blocks w))
+    → IfOk answer (λ report. Steps m w p report old new) → IfOk answer (λ report. blocks_from w cursor ≡ drop (p.at + 1) (page_blocks w))
     → IfOk answer (λ report. IfGoesOn report (λ next. IsAtBlock w next cursor))
 step_stands w p cursor m old new (Ok report) is steps behind = stands_after w p is cursor behind m report old new steps
 step_stands w p cursor m old new (Err fault) is steps behind = tt

@@ -2,7 +2,6 @@
 ghost use Rattle.std.specs.Prelude.{◌≡◌, ◌<◌, ◌≤◌, ◌+◌, ◌∷◌, ◌++◌, [], nat_le, if◌then◌else◌, length, vec_capacity, IfOk, OnErr};
 ghost use Rattle.qm_kinds.specs.declared.entry.JobKind.TheVariants.{Batch};
 ghost use Rattle.qm_model.specs.Pages.{lines};
-ghost use Rattle.qm_model.specs.Reports.{course};
 ghost use Rattle.qm_symb.specs.Device.{Meaning};
 ghost use Rattle.qm_symb.specs.Symbiont.{IfGoesOn, IsWithinLimits, Steps};
 ghost use Rattle.qm_batch.specs.Cursors.{IsInText, Stands};
@@ -79,7 +78,7 @@ pub fn batch_step<P: Device>(
     requires limits { IsWithinLimits work.now }
     requires kind { work.now.kind ≡ Batch }
     requires place { Stands work.now at cursor.old }
-    ensures stepped { IfOk result (λ report. Steps P.meaning work.now.run (course work.now at) report device.old device.new) }
+    ensures stepped { IfOk result (λ report. Steps P.meaning work.now at report device.old device.new) }
     ensures next_place { IfOk result (λ report. IfGoesOn report (λ next. Stands work.now next cursor.new)) }
     ensures no_memory { OnErr result (device.new ≡ device.old) }
     ensures same_place { OnErr result (cursor.new ≡ cursor.old) }

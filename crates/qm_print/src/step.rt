@@ -2,7 +2,7 @@
 ghost use Rattle.std.specs.Prelude.{◌≡◌, ◌+◌, ◌<◌, length, drop, decimal, IfOk, OnOk, OnErr, nat_lt};
 ghost use Rattle.qm_kinds.specs.declared.entry.JobKind.TheVariants.{Print};
 ghost use Rattle.qm_model.specs.Pages.{page_blocks};
-ghost use Rattle.qm_model.specs.Reports.{course, print_report};
+ghost use Rattle.qm_model.specs.Reports.{print_report};
 ghost use Rattle.qm_symb.specs.Device.{Meaning};
 ghost use Rattle.qm_symb.specs.Symbiont.{IsWithinLimits, Steps};
 ghost use Rattle.qm_print.specs.Places.{blocks_from};
@@ -65,7 +65,7 @@ pub fn print_step<P: Device>(
     requires limits { IsWithinLimits work.now }
     requires kind { work.now.kind ≡ Print }
     requires place { blocks_from work.now cursor.old ≡ drop at.at (page_blocks work.now) }
-    ensures stepped { IfOk result (λ report. Steps P.meaning work.now.run (course work.now at) report device.old device.new) }
+    ensures stepped { IfOk result (λ report. Steps P.meaning work.now at report device.old device.new) }
     ensures next_place { OnOk result (blocks_from work.now cursor.new ≡ drop (at.at + 1) (page_blocks work.now)) }
     ensures no_memory { OnErr result (device.new ≡ device.old) }
     ensures same_place { OnErr result (cursor.new ≡ cursor.old) }

@@ -1,10 +1,10 @@
--- What a step of a symbiont leaves, in a run that has this course before it.
-use Rattle.std.specs.Prelude.{◌≡◌, ◌⊎◌, ℕ, ◌+◌, ◌<◌, ◌≤◌, List, length}
+-- What a step of a symbiont leaves, from a place of a run's work on.
+use Rattle.std.specs.Prelude.{◌≡◌, ◌⊎◌, ℕ, ◌+◌, ◌<◌, ◌≤◌, length}
 use Rattle.qm_kinds.specs.declared.work.Work.{Work}
 use Rattle.qm_kinds.specs.declared.work.Place.{Place}
 use Rattle.qm_kinds.specs.declared.work.Report.{Report}
 use Rattle.qm_kinds.specs.declared.work.Report.TheVariants.{Done, Mark}
-use Rattle.qm_model.specs.Reports.{Step, next_report, blocks_before_report}
+use Rattle.qm_model.specs.Reports.{course, next_report, blocks_before_report}
 use Rattle.qm_symb.specs.Device.{Meaning, Takes, TakesNotAll, OneFailed, IsQuiet}
 use Rattle.qm_symb.specs.declared.symbiont.TheConstants.{DEVICE_FAULT_STATUS, TEXT_BYTES}
 
@@ -20,18 +20,18 @@ IfGoesOn (Mark value next) fact = fact next
 IfGoesOn (Done status) fact = Unit {0}
 
 module _ {D : Type 0} (m : Meaning D) where
-  -- the next report is given, and the blocks before it were handed over
-  pub record GoesOn (run : ℕ) (course : List Step) (report : Report) (old new : D) : Type 0 where
-    pub next : report ≡ next_report course
-    pub blocks : Takes m run (blocks_before_report course) old new
+  -- the next report is given, and the blocks before it were handed to the work's device
+  pub record GoesOn (w : Work) (at : Place) (report : Report) (old new : D) : Type 0 where
+    pub next : report ≡ next_report (course w at)
+    pub blocks : Takes m w.run w.device (blocks_before_report (course w at)) old new
     pub quiet : IsQuiet m old new
 
   -- the device failed at one of the blocks before the next report, and the run ends with the status of that
-  pub record Fails (run : ℕ) (course : List Step) (report : Report) (old new : D) : Type 0 where
+  pub record Fails (w : Work) (at : Place) (report : Report) (old new : D) : Type 0 where
     pub ended : report ≡ Done DEVICE_FAULT_STATUS
-    pub blocks : TakesNotAll m run (blocks_before_report course) old new
+    pub blocks : TakesNotAll m w.run w.device (blocks_before_report (course w at)) old new
     pub rose : OneFailed m old new
 
   -- a step that gives a report
-  abbrev pub Steps : ℕ → List Step → Report → D → D → Type 0
-  Steps run course report old new = GoesOn run course report old new ⊎ Fails run course report old new
+  abbrev pub Steps : Work → Place → Report → D → D → Type 0
+  Steps w at report old new = GoesOn w at report old new ⊎ Fails w at report old new

@@ -4,6 +4,7 @@
 
 mod device;
 mod files;
+mod handed;
 mod laws;
 mod memory;
 mod symbiont;
@@ -12,6 +13,7 @@ mod tests;
 
 pub use device::{Device, DeviceFault};
 pub use files::FileDevice;
+pub use handed::HandOver;
 pub use laws::runs_have_limits;
 pub use memory::MemoryDevice;
 pub use symbiont::{Beginning, DEVICE_FAULT_STATUS, Symbiont, TEXT_BYTES};

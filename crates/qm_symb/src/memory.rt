@@ -1,20 +1,20 @@
-// A device in memory, which fails at the calls that a list names.
+// Devices in memory, which fail at the calls that a list names.
 ghost use Rattle.std.specs.Prelude.{◌≡◌, [], ◌∷◌, ◌++◌, Contains, IsErr, OnErr, OnOk};
-ghost use Rattle.qm_symb.specs.Device.{Takes, TellsFaults};
+ghost use Rattle.qm_symb.specs.Device.{Takes, TellsFaults, handed_by};
 ghost use Rattle.qm_faults.specs.Faults.{counted};
 ghost use Rattle.qm_symb.specs.Held.{in_memory};
 
-use crate::{Device, DeviceFault};
+use crate::{Device, DeviceFault, HandOver};
 use qm_faults::Calls;
 use qm_kinds::{Name, Seq};
 use std::alloc::{AllocError, Global};
 use std::marker::Model;
 
-/// A device in memory, whatever its name. Contracts see a `HeldDevice`: the blocks that it took, and the calls.
+/// The devices of a node, in memory. Contracts see a `HeldDevice`: the blocks that they took, and the calls.
 #[derive(Drop)]
 pub struct MemoryDevice {
     alloc: Global,
-    taken: Vec<(u64, Seq<u8>)>,
+    taken: Vec<HandOver>,
     calls: Calls,
 }
 
@@ -32,7 +32,7 @@ impl Model for MemoryDevice {
 }
 
 impl MemoryDevice {
-    /// A device that has taken nothing. It fails at each call whose number, counted from 1, is listed in `fail`, and
+    /// Devices that have taken nothing. They fail at each call whose number, counted from 1, is listed in `fail`, and
     /// at another only for want of memory.
     pub fn new(alloc: Global, fail: Vec<u64>) -> MemoryDevice
         ensures { result ≡ record { taken = []; fail = fail.items; calls = 0; faults = 0 } }
@@ -44,8 +44,8 @@ impl MemoryDevice {
         }
     }
 
-    /// The blocks that it took, each with its run.
-    pub fn held(&self) -> &[(u64, Seq<u8>)]
+    /// The blocks that they took, each with its run and its device.
+    pub fn held(&self) -> &[HandOver]
         ensures { result.now ≡ self.now.taken }
     {
         &self.taken
@@ -55,15 +55,20 @@ impl MemoryDevice {
 // Keeps a block, or leaves what is kept.
 fn keep(
     alloc: Global,
-    taken: &mut Vec<(u64, Seq<u8>)>,
+    taken: &mut Vec<HandOver>,
     run: u64,
+    device: &Name,
     block: &[u8],
 ) -> Result<(), AllocError>
-    ensures ok { OnOk result (taken.new.items ≡ taken.old.items ++ (run, block.now) ∷ []) }
+    ensures ok { OnOk result (taken.new.items ≡ taken.old.items ++ handed_by run device.now (block.now ∷ [])) }
     ensures err { OnErr result (taken.new.items ≡ taken.old.items) }
 {
     let block = Seq::of(block.to_vec(alloc)?);
-    taken.push((run, block))?;
+    taken.push(HandOver {
+        run,
+        device: *device,
+        block,
+    })?;
     Ok(())
 }
 
@@ -71,10 +76,10 @@ impl Device for MemoryDevice {
     ghost meaning = { in_memory };
 
     /// Keeps the block.
-    fn hand(&mut self, run: u64, _device: &Name, block: &[u8]) -> Result<(), DeviceFault>
+    fn hand(&mut self, run: u64, device: &Name, block: &[u8]) -> Result<(), DeviceFault>
         ensures unlisted { OnOk result (¬ Contains self.old.fail (counted self.old.calls)) }
         ensures ok { OnOk result (self.new ≡ record self.old {
-          taken = self.old.taken ++ (run, block.now) ∷ [];
+          taken = self.old.taken ++ handed_by run device.now (block.now ∷ []);
           calls = counted self.old.calls;
         }) }
         ensures err { OnErr result (self.new ≡ record self.old {
@@ -82,14 +87,14 @@ impl Device for MemoryDevice {
           faults = counted self.old.faults;
         }) }
 
-        ensures handed { OnOk result (Takes in_memory run (block.now ∷ []) self.old self.new) }
-        ensures refused { OnErr result (Takes in_memory run [] self.old self.new) }
+        ensures handed { OnOk result (Takes in_memory run device.now (block.now ∷ []) self.old self.new) }
+        ensures refused { OnErr result (Takes in_memory run device.now [] self.old self.new) }
         ensures faults { TellsFaults in_memory self.old self.new (IsErr result) }
     {
         if !self.calls.begin() {
             return Err(DeviceFault);
         }
-        if keep(self.alloc, &mut self.taken, run, block).is_err() {
+        if keep(self.alloc, &mut self.taken, run, device, block).is_err() {
             self.calls.count_fault();
             return Err(DeviceFault);
         }

@@ -15,14 +15,18 @@ fn name(text: &str) -> Name {
 fn a_listed_call_takes_nothing(rt: HostRuntime) -> Result<(), Fail> {
     let alloc = rt.alloc();
     let mut device = MemoryDevice::new(alloc, vec![in alloc; 2]?);
-    let lpa = name("LPA0");
-    for (run, block, holds) in [(1, "a", true), (1, "b", false), (2, "c", true)] {
-        assert_eq!(rt; device.hand(run, &lpa, block.as_bytes()).is_ok(), holds);
+    for (run, to, block, holds) in [
+        (1, "LPA0", "a", true),
+        (1, "LPA0", "b", false),
+        (2, "LPB0", "c", true),
+    ] {
+        assert_eq!(rt; device.hand(run, &name(to), block.as_bytes()).is_ok(), holds);
     }
     let held = device.held();
     assert!(rt; held.len() == 2);
-    for ((run, block), (wanted_run, wanted)) in held.iter().zip(&[(1, "a"), (2, "c")]) {
-        assert!(rt; run == wanted_run && block.as_slice() == wanted.as_bytes());
+    for (taken, (run, to, block)) in held.iter().zip(&[(1, "LPA0", "a"), (2, "LPB0", "c")]) {
+        assert!(rt; taken.run == *run && taken.device.as_bytes() == to.as_bytes());
+        assert!(rt; taken.block.as_slice() == block.as_bytes());
     }
     Ok(())
 }

@@ -1,6 +1,5 @@
 use Rattle.std.proofs.Common.{◌≡◌, ◌<◌, length}
 use Rattle.std.specs.Prelude.{vec_capacity}
-use Rattle.qm_model.specs.Reports.{course}
 use Rattle.qm_batch.specs.Cursors.{IsInText}
 use Rattle.qm_batch.proofs.CourseLemmas.{Passed, steps_from}
 use Rattle.qm_batch.proofs.step.batch_step.Given as goal
@@ -11,5 +10,5 @@ invariant-loop-used g l = record {
   same : l.cursor ≡ l.initial.cursor;
   in_text : IsInText l.work.text l.here;
   room : length l.work.text < vec_capacity l.block;
-  passed : Passed g.P.Device.meaning l.work.run (course l.work l.fn.at) (steps_from l.work l.used l.here.line) l.initial.device l.device;
+  passed : Passed g.P.Device.meaning l.work l.fn.at (steps_from l.work l.used l.here.line) l.initial.device l.device;
 }
