@@ -6,15 +6,19 @@ use crate::{Device, DeviceFault};
 use qm_faults::Faults;
 use qm_kinds::Name;
 use std::alloc::AllocError;
-use std::fs::{Files, OpenOptions};
-use std::io;
-use std::io::Write;
+use std::fs::{Files, Metadata, OpenFile, OpenOptions};
+use std::io::{ErrorKind, Write};
+use std::{fs, io};
 
 /// The devices of a folder: the file of a device has its name and `.OUT`.
 ///
 /// Each block is appended by a call of its own, which opens the file, made empty where it isn't there: so a file may be
 /// taken away between two blocks. Where a call fails the file may have the beginning of its block. It isn't cut off,
 /// since another node may have appended behind it. Nothing is synced.
+///
+/// Only a plain file that may be read and written is appended to, or a link to one. Anything else in its place is a fault,
+/// as a folder, a pipe, a terminal, or a link to one of these or to nothing; it isn't written to, and no call waits for
+/// whoever may read it.
 ///
 /// It doesn't keep the numbers 0 to 2 free of its files: what uses it opens the site's files first, which does.
 #[derive(Drop)]
@@ -51,9 +55,43 @@ pub(crate) fn append_whole<W: Write>(file: &mut W, block: &[u8]) -> io::Result<(
     file.write_all(block)
 }
 
+fn must_be_plain(found: &Metadata) -> io::Result<()> {
+    if found.is_file() {
+        Ok(())
+    } else {
+        Err(ErrorKind::Unsupported.into())
+    }
+}
+
+// Makes an empty file, unless something of this name is there. A link isn't followed: one to nothing stays so.
+fn make<R: Files>(rt: &R, path: &str) -> io::Result<()> {
+    let made = OpenOptions::new()
+        .append(true)
+        .create_new(true)
+        .open(rt, path);
+    match made {
+        Ok(_) => Ok(()),
+        Err(error) if error.kind() == ErrorKind::AlreadyExists => Ok(()),
+        Err(error) => Err(error),
+    }
+}
+
+// Opens a plain file, made empty where nothing is there. What is there is looked at first, since opening a device may
+// wait, and again when it is open. It is opened for reading too: to open a pipe for writing alone waits for a reader.
+fn open_plain<R: Files>(rt: &R, path: &str) -> io::Result<R::File> {
+    match fs::metadata(rt, path) {
+        Ok(found) => must_be_plain(&found)?,
+        Err(error) if error.kind() == ErrorKind::NotFound => make(rt, path)?,
+        Err(error) => return Err(error),
+    }
+    let file = OpenOptions::new().read(true).append(true).open(rt, path)?;
+    must_be_plain(&file.metadata()?)?;
+    Ok(file)
+}
+
 // Appends a block to the file of this path.
 pub(crate) fn append<R: Files>(rt: &R, path: &str, block: &[u8]) -> io::Result<()> {
-    let mut file = OpenOptions::new().append(true).create(true).open(rt, path)?;
+    let mut file = open_plain(rt, path)?;
     append_whole(&mut file, block)
 }
 

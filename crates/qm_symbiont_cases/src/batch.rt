@@ -110,8 +110,8 @@ fn carry_out(alloc: Global, run: Run) -> Result<Told, AllocError> {
         end = follow(alloc, &mut device, &work)?;
     }
     let mut output = Vec::new(alloc);
-    for (_run, block) in device.held() {
-        output.extend_from_slice(block.as_slice())?;
+    for taken in device.held() {
+        output.extend_from_slice(taken.block.as_slice())?;
     }
     Ok(Told { end, output })
 }

@@ -92,8 +92,9 @@ fn runs_of_either_kind_are_carried_out(rt: HostRuntime) -> Result<(), Fail> {
         let mut symbiont = Standard::new(alloc, MemoryDevice::new(alloc, vec![in alloc; fails]?));
         assert_eq!(rt; carry_out(&mut symbiont, &work)?, told);
         let mut handed = Vec::new(alloc);
-        for (_run, block) in symbiont.device().held() {
-            handed.extend_from_slice(block.as_slice())?;
+        for taken in symbiont.device().held() {
+            assert!(rt; taken.run == 3 && taken.device.as_bytes() == b"LPA0");
+            handed.extend_from_slice(taken.block.as_slice())?;
         }
         assert_eq!(rt; handed.as_slice(), taken);
     }
