@@ -1,5 +1,5 @@
 -- What a step of a symbiont leaves, from a place of a run's work on.
-use Rattle.std.specs.Prelude.{◌≡◌, ◌⊎◌, ℕ, ◌+◌, ◌<◌, ◌≤◌, length}
+use Rattle.std.specs.Prelude.{◌≡◌, ◌⊎◌, ◌+◌, ◌<◌, ◌≤◌, length}
 use Rattle.qm_kinds.specs.declared.work.Work.{Work}
 use Rattle.qm_kinds.specs.declared.work.Place.{Place}
 use Rattle.qm_kinds.specs.declared.work.Report.{Report}

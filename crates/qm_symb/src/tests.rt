@@ -20,7 +20,10 @@ fn a_listed_call_takes_nothing(rt: HostRuntime) -> Result<(), Fail> {
         (1, "LPA0", "b", false),
         (2, "LPB0", "c", true),
     ] {
-        assert_eq!(rt; device.hand(run, &name(to), block.as_bytes()).is_ok(), holds);
+        assert_eq!(rt;
+            device.hand(run, &name(to), block.as_bytes()).is_ok(),
+            holds
+        );
     }
     let held = device.held();
     assert!(rt; held.len() == 2);

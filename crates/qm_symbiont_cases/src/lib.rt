@@ -1,9 +1,11 @@
 //! Worked cases of what jobs print and do, as tests: that memory suffices where it is ample, the pages of print jobs, the
-//! lines of batch jobs, and where both go on behind a mark.
+//! lines of batch jobs, where both go on behind a mark, and what lies in the place of a device's file.
 #![tactic(auto)]
 
 #[cfg(test)]
 mod batch;
+#[cfg(test)]
+mod devices;
 #[cfg(test)]
 mod printing;
 #[cfg(test)]

@@ -185,8 +185,8 @@ fn a_job_goes_on_behind_its_mark(rt: HostRuntime) -> Result<(), Fail> {
         let mut device = MemoryDevice::new(alloc, vec![in alloc; fails]?);
         assert_eq!(rt; print(alloc, &mut device, &work)?, (marks, status));
         let mut printed = Vec::new(alloc);
-        for (_run, block) in device.held() {
-            printed.extend_from_slice(block.as_slice())?;
+        for taken in device.held() {
+            printed.extend_from_slice(taken.block.as_slice())?;
         }
         assert_eq!(rt; printed.as_slice(), pages.as_bytes());
     }

@@ -93,7 +93,7 @@ fn runs_of_either_kind_are_carried_out(rt: HostRuntime) -> Result<(), Fail> {
         assert_eq!(rt; carry_out(&mut symbiont, &work)?, told);
         let mut handed = Vec::new(alloc);
         for taken in symbiont.device().held() {
-            assert!(rt; taken.run == 3 && taken.device.as_bytes() == b"LPA0");
+            assert!(rt; taken.run == 3 && taken.device.as_str() == "LPA0");
             handed.extend_from_slice(taken.block.as_slice())?;
         }
         assert_eq!(rt; handed.as_slice(), taken);
