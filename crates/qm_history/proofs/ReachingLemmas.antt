@@ -1,21 +1,27 @@
 -- A course goes on from the state that it has reached.
-use Rattle.std.proofs.Common.{◌≡◌, ℕ, ◌≤◌, ◌⊎◌, inl, inr, Bool, true, cond, List, [], ◌∷◌, ◌++◌, length, refl, sym, ◌∙◌, ap, subst, arith, Option, None}
-use Rattle.std.specs.Prelude.{◌==◌}
+use Rattle.std.proofs.Common.{◌≡◌, ℕ, ◌≤◌, ◌⊎◌, inl, inr, Bool, true, false, not, ◌||◌, cond, List, [], ◌∷◌, ◌++◌, length, refl, sym, ◌∙◌, ap, subst, arith, Option, None}
+use Rattle.std.specs.Prelude.{◌==◌, is_none}
 use Rattle.std.proofs.lemmas.Bool.Decides.{nat_tests}
 use Rattle.std.proofs.lemmas.List.{append_assoc, append-nil}
 use Rattle.qm_kinds.specs.declared.input.Input.{Input}
+use Rattle.qm_kinds.specs.declared.input.Input.TheVariants as input
 use Rattle.qm_kinds.specs.declared.record.Record.{Record}
 use Rattle.qm_history.specs.declared.call.Call.{Call}
 use Rattle.qm_history.specs.declared.call.Call.TheVariants as call
+use Rattle.qm_history.specs.declared.event.Event.{Event}
+use Rattle.qm_history.specs.declared.event.Event.TheVariants as event
 use Rattle.qm_history.specs.declared.turn.Turn.{Turn}
 use Rattle.qm_history.specs.declared.world.World.{World}
-use Rattle.qm_history.specs.Course.{Extent, Whole, Begun, Follows, GoesOn, IsBrokenOff, IsCourse, KeptRun, MadeStep, NextTurn, ALine, AStep, AFetch, ALeave, NoTurn, NodeState, Over, ServesOrEnds, answered, at_first, behind_fetch, behind_line, behind_step, call_of_line, failed_steps, is_live_behind, known, next_at, next_run, own_stage, report_told}
+use Rattle.qm_history.specs.Calls.{input_of}
+use Rattle.qm_history.specs.Course.{Extent, Whole, Begun, Follows, GoesOn, IsBrokenOff, IsCourse, IsStepOf, KeptRun, MadeStep, NextTurn, ALine, AStep, AFetch, ALeave, NoTurn, NodeState, Over, ServesOrEnds, answered, at_first, behind_fetch, behind_line, behind_step, call_of_line, failed_steps, is_live_behind, known, next_at, next_run, own_stage, report_told}
 use Rattle.qm_history.specs.Legal.{after_turns}
-use Rattle.qm_history.specs.Reaching.{HasReached, Reaches, IsCutAtEnd}
+use Rattle.qm_history.specs.Reaching.{HasReached, IsCutAtEnd, IsCutBehindTakeover, IsCutNext, IsTookAlone, Reaches, is_for_role}
 use Rattle.qm_history.specs.Script.{UserLine, steps_asked}
-use Rattle.qm_history.specs.Turn.{IsTurnOf, IsCutShort}
+use Rattle.qm_history.specs.Step.{after_event}
+use Rattle.qm_history.specs.Takeover.{StandsOrFails, TakesOverThen, UnlessRefused, is_named, nodes_on, takes_over}
+use Rattle.qm_history.specs.Turn.{ATakeover, IsBehindTakeover, IsCutShort, IsOwn, IsServed, IsTurnOf, UnlessDown, is_down}
 use Rattle.qm_history.specs.Visits.{Visit, visits_of}
-use Rattle.qm_history.specs.World.{is_live}
+use Rattle.qm_history.specs.World.{is_live, system_in}
 use Rattle.qm_history.proofs.HistoryLemmas.{visits_of_append}
 
 module _ (HasSpelling : Record → Type 0) (read : UserLine → ℕ → List Visit → List ℕ → Input) where
@@ -79,65 +85,177 @@ module _ (HasSpelling : Record → Type 0) (read : UserLine → ℕ → List Vis
         (λ after left reached. reaches_on visits (earlier ++ v ∷ []) after (is_live_behind v) left reached
         (subst (λ e. Reaches HasSpelling read then e then_live others more last last_live) (sym (append_assoc earlier (v ∷ []) visits)) rest)) n earlier steps (next_at live n n.stage) h
 
+  -- ---- a turn that was cut short is whole, or the call asked for more than the takeover that stands
+
+  own_or_more : (what : Input) (after : World) (node reading : ℕ) (asked : Call) (own : List Event) → own ≡ [] → IsOwn after node reading asked ATakeover what own ⊎ (is_for_role what ≡ false)
+  own_or_more (input.TakeManager on) after node reading asked own none = inl none
+  own_or_more what after node reading asked own none = inr refl
+
+  module _ (w : World) (node reading : ℕ) (asked : Call) where
+    abbrev Wanted : World → List Event → Type 0
+    Wanted after own = IsOwn after node reading asked ATakeover (input_of asked) own
+
+    abbrev IsMoreWanted : List Event → Type 0
+    IsMoreWanted events = IsTookAlone events × (is_for_role (input_of asked) ≡ false)
+
+    took_or_more : (on : Option (List (List ℕ))) (n moment epoch : ℕ) (gone up may : List (List ℕ)) (kept : Option Bool)
+        → StandsOrFails w node reading on (λ after own. own ≡ []) (event.Took n moment epoch gone up may kept ∷ [])
+        → Wanted (after_event w (event.Took n moment epoch gone up may kept)) [] ⊎ (is_for_role (input_of asked) ≡ false)
+        → StandsOrFails w node reading on Wanted (event.Took n moment epoch gone up may kept ∷ []) ⊎ IsMoreWanted (event.Took n moment epoch gone up may kept ∷ [])
+    took_or_more on n moment epoch gone up may kept h (inl own) = inl (h.0, h.1, h.2, own)
+    took_or_more on n moment epoch gone up may kept h (inr more) = inr (tt, more)
+
+    stands_or_more : (on : Option (List (List ℕ))) (events : List Event) → StandsOrFails w node reading on (λ after own. own ≡ []) events
+        → StandsOrFails w node reading on Wanted events ⊎ IsMoreWanted events
+    stands_or_more on (event.Took n moment epoch gone up may kept ∷ []) h =
+        took_or_more on n moment epoch gone up may kept h
+        (own_or_more (input_of asked) (after_event w (event.Took n moment epoch gone up may kept)) node reading asked [] refl)
+    stands_or_more on (event.Took n moment epoch gone up may kept ∷ e ∷ events) h = let bad : e ∷ events ≡ [] = h.3 in cc
+    stands_or_more on (event.TakeDoubt n tried kept ∷ events) h = inl h
+    stands_or_more on events h = absurd h
+
+    named_or_more : (on : Option (List (List ℕ))) (refused : Bool) (events : List Event) → UnlessRefused refused node (StandsOrFails w node reading on (λ after own. own ≡ []) events) events
+        → UnlessRefused refused node (StandsOrFails w node reading on Wanted events) events ⊎ IsMoreWanted events
+    named_or_more on true events h = inl h
+    named_or_more on false events h = stands_or_more on events h
+
+    taken_or_more : (on : Option (List (List ℕ))) (events : List Event) → TakesOverThen w node reading on (λ after own. own ≡ []) events
+        → TakesOverThen w node reading on Wanted events ⊎ IsMoreWanted events
+    taken_or_more on events h = named_or_more on (not (is_none w.manager || is_named (system_in w) on node)) events h
+
+    served_of : (events : List Event) → is_down w node (input_of asked) ≡ false → takes_over w (input_of asked) ≡ true → TakesOverThen w node reading (nodes_on (input_of asked)) Wanted events
+        → IsServed w node reading asked events
+    served_of events up takes h =
+        subst (λ down. UnlessDown down node reading (input_of asked) (IsBehindTakeover w node reading asked (takes_over w (input_of asked)) events) events) (sym up)
+        (subst (λ takes. IsBehindTakeover w node reading asked takes events) (sym takes) h)
+
+  abbrev IsCut : World → Call → Turn → Type 0
+  IsCut w asked t = IsCutBehindTakeover HasSpelling read w asked t
+
+  whole_or_cut : (w : World) (asked : Call) (t : Turn) → IsCutShort HasSpelling w asked t
+      → TakesOverThen w t.node t.moment (nodes_on (input_of asked)) (Wanted w t.node t.moment asked) t.events ⊎ IsMoreWanted w t.node t.moment asked t.events
+      → IsTurnOf HasSpelling w asked t ⊎ IsCut w asked t
+  whole_or_cut w asked t cut (inl taken) = inl (cut.0, served_of w t.node t.moment asked t.events cut.1.0 cut.1.1 taken)
+  whole_or_cut w asked t cut (inr more) = inr (cut, more.0, more.1)
+
+  cut_or_whole : (w : World) (asked : Call) (t : Turn) → IsCutShort HasSpelling w asked t → IsTurnOf HasSpelling w asked t ⊎ IsCut w asked t
+  cut_or_whole w asked t cut = whole_or_cut w asked t cut (taken_or_more w t.node t.moment asked (nodes_on (input_of asked)) t.events cut.1.2)
+
   -- ---- a course has reached a state, or its last turn was cut short
 
-  cut_behind : (v : Visit) (others : List Visit) → IsCutAtEnd HasSpelling read others → IsCutAtEnd HasSpelling read (v ∷ others)
-  cut_behind v [] h = absurd h
-  cut_behind v (next ∷ others) h = h
-
-  cut_here : (v : Visit) (asked : Call) (others : List Visit) → others ≡ [] → IsCutShort HasSpelling v.before asked v.turn → IsCutAtEnd HasSpelling read (v ∷ others)
-  cut_here v asked others none h = subst (λ x. IsCutAtEnd HasSpelling read (v ∷ x)) (sym none) (asked, h)
-
-  module _ (broken : Option KeptRun) (v : Visit) (others : List Visit) (Rest : NodeState → List MadeStep → Type 0)
+  module _ (broken : Option KeptRun) (v : Visit) (Rest : NodeState → List MadeStep → Type 0)
       (Then : NodeState → List MadeStep → NodeState → Bool → Type 0) (At : NodeState → Bool → Type 0)
     where
       abbrev Led : (NodeState → Bool → Type 0) → Type 0
       Led F = (then : NodeState) × (then_live : Bool) × F then then_live × At then then_live
 
-      module _ (each : (n : NodeState) (steps : List MadeStep) → Rest n steps → IsCutAtEnd HasSpelling read others ⊎ Led (Then n steps)) where
-        led_on : (F : NodeState → Bool → Type 0) (n : NodeState) (steps : List MadeStep) → ((then : NodeState) (then_live : Bool) → Then n steps then then_live → F then then_live)
-            → IsCutAtEnd HasSpelling read others ⊎ Led (Then n steps) → IsCutAtEnd HasSpelling read (v ∷ others) ⊎ Led F
-        led_on F n steps made (inl cut) = inl (cut_behind v others cut)
-        led_on F n steps made (inr (then, then_live, there, at)) = inr (then, then_live, made then then_live there, at)
+      led_through : (F : NodeState → Bool → Type 0) (n : NodeState) (steps : List MadeStep) → ((then : NodeState) (then_live : Bool) → Then n steps then then_live → F then then_live)
+          → Led (Then n steps) → Led F
+      led_through F n steps made (then, then_live, there, at) = (then, then_live, made then then_live there, at)
 
-        served_on : (F : NodeState → Bool → Type 0) (asked : Call) (n : NodeState) (steps : List MadeStep)
+      abbrev After : List Visit → NodeState → List Visit → List MadeStep → NextTurn → NodeState → Bool → Type 0
+      After others n earlier steps next then then_live = Follows HasSpelling read Whole None n earlier steps v others (λ after left. Then after left then then_live) next
+
+      -- the turn is the last one
+      module _ (each : (n : NodeState) (steps : List MadeStep) → Rest n steps → (steps ≡ []) × Led (Then n steps)) where
+        ended_on : (F : NodeState → Bool → Type 0) (asked : Call) (n : NodeState) (steps : List MadeStep)
             → (IsTurnOf HasSpelling v.before asked v.turn → (then : NodeState) (then_live : Bool) → Then n steps then then_live → F then then_live)
-            → ServesOrEnds HasSpelling read Begun v.before asked v.turn others → Rest n steps → IsCutAtEnd HasSpelling read (v ∷ others) ⊎ Led F
-        served_on F asked n steps made (inl served) rest = led_on F n steps (made served) (each n steps rest)
-        served_on F asked n steps made (inr (cut, none)) rest = inl (cut_here v asked others none cut)
+            → IsTurnOf HasSpelling v.before asked v.turn ⊎ IsCut v.before asked v.turn → Rest n steps → (IsCut v.before asked v.turn × (steps ≡ [])) ⊎ Led F
+        ended_on F asked n steps made (inl served) rest = inr (led_through F n steps (made served) ((each n steps rest).1))
+        ended_on F asked n steps made (inr cut) rest = inl (cut, (each n steps rest).0)
 
-        abbrev After : NodeState → List Visit → List MadeStep → NextTurn → NodeState → Bool → Type 0
-        After n earlier steps next then then_live = Follows HasSpelling read Whole None n earlier steps v others (λ after left. Then after left then then_live) next
+        last_on : (F : NodeState → Bool → Type 0) (asked : Call) (n : NodeState) (steps : List MadeStep)
+            → (IsTurnOf HasSpelling v.before asked v.turn → (then : NodeState) (then_live : Bool) → Then n steps then then_live → F then then_live)
+            → ServesOrEnds HasSpelling read Begun v.before asked v.turn [] → Rest n steps → (IsCut v.before asked v.turn × (steps ≡ [])) ⊎ Led F
+        last_on F asked n steps made (inl served) rest = ended_on F asked n steps made (inl served) rest
+        last_on F asked n steps made (inr (cut, none)) rest = ended_on F asked n steps made (cut_or_whole v.before asked v.turn cut) rest
 
-        followed : (n : NodeState) (earlier : List Visit) (steps : List MadeStep) (next : NextTurn) → Follows HasSpelling read Begun broken n earlier steps v others Rest next
-            → IsCutAtEnd HasSpelling read (v ∷ others) ⊎ Led (After n earlier steps next)
-        followed n earlier steps (ALine l lines) h =
-            served_on (After n earlier steps (ALine l lines)) (call_of_line HasSpelling read n earlier l v.turn) (behind_line (length earlier) n lines (steps_asked l.line.sort l.line.text) (answered v)) steps
+        step_ended : (n : NodeState) (earlier : List Visit) (m : MadeStep) (steps : List MadeStep) (run : ℕ) (round : List ℕ) (F : NodeState → Bool → Type 0) → IsStepOf n run m
+            → (IsCut v.before (call.Report run (report_told m.run m.end)) v.turn × (steps ≡ [])) ⊎ Led F
+            → IsCutNext HasSpelling read n earlier (m ∷ steps) v (AStep run round) ⊎ Led F
+        step_ended n earlier m steps run round F is (inl cut) = inl (is, cut.0, cut.1)
+        step_ended n earlier m steps run round F is (inr led) = inr led
+
+        -- a leave takes no role over
+        leave_ended : (n : NodeState) (earlier : List Visit) (steps : List MadeStep) (F : NodeState → Bool → Type 0) → (IsCut v.before call.Leave v.turn × (steps ≡ [])) ⊎ Led F
+            → IsCutNext HasSpelling read n earlier steps v ALeave ⊎ Led F
+        leave_ended n earlier steps F (inl cut) = let bad : false ≡ true = cut.0.0.1.1 in cc
+        leave_ended n earlier steps F (inr led) = inr led
+
+        followed_last : (n : NodeState) (earlier : List Visit) (steps : List MadeStep) (next : NextTurn) → Follows HasSpelling read Begun broken n earlier steps v [] Rest next
+            → IsCutNext HasSpelling read n earlier steps v next ⊎ Led (After [] n earlier steps next)
+        followed_last n earlier steps (ALine l lines) h =
+            last_on (After [] n earlier steps (ALine l lines)) (call_of_line HasSpelling read n earlier l v.turn) (behind_line (length earlier) n lines (steps_asked l.line.sort l.line.text) (answered v)) steps
             (λ served then then_live there. (served, there)) h.0 h.1
+        followed_last n earlier [] (AStep run round) h = absurd h
+        followed_last n earlier (m ∷ steps) (AStep run round) h =
+            step_ended n earlier m steps run round (After [] n earlier (m ∷ steps) (AStep run round)) h.0
+            (last_on (After [] n earlier (m ∷ steps) (AStep run round)) (call.Report run (report_told m.run m.end)) (behind_step n m.run round (report_told m.run m.end) (answered v)) steps
+            (λ served then then_live there. (h.0, served, there)) h.1 h.2)
+        followed_last n earlier steps AFetch h =
+            last_on (After [] n earlier steps AFetch) (call.Fetch (known n)) (behind_fetch (length earlier) (record n { stage = own_stage n.stage }) (answered v)) steps
+            (λ served then then_live there. (served, there)) h.0 h.1
+        followed_last n earlier steps ALeave h =
+            leave_ended n earlier steps (After [] n earlier steps ALeave)
+            (last_on (After [] n earlier steps ALeave) call.Leave (record n { stage = Over }) steps (λ served then then_live there. (served, there)) h.0 h.1)
+        followed_last n earlier steps NoTurn h = absurd h
+
+      -- other turns follow
+      module _ (other : Visit) (others : List Visit) (Cut : NodeState → List MadeStep → Type 0) (each : (n : NodeState) (steps : List MadeStep) → Rest n steps → Cut n steps ⊎ Led (Then n steps)) where
+        abbrev Ends : NodeState → List Visit → List MadeStep → NextTurn → Type 0
+        Ends n earlier steps next = Follows HasSpelling read Whole None n earlier steps v (other ∷ others) Cut next
+
+        led_on : (E : Type 0) (F : NodeState → Bool → Type 0) (n : NodeState) (steps : List MadeStep) → (Cut n steps → E)
+            → ((then : NodeState) (then_live : Bool) → Then n steps then then_live → F then then_live) → Cut n steps ⊎ Led (Then n steps) → E ⊎ Led F
+        led_on E F n steps ends made (inl cut) = inl (ends cut)
+        led_on E F n steps ends made (inr led) = inr (led_through F n steps made led)
+
+        served_on : (E : Type 0) (F : NodeState → Bool → Type 0) (asked : Call) (n : NodeState) (steps : List MadeStep)
+            → (IsTurnOf HasSpelling v.before asked v.turn → Cut n steps → E)
+            → (IsTurnOf HasSpelling v.before asked v.turn → (then : NodeState) (then_live : Bool) → Then n steps then then_live → F then then_live)
+            → ServesOrEnds HasSpelling read Begun v.before asked v.turn (other ∷ others) → Rest n steps → E ⊎ Led F
+        served_on E F asked n steps ends made (inl served) rest = led_on E F n steps (ends served) (made served) (each n steps rest)
+        served_on E F asked n steps ends made (inr (cut, none)) rest = cc
+
+        followed : (n : NodeState) (earlier : List Visit) (steps : List MadeStep) (next : NextTurn) → Follows HasSpelling read Begun broken n earlier steps v (other ∷ others) Rest next
+            → Ends n earlier steps next ⊎ Led (After (other ∷ others) n earlier steps next)
+        followed n earlier steps (ALine l lines) h =
+            served_on (Ends n earlier steps (ALine l lines)) (After (other ∷ others) n earlier steps (ALine l lines)) (call_of_line HasSpelling read n earlier l v.turn)
+            (behind_line (length earlier) n lines (steps_asked l.line.sort l.line.text) (answered v)) steps
+            (λ served cut. (served, cut)) (λ served then then_live there. (served, there)) h.0 h.1
         followed n earlier [] (AStep run round) h = absurd h
         followed n earlier (m ∷ steps) (AStep run round) h =
-            served_on (After n earlier (m ∷ steps) (AStep run round)) (call.Report run (report_told m.run m.end)) (behind_step n m.run round (report_told m.run m.end) (answered v)) steps
-            (λ served then then_live there. (h.0, served, there)) h.1 h.2
+            served_on (Ends n earlier (m ∷ steps) (AStep run round)) (After (other ∷ others) n earlier (m ∷ steps) (AStep run round)) (call.Report run (report_told m.run m.end))
+            (behind_step n m.run round (report_told m.run m.end) (answered v)) steps
+            (λ served cut. (h.0, served, cut)) (λ served then then_live there. (h.0, served, there)) h.1 h.2
         followed n earlier steps AFetch h =
-            served_on (After n earlier steps AFetch) (call.Fetch (known n)) (behind_fetch (length earlier) (record n { stage = own_stage n.stage }) (answered v)) steps
-            (λ served then then_live there. (served, there)) h.0 h.1
+            served_on (Ends n earlier steps AFetch) (After (other ∷ others) n earlier steps AFetch) (call.Fetch (known n))
+            (behind_fetch (length earlier) (record n { stage = own_stage n.stage }) (answered v)) steps
+            (λ served cut. (served, cut)) (λ served then then_live there. (served, there)) h.0 h.1
         followed n earlier steps ALeave h =
-            served_on (After n earlier steps ALeave) call.Leave (record n { stage = Over }) steps (λ served then then_live there. (served, there)) h.0 h.1
+            served_on (Ends n earlier steps ALeave) (After (other ∷ others) n earlier steps ALeave) call.Leave (record n { stage = Over }) steps
+            (λ served cut. (served, cut)) (λ served then then_live there. (served, there)) h.0 h.1
         followed n earlier steps NoTurn h = absurd h
 
   has_reached : (broken : Option KeptRun) (visits earlier : List Visit) (n : NodeState) (live : Bool) (steps : List MadeStep) → GoesOn HasSpelling read Begun broken n earlier live visits steps
-      → IsCutAtEnd HasSpelling read visits ⊎ HasReached HasSpelling read broken n earlier live visits steps
+      → IsCutAtEnd HasSpelling read n earlier live visits steps ⊎ HasReached HasSpelling read broken n earlier live visits steps
   has_reached broken [] earlier n live steps h = inr (n, live, (h.1, refl, refl), h.2)
-  has_reached broken (v ∷ visits) earlier n live steps h =
-      followed broken v visits (λ after left. GoesOn HasSpelling read Begun broken after (earlier ++ v ∷ []) (is_live_behind v) visits left)
-      (λ after left then then_live. Reaches HasSpelling read after (earlier ++ v ∷ []) (is_live_behind v) visits left then then_live)
+  has_reached broken (v ∷ []) earlier n live steps h =
+      followed_last broken v (λ after left. GoesOn HasSpelling read Begun broken after (earlier ++ v ∷ []) (is_live_behind v) [] left)
+      (λ after left then then_live. Reaches HasSpelling read after (earlier ++ v ∷ []) (is_live_behind v) [] left then then_live)
       (λ then then_live. IsBrokenOff Begun (next_run then (next_at then_live then then.stage)) broken)
-      (λ after left rest. has_reached broken visits (earlier ++ v ∷ []) after (is_live_behind v) left rest) n earlier steps (next_at live n n.stage) h
+      (λ after left rest. (rest.1, (after, is_live_behind v, (rest.1, refl, refl), rest.2))) n earlier steps (next_at live n n.stage) h
+  has_reached broken (v ∷ other ∷ others) earlier n live steps h =
+      followed broken v (λ after left. GoesOn HasSpelling read Begun broken after (earlier ++ v ∷ []) (is_live_behind v) (other ∷ others) left)
+      (λ after left then then_live. Reaches HasSpelling read after (earlier ++ v ∷ []) (is_live_behind v) (other ∷ others) left then then_live)
+      (λ then then_live. IsBrokenOff Begun (next_run then (next_at then_live then then.stage)) broken) other others
+      (λ after left. IsCutAtEnd HasSpelling read after (earlier ++ v ∷ []) (is_live_behind v) (other ∷ others) left)
+      (λ after left rest. has_reached broken (other ∷ others) (earlier ++ v ∷ []) after (is_live_behind v) left rest) n earlier steps (next_at live n n.stage) h
 
   -- ---- courses
 
   pub course_reaches : (w : World) (turns : List Turn) (node : ℕ) (lines : List UserLine) (faults : ℕ) → (h : IsCourse HasSpelling read Begun w turns node lines faults)
-      → IsCutAtEnd HasSpelling read (visits_of node w turns) ⊎ HasReached HasSpelling read h.broken (at_first lines) [] (is_live w node) (visits_of node w turns) h.steps
+      → IsCutAtEnd HasSpelling read (at_first lines) [] (is_live w node) (visits_of node w turns) h.steps ⊎ HasReached HasSpelling read h.broken (at_first lines) [] (is_live w node) (visits_of node w turns) h.steps
   course_reaches w turns node lines faults h = has_reached h.broken (visits_of node w turns) [] (at_first lines) (is_live w node) h.steps h.turns_are
 
   pub one_visit : (node : ℕ) (w : World) (turns : List Turn) (t : Turn) → t.node ≡ node
