@@ -21,6 +21,7 @@ use Rattle.qm_history.specs.declared.turn.Why.TheVariants as why
 use Rattle.qm_history.specs.declared.world.World.{World}
 use Rattle.qm_history.specs.Answering.{IsOneTakeover}
 use Rattle.qm_history.specs.Computed.{turn_of}
+use Rattle.qm_history.specs.Order.{IsWaiting}
 use Rattle.qm_history.specs.Course.{KeptRun, NodeState, DeviceFailed, CutShort, WentOn, IsEndOf, at_first, behind_step, behind_step_line, report_told, next_at, Begun, Whole, IsBrokenOff, next_run}
 use Rattle.qm_history.specs.Legal.{after_turn}
 use Rattle.qm_history.specs.Lines.{script_lines}
@@ -164,6 +165,14 @@ a_begun_course_breaks_off = (refl, refl)
 
 pub a_whole_one_doesnt : IsBrokenOff Whole (next_run shown (next_at true shown shown.stage)) (Some first_run) → ⊥
 a_whole_one_doesnt off = off
+
+-- Where the first run is to step, its node doesn't wait; before its first line it does. Without this one thread that breaks off
+-- could leave out the steps behind a STEP line.
+pub steps_are_not_left_out : IsWaiting shown.stage (next_at true shown shown.stage) → ⊥
+steps_are_not_left_out waits = waits
+
+pub before_its_lines_it_waits : IsWaiting (at_first []).stage (next_at true (at_first []) (at_first []).stage)
+before_its_lines_it_waits = tt
 
 -- ---- lines
 

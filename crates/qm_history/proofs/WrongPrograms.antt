@@ -36,6 +36,7 @@ use Rattle.qm_history.specs.Legal.{IsLegalTurn}
 use Rattle.qm_history.specs.Leaving.{MayBeLeftBehind}
 use Rattle.qm_history.specs.Order.{AreInOrder, nothing_served}
 use Rattle.qm_history.specs.Reading.{read}
+use Rattle.qm_history.specs.Reaching.{IsCutBehindTakeover}
 use Rattle.qm_history.specs.Readings.{AreReadings}
 use Rattle.qm_model.specs.Log.{request_record}
 use Rattle.qm_history.specs.Master.{MasterState}
@@ -155,6 +156,11 @@ hidden_behind_a_full_master HasSpelling w t r node need cap doubt is legal =
     let bad : false ≡ is_some w.doubt = subst (TellsWhatItRead w) is (turn_tells HasSpelling w t legal) in
     let worse : false ≡ true = bad ∙ ap (λ (o : Option Record). is_some o) doubt in
     cc
+
+-- It tells that memory was short behind a takeover that was all that was asked for.
+pub role_taken_cut_short : (HasSpelling : Record → Type 0) (reader : UserLine → ℕ → List Visit → List ℕ → Input) (w : World) (number : ℕ) (on : Option (List (List ℕ))) (t : Turn)
+    → IsCutBehindTakeover HasSpelling reader w (call.Line number (input.TakeManager on)) t → ⊥
+role_taken_cut_short HasSpelling reader w number on t cut = let bad : true ≡ false = cut.2 in cc
 
 -- ---- readers
 
