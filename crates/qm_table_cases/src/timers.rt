@@ -36,3 +36,38 @@ fn timers_are_due_in_order_of_moments_and_numbers(rt: HostRuntime) -> Result<(),
     }
     Ok(())
 }
+
+// Takes out the timer of number 3.
+fn take_out_three(timers: &mut Timers) {
+    timers.retain(|number| number != 3);
+}
+
+#[test]
+fn timers_are_set_anew_and_taken_out_together(rt: HostRuntime) -> Result<(), Fail> {
+    let mut timers = Timers::new(rt.alloc());
+    for (number, at) in [
+        (1, 30),
+        (2, 20),
+        (3, 20),
+        (2, 40),
+        (5, 10),
+        (4, 20),
+        (6, 50),
+    ] {
+        timers.reserve()?;
+        timers.set(number, Some(moment(at)));
+    }
+    timers.set(1, None);
+    // How many are due at each moment.
+    for (now, expected) in [(9, 0), (10, 1), (19, 1), (20, 3), (40, 4), (50, 5)] {
+        assert!(rt; timers.due_now(moment(now)).len() == expected);
+    }
+    take_out_three(&mut timers);
+    timers.remove_due(moment(20));
+    // What is left of each number.
+    for (number, at) in [(1, 0), (2, 40), (3, 0), (4, 0), (5, 0), (6, 50)] {
+        let expected = if at == 0 { None } else { Some(moment(at)) };
+        assert!(rt; timers.moment_of(number) == expected);
+    }
+    Ok(())
+}
