@@ -1,8 +1,7 @@
 // Runs over a clock that goes on, and is set back.
 use crate::by_hand::{APPEND_AT_4, APPEND_AT_5, site_and};
-use crate::run::{call, site};
+use crate::run::{call, clock, site};
 use qm_io::{MemorySink, MemorySource};
-use qm_kinds::Moment;
 use qm_program::End;
 use std::test::Fail;
 
@@ -29,13 +28,10 @@ const READINGS: [u64; 6] = [1, 9, 3, 4, 5, 2];
 #[test]
 fn a_record_has_the_moment_at_which_its_request_acts(rt: HostRuntime) -> Result<(), Fail> {
     let alloc = rt.alloc();
-    let mut moments = [Moment::BASE; 6];
-    for (moment, reading) in moments.iter_mut().zip(READINGS) {
-        *moment = Moment::new(reading).unwrap();
-    }
     let source = MemorySource::new(SCRIPT.to_vec(alloc)?, Vec::new(alloc));
     let sink = MemorySink::new(alloc, Vec::new(alloc));
-    let (end, printed, disk) = call(alloc, &["run"], source, sink, site(&rt)?, &moments)?;
+    let clock = clock(alloc, &READINGS)?;
+    let (end, printed, disk) = call(alloc, &["run"], source, sink, site(&rt)?, clock)?;
     assert_eq!(rt; end, End::Ok);
     assert_eq!(rt; printed.as_slice(), TRANSCRIPT);
     let file = site_and(alloc, &[APPEND_AT_4, APPEND_AT_5, APPEND_AT_5])?;

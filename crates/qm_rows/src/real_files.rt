@@ -1,6 +1,6 @@
 // Runs over real files.
 use crate::by_hand::{APPEND, Body, SUBMIT, site_and};
-use crate::run::{STANDING, call};
+use crate::run::{call, clock};
 use qm_files::FileDisk;
 use qm_io::{MemorySink, MemorySource};
 use qm_program::End;
@@ -26,7 +26,8 @@ fn ran(rt: &HostRuntime, words: &[&str], script: &[u8]) -> Result<(End, Vec<u8>)
     let source = MemorySource::new(script.to_vec(alloc)?, Vec::new(alloc));
     let sink = MemorySink::new(alloc, Vec::new(alloc));
     let disk = files(rt.clone()?)?;
-    let (end, printed, disk) = call(alloc, words, source, sink, disk, STANDING)?;
+    let clock = clock(alloc, &[])?;
+    let (end, printed, disk) = call(alloc, words, source, sink, disk, clock)?;
     disk.close();
     Ok((end, printed))
 }

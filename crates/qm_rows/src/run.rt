@@ -1,6 +1,4 @@
 // Runs of the program over memory.
-ghost use Rattle.std.specs.Prelude.{◌<◌, length};
-
 use qm_disk::{Disk, MemoryDisk};
 use qm_io::{MemoryClock, MemorySink, MemorySource};
 use qm_kinds::Moment;
@@ -54,26 +52,34 @@ pub(crate) fn disk_with(
     ))
 }
 
-/// What a clock tells that stands at the base of the system time.
-pub(crate) const STANDING: &[Moment] = &[Moment::BASE];
+/// A clock that tells these moments, in hundredths of a second from the base of the system time; it stands there where none
+/// is given.
+pub(crate) fn clock(alloc: Global, readings: &[u64]) -> Result<MemoryClock, AllocError> {
+    let mut moments = Vec::new(alloc);
+    for reading in readings {
+        if let Some(moment) = Moment::new(*reading) {
+            moments.push(moment)?;
+        }
+    }
+    if moments.is_empty() {
+        return Ok(MemoryClock::new(vec![in alloc; Moment::BASE]?));
+    }
+    Ok(MemoryClock::new(moments))
+}
 
-/// Calls the program with these words, where the clock tells these moments: how it ended, what it printed, and the disk that
-/// it handed back.
+/// Calls the program with these words: how it ended, what it printed, and the disk that it handed back.
 pub(crate) fn call<D: Disk + Drop>(
     alloc: Global,
     words: &[&str],
     mut source: MemorySource,
     mut sink: MemorySink,
     disk: D,
-    moments: &[Moment],
-) -> Result<(End, Vec<u8>, D), AllocError>
-    requires { 0 < length moments.now }
-{
+    mut clock: MemoryClock,
+) -> Result<(End, Vec<u8>, D), AllocError> {
     let mut owned = Vec::new(alloc);
     for word in words {
         owned.push(String::from_str(alloc, word)?)?;
     }
-    let mut clock = MemoryClock::new(moments.to_vec(alloc)?);
     let Outcome { end, disk, .. } = qman(alloc, &owned, &mut source, &mut sink, disk, &mut clock);
     Ok((end, sink.held().to_vec(alloc)?, disk))
 }
@@ -90,7 +96,8 @@ pub(crate) fn run_with(
 ) -> Result<Ran, AllocError> {
     let source = MemorySource::new(script.to_vec(alloc)?, reads_that_fail.to_vec(alloc)?);
     let sink = MemorySink::new(alloc, writes_that_fail.to_vec(alloc)?);
-    let (end, transcript, disk) = call(alloc, words, source, sink, disk, STANDING)?;
+    let clock = clock(alloc, &[])?;
+    let (end, transcript, disk) = call(alloc, words, source, sink, disk, clock)?;
     Ok(Ran {
         end,
         transcript,
