@@ -122,8 +122,8 @@ fn meant(
 ///   `/RETAIN=ALWAYS`, `ERROR`, `DEFAULT` or `UNTIL=time`, `/RESTART`, `/NORESTART` and `/CHARACTERISTICS=(name or 0..255, ..)`;
 ///   `PRINT` also with `/FORM=name or 0..65535`, `/COPIES=0..255`, `/FLAG` and `/NOFLAG`;
 /// - `SET ENTRY number` with `/RELEASE`, `/HOLD`, `/AFTER=time`, `/NOAFTER`, `/PRIORITY=0..255`, `/NAME=name`,
-///   `/CHARACTERISTICS=(name or 0..255, ..)`, `/FORM=name or 0..65535`, `/REQUEUE=name`, which is a queue, `/RESTART`, `/NORESTART`
-///   and `/RETAIN=` as a job;
+///   `/CHARACTERISTICS=(name or 0..255, ..)`, `/FORM=name or 0..65535`, `/REQUEUE=name`, which is a queue, `/RESTART`,
+///   `/NORESTART` and `/RETAIN=` as a job;
 /// - `SHOW ENTRY number` and `DELETE/ENTRY=number`;
 /// - `INITIALIZE/QUEUE name` with `/BATCH`, `/GENERIC=(name, ..)`, `/ON=node::` or `/ON=node::device:`, `/START` and what can be
 ///   set for a queue: `/JOB_LIMIT=0..255`, `/CHARACTERISTICS=(name or 0..255, ..)`, `/NOCHARACTERISTICS`,
@@ -138,14 +138,15 @@ fn meant(
 ///
 /// The name of a queue, a form, a characteristic, a stock or a device has 1 to 31 bytes, that of a node 1 to 6, that of a job
 /// 1 to 39; that of a form or a characteristic isn't digits alone, which stand for its number. A number is decimal digits, that
-/// of an entry below 2 ^ 32; zeros may stand in front. A time is as `read_time` of `qm_time` takes it, in capital letters where it is
-/// quoted, and one with a blank must be. A list has at most 65,535 values. What is asked for has `None`, or an
+/// of an entry below 2 ^ 32; zeros may stand in front. A time is as `read_time` of `qm_time` takes it, in capital letters where
+/// it is quoted, and one with a blank must be. A list has at most 65,535 values. What is asked for has `None`, or an
 /// empty list, for what isn't given, but a form has all its settings, and a job too; what the rules refuse is read, as a limit
 /// of 0.
 ///
 /// Errors: `At` with the fault of the least place: `NotBuilt` at byte 0 where no command that is built is named, or where a name
 /// of it that isn't built, or is cut, stands behind a `/`, whatever else is wrong, and where another form of a command has
-/// nothing wrong; `Value` at the first byte of a name, a number, a word, a time or a file that can't be read; and those of the grammar.
+/// nothing wrong; `Value` at the first byte of a name, a number, a word, a time or a file that can't be read; and those of the
+/// grammar.
 /// `NoMemory`, where memory for the tokens, the parts and the lists ran out.
 pub fn read_command(alloc: Global, text: &[u8], user: Name, now: Moment) -> Result<Input, DclFault>
     ensures read { IfOk result (λ input. command_of user now text.now ≡ Ok input) }

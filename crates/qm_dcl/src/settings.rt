@@ -214,8 +214,8 @@ fn with_key(text: &[u8], s: &Settings, key: Token, inner: Option<Token>) -> Resu
     }
 }
 
-// UNTIL, behind whose = the moment stands until which a job is kept. Where that can be no value, it is at fault by the grammar, and
-// not the word.
+// UNTIL, behind whose = the moment stands until which a job is kept. Where that can be no value, it is at fault by the grammar,
+// and not the word.
 fn with_until(
     text: &[u8],
     now: Moment,

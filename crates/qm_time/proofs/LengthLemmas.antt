@@ -7,7 +7,6 @@ use Rattle.qm_time.specs.declared.fault.TimeFault.{TimeFault}
 use Rattle.qm_time.specs.declared.fault.TimeFault.TheVariants.{Form}
 use Rattle.qm_time.specs.declared.time.Absolute.{Absolute}
 use Rattle.qm_time.specs.declared.time.Base.TheVariants.{Now, Today, Tomorrow, Date}
-use Rattle.qm_time.specs.declared.time.Time.{Time}
 use Rattle.qm_time.specs.Numbers.{and_then, stands, ends, digit_at, first_of, one_digit_at, longer, with_digit, number_at, long_number_at, next_digit, two_digits_at, four_digits_at}
 use Rattle.qm_time.specs.Clocks.{hundredths_at, seconds_at, minutes_at, clock_at, delta_behind, delta_at}
 use Rattle.qm_time.specs.Months.{shared, month_from, found_month, month_at}
