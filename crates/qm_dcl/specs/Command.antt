@@ -64,8 +64,8 @@ abbrev pub command_named : List ℕ → ℕ → List ℕ → Option Command → 
 command_named user now text None = Err not_built
 command_named user now text (Some c) = if is_built text (tokens_in text) c then meant user now text c else Err not_built
 
--- What the text of a user asks for that is read at a moment, or the fault with the least place. A text that names no command that is built, or
--- has a qualifier of it that isn't, isn't built, whatever else is wrong with it; nor is another form of a command, where nothing is
--- wrong.
+-- What the text of a user asks for that is read at a moment, or the fault with the least place. A text that names no command that
+-- is built, or has a qualifier of it that isn't, isn't built, whatever else is wrong with it; nor is another form of a command,
+-- where nothing is wrong.
 abbrev pub command_of : List ℕ → ℕ → List ℕ → Result Input Fault
 command_of user now text = command_named user now text (named_command text (tokens_in text))

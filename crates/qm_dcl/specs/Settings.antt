@@ -85,8 +85,8 @@ with_key text s key None inner = or_value_fault key None
 with_key text s key (Some side) None = if has_equals text key then Ok s else or_value_fault key None
 with_key text s key (Some side) (Some number) = or_value_fault number (margin_given s side (said_by text number))
 
--- UNTIL, behind whose = the moment stands until which a job is kept. Where that can be no value, it is at fault by the grammar, and
--- not the word.
+-- UNTIL, behind whose = the moment stands until which a job is kept. Where that can be no value, it is at fault by the grammar,
+-- and not the word.
 abbrev pub with_until : ℕ → List ℕ → Settings → Token → Option Token → Result Settings Fault
 with_until now text s token None = if has_equals text token then Ok s else or_value_fault token None
 with_until now text s token (Some time) = or_value_fault time (until_given s (moment_said now (raised_by text time)))
