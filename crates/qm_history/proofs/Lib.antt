@@ -23,6 +23,7 @@ pub mod OneCourse
 pub mod AnswerLemmas
 pub mod TellingLemmas
 pub mod NodeLemmas
+pub mod NotedLemmas
 pub mod ServedLemmas
 pub mod ComingLemmas
 pub mod OneTurnLemmas

@@ -27,10 +27,10 @@ use Rattle.qm_history.specs.declared.world.World.{World}
 use Rattle.qm_history.specs.Answering.{MayAnswer}
 use Rattle.qm_history.specs.Calls.{input_of}
 use Rattle.qm_model.specs.Acting.{acting}
-use Rattle.qm_history.specs.Chest.{AddsTurn, IsMadeFor, LeavesTurn, TellsRoom}
+use Rattle.qm_history.specs.Chest.{AddsTurn, AreRoomTold, Chest, IsMadeFor, LeavesTurn, Note, Stands, TellsRoom, unread_of}
 use Rattle.qm_history.specs.Contents.{Compacts, HoldWorld, IsEpochOf, Keeps, LeavesFiles, are_without_write}
 use Rattle.qm_history.specs.Course.{Whole}
-use Rattle.qm_history.specs.Faults.{is_journal}
+use Rattle.qm_history.specs.Faults.{faults_told, is_journal}
 use Rattle.qm_model.specs.Folding.{system_of}
 use Rattle.qm_history.specs.Legal.{IsLegalTurn}
 use Rattle.qm_history.specs.Leaving.{MayBeLeftBehind}
@@ -74,6 +74,20 @@ full_behind_a_fault IsLog HasSpelling text m w files says records holds line r t
     let told : HaveRoom text None w (room_in text says holds.masters records) t.moment (input.Ask r) (event.Full node need cap ∷ []) =
     subst (HaveRoom text None w (room_in text says holds.masters records) t.moment (input.Ask r)) is (tells says records holds) in
     fits_or_not _ _ fits told.0.2
+
+-- It tells of a request with room that the file is full, and notes the need of another one.
+pub full_with_anothers_need : (HasSpelling : Record → Type 0) (text : Record → List ℕ) (w : World) (room : Room) (line : ℕ) (r : Request)
+    (t : Turn) (node need cap : ℕ) (notes : List Note) → t.events ≡ event.Full node need cap ∷ [] → need ≢ record_need text room (request_record (acting t.moment (system_in w)) node r)
+    → AreRoomTold text HasSpelling w room (record { asked = call.Line line (input.Ask r); turn = Some t; unread = false } ∷ notes) → ⊥
+full_with_anothers_need HasSpelling text w room line r t node need cap notes is other told =
+    let own : HaveRoom text None w room t.moment (input.Ask r) (event.Full node need cap ∷ []) = subst (HaveRoom text None w room t.moment (input.Ask r)) is told.0 in
+    other own.0.0
+
+-- It tells that a disk failed in a turn, and neither answers nor notes it.
+pub fault_not_counted : {D : Type 0} (IsLog : List ℕ → List (List ℕ) → Type 0) (HasSpelling : Record → Type 0) (text : Record → List ℕ) (m : Meaning D) (w : World) (began : D) (c : Chest D) (notes : List Note)
+    → faults_told c.turns ≡ 1 → c.failed ≡ 0 → unread_of notes ≡ 0 → Stands IsLog HasSpelling text m w began c notes → ⊥
+fault_not_counted IsLog HasSpelling text m w began c notes one none read stands =
+    let same : faults_told c.turns ≡ c.failed + unread_of notes = stands.told in omega (arith, one, none, read, same)
 
 -- It answers that a disk failed, where none did.
 pub journal_on_a_good_disk : {D : Type 0} (m : Meaning D) (old new : D) (told : Answer) → m.faults new ≡ m.faults old → m.faults old < 2 ^ 64 - 1

@@ -1,7 +1,7 @@
 -- What the value stands for on which the nodes work in turns: its own turns behind the world with which it began.
 -- OpenVMS System Manager's Manual, Managing the Queue Manager and Queue Database, on the queue manager process and its files.
 -- This site's own: one value with the files and the image, and the notes of its turns.
-use Rattle.std.specs.Prelude.{◌≡◌, ◌≢◌, ◌⊎◌, ℕ, ◌+◌, ◌-◌, ◌^◌, ◌<◌, ◌≤◌, min, Bool, true, false, List, [], ◌∷◌, ◌++◌, length, filter_map, is_some, Option, None, Some, IsTrue, IsNone}
+use Rattle.std.specs.Prelude.{◌≡◌, ◌≢◌, ◌⊎◌, ℕ, ◌+◌, ◌-◌, ◌^◌, ◌<◌, ◌≤◌, min, Bool, true, false, List, [], ◌∷◌, ◌++◌, length, filter_map, count_by, ◌&&◌, is_some, Option, None, Some, IsTrue, IsNone}
 use Rattle.std.specs.List.{AllByRecursion}
 use Rattle.std.specs.Option.{option_map}
 use Rattle.qm_disk.specs.Disk.{CrashState, Meaning, LeavesOnly, OnlyLooks, TellsFaults}
@@ -19,11 +19,12 @@ use Rattle.qm_history.specs.Calls.{input_of, why_of, IsFromOutside}
 use Rattle.qm_history.specs.Computed.{turn_of, AreSpelled, IsLawfulInput}
 use Rattle.qm_history.specs.Contents.{HoldWorld, HoldWithin, HoldIn, Keeps, LeavesFiles, CompactsFiles, are_without_write, compacted_by}
 use Rattle.qm_history.specs.Faults.{faults_told, is_journal, tells_disk_fault}
-use Rattle.qm_history.specs.Legal.{after_turn, after_turns, IsLegal}
+use Rattle.qm_history.specs.Legal.{after_turn, after_turns}
 use Rattle.qm_history.specs.Master.{MasterState}
 use Rattle.qm_model.specs.Log.{image_of}
-use Rattle.qm_history.specs.Room.{Room, AreAboveCap, AreWithinRoom, IsRoomTold, room_after_events, room_in}
+use Rattle.qm_history.specs.Room.{Room, AreAboveCap, IsRoomTold, UnlessFailed, room_after_events, room_in}
 use Rattle.qm_history.specs.Start.{HoldRecords, Starts}
+use Rattle.qm_history.specs.Turn.{IsCutShort, IsTurnOf}
 use Rattle.qm_history.specs.World.{system_in}
 
 -- the most turns that are kept
@@ -31,8 +32,7 @@ abbrev pub turns_kept : ℕ
 turns_kept = 1000000
 
 -- The disks; the manager, and the image that it serves, while one is up; the greatest epoch, and whether a record is in doubt;
--- the nodes that are live, and the epoch that each holds; and the turns. How many calls were told that a disk failed, and how
--- many turns that tell of a takeover in doubt were answered that memory was short or a file damaged.
+-- the nodes that are live, and the epoch that each holds; the turns; and how many calls were told that a disk failed.
 pub record Chest (D : Type 0) : Type 0 where
   pub disk : D
   pub manager : Option Role
@@ -43,7 +43,6 @@ pub record Chest (D : Type 0) : Type 0 where
   pub held : List ℕ
   pub turns : List Turn
   pub failed : ℕ
-  pub unread : ℕ
 
 -- the image that is served in a world: that of its log, while a manager is up
 abbrev pub image_in : World → Option System
@@ -58,9 +57,39 @@ pub record TellsWorld {D : Type 0} (w : World) (c : Chest D) : Type 0 where
   pub live : c.live ≡ w.live
   pub held : c.held ≡ w.held
 
--- the notes of turns, without those of calls that left none
-abbrev pub turns_noted : List (Option Turn) → List Turn
-turns_noted notes = filter_map (λ (note : Option Turn). note) notes
+-- What is noted of a call: what it asked for, the turn that it left, if it left one, and whether that turn tells of a takeover in
+-- doubt where the call was told that memory was short or a file damaged.
+pub record Note : Type 0 where
+  pub asked : Call
+  pub turn : Option Turn
+  pub unread : Bool
+
+-- the turns that are noted, without the calls that left none
+abbrev pub turns_noted : List Note → List Turn
+turns_noted notes = filter_map (λ (n : Note). n.turn) notes
+
+-- how many of the turns tell of a disk that failed where their calls weren't told so
+abbrev pub unread_of : List Note → ℕ
+unread_of notes = count_by (λ (n : Note). n.unread) notes
+
+-- the answer hides what the events of its turn tell
+abbrev pub hides_events : Answer → Bool
+hides_events (answer.NoMemory took) = true
+hides_events (answer.Damaged file place) = true
+hides_events (answer.Done took moment reply) = false
+hides_events (answer.Shown took moment rows) = false
+hides_events (answer.Duties took moment duties) = false
+hides_events (answer.Refused took refusal) = false
+hides_events (answer.Full took need cap) = false
+hides_events (answer.Journal took live) = false
+hides_events (answer.Fenced held current) = false
+hides_events (answer.NoManager took name) = false
+hides_events answer.HistoryFull = false
+
+-- whether a turn that was answered so tells of a disk that failed, and its call wasn't told
+abbrev pub is_unread : Option Turn → Answer → Bool
+is_unread None told = false
+is_unread (Some t) told = tells_disk_fault t.events && hides_events told
 
 -- a turn that a call left is of the node that made it, at the moment that its clock told, and says why it was made
 abbrev pub IsMadeFor : ℕ → ℕ → Call → Option Turn → Type 0
@@ -89,16 +118,37 @@ module _ (HasSpelling : Record → Type 0) where
         (kept : Option Bool) → is_some kept ≡ is_some w.doubt → input_of asked ≡ input.Compact
         → AllByRecursion HasSpelling (image_of (system_in (after_turn w (turn_of w node now kept asked))))
 
+  -- Each noted turn is one of the call that is noted with it.
+  abbrev pub IsNoted : World → Call → Option Turn → (World → Type 0) → Type 0
+  IsNoted w asked None Rest = Rest w
+  IsNoted w asked (Some t) Rest = (IsTurnOf HasSpelling w asked t ⊎ IsCutShort HasSpelling w asked t) × Rest (after_turn w t)
+
+  abbrev pub AreNoted : World → List Note → Type 0
+  AreNoted w [] = Unit {0}
+  AreNoted w (n ∷ notes) = IsNoted w n.asked n.turn (λ after. AreNoted after notes)
+
+module _ (record_text : Record → List ℕ) (HasSpelling : Record → Type 0) where
+  -- Each noted turn up to the first one in which a disk failed, that one too, tells of room what is so of its noted call.
+  abbrev pub IsNotedInRoom : World → Room → Call → Option Turn → (World → Room → Type 0) → Type 0
+  IsNotedInRoom w room asked None Rest = Rest w room
+  IsNotedInRoom w room asked (Some t) Rest =
+      IsRoomTold record_text w room asked t
+      × UnlessFailed record_text HasSpelling (tells_disk_fault t.events) (Rest (after_turn w t) (room_after_events record_text w room t.events))
+
+  abbrev pub AreRoomTold : World → Room → List Note → Type 0
+  AreRoomTold w room [] = Unit {0}
+  AreRoomTold w room (n ∷ notes) = IsNotedInRoom w room n.asked n.turn (λ after room. AreRoomTold after room notes)
+
 -- what is said of a file as a log, and how records are spelled
 module _ (IsLog : List ℕ → List (List ℕ) → Type 0) (HasSpelling : Record → Type 0) (record_text : Record → List ℕ) {D : Type 0} (m : Meaning D) where
-  -- The chest began in this world, on disks that hold it. Its turns are legal there, and tell of room what is so. Behind them it
-  -- stands for the world that they leave: in memory, on the disks, and at each moment since it began in what a crash leaves.
-  pub record StandsFor (w : World) (began : D) (c : Chest D) : Type 0 where
+  -- The chest began in this world, on disks that hold it. Each of its turns is one of the call that is noted with it, and tells of
+  -- room what is so of that call. Behind them it stands for the world that they leave: in memory, on the disks, and at each moment since it began in what a crash leaves.
+  pub record StandsFor (w : World) (began : D) (c : Chest D) (notes : List Note) : Type 0 where
     pub starts : Starts IsLog HasSpelling record_text (m.seen began) w
     -- so early that all turns that can be kept find epochs that a master can hold
     pub early : starts.says.epoch < 2 ^ 61
-    pub legal : IsLegal HasSpelling w c.turns
-    pub room : AreWithinRoom record_text HasSpelling w (room_in record_text starts.says starts.hold.masters starts.records) c.turns
+    pub noted : AreNoted HasSpelling w notes
+    pub room : AreRoomTold record_text HasSpelling w (room_in record_text starts.says starts.hold.masters starts.records) notes
     pub caps : AreAboveCap starts.says.cap c.turns
     pub tells : TellsWorld (after_turns w c.turns) c
     pub keeps : Keeps IsLog HasSpelling record_text m (after_turns w c.turns) c.disk
@@ -106,12 +156,12 @@ module _ (IsLog : List ℕ → List (List ℕ) → Type 0) (HasSpelling : Record
 
   -- What holds of the chest and the notes of the turns that it was handed in: that is what a turnstile keeps between two turns.
   -- Of disks that don't tell their contents nothing is known but how many calls failed.
-  pub record Stands (w : World) (began : D) (c : Chest D) (notes : List (Option Turn)) : Type 0 where
+  pub record Stands (w : World) (began : D) (c : Chest D) (notes : List Note) : Type 0 where
     pub turns : c.turns ≡ turns_noted notes
     pub few : length c.turns ≤ turns_kept
     pub failed : m.faults c.disk ≡ min (m.faults began + c.failed) (2 ^ 64 - 1)
-    pub told : faults_told c.turns ≡ c.failed + c.unread
-    pub stands : IsTrue m.tells → StandsFor w began c
+    pub told : faults_told c.turns ≡ c.failed + unread_of notes
+    pub stands : IsTrue m.tells → StandsFor w began c notes
 
   -- how far the later files reach, by how far the earlier ones did
   abbrev pub Grow : CrashState → CrashState → (Room → Room) → Type 0
@@ -149,15 +199,16 @@ module _ (IsLog : List ℕ → List (List ℕ) → Type 0) (HasSpelling : Record
       (says : MasterState) (records : List Record) → (h : HoldRecords IsLog HasSpelling record_text files says records)
       → IsRoomTold record_text w (room_in record_text says h.masters records) asked t
 
-  -- What a call of this node, with this reading, does to a chest that stands for a world and these notes, where it keeps the
+  -- What the noted call of this node, with this reading, does to a chest that stands for a world and these notes, where it keeps the
   -- rules: the turn is of that node, reading and call, or there is none for a reason; the answer tells of a
   -- disk that failed just where one did, and then no manager is up; what it tells of room is so of this call; and the chest then
   -- stands for one note more.
-  pub record Serves (w : World) (began : D) (old new : Chest D) (notes : List (Option Turn)) (node now : ℕ) (asked : Call) (note : Option Turn) (told : Answer) : Type 0 where
-    pub made : IsMadeFor node now asked note
-    pub leaves : LeavesTurn old.turns note told
+  pub record Serves (w : World) (began : D) (old new : Chest D) (notes : List Note) (node now : ℕ) (note : Note) (told : Answer) : Type 0 where
+    pub made : IsMadeFor node now note.asked note.turn
+    pub leaves : LeavesTurn old.turns note.turn told
+    pub unread : note.unread ≡ is_unread note.turn told
     pub faults : TellsFaults m old.disk new.disk (is_journal told ≡ true)
     pub down : is_journal told ≡ true → IsNone new.manager
-    pub adds : IsTrue m.tells → Adds (after_turns w old.turns) old.disk new.disk asked note told
-    pub room : IsTrue m.tells → TellsRoom (after_turns w old.turns) (m.seen old.disk) asked note
+    pub adds : IsTrue m.tells → Adds (after_turns w old.turns) old.disk new.disk note.asked note.turn told
+    pub room : IsTrue m.tells → TellsRoom (after_turns w old.turns) (m.seen old.disk) note.asked note.turn
     pub stands : Stands w began new (notes ++ note ∷ [])

@@ -7,10 +7,11 @@ ghost use Rattle.qm_history.specs.declared.turn.Turn.{Turn};
 ghost use Rattle.qm_history.specs.declared.world.World.{World};
 ghost use Rattle.qm_history.specs.Answering.{MayAnswer};
 ghost use Rattle.qm_history.specs.Answers.{answer_of};
+ghost use Rattle.qm_history.specs.Chest.{AreNoted, AreRoomTold, Note, turns_noted};
 ghost use Rattle.qm_history.specs.Course.{answered};
 ghost use Rattle.qm_history.specs.Faults.{faults_told, is_journal, tells_disk_fault};
-ghost use Rattle.qm_history.specs.Legal.{IsLegalTurn};
-ghost use Rattle.qm_history.specs.Room.{Room, IsRoomTold, IsAboveCap};
+ghost use Rattle.qm_history.specs.Legal.{IsLegal, IsLegalTurn};
+ghost use Rattle.qm_history.specs.Room.{AreWithinRoom, Room, IsRoomTold, IsAboveCap};
 ghost use Rattle.qm_history.specs.Visits.{Visit, visits};
 
 use crate::format::{FileFormat, Format};
@@ -27,4 +28,11 @@ pub fn journal_tells_of_disks<F: Format>()
 /// master.
 pub fn full_files_are_full<F: FileFormat>()
     ensures { (w : World) (m : Room) (asked : Call) (t : Turn) → IsRoomTold F.text w m asked t → AllByRecursion (IsAboveCap m.cap) t.events }
+{}
+
+/// Where each noted turn is one of the call that is noted with it, the turns are a legal history. Where up to the first one in which
+/// a disk failed each tells of room what is so of its call, the history is within that room.
+pub fn noted_calls_make_histories<F: FileFormat>()
+    ensures legal { (notes : List Note) (w : World) → AreNoted F.has_spelling w notes → IsLegal F.has_spelling w (turns_noted notes) }
+    ensures within { (notes : List Note) (w : World) (room : Room) → AreNoted F.has_spelling w notes → AreRoomTold F.text F.has_spelling w room notes → AreWithinRoom F.text F.has_spelling w room (turns_noted notes) }
 {}

@@ -25,7 +25,7 @@ mod turns;
 mod world;
 
 pub use again::jobs_that_went_back_run_again;
-pub use answers::{full_files_are_full, journal_tells_of_disks};
+pub use answers::{full_files_are_full, journal_tells_of_disks, noted_calls_make_histories};
 pub use call::{Answer, Call, Takeover};
 pub use courses::{begun_courses_go_on, reports_are_of_steps};
 pub use crashes::{
