@@ -1,7 +1,6 @@
 -- What is noted of calls makes a legal history, within the room of its files.
-use Rattle.std.proofs.Common.{◌≡◌, ◌⊎◌, ℕ, Bool, true, false, List, [], ◌∷◌, refl, sym, subst, arith, Option, None, Some}
+use Rattle.std.proofs.Common.{◌≡◌, ℕ, Bool, true, false, List, [], ◌∷◌, refl, sym, subst, arith, Option, None, Some}
 use Rattle.qm_kinds.specs.declared.record.Record.{Record}
-use Rattle.qm_history.specs.declared.call.Call.{Call}
 use Rattle.qm_history.specs.declared.turn.Turn.{Turn}
 use Rattle.qm_history.specs.declared.world.World.{World}
 use Rattle.qm_history.specs.Chest.{AreNoted, AreRoomTold, IsNoted, IsNotedInRoom, Note, turns_noted}
@@ -38,11 +37,12 @@ module _ (HasSpelling : Record → Type 0) (text : Record → List ℕ) where
           → AreWithinRoom text HasSpelling w room (turns_noted (n ∷ notes))
       within_on w room None is h told = subst (AreWithinRoom text HasSpelling w room) (sym (skipped n notes is)) (rest w room h told)
       within_on w room (Some t) is h told =
-          subst (AreWithinRoom text HasSpelling w room) (sym (kept n notes t is))
-          (record { asked = n.asked; turn_is = h.0; told = told.0 },
-          unless (tells_disk_fault t.events) (AreRoomTold text HasSpelling (after_turn w t) (room_after_events text w room t.events) notes)
-          (AreWithinRoom text HasSpelling (after_turn w t) (room_after_events text w room t.events) (turns_noted notes))
-          (λ there. rest (after_turn w t) (room_after_events text w room t.events) h.1 there) told.1)
+          subst (AreWithinRoom text HasSpelling w room) (sym (kept n notes t is)) (
+            record { asked = n.asked; turn_is = h.0; told = told.0 },
+            unless (tells_disk_fault t.events) (AreRoomTold text HasSpelling (after_turn w t) (room_after_events text w room t.events) notes)
+                (AreWithinRoom text HasSpelling (after_turn w t) (room_after_events text w room t.events) (turns_noted notes))
+                (λ there. rest (after_turn w t) (room_after_events text w room t.events) h.1 there) told.1,
+          )
 
   pub noted_within : (notes : List Note) (w : World) (room : Room) → AreNoted HasSpelling w notes → AreRoomTold text HasSpelling w room notes
       → AreWithinRoom text HasSpelling w room (turns_noted notes)

@@ -1,7 +1,7 @@
 -- Which records may stand in a log: the image of a consistent system, and requests that were accepted one after the other.
 -- OpenVMS System Manager's Manual, Managing the Queue Manager and Queue Database, on the queue database; DCL Dictionary,
 -- START/QUEUE/MANAGER, on its list of nodes.
-use Rattle.std.specs.Prelude.{◌≡◌, ◌<◌, ◌≤◌, ℕ, List, [], ◌∷◌, ◌++◌, length, map, filter, IsOk}
+use Rattle.std.specs.Prelude.{◌≡◌, ◌<◌, ◌≤◌, ℕ, List, ◌++◌, length, map, filter, IsOk}
 use Rattle.std.specs.List.{AllByRecursion}
 use Rattle.qm_kinds.specs.declared.record.Record.{Record}
 use Rattle.qm_kinds.specs.declared.record.Body.{Body}

@@ -141,8 +141,9 @@ module _ (record_text : Record → List ℕ) (HasSpelling : Record → Type 0) w
 
 -- what is said of a file as a log, and how records are spelled
 module _ (IsLog : List ℕ → List (List ℕ) → Type 0) (HasSpelling : Record → Type 0) (record_text : Record → List ℕ) {D : Type 0} (m : Meaning D) where
-  -- The chest began in this world, on disks that hold it. Each of its turns is one of the call that is noted with it, and tells of
-  -- room what is so of that call. Behind them it stands for the world that they leave: in memory, on the disks, and at each moment since it began in what a crash leaves.
+  -- The chest began in this world, on disks that hold it. Each of its turns is one of the call that is noted with it, and tells
+  -- of room what is so of that call. Behind them it stands for the world that they leave: in memory, on the disks, and at each
+  -- moment since it began in what a crash leaves.
   pub record StandsFor (w : World) (began : D) (c : Chest D) (notes : List Note) : Type 0 where
     pub starts : Starts IsLog HasSpelling record_text (m.seen began) w
     -- so early that all turns that can be kept find epochs that a master can hold
@@ -199,10 +200,10 @@ module _ (IsLog : List ℕ → List (List ℕ) → Type 0) (HasSpelling : Record
       (says : MasterState) (records : List Record) → (h : HoldRecords IsLog HasSpelling record_text files says records)
       → IsRoomTold record_text w (room_in record_text says h.masters records) asked t
 
-  -- What the noted call of this node, with this reading, does to a chest that stands for a world and these notes, where it keeps the
-  -- rules: the turn is of that node, reading and call, or there is none for a reason; the answer tells of a
-  -- disk that failed just where one did, and then no manager is up; what it tells of room is so of this call; and the chest then
-  -- stands for one note more.
+  -- What the noted call of this node, with this reading, does to a chest that stands for a world and these notes, where it
+  -- keeps the rules: the turn is of that node, reading and call, or there is none for a reason; the answer tells of a disk that
+  -- failed just where one did, and then no manager is up; what it tells of room is so of this call; and the chest then stands
+  -- for one note more.
   pub record Serves (w : World) (began : D) (old new : Chest D) (notes : List Note) (node now : ℕ) (note : Note) (told : Answer) : Type 0 where
     pub made : IsMadeFor node now note.asked note.turn
     pub leaves : LeavesTurn old.turns note.turn told

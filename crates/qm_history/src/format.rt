@@ -34,7 +34,10 @@ pub trait FileFormat: Format {
 
 impl FileFormat for QueueFile {
     ghost text = { record_text };
+
     ghost is_log = { IsLog };
+
     ghost is_broken_at = { IsDamaged };
+
     ghost place_of = { λ bodies index. size_of (take index bodies) };
 }
