@@ -82,7 +82,7 @@ fn a_job_waits_for_its_moment(rt: HostRuntime) -> Result<(), Fail> {
     Ok(())
 }
 
-// There is no clock yet.
+// The clock tells an earlier moment.
 #[test]
 fn a_run_acts_at_the_moment_of_the_last_change(rt: HostRuntime) -> Result<(), Fail> {
     let alloc = rt.alloc();
