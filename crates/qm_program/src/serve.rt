@@ -62,8 +62,10 @@ fn ask<D: Disk>(
     requires ready { IsReady D.meaning manager.old }
     requires built { is_built request.now ≡ true }
     requires short { HasShortLists request.now }
-    ensures text { IfOk result (λ text. text.items ≡ lines_behind prefix.now (turn_of (site_of manager.old) now (Input.Ask request.now)).answer) }
-    ensures serves { Serves D.meaning (site_of manager.old) (turn_of (site_of manager.old) now (Input.Ask request.now)).site manager.old manager.new result }
+    ensures text { IfOk result (λ text. text.items ≡ lines_behind prefix.now
+        (turn_of (site_of manager.old) now (Input.Ask request.now)).answer) }
+    ensures serves { Serves D.meaning (site_of manager.old)
+        (turn_of (site_of manager.old) now (Input.Ask request.now)).site manager.old manager.new result }
 {
     match manager.ask(now, request) {
         Ok(reply) => Ok(show_reply(alloc, prefix, &reply)?),
@@ -114,8 +116,10 @@ fn answer<D: Disk>(
 ) -> Result<Vec<u8>, AnswerFault>
     requires ready { IsReady D.meaning manager.old }
     requires askable { IsAskable input.now }
-    ensures text { IfOk result (λ text. text.items ≡ lines_behind prefix.now (turn_of (site_of manager.old) now input.now).answer) }
-    ensures serves { Serves D.meaning (site_of manager.old) (turn_of (site_of manager.old) now input.now).site manager.old manager.new result }
+    ensures text { IfOk result (λ text. text.items ≡ lines_behind prefix.now
+        (turn_of (site_of manager.old) now input.now).answer) }
+    ensures serves { Serves D.meaning (site_of manager.old)
+        (turn_of (site_of manager.old) now input.now).site manager.old manager.new result }
 {
     match input {
         Input::Ask(request) => ask(alloc, manager, now, prefix, request),

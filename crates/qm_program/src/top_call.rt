@@ -125,9 +125,9 @@ fn run<S: Source, O: Sink, D: Disk, C: Clock>(
 ///
 /// Two laws say what follows from the clause `does` of a run. At `Ok` the script was served whole: the sink took its
 /// transcript over the site of the queue file, at the readings that the clock told in this call, one for each line, and the
-/// file is then that of the site after all lines ([`crate::a_run_that_ends_well_has_served_its_script`]). And a crash at any moment leaves the queue file of the site after
-/// the first lines of the script, none to all, or what a crash before the run might leave
-/// ([`crate::a_crash_leaves_the_site_after_some_lines`]).
+/// file is then that of the site after all lines ([`crate::a_run_that_ends_well_has_served_its_script`]). And a crash at any
+/// moment leaves the queue file of the site after the first lines of the script, none to all, or what a crash before the run
+/// might leave ([`crate::a_crash_leaves_the_site_after_some_lines`]).
 pub fn qman<S: Source, O: Sink, D: Disk, C: Clock>(
     alloc: Global,
     words: &[String],

@@ -26,8 +26,7 @@ pub returns-in-Some-Init-clause-usage : goal.returns-in-Some-Init-clause-usage
 returns-in-Some-Init-clause-usage g c =
     let task : c.in-Some-Init.field-0 ≡ Init c.in-Some-Init.node = rw c.in-Some-Init.is at c.in-Some-Init.field-0-is in
     let asked = task_of (map (string_bytes {Z = Global}) c.args.words.now) in
-    let is : asked ≡ Some (Init c.in-Some-Init.node) = sym c.read_task-task.ensures ∙ c.in-Some-Init.is ∙ ap Some task in
-    (
+    let is : asked ≡ Some (Init c.in-Some-Init.node) = sym c.read_task-task.ensures ∙ c.in-Some-Init.is ∙ ap Some task in (
       (λ usage. absurd (never_usage_made g.D.Disk.meaning c.in-Some-Init.node
           (record { disk = c.args.disk; taken = g.O.Sink.taken c.args.sink.now; told = None })
           (record { disk = c.make.result.disk; taken = g.O.Sink.taken c.make.new.sink; told = None })
