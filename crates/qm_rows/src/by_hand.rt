@@ -94,6 +94,14 @@ pub(crate) const SUBMIT: Body = &[
 /// The passing of time.
 pub(crate) const TICK: Body = &[b"\x01\x14", AT_0, b"\x00"];
 
+/// An empty checkpoint of run 1, which no request reports so far.
+pub(crate) const MARK: Body = &[
+    b"\x01\x12",
+    AT_0,
+    b"\x00",
+    b"\x01\x00\x00\x00\x00\x00\x00\x00\x00",
+];
+
 fn bytes_in(body: &[&[u8]]) -> u64 {
     let mut bytes = 0u64;
     for piece in body {

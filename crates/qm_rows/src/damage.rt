@@ -1,7 +1,7 @@
 // Files that are no queue file, and what is told of each.
 use crate::by_hand::{
-    APPEND, APPEND_AT_4, APPEND_AT_5, AT_0, Body, EXIT_LINE, FORM, HEAD, JOB_COM, QUEUE, SUBMIT,
-    TICK, queue_file, site_and,
+    APPEND, APPEND_AT_4, APPEND_AT_5, AT_0, Body, EXIT_LINE, FORM, HEAD, JOB_COM, MARK, QUEUE,
+    SUBMIT, TICK, queue_file, site_and,
 };
 use crate::run::{Ran, check, disk_with, serve};
 use qm_program::End;
@@ -245,7 +245,7 @@ fn a_queue_file_has_its_three_rows_first(rt: HostRuntime) -> Result<(), Fail> {
 
 // Records behind the rows of a site, and the gate at which the file is damaged: that of the first one that can't stand.
 const RECORDS: [(&str, &[Body], u64); 16] = [
-    ("the passing of time", &[TICK], 158),
+    ("a checkpoint of no run", &[MARK], 158),
     (
         "a node that isn't there",
         &[&[b"\x01\x01", AT_0, b"\x01", JOB_COM, EXIT_LINE]],
@@ -288,7 +288,7 @@ const RECORDS: [(&str, &[Body], u64); 16] = [
         158,
     ),
     ("a moment that goes back", &[APPEND_AT_5, APPEND_AT_4], 196),
-    ("time that has passed", &[APPEND, TICK], 196),
+    ("time that goes back", &[APPEND_AT_5, TICK], 196),
     ("a second head", &[APPEND, HEAD], 196),
     ("a file that a job names", &[APPEND, SUBMIT, APPEND], 253),
 ];
