@@ -20,7 +20,7 @@ use Rattle.qm_program.specs.Course.{Outside, AnswersLines, StopsWithin, ServesNo
 use Rattle.qm_program.specs.Running.{IsRead, Reads, OfScript, HasScript, IsFound, Serves, ServesTo, RunsTo, MakesTo, Makes, Does, OthersStay, Counts, IsFaulty, IsOfAnother, HasCause, IsWithoutFault, HasSoundScript}
 use Rattle.qm_program.specs.Serving.{CountsSink}
 use Rattle.qm_program.specs.Ends.{end_of, end_of_opening}
-use Rattle.qm_program.specs.declared.script.TheConstants.{SCRIPT_BYTES}
+use Rattle.qm_script.specs.declared.script.TheConstants.{SCRIPT_BYTES}
 use Rattle.qm_program.specs.declared.outcome.End.{End}
 use Rattle.qm_program.specs.declared.outcome.End.TheVariants as ends
 use Rattle.qm_program.specs.declared.serve.ServeEnd.{ServeEnd}

@@ -8,7 +8,7 @@ use Rattle.qm_disk.specs.Disk.{Meaning, KeepsOthers, IsQuiet, OnlyLooks}
 use Rattle.qm_io.specs.Bytes.{TakesPrefix}
 use Rattle.qm_model.specs.Script.{ScriptLine, are_of_node}
 use Rattle.qm_manager.specs.Site.{Site}
-use Rattle.qm_program.specs.Lines.{lines_view, line_view}
+use Rattle.qm_script.specs.Lines.{lines_view, line_view}
 use Rattle.qm_program.specs.Transcript.{Step, LineAt, turn, step_of, steps_of, lines_of, site_behind, after}
 use Rattle.qm_program.specs.Course.{Outside, TakesPart, MakesStep, MakesSteps, StopsAtStep, AnswersLines, StopsWithin}
 use Rattle.qm_program.specs.Running.{OthersStay}
@@ -17,7 +17,7 @@ use Rattle.qm_program.specs.declared.serve.ServeEnd.{ServeEnd}
 use Rattle.qm_program.specs.declared.serve.ServeEnd.TheVariants as ends
 use Rattle.qm_program.specs.Serving.{CountsSink}
 use Rattle.qm_io.specs.Faults as io
-use Rattle.qm_program.specs.declared.script.Line.{Line}
+use Rattle.qm_script.specs.declared.script.Line.{Line}
 
 -- ---- steps, one behind the other
 

@@ -1,8 +1,6 @@
 pub mod Transcript
-pub mod Lines
 pub mod Ends
 pub mod Task
-pub mod Wanting
 pub mod Course
 pub mod Serving
 pub mod Running

@@ -16,7 +16,7 @@ use Rattle.qm_manager.specs.Opened.{IsDamagedFile}
 use Rattle.qm_manager.specs.Restoring.{HasNode}
 use Rattle.qm_program.specs.Task.{initialized}
 use Rattle.qm_program.specs.Course.{Outside, TakesPart, AnswersLines, StopsWithin, ServesNothing}
-use Rattle.qm_program.specs.declared.script.TheConstants.{SCRIPT_BYTES}
+use Rattle.qm_script.specs.declared.script.TheConstants.{SCRIPT_BYTES}
 use Rattle.qm_program.specs.declared.outcome.End.{End}
 use Rattle.qm_program.specs.declared.outcome.End.TheVariants as ends
 use Rattle.qm_program.specs.declared.task.Task.{Task}

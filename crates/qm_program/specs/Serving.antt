@@ -12,7 +12,10 @@ use Rattle.qm_manager.specs.declared.manager.Manager.{Manager}
 use Rattle.qm_manager.specs.Site.{Site}
 use Rattle.qm_manager.specs.Asking.{Steps, HasShortLists}
 use Rattle.qm_manager.specs.Manager.{site_of, node_of, disk_of, IsReady}
+use Rattle.qm_script.specs.declared.script.Line.{Line}
+use Rattle.qm_script.specs.Lines.{line_view}
 use Rattle.qm_program.specs.Course.{Outside, TakesPart}
+use Rattle.qm_program.specs.Transcript.{LineAt}
 use Rattle.qm_io.specs.Faults.{counted}
 use Rattle.qm_program.specs.declared.serve.ServeEnd.{ServeEnd}
 use Rattle.qm_program.specs.declared.serve.ServeEnd.TheVariants as ends
@@ -22,6 +25,10 @@ use Rattle.qm_program.specs.declared.serve.AnswerFault.TheVariants.{Disk, NoMemo
 -- the disk of a manager, beside what a sink took and a clock told
 abbrev pub outside : {D : Type 0} → Manager D → Option (List ℕ) → Option (List ℕ) → Outside D
 outside manager taken told = record { disk = disk_of manager; taken = taken; told = told }
+
+-- a line of a script at a reading of the clock
+abbrev pub line_at : Line → ℕ → LineAt
+line_at l reading = record { line = line_view l; reading = reading }
 
 -- lines of the transcript, each behind the node and the number of the script's line
 abbrev pub lines_behind : Prefix → List (List ℕ) → List ℕ

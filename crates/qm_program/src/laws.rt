@@ -11,7 +11,6 @@ ghost use Rattle.qm_program.specs.Course.{MakesSteps, StopsWithin};
 ghost use Rattle.qm_program.specs.Running.{OfScript, ServesScript, RunsTo};
 ghost use Rattle.qm_program.specs.Surviving.{Survives, AreServed, AreServedTo};
 ghost use Rattle.qm_program.specs.declared.outcome.End.{End};
-ghost use Rattle.qm_program.specs.declared.script.TheConstants.{SCRIPT_BYTES};
 
 use crate::outcome::End;
 use qm_disk::Disk;
@@ -68,11 +67,6 @@ pub fn the_queue_file_has_a_number()
 /// so here it is said.
 pub fn moments_have_a_last_one()
     ensures { LAST_MOMENT ≡ 25690901759999 }
-{}
-
-/// A script has 16,777,216 bytes at most. Definitions cite the number by its name, so here it is said.
-pub fn a_script_has_a_limit()
-    ensures { SCRIPT_BYTES ≡ 16777216 }
 {}
 
 /// The name of a node has at most 6 bytes, and that of a queue, a device, a form, a stock or a characteristic at most 31.

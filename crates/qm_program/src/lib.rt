@@ -2,11 +2,8 @@
 //! with the queue file. What it writes is the transcript of the script that it reads, over the site that the file keeps.
 #![tactic(auto)]
 
-mod act;
-mod input;
 mod laws;
 mod outcome;
-mod script;
 mod serve;
 mod task;
 mod top_call;
@@ -14,7 +11,7 @@ mod top_call;
 pub use laws::{
     a_crash_leaves_the_site_after_some_lines, a_queue_file_has_a_cap,
     a_run_that_ends_well_has_served_its_script, a_run_that_stops_has_served_its_first_lines,
-    a_script_has_a_limit, moments_have_a_last_one, names_have_limits, steps_print_their_text,
+    moments_have_a_last_one, names_have_limits, steps_print_their_text,
     the_queue_file_has_a_number,
 };
 pub use outcome::{End, Outcome};

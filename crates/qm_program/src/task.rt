@@ -3,8 +3,8 @@ ghost use Rattle.std.specs.Prelude.{◌≡◌, ◌≤◌, length, map, IfSome};
 ghost use Rattle.std.specs.String.{string_bytes};
 ghost use Rattle.qm_program.specs.Task.{task_of};
 
-use crate::script::read_node_name;
 use qm_kinds::Name;
+use qm_script::read_node_name;
 
 /// What the program is asked to do.
 #[derive(Clone, Copy, Debug)]

@@ -2,20 +2,20 @@
 ghost use Rattle.std.specs.Prelude.{◌≡◌, ◌⊎◌, ◌≤◌, ◌↔◌, ℕ, List, map, length, IsTrue, Option, None, Some};
 ghost use Rattle.std.specs.String.{string_bytes};
 ghost use Rattle.qm_program.specs.Ends.{status_of};
-ghost use Rattle.qm_program.specs.Lines.{lines_view};
+ghost use Rattle.qm_script.specs.Lines.{lines_view};
 ghost use Rattle.qm_program.specs.Task.{task_of};
 ghost use Rattle.qm_program.specs.Course.{ServesNothing};
 ghost use Rattle.qm_program.specs.Running.{Does, Reads, RunsTo, ServesTo, Makes, OthersStay, HasCause, IsFaulty, IsOfAnother, IsWithoutFault, HasSoundScript};
 ghost use Rattle.qm_program.specs.declared.task.Task.TheVariants.{Run};
 
 use crate::outcome::{End, Outcome};
-use crate::script::{Line, SCRIPT_BYTES, ScriptEnd, are_of_node, read_script};
 use crate::serve::serve_lines;
 use crate::task::{Task, read_task};
 use qm_disk::Disk;
 use qm_io::{Clock, ReadEnd, Sink, Source, read_whole, write_whole};
 use qm_kinds::{NODE_NAME_BYTES, Name, ScriptKind};
 use qm_manager::{Manager, init};
+use qm_script::{Line, SCRIPT_BYTES, ScriptEnd, are_of_node, read_script};
 use std::alloc::Global;
 
 // A script that can't be read, or can't be served here.

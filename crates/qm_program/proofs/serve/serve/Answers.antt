@@ -1,6 +1,7 @@
 use Rattle.std.proofs.Common.{◌∙◌, ℕ}
 use Rattle.qm_manager.specs.Manager.{site_of, disk_of}
-use Rattle.qm_program.specs.Lines.{sort_view, line_at}
+use Rattle.qm_script.specs.Lines.{sort_view}
+use Rattle.qm_program.specs.Serving.{line_at}
 use Rattle.qm_program.specs.Transcript.{turn}
 use Rattle.qm_program.proofs.Served.{input_askable, nothing_done}
 use Rattle.qm_program.proofs.Serving.{step_cut, step_wanting}

@@ -1,6 +1,6 @@
 use Rattle.std.proofs.Common.{◌+◌, sym, ◌∙◌, drop, refl}
 use Rattle.qm_manager.specs.Manager.{site_of, node_of}
-use Rattle.qm_program.specs.Lines.{lines_view, line_view}
+use Rattle.qm_script.specs.Lines.{lines_view, line_view}
 use Rattle.qm_program.specs.Serving.{outside}
 use Rattle.qm_program.specs.Ends.{end_of}
 use Rattle.qm_program.proofs.Going.{goes_first, goes_on, goes_to_end, stops_here, counts_on, first_line, rest_is_nothing, node_of_line}

@@ -1,6 +1,6 @@
 use Rattle.std.proofs.Common.{◌≡◌, drop}
 use Rattle.qm_manager.specs.Manager.{site_of, node_of, IsReady}
-use Rattle.qm_program.specs.Lines.{lines_view}
+use Rattle.qm_script.specs.Lines.{lines_view}
 use Rattle.qm_program.specs.Serving.{outside}
 use Rattle.qm_program.proofs.Going.{Goes}
 use Rattle.qm_program.proofs.serve.serve_lines.Given as goal

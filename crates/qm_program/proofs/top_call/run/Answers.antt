@@ -1,4 +1,4 @@
-use Rattle.qm_program.specs.Lines.{lines_view}
+use Rattle.qm_script.specs.Lines.{lines_view}
 use Rattle.qm_program.proofs.Ending.{counts_of, read_text, script_cause}
 use Rattle.qm_program.proofs.top_call.run.Goals as goal
 

@@ -1,6 +1,6 @@
 use Rattle.std.proofs.Common.{sym}
 use Rattle.qm_manager.specs.Manager.{disk_of}
-use Rattle.qm_program.specs.Lines.{lines_view}
+use Rattle.qm_script.specs.Lines.{lines_view}
 use Rattle.qm_program.specs.Running.{IsOfAnother}
 use Rattle.qm_program.specs.Ends.{end_of}
 use Rattle.qm_program.proofs.Ending.{another_cause, all_served, all_cause, all_keep_others, stopped_serves, stopped_cause, stopped_keeps_others}

@@ -1,7 +1,7 @@
 use Rattle.std.proofs.Common.{◌≡◌, drop}
 use Rattle.qm_model.specs.Script.{are_of_node}
-use Rattle.qm_program.specs.Lines.{lines_view}
-use Rattle.qm_program.proofs.script.are_of_node.Given as goal
+use Rattle.qm_script.specs.Lines.{lines_view}
+use Rattle.qm_script.proofs.script.are_of_node.Given as goal
 
 -- the lines so far are of the node
 abbrev pub invariant-loop-line : goal.invariant-loop-line

@@ -1,8 +1,8 @@
 use Rattle.std.proofs.Common.{arith, ap, sym, ◌∙◌, ◌&&◌, ◌++◌, ◌∷◌, [], Bool, is_ok}
-use Rattle.qm_program.specs.Lines.{line_view}
-use Rattle.qm_program.proofs.Parts.{line_skipped, line_taken, line_put}
-use Rattle.qm_program.proofs.script.read_script.Goals as goal
-use Rattle.qm_program.proofs.script.read_script.Goals.{then-not-is_empty+in-Some-read_line, else-not-is_empty}
+use Rattle.qm_script.specs.Lines.{line_view}
+use Rattle.qm_script.proofs.Parts.{line_skipped, line_taken, line_put}
+use Rattle.qm_script.proofs.script.read_script.Goals as goal
+use Rattle.qm_script.proofs.script.read_script.Goals.{then-not-is_empty+in-Some-read_line, else-not-is_empty}
 
 pub loop-text-preserved : goal.loop-text-preserved
 loop-text-preserved c = elim c.if-not-is_empty.branch [

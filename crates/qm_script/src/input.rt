@@ -3,8 +3,8 @@ ghost use Rattle.std.specs.Prelude.{◌≡◌, IfOk, OnErr};
 ghost use Rattle.qm_kinds.specs.Names.{system_user};
 ghost use Rattle.qm_dcl.specs.Command.{command_of};
 ghost use Rattle.qm_dcl.specs.Lines.{input_of, or_fault};
-ghost use Rattle.qm_program.specs.Lines.{sort_view};
-ghost use Rattle.qm_program.specs.Wanting.{MayWantMemory};
+ghost use Rattle.qm_script.specs.Lines.{sort_view};
+ghost use Rattle.qm_script.specs.Wanting.{MayWantMemory};
 
 use crate::act::read_act;
 use crate::script::{Line, Sort};
@@ -25,7 +25,7 @@ fn read_typed(alloc: Global, text: &[u8], now: Moment) -> Result<Input, AllocErr
 
 /// What a line asks for: a command behind a `$`, an act at the site behind a `!`. The clock told this moment before; times of
 /// a command that are relative count from it.
-pub(crate) fn read_input(alloc: Global, line: &Line<'_>, now: Moment) -> Result<Input, AllocError>
+pub fn read_input(alloc: Global, line: &Line<'_>, now: Moment) -> Result<Input, AllocError>
     ensures input { IfOk result (λ input. input ≡ input_of (sort_view line.now.sort) now line.now.text.now) }
     ensures no_memory { OnErr result (MayWantMemory (sort_view line.now.sort)
         (input_of (sort_view line.now.sort) now line.now.text.now)) }

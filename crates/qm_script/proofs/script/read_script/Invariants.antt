@@ -1,9 +1,9 @@
 use Rattle.std.proofs.Common.{◌≡◌, ◌+◌, ◌≤◌, ◌==◌, true, List, length}
 use Rattle.std.specs.List.{slice_split}
 use Rattle.qm_model.specs.Script.{ScriptLine, lines_from}
-use Rattle.qm_program.specs.Lines.{lines_view}
-use Rattle.qm_program.proofs.Parts.{with_lines}
-use Rattle.qm_program.proofs.script.read_script.Given as goal
+use Rattle.qm_script.specs.Lines.{lines_view}
+use Rattle.qm_script.proofs.Parts.{with_lines}
+use Rattle.qm_script.proofs.script.read_script.Given as goal
 
 -- the lines so far and those of the rest are those of the whole, and each line took a byte at least
 abbrev pub invariant-loop-text : goal.invariant-loop-text

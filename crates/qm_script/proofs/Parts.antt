@@ -7,8 +7,8 @@ use Rattle.std.proofs.lemmas.List.Splits.{slice_split_none, slice_split_first}
 use Rattle.std.proofs.lemmas.List.Sums.{fails_before_first}
 use Rattle.std.proofs.lemmas.Bool.Decides.{nat_tests}
 use Rattle.std.proofs.lemmas.List.{map-append}
-use Rattle.qm_program.specs.Lines.{lines_view, line_view}
-use Rattle.qm_program.specs.declared.script.Line.{Line}
+use Rattle.qm_script.specs.Lines.{lines_view, line_view}
+use Rattle.qm_script.specs.declared.script.Line.{Line}
 use Rattle.std.proofs.Common.{take_all, length-drop, append_assoc}
 use Rattle.std.proofs.lemmas.List.Splits.{length-slice_split}
 

@@ -4,12 +4,11 @@ use Rattle.std.specs.Borrow.{Bor}
 use Rattle.std.specs.List.{slice_split}
 use Rattle.qm_kinds.specs.declared.script.ScriptKind.{ScriptKind}
 use Rattle.qm_model.specs.Script.{ScriptLine, Sort, Command, Site}
-use Rattle.qm_program.specs.Transcript.{LineAt}
-use Rattle.qm_program.specs.declared.script.Sort.{Sort as CodeSort}
-use Rattle.qm_program.specs.declared.script.Sort.TheVariants as code
-use Rattle.qm_program.specs.declared.script.Line.{Line}
-use Rattle.qm_program.specs.declared.script.ScriptEnd.{ScriptEnd}
-use Rattle.qm_program.specs.declared.script.ScriptEnd.TheVariants.{Fault, NoMemory}
+use Rattle.qm_script.specs.declared.script.Sort.{Sort as CodeSort}
+use Rattle.qm_script.specs.declared.script.Sort.TheVariants as code
+use Rattle.qm_script.specs.declared.script.Line.{Line}
+use Rattle.qm_script.specs.declared.script.ScriptEnd.{ScriptEnd}
+use Rattle.qm_script.specs.declared.script.ScriptEnd.TheVariants.{Fault, NoMemory}
 
 abbrev pub sort_view : CodeSort → Sort
 sort_view code.Command = Command
@@ -17,10 +16,6 @@ sort_view code.Site = Site
 
 abbrev pub line_view : Line → ScriptLine
 line_view l = record { number = l.number; node = l.node; sort = sort_view l.sort; text = l.text.now }
-
--- a line at a reading of the clock
-abbrev pub line_at : Line → ℕ → LineAt
-line_at l reading = record { line = line_view l; reading = reading }
 
 abbrev pub lines_view : List Line → List ScriptLine
 lines_view = map line_view

@@ -1,6 +1,6 @@
 use Rattle.std.proofs.Common.{◌+◌, arith, length-take-le, length-drop}
-use Rattle.qm_program.proofs.Parts.{cut_first, uncut, rest_of}
-use Rattle.qm_program.proofs.script.cut_at_line_feed.Goals as goal
+use Rattle.qm_script.proofs.Parts.{cut_first, uncut, rest_of}
+use Rattle.qm_script.proofs.script.cut_at_line_feed.Goals as goal
 
 pub returns-in-None : goal.returns-in-None
 returns-in-None c = uncut c.args.text.now c.in-None.ensures.value

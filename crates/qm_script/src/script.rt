@@ -4,16 +4,16 @@ ghost use Rattle.std.specs.List.{list_all};
 ghost use Rattle.std.specs.Option.{option_map};
 ghost use Rattle.qm_model.specs.Texts.{cut_at_blank};
 ghost use Rattle.qm_model.specs.Script.{is_line_byte, node_name_of, sorted, line_of, script_of, are_of_node};
-ghost use Rattle.qm_program.specs.Lines.{line_view, lines_view, parts_view, CutsFirstLine, ReadsScript};
+ghost use Rattle.qm_script.specs.Lines.{line_view, lines_view, parts_view, CutsFirstLine, ReadsScript};
 
 use qm_kinds::{NODE_NAME_BYTES, Name, ScriptKind};
 use std::alloc::Global;
 
 /// The most bytes that a script may have.
-pub(crate) const SCRIPT_BYTES: usize = 16_777_216;
+pub const SCRIPT_BYTES: usize = 16_777_216;
 
 #[derive(Clone, Copy, Debug, PartialEq, Eq)]
-pub(crate) enum Sort {
+pub enum Sort {
     /// A command that a user types, behind a `$`.
     Command,
     /// An act at the site, behind a `!`.
@@ -22,19 +22,19 @@ pub(crate) enum Sort {
 
 /// A line of a script.
 #[derive(Clone, Copy, Debug)]
-pub(crate) struct Line<'a> {
+pub struct Line<'a> {
     /// Lines of the text are counted from 1, empty ones too.
-    pub(crate) number: u32,
+    pub number: u32,
     /// The name of the line's node.
-    pub(crate) node: Name,
-    pub(crate) sort: Sort,
+    pub node: Name,
+    pub sort: Sort,
     /// What stands behind the sort and a blank.
-    pub(crate) text: &'a [u8],
+    pub text: &'a [u8],
 }
 
 /// Why no script was read.
 #[derive(Clone, Copy, Debug, PartialEq, Eq)]
-pub(crate) enum ScriptEnd {
+pub enum ScriptEnd {
     Fault(ScriptKind),
     NoMemory,
 }
@@ -93,7 +93,7 @@ fn read_sorted(number: u32, node: Name, text: &[u8]) -> Option<Line<'_>>
 }
 
 /// The name of a node, which has at most six bytes.
-pub(crate) fn read_node_name(text: &[u8]) -> Option<Name>
+pub fn read_node_name(text: &[u8]) -> Option<Name>
     ensures { result ≡ node_name_of text.now }
 {
     match Name::read(text) {
@@ -115,7 +115,7 @@ fn read_line(number: u32, text: &[u8]) -> Option<Line<'_>>
 }
 
 /// Whether every line is of this node.
-pub(crate) fn are_of_node(node: &Name, lines: &[Line<'_>]) -> bool
+pub fn are_of_node(node: &Name, lines: &[Line<'_>]) -> bool
     ensures { result ≡ are_of_node node.now (lines_view lines.now) }
 {
     for line in lines {
@@ -128,7 +128,7 @@ pub(crate) fn are_of_node(node: &Name, lines: &[Line<'_>]) -> bool
 
 /// The lines of a script that aren't empty. Where memory runs out the rest is read all the same, so that it is wanted for a
 /// script alone.
-pub(crate) fn read_script<'a>(alloc: Global, script: &'a [u8]) -> Result<Vec<Line<'a>>, ScriptEnd>
+pub fn read_script<'a>(alloc: Global, script: &'a [u8]) -> Result<Vec<Line<'a>>, ScriptEnd>
     requires { length script.now ≤ SCRIPT_BYTES }
     ensures { ReadsScript (λ lines. lines_view lines.items) (script_of script.now) result }
 {

@@ -3,7 +3,7 @@ ghost use Rattle.std.specs.Prelude.{◌≡◌, ◌++◌, ◌∷◌, [], IfOk, On
 ghost use Rattle.qm_kinds.specs.Files.{file_name_of};
 ghost use Rattle.qm_model.specs.Texts.{cut_at_blank};
 ghost use Rattle.qm_model.specs.Script.{act_of, done_act, drop_act, fill_act, is_act_word, line_act, malformed_act};
-ghost use Rattle.qm_program.specs.Wanting.{WantsMemory};
+ghost use Rattle.qm_script.specs.Wanting.{WantsMemory};
 
 use crate::script::cut_at_blank;
 use qm_digits::plain_number_up_to;
