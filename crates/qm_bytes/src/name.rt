@@ -51,10 +51,7 @@ fn name_ahead(bytes: &[u8], count: usize) -> Option<Name>
         return None;
     }
     let (front, _) = bytes.split_at(count);
-    match Name::read(front) {
-        Ok(name) if name.as_bytes() == front => Some(name),
-        _ => None,
-    }
+    Name::of_bytes(front)
 }
 
 // The name whose spelling stands in front, if one does.

@@ -1,5 +1,6 @@
 ghost use Rattle.std.specs.Char.{to_ascii_uppercase};
-ghost use Rattle.std.specs.Prelude.{position, not, ◌≡◌, ◌≤◌, ◌<◌, length, Some, true};
+ghost use Rattle.std.specs.Prelude.{position, not, ◌≡◌, ◌≤◌, ◌<◌, length, Some, true, IfSome, IfNone};
+ghost use Rattle.std.specs.List.{list_all};
 ghost use Rattle.std.specs.Ordering.{nat_cmp};
 ghost use Rattle.std.specs.Cmp.{partial_equiv_from_equiv};
 ghost use Rattle.std.specs.Cmp.Lexicographic.{pointwise, slice_cmp, nat_list_eq_equiv, nat_list_cmp_total, texts_po, texts_ties};
@@ -48,6 +49,19 @@ impl Name {
         Ok(Name { text })
     }
 
+    /// The name that these bytes are as they stand, if they are one. No letter is raised.
+    pub fn of_bytes(bytes: &[u8]) -> Option<Name>
+        ensures found { IfSome result (λ name. name ≡ bytes.now) }
+        ensures none { IfNone result (IsText is_name_byte bytes.now → ⊥) }
+    {
+        if bytes.is_empty() || bytes.len() > 39 || !are_name_bytes(bytes) {
+            return None;
+        }
+        Some(Name {
+            text: ShortBytes::new(bytes),
+        })
+    }
+
     /// The bytes of the name.
     pub fn as_bytes(&self) -> &[u8]
         ensures value { result.now ≡ self.now }
@@ -71,6 +85,12 @@ fn first_bad(text: &[u8]) -> Option<usize>
 {
     text.iter()
         .position(|b| !is_name_byte(b.to_ascii_uppercase()))
+}
+
+fn are_name_bytes(text: &[u8]) -> bool
+    ensures { result ≡ list_all is_name_byte text.now }
+{
+    text.iter().all(|b| is_name_byte(*b))
 }
 
 /// Whether a byte may stand in a name: a capital letter, a digit, `$` or `_`.
