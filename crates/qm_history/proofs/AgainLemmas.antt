@@ -12,7 +12,8 @@ use Rattle.qm_model.specs.Batch.{normal_status}
 use Rattle.qm_model.specs.Pages.{page_blocks}
 use Rattle.qm_model.specs.Reports.{begin, course_of, next_report, print_steps}
 use Rattle.qm_history.specs.Blocks.{last_step, IsFetchedBehind, IsLeftBy, IsInStretch, ComeInStretches, ComesAgainBehindMark, ComeAgainBehindMarks}
-use Rattle.qm_history.specs.Course.{KeptRun, MadeStep, StepEnd, WentOn, DeviceFailed, CutShort, report_told}
+use Rattle.qm_model.specs.Kept.{KeptRun, StepEnd, WentOn, DeviceFailed, CutShort, report_told}
+use Rattle.qm_history.specs.Course.{MadeStep}
 
 -- ---- the mark of a print job is behind one more block
 

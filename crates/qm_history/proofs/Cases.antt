@@ -22,7 +22,8 @@ use Rattle.qm_history.specs.declared.world.World.{World}
 use Rattle.qm_history.specs.Answering.{IsOneTakeover}
 use Rattle.qm_history.specs.Computed.{turn_of}
 use Rattle.qm_history.specs.Order.{IsWaiting}
-use Rattle.qm_history.specs.Course.{KeptRun, NodeState, DeviceFailed, CutShort, WentOn, IsEndOf, at_first, behind_step, behind_step_line, report_told, next_at, Begun, Whole, IsBrokenOff, next_run}
+use Rattle.qm_model.specs.Kept.{KeptRun, DeviceFailed, CutShort, WentOn, IsEndOf, report_told}
+use Rattle.qm_history.specs.Course.{NodeState, at_first, behind_step, behind_step_line, next_at, Begun, Whole, IsBrokenOff, next_run}
 use Rattle.qm_history.specs.Legal.{after_turn}
 use Rattle.qm_history.specs.Lines.{script_lines}
 use Rattle.qm_history.specs.Room.{HaveRoom}
@@ -135,7 +136,7 @@ abbrev shown : NodeState
 shown = behind_step_line 0 (at_first []) 3 (answer.Duties None 1000 (duty 1 false false ∷ duty 2 false true ∷ duty 3 true true ∷ []))
 
 -- Without this a paused run could print, or an aborting one wait for ever.
-pub paused_runs_wait : shown.round ≡ 1 ∷ 3 ∷ []
+pub paused_runs_wait : shown.kept.round ≡ 1 ∷ 3 ∷ []
 paused_runs_wait = refl
 
 abbrev first_run : KeptRun
@@ -148,7 +149,7 @@ aborting_run = record { run = 3; aborting = true; paused = true; work = work_of_
 pub a_failing_device_ends_its_run : report_told first_run DeviceFailed ≡ report.Done 1028
 a_failing_device_ends_its_run = refl
 
-pub it_is_forgotten : (behind_step shown first_run (3 ∷ []) (report.Done 1028) (answer.Journal None true)).round ≡ 3 ∷ []
+pub it_is_forgotten : (behind_step shown first_run (3 ∷ []) (report.Done 1028) (answer.Journal None true)).kept.round ≡ 3 ∷ []
 it_is_forgotten = refl
 
 -- an aborting run is cut short, with status 44, and its symbiont isn't asked

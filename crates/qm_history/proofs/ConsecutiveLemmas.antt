@@ -14,7 +14,8 @@ use Rattle.qm_model.specs.Pages.{page_blocks}
 use Rattle.qm_model.specs.Reports.{begin, course, course_of, next_report, print_steps, blocks_before_report}
 use Rattle.qm_model.proofs.ReportLemmas.{next_mark, more_left}
 use Rattle.qm_history.specs.Blocks.{AreFirst, blocks_next, HandsOver, AreHanded, last_step, IsFetchedBehind, IsLeftBy, IsInStretch, ComeInStretches, blocks_of_stretch, blocks_behind_mark}
-use Rattle.qm_history.specs.Course.{KeptRun, MadeStep, StepEnd, WentOn, DeviceFailed, CutShort, report_told}
+use Rattle.qm_model.specs.Kept.{KeptRun, StepEnd, WentOn, DeviceFailed, CutShort, report_told}
+use Rattle.qm_history.specs.Course.{MadeStep}
 use Rattle.qm_history.proofs.AgainLemmas.{Came, InStretchAt, told_mark, same_run, behind_its_mark}
 
 -- ---- first ones of lists

@@ -16,7 +16,8 @@ use Rattle.qm_model.specs.Reports.{begin, course_of, next_report, print_steps}
 use Rattle.qm_history.specs.declared.turn.Turn.{Turn}
 use Rattle.qm_history.specs.declared.world.World.{World}
 use Rattle.qm_history.specs.Blocks.{last_step, IsInStretch, IsLeftBy, ComeInStretches}
-use Rattle.qm_history.specs.Course.{KeptRun, MadeStep, StepEnd, WentOn, DeviceFailed, CutShort, report_told}
+use Rattle.qm_model.specs.Kept.{KeptRun, StepEnd, WentOn, DeviceFailed, CutShort, report_told}
+use Rattle.qm_history.specs.Course.{MadeStep}
 use Rattle.qm_history.specs.Printed.{Came, EndsWell, IsHandedOver, AreHandedBehindMarks, ComesAgainElsewhere}
 use Rattle.qm_history.proofs.AgainLemmas.{InStretchAt, behind_its_mark, same_run, told_mark}
 use Rattle.qm_history.proofs.AgainLemmas as again

@@ -5,7 +5,8 @@ use Rattle.std.specs.Fmt.{digits}
 use Rattle.qm_kinds.specs.declared.work.Place.{Place}
 use Rattle.qm_model.specs.Reports.{begin}
 use Rattle.qm_history.specs.Blocks.{ComeInStretches, IsInStretch}
-use Rattle.qm_history.specs.Course.{KeptRun, MadeStep, WentOn}
+use Rattle.qm_model.specs.Kept.{KeptRun, WentOn}
+use Rattle.qm_history.specs.Course.{MadeStep}
 use Rattle.qm_history.proofs.OneCourse.{run_at, work}
 
 -- the run printed its first page, and another fetch gave the job again, behind that page

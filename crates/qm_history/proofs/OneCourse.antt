@@ -15,7 +15,8 @@ use Rattle.qm_history.specs.declared.call.Call.TheVariants as call
 use Rattle.qm_history.specs.declared.turn.Turn.{Turn}
 use Rattle.qm_history.specs.declared.world.World.{World}
 use Rattle.qm_history.specs.Blocks.{AreHanded, blocks_next}
-use Rattle.qm_history.specs.Course.{KeptRun, MadeStep, WentOn, Whole, IsCourse}
+use Rattle.qm_model.specs.Kept.{KeptRun, WentOn}
+use Rattle.qm_history.specs.Course.{MadeStep, Whole, IsCourse}
 use Rattle.qm_history.specs.Script.{UserLine, LineSort, Command, Act}
 use Rattle.qm_history.specs.Text.{text}
 use Rattle.qm_history.specs.Visits.{Visit}

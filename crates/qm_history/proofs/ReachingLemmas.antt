@@ -13,7 +13,8 @@ use Rattle.qm_history.specs.declared.event.Event.TheVariants as event
 use Rattle.qm_history.specs.declared.turn.Turn.{Turn}
 use Rattle.qm_history.specs.declared.world.World.{World}
 use Rattle.qm_history.specs.Calls.{input_of}
-use Rattle.qm_history.specs.Course.{Extent, Whole, Begun, Follows, GoesOn, IsBrokenOff, IsCourse, IsStepOf, KeptRun, MadeStep, NextTurn, ALine, AStep, AFetch, ALeave, NoTurn, NodeState, Over, ServesOrEnds, answered, at_first, behind_fetch, behind_line, behind_step, call_of_line, failed_steps, is_live_behind, known, next_at, next_run, own_stage, report_told}
+use Rattle.qm_model.specs.Kept.{KeptRun, known, report_told}
+use Rattle.qm_history.specs.Course.{Extent, Whole, Begun, Follows, GoesOn, IsBrokenOff, IsCourse, IsStepOf, MadeStep, NextTurn, ALine, AStep, AFetch, ALeave, NoTurn, NodeState, Over, ServesOrEnds, answered, at_first, behind_fetch, behind_line, behind_step, call_of_line, failed_steps, is_live_behind, next_at, next_run, own_stage}
 use Rattle.qm_history.specs.Legal.{after_turns}
 use Rattle.qm_history.specs.Reaching.{HasReached, IsCutAtEnd, IsCutBehindTakeover, IsCutNext, IsTookAlone, Reaches, is_for_role}
 use Rattle.qm_history.specs.Script.{UserLine, steps_asked}
@@ -48,7 +49,7 @@ module _ (HasSpelling : Record → Type 0) (read : UserLine → ℕ → List Vis
         goes (behind_step n m.run round (report_told m.run m.end) (answered v)) steps h.2,
       )
       follows_on n earlier steps AFetch h = (
-        whole_serves extent v.before (call.Fetch (known n)) v.turn more h.0,
+        whole_serves extent v.before (call.Fetch (known n.kept)) v.turn more h.0,
         goes (behind_fetch (length earlier) (record n { stage = own_stage n.stage }) (answered v)) steps h.1,
       )
       follows_on n earlier steps ALeave h = (whole_serves extent v.before call.Leave v.turn more h.0, goes (record n { stage = Over }) steps h.1)
@@ -193,7 +194,7 @@ module _ (HasSpelling : Record → Type 0) (read : UserLine → ℕ → List Vis
             (last_on (After [] n earlier (m ∷ steps) (AStep run round)) (call.Report run (report_told m.run m.end)) (behind_step n m.run round (report_told m.run m.end) (answered v)) steps
             (λ served then then_live there. (h.0, served, there)) h.1 h.2)
         followed_last n earlier steps AFetch h =
-            last_on (After [] n earlier steps AFetch) (call.Fetch (known n)) (behind_fetch (length earlier) (record n { stage = own_stage n.stage }) (answered v)) steps
+            last_on (After [] n earlier steps AFetch) (call.Fetch (known n.kept)) (behind_fetch (length earlier) (record n { stage = own_stage n.stage }) (answered v)) steps
             (λ served then then_live there. (served, there)) h.0 h.1
         followed_last n earlier steps ALeave h =
             leave_ended n earlier steps (After [] n earlier steps ALeave)
@@ -229,7 +230,7 @@ module _ (HasSpelling : Record → Type 0) (read : UserLine → ℕ → List Vis
             (behind_step n m.run round (report_told m.run m.end) (answered v)) steps
             (λ served cut. (h.0, served, cut)) (λ served then then_live there. (h.0, served, there)) h.1 h.2
         followed n earlier steps AFetch h =
-            served_on (Ends n earlier steps AFetch) (After (other ∷ others) n earlier steps AFetch) (call.Fetch (known n))
+            served_on (Ends n earlier steps AFetch) (After (other ∷ others) n earlier steps AFetch) (call.Fetch (known n.kept))
             (behind_fetch (length earlier) (record n { stage = own_stage n.stage }) (answered v)) steps
             (λ served cut. (served, cut)) (λ served then then_live there. (served, there)) h.0 h.1
         followed n earlier steps ALeave h =

@@ -10,7 +10,8 @@ use Rattle.qm_history.specs.declared.turn.Turn.{Turn}
 use Rattle.qm_history.specs.declared.turn.Why.TheVariants as why
 use Rattle.qm_history.specs.declared.world.World.{World}
 use Rattle.qm_history.specs.Calls.{why_of}
-use Rattle.qm_history.specs.Course.{Extent, Whole, Begun, Follows, GoesOn, IsCourse, KeptRun, MadeStep, NextTurn, ALine, AStep, AFetch, ALeave, NoTurn, NodeState, Over, ServesOrEnds, answered, at_first, behind_fetch, behind_line, behind_step, call_of_line, is_live_behind, known, next_at, own_stage, report_told, run_kept}
+use Rattle.qm_model.specs.Kept.{KeptRun, known, report_told, run_kept}
+use Rattle.qm_history.specs.Course.{Extent, Whole, Begun, Follows, GoesOn, IsCourse, MadeStep, NextTurn, ALine, AStep, AFetch, ALeave, NoTurn, NodeState, Over, ServesOrEnds, answered, at_first, behind_fetch, behind_line, behind_step, call_of_line, is_live_behind, next_at, own_stage}
 use Rattle.qm_history.specs.Reaching.{IsReportOf, ReportSteps}
 use Rattle.qm_history.specs.Script.{UserLine, steps_asked}
 use Rattle.qm_history.specs.Turn.{IsTurnOf, IsCutShort}
@@ -64,11 +65,11 @@ module _ (HasSpelling : Record → Type 0) (read : UserLine → ℕ → List Vis
         )
         followed n earlier [] (AStep run round) inside h = absurd h
         followed n earlier (m ∷ steps) (AStep run round) inside h = (
-          (λ is. (m, inside m (inl refl), is_report extent v others run m (kept_number run n.runs m.run h.0.0) h.1)),
+          (λ is. (m, inside m (inl refl), is_report extent v others run m (kept_number run n.kept.runs m.run h.0.0) h.1)),
           each (behind_step n m.run round (report_told m.run m.end) (answered v)) steps (λ x there. inside x (inr there)) h.2,
         )
         followed n earlier steps AFetch inside h = (
-          (λ is. absurd (no_fetch (sym (why_is extent v.before (call.Fetch (known n)) v.turn others h.0) ∙ is))),
+          (λ is. absurd (no_fetch (sym (why_is extent v.before (call.Fetch (known n.kept)) v.turn others h.0) ∙ is))),
           each (behind_fetch (length earlier) (record n { stage = own_stage n.stage }) (answered v)) steps inside h.1,
         )
         followed n earlier steps ALeave inside h = (

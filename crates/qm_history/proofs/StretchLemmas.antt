@@ -18,7 +18,8 @@ use Rattle.qm_history.specs.declared.call.Answer.TheVariants as answer
 use Rattle.qm_history.specs.declared.world.World.{World}
 use Rattle.qm_history.specs.declared.turn.Turn.{Turn}
 use Rattle.qm_history.specs.Blocks.{broken_step, all_steps, last_step, Gives, IsGiven, IsFetchedBehind, IsLeftBy, IsInStretch, ComeInStretches}
-use Rattle.qm_history.specs.Course.{KeptRun, NodeState, MadeStep, NextTurn, Extent, Whole, Begun, IsBrokenOff, next_run, IsCourse, GoesOn, Follows, ALine, AStep, AFetch, ALeave, NoTurn, run_kept, kept_of, kept_after, moved_to, without_run, is_marked, behind_mark, behind_report, behind_step, behind_line, behind_step_line, behind_fetch, next_at, own_stage, answered, is_live_behind, at_first, report_told, Over}
+use Rattle.qm_model.specs.Kept.{KeptRun, KeptRuns, run_kept, kept_of, kept_after, moved_to, without_run, behind_mark, behind_report, report_told}
+use Rattle.qm_history.specs.Course.{NodeState, MadeStep, goes_on, NextTurn, Extent, Whole, Begun, IsBrokenOff, next_run, IsCourse, GoesOn, Follows, ALine, AStep, AFetch, ALeave, NoTurn, behind_step, behind_line, behind_step_line, behind_fetch, next_at, own_stage, answered, is_live_behind, at_first, Over}
 use Rattle.qm_history.specs.Script.{UserLine, steps_asked}
 use Rattle.qm_history.specs.Visits.{Visit, visits_of}
 
@@ -86,23 +87,13 @@ module _ (P : KeptRun → Type 0) where
     all_moved place [] all = tt
     all_moved place (k ∷ runs) all = (moved_at place k (k.run == s.run) all.0, all_moved place runs all.1)
 
-    mark_keeps : (n : NodeState) (others : List ℕ) (next : Place) (recorded : Bool) → AllByRecursion P n.runs → AllByRecursion P (behind_mark n s others next recorded).runs
-    mark_keeps n others next true all = all_moved next n.runs all
-    mark_keeps n others next false all = gone s.run n.runs all
+    mark_keeps : (kept : KeptRuns) (others : List ℕ) (next : Place) (goes_on : Bool) → AllByRecursion P kept.runs → AllByRecursion P (behind_mark kept s others next goes_on).runs
+    mark_keeps kept others next true all = all_moved next kept.runs all
+    mark_keeps kept others next false all = gone s.run kept.runs all
 
-    report_keeps : (n : NodeState) (others : List ℕ) (told : Report) (replied : Answer) → AllByRecursion P n.runs → AllByRecursion P (behind_report n s others told replied).runs
-    report_keeps n others (report.Mark value next) (answer.Done took moment reply) all = mark_keeps n others next (is_marked reply.act) all
-    report_keeps n others (report.Mark value next) (answer.Shown took moment rows) all = gone s.run n.runs all
-    report_keeps n others (report.Mark value next) (answer.Duties took moment duties) all = gone s.run n.runs all
-    report_keeps n others (report.Mark value next) (answer.Refused took refusal) all = gone s.run n.runs all
-    report_keeps n others (report.Mark value next) (answer.Full took need cap) all = gone s.run n.runs all
-    report_keeps n others (report.Mark value next) (answer.Journal took live) all = gone s.run n.runs all
-    report_keeps n others (report.Mark value next) (answer.Fenced held current) all = gone s.run n.runs all
-    report_keeps n others (report.Mark value next) (answer.NoManager took name) all = gone s.run n.runs all
-    report_keeps n others (report.Mark value next) (answer.Damaged file place) all = gone s.run n.runs all
-    report_keeps n others (report.Mark value next) answer.HistoryFull all = gone s.run n.runs all
-    report_keeps n others (report.Mark value next) (answer.NoMemory took) all = gone s.run n.runs all
-    report_keeps n others (report.Done status) replied all = gone s.run n.runs all
+    report_keeps : (kept : KeptRuns) (others : List ℕ) (told : Report) (goes_on : Bool) → AllByRecursion P kept.runs → AllByRecursion P (behind_report kept s others told goes_on).runs
+    report_keeps kept others (report.Mark value next) goes_on all = mark_keeps kept others next goes_on all
+    report_keeps kept others (report.Done status) goes_on all = gone s.run kept.runs all
 
 -- ---- fetches that gave runs
 
@@ -132,21 +123,21 @@ steps_given_later a b [] all = tt
 steps_given_later a b (m ∷ steps) all = (given_later a b m.run all.0, steps_given_later a b steps all.1)
 
 -- a fetch as the last of these turns gives what it shows
-given_new : (before : List Visit) (v : Visit) (n : NodeState) (replied : Answer) → answered v ≡ replied → AllByRecursion (IsGiven before) n.runs
-    → AllByRecursion (IsGiven (before ++ v ∷ [])) (behind_fetch (length before) n replied).runs
+given_new : (before : List Visit) (v : Visit) (n : NodeState) (replied : Answer) → answered v ≡ replied → AllByRecursion (IsGiven before) n.kept.runs
+    → AllByRecursion (IsGiven (before ++ v ∷ [])) (behind_fetch (length before) n replied).kept.runs
 given_new before v n (answer.Duties took moment duties) is all =
     all_kept (IsGiven (before ++ v ∷ [])) (λ k aborting paused h. h) (length before) duties
     (λ d work among work_is. (v, get_last before v, subst (λ r. Gives r d.run work) (sym is) (d, among, refl, work_is)))
-    n.runs duties (λ d among. among) (all_given_later before (v ∷ []) n.runs all)
-given_new before v n replied is all = all_given_later before (v ∷ []) n.runs all
+    n.kept.runs duties (λ d among. among) (all_given_later before (v ∷ []) n.kept.runs all)
+given_new before v n replied is all = all_given_later before (v ∷ []) n.kept.runs all
 
-given_line : (before : List Visit) (v : Visit) (n : NodeState) (steps : ℕ) (replied : Answer) → answered v ≡ replied → AllByRecursion (IsGiven before) n.runs
-    → AllByRecursion (IsGiven (before ++ v ∷ [])) (behind_step_line (length before) n steps replied).runs
+given_line : (before : List Visit) (v : Visit) (n : NodeState) (steps : ℕ) (replied : Answer) → answered v ≡ replied → AllByRecursion (IsGiven before) n.kept.runs
+    → AllByRecursion (IsGiven (before ++ v ∷ [])) (behind_step_line (length before) n steps replied).kept.runs
 given_line before v n steps (answer.Duties took moment duties) is all =
     all_kept (IsGiven (before ++ v ∷ [])) (λ k aborting paused h. h) (length before) duties
     (λ d work among work_is. (v, get_last before v, subst (λ r. Gives r d.run work) (sym is) (d, among, refl, work_is)))
-    n.runs duties (λ d among. among) (all_given_later before (v ∷ []) n.runs all)
-given_line before v n steps replied is all = all_given_later before (v ∷ []) n.runs all
+    n.kept.runs duties (λ d among. among) (all_given_later before (v ∷ []) n.kept.runs all)
+given_line before v n steps replied is all = all_given_later before (v ∷ []) n.kept.runs all
 
 -- ---- where runs are
 
@@ -181,25 +172,15 @@ stretch_gone m earlier (k ∷ runs) all = stretch_gone_at m earlier k runs (k.ru
 
 -- ---- a step
 
-marked : (n : NodeState) (m : MadeStep) (earlier : List MadeStep) (others : List ℕ) (value : List ℕ) (next : Place) (recorded : Bool) → report_told m.run m.end ≡ report.Mark value next
-    → AllInStretch earlier n.runs → AllInStretch (m ∷ earlier) (behind_mark n m.run others next recorded).runs
-marked n m earlier others value next true is all = stretch_moved m earlier next value is n.runs all
-marked n m earlier others value next false is all = stretch_gone m earlier n.runs all
+marked : (kept : KeptRuns) (m : MadeStep) (earlier : List MadeStep) (others : List ℕ) (value : List ℕ) (next : Place) (goes_on : Bool) → report_told m.run m.end ≡ report.Mark value next
+    → AllInStretch earlier kept.runs → AllInStretch (m ∷ earlier) (behind_mark kept m.run others next goes_on).runs
+marked kept m earlier others value next true is all = stretch_moved m earlier next value is kept.runs all
+marked kept m earlier others value next false is all = stretch_gone m earlier kept.runs all
 
-stepped : (n : NodeState) (m : MadeStep) (earlier : List MadeStep) (others : List ℕ) (told : Report) (replied : Answer) → report_told m.run m.end ≡ told
-    → AllInStretch earlier n.runs → AllInStretch (m ∷ earlier) (behind_report n m.run others told replied).runs
-stepped n m earlier others (report.Mark value next) (answer.Done took moment reply) is all = marked n m earlier others value next (is_marked reply.act) is all
-stepped n m earlier others (report.Mark value next) (answer.Shown took moment rows) is all = stretch_gone m earlier n.runs all
-stepped n m earlier others (report.Mark value next) (answer.Duties took moment duties) is all = stretch_gone m earlier n.runs all
-stepped n m earlier others (report.Mark value next) (answer.Refused took refusal) is all = stretch_gone m earlier n.runs all
-stepped n m earlier others (report.Mark value next) (answer.Full took need cap) is all = stretch_gone m earlier n.runs all
-stepped n m earlier others (report.Mark value next) (answer.Journal took live) is all = stretch_gone m earlier n.runs all
-stepped n m earlier others (report.Mark value next) (answer.Fenced held current) is all = stretch_gone m earlier n.runs all
-stepped n m earlier others (report.Mark value next) (answer.NoManager took name) is all = stretch_gone m earlier n.runs all
-stepped n m earlier others (report.Mark value next) (answer.Damaged file place) is all = stretch_gone m earlier n.runs all
-stepped n m earlier others (report.Mark value next) answer.HistoryFull is all = stretch_gone m earlier n.runs all
-stepped n m earlier others (report.Mark value next) (answer.NoMemory took) is all = stretch_gone m earlier n.runs all
-stepped n m earlier others (report.Done status) replied is all = stretch_gone m earlier n.runs all
+stepped : (kept : KeptRuns) (m : MadeStep) (earlier : List MadeStep) (others : List ℕ) (told : Report) (goes_on : Bool) → report_told m.run m.end ≡ told
+    → AllInStretch earlier kept.runs → AllInStretch (m ∷ earlier) (behind_report kept m.run others told goes_on).runs
+stepped kept m earlier others (report.Mark value next) goes_on is all = marked kept m earlier others value next goes_on is all
+stepped kept m earlier others (report.Done status) goes_on is all = stretch_gone m earlier kept.runs all
 
 -- ---- a fetch
 
@@ -235,29 +216,29 @@ module _ (before : List Visit) (earlier : List MadeStep) (made : AllByRecursion 
       (λ d work among work_is. inl (fetched_behind (record { run = d.run; aborting = d.aborting; paused = d.paused; work = work; place = begin work; fetched = length before }) before d.run refl earlier made, refl))
       runs duties (λ d among. among) all
 
-  fetched : (n : NodeState) (replied : Answer) → AllInStretch earlier n.runs → AllInStretch earlier (behind_fetch (length before) n replied).runs
-  fetched n (answer.Duties took moment duties) all = shown n.runs duties all
+  fetched : (n : NodeState) (replied : Answer) → AllInStretch earlier n.kept.runs → AllInStretch earlier (behind_fetch (length before) n replied).kept.runs
+  fetched n (answer.Duties took moment duties) all = shown n.kept.runs duties all
   fetched n replied all = all
 
-  step_line : (n : NodeState) (steps : ℕ) (replied : Answer) → AllInStretch earlier n.runs → AllInStretch earlier (behind_step_line (length before) n steps replied).runs
-  step_line n steps (answer.Duties took moment duties) all = shown n.runs duties all
+  step_line : (n : NodeState) (steps : ℕ) (replied : Answer) → AllInStretch earlier n.kept.runs → AllInStretch earlier (behind_step_line (length before) n steps replied).kept.runs
+  step_line n steps (answer.Duties took moment duties) all = shown n.kept.runs duties all
   step_line n steps replied all = all
 
-  lined : (n : NodeState) (lines : List UserLine) (asked : Option ℕ) (replied : Answer) → AllInStretch earlier n.runs → AllInStretch earlier (behind_line (length before) n lines asked replied).runs
+  lined : (n : NodeState) (lines : List UserLine) (asked : Option ℕ) (replied : Answer) → AllInStretch earlier n.kept.runs → AllInStretch earlier (behind_line (length before) n lines asked replied).kept.runs
   lined n lines (Some steps) replied all = step_line (record n { lines = lines }) steps replied all
   lined n lines None replied all = all
 
-given_lined : (before : List Visit) (v : Visit) (n : NodeState) (lines : List UserLine) (asked : Option ℕ) → AllByRecursion (IsGiven before) n.runs
-    → AllByRecursion (IsGiven (before ++ v ∷ [])) (behind_line (length before) n lines asked (answered v)).runs
+given_lined : (before : List Visit) (v : Visit) (n : NodeState) (lines : List UserLine) (asked : Option ℕ) → AllByRecursion (IsGiven before) n.kept.runs
+    → AllByRecursion (IsGiven (before ++ v ∷ [])) (behind_line (length before) n lines asked (answered v)).kept.runs
 given_lined before v n lines (Some steps) all = given_line before v (record n { lines = lines }) steps (answered v) refl all
-given_lined before v n lines None all = all_given_later before (v ∷ []) n.runs all
+given_lined before v n lines None all = all_given_later before (v ∷ []) n.kept.runs all
 
 -- ---- a course
 
 -- what is known of a node and of its steps so far
 pub record IsSoFar (n : NodeState) (before : List Visit) (earlier : List MadeStep) : Type 0 where
-  pub stretch : AllInStretch earlier n.runs
-  pub given : AllByRecursion (IsGiven before) n.runs
+  pub stretch : AllInStretch earlier n.kept.runs
+  pub given : AllByRecursion (IsGiven before) n.kept.runs
   pub made : AllByRecursion (λ (m : MadeStep). IsGiven before m.run) earlier
 
 -- what is said of the steps that follow
@@ -265,8 +246,8 @@ pub record AreGood (all : List Visit) (earlier steps : List MadeStep) : Type 0 w
   pub stretches : ComeInStretches earlier steps
   pub given : AllByRecursion (λ (m : MadeStep). IsGiven all m.run) steps
 
-next_kept : (P : KeptRun → Type 0) (n : NodeState) (next : NextTurn) → AllByRecursion P n.runs → IfSome (next_run n next) P
-next_kept P n (AStep run round) all = found P run n.runs all
+next_kept : (P : KeptRun → Type 0) (n : NodeState) (next : NextTurn) → AllByRecursion P n.kept.runs → IfSome (next_run n next) P
+next_kept P n (AStep run round) all = found P run n.kept.runs all
 next_kept P n (ALine l lines) all = tt
 next_kept P n AFetch all = tt
 next_kept P n ALeave all = tt
@@ -298,17 +279,17 @@ module _ (HasSpelling : Record → Type 0) (read : UserLine → ℕ → List Vis
       }) h.1
   follows_on all n before v others [] earlier (AStep run round) so later on h = absurd h
   follows_on all n before v others (m ∷ steps) earlier (AStep run round) so later on h =
-      let given : IsGiven before m.run = found_is (IsGiven before) (run_kept run n.runs) m.run h.0.0 (found (IsGiven before) run n.runs so.given) in
+      let given : IsGiven before m.run = found_is (IsGiven before) (run_kept run n.kept.runs) m.run h.0.0 (found (IsGiven before) run n.kept.runs so.given) in
       let rest : AreGood all (m ∷ earlier) (steps ++ broken_step broken) =
       on (behind_step n m.run round (report_told m.run m.end) (answered v)) steps (m ∷ earlier)
       (record {
-        stretch = stepped n m earlier round (report_told m.run m.end) (answered v) refl so.stretch;
-        given = all_given_later before (v ∷ []) (behind_step n m.run round (report_told m.run m.end) (answered v)).runs
-            (report_keeps (IsGiven before) (λ k place h. h) m.run given n round (report_told m.run m.end) (answered v) so.given);
+        stretch = stepped n.kept m earlier round (report_told m.run m.end) (goes_on (answered v)) refl so.stretch;
+        given = all_given_later before (v ∷ []) (behind_step n m.run round (report_told m.run m.end) (answered v)).kept.runs
+            (report_keeps (IsGiven before) (λ k place h. h) m.run given n.kept round (report_told m.run m.end) (goes_on (answered v)) so.given);
         made = (given_later before (v ∷ []) m.run given, steps_given_later before (v ∷ []) earlier so.made);
       }) h.2 in
       record {
-        stretches = (found_is (IsInStretch earlier) (run_kept run n.runs) m.run h.0.0 (found (IsInStretch earlier) run n.runs so.stretch), rest.stretches);
+        stretches = (found_is (IsInStretch earlier) (run_kept run n.kept.runs) m.run h.0.0 (found (IsInStretch earlier) run n.kept.runs so.stretch), rest.stretches);
         given = (later m.run given, rest.given);
       }
   follows_on all n before v others steps earlier AFetch so later on h =
@@ -320,7 +301,7 @@ module _ (HasSpelling : Record → Type 0) (read : UserLine → ℕ → List Vis
       }) h.1
   follows_on all n before v others steps earlier ALeave so later on h =
       on (record n { stage = Over }) steps earlier
-      (record { stretch = so.stretch; given = all_given_later before (v ∷ []) n.runs so.given; made = steps_given_later before (v ∷ []) earlier so.made }) h.1
+      (record { stretch = so.stretch; given = all_given_later before (v ∷ []) n.kept.runs so.given; made = steps_given_later before (v ∷ []) earlier so.made }) h.1
   follows_on all n before v others steps earlier NoTurn so later on h = absurd h
 
   pub good : (visits : List Visit) (n : NodeState) (before : List Visit) (live : Bool) (steps : List MadeStep) (earlier : List MadeStep) → IsSoFar n before earlier

@@ -15,7 +15,8 @@ use Rattle.qm_history.specs.declared.call.Answer.{Answer}
 use Rattle.qm_history.specs.declared.call.Answer.TheVariants as answer
 use Rattle.qm_history.specs.declared.event.Event.{Event}
 use Rattle.qm_history.specs.declared.world.World.{World}
-use Rattle.qm_history.specs.Course.{KeptRun, MadeStep, StepEnd, WentOn, DeviceFailed, CutShort, report_told, answered}
+use Rattle.qm_model.specs.Kept.{KeptRun, StepEnd, WentOn, DeviceFailed, CutShort, report_told}
+use Rattle.qm_history.specs.Course.{MadeStep, answered}
 use Rattle.qm_history.specs.Step.{after_event}
 use Rattle.qm_history.specs.Visits.{Visit}
 use Rattle.qm_history.specs.World.{system_in}

@@ -23,7 +23,8 @@ use Rattle.qm_history.specs.declared.turn.Turn.{Turn}
 use Rattle.qm_history.specs.declared.turn.Why.{Why}
 use Rattle.qm_history.specs.declared.turn.Why.TheVariants as why
 use Rattle.qm_history.specs.declared.world.World.{World}
-use Rattle.qm_history.specs.Course.{Extent, IsCourse, MadeStep, WentOn, report_told}
+use Rattle.qm_model.specs.Kept.{WentOn, report_told}
+use Rattle.qm_history.specs.Course.{Extent, IsCourse, MadeStep}
 use Rattle.qm_model.specs.Folding.{after_record}
 use Rattle.qm_history.specs.Legal.{after_turn, IsLegal}
 use Rattle.qm_history.specs.Marks.{reporting, finds_running, names_entry}

@@ -13,7 +13,8 @@ use Rattle.qm_history.specs.declared.event.Event.TheVariants as event
 use Rattle.qm_history.specs.declared.turn.Turn.{Turn}
 use Rattle.qm_history.specs.declared.world.World.{World}
 use Rattle.qm_history.specs.Calls.{input_of}
-use Rattle.qm_history.specs.Course.{Begun, Follows, IsBrokenOff, IsStepOf, KeptRun, MadeStep, NodeState, NextTurn, ALine, AStep, AFetch, ALeave, NoTurn, Whole, call_of_line, is_live_behind, known, next_at, next_run, report_told}
+use Rattle.qm_model.specs.Kept.{KeptRun, known, report_told}
+use Rattle.qm_history.specs.Course.{Begun, Follows, IsBrokenOff, IsStepOf, MadeStep, NodeState, NextTurn, ALine, AStep, AFetch, ALeave, NoTurn, Whole, call_of_line, is_live_behind, next_at, next_run}
 use Rattle.qm_history.specs.Script.{UserLine}
 use Rattle.qm_history.specs.Turn.{IsTurnOf, IsCutShort}
 use Rattle.qm_history.specs.Visits.{Visit}
@@ -46,7 +47,7 @@ module _ (HasSpelling : Record → Type 0) (read : UserLine → ℕ → List Vis
   IsCutNext n earlier [] v (AStep run round) = ⊥
   IsCutNext n earlier (m ∷ steps) v (AStep run round) =
       IsStepOf n run m × IsCutBehindTakeover v.before (call.Report run (report_told m.run m.end)) v.turn × (steps ≡ [])
-  IsCutNext n earlier steps v AFetch = IsCutBehindTakeover v.before (call.Fetch (known n)) v.turn × (steps ≡ [])
+  IsCutNext n earlier steps v AFetch = IsCutBehindTakeover v.before (call.Fetch (known n.kept)) v.turn × (steps ≡ [])
   IsCutNext n earlier steps v ALeave = ⊥
   IsCutNext n earlier steps v NoTurn = ⊥
 

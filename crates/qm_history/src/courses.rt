@@ -3,7 +3,8 @@ ghost use Rattle.std.specs.Prelude.{◌≡◌, ◌⊎◌, ◌≤◌, ◌++◌, �
 ghost use Rattle.qm_kinds.specs.declared.input.Input.{Input};
 ghost use Rattle.qm_history.specs.declared.turn.Turn.{Turn};
 ghost use Rattle.qm_history.specs.declared.world.World.{World};
-ghost use Rattle.qm_history.specs.Course.{Begun, Extent, GoesOn, IsCourse, KeptRun, MadeStep, NodeState, at_first, failed_steps};
+ghost use Rattle.qm_model.specs.Kept.{KeptRun};
+ghost use Rattle.qm_history.specs.Course.{Begun, Extent, GoesOn, IsCourse, MadeStep, NodeState, at_first, failed_steps};
 ghost use Rattle.qm_history.specs.Legal.{after_turns};
 ghost use Rattle.qm_history.specs.Reaching.{HasReached, IsCutAtEnd, Reaches, ReportSteps};
 ghost use Rattle.qm_history.specs.Script.{UserLine};

@@ -11,7 +11,8 @@ ghost use Rattle.qm_history.specs.Script.{UserLine};
 ghost use Rattle.qm_history.specs.declared.turn.Turn.{Turn};
 ghost use Rattle.qm_history.specs.declared.world.World.{World};
 ghost use Rattle.qm_history.specs.Blocks.{AreFirst, AreHanded, HandsOver, Gives, IsGiven, IsWorkOf, all_steps, ComeInStretches, ComeAgainBehindMarks, blocks_behind_mark, blocks_of_stretch, system_shown};
-ghost use Rattle.qm_history.specs.Course.{Extent, IsCourse, KeptRun, MadeStep, WentOn, answered, report_told};
+ghost use Rattle.qm_model.specs.Kept.{KeptRun, WentOn, report_told};
+ghost use Rattle.qm_history.specs.Course.{Extent, IsCourse, MadeStep, answered};
 ghost use Rattle.qm_history.specs.Visits.{Visit, visits_of};
 
 use crate::format::Format;

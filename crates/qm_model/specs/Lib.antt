@@ -46,6 +46,7 @@ pub mod Duties
 pub mod Pages
 pub mod Batch
 pub mod Reports
+pub mod Kept
 pub mod Built
 pub mod Lawful
 pub mod Log
