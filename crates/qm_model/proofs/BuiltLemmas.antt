@@ -7,7 +7,7 @@ use Rattle.std.specs.Prelude.{IfSome}
 use Rattle.std.specs.Option.{option_map_or}
 use Rattle.qm_kinds.specs.declared.name.TheConstants.{SHORT_NAME_BYTES}
 use Rattle.qm_kinds.specs.declared.request.Request.{Request}
-use Rattle.qm_kinds.specs.declared.request.Request.TheVariants.{Append, Fill, Drop, DefineForm, DeleteForm, DefineCharacteristic, DeleteCharacteristic, InitializeQueue, SetQueue, StartQueue, StopQueue, AbortJob, DeleteQueue, Merge, Submit, SetEntry, DeleteEntry, Done, Tick}
+use Rattle.qm_kinds.specs.declared.request.Request.TheVariants.{Append, Fill, Drop, DefineForm, DeleteForm, DefineCharacteristic, DeleteCharacteristic, InitializeQueue, SetQueue, StartQueue, StopQueue, AbortJob, DeleteQueue, Merge, Submit, SetEntry, DeleteEntry, Mark, Done, Tick}
 use Rattle.qm_kinds.specs.declared.system.System.{System}
 use Rattle.qm_model.specs.Built.{is_built, is_short, is_definable}
 use Rattle.qm_model.specs.Consistent.{IsShort, IsDefinable}
@@ -47,6 +47,7 @@ built_lawful s node (Merge to from) there built = tt
 built_lawful s node (Submit job) there built = tt
 built_lawful s node (SetEntry entry change) there built = tt
 built_lawful s node (DeleteEntry entry) there built = tt
+built_lawful s node (Mark run value) there built = tt
 built_lawful s node (Done run status) there built = tt
 built_lawful s node Tick there built = tt
 built_lawful s node _ there built = cc

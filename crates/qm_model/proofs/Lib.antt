@@ -41,3 +41,4 @@ pub mod TwoRefusals
 pub mod LastValues
 pub mod Waiting
 pub mod BuiltLemmas
+pub mod DutyLemmas

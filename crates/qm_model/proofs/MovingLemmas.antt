@@ -138,6 +138,7 @@ built_nodes s now node (Submit job) built = refl
 built_nodes s now node (SetEntry entry change) built =
     option_nodes s (λ e. entry_set_to s entry (changed_entry s now change e)) (entry_numbered entry s.entries) (replied s (EntryIs entry Pending)) (λ e. refl) refl
 built_nodes s now node (DeleteEntry entry) built = either_nodes s (option_map_or is_executing (entry_numbered entry s.entries) false) _ _ refl refl
+built_nodes s now node (Mark run value) built = option_nodes s (reported_of s now run (MarkReport value)) (entry_of_run s node run) _ (λ e. refl) refl
 built_nodes s now node (Done run status) built = option_nodes s (reported_of s now run (EndReport status)) (entry_of_run s node run) _ (λ e. refl) refl
 built_nodes s now node Tick built = refl
 built_nodes s now node _ built = cc

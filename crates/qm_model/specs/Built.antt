@@ -1,6 +1,6 @@
 -- What can be asked of this queue manager so far. DCL Dictionary, DEFINE/FORM, DELETE/FORM, DEFINE/CHARACTERISTIC,
 -- DELETE/CHARACTERISTIC, INITIALIZE/QUEUE, SET QUEUE, START/QUEUE, STOP/QUEUE, DELETE/QUEUE, ASSIGN/MERGE, SUBMIT, PRINT,
--- SET ENTRY, DELETE/ENTRY and SHOW ENTRY; OpenVMS System Services Reference Manual, $SNDJBC, on the end of a run.
+-- SET ENTRY, DELETE/ENTRY and SHOW ENTRY; OpenVMS System Services Reference Manual, $SNDJBC, on checkpoints and the end of a run.
 -- This site's own: LINE and FILL add lines to a file, DROP takes it away, and TICK looks at the clock.
 use Rattle.std.specs.Prelude.{ℕ, nat_le, length, List, Bool, true, false, not, ◌&&◌}
 use Rattle.std.specs.Char.{is_ascii_digit}
@@ -20,7 +20,7 @@ is_definable name = is_short name && not (list_all is_ascii_digit name)
 
 -- The requests that are built: files get bytes and lines and are dropped; forms and characteristics are defined and deleted;
 -- queues are made, set, started, stopped and deleted; jobs are submitted, changed, moved to another queue, cut short and
--- deleted; runs end; and the clock is looked at. What is new has a name that it can have, and so have its device and its stock.
+-- deleted; runs report checkpoints and end; and the clock is looked at. What is new has a name that it can have, and so have its device and its stock.
 abbrev pub is_built : Request → Bool
 is_built (Append file bytes) = true
 is_built (Fill file lines) = true
@@ -39,11 +39,12 @@ is_built (Merge to from) = true
 is_built (Submit job) = true
 is_built (SetEntry entry change) = true
 is_built (DeleteEntry entry) = true
+is_built (Mark run value) = true
 is_built (Done run status) = true
 is_built Tick = true
 is_built _ = false
 
--- the requests whose records are spelled: those that are built, and a checkpoint of a run
+-- the requests whose records are spelled: those that are built, whatever they name
 abbrev pub has_record : Request → Bool
 has_record (Append file bytes) = true
 has_record (Fill file lines) = true

@@ -1,10 +1,11 @@
 -- The runs that a node has to serve.
 -- OpenVMS System Services Reference Manual, $GETQUI, on executing jobs of a node's queues.
-use Rattle.std.specs.Prelude.{ℕ, ◌==◌, nat_lt, Bool, true, false, if◌then◌else◌, List, [], map, filter, fold, unwrap_or, Option, None, Some}
+use Rattle.std.specs.Prelude.{ℕ, ◌==◌, ◌≤◌, nat_lt, Bool, true, false, if◌then◌else◌, List, [], length, map, filter, fold, unwrap_or, Option, None, Some, IfSome}
 use Rattle.std.specs.List.{list_any}
 use Rattle.std.specs.Option.{option_map_or, option_and_then}
 use Rattle.qm_kinds.specs.declared.entry.Entry.{Entry}
 use Rattle.qm_kinds.specs.declared.form.Shape.{Shape}
+use Rattle.qm_kinds.specs.declared.limits.TheConstants.{FILE_LIMIT}
 use Rattle.qm_kinds.specs.declared.queue.Queue.{Queue}
 use Rattle.qm_kinds.specs.declared.queue.QueueState.{QueueState}
 use Rattle.qm_kinds.specs.declared.queue.QueueState.TheVariants.{Stopped, Started, Paused, Stopping}
@@ -15,6 +16,7 @@ use Rattle.qm_kinds.specs.declared.work.Work.{Work}
 use Rattle.qm_kinds.specs.declared.work.Duty.{Duty}
 use Rattle.qm_kinds.specs.declared.entry.JobKind.{JobKind}
 use Rattle.qm_kinds.specs.declared.entry.JobKind.TheVariants.{Batch, Print}
+use Rattle.qm_model.specs.Consistent.{HasRoom}
 use Rattle.qm_model.specs.Find.{queue_named, form_wanted}
 use Rattle.qm_model.specs.JobStates.{run_of, runs_in, is_aborting}
 use Rattle.qm_model.specs.First.{first_form}
@@ -37,6 +39,10 @@ run_number e = unwrap_or (run_of e.state) 0
 abbrev pub queue_of_run : System → Entry → Option Queue
 queue_of_run s e = option_and_then (λ name. queue_named name s.queues) (runs_in e.state)
 
+-- the device at which an entry runs
+abbrev pub device_of_run : System → Entry → Option (List ℕ)
+device_of_run s e = option_and_then (λ q. q.device) (queue_of_run s e)
+
 -- the form that shapes a job's pages: that of a print job, and DEFAULT for a batch job
 abbrev pub form_that_shapes : JobKind → Option (List ℕ) → List ℕ
 form_that_shapes Batch form = default_form
@@ -54,7 +60,7 @@ work_of s e = record {
   kind = e.kind;
   name = e.name;
   user = e.user;
-  device = unwrap_or (option_and_then (λ q. q.device) (queue_of_run s e)) [];
+  device = unwrap_or (device_of_run s e) [];
   text = bytes_of e.file s.files;
   shape = shape_of s e;
   copies = e.copies;
@@ -79,3 +85,12 @@ by_run entries = fold (λ sorted e. inserted (λ a b. nat_lt (run_number a) (run
 -- what a node has to do that knows the work of some runs
 abbrev pub duties : System → List ℕ → List ℕ → List Duty
 duties s node known = map (duty_of s known) (by_run (filter (is_run_on node) s.entries))
+
+-- a work that can be carried out: a page has a row and a column between its margins, and the text is no longer than a file
+pub record IsProperWork (w : Work) : Type 0 where
+  pub shape : HasRoom w.shape
+  pub text : length w.text ≤ FILE_LIMIT
+
+-- the work of a duty, where it is shown, can be carried out
+abbrev pub HasProperWork : Duty → Type 0
+HasProperWork d = IfSome d.work IsProperWork

@@ -17,6 +17,7 @@ mod settle;
 mod sound;
 mod standing;
 mod tables;
+mod works;
 
 pub use due::what_is_not_due_stays;
 pub use limits::a_site_has_limits;
@@ -34,6 +35,7 @@ pub use sound::{
 };
 pub use standing::entries_stand_in_one_queue;
 pub use tables::{job_retention, queue_states};
+pub use works::duties_have_proper_works;
 
 /// The system of a new site is consistent, whatever its node is called.
 pub fn first_system_is_consistent()

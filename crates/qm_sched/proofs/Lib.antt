@@ -13,3 +13,4 @@ pub mod Steps
 pub mod Walk
 pub mod Starting
 pub mod Progress
+pub mod ByRun

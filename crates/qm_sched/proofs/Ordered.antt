@@ -10,7 +10,7 @@ use Rattle.qm_model.specs.Consistent.{IsInOrder}
 use Rattle.qm_keyed.proofs.Pairs.{pairs_first, pairs_tail}
 use Rattle.qm_sched.proofs.Counts.{one_if, count_cons, count_none, both_le_second}
 
-less_is : (m n : ℕ) → nat_cmp m n ≡ Less → m < n
+pub less_is : (m n : ℕ) → nat_cmp m n ≡ Less → m < n
 less_is m n less = grind (arith, nat_tests)
 
 not_same : (m n : ℕ) → m < n → (m == n) ≡ false
@@ -22,7 +22,7 @@ not_that m n k less is = grind (arith, nat_tests)
 not_past : (m n k : ℕ) → m < n → nat_lt m k ≡ false → (n == k) ≡ false
 not_past m n k less is = grind (arith, nat_tests)
 
-itself : (n : ℕ) → (n == n) ≡ true
+pub itself : (n : ℕ) → (n == n) ≡ true
 itself n = grind (arith, nat_tests)
 
 at_or_above : (m n : ℕ) → (m == n) ≡ true → m ≡ n
@@ -35,10 +35,10 @@ module _ {X : Type 0} (key : X → ℕ) where
   abbrev Below : X → X → Type 0
   Below x y = nat_cmp (key x) (key y) ≡ Less
 
-  later : (x : X) (xs : List X) → Ordered (x ∷ xs) → All (λ y. key x < key y) xs
+  pub later : (x : X) (xs : List X) → Ordered (x ∷ xs) → All (λ y. key x < key y) xs
   later x xs order k d within = less_is (key x) (key (get_or xs k d)) (pairs_first Below x xs order k d within)
 
-  rest_of : (x : X) (xs : List X) → Ordered (x ∷ xs) → Ordered xs
+  pub rest_of : (x : X) (xs : List X) → Ordered (x ∷ xs) → Ordered xs
   rest_of x xs order = pairs_tail Below x xs order
 
   once_at : (n : ℕ) (x : X) (xs : List X) (b : Bool) → (key x == n) ≡ b → All (λ y. key x < key y) xs → count_by (λ y. key y == n) xs ≤ 1 → one_if b + count_by (λ y. key y == n) xs ≤ 1

@@ -2,3 +2,4 @@ pub mod Tables
 pub mod Mirror
 pub mod Choosing
 pub mod Starts
+pub mod ByRun

@@ -1,13 +1,15 @@
 // What is asked of the runs.
-ghost use Rattle.std.specs.Prelude.{◌≡◌, ◌==◌, ◌&&◌, find, filter, map, count_by, min};
+ghost use Rattle.std.specs.Prelude.{◌≡◌, ℕ, List, ◌==◌, ◌&&◌, find, filter, filter_map, map, count_by, min};
 ghost use Rattle.std.specs.List.{list_any, reduce};
 ghost use Rattle.std.specs.Option.{option_copied, option_map};
 ghost use Rattle.std.specs.Ordering.{nat_cmp};
 ghost use Rattle.qm_model.specs.Consistent.{IsInOrder};
+ghost use Rattle.qm_model.specs.Duties.{by_run};
 ghost use Rattle.qm_model.specs.Free.{places_taken};
 ghost use Rattle.qm_model.specs.Queues.{runs_for};
 ghost use Rattle.qm_model.specs.Standing.{occupies, has_run, is_run_on};
 ghost use Rattle.qm_model.specs.Stopping.{is_running_in, the_only_one, job_meant};
+ghost use Rattle.qm_sched.specs.ByRun.{entry_on};
 ghost use Rattle.qm_sched.specs.Mirror.{Mirrors, is_live_in, is_run_for};
 
 use crate::parts::Parts;
@@ -49,6 +51,14 @@ impl Parts {
             return None;
         }
         self.entries.get(found.entry)
+    }
+
+    /// The runs, in order of their numbers. Those of a node are those of the entries that run or are aborting there.
+    pub fn runs(&self) -> &[Run]
+        ensures { (node : List ℕ) → filter_map (entry_on node self.now.entries) result.now ≡ by_run (filter (is_run_on node) self.now.entries) }
+    {
+        see_order(&self.entries, &self.runs);
+        self.runs.as_slice()
     }
 
     /// The job that runs in the queue and isn't aborting: the one of the number, or the only one. It looks at each run, and

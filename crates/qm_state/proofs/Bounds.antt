@@ -16,7 +16,7 @@ use Rattle.qm_model.specs.Due.{is_over, entry_at}
 use Rattle.qm_model.specs.Fitting.{is_started}
 use Rattle.qm_model.specs.Free.{places}
 use Rattle.qm_model.specs.Outcome.{Accepted}
-use Rattle.qm_model.specs.Runs.{EndReport, run_reported, entry_of_run}
+use Rattle.qm_model.specs.Runs.{RunReport, run_reported, entry_of_run}
 use Rattle.qm_model.specs.Standing.{with_queue, occupies}
 use Rattle.qm_model.specs.States.{state_when_idle, when_idle, state_on_stop}
 use Rattle.qm_model.specs.Stopping.{stopped_queue}
@@ -89,8 +89,8 @@ reported_at : (s : System) (f : Entry → Accepted) (d : Accepted) (o : Option E
 reported_at s f d None each none = none
 reported_at s f d (Some e) each none = each e
 
-pub reported_queues : (s : System) (now : ℕ) (node : List ℕ) (run status : ℕ) → (run_reported s now node run (EndReport status)).system.queues ≡ s.queues
-reported_queues s now node run status = reported_at s _ _ (entry_of_run s node run) (λ e. refl) refl
+pub reported_queues : (s : System) (now : ℕ) (node : List ℕ) (run : ℕ) (report : RunReport) → (run_reported s now node run report).system.queues ≡ s.queues
+reported_queues s now node run report = reported_at s _ _ (entry_of_run s node run) (λ e. refl) refl
 
 -- ---- at most the entries
 

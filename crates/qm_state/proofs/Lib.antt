@@ -3,6 +3,7 @@ pub mod Found
 pub mod Refusing
 pub mod Entries
 pub mod Numbered
+pub mod Runless
 pub mod Timed
 pub mod Kept
 pub mod Filling
@@ -19,3 +20,4 @@ pub mod Ready
 pub mod Committed
 pub mod Asking
 pub mod Changed
+pub mod Works

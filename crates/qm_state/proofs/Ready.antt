@@ -18,7 +18,7 @@ use Rattle.qm_spool.specs.Kept.{Kept, HasRoomFor}
 use Rattle.qm_state.proofs.Reached.{NamesItsFile, file_found, no_run_found, unnamed_found}
 use Rattle.qm_state.specs.declared.image.Image.{Image}
 use Rattle.qm_state.specs.declared.prepared.Change.{Change}
-use Rattle.qm_state.specs.declared.prepared.Change.TheVariants.{NewFile, MoreBytes, MoreLines, RemoveFile, NewForm, RemoveForm, NewCharacteristic, RemoveCharacteristic, NewEntry, PutQueue, SetQueue, StopQueue, CutShort, RemoveQueue, Merge, ReplaceEntry, RemoveEntry, EndRun, Tick}
+use Rattle.qm_state.specs.declared.prepared.Change.TheVariants.{NewFile, MoreBytes, MoreLines, RemoveFile, NewForm, RemoveForm, NewCharacteristic, RemoveCharacteristic, NewEntry, PutQueue, SetQueue, StopQueue, CutShort, RemoveQueue, Merge, ReplaceEntry, RemoveEntry, Report, Tick}
 use Rattle.qm_state.specs.Image.{system_of}
 use Rattle.qm_state.specs.Preparing.{found, IsReady, IsWaiting}
 use Rattle.qm_state.proofs.Changed.{waiting_found}
@@ -79,7 +79,7 @@ module _ (old new : Image) (left : IsLeft old new) where
   ready_left (Merge to from) h = tt
   ready_left (ReplaceEntry entry) h = record { idle = h.idle; waits = left.waits entry.number h.waits; timer = omega (arith, h.timer, left.timers); file = left.with_file entry h.file }
   ready_left (RemoveEntry entry) h = tt
-  ready_left (EndRun run status) h = omega (arith, h, left.timers)
+  ready_left (Report run report) h = omega (arith, h, left.timers)
   ready_left Tick h = tt
 
 -- room for runs alone

@@ -17,6 +17,7 @@ use Rattle.qm_model.specs.Find.{entry_numbered}
 use Rattle.qm_model.specs.JobStates.{run_of}
 use Rattle.qm_model.specs.Standing.{with_entry}
 use Rattle.qm_model.proofs.InsertLemmas.{one_goes}
+use Rattle.qm_sched.specs.Mirror.{run_of_entry}
 use Rattle.qm_sched.proofs.Asked.{none_of_number, fails_of_number, passes_of_number}
 use Rattle.qm_sched.proofs.Left.{agree_at_it}
 use Rattle.qm_sched.proofs.Ordered.{each_found}
@@ -24,6 +25,7 @@ use Rattle.qm_timers.specs.Timers.{moment_of, timer_of, without, with_timer, lat
 use Rattle.qm_timers.proofs.Numbers.{timer_of-All, absent_all, without-absent}
 use Rattle.qm_state.specs.Preparing.{IsLeftOf}
 use Rattle.qm_state.proofs.Numbered.{number_found}
+use Rattle.qm_state.proofs.Runless.{runless}
 use Rattle.qm_state.specs.Timers.{moment_in, moment_wanted, moment_left, AreTimersOf, entries_at, is_at_home, HasCome}
 
 abbrev numbered : ℕ → Entry → Bool
@@ -362,7 +364,7 @@ module _ (now n : ℕ) (es : List Entry) (e : Entry) (left : Option Entry) (foun
     there = ap is_some found;
     number_stays = number_found n e es found;
     file_stays = subst (λ (o : Option Entry). IfSome o (λ x. x.file ≡ e.file)) (sym found) refl;
-    idle = idle_then now e.state come;
+    run_stays = runless (entry_at now e) (idle_then now e.state come) (λ r. option_and_then run_of_entry (entry_numbered n es) ≡ Some r);
   }
 
   pub left_released : IfSome left (λ l. IsLeftOf l n (entry_numbered n es))

@@ -1,4 +1,7 @@
 -- What a symbiont reports of a run, as the image takes it.
+use Rattle.std.specs.Prelude.{ℕ}
+use Rattle.qm_kinds.specs.declared.request.Request.{Request}
+use Rattle.qm_kinds.specs.declared.request.Request.TheVariants as request
 use Rattle.qm_model.specs.Runs.{RunReport, MarkReport, EndReport}
 use Rattle.qm_state.specs.declared.ending.Reported.{Reported}
 use Rattle.qm_state.specs.declared.ending.Reported.TheVariants.{Mark, End}
@@ -7,3 +10,8 @@ use Rattle.qm_state.specs.declared.ending.Reported.TheVariants.{Mark, End}
 abbrev pub report_of : Reported → RunReport
 report_of (Mark value) = MarkReport value
 report_of (End status) = EndReport status
+
+-- the request that reports it
+abbrev pub asked_by : ℕ → Reported → Request
+asked_by run (Mark value) = request.Mark run value
+asked_by run (End status) = request.Done run status

@@ -9,3 +9,4 @@ pub mod Naming
 pub mod Preparing
 pub mod Deciding
 pub mod Restoring
+pub mod Duties

@@ -1,6 +1,6 @@
 -- Changes that are decided, and for which memory is taken.
-use Rattle.std.specs.Prelude.{◌≡◌, ◌<◌, ◌≤◌, ◌+◌, ◌^◌, ℕ, true, false, List, [], ◌∷◌, ◌++◌, length, find, All, Option, None, IfSome, IsSome, vec_capacity}
-use Rattle.std.specs.Option.{option_map_or}
+use Rattle.std.specs.Prelude.{◌≡◌, ◌<◌, ◌≤◌, ◌+◌, ◌^◌, ℕ, true, false, List, [], ◌∷◌, ◌++◌, length, find, All, Option, None, Some, IfSome, IsSome, vec_capacity}
+use Rattle.std.specs.Option.{option_map_or, option_and_then}
 use Rattle.qm_kinds.specs.declared.entry.Entry.{Entry}
 use Rattle.qm_kinds.specs.declared.file.FileName.{FileName}
 use Rattle.qm_kinds.specs.declared.form.Characteristic.{Characteristic}
@@ -25,7 +25,7 @@ use Rattle.qm_model.specs.Nodes.{ticked}
 use Rattle.qm_model.specs.Outcome.{Accepted}
 use Rattle.qm_model.specs.Queues.{queue_deleted, runs_for}
 use Rattle.qm_model.specs.Replying.{replied, replied_with_queue}
-use Rattle.qm_model.specs.Runs.{EndReport, run_reported}
+use Rattle.qm_model.specs.Runs.{run_reported}
 use Rattle.qm_model.specs.Settling.{settled}
 use Rattle.qm_model.specs.Standing.{with_entry, with_queue}
 use Rattle.qm_model.specs.States.{stopped_when_idle}
@@ -33,11 +33,13 @@ use Rattle.qm_model.specs.Stopping.{queue_stopped, entry_aborting}
 use Rattle.qm_queues.specs.declared.settings.Settings.{Settings}
 use Rattle.qm_queues.specs.Queues.{with_queue_put}
 use Rattle.qm_queues.specs.Settings.{with_settings_and_state}
+use Rattle.qm_sched.specs.Mirror.{run_of_entry}
 use Rattle.qm_spool.specs.Kept.{HasRoomFor}
 use Rattle.qm_state.specs.declared.image.Image.{Image}
 use Rattle.qm_state.specs.declared.prepared.Prepared.{Prepared}
 use Rattle.qm_state.specs.declared.prepared.Change.{Change}
-use Rattle.qm_state.specs.declared.prepared.Change.TheVariants.{NewFile, MoreBytes, MoreLines, RemoveFile, NewForm, RemoveForm, NewCharacteristic, RemoveCharacteristic, NewEntry, PutQueue, SetQueue, StopQueue, CutShort, RemoveQueue, Merge, ReplaceEntry, RemoveEntry, EndRun, Tick}
+use Rattle.qm_state.specs.declared.prepared.Change.TheVariants.{NewFile, MoreBytes, MoreLines, RemoveFile, NewForm, RemoveForm, NewCharacteristic, RemoveCharacteristic, NewEntry, PutQueue, SetQueue, StopQueue, CutShort, RemoveQueue, Merge, ReplaceEntry, RemoveEntry, Report, Tick}
+use Rattle.qm_state.specs.Ending.{report_of}
 use Rattle.qm_state.specs.Image.{system_of}
 
 -- the entry stands behind the others, and its number isn't given again
@@ -67,10 +69,6 @@ entry_removed s number = replied (with_left number None s) (EntryDeleted number)
 abbrev pub entry_replaced : System → Entry → Accepted
 entry_replaced s entry = entry_set_to s entry.number entry
 
--- the run has ended, with this status
-abbrev pub run_ended : System → ℕ → List ℕ → ℕ → ℕ → Accepted
-run_ended s now node run status = run_reported s now node run (EndReport status)
-
 -- what the change makes of the system that the acting moment finds, for the node that serves it; queues that are stopping
 -- haven't been stopped then, and no job is started
 abbrev pub outcome_of : Change → ℕ → List ℕ → System → Accepted
@@ -91,7 +89,7 @@ outcome_of (RemoveQueue name) now node s = queue_deleted s name
 outcome_of (Merge to from) now node s = merged s to from
 outcome_of (ReplaceEntry entry) now node s = entry_replaced s entry
 outcome_of (RemoveEntry entry) now node s = entry_removed s entry
-outcome_of (EndRun run status) now node s = run_ended s now node run status
+outcome_of (Report run report) now node s = run_reported s now node run (report_of report)
 outcome_of Tick now node s = ticked s
 
 -- the system as the acting moment finds it
@@ -183,7 +181,7 @@ IsReady image (RemoveQueue name) = find (runs_for name) image.parts.entries ≡ 
 IsReady image (Merge to from) = Unit {0}
 IsReady image (ReplaceEntry entry) = CanReplace image entry
 IsReady image (RemoveEntry entry) = Unit {0}
-IsReady image (EndRun run status) = 0 < image.timers.spare
+IsReady image (Report run report) = 0 < image.timers.spare
 IsReady image Tick = Unit {0}
 
 -- What is prepared can be made on the image: the change can, it leaves a consistent system before any job is started, and there
@@ -195,9 +193,9 @@ pub record IsPrepared (image : Image) (prepared : Prepared) : Type 0 where
   pub started_room : length (made prepared (system_of image)).reply.started ≤ vec_capacity prepared.started
   pub run_room : length (made prepared (system_of image)).reply.started ≤ image.parts.spare_runs
 
--- what is left of the entry of a number, which is there: it has no run, and names the same file
+-- what is left of the entry of a number, which is there: it names the same file, and has no run or the one that it had
 pub record IsLeftOf (left : Entry) (number : ℕ) (old : Option Entry) : Type 0 where
   pub there : IsSome old
   pub number_stays : left.number ≡ number
   pub file_stays : IfSome old (λ e. e.file ≡ left.file)
-  pub idle : run_of left.state ≡ None
+  pub run_stays : IfSome (run_of_entry left) (λ run. option_and_then run_of_entry old ≡ Some run)

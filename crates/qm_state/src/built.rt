@@ -62,6 +62,7 @@ pub fn is_built(request: &Request) -> bool
         | Request::Submit(_)
         | Request::SetEntry { .. }
         | Request::DeleteEntry { .. }
+        | Request::Mark { .. }
         | Request::Done { .. }
         | Request::Tick => true,
         _ => false,

@@ -68,7 +68,7 @@ impl Image {
             Change::Merge { to, from } => self.merge(&to, &from),
             Change::ReplaceEntry { entry } => self.replace_entry(entry),
             Change::RemoveEntry { entry } => self.remove_entry(entry),
-            Change::EndRun { run, status } => self.end_run(now, node, run, status),
+            Change::Report { run, report } => self.report_run(now, node, run, &report),
             Change::Tick => Act::Ticked,
         }
     }

@@ -1,4 +1,4 @@
-// What becomes of a job when its run ends. Nothing is changed here: each function says what an entry becomes.
+// What becomes of a job when its run is reported. Nothing is changed here: each function says what an entry becomes.
 ghost use Rattle.std.specs.Prelude.{◌≡◌};
 ghost use Rattle.qm_model.specs.JobStates.{runs_in, fate_of};
 ghost use Rattle.qm_model.specs.Retaining.{is_retained, retained_until};
@@ -45,8 +45,8 @@ fn retained_until(retain: JobRetain) -> Option<Moment>
     }
 }
 
-// The queue where an entry has its run, if it has one.
-fn runs_in(state: &EntryState) -> Option<Name>
+/// The queue where an entry has its run, if it has one.
+pub(crate) fn runs_in(state: &EntryState) -> Option<Name>
     ensures { result ≡ runs_in state.now }
 {
     match *state {
@@ -55,8 +55,8 @@ fn runs_in(state: &EntryState) -> Option<Name>
     }
 }
 
-// What becomes of an entry when its run ends, where that was decided.
-fn fate_of(state: &EntryState) -> Option<Fate>
+/// What becomes of an entry when its run ends, where that was decided.
+pub(crate) fn fate_of(state: &EntryState) -> Option<Fate>
     ensures { result ≡ fate_of state.now }
 {
     match *state {
@@ -154,16 +154,16 @@ pub(crate) fn after_report(
     }
 }
 
-/// What is replied to a report of a run, where its entry was in a state, and this is left of it.
+/// What is replied to a report of a run, where it was decided before what becomes of its entry or not, and this is left of it.
 pub(crate) fn report_act(
     run: u64,
     report: &Reported,
-    state: &EntryState,
+    fate: Option<Fate>,
     left: &Option<Entry>,
 ) -> Act
-    ensures { result ≡ report_act run (report_of report.now) (fate_of state.now) left.now }
+    ensures { result ≡ report_act run (report_of report.now) fate left.now }
 {
-    if let Some(fate) = fate_of(state) {
+    if let Some(fate) = fate {
         return fate_act(run, fate, left);
     }
     match *report {

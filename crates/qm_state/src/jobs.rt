@@ -1,11 +1,13 @@
-// Jobs are cut short and deleted, and runs end: what is decided.
+// Jobs are cut short and deleted, and runs are reported: what is decided.
 ghost use Rattle.std.specs.Prelude.{◌≡◌, ◌<◌, ◌&&◌, not, ℕ, OnOk, if◌then◌else◌};
 ghost use Rattle.qm_kinds.specs.declared.entry.Entry.{Entry as AnyEntry};
 ghost use Rattle.qm_kinds.specs.declared.request.Request.TheVariants as request;
 ghost use Rattle.qm_model.specs.Standing.{is_executing};
 ghost use Rattle.qm_state.specs.Deciding.{Prepares, PreparesAt};
+ghost use Rattle.qm_state.specs.Ending.{asked_by};
 ghost use Rattle.qm_state.specs.Image.{system_of};
 
+use crate::ending::Reported;
 use crate::image::Image;
 use crate::kinds::is_generic;
 use crate::prepared::Change;
@@ -95,16 +97,17 @@ impl Image {
         self.timers.reserve()
     }
 
-    /// Decides on the end of a run that a node reports, and takes the room for a timer: the job may be kept until a moment.
+    /// Decides on what a node reports of a run, and takes the room for a timer: where the report ends the run, the job may be
+    /// kept until a moment.
     #[tactic(auto, unfolding(crate::specs::Image::system_of))]
     #[inline(never)]
-    pub(crate) fn prepare_end<'a>(
+    pub(crate) fn prepare_report<'a>(
         &mut self,
         node: &Name,
         run: u64,
-        status: u32,
+        report: Reported,
     ) -> Result<Change<'a>, Refused>
-        ensures { (at : ℕ) → PreparesAt at node.now (request.Done run status) self.old self.new result }
+        ensures { (at : ℕ) → PreparesAt at node.now (asked_by run report) self.old self.new result }
     {
         if self.parts.entry_of_run(run, node).is_none() {
             return Err(Refused::By(Refusal::StaleRun {
@@ -112,7 +115,7 @@ impl Image {
             }));
         }
         match self.reserve_timer() {
-            Ok(()) => Ok(Change::EndRun { run, status }),
+            Ok(()) => Ok(Change::Report { run, report }),
             Err(AllocError) => Err(Refused::NoMemory),
         }
     }

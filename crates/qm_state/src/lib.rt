@@ -8,6 +8,7 @@ mod changing;
 mod characteristics;
 mod commit;
 mod due;
+mod duties;
 mod ending;
 mod filing;
 mod forms;

@@ -5,16 +5,18 @@ ghost use Rattle.qm_model.specs.Consistent.{IsConsistent, IsInOrder};
 ghost use Rattle.qm_model.specs.Find.{entry_numbered};
 ghost use Rattle.qm_model.specs.Queues.{runs_for, queue_deleted};
 ghost use Rattle.qm_model.specs.Replying.{replied};
+ghost use Rattle.qm_model.specs.Runs.{run_reported};
 ghost use Rattle.qm_model.specs.Standing.{with_queue};
 ghost use Rattle.qm_model.specs.Stopping.{queue_stopped, stopped_queue, entries_on_stop, entry_aborting};
+ghost use Rattle.qm_state.specs.Ending.{report_of};
 ghost use Rattle.qm_state.specs.Image.{system_of};
 ghost use Rattle.qm_state.specs.Keeping.{KeepsOthers};
 ghost use Rattle.qm_state.specs.Timers.{is_at_home, moment_left};
 ghost use Rattle.qm_timers.specs.Timers.{with_timer, without};
-ghost use Rattle.qm_state.specs.Preparing.{queue_put, queue_changed, entry_replaced, entry_removed, run_ended, with_left, CanReplace, IsLeftOf};
+ghost use Rattle.qm_state.specs.Preparing.{queue_put, queue_changed, entry_replaced, entry_removed, with_left, CanReplace, IsLeftOf};
 
 use crate::due::moment_in;
-use crate::ending::{Reported, after_report, end_act, report_act};
+use crate::ending::{Reported, after_report, fate_of, report_act};
 use crate::image::Image;
 use crate::leaving::{Leaving, leave_files};
 use crate::stopping::state_on_stop;
@@ -191,22 +193,28 @@ impl Image {
         }
     }
 
-    /// The run has ended on the node, with this status: what becomes of its entry takes its place.
+    /// The run is reported by the node, with a checkpoint or its end: what becomes of its entry takes its place.
     #[tactic(auto, unfolding(crate::specs::Image::system_of))]
     #[inline(never)]
-    pub(crate) fn end_run(&mut self, now: Moment, node: &Name, run: u64, status: u32) -> Act
+    pub(crate) fn report_run(
+        &mut self,
+        now: Moment,
+        node: &Name,
+        run: u64,
+        report: &Reported,
+    ) -> Act
         requires sound { IsConsistent (system_of self.old) }
         requires timer { 0 < self.old.timers.spare }
-        ensures done { run_ended (system_of self.old) now node.now run status ≡ replied (system_of self.new) result }
+        ensures done { run_reported (system_of self.old) now node.now run (report_of report.now) ≡ replied (system_of self.new) result }
         ensures room { self.old.parts.spare_runs ≤ self.new.parts.spare_runs }
     {
-        let report = Reported::End(status);
         let Some(entry) = self.parts.entry_of_run(run, node) else {
-            return end_act(run, status, &None);
+            return report_act(run, report, None, &None);
         };
         let number = entry.number;
-        let left = after_report(self.parts.queue_table(), now, &report, entry);
-        let act = report_act(run, &report, &entry.state, &left);
+        let fate = fate_of(&entry.state);
+        let left = after_report(self.parts.queue_table(), now, report, entry);
+        let act = report_act(run, report, fate, &left);
         self.leave(number, left);
         act
     }

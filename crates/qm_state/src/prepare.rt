@@ -8,6 +8,7 @@ ghost use Rattle.qm_state.specs.Image.{system_of};
 ghost use Rattle.qm_state.specs.Preparing.{made, IsPrepared};
 ghost use Rattle.qm_state.specs.Refusing.{Refuses, KeepsRefused};
 
+use crate::ending::Reported;
 use crate::image::Image;
 use crate::prepared::{Change, Prepared};
 use crate::refused::Refused;
@@ -99,7 +100,12 @@ impl Image {
             Request::Submit(job) => self.prepare_submit(now, job),
             Request::SetEntry { entry, change } => self.prepare_set_entry(now, *entry, change),
             Request::DeleteEntry { entry } => self.prepare_delete_entry(*entry),
-            Request::Done { run, status } => self.prepare_end(node, *run, *status),
+            Request::Mark { run, value } => {
+                self.prepare_report(node, *run, Reported::Mark(*value))
+            }
+            Request::Done { run, status } => {
+                self.prepare_report(node, *run, Reported::End(*status))
+            }
             Request::Tick => self.prepare_tick(),
             _ => unreachable!(),
         }

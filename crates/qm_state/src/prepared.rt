@@ -1,3 +1,4 @@
+use crate::ending::Reported;
 use qm_kinds::{
     Characteristic, Entry, Fate, FileName, Form, Moment, Name, Queue, QueueState, Start, StopMode,
 };
@@ -94,10 +95,10 @@ pub(crate) enum Change<'a> {
     RemoveEntry {
         entry: u32,
     },
-    /// A run has ended.
-    EndRun {
+    /// A run has reached a checkpoint, or has ended.
+    Report {
         run: u64,
-        status: u32,
+        report: Reported,
     },
     /// No more than what is due.
     Tick,

@@ -54,8 +54,11 @@ returns-in-SetEntry c = handed (sym c.in-SetEntry.is) (c.prepare_set_entry.ensur
 pub returns-in-DeleteEntry : goal.returns-in-DeleteEntry
 returns-in-DeleteEntry c = handed (sym c.in-DeleteEntry.is) (c.prepare_delete_entry.ensures c.args.now c.args.node.now)
 
+pub returns-in-Mark : goal.returns-in-Mark
+returns-in-Mark c = handed (sym c.in-Mark.is) (c.prepare_report.ensures c.args.now)
+
 pub returns-in-Done : goal.returns-in-Done
-returns-in-Done c = handed (sym c.in-Done.is) (c.prepare_end.ensures c.args.now)
+returns-in-Done c = handed (sym c.in-Done.is) (c.prepare_report-in-Done.ensures c.args.now)
 
 pub returns-in-Tick : goal.returns-in-Tick
 returns-in-Tick c = handed (sym c.in-Tick.is) (c.prepare_tick.ensures c.args.now c.args.node.now)

@@ -1,7 +1,10 @@
-use Rattle.std.proofs.Common.{refl}
+use Rattle.std.proofs.Common.{◌≡◌, Some, refl}
+use Rattle.std.specs.Option.{option_and_then}
 use Rattle.qm_model.specs.Find.{entry_numbered}
 use Rattle.qm_state.proofs.Changed.{file_is_kept, waiting_there}
+use Rattle.qm_sched.specs.Mirror.{run_of_entry}
 use Rattle.qm_state.specs.Timers.{moment_in}
+use Rattle.qm_state.proofs.Runless.{runless}
 use Rattle.qm_state.proofs.Timed.{room_for}
 use Rattle.qm_state.proofs.image.Image.replace_entry.Goals as goal
 
@@ -10,7 +13,7 @@ leave-requires-clause-left c = record {
   there = waiting_there c.args.entry.number c.args.self.now.parts.entries c.requires.ready.waits;
   number_stays = refl;
   file_stays = file_is_kept c.args.entry c.args.self.now.parts.entries (entry_numbered c.args.entry.number c.args.self.now.parts.entries) refl c.requires.ready.file;
-  idle = c.requires.ready.idle;
+  run_stays = runless c.args.entry c.requires.ready.idle (λ r. option_and_then run_of_entry (entry_numbered c.args.entry.number c.args.self.now.parts.entries) ≡ Some r);
 }
 
 pub leave-requires-clause-timer : goal.leave-requires-clause-timer

@@ -1,0 +1,15 @@
+use Rattle.std.proofs.Common.{◌∙◌, ◌<◌, ◌++◌, List, length, map, option_to_list, sym, ap, arith}
+use Rattle.qm_kinds.specs.declared.work.Duty.{Duty}
+use Rattle.qm_model.specs.Duties.{duty_of}
+use Rattle.qm_sched.specs.ByRun.{entry_on}
+use Rattle.qm_state.specs.Image.{system_of}
+use Rattle.qm_state.proofs.Works.{one_more}
+use Rattle.qm_state.proofs.image.Image.duties_of_runs.Goals as goal
+
+pub loop-run-preserved : goal.loop-run-preserved
+loop-run-preserved c =
+    let s = system_of c.args.self.now in
+    let within : c.loop-run.run-index < length c.args.runs.now = omega arith in
+    c.in_ok-add_duty.ensures
+    ∙ ap (λ (ds : List Duty). ds ++ map (duty_of s c.args.known.now) (option_to_list (entry_on c.args.node.now s.entries c.run-item.result))) c.loop-run.invariant
+    ∙ sym (one_more (duty_of s c.args.known.now) (entry_on c.args.node.now s.entries) c.args.runs.now c.loop-run.run-index c.run-item.result within c.run-item.is)
