@@ -1,0 +1,4 @@
+pub mod Rows
+pub mod Rounds
+pub mod Stepped
+pub mod Fetched

@@ -1,0 +1,4 @@
+pub mod Held
+pub mod Duties
+pub mod Steps
+pub mod Rows

@@ -1,0 +1,9 @@
+//! What a node keeps of its runs between two turns: `NodeRuns`, which learns them from a fetch, lets them step in turn, each by
+//! its symbiont or cut short without it, and forgets each whose report doesn't go on. It makes no turn itself.
+#![tactic(auto)]
+
+mod row;
+mod runs;
+
+pub use row::ABORTED_STATUS;
+pub use runs::NodeRuns;
