@@ -11,7 +11,7 @@ mod restoring;
 mod site;
 
 pub use fault::AskFault;
-pub use laws::a_queue_file_is_of_one_site;
+pub use laws::{a_queue_file_is_of_one_site, lawful_sites_are_consistent};
 pub use manager::Manager;
 pub use opening::init;
 pub use qm_store::{MakeFault, OpenFault};

@@ -1,4 +1,4 @@
-use Rattle.std.proofs.Common.{◌≡◌, ◌∙◌, ◌&&◌, nat_le, nat_lt, length, Bool, true, sym, ap, subst}
+use Rattle.std.proofs.Common.{◌∙◌, nat_le, nat_lt, length, sym, ap, subst}
 use Rattle.qm_kinds.specs.declared.system.System.{System}
 use Rattle.qm_model.specs.Built.{is_built}
 use Rattle.qm_model.specs.Outcome.{Accepted}
