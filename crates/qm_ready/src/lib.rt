@@ -1,0 +1,15 @@
+//! The jobs that a queue can take, in the order in which it starts them: `ReadyRow` keeps their keys, and tells the first by
+//! one look.
+#![tactic(auto)]
+
+mod gathering;
+mod laws;
+mod places;
+mod row;
+mod sorting;
+mod steps;
+
+pub use gathering::Gathering;
+pub use laws::{keys_are_no_more, numbers_determine_the_row, the_first_key_is_the_next_job};
+pub use row::ReadyRow;
+pub use steps::Steps;

@@ -1,0 +1,170 @@
+// The row of a queue.
+ghost use Rattle.std.specs.Prelude.{◌≡◌, ℕ, ◌+◌, ◌-◌, ◌<◌, ◌≤◌, ◌==◌, ◌&&◌, false, List, [], length, All, Option, None, Some, IfSome, OnErr, OnOk, if◌then◌else◌};
+ghost use Rattle.std.specs.Option.{option_copied};
+ghost use Rattle.qm_match.specs.Keys.{comes_before};
+ghost use Rattle.qm_ready.specs.Rows.{IsRow, first_key, first_number, has_key, key_numbered, with_key, without};
+
+use crate::gathering::Gathering;
+use crate::places::{place_of, put, stands_at, take_out};
+use crate::sorting::sort;
+use crate::steps::Steps;
+use qm_match::{Key, Schedule};
+use std::alloc::{AllocError, Global};
+use std::collections::VecDeque;
+use std::marker::Model;
+use std::sync::ledger::Ledger;
+
+/// The keys of the jobs that a queue can take. Contracts see a `Row`: how the queue chooses, the keys in the order of starts,
+/// and how many more have room.
+///
+/// Only `reserve` takes memory. A key takes 12 bytes. An insertion and a removal ask a logarithm of the keys, and move those
+/// on the shorter side of the place: so the first job goes, and the last one comes, with few moves.
+#[derive(Drop)]
+pub struct ReadyRow {
+    pub(crate) schedule: Schedule,
+    pub(crate) keys: VecDeque<Key>,
+    pub(crate) spare: usize,
+}
+
+impl Model for ReadyRow {
+    ghost use Rattle.std.specs.VecDeque.{deque_capacity};
+    ghost use Rattle.qm_ready.specs.Rows.{Row};
+    ghost use Rattle.qm_ready.specs.Kept.{IsKept};
+
+    ghost Value = { Row };
+
+    ghost view = { λ r. record { schedule = r.schedule; keys = r.keys.items; spare = r.spare } };
+
+    ghost invariant = { λ r. IsKept r.schedule r.keys.items r.spare (deque_capacity r.keys) };
+}
+
+// The key in front, by one look.
+fn look<'a, L: Ledger>(keys: &'a VecDeque<Key>, steps: &mut Steps<L>) -> Option<&'a Key>
+    ensures first { option_copied result ≡ first_key keys.now.items }
+    ensures looks { steps.new ≡ steps.old + 1 }
+{
+    steps.take();
+    keys.front()
+}
+
+impl ReadyRow {
+    /// No key, and room for none. It takes no memory.
+    pub fn new(alloc: Global, schedule: Schedule) -> ReadyRow
+        ensures { result ≡ record { schedule = schedule; keys = []; spare = 0 } }
+    {
+        ReadyRow {
+            schedule,
+            keys: VecDeque::new(alloc),
+            spare: 0,
+        }
+    }
+
+    /// Makes room for so many keys more. Where there is room it takes no memory, and succeeds. Else it makes room for an eighth
+    /// more than there are keys at least, so that keys that come one by one are moved seldom.
+    pub fn reserve(&mut self, count: usize) -> Result<(), AllocError>
+        ensures ok { OnOk result (count ≤ self.new.spare) }
+        ensures err { OnErr result (self.old.spare < count) }
+        ensures no_less { self.old.spare ≤ self.new.spare }
+        ensures schedule { self.new.schedule ≡ self.old.schedule }
+        ensures keys { self.new.keys ≡ self.old.keys }
+        ensures in_order { IsRow self.new.schedule self.new.keys }
+    {
+        if count <= self.spare {
+            return Ok(());
+        }
+        let more = count.max(self.keys.len() / 8);
+        self.keys.reserve_exact(more)?;
+        self.spare = self.keys.capacity() - self.keys.len();
+        Ok(())
+    }
+
+    /// Puts in the key of a job, for which there is room. No key of its number is there.
+    pub fn insert(&mut self, key: Key)
+        requires room { 0 < self.old.spare }
+        requires absent { key_numbered key.number self.old.keys ≡ None }
+        ensures inserted { self.new ≡ record {
+          schedule = self.old.schedule;
+          keys = with_key self.old.schedule key self.old.keys;
+          spare = self.old.spare - 1;
+        } }
+        ensures each { (number : ℕ) → key_numbered number self.new.keys
+            ≡ (if key.number == number then Some key else key_numbered number self.old.keys) }
+        ensures in_order { IsRow self.new.schedule self.new.keys }
+    {
+        let place = place_of(&self.keys, self.schedule, &key);
+        put(&mut self.keys, place, key);
+        self.spare -= 1;
+    }
+
+    /// Takes out the key of a job, and says whether just this key was there. Else nothing changes.
+    pub fn remove(&mut self, key: &Key) -> bool
+        ensures found { result ≡ has_key key.now self.old.keys }
+        ensures removed { self.new ≡ (if result then record {
+          schedule = self.old.schedule;
+          keys = without key.now.number self.old.keys;
+          spare = self.old.spare + 1;
+        } else self.old) }
+        ensures each { (number : ℕ) → key_numbered number self.new.keys
+            ≡ (if result && key.now.number == number then None else key_numbered number self.old.keys) }
+        ensures in_order { IsRow self.new.schedule self.new.keys }
+    {
+        let place = place_of(&self.keys, self.schedule, key);
+        if !stands_at(&self.keys, place, key) {
+            return false;
+        }
+        take_out(&mut self.keys, place);
+        self.spare += 1;
+        true
+    }
+
+    /// The number of the job that starts first, by one look, if any job is there.
+    pub fn first<L: Ledger>(&self, steps: &mut Steps<L>) -> Option<u32>
+        ensures first { result ≡ first_number self.now.keys }
+        ensures least { IfSome (first_key self.now.keys)
+            (λ first. All (λ k. comes_before self.now.schedule k first ≡ false) self.now.keys) }
+        ensures looks { steps.new ≡ steps.old + 1 }
+        ensures in_order { IsRow self.now.schedule self.now.keys }
+    {
+        match look(&self.keys, steps) {
+            None => None,
+            Some(key) => Some(key.number),
+        }
+    }
+
+    /// Puts the same keys in the order of another schedule. It takes no memory.
+    pub fn rebuild(&mut self, schedule: Schedule)
+        ensures schedule { self.new.schedule ≡ schedule }
+        ensures each { (number : ℕ) → key_numbered number self.new.keys ≡ key_numbered number self.old.keys }
+        ensures spare { self.new.spare ≡ self.old.spare }
+        ensures in_order { IsRow self.new.schedule self.new.keys }
+    {
+        sort(&mut self.keys, schedule);
+        self.schedule = schedule;
+    }
+
+    /// Lets all keys go, and keeps their room, so that others can be gathered there.
+    pub fn gather(self, schedule: Schedule) -> Gathering
+        ensures { result ≡ record { schedule = schedule; keys = []; spare = self.spare + length self.keys } }
+    {
+        let ReadyRow {
+            schedule: _,
+            keys,
+            spare,
+        } = self;
+        Gathering::over(keys, spare, schedule)
+    }
+
+    /// How the queue chooses.
+    pub fn schedule(&self) -> Schedule
+        ensures { result ≡ self.now.schedule }
+    {
+        self.schedule
+    }
+
+    /// How many keys there are.
+    pub fn len(&self) -> usize
+        ensures { result ≡ length self.now.keys }
+    {
+        self.keys.len()
+    }
+}
