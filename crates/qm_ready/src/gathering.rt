@@ -61,6 +61,7 @@ impl Gathering {
         ensures schedule { result.schedule ≡ self.schedule }
         ensures each { (number : ℕ) → key_numbered number result.keys ≡ key_numbered number self.keys }
         ensures spare { result.spare ≡ self.spare }
+        ensures room { length result.keys ≡ length self.keys }
         ensures in_order { IsRow result.schedule result.keys }
     {
         let Gathering {

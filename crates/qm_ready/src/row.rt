@@ -1,5 +1,5 @@
 // The row of a queue.
-ghost use Rattle.std.specs.Prelude.{◌≡◌, ℕ, ◌+◌, ◌-◌, ◌<◌, ◌≤◌, ◌==◌, ◌&&◌, false, List, [], length, All, Option, None, Some, IfSome, OnErr, OnOk, if◌then◌else◌};
+ghost use Rattle.std.specs.Prelude.{◌≡◌, ℕ, ◌+◌, ◌-◌, ◌<◌, ◌≤◌, ◌==◌, ◌&&◌, false, List, [], length, All, Option, None, Some, IfSome, OnErr, OnOk, if◌then◌else◌, slice_get};
 ghost use Rattle.std.specs.Option.{option_copied};
 ghost use Rattle.qm_match.specs.Keys.{comes_before};
 ghost use Rattle.qm_ready.specs.Rows.{IsRow, first_key, first_number, has_key, key_numbered, with_key, without};
@@ -60,7 +60,7 @@ impl ReadyRow {
     }
 
     /// Makes room for so many keys more. Where there is room it takes no memory, and succeeds. Else it makes room for an eighth
-    /// more than there are keys at least, so that keys that come one by one are moved seldom.
+    /// more than all keys then are, so that a row whose keys come one by one is moved seldom.
     pub fn reserve(&mut self, count: usize) -> Result<(), AllocError>
         ensures ok { OnOk result (count ≤ self.new.spare) }
         ensures err { OnErr result (self.old.spare < count) }
@@ -72,7 +72,8 @@ impl ReadyRow {
         if count <= self.spare {
             return Ok(());
         }
-        let more = count.max(self.keys.len() / 8);
+        let all = self.keys.len().saturating_add(count);
+        let more = count.saturating_add(all / 8);
         self.keys.reserve_exact(more)?;
         self.spare = self.keys.capacity() - self.keys.len();
         Ok(())
@@ -89,6 +90,7 @@ impl ReadyRow {
         } }
         ensures each { (number : ℕ) → key_numbered number self.new.keys
             ≡ (if key.number == number then Some key else key_numbered number self.old.keys) }
+        ensures room { length self.new.keys + self.new.spare ≡ length self.old.keys + self.old.spare }
         ensures in_order { IsRow self.new.schedule self.new.keys }
     {
         let place = place_of(&self.keys, self.schedule, &key);
@@ -106,6 +108,7 @@ impl ReadyRow {
         } else self.old) }
         ensures each { (number : ℕ) → key_numbered number self.new.keys
             ≡ (if result && key.now.number == number then None else key_numbered number self.old.keys) }
+        ensures room { length self.new.keys + self.new.spare ≡ length self.old.keys + self.old.spare }
         ensures in_order { IsRow self.new.schedule self.new.keys }
     {
         let place = place_of(&self.keys, self.schedule, key);
@@ -161,9 +164,18 @@ impl ReadyRow {
         self.schedule
     }
 
+    /// The key at a place in the order of starts, from 0.
+    pub fn get(&self, place: usize) -> Option<&Key>
+        ensures key { option_copied result ≡ slice_get self.now.keys place }
+        ensures in_order { IsRow self.now.schedule self.now.keys }
+    {
+        self.keys.get(place)
+    }
+
     /// How many keys there are.
     pub fn len(&self) -> usize
-        ensures { result ≡ length self.now.keys }
+        ensures len { result ≡ length self.now.keys }
+        ensures in_order { IsRow self.now.schedule self.now.keys }
     {
         self.keys.len()
     }

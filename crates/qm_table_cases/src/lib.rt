@@ -1,6 +1,6 @@
 //! Worked cases of the tables of the image and of timers, as tests: that memory suffices where it is ample, that rows come,
-//! change and go, which jobs fit a queue and which it takes first, that a job's run comes and goes with it, and that jobs
-//! start while there are places.
+//! change and go, which jobs fit a queue and which it takes first, also by a row of keys, that a job's run comes and goes
+//! with it, and that jobs start while there are places.
 #![tactic(auto)]
 
 #[cfg(test)]
@@ -15,6 +15,8 @@ mod matching;
 mod parts;
 #[cfg(test)]
 mod queues;
+#[cfg(test)]
+mod ready;
 #[cfg(test)]
 mod rows;
 #[cfg(test)]
