@@ -13,4 +13,12 @@ pub mod Steps
 pub mod Walk
 pub mod Starting
 pub mod Progress
+pub mod Each
+pub mod ReadyKeys
+pub mod ReadyQueues
+pub mod RowKeys
+pub mod KeptRows
+pub mod RowLoops
+pub mod ReadyRows
+pub mod FirstReady
 pub mod ByRun

@@ -1,5 +1,5 @@
 -- How far settling has come.
-use Rattle.std.proofs.Common.{◌≡◌, ℕ, ◌+◌, ◌<◌, ◌≤◌, Bool, true, false, cond, List, [], ◌∷◌, ◌++◌, length, refl, sym, ◌∙◌, ap, subst, arith, lit≤, Option, None, Some, All, find}
+use Rattle.std.proofs.Common.{◌≡◌, ℕ, ◌+◌, ◌<◌, ◌≤◌, Bool, true, false, cond, not, ◌&&◌, List, [], ◌∷◌, ◌++◌, length, refl, sym, ◌∙◌, ap, subst, arith, lit≤, Option, None, Some, All, find}
 use Rattle.std.specs.Prelude.{count_by}
 use Rattle.std.specs.Ordering.{nat_cmp, is_lt}
 use Rattle.std.specs.declared.cmp.Ordering.{Ordering}
@@ -17,7 +17,11 @@ use Rattle.qm_model.proofs.SoundLemmas.{find_in, name_not_below}
 use Rattle.qm_model.proofs.ListLemmas.{Pairs, pairs_of, in_all}
 use Rattle.qm_queues.specs.Queues.{comes_after, queue_after}
 use Rattle.qm_sched.specs.Tables.{Tables, with_tables}
-use Rattle.qm_sched.specs.Choosing.{next_start, IsNextStart}
+use Rattle.qm_model.specs.Fitting.{is_open}
+use Rattle.qm_model.specs.Free.{is_free}
+use Rattle.qm_model.specs.Kinds.{is_generic}
+use Rattle.qm_model.specs.Settling.{has_run_numbers}
+use Rattle.qm_sched.specs.Choosing.{next_start, IsNextStart, takes_jobs, execution_queues}
 use Rattle.qm_sched.proofs.FewStarts.{one_if}
 use Rattle.qm_sched.proofs.Steps.{step, pushed, within_settled, all_started}
 use Rattle.qm_sched.proofs.Walk.{IsNext, next_is, ArePassed, starts_at_first, chosen_next, none_behind, goes_on, stays_passed}
@@ -147,3 +151,88 @@ module _ (behind : Option (List ℕ)) (q : Queue) where
   pub fewer_behind : (qs : List Queue) → IsInOrder name_cmp (λ p. p.name) qs → queue_after behind qs ≡ Some q → count_by (comes_after (Some q.name)) qs < count_by (comes_after behind) qs
   fewer_behind qs order h =
       omega (arith, fewer qs (pairs_of (λ (a b : Queue). name_cmp a.name b.name ≡ Less) qs order) h, number_is (Some q.name) qs, number_is behind qs)
+
+-- ---- fewer of those queues that pass a test stand behind
+
+module _ (p : Queue → Bool) where
+  abbrev number_of : Option (List ℕ) → List Queue → ℕ
+  number_of behind [] = 0
+  number_of behind (q ∷ qs) = one_if (comes_after behind q && p q) + number_of behind qs
+
+  number_of_is : (behind : Option (List ℕ)) (qs : List Queue) → number_of behind qs ≡ count_by (λ q. comes_after behind q && p q) qs
+  number_of_is behind qs =
+      is_count_by (number_of behind) (λ q. comes_after behind q && p q) refl (λ x xs. one_counted (comes_after behind x && p x) (number_of behind xs)) qs
+
+  never_one : (a b : Bool) → a ≡ false → one_if (a && b) ≡ 0
+  never_one true b h = absurd (cc)
+  never_one false b h = refl
+
+  always_one : (a b : Bool) → a ≡ true → one_if (a && b) ≡ one_if b
+  always_one true b h = refl
+  always_one false b h = absurd (cc)
+
+  and_at_most : (a b c : Bool) → (a ≡ true → b ≡ true) → one_if (a && c) ≤ one_if (b && c)
+  and_at_most true b c h = rw (h refl) (omega arith)
+  and_at_most false b c h = omega arith
+
+  module _ (behind : Option (List ℕ)) (q : Queue) where
+    fewer_all_of : comes_after behind q ≡ true → (qs : List Queue) → number_of (Some q.name) qs ≤ number_of behind qs
+    fewer_all_of h [] = lit≤ tt
+    fewer_all_of h (x ∷ xs) = omega (arith, and_at_most (comes_after (Some q.name) x) (comes_after behind x) (p x) (behind_both behind q behind x h), fewer_all_of h xs)
+
+    false_of : (b : Bool) → (b ≡ true → ⊥) → b ≡ false
+    false_of true never = absurd (never refl)
+    false_of false never = refl
+
+    fewer_of_at : (y : Queue) (ys : List Queue) (b : Bool) → comes_after behind y ≡ b → cond b (Some y) (find (comes_after behind) ys) ≡ Some q
+        → All (λ x. name_cmp y.name x.name ≡ Less) ys → (find (comes_after behind) ys ≡ Some q → number_of (Some q.name) ys + one_if (p q) ≤ number_of behind ys)
+        → number_of (Some q.name) (y ∷ ys) + one_if (p q) ≤ number_of behind (y ∷ ys)
+    fewer_of_at y ys true is h order later =
+        let same : y ≡ q = cc in
+        let here : comes_after behind q ≡ true = ap (comes_after behind) (sym same) ∙ is in
+        let none : one_if (comes_after (Some q.name) y && p y) ≡ 0 = ap (λ (z : Queue). one_if (comes_after (Some q.name) z && p z)) same ∙ never_one (comes_after (Some q.name) q) (p q) (false_of (comes_after (Some q.name) q) (not_itself behind q)) in
+        let one : one_if (comes_after behind y && p y) ≡ one_if (p q) = ap (λ (z : Queue). one_if (comes_after behind z && p z)) same ∙ always_one (comes_after behind q) (p q) here in
+        omega (arith, fewer_all_of here ys, none, one)
+    fewer_of_at y ys false is h order later =
+        let less : name_cmp y.name q.name ≡ Less = in_all (λ (z : Queue). name_cmp y.name z.name ≡ Less) q ys order (find_in (comes_after behind) q ys h) in
+        let none : one_if (comes_after (Some q.name) y && p y) ≡ 0 = never_one (comes_after (Some q.name) y) (p y) (false_of (comes_after (Some q.name) y) (not_before behind q y less)) in
+        omega (arith, later h, none)
+
+    fewer_of : (qs : List Queue) → Pairs (λ a b. name_cmp a.name b.name ≡ Less) qs → find (comes_after behind) qs ≡ Some q → number_of (Some q.name) qs + one_if (p q) ≤ number_of behind qs
+    fewer_of [] order h = cc
+    fewer_of (y ∷ ys) order h = fewer_of_at y ys (comes_after behind y) refl h order.0 (fewer_of ys order.1)
+
+    pub fewer_pass : (qs : List Queue) → IsInOrder name_cmp (λ x. x.name) qs → queue_after behind qs ≡ Some q
+        → count_by (λ x. comes_after (Some q.name) x && p x) qs + one_if (p q) ≤ count_by (λ x. comes_after behind x && p x) qs
+    fewer_pass qs order h =
+        omega (arith, fewer_of qs (pairs_of (λ (a b : Queue). name_cmp a.name b.name ≡ Less) qs order) h, number_of_is (Some q.name) qs, number_of_is behind qs)
+
+-- ---- looks at rows
+
+abbrev pub runs_jobs : Queue → Bool
+runs_jobs q = not (is_generic q.kind)
+
+-- the execution queues that stand behind a name
+abbrev pub execution_behind : Option (List ℕ) → List Queue → ℕ
+execution_behind behind qs = count_by (λ q. comes_after behind q && runs_jobs q) qs
+
+pub all_behind : (qs : List Queue) → execution_behind None qs ≡ execution_queues qs
+all_behind qs = refl
+
+-- only an execution queue is looked at, and once
+pub one_look : (s : System) (q : Queue) → cond (takes_jobs s q) 1 0 ≤ one_if (runs_jobs q)
+one_look s q = step (runs_jobs q) (is_open s q) (has_run_numbers s && is_free s q)
+  where
+    step : (a b c : Bool) → cond ((a && b) && c) 1 0 ≤ one_if a
+    step true true true = omega arith
+    step true true false = omega arith
+    step true false c = omega arith
+    step false b c = omega arith
+
+pub at_most_one : (b : Bool) → cond b 1 0 ≤ 1
+at_most_one true = omega arith
+at_most_one false = omega arith
+
+pub fewer_executing : (behind : Option (List ℕ)) (q : Queue) (qs : List Queue) → IsInOrder name_cmp (λ x. x.name) qs → queue_after behind qs ≡ Some q
+    → execution_behind (Some q.name) qs + one_if (runs_jobs q) ≤ execution_behind behind qs
+fewer_executing behind q qs order h = fewer_pass runs_jobs behind q qs order h

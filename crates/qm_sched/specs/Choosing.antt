@@ -1,15 +1,25 @@
 -- What a queue starts next.
-use Rattle.std.specs.Prelude.{◌≡◌, ◌&&◌, if◌then◌else◌, Option, None, IfSome, IsSome}
+use Rattle.std.specs.Prelude.{◌≡◌, ◌&&◌, ℕ, Bool, not, if◌then◌else◌, List, count_by, Option, None, IfSome, IsSome}
 use Rattle.std.specs.Option.{option_map}
 use Rattle.qm_kinds.specs.declared.queue.Queue.{Queue}
 use Rattle.qm_kinds.specs.declared.run.Start.{Start}
 use Rattle.qm_kinds.specs.declared.system.System.{System}
+use Rattle.qm_model.specs.Fitting.{is_open}
 use Rattle.qm_model.specs.Free.{is_free}
+use Rattle.qm_model.specs.Kinds.{is_generic}
 use Rattle.qm_model.specs.Settling.{has_run_numbers, next_choice, next_job, start_of}
 
 -- the start of the first job that fits the queue, where run numbers are left and the queue has a place
 abbrev pub next_start : System → Queue → Option Start
 next_start s q = if has_run_numbers s && is_free s q then option_map (λ e. start_of s (record { entry = e; queue = q })) (next_job s q) else None
+
+-- the queue runs jobs and is open, run numbers are left and it has a place
+abbrev pub takes_jobs : System → Queue → Bool
+takes_jobs s q = not (is_generic q.kind) && is_open s q && (has_run_numbers s && is_free s q)
+
+-- how many queues run jobs themselves
+abbrev pub execution_queues : List Queue → ℕ
+execution_queues queues = count_by (λ q. not (is_generic q.kind)) queues
 
 -- the start is what is started next
 abbrev pub IsNextStart : System → Start → Type 0

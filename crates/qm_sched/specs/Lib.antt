@@ -2,4 +2,5 @@ pub mod Tables
 pub mod Mirror
 pub mod Choosing
 pub mod Starts
+pub mod Ready
 pub mod ByRun

@@ -10,12 +10,12 @@ ghost use Rattle.qm_model.specs.Standing.{with_entry, has_run};
 ghost use Rattle.qm_runs.specs.Runs.{run_numbered, with_run, without_run};
 ghost use Rattle.qm_sched.specs.Mirror.{run_of_entry};
 
-use crate::parts::Parts;
+use crate::tables::TableSet;
 use crate::running::see_order;
 use qm_kinds::{Entry, EntryState, Name, Run};
 use qm_runs::Runs;
 
-impl Parts {
+impl TableSet {
     /// Puts in an entry that has no run, and for which there is room. Its number is greater than all others. It moves no
     /// entry.
     pub fn insert_entry(&mut self, entry: Entry)

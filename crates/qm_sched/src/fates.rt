@@ -4,12 +4,12 @@ ghost use Rattle.qm_model.specs.Standing.{with_entry};
 ghost use Rattle.qm_model.specs.Stopping.{state_with_fate, with_fate, reset_fate, reset_in};
 ghost use Rattle.qm_sched.specs.Mirror.{reset_by};
 
-use crate::parts::Parts;
+use crate::tables::TableSet;
 use crate::running::{is_running_in, see_order};
 use qm_entries::EntryTable;
 use qm_kinds::{Entry, EntryState, Fate, Name, Run};
 
-impl Parts {
+impl TableSet {
     /// The run of the entry of a number, if it has one, is to be cut short, with this fate. It asks a logarithm of the
     /// entries.
     pub fn set_fate(&mut self, number: u32, fate: Fate)

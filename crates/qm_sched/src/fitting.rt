@@ -5,7 +5,7 @@ ghost use Rattle.qm_kinds.specs.declared.system.System.{System};
 ghost use Rattle.qm_model.specs.Fitting.{is_open, is_up, is_reached, has_stock, fits, stock_of};
 ghost use Rattle.qm_sched.specs.Tables.{with_tables};
 
-use crate::parts::Parts;
+use crate::tables::TableSet;
 use qm_kinds::{Entry, JobKind, Name, Node, Queue, QueueState};
 use qm_match::{is_same_stock, passes_on_to, suits};
 
@@ -34,14 +34,14 @@ fn is_up(nodes: &[Node], name: &Option<Name>) -> bool
 }
 
 /// Whether a queue is started, and its node is up.
-pub(crate) fn is_open(parts: &Parts, queue: &Queue) -> bool
+pub(crate) fn is_open(parts: &TableSet, queue: &Queue) -> bool
     ensures { (s : System) → result ≡ is_open (with_tables s parts.now) queue.now }
 {
     queue.state == QueueState::Started && is_up(parts.nodes(), &queue.node)
 }
 
 /// The stock of a form, where there is such a form. It asks a logarithm of the forms.
-pub(crate) fn stock_of(parts: &Parts, form: &Option<Name>) -> Option<Name>
+pub(crate) fn stock_of(parts: &TableSet, form: &Option<Name>) -> Option<Name>
     ensures { result ≡ stock_of parts.now.forms form.now }
 {
     match form {
@@ -52,7 +52,7 @@ pub(crate) fn stock_of(parts: &Parts, form: &Option<Name>) -> Option<Name>
 
 // The stock of a job's form, where there is such a form. `mounted` is that of the form that is mounted at the queue, which
 // most often is the job's: then no form is looked for.
-fn stock_wanted(parts: &Parts, entry: &Entry, queue: &Queue, mounted: &Option<Name>) -> Option<Name>
+fn stock_wanted(parts: &TableSet, entry: &Entry, queue: &Queue, mounted: &Option<Name>) -> Option<Name>
     requires { mounted.now ≡ stock_of parts.now.forms queue.now.mounted }
     ensures { result ≡ stock_of parts.now.forms entry.now.form }
 {
@@ -63,7 +63,7 @@ fn stock_wanted(parts: &Parts, entry: &Entry, queue: &Queue, mounted: &Option<Na
 }
 
 // Whether a print job's form is of the stock of the form that is mounted at the queue, which is `mounted`.
-fn has_stock(parts: &Parts, entry: &Entry, queue: &Queue, mounted: &Option<Name>) -> bool
+fn has_stock(parts: &TableSet, entry: &Entry, queue: &Queue, mounted: &Option<Name>) -> bool
     requires { mounted.now ≡ stock_of parts.now.forms queue.now.mounted }
     ensures { (s : System) → result ≡ has_stock (with_tables s parts.now) entry.now queue.now }
 {
@@ -75,7 +75,7 @@ fn has_stock(parts: &Parts, entry: &Entry, queue: &Queue, mounted: &Option<Name>
 
 // Whether a job's home is the queue, or a generic queue that passes it on. Most often it is the queue itself: then no other
 // one is looked for.
-fn is_reached(parts: &Parts, entry: &Entry, queue: &Queue) -> bool
+fn is_reached(parts: &TableSet, entry: &Entry, queue: &Queue) -> bool
     ensures { (s : System) → result ≡ is_reached (with_tables s parts.now) entry.now queue.now }
 {
     if entry.home == queue.name {
@@ -91,7 +91,7 @@ fn is_reached(parts: &Parts, entry: &Entry, queue: &Queue) -> bool
 /// Maintaining Queues, on generic queues, characteristics, forms and their stock, and job sizes. `mounted` is the stock of
 /// the form that is mounted there. What the two hold alone is asked first. It asks a logarithm of the queues where the job's
 /// home is another one, and one of the forms where its form is another one, and takes no memory.
-pub(crate) fn can_run(parts: &Parts, entry: &Entry, queue: &Queue, mounted: &Option<Name>) -> bool
+pub(crate) fn can_run(parts: &TableSet, entry: &Entry, queue: &Queue, mounted: &Option<Name>) -> bool
     requires open { (s : System) → is_open (with_tables s parts.now) queue.now ≡ true }
     requires mounted { mounted.now ≡ stock_of parts.now.forms queue.now.mounted }
     ensures { (s : System) → result ≡ fits (with_tables s parts.now) entry.now queue.now }

@@ -6,11 +6,11 @@ ghost use Rattle.qm_model.specs.Forms.{is_form_taken};
 ghost use Rattle.qm_model.specs.Inserting.{with_form, with_characteristic_defined};
 ghost use Rattle.qm_forms.specs.Forms.{without_form, without_characteristic};
 
-use crate::parts::Parts;
+use crate::tables::TableSet;
 use qm_kinds::{Characteristic, Form, Name};
 use std::alloc::AllocError;
 
-impl Parts {
+impl TableSet {
     /// Makes room for one form more. Where there is room it takes no memory, and succeeds.
     pub fn reserve_form(&mut self) -> Result<(), AllocError>
         ensures ok { OnOk result (0 < self.new.spare_forms) }

@@ -1,7 +1,9 @@
-//! The tables that belong together. `Parts` keeps nodes, forms, characteristics, queues, entries and runs, and sees to it
-//! that the runs are just those of the entries. `settle` starts the jobs that can start.
+//! The tables that belong together. `TableSet` keeps nodes, forms, characteristics, queues, entries and runs, and sees to it
+//! that the runs are just those of the entries. `Parts` keeps beside them, for each queue, the row of the jobs that it can
+//! start as soon as it has a place. `settle` starts the jobs that can start.
 #![tactic(auto)]
 
+mod changes;
 mod choosing;
 mod entries;
 mod fates;
@@ -10,11 +12,14 @@ mod forms;
 mod laws;
 mod parts;
 mod queues;
+mod rows;
 mod running;
 mod settling;
 mod sweeping;
+mod tables;
 
 pub use choosing::{places, see_entries};
 pub use laws::starts_are_few;
 pub use parts::Parts;
 pub use settling::settle;
+pub use tables::TableSet;

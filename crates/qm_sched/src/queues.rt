@@ -9,12 +9,12 @@ ghost use Rattle.qm_queues.specs.Queues.{with_queue_put};
 ghost use Rattle.qm_queues.specs.Settings.{with_settings_and_state};
 ghost use Rattle.qm_sched.specs.Mirror.{stopped_unless_used};
 
-use crate::parts::Parts;
+use crate::tables::TableSet;
 use qm_kinds::{Name, Queue, QueueState};
 use qm_queues::{QueueTable, Settings};
 use qm_runs::Runs;
 
-impl Parts {
+impl TableSet {
     /// Sets the state of the queue of a name. Where there is none, nothing changes. It asks a logarithm of the queues.
     pub fn set_queue_state(&mut self, name: &Name, state: QueueState)
         ensures { self.new ≡ record self.old { queues = with_queue name.now (λ q. record q { state = state }) self.old.queues } }

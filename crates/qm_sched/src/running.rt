@@ -12,12 +12,12 @@ ghost use Rattle.qm_model.specs.Stopping.{is_running_in, the_only_one, job_meant
 ghost use Rattle.qm_sched.specs.ByRun.{entry_on};
 ghost use Rattle.qm_sched.specs.Mirror.{Mirrors, is_live_in, is_run_for};
 
-use crate::parts::Parts;
+use crate::tables::TableSet;
 use qm_entries::EntryTable;
 use qm_kinds::{Entry, EntryState, Name, Run};
 use qm_runs::Runs;
 
-impl Parts {
+impl TableSet {
     /// How many places of a queue are taken by runs, aborting or not. It asks a logarithm of the queues that have runs.
     pub fn places_taken(&self, queue: &Name) -> u32
         ensures { result ≡ places_taken self.now.entries queue.now }

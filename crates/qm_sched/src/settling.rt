@@ -1,15 +1,17 @@
 // Starting the jobs that can start.
-ghost use Rattle.std.specs.Prelude.{◌≡◌, ◌-◌, ◌<◌, ◌≤◌, ◌∷◌, [], length, vec_capacity};
+ghost use Rattle.std.specs.Prelude.{◌≡◌, ◌+◌, ◌-◌, ◌<◌, ◌≤◌, ◌∷◌, [], length, vec_capacity};
 ghost use Rattle.std.specs.Ordering.{nat_cmp};
 ghost use Rattle.qm_kinds.specs.declared.system.System.{System};
 ghost use Rattle.qm_model.specs.Consistent.{IsInOrder};
 ghost use Rattle.qm_model.specs.Settling.{AreStarts, settled};
 ghost use Rattle.qm_sched.specs.Tables.{with_tables};
-ghost use Rattle.qm_sched.specs.Choosing.{IsNextStart};
+ghost use Rattle.qm_sched.specs.Choosing.{IsNextStart, execution_queues};
 
 use crate::choosing::{next_start, see_entries};
 use crate::parts::Parts;
 use qm_kinds::{Name, Start};
+use qm_ready::Steps;
+use std::sync::ledger::Ledger;
 
 // Starts what is to be started next, for which there is room.
 fn start_next(parts: &mut Parts, start: &Start)
@@ -33,21 +35,22 @@ fn start_next(parts: &mut Parts, start: &Start)
 /// the runs too, so it takes no memory.
 ///
 /// The queues are gone through once by name. At each it stays as long as the queue can start a job: a start never lets a
-/// queue start a job that couldn't. It looks at no queue's jobs unless the queue is started, its node is up and it has a
-/// place. Such a queue costs a look at each entry for each job that it starts, and one more if a place is left. How many runs
-/// a queue has is counted beside them.
-pub fn settle(parts: &mut Parts, out: &mut Vec<Start>)
+/// queue start a job that couldn't. A queue that is started, whose node is up and that has a place costs one look at the row
+/// of its jobs for each job that it starts, and one more if a place is left; of any other queue no job is looked at. So there
+/// are no more looks than starts and execution queues together.
+pub fn settle<L: Ledger>(parts: &mut Parts, out: &mut Vec<Start>, looks: &mut Steps<L>)
     requires empty { out.old.items ≡ [] }
     requires room { (s : System) → length (settled (with_tables s parts.old)).started ≤ vec_capacity out.old }
     requires runs { (s : System) → length (settled (with_tables s parts.old)).started ≤ parts.old.spare_runs }
     ensures settled { (s : System) → settled (with_tables s parts.old) ≡ record { system = with_tables s parts.new; started = out.new.items } }
+    ensures looks { looks.new ≤ looks.old + length out.new.items + execution_queues parts.old.queues }
     ensures spare_entries { parts.new.spare_entries ≡ parts.old.spare_entries }
     ensures spare_queues { parts.new.spare_queues ≡ parts.old.spare_queues }
 {
     let mut behind: Option<Name> = None;
     while let Some(queue) = parts.queue_after(behind.as_ref()) {
         let name = queue.name;
-        match next_start(parts, queue) {
+        match next_start(parts, queue, looks) {
             None => behind = Some(name),
             Some(start) => {
                 start_next(parts, &start);

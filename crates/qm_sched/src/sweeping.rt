@@ -5,10 +5,10 @@ ghost use Rattle.qm_model.specs.Due.{is_over, entry_at};
 ghost use Rattle.qm_model.specs.Merging.{moved_to, waits_in};
 ghost use Rattle.qm_model.specs.Queues.{runs_for};
 
-use crate::parts::Parts;
+use crate::tables::TableSet;
 use qm_kinds::{Moment, Name};
 
-impl Parts {
+impl TableSet {
     /// Takes out the entries that are retained until a moment that has come. It looks at each entry once.
     pub fn remove_over(&mut self, now: Moment)
         ensures { self.new ≡ record self.old { entries = filter (λ e. not (is_over now e.state)) self.old.entries } }

@@ -1,13 +1,15 @@
-use Rattle.std.proofs.Common.{◌≡◌, ◌+◌, length, vec_capacity, count_by}
+use Rattle.std.proofs.Common.{◌≡◌, ◌≤◌, ◌+◌, length, vec_capacity, count_by}
 use Rattle.qm_queues.specs.Queues.{comes_after}
-use Rattle.qm_sched.proofs.Progress.{Progress}
+use Rattle.qm_sched.specs.Choosing.{execution_queues}
+use Rattle.qm_sched.proofs.Progress.{Progress, execution_behind}
 use Rattle.qm_sched.proofs.settling.settle.Given as goal
 
 abbrev pub invariant-loop-queue : goal.invariant-loop-queue
-invariant-loop-queue l =
+invariant-loop-queue g l =
     record {
       progress : Progress l.fn.parts l.parts l.out.items l.behind;
       runs : l.parts.spare_runs + length l.out.items ≡ l.fn.parts.spare_runs;
+      looks : l.looks + execution_behind l.behind l.parts.queues ≤ l.fn.looks + length l.out.items + execution_queues l.fn.parts.queues;
       capacity : vec_capacity l.out ≡ vec_capacity l.fn.out;
       spare_entries : l.parts.spare_entries ≡ l.fn.parts.spare_entries;
       spare_queues : l.parts.spare_queues ≡ l.fn.parts.spare_queues;
@@ -15,4 +17,4 @@ invariant-loop-queue l =
 
 -- a start takes room for a run, and a queue that starts nothing is passed
 abbrev pub decreases-loop-queue : goal.decreases-loop-queue
-decreases-loop-queue l = l.parts.spare_runs + count_by (comes_after l.behind) l.parts.queues
+decreases-loop-queue g l = l.parts.spare_runs + count_by (comes_after l.behind) l.parts.queues

@@ -1,10 +1,23 @@
-use Rattle.std.proofs.Common.{ap, ◌∙◌}
-use Rattle.qm_entries.specs.Entries.{Kept}
-use Rattle.qm_sched.specs.Mirror.{runs_of}
-use Rattle.qm_sched.proofs.Swept.{still_mirrors, runs_moved}
+use Rattle.std.proofs.Common.{ap, arith, length, ◌∙◌}
+use Rattle.std.proofs.lemmas.List.{length-map}
+use Rattle.qm_sched.specs.Tables.{Tables}
+use Rattle.qm_sched.proofs.KeptRows.{kept_by, enough_for, room_for}
 use Rattle.qm_sched.proofs.parts.Parts.merge.Goals as goal
+
+pub refill_all-requires-clause-enough : goal.refill_all-requires-clause-enough
+refill_all-requires-clause-enough c =
+    enough_for c.self.inside.tables c.self.inside.rows.items c.self.inside.entry_room c.self.inside.queue_room c.self.invariant c.merge-moved.new.self
+    (omega (arith, ap (λ (t : Tables). length t.queues) (c.merge-moved.ensures.entries)))
+
+pub refill_all-requires-clause-room : goal.refill_all-requires-clause-room
+refill_all-requires-clause-room c =
+    room_for c.self.inside.tables c.self.inside.rows.items c.self.inside.entry_room c.self.inside.queue_room c.self.invariant c.merge-moved.new.self
+    (omega (arith, ap (λ (t : Tables). length t.entries) (c.merge-moved.ensures.entries) ∙ length-map c.self.inside.tables.entries _))
 
 pub invariant_of-self : goal.invariant_of-self
 invariant_of-self c =
-    still_mirrors c.self.inside.runs.runs c.self.inside.entries.entries c.merge.new.self.entries c.self.invariant
-    (ap (λ (k : Kept). runs_of k.entries) c.merge.ensures.entries ∙ runs_moved c.args.to.now c.args.from.now c.self.inside.entries.entries)
+    kept_by c.self.inside.tables c.self.inside.rows.items c.self.inside.entry_room c.self.inside.queue_room c.self.invariant c.merge-moved.new.self c.refill_all.new.rows.items
+    (omega (arith, c.self.invariant.entries, ap (λ (t : Tables). t.spare_entries) (c.merge-moved.ensures.entries))) (omega (arith, c.self.invariant.queues, ap (λ (t : Tables). t.spare_queues) (c.merge-moved.ensures.entries)))
+    (omega (arith, ap (λ (t : Tables). length t.queues) (c.merge-moved.ensures.entries)))
+    (omega (arith, ap (λ (t : Tables). length t.entries) (c.merge-moved.ensures.entries) ∙ length-map c.self.inside.tables.entries _))
+    c.refill_all.ensures.count c.refill_all.ensures.room c.refill_all.ensures.ready

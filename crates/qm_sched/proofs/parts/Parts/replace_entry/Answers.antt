@@ -1,34 +1,29 @@
-use Rattle.std.proofs.Common.{◌≡◌, ◌∙◌, ℕ, true, false, not, Option, None, Some, is_some, [], refl, sym, ap}
-use Rattle.std.specs.List.{cons_option}
+use Rattle.std.proofs.Common.{ap, arith, length, subst, sym, ◌∙◌}
 use Rattle.qm_kinds.specs.declared.entry.Entry.{Entry}
-use Rattle.qm_kinds.specs.declared.run.Run.{Run}
-use Rattle.qm_sched.proofs.Mirrored.{no_run}
-use Rattle.qm_sched.proofs.Left.{stays, absent_stays, entry_gone, same_run}
+use Rattle.qm_sched.specs.Ready.{AreReadyBut}
+use Rattle.qm_sched.specs.Tables.{Tables}
+use Rattle.qm_sched.proofs.KeptRows.{kept_by, room_for}
+use Rattle.qm_sched.proofs.ReadyKeys.{number_of_changed}
+use Rattle.qm_sched.proofs.ReadyRows.{replaced_rows}
 use Rattle.qm_sched.proofs.parts.Parts.replace_entry.Goals as goal
 
-is_nothing : (o : Option ℕ) → is_some o ≡ false → o ≡ None
-is_nothing None is = refl
-is_nothing (Some n) is = absurd (cc)
+pub admit_number-requires-clause-ready : goal.admit_number-requires-clause-ready
+admit_number-requires-clause-ready c =
+    subst (λ (u : Tables). AreReadyBut c.args.entry.number u c.forget_number.new.rows.items) (sym c.replace_entry.ensures.tables)
+    (replaced_rows c.self.inside.tables c.forget_number.new.rows.items c.args.entry c.replace_entry.new.self.spare_runs c.forget_number.ensures.ready)
 
-is_something : (o : Option ℕ) → is_some o ≡ true → o ≡ None → ⊥
-is_something None is none = cc
-is_something (Some n) is none = cc
+pub admit_number-requires-clause-room : goal.admit_number-requires-clause-room
+admit_number-requires-clause-room c =
+    let is = c.replace_entry.ensures.tables in
+    c.forget_number.ensures.room (length c.replace_entry.new.self.entries)
+    (room_for c.self.inside.tables c.self.inside.rows.items c.self.inside.entry_room c.self.inside.queue_room c.self.invariant c.replace_entry.new.self
+    (omega (arith, ap (λ (t : Tables). length t.entries) is, number_of_changed c.args.entry.number (λ (e : Entry). c.args.entry) c.self.inside.tables.entries)))
 
 pub invariant_of-self : goal.invariant_of-self
 invariant_of-self c =
-    rw (c.replace.ensures.entries, absent_stays c.args.entry.number (λ (e : Entry). Some c.args.entry) c.self.inside.entries.entries (sym c.in_default.ensures.replaced))
-    c.self.invariant
-
-pub invariant_of-self-then-is_none : goal.invariant_of-self-then-is_none
-invariant_of-self-then-is_none c =
-    rw c.replace.ensures.entries
-    (entry_gone c.self.inside.runs.runs c.self.inside.entries.entries c.self.invariant c.args.entry.number (λ (e : Entry). Some c.args.entry)
-    (λ k d within is. ap (λ (o : Option Run). cons_option o []) (no_run c.args.entry (sym c.run_of.ensures ∙ is_nothing c.run_of.result (c.is_none.ensures ∙ ap not c.if-is_none.true))))
-    c.see_order.ensures.entries c.see_order.ensures.runs c.in-Some.old (sym c.in-Some.ensures.replaced) c.end_run.new.runs.runs c.end_run.ensures.runs)
-
-pub invariant_of-self-else-is_none : goal.invariant_of-self-else-is_none
-invariant_of-self-else-is_none c =
-    let keeps = rw (← c.self.view_is) at c.requires in
-    rw c.replace.ensures.entries
-    (stays c.self.inside.runs.runs c.self.inside.entries.entries _ c.self.invariant
-    (same_run c.self.inside.entries.entries c.see_order.ensures.entries c.args.entry c.in-Some.old (sym c.in-Some.ensures.replaced) keeps (λ none. is_something c.run_of.result (c.is_none.ensures ∙ ap not c.if-is_none.false) (c.run_of.ensures ∙ none))))
+    let is = c.replace_entry.ensures.tables in
+    kept_by c.self.inside.tables c.self.inside.rows.items c.self.inside.entry_room c.self.inside.queue_room c.self.invariant c.replace_entry.new.self c.admit_number.new.rows.items
+    (omega (arith, c.self.invariant.entries, ap (λ (t : Tables). t.spare_entries) (is))) (omega (arith, c.self.invariant.queues, ap (λ (t : Tables). t.spare_queues) (is)))
+    (omega (arith, ap (λ (t : Tables). length t.queues) (is)))
+    (omega (arith, ap (λ (t : Tables). length t.entries) (is), number_of_changed c.args.entry.number (λ (e : Entry). c.args.entry) c.self.inside.tables.entries))
+    (c.admit_number.ensures.count ∙ c.forget_number.ensures.count) (λ most room. c.admit_number.ensures.room most (c.forget_number.ensures.room most room)) c.admit_number.ensures.ready

@@ -1,23 +1,19 @@
-use Rattle.std.proofs.Common.{◌≡◌, ◌∙◌, List, map, ap}
-use Rattle.qm_kinds.specs.declared.entry.Entry.{Entry}
-use Rattle.qm_kinds.specs.declared.run.Run.{Run}
+use Rattle.std.proofs.Common.{ap, arith, length, subst, sym}
+use Rattle.std.proofs.lemmas.List.{length-map}
 use Rattle.qm_model.specs.Stopping.{reset_in}
-use Rattle.qm_entries.proofs.Numbers.{kept_as}
-use Rattle.qm_sched.specs.Mirror.{reset_by}
+use Rattle.qm_sched.specs.Ready.{AreReady}
 use Rattle.qm_sched.specs.Tables.{Tables}
-use Rattle.qm_sched.proofs.Left.{stays}
-use Rattle.qm_sched.proofs.Resets.{runs_of_reset, all_reset}
+use Rattle.qm_sched.proofs.KeptRows.{kept_for}
+use Rattle.qm_sched.proofs.ReadyRows.{reset_rows}
 use Rattle.qm_sched.proofs.parts.Parts.reset_queue.Goals as goal
 
 pub invariant_of-self : goal.invariant_of-self
 invariant_of-self c =
-    rw c.reset_each.ensures
-    (stays c.self.inside.runs.runs c.self.inside.entries.entries _ c.self.invariant (runs_of_reset c.as_slice.result.now c.args.queue.now c.self.inside.entries.entries))
-
-pub returns : goal.returns
-returns c =
-    let entries : c.reset_each.new.entries ≡ kept_as (map (reset_in c.args.queue.now) c.self.inside.entries.entries) c.self.inside.entries.spare =
-    c.reset_each.ensures
-    ∙ ap (λ (rs : List Run). kept_as (map (reset_by rs c.args.queue.now) c.self.inside.entries.entries) c.self.inside.entries.spare) c.as_slice.ensures.runs
-    ∙ ap (λ (es : List Entry). kept_as es c.self.inside.entries.spare) (all_reset c.self.inside.runs.runs c.self.inside.entries.entries c.self.invariant c.see_order.ensures.entries c.args.queue.now) in
-    rw entries (ap (λ (t : Tables). record t { entries = map (reset_in c.args.queue.now) t.entries }) c.self.view_is)
+    let is = c.reset_queue.ensures in
+    let t = c.self.inside.tables in
+    kept_for c.self.inside.tables c.self.inside.rows.items c.self.inside.entry_room c.self.inside.queue_room c.self.invariant c.reset_queue.new.self
+    (omega (arith, c.self.invariant.entries, ap (λ (t : Tables). t.spare_entries) is)) (omega (arith, c.self.invariant.queues, ap (λ (t : Tables). t.spare_queues) is))
+    (omega (arith, ap (λ (t : Tables). length t.queues) is))
+    (omega (arith, ap (λ (t : Tables). length t.entries) is, length-map t.entries (reset_in c.args.queue.now)))
+    (subst (λ (t : Tables). AreReady t c.self.inside.rows.items) (sym is)
+    (reset_rows t c.self.inside.rows.items c.args.queue.now c.self.invariant.ready))

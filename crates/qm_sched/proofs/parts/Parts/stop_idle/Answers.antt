@@ -1,14 +1,18 @@
-use Rattle.std.proofs.Common.{◌≡◌, ◌∙◌, List, map, ap}
-use Rattle.qm_kinds.specs.declared.queue.Queue.{Queue}
+use Rattle.std.proofs.Common.{ap, arith, length, subst, sym}
+use Rattle.std.proofs.lemmas.List.{length-map}
 use Rattle.qm_model.specs.States.{when_idle}
-use Rattle.qm_queues.proofs.Names.{kept_as}
+use Rattle.qm_sched.specs.Ready.{AreReady}
 use Rattle.qm_sched.specs.Tables.{Tables}
-use Rattle.qm_sched.proofs.Stops.{all_idle}
+use Rattle.qm_sched.proofs.KeptRows.{kept_for}
+use Rattle.qm_sched.proofs.ReadyQueues.{idle_rows}
 use Rattle.qm_sched.proofs.parts.Parts.stop_idle.Goals as goal
 
-pub returns : goal.returns
-returns c =
-    let queues : c.stop_unused.new.queues ≡ kept_as (map (when_idle c.self.inside.entries.entries) c.self.inside.queues.queues) c.self.inside.queues.spare =
-    c.stop_unused.ensures
-    ∙ ap (λ (qs : List Queue). kept_as qs c.self.inside.queues.spare) (all_idle c.self.inside.runs.runs c.self.inside.entries.entries c.self.invariant c.self.inside.queues.queues) in
-    rw queues (ap (λ (t : Tables). record t { queues = map (when_idle t.entries) t.queues }) c.self.view_is)
+pub invariant_of-self : goal.invariant_of-self
+invariant_of-self c =
+    let is = c.stop_idle.ensures in
+    let t = c.self.inside.tables in
+    kept_for c.self.inside.tables c.self.inside.rows.items c.self.inside.entry_room c.self.inside.queue_room c.self.invariant c.stop_idle.new.self
+    (omega (arith, c.self.invariant.entries, ap (λ (t : Tables). t.spare_entries) is)) (omega (arith, c.self.invariant.queues, ap (λ (t : Tables). t.spare_queues) is))
+    (omega (arith, ap (λ (t : Tables). length t.queues) is, length-map t.queues (when_idle t.entries)))
+    (omega (arith, ap (λ (t : Tables). length t.entries) is))
+    (subst (λ (t : Tables). AreReady t c.self.inside.rows.items) (sym is) (idle_rows t c.self.inside.rows.items c.self.invariant.ready))

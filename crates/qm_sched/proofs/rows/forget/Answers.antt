@@ -1,0 +1,17 @@
+use Rattle.std.proofs.Common.{◌<◌, ◌≡◌, ◌&&◌, ◌==◌, Bool, List, Some, None, cond, length, get_or, ap, arith, sym, subst}
+use Rattle.qm_kinds.specs.declared.queue.Queue.{Queue}
+use Rattle.qm_match.specs.declared.order.Key.{Key}
+use Rattle.qm_ready.specs.Rows.{Row, has_key, key_numbered}
+use Rattle.qm_sched.specs.Ready.{ready_key, without_number}
+use Rattle.qm_sched.proofs.Each.{one_done}
+use Rattle.qm_sched.proofs.RowLoops.{IsMade, forgotten_at}
+use Rattle.qm_sched.proofs.rows.forget.Goals as goal
+
+pub loop-place-preserved : goal.loop-place-preserved
+loop-place-preserved c =
+    let t = c.args.tables.now in
+    let within : c.loop-place.place < length t.queues = omega (arith, c.loop-place-test.true, ap (λ (qs : List Queue). length qs) c.queues-place-end.ensures.queues) in
+    let inside : c.loop-place.place < length c.args.rows.now.items = omega (arith, within, c.requires.enough) in
+    one_done (IsMade (λ q. without_number c.args.entry.now.number (ready_key t q)) t.queues) c.loop-place.place c.args.rows.now.items c.loop-place.rows.items c.remove.new.self c.loop-place.invariant inside
+    (forgotten_at t c.args.entry.now c.requires.there c.loop-place.place c.args.rows.now.items c.loop-place.rows.items c.loop-place.invariant c.requires.ready within c.requires.enough
+    c.index_mut.result.now c.remove.new.self c.index_mut.ensures.value c.of-key.result c.of-key.ensures c.remove.result c.remove.ensures.found c.remove.ensures.removed c.remove.ensures.each c.remove.ensures.room)

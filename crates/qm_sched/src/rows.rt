@@ -1,0 +1,177 @@
+// The rows of ready jobs: how one is built anew, and how the key of one job goes or comes.
+ghost use Rattle.std.specs.Prelude.{◌≡◌, ◌≤◌, ◌+◌, [], length, map, filter, true, Some};
+ghost use Rattle.qm_kinds.specs.declared.system.System.{System};
+ghost use Rattle.qm_match.specs.Keys.{key_of};
+ghost use Rattle.qm_model.specs.Find.{entry_numbered};
+ghost use Rattle.qm_model.specs.Fitting.{fits, is_open, stock_of};
+ghost use Rattle.qm_entries.specs.Boxed.{contents};
+ghost use Rattle.qm_ready.specs.Rows.{HasNumbersOnce};
+ghost use Rattle.qm_sched.specs.Ready.{AreReady, AreReadyBut, IsRowOf, HasRoom, KeepsRoom, ready_key, without_number};
+ghost use Rattle.qm_sched.specs.Tables.{with_tables};
+
+use crate::fitting::{can_run, is_open, stock_of};
+use crate::running::see_order;
+use crate::tables::TableSet;
+use qm_kinds::{Entry, Name, Queue};
+use qm_match::{Key, Schedule};
+use qm_ready::{Gathering, ReadyRow};
+use std::alloc::Global;
+use std::mem;
+
+// Whether a queue can start a job as soon as it has a place.
+fn fits(tables: &TableSet, entry: &Entry, queue: &Queue) -> bool
+    ensures { (s : System) → result ≡ fits (with_tables s tables.now) entry.now queue.now }
+{
+    if !is_open(tables, queue) {
+        return false;
+    }
+    let mounted = stock_of(tables, &queue.mounted);
+    can_run(tables, entry, queue, &mounted)
+}
+
+// Gathers the keys of the jobs that fit a queue, by one walk over the entries. A queue that isn't open takes none.
+fn gather(tables: &TableSet, queue: &Queue, gathering: &mut Gathering)
+    requires empty { gathering.old.keys ≡ [] }
+    requires room { length tables.now.entries ≤ gathering.old.spare }
+    ensures keys { (s : System) → gathering.new.keys ≡ map key_of (filter (λ e. fits (with_tables s tables.now) e queue.now) tables.now.entries) }
+    ensures schedule { gathering.new.schedule ≡ gathering.old.schedule }
+    ensures room { gathering.new.spare + length gathering.new.keys ≡ gathering.old.spare }
+{
+    if !is_open(tables, queue) {
+        return;
+    }
+    let mounted = stock_of(tables, &queue.mounted);
+    gather_from(tables, tables.entries(), queue, &mounted, gathering);
+}
+
+// Gathers the keys of those of these jobs that fit a queue, which is open. `mounted` is the stock of the form that is mounted
+// there.
+fn gather_from(
+    tables: &TableSet,
+    entries: &[Box<Entry>],
+    queue: &Queue,
+    mounted: &Option<Name>,
+    gathering: &mut Gathering,
+)
+    requires open { (s : System) → is_open (with_tables s tables.now) queue.now ≡ true }
+    requires mounted { mounted.now ≡ stock_of tables.now.forms queue.now.mounted }
+    requires empty { gathering.old.keys ≡ [] }
+    requires room { length entries.now ≤ gathering.old.spare }
+    ensures keys { (s : System) → gathering.new.keys ≡ map key_of (filter (λ e. fits (with_tables s tables.now) e queue.now) (contents entries.now)) }
+    ensures schedule { gathering.new.schedule ≡ gathering.old.schedule }
+    ensures room { gathering.new.spare + length gathering.new.keys ≡ gathering.old.spare }
+{
+    for boxed in entries {
+        let entry = boxed.as_ref();
+        if can_run(tables, entry, queue, mounted) {
+            gathering.add(Key::of(entry));
+        }
+    }
+}
+
+// Builds the row of a queue anew, whatever it held: it has room for each entry.
+fn refill(alloc: Global, tables: &TableSet, queue: &Queue, row: &mut ReadyRow)
+    requires room { length tables.now.entries ≤ length row.old.keys + row.old.spare }
+    ensures ready { IsRowOf queue.now (ready_key tables.now queue.now) row.new }
+    ensures room { length row.new.keys + row.new.spare ≡ length row.old.keys + row.old.spare }
+{
+    see_order(&tables.entries, &tables.runs);
+    let schedule = Schedule::of(queue);
+    let mut gathering = mem::replace(row, ReadyRow::new(alloc, schedule)).gather(schedule);
+    gather(tables, queue, &mut gathering);
+    *row = gathering.into_row();
+}
+
+/// Builds the rows of all queues anew, whatever they held: for each queue there is one, with room for each entry. It takes
+/// no memory.
+pub(crate) fn refill_all(alloc: Global, tables: &TableSet, rows: &mut Vec<ReadyRow>)
+    requires enough { length tables.now.queues ≤ length rows.old.items }
+    requires room { HasRoom (length tables.now.entries) rows.old.items }
+    ensures ready { AreReady tables.now rows.new.items }
+    ensures count { length rows.new.items ≡ length rows.old.items }
+    ensures room { KeepsRoom rows.old.items rows.new.items }
+{
+    for place in 0..tables.queues().len() {
+        refill(alloc, tables, &tables.queues()[place], &mut rows[place]);
+    }
+}
+
+// Takes the key of a job out of the rows where it stands.
+fn forget(tables: &TableSet, rows: &mut Vec<ReadyRow>, entry: &Entry)
+    requires ready { AreReady tables.now rows.old.items }
+    requires enough { length tables.now.queues ≤ length rows.old.items }
+    requires there { entry_numbered entry.now.number tables.now.entries ≡ Some entry.now }
+    ensures ready { AreReadyBut entry.now.number tables.now rows.new.items }
+    ensures count { length rows.new.items ≡ length rows.old.items }
+    ensures room { KeepsRoom rows.old.items rows.new.items }
+{
+    let key = Key::of(entry);
+    for place in 0..tables.queues().len() {
+        rows[place].remove(&key);
+    }
+}
+
+// That no number stands twice in a row. It costs nothing.
+fn see_row(row: &ReadyRow)
+    ensures { HasNumbersOnce row.now.keys }
+{
+    let _ = row.len();
+}
+
+// Puts the key of a job into the row of a queue, if it fits there.
+fn admit_to(tables: &TableSet, queue: &Queue, row: &mut ReadyRow, entry: &Entry)
+    requires ready { IsRowOf queue.now (without_number entry.now.number (ready_key tables.now queue.now)) row.old }
+    requires room { length tables.now.entries ≤ length row.old.keys + row.old.spare }
+    requires there { entry_numbered entry.now.number tables.now.entries ≡ Some entry.now }
+    ensures ready { IsRowOf queue.now (ready_key tables.now queue.now) row.new }
+    ensures room { length row.new.keys + row.new.spare ≡ length row.old.keys + row.old.spare }
+{
+    if fits(tables, entry, queue) {
+        see_row(row);
+        row.insert(Key::of(entry));
+    }
+}
+
+// Puts the key of a job, which no row has, into the rows of the queues that it fits.
+fn admit(tables: &TableSet, rows: &mut Vec<ReadyRow>, entry: &Entry)
+    requires ready { AreReadyBut entry.now.number tables.now rows.old.items }
+    requires enough { length tables.now.queues ≤ length rows.old.items }
+    requires room { HasRoom (length tables.now.entries) rows.old.items }
+    requires there { entry_numbered entry.now.number tables.now.entries ≡ Some entry.now }
+    ensures ready { AreReady tables.now rows.new.items }
+    ensures count { length rows.new.items ≡ length rows.old.items }
+    ensures room { KeepsRoom rows.old.items rows.new.items }
+{
+    for place in 0..tables.queues().len() {
+        admit_to(tables, &tables.queues()[place], &mut rows[place], entry);
+    }
+}
+
+/// Takes the key of the job of a number out of the rows where it stands, if there is such a job. It asks a logarithm of the
+/// keys of each row.
+pub(crate) fn forget_number(tables: &TableSet, rows: &mut Vec<ReadyRow>, number: u32)
+    requires ready { AreReady tables.now rows.old.items }
+    requires enough { length tables.now.queues ≤ length rows.old.items }
+    ensures ready { AreReadyBut number tables.now rows.new.items }
+    ensures count { length rows.new.items ≡ length rows.old.items }
+    ensures room { KeepsRoom rows.old.items rows.new.items }
+{
+    if let Some(entry) = tables.entry(number) {
+        forget(tables, rows, entry);
+    }
+}
+
+/// Puts the key of the job of a number, which no row has, into the rows of the queues that it fits, if there is such a job. It
+/// asks a logarithm of the keys of each of these, and takes no memory.
+pub(crate) fn admit_number(tables: &TableSet, rows: &mut Vec<ReadyRow>, number: u32)
+    requires ready { AreReadyBut number tables.now rows.old.items }
+    requires enough { length tables.now.queues ≤ length rows.old.items }
+    requires room { HasRoom (length tables.now.entries) rows.old.items }
+    ensures ready { AreReady tables.now rows.new.items }
+    ensures count { length rows.new.items ≡ length rows.old.items }
+    ensures room { KeepsRoom rows.old.items rows.new.items }
+{
+    if let Some(entry) = tables.entry(number) {
+        admit(tables, rows, entry);
+    }
+}
