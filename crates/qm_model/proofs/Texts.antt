@@ -18,7 +18,7 @@ use Rattle.qm_kinds.specs.declared.request.NameOrNumber.TheVariants.{Name, Numbe
 use Rattle.qm_model.specs.Calendar.{date_from_month, date_from_year, date_of_day}
 use Rattle.qm_model.specs.First.{first_form, first_queue}
 use Rattle.qm_model.specs.MomentText.{month_letters, moment_text}
-use Rattle.qm_model.specs.Transcript.{reply_lines, line_text}
+use Rattle.qm_model.specs.Transcript.{reply_lines, turn_text}
 use Rattle.qm_model.specs.Words.{status_text, act_text, row_text, refusal_line}
 
 abbrev job_file : FileName
@@ -264,7 +264,7 @@ manager_row = refl
 -- ---- a turn's lines
 
 -- a job that starts at once is first told as it was before, and then as started, each behind the node and the line's number
-pub lines_of_a_submission : map (line_text (codes "A") 2) (reply_lines (record {
+pub lines_of_a_submission : map (turn_text (codes "A") (Some 2)) (reply_lines (record {
   act = act.Submitted (codes "JOB") (codes "SYS$BATCH") 1 Pending;
   started = record { entry = 1; name = codes "JOB"; home = codes "SYS$BATCH"; queue = codes "FAST"; run = 9 } ∷ [];
 }))

@@ -1,6 +1,7 @@
 -- What stands before a line of an answer.
-use Rattle.std.specs.Prelude.{ℕ, List, ◌++◌, decimal, codes}
+use Rattle.std.specs.Prelude.{ℕ, List, ◌++◌, codes, Option}
+use Rattle.qm_model.specs.Transcript.{number_text}
 
--- the node, and the number of the script's line
-abbrev pub prefix_text : List ℕ → ℕ → List ℕ
-prefix_text node number = node ++ codes " " ++ decimal number ++ codes ": "
+-- the node, and the number of the script's line, or - where the node asked of itself
+abbrev pub prefix_text : List ℕ → Option ℕ → List ℕ
+prefix_text node number = node ++ codes " " ++ number_text number ++ codes ": "

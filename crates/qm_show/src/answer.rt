@@ -1,7 +1,7 @@
 // The lines of a transcript that answer a line of a script.
-ghost use Rattle.std.specs.Prelude.{◌≡◌, ◌++◌, ◌∷◌, [], flat_map, IfOk, IfSome, OnOk, Some};
+ghost use Rattle.std.specs.Prelude.{◌≡◌, ◌≤◌, ◌+◌, length, ◌++◌, ◌∷◌, [], flat_map, IfOk, IfSome, OnOk, Some};
 ghost use Rattle.qm_model.specs.Words.{act_text, refusal_line};
-ghost use Rattle.qm_model.specs.Transcript.{full_line, journal_line, line_text, reply_lines, row_lines};
+ghost use Rattle.qm_model.specs.Transcript.{full_line, journal_line, number_text, reply_lines, row_lines, runs_line, turn_text};
 ghost use Rattle.qm_show.specs.Prefix.{prefix_text};
 
 use crate::act::{ActWords, StartText, mark_value};
@@ -13,20 +13,23 @@ use std::alloc::{AllocError, Global};
 use std::fmt;
 use std::io::Write;
 
-/// What stands before each line of an answer, as `A 3: `.
+/// What stands before each line of an answer, as `A 3: `, or `A -: ` where no line of the script asked.
 #[derive(Clone, Copy)]
 pub struct Prefix {
     /// The node that answers.
     pub node: Name,
-    /// The line of the script that is answered, counted from 1.
-    pub line: u32,
+    /// The line of the script that is answered, counted from 1; none where the node asked of itself.
+    pub line: Option<u32>,
 }
 
 impl fmt::Display for Prefix {
     ghost output = { λ p. Some (prefix_text p.node p.line) };
 
     fn fmt<W: fmt::Write>(&self, f: &mut fmt::Formatter<W>) -> fmt::Result {
-        write!(f, "{} {}: ", self.node, self.line)
+        match self.line {
+            Some(line) => write!(f, "{} {}: ", self.node, line),
+            None => write!(f, "{} -: ", self.node),
+        }
     }
 }
 
@@ -51,7 +54,7 @@ fn push_line<T: fmt::Display + Drop>(
     prefix: &Prefix,
     text: T,
 ) -> Result<(), AllocError>
-    ensures { OnOk result (IfSome (T.output text) (λ bytes. out.new.items ≡ out.old.items ++ line_text prefix.now.node prefix.now.line bytes)) }
+    ensures { OnOk result (IfSome (T.output text) (λ bytes. out.new.items ≡ out.old.items ++ turn_text prefix.now.node prefix.now.line bytes)) }
 {
     match writeln!(out, "{prefix}{text}") {
         Ok(()) => Ok(()),
@@ -61,7 +64,7 @@ fn push_line<T: fmt::Display + Drop>(
 
 // Appends the first line of a reply. The value of a mark may be any bytes.
 fn push_act(out: &mut Vec<u8>, prefix: &Prefix, act: &Act) -> Result<(), AllocError>
-    ensures { OnOk result (out.new.items ≡ out.old.items ++ line_text prefix.now.node prefix.now.line (act_text act.now)) }
+    ensures { OnOk result (out.new.items ≡ out.old.items ++ turn_text prefix.now.node prefix.now.line (act_text act.now)) }
 {
     let Ok(()) = write!(out, "{prefix}{}", ActWords(act)) else {
         return Err(AllocError);
@@ -77,7 +80,7 @@ fn one_line<T: fmt::Display + Drop>(
     prefix: &Prefix,
     text: T,
 ) -> Result<Vec<u8>, AllocError>
-    ensures { IfOk result (λ line. IfSome (T.output text) (λ bytes. line.items ≡ flat_map (line_text prefix.now.node prefix.now.line) (bytes ∷ []))) }
+    ensures { IfOk result (λ line. IfSome (T.output text) (λ bytes. line.items ≡ flat_map (turn_text prefix.now.node prefix.now.line) (bytes ∷ []))) }
 {
     let mut line = Vec::new(alloc);
     push_line(&mut line, prefix, text)?;
@@ -86,7 +89,7 @@ fn one_line<T: fmt::Display + Drop>(
 
 /// The lines of a reply: what was done, and the jobs that were started. Memory may run out.
 pub fn show_reply(alloc: Global, prefix: &Prefix, reply: &Reply) -> Result<Vec<u8>, AllocError>
-    ensures { IfOk result (λ text. text.items ≡ flat_map (line_text prefix.now.node prefix.now.line) (reply_lines reply.now)) }
+    ensures { IfOk result (λ text. text.items ≡ flat_map (turn_text prefix.now.node prefix.now.line) (reply_lines reply.now)) }
 {
     let mut text = Vec::new(alloc);
     push_act(&mut text, prefix, &reply.act)?;
@@ -98,7 +101,7 @@ pub fn show_reply(alloc: Global, prefix: &Prefix, reply: &Reply) -> Result<Vec<u
 
 /// The lines of a listing: how many rows there are, and the rows. Memory may run out.
 pub fn show_rows(alloc: Global, prefix: &Prefix, rows: &[Row]) -> Result<Vec<u8>, AllocError>
-    ensures { IfOk result (λ text. text.items ≡ flat_map (line_text prefix.now.node prefix.now.line) (row_lines rows.now)) }
+    ensures { IfOk result (λ text. text.items ≡ flat_map (turn_text prefix.now.node prefix.now.line) (row_lines rows.now)) }
 {
     let mut text = Vec::new(alloc);
     push_line(&mut text, prefix, format_args!("rows: {}", rows.len()))?;
@@ -108,13 +111,20 @@ pub fn show_rows(alloc: Global, prefix: &Prefix, rows: &[Row]) -> Result<Vec<u8>
     Ok(text)
 }
 
+/// The line that says how many runs a node was shown. Memory may run out.
+pub fn show_runs(alloc: Global, prefix: &Prefix, count: usize) -> Result<Vec<u8>, AllocError>
+    ensures { IfOk result (λ text. text.items ≡ flat_map (turn_text prefix.now.node prefix.now.line) (runs_line count ∷ [])) }
+{
+    one_line(alloc, prefix, format_args!("runs: {count}"))
+}
+
 /// The line of a refusal. Memory may run out.
 pub fn show_refusal(
     alloc: Global,
     prefix: &Prefix,
     refusal: &Refusal,
 ) -> Result<Vec<u8>, AllocError>
-    ensures { IfOk result (λ text. text.items ≡ flat_map (line_text prefix.now.node prefix.now.line) (refusal_line refusal.now ∷ [])) }
+    ensures { IfOk result (λ text. text.items ≡ flat_map (turn_text prefix.now.node prefix.now.line) (refusal_line refusal.now ∷ [])) }
 {
     one_line(
         alloc,
@@ -126,21 +136,32 @@ pub fn show_refusal(
 /// The line that says that the queue file has no room: the bytes that it would need, and those that it may have. Memory
 /// may run out.
 pub fn show_full(alloc: Global, prefix: &Prefix, need: u64, cap: u64) -> Result<Vec<u8>, AllocError>
-    ensures { IfOk result (λ text. text.items ≡ flat_map (line_text prefix.now.node prefix.now.line) (full_line need cap ∷ [])) }
+    ensures { IfOk result (λ text. text.items ≡ flat_map (turn_text prefix.now.node prefix.now.line) (full_line need cap ∷ [])) }
 {
     one_line(alloc, prefix, FullText { need, cap })
+}
+
+// Appends the number of a line, or - for none.
+fn push_number(text: &mut ArrayString<68>, line: Option<u32>)
+    requires { length text.old.bytes ≤ 58 }
+    ensures text { text.new.bytes ≡ text.old.bytes ++ number_text line }
+    ensures few { length text.new.bytes ≤ length text.old.bytes + 10 }
+{
+    match line {
+        Some(number) => text.push_str(itoa::Buffer::new().format(number)),
+        None => text.push_str("-"),
+    }
 }
 
 /// The line that says that the disk failed. It is made in place, so that want of memory never hides it: a name of at most
 /// 39 bytes, a number of at most ten digits, and 19 bytes beside them.
 pub fn show_journal(prefix: &Prefix) -> ArrayString<68>
-    ensures { result.bytes ≡ flat_map (line_text prefix.now.node prefix.now.line) (journal_line ∷ []) }
+    ensures { result.bytes ≡ flat_map (turn_text prefix.now.node prefix.now.line) (journal_line ∷ []) }
 {
-    let mut digits = itoa::Buffer::new();
     let mut text = ArrayString::new();
     text.push_str(characters(&prefix.node));
     text.push_str(" ");
-    text.push_str(digits.format(prefix.line));
+    push_number(&mut text, prefix.line);
     text.push_str(": %QMAN-F-JOURNAL\n");
     text
 }

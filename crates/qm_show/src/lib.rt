@@ -9,7 +9,7 @@ mod row;
 mod status;
 
 pub use act::{ActWords, StartText};
-pub use answer::{Prefix, show_full, show_journal, show_refusal, show_reply, show_rows};
+pub use answer::{Prefix, show_full, show_journal, show_refusal, show_reply, show_rows, show_runs};
 pub use refusal::RefusalText;
 pub use row::RowText;
 pub use status::StatusText;

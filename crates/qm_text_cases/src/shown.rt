@@ -5,7 +5,7 @@ use qm_kinds::{
     Listing, Mark, Moment, Name, ParseKind, Queue, QueueKind, QueueRetain, QueueState, Refusal,
     Reply, Row, Seq, Shape, Start,
 };
-use qm_show::{Prefix, show_full, show_journal, show_refusal, show_reply, show_rows};
+use qm_show::{Prefix, show_full, show_journal, show_refusal, show_reply, show_rows, show_runs};
 use std::alloc::{AllocError, Global};
 use std::process::Abort;
 use std::test::Fail;
@@ -138,7 +138,7 @@ fn listings_stand_in_columns(rt: HostRuntime) -> Result<(), Fail> {
     push_other_rows(alloc, &mut rows)?;
     let prefix = Prefix {
         node: name(b"PLUTO"),
-        line: 16,
+        line: Some(16),
     };
     check(
         &rt,
@@ -265,7 +265,7 @@ fn acts_and_refusals_that_no_script_meets_have_their_texts(rt: HostRuntime) -> R
     let alloc = rt.alloc();
     let prefix = Prefix {
         node: name(b"A"),
-        line: 1,
+        line: Some(1),
     };
     for (refusal, text) in &refusals() {
         let wanted = format!(in alloc; "A 1: %QMAN-E-{text}\n")?;
@@ -293,7 +293,7 @@ fn answers_stand_behind_their_prefix(rt: HostRuntime) -> Result<(), Fail> {
     let alloc = rt.alloc();
     let prefix = Prefix {
         node: name(b"MARS"),
-        line: 10,
+        line: Some(10),
     };
     let fault = Refusal::ParseFault {
         place: 7,
@@ -307,6 +307,12 @@ fn answers_stand_behind_their_prefix(rt: HostRuntime) -> Result<(), Fail> {
     check(&rt, show_reply(alloc, &prefix, &marked(alloc)), MARKED)?;
     check(&rt, show_refusal(alloc, &prefix, &fault), PARSE)?;
     check(&rt, show_full(alloc, &prefix, 17, 16), FULL)?;
+    check(&rt, show_runs(alloc, &prefix, 2), b"MARS 10: runs: 2\n")?;
+    let own = Prefix {
+        node: name(b"MARS"),
+        line: None,
+    };
+    check(&rt, show_runs(alloc, &own, 0), b"MARS -: runs: 0\n")?;
     let journal = show_journal(&prefix);
     assert_eq!(rt; journal.as_str().as_bytes(), JOURNAL);
     Ok(())

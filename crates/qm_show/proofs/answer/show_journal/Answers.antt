@@ -7,8 +7,8 @@ push_str-requires c = (lit< tt, omega (arith, c.characters.ensures.lawful.few, a
 pub push_str-requires-2 : goal.push_str-requires-2
 push_str-requires-2 c = (lit< tt, omega (arith, c.characters.ensures.lawful.few, ap length c.characters.ensures.value, ap length c.new-text.ensures, c.push_str.ensures.len))
 
-pub push_str-requires-3 : goal.push_str-requires-3
-push_str-requires-3 c = (lit< tt, omega (arith, c.characters.ensures.lawful.few, ap length c.characters.ensures.value, ap length c.new-text.ensures, c.push_str.ensures.len, c.push_str-2.ensures.len, c.format.ensures.fits))
+pub push_number-requires : goal.push_number-requires
+push_number-requires c = omega (arith, c.characters.ensures.lawful.few, ap length c.characters.ensures.value, ap length c.new-text.ensures, c.push_str.ensures.len, c.push_str-2.ensures.len)
 
-pub push_str-requires-4 : goal.push_str-requires-4
-push_str-requires-4 c = (lit< tt, omega (arith, c.characters.ensures.lawful.few, ap length c.characters.ensures.value, ap length c.new-text.ensures, c.push_str.ensures.len, c.push_str-2.ensures.len, c.push_str-3.ensures.len, c.format.ensures.fits))
+pub push_str-requires-3 : goal.push_str-requires-3
+push_str-requires-3 c = (lit< tt, omega (arith, c.characters.ensures.lawful.few, ap length c.characters.ensures.value, ap length c.new-text.ensures, c.push_str.ensures.len, c.push_str-2.ensures.len, c.push_number.ensures.few))
