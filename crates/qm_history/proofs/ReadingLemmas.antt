@@ -8,13 +8,13 @@ use Rattle.qm_kinds.specs.declared.input.Input.{Input}
 use Rattle.qm_kinds.specs.declared.input.Input.TheVariants as input
 use Rattle.qm_kinds.specs.Names.{system_user}
 use Rattle.qm_model.specs.Script as served
-use Rattle.qm_model.specs.Script.{act_of, act_from, is_act_word}
+use Rattle.qm_model.specs.Script.{act_of, act_from, is_act_word, step_number, steps_in}
 use Rattle.qm_model.specs.Texts.{cut_at_blank}
 use Rattle.qm_dcl.specs.Lines.{input_of}
 use Rattle.qm_history.specs.Acts.{act_asked, act_with, word_act, step_act}
 use Rattle.qm_history.specs.Reading.{read, text_asked}
 use Rattle.qm_history.specs.Scans.{scans_of}
-use Rattle.qm_history.specs.Script.{UserLine, LineSort, Command, Items, Act, line_by_system, sort_served, step_number, steps_in, steps_asked}
+use Rattle.qm_history.specs.Script.{UserLine, LineSort, Command, Items, Act, line_by_system, sort_served, steps_asked}
 use Rattle.qm_history.specs.Visits.{Visit}
 
 yes : {A : Type 0} (b : Bool) (x y : A) → b ≡ true → (if b then x else y) ≡ x
@@ -35,8 +35,9 @@ module _ (items_mean : ℕ → List ℕ → List ℕ → Input) where
       same served.Command is = refl
       same served.Site is = cc
 
-pub acts_same : (known text word rest : List ℕ) → cut_at_blank text ≡ Some (word, rest) → is_act_word word ≡ true → act_asked known text ≡ act_of text
-acts_same known text word rest cut is = ap (act_with known text) cut ∙ yes (is_act_word word) (act_of text) _ is
+pub acts_same : (known text word rest : List ℕ) → cut_at_blank text ≡ Some (word, rest) → is_act_word word ≡ true → bytes_eq word (codes "STEP") ≡ false → act_asked known text ≡ act_of text
+acts_same known text word rest cut is other =
+    ap (act_with known text) cut ∙ no_more (bytes_eq word (codes "STEP")) (step_act known (steps_in text)) _ other ∙ yes (is_act_word word) (act_of text) _ is
 
 -- a word alone that is served is none of those that aren't
 other_word : (text word : List ℕ) → is_act_word text ≡ true → is_act_word word ≡ false → bytes_eq text word ≡ false
@@ -67,10 +68,7 @@ step_cut known text steps None in_text is = cc
 step_cut known text steps (Some parts) in_text is = by_word (bytes_eq parts.0 (codes "STEP")) refl
   where
     by_word : (b : Bool) → bytes_eq parts.0 (codes "STEP") ≡ b → act_with known text (Some parts) ≡ input.Fetch known
-    by_word true same =
-        let word : parts.0 ≡ codes "STEP" = (bytes_eq-Decides parts.0 (codes "STEP")).0 same in
-        let other : is_act_word parts.0 ≡ false = ap is_act_word word in
-        no_more (is_act_word parts.0) (act_of text) _ other ∙ yes (bytes_eq parts.0 (codes "STEP")) (step_act known (steps_in text)) _ same ∙ ap (step_act known) in_text
+    by_word true same = yes (bytes_eq parts.0 (codes "STEP")) (step_act known (steps_in text)) _ same ∙ ap (step_act known) in_text
     by_word false same =
         let none : None ≡ Some steps = sym (no_more (bytes_eq parts.0 (codes "STEP")) (step_number parts.1) None same) ∙ is in cc
 

@@ -9,9 +9,8 @@ use Rattle.qm_kinds.specs.declared.input.Input.{Input}
 use Rattle.qm_kinds.specs.declared.input.Input.TheVariants as input
 use Rattle.qm_kinds.specs.declared.refusal.ParseKind.TheVariants as parse
 use Rattle.qm_kinds.specs.declared.request.Request.TheVariants as request
-use Rattle.qm_model.specs.Script.{act_number, act_of, is_act_word}
+use Rattle.qm_model.specs.Script.{act_of, is_act_word, steps_in}
 use Rattle.qm_model.specs.Texts.{cut_at_blank}
-use Rattle.qm_history.specs.Script.{steps_in}
 
 -- what has none of the forms
 abbrev pub malformed : Input
@@ -47,15 +46,6 @@ abbrev pub bytes_act : Option (List ℕ × List ℕ) → Input
 bytes_act None = malformed
 bytes_act (Some parts) = bytes_by (file_name_of parts.0) (hex_bytes parts.1)
 
--- MARK run text, with a mark of 1 to 255 bytes
-abbrev pub mark_by : Option ℕ → List ℕ → Input
-mark_by None text = malformed
-mark_by (Some run) text = if nat_le 1 (length text) && nat_le (length text) 255 then input.Ask (request.Mark run text) else malformed
-
-abbrev pub mark_act : Option (List ℕ × List ℕ) → Input
-mark_act None = malformed
-mark_act (Some parts) = mark_by (act_number 18446744073709551615 parts.0) parts.1
-
 -- STEP n fetches the node's runs
 abbrev pub step_act : List ℕ → Option ℕ → Input
 step_act known None = malformed
@@ -69,14 +59,14 @@ word_act text =
     if bytes_eq text (codes "STOP") then input.StopNode else
     if bytes_eq text (codes "START") then input.StartNode else malformed
 
--- a word, and behind a blank what it takes; the words that are served ask for what they do there
+-- A word, and behind a blank what it takes. STEP asks for what the node keeps, and the other words that are served for what they
+-- do there.
 abbrev pub act_with : List ℕ → List ℕ → Option (List ℕ × List ℕ) → Input
 act_with known text None = word_act text
 act_with known text (Some parts) =
-    if is_act_word parts.0 then act_of text else
     if bytes_eq parts.0 (codes "STEP") then step_act known (steps_in text) else
-    if bytes_eq parts.0 (codes "BYTES") then bytes_act (cut_at_blank parts.1) else
-    if bytes_eq parts.0 (codes "MARK") then mark_act (cut_at_blank parts.1) else malformed
+    if is_act_word parts.0 then act_of text else
+    if bytes_eq parts.0 (codes "BYTES") then bytes_act (cut_at_blank parts.1) else malformed
 
 -- what the text of an act asks for, at a node that keeps these runs
 abbrev pub act_asked : List ℕ → List ℕ → Input

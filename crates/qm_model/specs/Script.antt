@@ -7,14 +7,14 @@ use Rattle.std.specs.Str.{bytes_eq}
 use Rattle.qm_kinds.specs.Files.{name_of, file_name_of}
 use Rattle.qm_kinds.specs.declared.file.FileName.{FileName}
 use Rattle.qm_kinds.specs.declared.input.Input.{Input}
-use Rattle.qm_kinds.specs.declared.input.Input.TheVariants.{Ask, Fault}
-use Rattle.qm_kinds.specs.declared.request.Request.TheVariants.{Append, Fill, Drop, Done, Tick}
+use Rattle.qm_kinds.specs.declared.input.Input.TheVariants.{Ask, Fetch, Fault}
+use Rattle.qm_kinds.specs.declared.request.Request.TheVariants.{Append, Fill, Drop, Mark, Done, Tick}
 use Rattle.qm_kinds.specs.declared.name.TheConstants.{NODE_NAME_BYTES}
 use Rattle.qm_kinds.specs.declared.script.ScriptKind.{ScriptKind}
 use Rattle.qm_kinds.specs.declared.script.ScriptKind.TheVariants.{Form, Long}
 use Rattle.qm_kinds.specs.declared.refusal.ParseKind.TheVariants as parse
 use Rattle.qm_model.specs.Texts.{cut_at_blank, value_of}
-use Rattle.qm_model.specs.Batch.{is_number}
+use Rattle.qm_model.specs.Batch.{is_number, is_mark}
 
 -- a command, or an act at the site
 pub data Sort : Type 0 where
@@ -94,6 +94,38 @@ abbrev pub done_act : Option (List ℕ × List ℕ) → Input
 done_act None = Fault 0 parse.Form
 done_act (Some parts) = done_by (act_number 18446744073709551615 parts.0) (act_number 4294967295 parts.1)
 
+-- a run of 64 bits has reached this mark
+abbrev pub marked_by : Option ℕ → List ℕ → Input
+marked_by None mark = Fault 0 parse.Form
+marked_by (Some run) mark = if is_mark mark then Ask (Mark run mark) else Fault 0 parse.Form
+
+-- MARK run text, where the text is all behind one blank, 1 to 255 bytes
+abbrev pub mark_act : Option (List ℕ × List ℕ) → Input
+mark_act None = Fault 0 parse.Form
+mark_act (Some parts) = marked_by (act_number 18446744073709551615 parts.0) parts.1
+
+-- how many steps may be made: one at least
+abbrev pub some_steps : Option ℕ → Option ℕ
+some_steps steps = option_and_then (λ n. if n == 0 then None else Some n) steps
+
+-- a number of steps, from 1 to 100,000
+abbrev pub step_number : List ℕ → Option ℕ
+step_number text = some_steps (act_number 100000 text)
+
+-- STEP n
+abbrev pub steps_in : List ℕ → Option ℕ
+steps_in text = option_and_then (λ parts. if bytes_eq parts.0 (codes "STEP") then step_number parts.1 else None) (cut_at_blank text)
+
+-- the runs of the node are asked for
+abbrev pub step_act : Option ℕ → Input
+step_act None = Fault 0 parse.Form
+step_act (Some steps) = Fetch []
+
+-- how many steps a line allows, if it is a STEP line
+abbrev pub steps_of_line : Sort → List ℕ → Option ℕ
+steps_of_line Command text = None
+steps_of_line Site text = steps_in text
+
 -- so many lines of letters go to the end of the file: one at least
 abbrev pub filled_by : Option FileName → Option ℕ → Input
 filled_by None lines = Fault 0 parse.Form
@@ -113,8 +145,8 @@ drop_act (Some file) = Ask (Drop file)
 -- the word of an act that is built
 abbrev pub is_act_word : List ℕ → Bool
 is_act_word word =
-    bytes_eq word (codes "LINE") || bytes_eq word (codes "FILL") || bytes_eq word (codes "DROP") || bytes_eq word (codes "DONE")
-    || bytes_eq word (codes "TICK")
+    bytes_eq word (codes "LINE") || bytes_eq word (codes "FILL") || bytes_eq word (codes "DROP") || bytes_eq word (codes "STEP")
+    || bytes_eq word (codes "MARK") || bytes_eq word (codes "DONE") || bytes_eq word (codes "TICK")
 
 -- an act whose word is or isn't built takes something else
 abbrev pub malformed_act : List ℕ → Input
@@ -127,6 +159,8 @@ act_from text (Some parts) =
     if bytes_eq parts.0 (codes "LINE") then line_act (cut_at_blank parts.1)
     else if bytes_eq parts.0 (codes "FILL") then fill_act (cut_at_blank parts.1)
     else if bytes_eq parts.0 (codes "DROP") then drop_act (file_name_of parts.1)
+    else if bytes_eq parts.0 (codes "STEP") then step_act (step_number parts.1)
+    else if bytes_eq parts.0 (codes "MARK") then mark_act (cut_at_blank parts.1)
     else if bytes_eq parts.0 (codes "DONE") then done_act (cut_at_blank parts.1)
     else malformed_act parts.0
 

@@ -1,13 +1,14 @@
 // What is done at the site of a node, in place of a user.
-ghost use Rattle.std.specs.Prelude.{◌≡◌, ◌++◌, ◌∷◌, [], IfOk, OnErr};
+ghost use Rattle.std.specs.Prelude.{◌≡◌, ◌++◌, ◌∷◌, [], if◌then◌else◌, None, Some, IfOk, OnErr};
 ghost use Rattle.qm_kinds.specs.Files.{file_name_of};
+ghost use Rattle.qm_model.specs.Batch.{is_mark};
 ghost use Rattle.qm_model.specs.Texts.{cut_at_blank};
-ghost use Rattle.qm_model.specs.Script.{act_of, done_act, drop_act, fill_act, is_act_word, line_act, malformed_act};
+ghost use Rattle.qm_model.specs.Script.{act_of, done_act, drop_act, fill_act, is_act_word, line_act, malformed_act, mark_act, step_act, step_number};
 ghost use Rattle.qm_script.specs.Wanting.{WantsMemory};
 
 use crate::script::cut_at_blank;
 use qm_digits::plain_number_up_to;
-use qm_kinds::{FileName, Input, ParseKind, Request, Seq};
+use qm_kinds::{FileName, Input, Mark, ParseKind, Request, Seq};
 use std::alloc::{AllocError, Global};
 
 const DONE: &[u8] = b"DONE";
@@ -18,23 +19,38 @@ const FILL: &[u8] = b"FILL";
 
 const LINE: &[u8] = b"LINE";
 
+const MARK: &[u8] = b"MARK";
+
+pub(crate) const STEP: &[u8] = b"STEP";
+
 const TICK: &[u8] = b"TICK";
 
 /// The most lines of a `FILL`.
 const FILL_LIMIT: u64 = 1024;
 
+/// The most steps of a `STEP`.
+const STEP_LIMIT: u64 = 100_000;
+
 // Whether a word is that of an act that is built.
 fn is_act_word(word: &[u8]) -> bool
     ensures { result ≡ is_act_word word.now }
 {
-    word == LINE || word == FILL || word == DROP || word == DONE || word == TICK
+    word == LINE
+        || word == FILL
+        || word == DROP
+        || word == STEP
+        || word == MARK
+        || word == DONE
+        || word == TICK
 }
 
 /// What an act asks for: a word, and behind a blank what the word takes. The words that are built are `LINE`, which takes
 /// a file's name, a blank and a line of text for the end of that file; `FILL`, which takes a file's name, a blank and how
-/// many lines (1 to 1,024) of 63 letters go to its end; `DROP`, which takes the name of a file that goes; `DONE`, which
-/// takes the number of a run that has ended, a blank and its status; and `TICK`, which takes nothing. Another word isn't built, and what a word doesn't take
-/// is a fault of form. Memory is wanted for the bytes of a `LINE` alone.
+/// many lines (1 to 1,024) of 63 letters go to its end; `DROP`, which takes the name of a file that goes; `STEP`, which takes
+/// how many steps may be made (1 to 100,000); `MARK`, which takes the number of a run, a blank and the mark that it has
+/// reached (1 to 255 bytes, blanks too); `DONE`, which takes the number of a run that has ended, a blank and its status; and
+/// `TICK`, which takes nothing. Another word isn't built, and what a word doesn't take is a fault of form. Memory is wanted
+/// for the bytes of a `LINE` alone.
 pub(crate) fn read_act(alloc: Global, text: &[u8]) -> Result<Input, AllocError>
     ensures input { IfOk result (λ input. input ≡ act_of text.now) }
     ensures no_memory { OnErr result (WantsMemory (act_of text.now)) }
@@ -45,6 +61,8 @@ pub(crate) fn read_act(alloc: Global, text: &[u8]) -> Result<Input, AllocError>
         Some((word, rest)) if word == LINE => read_line_act(alloc, rest),
         Some((word, rest)) if word == FILL => Ok(read_fill_act(rest)),
         Some((word, rest)) if word == DROP => Ok(read_drop_act(rest)),
+        Some((word, rest)) if word == STEP => Ok(step_act(alloc, step_number(rest))),
+        Some((word, rest)) if word == MARK => Ok(read_mark_act(rest)),
         Some((word, rest)) if word == DONE => Ok(read_done_act(rest)),
         Some((word, _)) => Ok(malformed_act(word)),
     }
@@ -88,6 +106,57 @@ fn read_drop_act(text: &[u8]) -> Input
         Some(file) => Input::Ask(Request::Drop { file }),
         None => fault(ParseKind::Form),
     }
+}
+
+/// How many steps a text asks for, if it is one of 1 to 100,000.
+pub(crate) fn step_number(text: &[u8]) -> Option<u32>
+    ensures { result ≡ step_number text.now }
+{
+    match plain_number_up_to(STEP_LIMIT, text) {
+        None | Some(0) => None,
+        Some(steps) => Some(steps as u32),
+    }
+}
+
+// The runs of the node, where a number of steps is given.
+fn step_act(alloc: Global, steps: Option<u32>) -> Input
+    ensures { result ≡ step_act steps }
+{
+    match steps {
+        None => fault(ParseKind::Form),
+        Some(_) => Input::Fetch {
+            known: Seq::new(alloc),
+        },
+    }
+}
+
+// The mark that a text is, if it has 1 to 255 bytes.
+fn read_mark(text: &[u8]) -> Option<Mark>
+    ensures { result ≡ (if is_mark text.now then Some text.now else None) }
+{
+    if text.is_empty() {
+        return None;
+    }
+    match Mark::new(text) {
+        Ok(mark) => Some(mark),
+        Err(_) => None,
+    }
+}
+
+// The number of a run, a blank and its mark, which is all that stands behind.
+fn read_mark_act(text: &[u8]) -> Input
+    ensures { result ≡ mark_act (cut_at_blank text.now) }
+{
+    let Some((run, mark)) = cut_at_blank(text) else {
+        return fault(ParseKind::Form);
+    };
+    let Some(run) = plain_number_up_to(u64::MAX, run) else {
+        return fault(ParseKind::Form);
+    };
+    let Some(value) = read_mark(mark) else {
+        return fault(ParseKind::Form);
+    };
+    Input::Ask(Request::Mark { run, value })
 }
 
 // The number of a run, a blank and its status.

@@ -1,13 +1,14 @@
 // What a line of a script asks for.
 ghost use Rattle.std.specs.Prelude.{◌≡◌, IfOk, OnErr};
+ghost use Rattle.qm_model.specs.Script.{steps_in, steps_of_line};
 ghost use Rattle.qm_kinds.specs.Names.{system_user};
 ghost use Rattle.qm_dcl.specs.Command.{command_of};
 ghost use Rattle.qm_dcl.specs.Lines.{input_of, or_fault};
 ghost use Rattle.qm_script.specs.Lines.{sort_view};
 ghost use Rattle.qm_script.specs.Wanting.{MayWantMemory};
 
-use crate::act::read_act;
-use crate::script::{Line, Sort};
+use crate::act::{STEP, read_act, step_number};
+use crate::script::{Line, Sort, cut_at_blank};
 use qm_dcl::{DclFault, read_command};
 use qm_kinds::{Input, Moment, system_user};
 use std::alloc::{AllocError, Global};
@@ -33,5 +34,25 @@ pub fn read_input(alloc: Global, line: &Line<'_>, now: Moment) -> Result<Input, 
     match line.sort {
         Sort::Command => read_typed(alloc, line.text, now),
         Sort::Site => read_act(alloc, line.text),
+    }
+}
+
+// How many steps the text of an act asks for, if it asks for steps.
+fn steps_in(text: &[u8]) -> Option<u32>
+    ensures { result ≡ steps_in text.now }
+{
+    match cut_at_blank(text) {
+        Some((word, rest)) if word == STEP => step_number(rest),
+        _ => None,
+    }
+}
+
+/// How many steps a line allows, 1 to 100,000, if it asks for steps.
+pub fn steps_asked(line: &Line<'_>) -> Option<u32>
+    ensures { result ≡ steps_of_line (sort_view line.now.sort) line.now.text.now }
+{
+    match line.sort {
+        Sort::Command => None,
+        Sort::Site => steps_in(line.text),
     }
 }

@@ -7,6 +7,6 @@ mod input;
 mod laws;
 mod script;
 
-pub use input::read_input;
-pub use laws::a_script_has_a_limit;
+pub use input::{read_input, steps_asked};
+pub use laws::{a_script_has_a_limit, runs_are_asked_for_with_steps};
 pub use script::{Line, SCRIPT_BYTES, ScriptEnd, Sort, are_of_node, read_node_name, read_script};
