@@ -1,14 +1,13 @@
 -- What lines ask for can be asked here, and what answering leaves of the manager.
-use Rattle.std.proofs.Common.{◌≡◌, ◌<◌, ◌^◌, inl, ℕ, length, Bool, true, false, cond, ◌==◌, lit<, List, [], ◌∷◌, ◌&&◌, ◌||◌, codes, Option, None, Some, Result, Ok, Err, refl, sym, ◌∙◌, ap, subst, IfSome, IfOk}
-use Rattle.std.specs.Option.{option_map}
+use Rattle.std.proofs.Common.{◌≡◌, ◌<◌, ◌^◌, inl, ℕ, length, Bool, true, false, cond, ◌==◌, List, codes, Option, None, Some, Result, Ok, Err, refl, sym, ◌∙◌, subst, IfOk}
 use Rattle.std.specs.Result.{IsErrAnd}
 use Rattle.std.specs.Str.{bytes_eq}
 use Rattle.qm_disk.specs.Disk.{Meaning, CrashState, IsLeft}
 use Rattle.qm_kinds.specs.Files.{file_name_of}
 use Rattle.qm_kinds.specs.declared.file.FileName.{FileName}
 use Rattle.qm_kinds.specs.declared.input.Input.{Input}
-use Rattle.qm_kinds.specs.declared.input.Input.TheVariants.{Ask, Show, Fault}
-use Rattle.qm_kinds.specs.declared.request.Request.TheVariants.{Fill, Drop, Tick}
+use Rattle.qm_kinds.specs.declared.input.Input.TheVariants.{Ask, Fault}
+use Rattle.qm_kinds.specs.declared.request.Request.TheVariants.{Fill, Mark, Tick}
 use Rattle.qm_kinds.specs.declared.query.Row.{Row}
 use Rattle.qm_kinds.specs.declared.refusal.ParseKind.TheVariants as parse
 use Rattle.qm_kinds.specs.declared.refusal.Refusal.{Refusal}
@@ -22,7 +21,8 @@ use Rattle.qm_bytes.specs.Spelling.{AllOf}
 use Rattle.qm_record.specs.Spelling.{IsShortChange}
 use Rattle.qm_kinds.specs.declared.request.NameOrNumber.{NameOrNumber}
 use Rattle.qm_kinds.specs.declared.queue.QueueChange.{QueueChange}
-use Rattle.qm_model.specs.Script.{Sort, Command, Site as AtSite, act_from, act_number, is_act_word, done_by, done_act, line_act, append_to, filled_by, fill_act, drop_act, malformed_act}
+use Rattle.qm_model.specs.Batch.{is_mark}
+use Rattle.qm_model.specs.Script.{Sort, Command, Site as AtSite, act_from, act_number, is_act_word, done_by, done_act, line_act, append_to, filled_by, fill_act, drop_act, step_number, step_act, marked_by, mark_act, malformed_act}
 use Rattle.qm_manager.specs.declared.manager.Manager.{Manager}
 use Rattle.qm_manager.specs.Site.{Site}
 use Rattle.qm_manager.proofs.Sites.{steps_nowhere}
@@ -110,19 +110,40 @@ drop_askable : (file : Option FileName) → IsAskable (drop_act file)
 drop_askable None = tt
 drop_askable (Some file) = (refl, tt)
 
+step_askable : (steps : Option ℕ) → IsAskable (step_act steps)
+step_askable None = tt
+step_askable (Some steps) = tt
+
+a_mark_askable : (run : ℕ) (mark : List ℕ) (is : Bool) → IsAskable (cond is (Ask (Mark run mark)) (Fault 0 parse.Form))
+a_mark_askable run mark true = (refl, tt)
+a_mark_askable run mark false = tt
+
+marked_askable : (run : Option ℕ) (mark : List ℕ) → IsAskable (marked_by run mark)
+marked_askable None mark = tt
+marked_askable (Some run) mark = a_mark_askable run mark (is_mark mark)
+
+mark_askable : (parts : Option (List ℕ × List ℕ)) → IsAskable (mark_act parts)
+mark_askable None = tt
+mark_askable (Some parts) = marked_askable (act_number 18446744073709551615 parts.0) parts.1
+
 -- which act it is
-act_or_not : (line fill drop done : Bool) (word rest : List ℕ)
+act_or_not : (line fill drop step mark done : Bool) (word rest : List ℕ)
     → IsAskable (cond line (line_act (cut_at_blank rest)) (cond fill (fill_act (cut_at_blank rest))
-    (cond drop (drop_act (file_name_of rest)) (cond done (done_act (cut_at_blank rest)) (malformed_act word)))))
-act_or_not true fill drop done word rest = line_askable (cut_at_blank rest)
-act_or_not false true drop done word rest = fill_askable (cut_at_blank rest)
-act_or_not false false true done word rest = drop_askable (file_name_of rest)
-act_or_not false false false true word rest = done_askable (cut_at_blank rest)
-act_or_not false false false false word rest = faulty (is_act_word word)
+    (cond drop (drop_act (file_name_of rest)) (cond step (step_act (step_number rest)) (cond mark (mark_act (cut_at_blank rest))
+    (cond done (done_act (cut_at_blank rest)) (malformed_act word)))))))
+act_or_not true fill drop step mark done word rest = line_askable (cut_at_blank rest)
+act_or_not false true drop step mark done word rest = fill_askable (cut_at_blank rest)
+act_or_not false false true step mark done word rest = drop_askable (file_name_of rest)
+act_or_not false false false true mark done word rest = step_askable (step_number rest)
+act_or_not false false false false true done word rest = mark_askable (cut_at_blank rest)
+act_or_not false false false false false true word rest = done_askable (cut_at_blank rest)
+act_or_not false false false false false false word rest = faulty (is_act_word word)
 
 act_askable : (text : List ℕ) (parts : Option (List ℕ × List ℕ)) → IsAskable (act_from text parts)
 act_askable text None = alone (bytes_eq text (codes "TICK")) text
-act_askable text (Some parts) = act_or_not (bytes_eq parts.0 (codes "LINE")) (bytes_eq parts.0 (codes "FILL")) (bytes_eq parts.0 (codes "DROP")) (bytes_eq parts.0 (codes "DONE")) parts.0 parts.1
+act_askable text (Some parts) =
+    act_or_not (bytes_eq parts.0 (codes "LINE")) (bytes_eq parts.0 (codes "FILL")) (bytes_eq parts.0 (codes "DROP")) (bytes_eq parts.0 (codes "STEP"))
+    (bytes_eq parts.0 (codes "MARK")) (bytes_eq parts.0 (codes "DONE")) parts.0 parts.1
 
 -- what a line asks for can be asked
 pub input_askable : (sort : Sort) (now : ℕ) (text : List ℕ) → IsAskable (input_of sort now text)

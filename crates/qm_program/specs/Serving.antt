@@ -2,7 +2,7 @@
 use Rattle.std.specs.Prelude.{◌≡◌, ◌⊎◌, ℕ, true, List, flat_map, Option, Result, Ok, Err}
 use Rattle.std.specs.Io.KnownBytes.{Appends}
 use Rattle.qm_kinds.specs.declared.input.Input.{Input}
-use Rattle.qm_kinds.specs.declared.input.Input.TheVariants.{Ask, Show, Fault}
+use Rattle.qm_kinds.specs.declared.input.Input.TheVariants.{Ask, Show, Fetch, Fault}
 use Rattle.qm_model.specs.Built.{is_built}
 use Rattle.qm_model.specs.Listing.{IsOfOneEntry}
 use Rattle.qm_model.specs.Transcript.{line_text}
@@ -38,6 +38,7 @@ lines_behind prefix lines = flat_map (line_text prefix.node prefix.line) lines
 abbrev pub IsAskable : Input → Type 0
 IsAskable (Ask request) = (is_built request ≡ true) × HasShortLists request
 IsAskable (Show query) = IsOfOneEntry query
+IsAskable (Fetch known) = Unit {0}
 IsAskable (Fault place kind) = Unit {0}
 IsAskable _ = ⊥
 

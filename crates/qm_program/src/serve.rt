@@ -125,6 +125,7 @@ fn answer<D: Disk>(
         Input::Ask(request) => ask(alloc, manager, now, prefix, request),
         Input::Show(query) => Ok(show(alloc, manager, prefix, query)?),
         Input::Fault { place, kind } => Ok(show_fault(alloc, prefix, *place, *kind)?),
+        Input::Fetch { .. } => Ok(show_fault(alloc, prefix, 0, ParseKind::NotBuilt)?),
         _ => Ok(show_fault(alloc, prefix, 0, ParseKind::NotBuilt)?),
     }
 }
