@@ -1,21 +1,15 @@
 -- What the tests find of one entry, and what the walk over the entries keeps.
-use Rattle.std.proofs.Common.{◌≡◌, ℕ, ◌+◌, ◌<◌, Bool, true, false, not, cond, ◌&&◌, List, [], ◌∷◌, ◌++◌, length, get_or, take, refl, sym, ◌∙◌, ap, Option, None, Some, filter}
-use Rattle.std.specs.Prelude.{Box}
-use Rattle.std.specs.List.{fold}
-use Rattle.std.specs.Option.{option_map, option_map_or}
-use Rattle.std.proofs.lemmas.List.{append-nil}
-use Rattle.std.proofs.lemmas.List.Elements.{filter_more}
-use Rattle.std.proofs.lemmas.List.Sums.{fold_push}
+use Rattle.std.proofs.Common.{◌≡◌, Bool, true, false, not, cond, ◌&&◌, List, [], ◌∷◌, refl, ◌∙◌, ap, None, Some, filter}
+use Rattle.std.specs.Option.{option_map}
 use Rattle.qm_kinds.specs.declared.entry.Entry.{Entry}
 use Rattle.qm_kinds.specs.declared.queue.Queue.{Queue}
 use Rattle.qm_kinds.specs.declared.system.System.{System}
 use Rattle.qm_model.specs.Fitting.{fits, is_of_kind, is_open, is_reached, has_characteristics, has_stock, has_size}
 use Rattle.qm_model.specs.JobStates.{is_pending}
 use Rattle.qm_model.specs.Kinds.{is_generic, is_same_kind, job_kind}
-use Rattle.qm_model.specs.Before.{before, first_of}
+use Rattle.qm_model.specs.Before.{first_of}
 use Rattle.qm_model.specs.Free.{is_free}
 use Rattle.qm_model.specs.Settling.{next_job, has_run_numbers, start_of}
-use Rattle.qm_entries.specs.Boxed.{contents}
 use Rattle.qm_sched.specs.Choosing.{next_start}
 
 -- ---- whether one entry fits

@@ -1,21 +1,20 @@
 -- The first key of a queue's row is that of the job which the queue starts next.
-use Rattle.std.proofs.Common.{◌≡◌, ◌∙◌, ℕ, ◌+◌, ◌==◌, Bool, true, false, cond, not, ◌&&◌, List, [], ◌∷◌, map, filter, find, Option, None, Some, is_some, refl, sym, ap, subst, arith}
+use Rattle.std.proofs.Common.{◌≡◌, ◌∙◌, ℕ, ◌==◌, Bool, true, false, cond, not, ◌&&◌, List, [], ◌∷◌, map, filter, Option, None, Some, refl, sym, ap, subst}
 use Rattle.std.specs.Prelude.{IfSome}
-use Rattle.std.specs.Option.{option_map, option_and_then}
+use Rattle.std.specs.Option.{option_map}
 use Rattle.std.specs.Ordering.{nat_cmp}
 use Rattle.qm_kinds.specs.declared.entry.Entry.{Entry}
 use Rattle.qm_kinds.specs.declared.queue.Queue.{Queue}
 use Rattle.qm_kinds.specs.declared.system.System.{System}
-use Rattle.qm_match.specs.declared.order.Key.{Key}
 use Rattle.qm_match.specs.declared.order.Schedule.{Schedule}
 use Rattle.qm_match.specs.Keys.{key_of, schedule_of}
 use Rattle.qm_model.specs.Consistent.{IsInOrder}
-use Rattle.qm_model.specs.Find.{entry_numbered, queue_named}
+use Rattle.qm_model.specs.Find.{entry_numbered}
 use Rattle.qm_model.specs.Fitting.{fits, is_open}
 use Rattle.qm_model.specs.Free.{is_free}
 use Rattle.qm_model.specs.Kinds.{is_generic}
 use Rattle.qm_model.specs.Settling.{next_job, has_run_numbers}
-use Rattle.qm_model.proofs.SettlingLemmas.{IsIn, first_in, in_filter}
+use Rattle.qm_model.proofs.SettlingLemmas.{first_in, in_filter}
 use Rattle.qm_model.proofs.ListLemmas.{in_all}
 use Rattle.qm_ready.specs.Rows.{Row, IsRow, key_numbered, first_number}
 use Rattle.qm_ready.specs.Jobs as jobs
@@ -76,7 +75,7 @@ module _ (s : System) (t : Tables) (q : Queue) (row : Row) (order : IsInOrder na
   abbrev fit : Entry → Bool
   fit e = fits (with_tables s t) e q
 
-  as_jobs : jobs.IsRowOf (schedule_of q) (filter fit t.entries) row.keys
+  pub as_jobs : jobs.IsRowOf (schedule_of q) (filter fit t.entries) row.keys
   as_jobs = record {
     row = subst (λ (schedule : Schedule). IsRow schedule row.keys) is.schedule kept;
     same = λ n. is.keys n ∙ sym (gathered fit n t.entries order) ∙ keys_of n (filter fit t.entries);
@@ -106,3 +105,9 @@ module _ (s : System) (t : Tables) (q : Queue) (row : Row) (order : IsInOrder na
   -- the job of its number is the next one
   pub job_is : (n : ℕ) (found : Option Entry) → first_number row.keys ≡ Some n → entry_numbered n t.entries ≡ found → next_job (with_tables s t) q ≡ found
   job_is n found some there = job_at n found (next_job (with_tables s t) q) there refl (sym some ∙ first_is)
+
+-- a row that is told has just the jobs that fit
+pub all_jobs : (s : System) (t : Tables) (found : Option Queue) (row : Row) → IsInOrder nat_cmp (λ (e : Entry). e.number) t.entries → IsRow row.schedule row.keys
+    → IfSome found (λ q. IsRowOf q (ready_key t q) row) → IfSome found (λ q. jobs.IsRowOf (schedule_of q) (jobs.fitting (with_tables s t) q) row.keys)
+all_jobs s t None row order kept is = tt
+all_jobs s t (Some q) row order kept is = as_jobs s t q row order is kept

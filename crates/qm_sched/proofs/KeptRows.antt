@@ -1,8 +1,7 @@
 -- Rows that stay kept.
-use Rattle.std.proofs.Common.{◌≡◌, ◌∙◌, ℕ, ◌+◌, ◌-◌, ◌<◌, ◌≤◌, ◌==◌, true, false, not, cond, is_some, ◌⊎◌, inl, inr, ⊎_elim, Bool, filter, List, [], ◌∷◌, ◌++◌, length, get_or, map, Option, Some, None, refl, sym, ap, subst, arith}
+use Rattle.std.proofs.Common.{◌≡◌, ◌∙◌, ℕ, ◌+◌, ◌-◌, ◌<◌, ◌≤◌, true, false, not, cond, is_some, ⊎_elim, Bool, filter, List, [], ◌∷◌, ◌++◌, length, get_or, Option, Some, None, refl, sym, ap, subst, arith}
 use Rattle.std.proofs.lemmas.Bool.{cases_lt}
 use Rattle.std.specs.Prelude.{IfSome}
-use Rattle.std.specs.List.{All}
 use Rattle.std.specs.Cmp.Lexicographic.{texts_ties}
 use Rattle.std.proofs.lemmas.Option.{same_Some}
 use Rattle.qm_keyed.specs.Places.{StandsAt, BelongsAt}
@@ -13,7 +12,6 @@ use Rattle.std.specs.Str.{bytes_eq}
 use Rattle.std.proofs.lemmas.List.{get_or_append_left}
 use Rattle.std.proofs.lemmas.List.Elements.{All-append, All-cons, All-nil}
 use Rattle.std.proofs.lemmas.List.Sums.{length-filter, count_by-le-length}
-use Rattle.qm_kinds.specs.declared.entry.Entry.{Entry}
 use Rattle.qm_kinds.specs.declared.queue.Queue.{Queue}
 use Rattle.qm_match.specs.declared.order.Key.{Key}
 use Rattle.qm_model.specs.Find.{name_cmp, queue_named}
@@ -21,7 +19,7 @@ use Rattle.qm_model.specs.Queues.{without_queue}
 use Rattle.qm_model.proofs.InsertLemmas.{fewer, longer, one_goes}
 use Rattle.qm_queues.specs.Queues.{with_queue_put}
 use Rattle.qm_ready.specs.Rows.{Row, key_numbered}
-use Rattle.qm_sched.specs.Ready.{ready_key, without_number, IsRowOf, AreRowsOf, AreReady, AreReadyBut, HasRoom, KeepsRoom, KeepsKeys, AreKept}
+use Rattle.qm_sched.specs.Ready.{IsRowOf, AreRowsOf, AreReady, HasRoom, KeepsRoom, KeepsKeys, AreKept}
 use Rattle.qm_sched.specs.Tables.{Tables}
 use Rattle.qm_sched.proofs.Each.{AreDone}
 

@@ -22,3 +22,4 @@ pub mod RowLoops
 pub mod ReadyRows
 pub mod FirstReady
 pub mod ByRun
+pub mod OneQueue

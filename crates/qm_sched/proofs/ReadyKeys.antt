@@ -1,8 +1,8 @@
 -- Under which numbers keys are ready, once something became of entries or queues.
-use Rattle.std.proofs.Common.{◌≡◌, ◌∙◌, ℕ, ◌+◌, ◌<◌, ◌==◌, Bool, true, false, not, cond, ◌&&◌, ◌||◌, List, [], ◌∷◌, ◌++◌, length, map, find, Option, None, Some, refl, sym, ap, subst, arith}
+use Rattle.std.proofs.Common.{◌≡◌, ◌∙◌, ℕ, ◌<◌, ◌==◌, Bool, true, false, cond, ◌&&◌, List, [], ◌∷◌, ◌++◌, length, map, find, Option, None, Some, refl, sym, ap, arith}
 use Rattle.std.specs.Prelude.{option_to_list}
 use Rattle.std.specs.List.{All}
-use Rattle.std.specs.Option.{option_map, option_map_or, option_and_then}
+use Rattle.std.specs.Option.{option_map, option_and_then}
 use Rattle.std.proofs.lemmas.Bool.Decides.{nat_tests}
 use Rattle.std.proofs.lemmas.List.{length-map}
 use Rattle.std.proofs.lemmas.List.Elements.{All-head, All-tail}
@@ -15,7 +15,7 @@ use Rattle.qm_kinds.specs.declared.queue.Queue.{Queue}
 use Rattle.qm_match.specs.declared.order.Key.{Key}
 use Rattle.qm_match.specs.Keys.{key_of}
 use Rattle.qm_model.specs.Find.{entry_numbered}
-use Rattle.qm_model.specs.Fitting.{fits, is_of_kind, is_open, is_reached, has_characteristics, has_stock, has_size}
+use Rattle.qm_model.specs.Fitting.{is_of_kind, is_open, is_reached, has_characteristics, has_stock, has_size}
 use Rattle.qm_model.specs.Folding.{no_system}
 use Rattle.qm_model.specs.JobStates.{is_pending}
 use Rattle.qm_model.specs.Standing.{with_entry}

@@ -1,5 +1,5 @@
 -- Under which numbers keys are ready, once the states of queues changed.
-use Rattle.std.proofs.Common.{◌≡◌, ◌∙◌, ℕ, ◌<◌, Bool, true, false, cond, ◌&&◌, ◌||◌, List, [], ◌∷◌, length, get_or, map, find, Option, None, Some, refl, sym, ap, subst, arith}
+use Rattle.std.proofs.Common.{◌≡◌, ◌∙◌, ℕ, ◌<◌, Bool, true, false, cond, ◌&&◌, ◌||◌, List, [], ◌∷◌, length, get_or, map, Option, None, Some, refl, sym, ap, subst, arith}
 use Rattle.std.specs.List.{list_any}
 use Rattle.std.specs.Option.{option_map, option_map_or, option_and_then}
 use Rattle.std.specs.Str.{bytes_eq}
@@ -8,10 +8,9 @@ use Rattle.qm_kinds.specs.declared.entry.Entry.{Entry}
 use Rattle.qm_kinds.specs.declared.queue.Queue.{Queue}
 use Rattle.qm_kinds.specs.declared.queue.QueueState.{QueueState}
 use Rattle.qm_kinds.specs.declared.queue.QueueState.TheVariants.{Stopped, Started, Paused, Stopping}
-use Rattle.qm_match.specs.declared.order.Key.{Key}
 use Rattle.qm_match.specs.Keys.{key_of}
 use Rattle.qm_model.specs.Find.{entry_numbered, queue_named}
-use Rattle.qm_model.specs.Fitting.{fits, is_started, is_of_kind, is_open, is_up, is_reached, passes_on_to, has_characteristics, has_stock, has_size}
+use Rattle.qm_model.specs.Fitting.{is_started, is_of_kind, is_open, is_up, is_reached, passes_on_to, has_characteristics, has_stock, has_size}
 use Rattle.qm_model.specs.Folding.{no_system}
 use Rattle.qm_model.specs.JobStates.{is_pending}
 use Rattle.qm_model.specs.Kinds.{is_generic}

@@ -41,6 +41,11 @@ without_number n wanted number = if n == number then None else wanted number
 abbrev pub AreReadyBut : ℕ → Tables → List Row → Type 0
 AreReadyBut n t rows = AreRowsOf (λ q. without_number n (ready_key t q)) t.queues rows
 
+-- a change of a queue that leaves its name and its kind
+pub record LeavesKind (change : Queue → Queue) : Type 0 where
+  pub name : (q : Queue) → (change q).name ≡ q.name
+  pub kind : (q : Queue) → (change q).kind ≡ q.kind
+
 -- each row has room for so many keys, those that it has counted among them
 abbrev pub HasRoom : ℕ → List Row → Type 0
 HasRoom most rows = All (λ row. most ≤ length row.keys + row.spare) rows

@@ -21,8 +21,8 @@ ghost use Rattle.qm_queues.specs.Settings.{with_settings_and_state};
 ghost use Rattle.qm_sched.specs.Mirror.{run_of_entry};
 
 use crate::parts::Parts;
+use crate::rows::{admit_number, forget_number, refill_all, refill_for};
 use crate::tables::TableSet;
-use crate::rows::{admit_number, forget_number, refill_all};
 use qm_kinds::{Characteristic, Entry, Fate, Form, Moment, Name, Queue, QueueState};
 use qm_queues::Settings;
 
@@ -185,7 +185,7 @@ impl Parts {
         ensures { self.new ≡ record self.old { queues = with_queue name.now (λ q. record q { state = state }) self.old.queues } }
     {
         self.tables.set_queue_state(name, state);
-        refill_all(self.alloc, &self.tables, &mut self.rows);
+        refill_for(self.alloc, &self.tables, &mut self.rows, name);
     }
 
     /// Sets settings of the queue of a name, and its state where one is given. Where there is none, nothing changes.
@@ -193,7 +193,7 @@ impl Parts {
         ensures { self.new ≡ record self.old { queues = with_queue name.now (with_settings_and_state settings.now state) self.old.queues } }
     {
         self.tables.set_queue(name, settings, state);
-        refill_all(self.alloc, &self.tables, &mut self.rows);
+        refill_for(self.alloc, &self.tables, &mut self.rows, name);
     }
 
     /// Puts a queue in its place by name, for which there is room. It takes the place of any other of its name. It moves

@@ -35,8 +35,8 @@ pub fn see_entries(parts: &Parts)
     see_order(&parts.tables.entries, &parts.tables.runs);
 }
 
-// Whether a queue of this kind runs jobs itself.
-fn is_execution_queue(kind: QueueKind) -> bool
+/// Whether a queue of this kind runs jobs itself.
+pub(crate) fn is_execution_queue(kind: QueueKind) -> bool
     ensures { result ≡ not (is_generic kind) }
 {
     matches!(kind, QueueKind::Batch | QueueKind::Print)
@@ -98,7 +98,7 @@ pub(crate) fn next_start<L: Ledger>(
         return None;
     }
     see_entries(parts);
-    let Some(row) = parts.ready(&queue.name) else {
+    let Some(row) = parts.row_named(&queue.name) else {
         unreachable!()
     };
     let Some(number) = row.first(looks) else {

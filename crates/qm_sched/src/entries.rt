@@ -10,8 +10,8 @@ ghost use Rattle.qm_model.specs.Standing.{with_entry, has_run};
 ghost use Rattle.qm_runs.specs.Runs.{run_numbered, with_run, without_run};
 ghost use Rattle.qm_sched.specs.Mirror.{run_of_entry};
 
-use crate::tables::TableSet;
 use crate::running::see_order;
+use crate::tables::TableSet;
 use qm_kinds::{Entry, EntryState, Name, Run};
 use qm_runs::Runs;
 

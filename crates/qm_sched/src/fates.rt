@@ -4,8 +4,8 @@ ghost use Rattle.qm_model.specs.Standing.{with_entry};
 ghost use Rattle.qm_model.specs.Stopping.{state_with_fate, with_fate, reset_fate, reset_in};
 ghost use Rattle.qm_sched.specs.Mirror.{reset_by};
 
-use crate::tables::TableSet;
 use crate::running::{is_running_in, see_order};
+use crate::tables::TableSet;
 use qm_entries::EntryTable;
 use qm_kinds::{Entry, EntryState, Fate, Name, Run};
 

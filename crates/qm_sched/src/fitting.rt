@@ -52,7 +52,12 @@ pub(crate) fn stock_of(parts: &TableSet, form: &Option<Name>) -> Option<Name>
 
 // The stock of a job's form, where there is such a form. `mounted` is that of the form that is mounted at the queue, which
 // most often is the job's: then no form is looked for.
-fn stock_wanted(parts: &TableSet, entry: &Entry, queue: &Queue, mounted: &Option<Name>) -> Option<Name>
+fn stock_wanted(
+    parts: &TableSet,
+    entry: &Entry,
+    queue: &Queue,
+    mounted: &Option<Name>,
+) -> Option<Name>
     requires { mounted.now ≡ stock_of parts.now.forms queue.now.mounted }
     ensures { result ≡ stock_of parts.now.forms entry.now.form }
 {
@@ -91,7 +96,12 @@ fn is_reached(parts: &TableSet, entry: &Entry, queue: &Queue) -> bool
 /// Maintaining Queues, on generic queues, characteristics, forms and their stock, and job sizes. `mounted` is the stock of
 /// the form that is mounted there. What the two hold alone is asked first. It asks a logarithm of the queues where the job's
 /// home is another one, and one of the forms where its form is another one, and takes no memory.
-pub(crate) fn can_run(parts: &TableSet, entry: &Entry, queue: &Queue, mounted: &Option<Name>) -> bool
+pub(crate) fn can_run(
+    parts: &TableSet,
+    entry: &Entry,
+    queue: &Queue,
+    mounted: &Option<Name>,
+) -> bool
     requires open { (s : System) → is_open (with_tables s parts.now) queue.now ≡ true }
     requires mounted { mounted.now ≡ stock_of parts.now.forms queue.now.mounted }
     ensures { (s : System) → result ≡ fits (with_tables s parts.now) entry.now queue.now }

@@ -14,8 +14,13 @@ ghost use Rattle.qm_entries.specs.Boxed.{contents};
 ghost use Rattle.qm_entries.specs.Entries.{entry_after};
 ghost use Rattle.qm_queues.specs.Queues.{queue_after};
 ghost use Rattle.qm_sched.specs.ByRun.{entry_on};
+ghost use Rattle.qm_kinds.specs.declared.system.System.{System};
+ghost use Rattle.qm_match.specs.Keys.{schedule_of};
+ghost use Rattle.qm_ready.specs.Jobs.{IsRowOf as HasJobs, fitting};
 ghost use Rattle.qm_sched.specs.Ready.{HasRoom, KeepsKeys, IsRowOf, ready_key};
+ghost use Rattle.qm_sched.specs.Tables.{with_tables};
 
+use crate::choosing::see_entries;
 use crate::rows::refill_all;
 use crate::tables::TableSet;
 use qm_forms::FormTable;
@@ -57,11 +62,7 @@ impl Model for Parts {
 }
 
 // A row for each queue and no more, each with room for so many keys.
-fn new_rows(
-    alloc: Global,
-    queues: usize,
-    entries: usize,
-) -> Result<Vec<ReadyRow>, AllocError>
+fn new_rows(alloc: Global, queues: usize, entries: usize) -> Result<Vec<ReadyRow>, AllocError>
     ensures count { IfOk result (λ rows. queues ≤ length rows.items) }
     ensures room { IfOk result (λ rows. HasRoom entries rows.items) }
 {
@@ -172,9 +173,25 @@ impl Parts {
         self.tables.queue_after(name)
     }
 
-    /// The row of the queue of a name, if there is such a queue: it has just the keys of the jobs that the queue can start as
-    /// soon as it has a place, in the order in which it takes them. It asks a logarithm of the queues.
+    /// The row of the queue of a name, if there is such a queue: it has the keys of just the jobs that fit the queue, in the
+    /// order in which it takes them. That of a generic queue is empty. It asks a logarithm of the queues.
     pub fn ready(&self, name: &Name) -> Option<&ReadyRow>
+        ensures found { is_some result ≡ is_some (queue_named name.now self.now.queues) }
+        ensures jobs { (s : System) → IfSome (option_copied result) (λ row. IfSome (queue_named name.now self.now.queues)
+            (λ q. HasJobs (schedule_of q) (fitting (with_tables s self.now) q) row.keys)) }
+    {
+        see_entries(self);
+        match self.row_named(name) {
+            None => None,
+            Some(row) => {
+                let _ = row.len();
+                Some(row)
+            }
+        }
+    }
+
+    // The row of the queue of a name, if there is such a queue.
+    pub(crate) fn row_named(&self, name: &Name) -> Option<&ReadyRow>
         ensures found { is_some result ≡ is_some (queue_named name.now self.now.queues) }
         ensures jobs { IfSome (option_copied result) (λ row. IfSome (queue_named name.now self.now.queues) (λ q. IsRowOf q (ready_key self.now q) row)) }
     {

@@ -1,17 +1,24 @@
 // The rows of ready jobs: how one is built anew, and how the key of one job goes or comes.
-ghost use Rattle.std.specs.Prelude.{◌≡◌, ◌≤◌, ◌+◌, [], length, map, filter, true, Some};
+ghost use Rattle.std.specs.Prelude.{◌≡◌, ◌≤◌, ◌+◌, [], length, map, filter, true, false, IfSome, Some, slice_index_or};
 ghost use Rattle.qm_kinds.specs.declared.system.System.{System};
+ghost use Rattle.qm_keyed.specs.Places.{StandsAt};
+ghost use Rattle.qm_kinds.specs.declared.queue.Queue.{Queue as AnyQueue};
 ghost use Rattle.qm_match.specs.Keys.{key_of};
-ghost use Rattle.qm_model.specs.Find.{entry_numbered};
+ghost use Rattle.qm_model.specs.Consistent.{IsInOrder};
+ghost use Rattle.qm_model.specs.Find.{name_cmp, entry_numbered};
+ghost use Rattle.qm_model.specs.Kinds.{is_generic};
+ghost use Rattle.qm_model.specs.Standing.{with_queue};
 ghost use Rattle.qm_model.specs.Fitting.{fits, is_open, stock_of};
 ghost use Rattle.qm_entries.specs.Boxed.{contents};
 ghost use Rattle.qm_ready.specs.Rows.{HasNumbersOnce};
-ghost use Rattle.qm_sched.specs.Ready.{AreReady, AreReadyBut, IsRowOf, HasRoom, KeepsRoom, ready_key, without_number};
-ghost use Rattle.qm_sched.specs.Tables.{with_tables};
+ghost use Rattle.qm_sched.specs.Ready.{AreReady, AreReadyBut, IsRowOf, HasRoom, KeepsRoom, LeavesKind, ready_key, without_number};
+ghost use Rattle.qm_sched.specs.Tables.{Tables, with_tables};
 
+use crate::choosing::is_execution_queue;
 use crate::fitting::{can_run, is_open, stock_of};
 use crate::running::see_order;
 use crate::tables::TableSet;
+use qm_keyed::place_of;
 use qm_kinds::{Entry, Name, Queue};
 use qm_match::{Key, Schedule};
 use qm_ready::{Gathering, ReadyRow};
@@ -93,6 +100,40 @@ pub(crate) fn refill_all(alloc: Global, tables: &TableSet, rows: &mut Vec<ReadyR
 {
     for place in 0..tables.queues().len() {
         refill(alloc, tables, &tables.queues()[place], &mut rows[place]);
+    }
+}
+
+// Where the queue of a name stands, if it is there and runs jobs itself.
+fn execution_place(queues: &[Queue], name: &Name) -> Option<usize>
+    requires { IsInOrder name_cmp (λ q. q.name) queues.now }
+    ensures stands { IfSome result (StandsAt name_cmp (λ q. q.name) name.now queues.now) }
+    ensures kind { IfSome result (λ place. (q : AnyQueue) → is_generic (slice_index_or queues.now place q).kind ≡ false) }
+{
+    match place_of(queues, name) {
+        Err(_) => None,
+        Ok(place) => {
+            if is_execution_queue(queues[place].kind) {
+                Some(place)
+            } else {
+                None
+            }
+        }
+    }
+}
+
+/// Builds the rows anew that another state or other settings of the queue of a name concern: its own, or all of them where it
+/// is a generic one, which may pass its jobs on to others. It takes no memory.
+pub(crate) fn refill_for(alloc: Global, tables: &TableSet, rows: &mut Vec<ReadyRow>, name: &Name)
+    requires enough { length tables.now.queues ≤ length rows.old.items }
+    requires room { HasRoom (length tables.now.entries) rows.old.items }
+    ensures ready { (t : Tables) (change : AnyQueue → AnyQueue) → LeavesKind change → tables.now ≡ record t { queues = with_queue name.now change t.queues }
+        → AreReady t rows.old.items → AreReady tables.now rows.new.items }
+    ensures count { length rows.new.items ≡ length rows.old.items }
+    ensures room { KeepsRoom rows.old.items rows.new.items }
+{
+    match execution_place(tables.queues(), name) {
+        None => refill_all(alloc, tables, rows),
+        Some(place) => refill(alloc, tables, &tables.queues()[place], &mut rows[place]),
     }
 }
 

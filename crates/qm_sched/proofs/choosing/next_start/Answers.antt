@@ -1,4 +1,4 @@
-use Rattle.std.proofs.Common.{ℕ, Bool, Option, None, Some, cond, sym, subst, ◌∙◌, ap, arith}
+use Rattle.std.proofs.Common.{ℕ, Bool, Option, Some, cond, sym, subst, ◌∙◌, ap, arith}
 use Rattle.std.specs.Prelude.{IfSome}
 use Rattle.qm_kinds.specs.declared.queue.Queue.{Queue}
 use Rattle.qm_kinds.specs.declared.run.Start.{Start}

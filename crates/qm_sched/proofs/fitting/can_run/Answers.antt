@@ -1,4 +1,4 @@
-use Rattle.std.proofs.Common.{◌∙◌, ◌&&◌, Bool, true, false, sym, ap}
+use Rattle.std.proofs.Common.{◌∙◌, ◌&&◌, Bool, sym, ap}
 use Rattle.qm_model.specs.Fitting.{is_reached, has_stock}
 use Rattle.qm_sched.specs.Tables.{with_tables}
 use Rattle.qm_sched.proofs.Chosen.{fits_where_open}

@@ -1,4 +1,4 @@
-use Rattle.std.proofs.Common.{◌≡◌, ◌≤◌, length}
+use Rattle.std.proofs.Common.{◌≤◌, length}
 use Rattle.qm_sched.specs.Ready.{HasRoom}
 use Rattle.qm_sched.proofs.parts.new_rows.Given as goal
 

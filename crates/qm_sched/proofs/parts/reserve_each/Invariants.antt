@@ -1,4 +1,4 @@
-use Rattle.std.proofs.Common.{◌≡◌, ◌<◌, ◌≤◌, ◌+◌, length, get_or, ℕ}
+use Rattle.std.proofs.Common.{◌<◌, ◌≤◌, ◌+◌, length, get_or, ℕ}
 use Rattle.qm_ready.specs.Rows.{Row}
 use Rattle.qm_sched.proofs.Each.{AreDone}
 use Rattle.qm_sched.proofs.KeptRows.{IsWider}

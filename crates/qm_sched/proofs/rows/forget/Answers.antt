@@ -1,7 +1,5 @@
-use Rattle.std.proofs.Common.{◌<◌, ◌≡◌, ◌&&◌, ◌==◌, Bool, List, Some, None, cond, length, get_or, ap, arith, sym, subst}
+use Rattle.std.proofs.Common.{◌<◌, List, length, ap, arith}
 use Rattle.qm_kinds.specs.declared.queue.Queue.{Queue}
-use Rattle.qm_match.specs.declared.order.Key.{Key}
-use Rattle.qm_ready.specs.Rows.{Row, has_key, key_numbered}
 use Rattle.qm_sched.specs.Ready.{ready_key, without_number}
 use Rattle.qm_sched.proofs.Each.{one_done}
 use Rattle.qm_sched.proofs.RowLoops.{IsMade, forgotten_at}

@@ -1,4 +1,4 @@
-use Rattle.std.proofs.Common.{ℕ, Some, ap, sym, subst, ◌∙◌}
+use Rattle.std.proofs.Common.{ℕ, ap, sym, subst, ◌∙◌}
 use Rattle.qm_model.specs.Find.{entry_numbered}
 use Rattle.qm_sched.specs.Ready.{AreReadyBut}
 use Rattle.qm_sched.proofs.ReadyKeys.{number_found}

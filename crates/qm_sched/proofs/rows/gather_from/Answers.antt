@@ -1,4 +1,4 @@
-use Rattle.std.proofs.Common.{◌≡◌, ◌<◌, ◌≤◌, ◌+◌, ◌++◌, ◌∷◌, [], Bool, List, filter, get_or, length, map, ap, arith, sym, ◌∙◌}
+use Rattle.std.proofs.Common.{◌≡◌, ◌<◌, ◌≤◌, ◌++◌, ◌∷◌, [], Bool, List, filter, get_or, length, map, ap, arith, sym, ◌∙◌}
 use Rattle.std.proofs.lemmas.List.{length-append, length-map, get_or-map, take_all}
 use Rattle.qm_entries.specs.Boxed.{contents}
 use Rattle.qm_kinds.specs.declared.entry.Entry.{Entry}

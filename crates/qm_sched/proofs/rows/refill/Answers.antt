@@ -1,6 +1,5 @@
-use Rattle.std.proofs.Common.{List, filter, sym, subst, ◌∙◌, ap}
+use Rattle.std.proofs.Common.{sym, subst, ◌∙◌, ap}
 use Rattle.std.specs.Ordering.{nat_cmp}
-use Rattle.qm_match.specs.declared.order.Key.{Key}
 use Rattle.qm_model.specs.Consistent.{IsInOrder}
 use Rattle.qm_model.specs.Fitting.{fits}
 use Rattle.qm_model.specs.Folding.{no_system}

@@ -1,4 +1,4 @@
-use Rattle.std.proofs.Common.{◌+◌, ◌-◌, ◌<◌, ◌≤◌, Bool, true, false, cond, is_some, ℕ, ap, arith, length}
+use Rattle.std.proofs.Common.{◌+◌, ◌-◌, ◌≤◌, Bool, true, false, cond, is_some, ℕ, ap, arith, length}
 use Rattle.qm_model.specs.Find.{queue_named}
 use Rattle.qm_sched.specs.Tables.{Tables}
 use Rattle.qm_sched.proofs.KeptRows.{less_room, room_put}

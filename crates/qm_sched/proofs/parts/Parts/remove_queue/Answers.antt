@@ -1,4 +1,4 @@
-use Rattle.std.proofs.Common.{◌+◌, ◌-◌, ◌<◌, ◌≤◌, Bool, true, false, cond, is_some, ℕ, ap, arith, length}
+use Rattle.std.proofs.Common.{◌+◌, ◌≤◌, Bool, true, false, cond, is_some, ℕ, ap, arith, length}
 use Rattle.qm_model.specs.Find.{queue_named}
 use Rattle.qm_sched.specs.Tables.{Tables}
 use Rattle.qm_sched.proofs.KeptRows.{less_room, room_left}
@@ -15,8 +15,13 @@ no_less false room = omega arith
 pub refill_all-requires-clause-enough : goal.refill_all-requires-clause-enough
 refill_all-requires-clause-enough c =
     let t = c.self.inside.tables in
-    omega (arith, c.self.invariant.enough, ap (λ (u : Tables). length u.queues) c.remove_queue.ensures, room_left c.args.name.now t.queues c.self.inside.queue_room,
-        no_less (is_some (queue_named c.args.name.now t.queues)) c.self.inside.queue_room)
+    omega (
+      arith,
+      c.self.invariant.enough,
+      ap (λ (u : Tables). length u.queues) c.remove_queue.ensures,
+      room_left c.args.name.now t.queues c.self.inside.queue_room,
+      no_less (is_some (queue_named c.args.name.now t.queues)) c.self.inside.queue_room,
+    )
 
 pub invariant_of-self : goal.invariant_of-self
 invariant_of-self c =

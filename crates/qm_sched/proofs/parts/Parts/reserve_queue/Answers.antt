@@ -1,4 +1,4 @@
-use Rattle.std.proofs.Common.{◌+◌, ◌≤◌, ◌++◌, ◌∷◌, [], ap, arith, length, subst, sym, List}
+use Rattle.std.proofs.Common.{◌+◌, ◌≤◌, ◌∷◌, [], ap, arith, length, subst, sym, List}
 use Rattle.std.proofs.lemmas.List.{length-append, length-map}
 use Rattle.qm_kinds.specs.declared.entry.Entry.{Entry}
 use Rattle.qm_ready.specs.Rows.{Row}
