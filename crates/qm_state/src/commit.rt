@@ -6,9 +6,9 @@ ghost use Rattle.qm_state.specs.Preparing.{made, outcome_of, IsPrepared, IsReady
 
 use crate::image::Image;
 use crate::prepared::{Change, Prepared};
+use crate::settling::settle;
 use qm_kinds::{Act, Moment, Name, Reply, Seq};
 use qm_model::due_keeps_consistent;
-use qm_sched::settle;
 
 impl Image {
     /// Makes the change that was prepared, at its moment, starts the jobs that can start then, and says what was done. It

@@ -30,6 +30,7 @@ mod refused;
 mod room;
 mod rows;
 mod settings;
+mod settling;
 mod stopping;
 mod submit;
 mod view;

@@ -16,7 +16,7 @@ use crate::image::Image;
 use qm_forms::FormTable;
 use qm_kinds::{Entry, Queue, Seq, System};
 use qm_queues::QueueTable;
-use qm_sched::Parts;
+use qm_sched::{Parts, TableSet};
 use qm_spool::Spool;
 use qm_timers::Timers;
 use std::alloc::{AllocError, Global};
@@ -53,9 +53,9 @@ fn copy_queues(alloc: Global, queues: &[Queue]) -> Result<Vec<Queue>, AllocError
 }
 
 // The tables of a system without its entries.
-fn tables_of(alloc: Global, system: &System) -> Result<Parts, AllocError>
+fn tables_of(alloc: Global, system: &System) -> Result<TableSet, AllocError>
     requires { IsConsistent system.now }
-    ensures tables { IfOk result (λ parts. with_tables system.now parts ≡ record system.now { entries = [] }) }
+    ensures tables { IfOk result (λ tables. with_tables system.now tables ≡ record system.now { entries = [] }) }
 {
     let nodes = Seq::of(Vec::from_slice(alloc, system.nodes.as_slice())?);
     let forms = FormTable::of(
@@ -64,12 +64,12 @@ fn tables_of(alloc: Global, system: &System) -> Result<Parts, AllocError>
         system.characteristics.as_slice(),
     )?;
     let queues = QueueTable::of(copy_queues(alloc, system.queues.as_slice())?);
-    Ok(Parts::new(alloc, nodes, forms, queues, system.next_run))
+    Ok(TableSet::new(alloc, nodes, forms, queues, system.next_run))
 }
 
 // Puts one entry more into tables, with the timer that it wants, and counts that it names its file.
 fn restore_one(
-    parts: &mut Parts,
+    parts: &mut TableSet,
     spool: &mut Spool,
     timers: &mut Timers,
     entry: &Entry,
@@ -95,7 +95,7 @@ fn restore_one(
 
 // Puts the entries of a system into its tables, with the timers that they want, and counts which files they name.
 fn restore_entries(
-    parts: &mut Parts,
+    parts: &mut TableSet,
     spool: &mut Spool,
     timers: &mut Timers,
     system: &System,
@@ -130,11 +130,12 @@ impl Image {
         requires { IsConsistent system.now }
         ensures { IfOk result (λ image. system_of image ≡ system.now) }
     {
-        let mut parts = tables_of(alloc, system)?;
+        let mut tables = tables_of(alloc, system)?;
         let mut spool = Spool::from_files(alloc, system.files.as_slice())?;
         let may = Seq::of(Vec::from_slice(alloc, system.may.as_slice())?);
         let mut timers = Timers::new(alloc);
-        restore_entries(&mut parts, &mut spool, &mut timers, system)?;
+        restore_entries(&mut tables, &mut spool, &mut timers, system)?;
+        let parts = Parts::of(alloc, tables)?;
         Ok(Image {
             alloc,
             parts,

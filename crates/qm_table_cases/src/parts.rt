@@ -3,19 +3,20 @@ use crate::rows::{job, queue};
 use qm_forms::FormTable;
 use qm_kinds::{Characteristic, Fate, QueueState, Seq, batch_queue, system_user};
 use qm_queues::QueueTable;
-use qm_sched::Parts;
+use qm_sched::{Parts, TableSet};
 use std::alloc::{AllocError, Global};
 use std::test::Fail;
 
 // A characteristic, a queue, and a job that runs in it as run 1.
 fn with_a_run(alloc: Global) -> Result<Parts, AllocError> {
-    let mut parts = Parts::new(
+    let tables = TableSet::new(
         alloc,
         Seq::new(alloc),
         FormTable::new(alloc),
         QueueTable::new(alloc),
         1,
     );
+    let mut parts = Parts::of(alloc, tables)?;
     parts.reserve_characteristic()?;
     parts.define_characteristic(Characteristic {
         name: batch_queue(),

@@ -1,21 +1,39 @@
 // Jobs that start.
+ghost use Rattle.std.specs.Prelude.{◌≡◌, ◌<◌};
+
 use crate::rows::{job, queue};
 use qm_forms::FormTable;
 use qm_kinds::{Node, Seq, Start, batch_queue, system_user};
 use qm_queues::QueueTable;
-use qm_sched::{Parts, settle, starts_are_few};
+use qm_ready::Steps;
+use qm_sched::{Parts, TableSet, settle, starts_are_few};
 use std::alloc::{AllocError, Global};
+use std::marker::Brand;
+use std::sync::ledger::{Blank, Ledger};
 use std::test::Fail;
 
-// Takes memory for all the starts that there can be, and settles.
-fn settle_all(alloc: Global, parts: &mut Parts) -> Result<Vec<Start>, AllocError> {
+// Takes memory for all the starts that there can be, and settles, by steps of a ledger.
+fn settle_by<L: Ledger>(
+    alloc: Global,
+    parts: &mut Parts,
+    blank: Blank,
+) -> Result<Vec<Start>, AllocError>
+    requires name { blank.name ≡ L.name }
+    requires parts { blank.parts ≡ L.parts }
+    requires some { 0 < blank.parts }
+{
     let count = parts.entry_count();
     parts.reserve_runs(count)?;
     let mut out = Vec::new(alloc);
     out.reserve(count)?;
     starts_are_few();
-    settle(parts, &mut out);
+    settle(parts, &mut out, &mut Steps::<L>::open(blank));
     Ok(out)
+}
+
+// The same. Nobody counts the looks.
+fn settle_all(alloc: Global, parts: &mut Parts) -> Result<Vec<Start>, AllocError> {
+    settle_by::<Brand>(alloc, parts, Blank::new(1))
 }
 
 // A queue with places for two jobs, and three jobs. The next run is 7.
@@ -27,13 +45,14 @@ fn with_jobs(alloc: Global) -> Result<Parts, AllocError> {
             up: true
         },
     ]?);
-    let mut parts = Parts::new(
+    let tables = TableSet::new(
         alloc,
         nodes,
         FormTable::new(alloc),
         QueueTable::new(alloc),
         7,
     );
+    let mut parts = Parts::of(alloc, tables)?;
     parts.reserve_queue()?;
     parts.put_queue(queue(alloc, batch_queue()));
     parts.reserve_entry()?;
