@@ -5,3 +5,4 @@ pub mod Searches
 pub mod Sorted
 pub mod Determined
 pub mod Jobs
+pub mod Tiered

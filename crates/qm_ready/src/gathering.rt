@@ -1,12 +1,10 @@
 // Keys that are to become a row.
 ghost use Rattle.std.specs.Prelude.{◌≡◌, ℕ, ◌+◌, ◌-◌, ◌<◌, ◌≤◌, ◌++◌, ◌∷◌, [], length};
-ghost use Rattle.std.specs.VecDeque.{deque_capacity};
 ghost use Rattle.qm_ready.specs.Rows.{HasNumbersOnce, IsRow, key_numbered};
 
 use crate::row::ReadyRow;
-use crate::sorting::sort;
+use crate::tiers::Tiers;
 use qm_match::{Key, Schedule};
-use std::collections::VecDeque;
 use std::marker::Model;
 
 /// Keys in any order, that are to become a row. Contracts see a `Row`: how its queue chooses, the keys as they came, and how many
@@ -14,27 +12,26 @@ use std::marker::Model;
 #[derive(Drop)]
 pub struct Gathering {
     schedule: Schedule,
-    keys: VecDeque<Key>,
+    keys: Tiers,
     spare: usize,
 }
 
 impl Model for Gathering {
     ghost use Rattle.std.specs.Prelude.{◌+◌, ◌≤◌, length};
-    ghost use Rattle.std.specs.VecDeque.{deque_capacity};
     ghost use Rattle.qm_ready.specs.Rows.{Row};
 
     ghost Value = { Row };
 
-    ghost view = { λ g. record { schedule = g.schedule; keys = g.keys.items; spare = g.spare } };
+    ghost view = { λ g. record { schedule = g.schedule; keys = g.keys.list; spare = g.spare } };
 
-    ghost invariant = { λ g. length g.keys.items + g.spare ≤ deque_capacity g.keys };
+    ghost invariant = { λ g. length g.keys.list + g.spare ≤ g.keys.capacity };
 }
 
 impl Gathering {
     // No key, in the room of others.
-    pub(crate) fn over(keys: VecDeque<Key>, spare: usize, schedule: Schedule) -> Gathering
-        requires { length keys.items + spare ≤ deque_capacity keys }
-        ensures { result ≡ record { schedule = schedule; keys = []; spare = spare + length keys.items } }
+    pub(crate) fn over(keys: Tiers, spare: usize, schedule: Schedule) -> Gathering
+        requires { length keys.list + spare ≤ keys.capacity }
+        ensures { result ≡ record { schedule = schedule; keys = []; spare = spare + length keys.list } }
     {
         let mut keys = keys;
         let spare = spare + keys.len();
@@ -51,7 +48,7 @@ impl Gathering {
         requires { 0 < self.old.spare }
         ensures { self.new ≡ record self.old { keys = self.old.keys ++ key ∷ []; spare = self.old.spare - 1 } }
     {
-        self.keys.push_back_reserved(key);
+        self.keys.insert(self.keys.len(), key);
         self.spare -= 1;
     }
 
@@ -70,7 +67,7 @@ impl Gathering {
             spare,
         } = self;
         let mut keys = keys;
-        sort(&mut keys, schedule);
+        keys.sort(schedule);
         ReadyRow {
             schedule,
             keys,

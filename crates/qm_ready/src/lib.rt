@@ -4,10 +4,12 @@
 
 mod gathering;
 mod laws;
+mod moves;
 mod places;
 mod row;
 mod sorting;
 mod steps;
+mod tiers;
 
 pub use gathering::Gathering;
 pub use laws::{keys_are_no_more, numbers_determine_the_row, the_first_key_is_the_next_job};

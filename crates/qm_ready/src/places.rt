@@ -1,19 +1,41 @@
 // Where keys stand, or belong.
-ghost use Rattle.std.specs.Prelude.{◌≡◌, ◌≤◌, ◌<◌, ◌+◌, false, insert, remove, slice_get};
+ghost use Rattle.std.specs.Prelude.{◌≡◌, ◌<◌, false, length, slice_get, slice_index_or};
 ghost use Rattle.std.specs.Option.{option_map_or};
-ghost use Rattle.std.specs.VecDeque.{deque_len, deque_capacity};
+ghost use Rattle.qm_match.specs.declared.order.Key.{Key};
+ghost use Rattle.qm_match.specs.Keys.{comes_before};
 ghost use Rattle.qm_ready.specs.Rows.{IsRow, is_key};
 ghost use Rattle.qm_ready.specs.Kept.{IsPlaceOf};
 
+use crate::tiers::Tiers;
 use qm_match::{Key, Schedule, before};
-use std::collections::VecDeque;
+
+// Whether the key at a place comes before another one.
+fn is_before_at(keys: &Tiers, schedule: Schedule, key: &Key, place: usize) -> bool
+    requires { place < length keys.now.list }
+    ensures { (d : Key) → result ≡ comes_before schedule (slice_index_or keys.now.list place d) key.now }
+{
+    match keys.get(place) {
+        None => false,
+        Some(other) => before(schedule, other, key),
+    }
+}
 
 /// How many keys of a row come before this one. It asks a logarithm of the keys.
-pub(crate) fn place_of(keys: &VecDeque<Key>, schedule: Schedule, key: &Key) -> usize
-    requires { IsRow schedule keys.now.items }
-    ensures { IsPlaceOf schedule key.now keys.now.items result }
+pub(crate) fn place_of(keys: &Tiers, schedule: Schedule, key: &Key) -> usize
+    requires { IsRow schedule keys.now.list }
+    ensures { IsPlaceOf schedule key.now keys.now.list result }
 {
-    keys.partition_point(|other| before(schedule, other, key))
+    let mut low = 0;
+    let mut high = keys.len();
+    while low < high {
+        let middle = low + (high - low) / 2;
+        if is_before_at(keys, schedule, key, middle) {
+            low = middle + 1;
+        } else {
+            high = middle;
+        }
+    }
+    low
 }
 
 // Whether both are the same key.
@@ -24,36 +46,11 @@ fn is_key(key: &Key, other: &Key) -> bool
 }
 
 /// Whether just this key stands at a place.
-pub(crate) fn stands_at(keys: &VecDeque<Key>, place: usize, key: &Key) -> bool
-    ensures { result ≡ option_map_or (is_key key.now) (slice_get keys.now.items place) false }
+pub(crate) fn stands_at(keys: &Tiers, place: usize, key: &Key) -> bool
+    ensures { result ≡ option_map_or (is_key key.now) (slice_get keys.now.list place) false }
 {
     match keys.get(place) {
         None => false,
         Some(other) => is_key(key, other),
     }
-}
-
-/// Puts a key in at a place. There is room, so it takes no memory. It moves the keys on the shorter side of the place.
-pub(crate) fn put(keys: &mut VecDeque<Key>, place: usize, key: Key)
-    requires within { place ≤ deque_len keys.old }
-    requires room { deque_len keys.old < deque_capacity keys.old }
-    ensures items { keys.new.items ≡ insert keys.old.items place key }
-    ensures len { deque_len keys.new ≡ deque_len keys.old + 1 }
-    ensures capacity { deque_capacity keys.old ≤ deque_capacity keys.new }
-{
-    let Ok(()) = keys.insert(place, key) else {
-        unreachable!()
-    };
-}
-
-/// Takes out the key at a place. It moves the keys on the shorter side of the place.
-pub(crate) fn take_out(keys: &mut VecDeque<Key>, place: usize)
-    requires { place < deque_len keys.old }
-    ensures items { keys.new.items ≡ remove keys.old.items place }
-    ensures len { deque_len keys.new + 1 ≡ deque_len keys.old }
-    ensures capacity { deque_capacity keys.new ≡ deque_capacity keys.old }
-{
-    let Some(_) = keys.remove(place) else {
-        unreachable!()
-    };
 }

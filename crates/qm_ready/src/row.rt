@@ -5,46 +5,44 @@ ghost use Rattle.qm_match.specs.Keys.{comes_before};
 ghost use Rattle.qm_ready.specs.Rows.{IsRow, first_key, first_number, has_key, key_numbered, with_key, without};
 
 use crate::gathering::Gathering;
-use crate::places::{place_of, put, stands_at, take_out};
-use crate::sorting::sort;
+use crate::places::{place_of, stands_at};
 use crate::steps::Steps;
+use crate::tiers::Tiers;
 use qm_match::{Key, Schedule};
 use std::alloc::{AllocError, Global};
-use std::collections::VecDeque;
 use std::marker::Model;
 use std::sync::ledger::Ledger;
 
 /// The keys of the jobs that a queue can take. Contracts see a `Row`: how the queue chooses, the keys in the order of starts,
 /// and how many more have room.
 ///
-/// Only `reserve` takes memory. A key takes 12 bytes. An insertion and a removal ask a logarithm of the keys, and move those
-/// on the shorter side of the place: so the first job goes, and the last one comes, with few moves.
+/// Only `reserve` takes memory: 12 bytes a key. An insertion and a removal ask a logarithm of the keys, and make steps in
+/// proportion to a square root of them (`Tiers`), wherever the key stands.
 #[derive(Drop)]
 pub struct ReadyRow {
     pub(crate) schedule: Schedule,
-    pub(crate) keys: VecDeque<Key>,
+    pub(crate) keys: Tiers,
     pub(crate) spare: usize,
 }
 
 impl Model for ReadyRow {
-    ghost use Rattle.std.specs.VecDeque.{deque_capacity};
     ghost use Rattle.qm_ready.specs.Rows.{Row};
     ghost use Rattle.qm_ready.specs.Kept.{IsKept};
 
     ghost Value = { Row };
 
-    ghost view = { λ r. record { schedule = r.schedule; keys = r.keys.items; spare = r.spare } };
+    ghost view = { λ r. record { schedule = r.schedule; keys = r.keys.list; spare = r.spare } };
 
-    ghost invariant = { λ r. IsKept r.schedule r.keys.items r.spare (deque_capacity r.keys) };
+    ghost invariant = { λ r. IsKept r.schedule r.keys.list r.spare r.keys.capacity };
 }
 
 // The key in front, by one look.
-fn look<'a, L: Ledger>(keys: &'a VecDeque<Key>, steps: &mut Steps<L>) -> Option<&'a Key>
-    ensures first { option_copied result ≡ first_key keys.now.items }
+fn look<'a, L: Ledger>(keys: &'a Tiers, steps: &mut Steps<L>) -> Option<&'a Key>
+    ensures first { option_copied result ≡ first_key keys.now.list }
     ensures looks { steps.new ≡ steps.old + 1 }
 {
     steps.take();
-    keys.front()
+    keys.get(0)
 }
 
 impl ReadyRow {
@@ -54,7 +52,7 @@ impl ReadyRow {
     {
         ReadyRow {
             schedule,
-            keys: VecDeque::new(alloc),
+            keys: Tiers::new(alloc),
             spare: 0,
         }
     }
@@ -74,7 +72,7 @@ impl ReadyRow {
         }
         let all = self.keys.len().saturating_add(count);
         let more = count.saturating_add(all / 8);
-        self.keys.reserve_exact(more)?;
+        self.keys.reserve(more)?;
         self.spare = self.keys.capacity() - self.keys.len();
         Ok(())
     }
@@ -94,7 +92,7 @@ impl ReadyRow {
         ensures in_order { IsRow self.new.schedule self.new.keys }
     {
         let place = place_of(&self.keys, self.schedule, &key);
-        put(&mut self.keys, place, key);
+        self.keys.insert(place, key);
         self.spare -= 1;
     }
 
@@ -115,7 +113,7 @@ impl ReadyRow {
         if !stands_at(&self.keys, place, key) {
             return false;
         }
-        take_out(&mut self.keys, place);
+        self.keys.remove(place);
         self.spare += 1;
         true
     }
@@ -141,7 +139,7 @@ impl ReadyRow {
         ensures spare { self.new.spare ≡ self.old.spare }
         ensures in_order { IsRow self.new.schedule self.new.keys }
     {
-        sort(&mut self.keys, schedule);
+        self.keys.sort(schedule);
         self.schedule = schedule;
     }
 

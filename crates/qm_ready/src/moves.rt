@@ -1,0 +1,215 @@
+// How a key goes through the tiers of a list, for another one that goes on.
+ghost use Rattle.std.specs.Prelude.{◌≡◌, ◌+◌, ◌*◌, ◌/◌, ◌<◌, ◌≤◌, length, All, insert, slice_set, slice_index, slice_index_or, vec_len, vec_capacity};
+ghost use Rattle.qm_match.specs.declared.order.Key.{Key};
+ghost use Rattle.qm_ready.specs.Tiers.{IsInFront, IsInRing, IsSlot, IsTiered, laid};
+ghost use Rattle.qm_ready.specs.declared.moves.TheConstants.{TIER};
+
+use qm_match::Key;
+use std::mem;
+
+/// How many keys a full tier has. At most so many steps are made in one tier, and one in each of the others: few in both
+/// where a row has as many keys as a site has entries.
+pub(crate) const TIER: usize = 512;
+
+// A place in a ring, from its head.
+fn in_ring(head: usize, offset: usize) -> usize
+    requires head { head < TIER }
+    requires offset { offset < TIER }
+    ensures { IsInRing TIER head offset result }
+{
+    let place = head + offset;
+    if place < TIER { place } else { place - TIER }
+}
+
+// The place of a ring in front of its head.
+fn in_front(head: usize) -> usize
+    requires { head < TIER }
+    ensures { IsInFront TIER head result }
+{
+    if head == 0 { TIER - 1 } else { head - 1 }
+}
+
+// The head in front of which a place of a ring is.
+fn behind(place: usize) -> usize
+    requires { place < TIER }
+    ensures within { result < TIER }
+    ensures front { IsInFront TIER result place }
+{
+    if place + 1 == TIER { 0 } else { place + 1 }
+}
+
+/// Where the key of a place in a full tier is kept.
+pub(crate) fn slot_of(keys: &[Key], heads: &[usize], place: usize) -> usize
+    requires tiered { IsTiered TIER heads.now keys.now }
+    requires within { place < length heads.now * TIER }
+    ensures { IsSlot Key TIER heads.now place result }
+{
+    let tier = place / TIER;
+    tier * TIER + in_ring(heads[tier], place % TIER)
+}
+
+// Puts a key in the place of another one, and gives that.
+fn exchange(keys: &mut Vec<Key>, slot: usize, key: Key) -> Key
+    requires { slot < vec_len keys.old }
+    ensures out { (d : Key) → result ≡ slice_index_or keys.old.items slot d }
+    ensures items { keys.new.items ≡ slice_set keys.old.items slot key }
+    ensures len { vec_len keys.new ≡ vec_len keys.old }
+    ensures capacity { vec_capacity keys.new ≡ vec_capacity keys.old }
+{
+    mem::replace(&mut keys[slot], key)
+}
+
+// A key comes into its place, those behind it in its tier move on by one, and the last one goes.
+fn push_through(keys: &mut Vec<Key>, heads: &[usize], place: usize, key: Key) -> Key
+    requires tiered { IsTiered TIER heads.now keys.old.items }
+    requires within { place < length heads.now * TIER }
+    ensures moved { insert (laid TIER heads.now keys.new.items) ((place / TIER + 1) * TIER) result
+        ≡ insert (laid TIER heads.now keys.old.items) place key }
+    ensures len { length keys.new.items ≡ length keys.old.items }
+    ensures capacity { vec_capacity keys.new ≡ vec_capacity keys.old }
+{
+    let end = (place / TIER + 1) * TIER;
+    let mut carry = key;
+    let mut at = place;
+    while at < end {
+        let slot = slot_of(keys, heads, at);
+        carry = exchange(keys, slot, carry);
+        at += 1;
+    }
+    carry
+}
+
+// A key comes behind a tier, those from a place on move back by one, and the one of the place goes.
+fn pull_back(keys: &mut Vec<Key>, heads: &[usize], place: usize, key: Key) -> Key
+    requires tiered { IsTiered TIER heads.now keys.old.items }
+    requires within { place < length heads.now * TIER }
+    ensures moved { insert (laid TIER heads.now keys.new.items) place result
+        ≡ insert (laid TIER heads.now keys.old.items) ((place / TIER + 1) * TIER) key }
+    ensures len { length keys.new.items ≡ length keys.old.items }
+    ensures capacity { vec_capacity keys.new ≡ vec_capacity keys.old }
+{
+    let mut at = (place / TIER + 1) * TIER;
+    let mut carry = key;
+    while place < at {
+        at -= 1;
+        let slot = slot_of(keys, heads, at);
+        carry = exchange(keys, slot, carry);
+    }
+    carry
+}
+
+// The head of a tier.
+fn head_of(heads: &Vec<usize>, tier: usize) -> usize
+    requires { tier < length heads.now.items }
+    ensures { result ≡ slice_index heads.now.items tier }
+{
+    heads[tier]
+}
+
+// A key comes in front of a tier, and the last one of the tier goes.
+fn turn_on(keys: &mut Vec<Key>, heads: &mut Vec<usize>, tier: usize, key: Key) -> Key
+    requires tiered { IsTiered TIER heads.old.items keys.old.items }
+    requires within { tier < length heads.old.items }
+    ensures moved { insert (laid TIER heads.new.items keys.new.items) (tier * TIER + TIER) result
+        ≡ insert (laid TIER heads.old.items keys.old.items) (tier * TIER) key }
+    ensures tiered { IsTiered TIER heads.new.items keys.new.items }
+    ensures tiers { length heads.new.items ≡ length heads.old.items }
+    ensures len { length keys.new.items ≡ length keys.old.items }
+    ensures capacity { vec_capacity keys.new ≡ vec_capacity keys.old }
+    ensures heads_capacity { vec_capacity heads.new ≡ vec_capacity heads.old }
+{
+    let head = in_front(head_of(heads, tier));
+    heads[tier] = head;
+    exchange(keys, tier * TIER + head, key)
+}
+
+// A key comes behind a tier, and the first one of the tier goes.
+fn turn_back(keys: &mut Vec<Key>, heads: &mut Vec<usize>, tier: usize, key: Key) -> Key
+    requires tiered { IsTiered TIER heads.old.items keys.old.items }
+    requires within { tier < length heads.old.items }
+    ensures moved { insert (laid TIER heads.new.items keys.new.items) (tier * TIER) result
+        ≡ insert (laid TIER heads.old.items keys.old.items) (tier * TIER + TIER) key }
+    ensures tiered { IsTiered TIER heads.new.items keys.new.items }
+    ensures tiers { length heads.new.items ≡ length heads.old.items }
+    ensures len { length keys.new.items ≡ length keys.old.items }
+    ensures capacity { vec_capacity keys.new ≡ vec_capacity keys.old }
+    ensures heads_capacity { vec_capacity heads.new ≡ vec_capacity heads.old }
+{
+    let head = head_of(heads, tier);
+    heads[tier] = behind(head);
+    exchange(keys, tier * TIER + head, key)
+}
+
+// A key comes in front of a tier, and the last one of all full tiers goes.
+fn ripple_on(keys: &mut Vec<Key>, heads: &mut Vec<usize>, from: usize, key: Key) -> Key
+    requires tiered { IsTiered TIER heads.old.items keys.old.items }
+    requires within { from ≤ length heads.old.items }
+    ensures moved { insert (laid TIER heads.new.items keys.new.items) (length heads.new.items * TIER) result
+        ≡ insert (laid TIER heads.old.items keys.old.items) (from * TIER) key }
+    ensures tiered { IsTiered TIER heads.new.items keys.new.items }
+    ensures tiers { length heads.new.items ≡ length heads.old.items }
+    ensures len { length keys.new.items ≡ length keys.old.items }
+    ensures capacity { vec_capacity keys.new ≡ vec_capacity keys.old }
+    ensures heads_capacity { vec_capacity heads.new ≡ vec_capacity heads.old }
+{
+    let mut carry = key;
+    let mut tier = from;
+    while tier < heads.len() {
+        carry = turn_on(keys, heads, tier, carry);
+        tier += 1;
+    }
+    carry
+}
+
+// A key comes behind all full tiers, and the first one of those from a tier on goes.
+fn ripple_back(keys: &mut Vec<Key>, heads: &mut Vec<usize>, to: usize, key: Key) -> Key
+    requires tiered { IsTiered TIER heads.old.items keys.old.items }
+    requires within { to ≤ length heads.old.items }
+    ensures moved { insert (laid TIER heads.new.items keys.new.items) (to * TIER) result
+        ≡ insert (laid TIER heads.old.items keys.old.items) (length heads.old.items * TIER) key }
+    ensures tiered { IsTiered TIER heads.new.items keys.new.items }
+    ensures tiers { length heads.new.items ≡ length heads.old.items }
+    ensures len { length keys.new.items ≡ length keys.old.items }
+    ensures capacity { vec_capacity keys.new ≡ vec_capacity keys.old }
+    ensures heads_capacity { vec_capacity heads.new ≡ vec_capacity heads.old }
+{
+    let mut carry = key;
+    let mut tier = heads.len();
+    while to < tier {
+        tier -= 1;
+        carry = turn_back(keys, heads, tier, carry);
+    }
+    carry
+}
+
+/// A key comes into its place in a full tier, and the last one of all full tiers goes.
+pub(crate) fn make_way(keys: &mut Vec<Key>, heads: &mut Vec<usize>, place: usize, key: Key) -> Key
+    requires tiered { IsTiered TIER heads.old.items keys.old.items }
+    requires within { place < length heads.old.items * TIER }
+    ensures moved { insert (laid TIER heads.new.items keys.new.items) (length heads.new.items * TIER) result
+        ≡ insert (laid TIER heads.old.items keys.old.items) place key }
+    ensures tiered { IsTiered TIER heads.new.items keys.new.items }
+    ensures tiers { length heads.new.items ≡ length heads.old.items }
+    ensures len { length keys.new.items ≡ length keys.old.items }
+    ensures capacity { vec_capacity keys.new ≡ vec_capacity keys.old }
+    ensures heads_capacity { vec_capacity heads.new ≡ vec_capacity heads.old }
+{
+    let carry = push_through(keys, heads, place, key);
+    ripple_on(keys, heads, place / TIER + 1, carry)
+}
+
+/// A key comes behind all full tiers, and the one of a place in them goes.
+pub(crate) fn close_up(keys: &mut Vec<Key>, heads: &mut Vec<usize>, place: usize, key: Key) -> Key
+    requires tiered { IsTiered TIER heads.old.items keys.old.items }
+    requires within { place < length heads.old.items * TIER }
+    ensures moved { insert (laid TIER heads.new.items keys.new.items) place result
+        ≡ insert (laid TIER heads.old.items keys.old.items) (length heads.old.items * TIER) key }
+    ensures tiered { IsTiered TIER heads.new.items keys.new.items }
+    ensures tiers { length heads.new.items ≡ length heads.old.items }
+    ensures len { length keys.new.items ≡ length keys.old.items }
+    ensures capacity { vec_capacity keys.new ≡ vec_capacity keys.old }
+    ensures heads_capacity { vec_capacity heads.new ≡ vec_capacity heads.old }
+{
+    let carry = ripple_back(keys, heads, place / TIER + 1, key);
+    pull_back(keys, heads, place, carry)
+}
