@@ -21,7 +21,8 @@ pub record KeptRun : Type 0 where
   pub place : Place
   pub fetched : ℕ
 
--- the runs that a node keeps, the numbers of those that may step, the next one first, and how many steps a STEP line still allows
+-- the runs that a node keeps, the numbers of those that may step, the next one first, and how many steps are left to a STEP
+-- line
 pub record KeptRuns : Type 0 where
   pub runs : List KeptRun
   pub round : List ℕ
@@ -43,7 +44,8 @@ run_kept run runs = find (λ (k : KeptRun). k.run == run) runs
 abbrev pub kept_of : ℕ → List KeptRun → Duty → Option Work → Option KeptRun
 kept_of fetch runs d (Some work) =
     Some (record { run = d.run; aborting = d.aborting; paused = d.paused; work = work; place = begin work; fetched = fetch })
-kept_of fetch runs d None = option_map (λ (k : KeptRun). record k { aborting = d.aborting; paused = d.paused }) (run_kept d.run runs)
+kept_of fetch runs d None =
+    option_map (λ (k : KeptRun). record k { aborting = d.aborting; paused = d.paused }) (run_kept d.run runs)
 
 -- the runs that are kept behind a fetch: those that it shows
 abbrev pub kept_after : ℕ → List KeptRun → List Duty → List KeptRun
@@ -125,4 +127,5 @@ kept_behind kept stepped others told goes_on =
 
 -- behind a step of the next run, and behind its report
 abbrev pub behind_next : KeptRuns → Report → Bool → KeptRuns
-behind_next kept told goes_on = option_map_or (λ (k : KeptRun). kept_behind kept k (drop 1 kept.round) told goes_on) (next_kept kept) kept
+behind_next kept told goes_on =
+    option_map_or (λ (k : KeptRun). kept_behind kept k (drop 1 kept.round) told goes_on) (next_kept kept) kept

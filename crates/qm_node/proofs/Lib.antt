@@ -2,3 +2,4 @@ pub mod Rows
 pub mod Rounds
 pub mod Stepped
 pub mod Fetched
+pub mod Learning

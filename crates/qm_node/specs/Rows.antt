@@ -50,7 +50,9 @@ StandOnce [] = Unit {0}
 StandOnce (run ∷ others) = AllByRecursion (λ (other : ℕ). (other == run) ≡ false) others × StandOnce others
 
 -- runs by number, each sound; those of the round are among them, each once; and a step was made only where one could step
-pub record AreHeld {C : Type 0} (stands : Work → Place → C → Type 0) (rows : List (Row C)) (round : List ℕ) (made : Option Report) : Type 0 where
+pub record AreHeld {C : Type 0} (stands : Work → Place → C → Type 0) (rows : List (Row C)) (round : List ℕ) (made : Option Report)
+    : Type 0
+  where
   pub order : IsInOrder nat_cmp (λ (row : Row C). row.run) rows
   pub each : All (IsSound stands made round) rows
   pub kept : AllByRecursion (λ (run : ℕ). IsSome (run_kept run (all_bare rows))) round

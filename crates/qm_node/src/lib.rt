@@ -2,8 +2,10 @@
 //! its symbiont or cut short without it, and forgets each whose report doesn't go on. It makes no turn itself.
 #![tactic(auto)]
 
+mod laws;
 mod row;
 mod runs;
 
+pub use laws::duties_can_be_learned;
 pub use row::ABORTED_STATUS;
 pub use runs::NodeRuns;
