@@ -1,19 +1,21 @@
 -- The rows of tables in which one entry changed.
 use Rattle.std.proofs.Common.{◌≡◌, ◌∙◌, ℕ, ◌<◌, ◌≤◌, ◌==◌, Bool, true, false, cond, not, List, [], ◌∷◌, ◌++◌, length, map, None, Some, refl, sym, ap, arith}
 use Rattle.std.specs.List.{All}
+use Rattle.std.specs.Option.{option_and_then}
 use Rattle.qm_kinds.specs.declared.entry.Entry.{Entry}
 use Rattle.qm_kinds.specs.declared.entry.EntryState.TheVariants.{Running}
 use Rattle.qm_kinds.specs.declared.entry.Fate.{Fate}
 use Rattle.qm_kinds.specs.declared.queue.Queue.{Queue}
 use Rattle.qm_entries.proofs.Outcomes.{flat_gone}
 use Rattle.qm_model.specs.Find.{entry_numbered}
+use Rattle.qm_model.specs.JobStates.{is_pending}
 use Rattle.qm_model.specs.Standing.{with_entry}
 use Rattle.qm_model.specs.Stopping.{with_fate, reset_in}
 use Rattle.qm_ready.specs.Rows.{Row}
-use Rattle.qm_sched.specs.Ready.{ready_key, without_number, AreReady, AreReadyBut}
+use Rattle.qm_sched.specs.Ready.{key_where_ready, ready_key, without_number, AreReady, AreReadyBut}
 use Rattle.qm_sched.specs.Tables.{Tables}
 use Rattle.qm_sched.proofs.KeptRows.{same_rows, filter_le}
-use Rattle.qm_sched.proofs.ReadyKeys.{ready_with_fate, ready_reset, ready_gone, ready_started, ready_replaced, ready_behind, none_ready, same_number}
+use Rattle.qm_sched.proofs.ReadyKeys.{ready_with_fate, ready_reset, ready_gone, ready_started, ready_replaced, ready_behind, none_ready, same_number, not_pending}
 
 module _ (t : Tables) (rows : List Row) where
   pub fate_rows : (n : ℕ) (fate : Fate) → AreReady t rows → AreReady (record t { entries = with_entry n (λ e. Some (with_fate fate e)) t.entries }) rows
@@ -36,6 +38,17 @@ module _ (t : Tables) (rows : List Row) where
 
   pub absent_too : (n : ℕ) → entry_numbered n t.entries ≡ None → AreReadyBut n t rows → AreReady t rows
   absent_too n none = same_rows (λ q. without_number n (ready_key t q)) (ready_key t) t.queues rows (λ q number. sym (but_none n none q number))
+
+  -- one that isn't pending is in none either
+  idle_none : (n : ℕ) (e : Entry) → entry_numbered n t.entries ≡ Some e → is_pending e.state ≡ false → (q : Queue) (number : ℕ) → ready_key t q number ≡ without_number n (ready_key t q) number
+  idle_none n e there idle q number = at_it (n == number) refl
+    where
+      at_it : (b : Bool) → (n == number) ≡ b → ready_key t q number ≡ cond b None (ready_key t q number)
+      at_it true same = ap (ready_key t q) (sym (same_number n number same)) ∙ ap (option_and_then (key_where_ready t q)) there ∙ not_pending t q e idle
+      at_it false same = refl
+
+  pub idle_but : (n : ℕ) (e : Entry) → entry_numbered n t.entries ≡ Some e → is_pending e.state ≡ false → AreReady t rows → AreReadyBut n t rows
+  idle_but n e there idle = same_rows (ready_key t) (λ q. without_number n (ready_key t q)) t.queues rows (idle_none n e there idle)
 
   -- an entry goes,
   pub gone_rows : (n runs : ℕ) → AreReadyBut n t rows → AreReady (record t { entries = with_entry n (λ e. None) t.entries; spare_runs = runs }) rows

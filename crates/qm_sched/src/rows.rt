@@ -6,6 +6,7 @@ ghost use Rattle.qm_kinds.specs.declared.queue.Queue.{Queue as AnyQueue};
 ghost use Rattle.qm_match.specs.Keys.{key_of};
 ghost use Rattle.qm_model.specs.Consistent.{IsInOrder};
 ghost use Rattle.qm_model.specs.Find.{name_cmp, entry_numbered};
+ghost use Rattle.qm_model.specs.JobStates.{is_pending};
 ghost use Rattle.qm_model.specs.Kinds.{is_generic};
 ghost use Rattle.qm_model.specs.Standing.{with_queue};
 ghost use Rattle.qm_model.specs.Fitting.{fits, is_open, stock_of};
@@ -19,7 +20,7 @@ use crate::fitting::{can_run, is_open, stock_of};
 use crate::running::see_order;
 use crate::tables::TableSet;
 use qm_keyed::place_of;
-use qm_kinds::{Entry, Name, Queue};
+use qm_kinds::{Entry, EntryState, Name, Queue};
 use qm_match::{Key, Schedule};
 use qm_ready::{Gathering, ReadyRow};
 use std::alloc::Global;
@@ -188,8 +189,29 @@ fn admit(tables: &TableSet, rows: &mut Vec<ReadyRow>, entry: &Entry)
     }
 }
 
+// Takes the key of a job out of the rows where it stands. One that waits for more than its start, or has a run, stands in none.
+fn forget_pending(tables: &TableSet, rows: &mut Vec<ReadyRow>, entry: &Entry)
+    requires ready { AreReady tables.now rows.old.items }
+    requires enough { length tables.now.queues ≤ length rows.old.items }
+    requires there { entry_numbered entry.now.number tables.now.entries ≡ Some entry.now }
+    ensures ready { AreReadyBut entry.now.number tables.now rows.new.items }
+    ensures count { length rows.new.items ≡ length rows.old.items }
+    ensures room { KeepsRoom rows.old.items rows.new.items }
+{
+    if is_pending(&entry.state) {
+        forget(tables, rows, entry);
+    }
+}
+
+// Whether a job waits for nothing but its start.
+fn is_pending(state: &EntryState) -> bool
+    ensures { result ≡ is_pending state.now }
+{
+    matches!(state, EntryState::Pending)
+}
+
 /// Takes the key of the job of a number out of the rows where it stands, if there is such a job. It asks a logarithm of the
-/// keys of each row.
+/// keys of each row, where the job waits for nothing but its start.
 pub(crate) fn forget_number(tables: &TableSet, rows: &mut Vec<ReadyRow>, number: u32)
     requires ready { AreReady tables.now rows.old.items }
     requires enough { length tables.now.queues ≤ length rows.old.items }
@@ -198,7 +220,7 @@ pub(crate) fn forget_number(tables: &TableSet, rows: &mut Vec<ReadyRow>, number:
     ensures room { KeepsRoom rows.old.items rows.new.items }
 {
     if let Some(entry) = tables.entry(number) {
-        forget(tables, rows, entry);
+        forget_pending(tables, rows, entry);
     }
 }
 

@@ -1,11 +1,16 @@
-ghost use Rattle.std.specs.Prelude.{◌≡◌, IfOk, Ok};
+ghost use Rattle.std.specs.Prelude.{◌≡◌, IfOk, IfSome, Ok, is_some};
+ghost use Rattle.std.specs.Option.{option_copied};
+ghost use Rattle.qm_match.specs.Keys.{schedule_of};
+ghost use Rattle.qm_model.specs.Find.{queue_named};
 ghost use Rattle.qm_model.specs.Listing.{IsOfOneEntry, rows_of};
+ghost use Rattle.qm_ready.specs.Jobs.{IsRowOf, fitting};
 ghost use Rattle.qm_state.specs.Image.{system_of};
 ghost use Rattle.qm_state.specs.Refusing.{Refuses};
 
 use crate::image::Image;
 use crate::refused::Refused;
-use qm_kinds::{Query, Refusal, Row};
+use qm_kinds::{Name, Query, Refusal, Row};
+use qm_ready::ReadyRow;
 
 impl Image {
     /// The rows that a query asks for. It is refused where the entry isn't there.
@@ -24,5 +29,16 @@ impl Image {
                 Ok(rows)
             }
         }
+    }
+
+    /// The row of the queue of a name, if there is such a queue: it has the keys of just the jobs that the queue can start as
+    /// soon as it has a place, in the order in which it takes them. It asks a logarithm of the queues.
+    #[tactic(auto, unfolding(crate::specs::Image::system_of))]
+    pub fn ready(&self, name: &Name) -> Option<&ReadyRow>
+        ensures found { is_some result ≡ is_some (queue_named name.now (system_of self.now).queues) }
+        ensures jobs { IfSome (option_copied result) (λ row. IfSome (queue_named name.now (system_of self.now).queues)
+            (λ q. IsRowOf (schedule_of q) (fitting (system_of self.now) q) row.keys)) }
+    {
+        self.parts.ready(name)
     }
 }

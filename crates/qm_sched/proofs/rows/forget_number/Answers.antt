@@ -5,15 +5,15 @@ use Rattle.qm_sched.proofs.ReadyKeys.{number_found}
 use Rattle.qm_sched.proofs.ReadyRows.{absent_but}
 use Rattle.qm_sched.proofs.rows.forget_number.Goals as goal
 
-pub forget-requires-clause-there : goal.forget-requires-clause-there
-forget-requires-clause-there c =
+pub forget_pending-requires-clause-there : goal.forget_pending-requires-clause-there
+forget_pending-requires-clause-there c =
     let found = sym c.in-Some.ensures.found in
     ap (λ (n : ℕ). entry_numbered n c.args.tables.now.entries) (number_found c.args.number c.in-Some.entry.now c.args.tables.now.entries found) ∙ found
 
 pub returns-in-Some-clause-ready : goal.returns-in-Some-clause-ready
 returns-in-Some-clause-ready c =
     let number = number_found c.args.number c.in-Some.entry.now c.args.tables.now.entries (sym c.in-Some.ensures.found) in
-    subst (λ (n : ℕ). AreReadyBut n c.args.tables.now c.forget.new.rows.items) number c.forget.ensures.ready
+    subst (λ (n : ℕ). AreReadyBut n c.args.tables.now c.forget_pending.new.rows.items) number c.forget_pending.ensures.ready
 
 pub returns-in_default-clause-ready : goal.returns-in_default-clause-ready
 returns-in_default-clause-ready c = absent_but c.args.tables.now c.args.rows.now.items c.args.number (sym c.in_default.ensures.found) c.requires.ready
