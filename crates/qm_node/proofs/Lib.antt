@@ -3,3 +3,4 @@ pub mod Rounds
 pub mod Stepped
 pub mod Fetched
 pub mod Learning
+pub mod Measure

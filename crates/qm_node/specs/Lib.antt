@@ -2,3 +2,4 @@ pub mod Held
 pub mod Duties
 pub mod Steps
 pub mod Rows
+pub mod Measure

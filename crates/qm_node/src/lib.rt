@@ -6,6 +6,6 @@ mod laws;
 mod row;
 mod runs;
 
-pub use laws::duties_can_be_learned;
+pub use laws::{duties_can_be_learned, steps_lower_the_reports_left};
 pub use row::ABORTED_STATUS;
 pub use runs::NodeRuns;
