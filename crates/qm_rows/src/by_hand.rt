@@ -94,7 +94,7 @@ pub(crate) const SUBMIT: Body = &[
 /// The passing of time.
 pub(crate) const TICK: Body = &[b"\x01\x14", AT_0, b"\x00"];
 
-/// An empty checkpoint of run 1, which no request reports so far.
+/// An empty checkpoint of run 1, which no request reports.
 pub(crate) const MARK: Body = &[
     b"\x01\x12",
     AT_0,

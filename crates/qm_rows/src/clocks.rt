@@ -1,6 +1,6 @@
 // Runs over a clock that goes on, and is set back.
 use crate::by_hand::{APPEND_AT_4, APPEND_AT_5, site_and};
-use crate::run::{call, clock, site};
+use crate::run::{call, clock, site, symbiont_with};
 use qm_io::{MemorySink, MemorySource};
 use qm_program::End;
 use std::test::Fail;
@@ -31,7 +31,10 @@ fn a_record_has_the_moment_at_which_its_request_acts(rt: HostRuntime) -> Result<
     let source = MemorySource::new(SCRIPT.to_vec(alloc)?, Vec::new(alloc));
     let sink = MemorySink::new(alloc, Vec::new(alloc));
     let clock = clock(alloc, &READINGS)?;
-    let (end, printed, disk) = call(alloc, &["run"], source, sink, site(&rt)?, clock)?;
+    let mut symbiont = symbiont_with(alloc, &[])?;
+    let site = site(&rt)?;
+    let (end, printed, disk) =
+        call(alloc, &["run"], source, sink, site, clock, &mut symbiont)?;
     assert_eq!(rt; end, End::Ok);
     assert_eq!(rt; printed.as_slice(), TRANSCRIPT);
     let file = site_and(alloc, &[APPEND_AT_4, APPEND_AT_5, APPEND_AT_5])?;

@@ -1,5 +1,5 @@
 //! Worked cases that are code, as tests on the top call over a disk in memory, and once over real files: limits, each end,
-//! what a later run finds, each call of the disk failing, and files that are none.
+//! what a later run finds, each call of the disk and of a device failing, and files that are none.
 #![tactic(auto)]
 
 #[cfg(test)]
@@ -10,6 +10,8 @@ mod by_hand;
 mod clocks;
 #[cfg(test)]
 mod damage;
+#[cfg(test)]
+mod devices;
 #[cfg(test)]
 mod ends;
 #[cfg(test)]

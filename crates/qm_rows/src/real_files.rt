@@ -1,6 +1,6 @@
 // Runs over real files.
 use crate::by_hand::{APPEND, Body, SUBMIT, site_and};
-use crate::run::{call, clock};
+use crate::run::{call, clock, symbiont_with};
 use qm_files::FileDisk;
 use qm_io::{MemorySink, MemorySource};
 use qm_program::End;
@@ -27,7 +27,9 @@ fn ran(rt: &HostRuntime, words: &[&str], script: &[u8]) -> Result<(End, Vec<u8>)
     let sink = MemorySink::new(alloc, Vec::new(alloc));
     let disk = files(rt.clone()?)?;
     let clock = clock(alloc, &[])?;
-    let (end, printed, disk) = call(alloc, words, source, sink, disk, clock)?;
+    let mut symbiont = symbiont_with(alloc, &[])?;
+    let (end, printed, disk) =
+        call(alloc, words, source, sink, disk, clock, &mut symbiont)?;
     disk.close();
     Ok((end, printed))
 }

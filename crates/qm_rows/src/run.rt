@@ -1,8 +1,10 @@
 // Runs of the program over memory.
+use qm_batch::Standard;
 use qm_disk::{Disk, MemoryDisk};
 use qm_io::{MemoryClock, MemorySink, MemorySource};
 use qm_kinds::Moment;
 use qm_program::{End, Outcome, qman};
+use qm_symb::MemoryDevice;
 use std::alloc::{AllocError, Global};
 use std::fmt::Debug;
 use std::process::Abort;
@@ -67,6 +69,15 @@ pub(crate) fn clock(alloc: Global, readings: &[u64]) -> Result<MemoryClock, Allo
     Ok(MemoryClock::new(moments))
 }
 
+/// What carries out runs over devices in memory, which fail at the calls that are listed, counted from 1.
+pub(crate) fn symbiont_with(
+    alloc: Global,
+    calls_that_fail: &[u64],
+) -> Result<Standard<MemoryDevice>, AllocError> {
+    let device = MemoryDevice::new(alloc, calls_that_fail.to_vec(alloc)?);
+    Ok(Standard::new(alloc, device))
+}
+
 /// Calls the program with these words: how it ended, what it printed, and the disk that it handed back.
 pub(crate) fn call<D: Disk + Drop>(
     alloc: Global,
@@ -75,12 +86,21 @@ pub(crate) fn call<D: Disk + Drop>(
     mut sink: MemorySink,
     disk: D,
     mut clock: MemoryClock,
+    symbiont: &mut Standard<MemoryDevice>,
 ) -> Result<(End, Vec<u8>, D), AllocError> {
     let mut owned = Vec::new(alloc);
     for word in words {
         owned.push(String::from_str(alloc, word)?)?;
     }
-    let Outcome { end, disk, .. } = qman(alloc, &owned, &mut source, &mut sink, disk, &mut clock);
+    let Outcome { end, disk, .. } = qman(
+        alloc,
+        &owned,
+        &mut source,
+        &mut sink,
+        disk,
+        &mut clock,
+        symbiont,
+    );
     Ok((end, sink.held().to_vec(alloc)?, disk))
 }
 
@@ -97,7 +117,9 @@ pub(crate) fn run_with(
     let source = MemorySource::new(script.to_vec(alloc)?, reads_that_fail.to_vec(alloc)?);
     let sink = MemorySink::new(alloc, writes_that_fail.to_vec(alloc)?);
     let clock = clock(alloc, &[])?;
-    let (end, transcript, disk) = call(alloc, words, source, sink, disk, clock)?;
+    let mut symbiont = symbiont_with(alloc, &[])?;
+    let (end, transcript, disk) =
+        call(alloc, words, source, sink, disk, clock, &mut symbiont)?;
     Ok(Ran {
         end,
         transcript,
@@ -127,4 +149,31 @@ pub(crate) fn site<R: Abort + AllocGlobal>(rt: &R) -> Result<MemoryDisk, Fail> {
 /// Serves a script over a new site of the node A.
 pub(crate) fn run<R: Abort + AllocGlobal>(rt: &R, script: &[u8]) -> Result<Ran, Fail> {
     Ok(serve(rt.alloc(), script, site(rt)?)?)
+}
+
+/// Serves a script over a new site of the node A, whose devices fail at the calls that are listed, counted from 1. Gives what
+/// they were handed too, block behind block.
+pub(crate) fn run_on<R: Abort + AllocGlobal>(
+    rt: &R,
+    script: &[u8],
+    calls_that_fail: &[u64],
+) -> Result<(Ran, Vec<u8>), Fail> {
+    let alloc = rt.alloc();
+    let source = MemorySource::new(script.to_vec(alloc)?, Vec::new(alloc));
+    let sink = MemorySink::new(alloc, Vec::new(alloc));
+    let clock = clock(alloc, &[])?;
+    let mut symbiont = symbiont_with(alloc, calls_that_fail)?;
+    let words = ["run"];
+    let (end, transcript, disk) =
+        call(alloc, &words, source, sink, site(rt)?, clock, &mut symbiont)?;
+    let mut handed = Vec::new(alloc);
+    for taken in symbiont.device().held() {
+        handed.extend_from_slice(taken.block.as_slice())?;
+    }
+    let ran = Ran {
+        end,
+        transcript,
+        disk,
+    };
+    Ok((ran, handed))
 }
