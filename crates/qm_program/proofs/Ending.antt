@@ -15,11 +15,14 @@ use Rattle.qm_manager.specs.Site.{Site, IsLawful, IsSite, IsSiteOf}
 use Rattle.qm_manager.proofs.Sites.{site_at_rest, site_not_damaged, site_kept}
 use Rattle.qm_manager.specs.Opened.{IsOpenFault}
 use Rattle.qm_manager.specs.Manager.{site_of, node_of, disk_of, IsReady}
-use Rattle.qm_program.specs.Transcript.{steps_of}
-use Rattle.qm_program.specs.Course.{Outside, AnswersLines, StopsWithin, ServesNothing}
+use Rattle.qm_program.specs.Transcript.{MoveAt, steps_of}
+use Rattle.qm_symb.specs.Device as symb
+use Rattle.qm_program.specs.Course.{Outside, MakesSteps, ServesAll, ServesTooMany, StopsWithin, ServesNothing, TouchesNothing}
 use Rattle.qm_program.specs.Running.{IsRead, Reads, OfScript, HasScript, IsFound, Serves, ServesTo, RunsTo, MakesTo, Makes, Does, OthersStay, Counts, IsFaulty, IsOfAnother, HasCause, IsWithoutFault, HasSoundScript}
-use Rattle.qm_program.specs.Serving.{CountsSink}
-use Rattle.qm_program.specs.Ends.{end_of, end_of_opening}
+use Rattle.qm_program.specs.Serving.{CountsSink, ServesSo}
+use Rattle.qm_program.specs.Ends.{end_of, end_of_opening, end_of_served}
+use Rattle.qm_program.specs.declared.course.Served.{Served}
+use Rattle.qm_program.specs.declared.course.Served.TheVariants as course
 use Rattle.qm_script.specs.declared.script.TheConstants.{SCRIPT_BYTES}
 use Rattle.qm_program.specs.declared.outcome.End.{End}
 use Rattle.qm_program.specs.declared.outcome.End.TheVariants as ends
@@ -51,12 +54,17 @@ module _ {D : Type 0} (m : Meaning D) where
       → ServesNothing m (record { disk = old; taken = taken; told = told }) (record { disk = new; taken = taken; told = told })
   looked_at old new taken told looks = record { disk = looks; taken = keeps_same taken; told = refl }
 
-  pub opening_serves : (lines : List ScriptLine) (old new : D) (taken told : Option (List ℕ)) (f : OpenFault) → (IsTrue m.tells → IsOpenFault (m.seen old 1) f) → OnlyLooks m old new
-      → ServesTo m lines (record { disk = old; taken = taken; told = told }) (record { disk = new; taken = taken; told = told }) (end_of_opening f)
-  opening_serves lines old new taken told opening.Disk is looks = inl (looked_at old new taken told looks)
-  opening_serves lines old new taken told (opening.Unformatted byte) is looks = looked_at old new taken told looks
-  opening_serves lines old new taken told (opening.Damaged file place) is looks = looked_at old new taken told looks
-  opening_serves lines old new taken told opening.NoMemory is looks = inl (looked_at old new taken told looks, is)
+  module _ {Y : Type 0} (y : symb.Meaning Y) (was : Y) where
+    touched : (old new : D) (taken told : Option (List ℕ)) → OnlyLooks m old new
+        → TouchesNothing m y was was (record { disk = old; taken = taken; told = told }) (record { disk = new; taken = taken; told = told })
+    touched old new taken told looks = record { served = looked_at old new taken told looks; handed = refl }
+
+    pub opening_serves : (lines : List ScriptLine) (old new : D) (taken told : Option (List ℕ)) (f : OpenFault) → (IsTrue m.tells → IsOpenFault (m.seen old 1) f) → OnlyLooks m old new
+        → ServesTo m y was was lines (record { disk = old; taken = taken; told = told }) (record { disk = new; taken = taken; told = told }) (end_of_opening f)
+    opening_serves lines old new taken told opening.Disk is looks = inl (touched old new taken told looks)
+    opening_serves lines old new taken told (opening.Unformatted byte) is looks = touched old new taken told looks
+    opening_serves lines old new taken told (opening.Damaged file place) is looks = touched old new taken told looks
+    opening_serves lines old new taken told opening.NoMemory is looks = inl (touched old new taken told looks, is)
 
   -- ---- a queue file that was made
 
@@ -79,11 +87,11 @@ module _ {D : Type 0} (m : Meaning D) where
       (refl, record { site = site_of manager; node = node_of manager; found = found_site; another = other }),
     )
 
-    pub another_serves : (taken told : Option (List ℕ))
-        → ServesTo m lines (record { disk = old; taken = taken; told = told }) (record { disk = disk_of manager; taken = taken; told = told }) (ends.Script 0 Node)
-    another_serves taken told = (looked_at old (disk_of manager) taken told looks, refl)
+    pub another_serves : {Y : Type 0} (y : symb.Meaning Y) (was : Y) (taken told : Option (List ℕ))
+        → ServesTo m y was was lines (record { disk = old; taken = taken; told = told }) (record { disk = disk_of manager; taken = taken; told = told }) (ends.Script 0 Node)
+    another_serves y was taken told = (touched y was old (disk_of manager) taken told looks, refl)
 
-    module _ (for_node : are_of_node (node_of manager) lines ≡ true) (taken now told later : Option (List ℕ)) (new : D) where
+    module _ {Y : Type 0} (y : symb.Meaning Y) (was is_now : Y) (for_node : are_of_node (node_of manager) lines ≡ true) (taken now told later : Option (List ℕ)) (new : D) where
       -- what was opened, and how it was left
       abbrev begins : Outside D
       begins = record { disk = disk_of manager; taken = taken; told = told }
@@ -106,29 +114,40 @@ module _ {D : Type 0} (m : Meaning D) where
         serving = serving;
       }
 
-      pub all_served : AnswersLines m (site_of manager) lines begins leaves → ServesTo m lines (record { disk = old; taken = taken; told = told }) leaves ends.Ok
-      all_served made = served (AnswersLines m) made
+      abbrev EndsSo : Served → Type 0
+      EndsSo end = ServesSo m y end was is_now (site_of manager) lines begins leaves
 
-      pub all_cause : (Faulty : ScriptKind → Type 0) (source sink more : ℕ) → more ≡ sink → AnswersLines m (site_of manager) lines begins leaves
-          → HasCause m.tells (m.seen old 1) Faulty (counts_of source sink (m.faults old)) (counts_of source more (m.faults new)) ends.Ok
-      all_cause Faulty source sink more same made =
-          same_counts source sink (m.faults old) more (m.faults new) same (steps_are_quiet m (site_of manager) (steps_of (site_of manager) made.answered) begins leaves made.made ∙ quiet)
+      pub course_serves : (end : Served) → EndsSo end → ServesTo m y was is_now lines (record { disk = old; taken = taken; told = told }) leaves (end_of_served end)
+      course_serves course.All made = served (ServesAll m y was is_now) made
+      course_serves course.TooMany made = served (ServesTooMany m y was is_now) made
 
-      pub all_keep_others : AnswersLines m (site_of manager) lines begins leaves → OthersStay m old new
-      all_keep_others made =
+      quiet_over : (moves : List MoveAt) → MakesSteps m (site_of manager) (steps_of (site_of manager) moves) begins leaves → m.faults new ≡ m.faults old
+      quiet_over moves made = steps_are_quiet m (site_of manager) (steps_of (site_of manager) moves) begins leaves made ∙ quiet
+
+      others_over : (moves : List MoveAt) → MakesSteps m (site_of manager) (steps_of (site_of manager) moves) begins leaves → OthersStay m old new
+      others_over moves made =
           others_on m old (disk_of manager) new (looks_keep_others m old (disk_of manager) looks)
-          (steps_keep_others m (site_of manager) (steps_of (site_of manager) made.answered) begins leaves made.made)
+          (steps_keep_others m (site_of manager) (steps_of (site_of manager) moves) begins leaves made)
+
+      pub course_cause : (Faulty : ScriptKind → Type 0) (source sink more : ℕ) (end : Served) → more ≡ sink → EndsSo end
+          → HasCause m.tells (m.seen old 1) Faulty (counts_of source sink (m.faults old)) (counts_of source more (m.faults new)) (end_of_served end)
+      course_cause Faulty source sink more course.All same made = same_counts source sink (m.faults old) more (m.faults new) same (quiet_over made.moves made.made)
+      course_cause Faulty source sink more course.TooMany same made = same_counts source sink (m.faults old) more (m.faults new) same (quiet_over made.moves made.made)
+
+      pub course_keeps_others : (end : Served) → EndsSo end → OthersStay m old new
+      course_keeps_others course.All made = others_over made.moves made.made
+      course_keeps_others course.TooMany made = others_over made.moves made.made
 
       abbrev StopsSo : End → Type 0
-      StopsSo end = StopsWithin m end (site_of manager) lines begins leaves
+      StopsSo end = StopsWithin m y end was is_now (site_of manager) lines begins leaves
 
-      pub stopped_serves : (end : ServeEnd) → StopsSo (end_of end) → ServesTo m lines (record { disk = old; taken = taken; told = told }) leaves (end_of end)
-      stopped_serves serve.Journal stops = inr (served (StopsWithin m ends.Journal) stops)
-      stopped_serves serve.Write stops = served (StopsWithin m ends.Write) stops
-      stopped_serves serve.NoMemory stops = inr (served (StopsWithin m ends.NoMemory) stops)
+      pub stopped_serves : (end : ServeEnd) → StopsSo (end_of end) → ServesTo m y was is_now lines (record { disk = old; taken = taken; told = told }) leaves (end_of end)
+      stopped_serves serve.Journal stops = inr (served (StopsWithin m y ends.Journal was is_now) stops)
+      stopped_serves serve.Write stops = served (StopsWithin m y ends.Write was is_now) stops
+      stopped_serves serve.NoMemory stops = inr (served (StopsWithin m y ends.NoMemory was is_now) stops)
 
       quiet_before : (end : End) (stops : StopsSo end) → m.faults stops.next.disk ≡ m.faults old
-      quiet_before end stops = steps_are_quiet m (site_of manager) (steps_of (site_of manager) stops.answered) begins stops.next stops.so_far ∙ quiet
+      quiet_before end stops = steps_are_quiet m (site_of manager) (steps_of (site_of manager) stops.moves) begins stops.next stops.so_far ∙ quiet
 
       pub stopped_cause : (Faulty : ScriptKind → Type 0) (source sink more : ℕ) (end : ServeEnd) → CountsSink {T = ℕ} sink more (Err end) → StopsSo (end_of end)
           → HasCause m.tells (m.seen old 1) Faulty (counts_of source sink (m.faults old)) (counts_of source more (m.faults new)) (end_of end)
@@ -142,7 +161,7 @@ module _ {D : Type 0} (m : Meaning D) where
       pub stopped_keeps_others : (end : End) → StopsSo end → OthersStay m old new
       stopped_keeps_others end stops =
           others_on m old (disk_of manager) new (looks_keep_others m old (disk_of manager) looks)
-          (others_on m (disk_of manager) stops.next.disk new (steps_keep_others m (site_of manager) (steps_of (site_of manager) stops.answered) begins stops.next stops.so_far) (others_of m stops.next.disk new stops.stops.disk.others))
+          (others_on m (disk_of manager) stops.next.disk new (steps_keep_others m (site_of manager) (steps_of (site_of manager) stops.moves) begins stops.next stops.so_far) (others_of m stops.next.disk new stops.stops.disk.others))
 
   -- ---- a script
 
@@ -150,46 +169,49 @@ module _ {D : Type 0} (m : Meaning D) where
   others_same old new same = subst (λ (d : D). OthersStay m old d) (sym same) (record { reads = λ f le other. refl; no_more = λ f c le other left. left })
 
   -- no run answers that the words ask for nothing
-  pub never_usage : (left : Option (List ℕ)) (old new : Outside D) (end : End) → RunsTo m left old new end → end ≡ ends.Usage → ⊥
-  never_usage left old new end runs is = subst (λ (e : End). RunsTo m left old new e) is runs
+  pub never_usage : {Y : Type 0} (y : symb.Meaning Y) (was now : Y) (left : Option (List ℕ)) (old new : Outside D) (end : End) → RunsTo m y was now left old new end → end ≡ ends.Usage → ⊥
+  never_usage y was now left old new end runs is = subst (λ (e : End). RunsTo m y was now left old new e) is runs
 
   -- what the making of a queue file does is done where the words ask for it
-  pub makes_as_asked : {S C : Type 0} (remaining : S → Option (List ℕ)) (asked : Option Task) (node : List ℕ) → asked ≡ Some (Init node) → (source : S) (clock : C) (old new : Outside D) (end : End)
-      → Makes m node old new end → Does m remaining asked source source clock clock old new end
-  makes_as_asked remaining asked node is source clock old new end makes = subst (λ (o : Option Task). Does m remaining o source source clock clock old new end) (sym is) (refl, refl, makes)
+  pub makes_as_asked : {Y S C : Type 0} (y : symb.Meaning Y) (was : Y) (remaining : S → Option (List ℕ)) (asked : Option Task) (node : List ℕ) → asked ≡ Some (Init node) → (source : S) (clock : C) (old new : Outside D) (end : End)
+      → Makes m node old new end → Does m y was was remaining asked source source clock clock old new end
+  makes_as_asked y was remaining asked node is source clock old new end makes =
+      subst (λ (o : Option Task). Does m y was was remaining o source source clock clock old new end) (sym is) (refl, refl, refl, makes)
 
   -- nor the making of a queue file
   pub never_usage_made : (node : List ℕ) (old new : Outside D) (end : End) → Makes m node old new end → end ≡ ends.Usage → ⊥
   never_usage_made node old new end makes is = subst (λ (e : End). MakesTo m node old new e) is makes.leaves
 
   -- a source whose script was served was read to its end
-  pub reads_whole : (left rest : Option (List ℕ)) (lines : List ScriptLine) (old new : Outside D) (end : End) → ServesTo m lines old new end
+  pub reads_whole : {Y : Type 0} (y : symb.Meaning Y) (was now : Y) (left rest : Option (List ℕ)) (lines : List ScriptLine) (old new : Outside D) (end : End) → ServesTo m y was now lines old new end
       → LosesAtMost (SCRIPT_BYTES + 1) left rest → IsAtEnd rest → HasScript left → Reads left rest end
-  reads_whole left rest lines old new ends.Ok serves lost at_end script = at_end
-  reads_whole left rest lines old new ends.Usage serves lost at_end script = absurd serves
-  reads_whole left rest lines old new ends.Read serves lost at_end script = absurd serves
-  reads_whole left rest lines old new (ends.Script line kind) serves lost at_end script = (lost, λ not. at_end)
-  reads_whole left rest lines old new ends.Write serves lost at_end script = at_end
-  reads_whole left rest lines old new ends.Journal serves lost at_end script = at_end
-  reads_whole left rest lines old new (ends.Unformatted byte) serves lost at_end script = at_end
-  reads_whole left rest lines old new (ends.Damaged file place) serves lost at_end script = at_end
-  reads_whole left rest lines old new ends.NoMemory serves lost at_end script = inr (at_end, script)
+  reads_whole y was now left rest lines old new ends.Ok serves lost at_end script = at_end
+  reads_whole y was now left rest lines old new ends.Usage serves lost at_end script = absurd serves
+  reads_whole y was now left rest lines old new ends.Read serves lost at_end script = absurd serves
+  reads_whole y was now left rest lines old new (ends.Script line kind) serves lost at_end script = (lost, λ not. at_end)
+  reads_whole y was now left rest lines old new ends.Write serves lost at_end script = at_end
+  reads_whole y was now left rest lines old new ends.Journal serves lost at_end script = at_end
+  reads_whole y was now left rest lines old new (ends.Unformatted byte) serves lost at_end script = at_end
+  reads_whole y was now left rest lines old new (ends.Damaged file place) serves lost at_end script = at_end
+  reads_whole y was now left rest lines old new ends.HistoryFull serves lost at_end script = at_end
+  reads_whole y was now left rest lines old new ends.NoMemory serves lost at_end script = inr (at_end, script)
 
   -- what was read is a script, over which the run went on
   module _ (left : Option (List ℕ)) (text : List ℕ) (lines : List ScriptLine) (read : IsRead left text) (script : script_of text ≡ Ok lines) where
     of_script : {P : List ScriptLine → Type 0} → P lines → OfScript left P
     of_script so = record { text = text; lines = lines; read = read; script = script; so = so }
 
-    pub serves_script : (old new : Outside D) (end : End) → ServesTo m lines old new end → RunsTo m left old new end
-    serves_script old new ends.Ok serves = of_script serves
-    serves_script old new ends.Usage serves = absurd serves
-    serves_script old new ends.Read serves = absurd serves
-    serves_script old new (ends.Script line kind) serves = (serves.0, λ not. absurd (not serves.1))
-    serves_script old new ends.Write serves = of_script serves
-    serves_script old new ends.Journal serves = ⊎_elim (λ nothing. inl (nothing, of_script tt)) (λ stopped. inr (of_script stopped)) serves
-    serves_script old new (ends.Unformatted byte) serves = (serves, of_script tt)
-    serves_script old new (ends.Damaged file place) serves = (serves, of_script tt)
-    serves_script old new ends.NoMemory serves = ⊎_elim (λ nothing. inr (inl (nothing, of_script tt))) (λ stopped. inr (inr (of_script stopped))) serves
+    pub serves_script : {Y : Type 0} (y : symb.Meaning Y) (was now : Y) (old new : Outside D) (end : End) → ServesTo m y was now lines old new end → RunsTo m y was now left old new end
+    serves_script y was now old new ends.Ok serves = of_script serves
+    serves_script y was now old new ends.Usage serves = absurd serves
+    serves_script y was now old new ends.Read serves = absurd serves
+    serves_script y was now old new (ends.Script line kind) serves = (serves.0, λ not. absurd (not serves.1))
+    serves_script y was now old new ends.Write serves = of_script serves
+    serves_script y was now old new ends.Journal serves = ⊎_elim (λ nothing. inl (nothing, of_script tt)) (λ stopped. inr (of_script stopped)) serves
+    serves_script y was now old new (ends.Unformatted byte) serves = (serves, of_script tt)
+    serves_script y was now old new (ends.Damaged file place) serves = (serves, of_script tt)
+    serves_script y was now old new ends.HistoryFull serves = of_script serves
+    serves_script y was now old new ends.NoMemory serves = ⊎_elim (λ nothing. inr (inl (nothing, of_script tt))) (λ stopped. inr (inr (of_script stopped))) serves
 
     faulty_text : (tells : Bool) (file : List ℕ) (o : Option (List ℕ)) → IsRead o text → (kind : ScriptKind) → IsOfAnother tells file lines kind → IsFaulty tells file o kind
     faulty_text tells file None r kind another = tt
@@ -204,6 +226,7 @@ module _ {D : Type 0} (m : Meaning D) where
     script_cause tells file old new ends.Journal cause = cause
     script_cause tells file old new (ends.Unformatted byte) cause = cause
     script_cause tells file old new (ends.Damaged f place) cause = cause
+    script_cause tells file old new ends.HistoryFull cause = cause
     script_cause tells file old new ends.NoMemory cause = cause
 
 -- words that ask for something aren't those that ask for nothing
@@ -233,6 +256,7 @@ any_script tells file Faulty old new ends.Write cause = cause
 any_script tells file Faulty old new ends.Journal cause = cause
 any_script tells file Faulty old new (ends.Unformatted byte) cause = cause
 any_script tells file Faulty old new (ends.Damaged f place) cause = cause
+any_script tells file Faulty old new ends.HistoryFull cause = cause
 any_script tells file Faulty old new ends.NoMemory cause = cause
 
 -- what was read is no script
@@ -272,10 +296,11 @@ sound_is_not_faulty tells told file (Some bytes) kind sound faulty = elim faulty
     is_no_other : (b : Bool) → b ≡ true → b ≡ false → ⊥
     is_no_other b all another = cc
 
--- over a sound script and queue file a run ends well, or memory runs out, where no fault was counted
+-- over a sound script and queue file a run ends well, or makes as many moves as one may, or memory runs out, where no fault was
+-- counted
 pub sound_completes : (tells : Bool) (told : IsTrue tells) (file : List ℕ) (left : Option (List ℕ)) (old new : Counts) (end : End) → (end ≡ ends.Usage → ⊥) → HasSoundScript left file
     → IsWithoutFault old.source new.source → IsWithoutFault old.sink new.sink → IsWithoutFault old.disk new.disk
-    → HasCause tells file (IsFaulty tells file left) old new end → (end ≡ ends.Ok) ⊎ (end ≡ ends.NoMemory)
+    → HasCause tells file (IsFaulty tells file left) old new end → (end ≡ ends.Ok) ⊎ ((end ≡ ends.HistoryFull) ⊎ (end ≡ ends.NoMemory))
 sound_completes tells told file left old new ends.Ok used sound source sink disk cause = inl refl
 sound_completes tells told file left old new ends.Usage used sound source sink disk cause = absurd (used refl)
 sound_completes tells told file left old new ends.Read used sound source sink disk cause = absurd (no_count _ _ source cause.0)
@@ -288,4 +313,5 @@ sound_completes tells told file left old new (ends.Unformatted byte) used sound 
 sound_completes tells told file left old new (ends.Damaged f place) used sound source sink disk cause =
     let damaged = cause.1 told in
     absurd (site_not_damaged file place sound.1.so.some_site sound.1.so.is_site damaged.1)
-sound_completes tells told file left old new ends.NoMemory used sound source sink disk cause = inr refl
+sound_completes tells told file left old new ends.HistoryFull used sound source sink disk cause = inr (inl refl)
+sound_completes tells told file left old new ends.NoMemory used sound source sink disk cause = inr (inr refl)

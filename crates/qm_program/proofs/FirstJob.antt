@@ -6,15 +6,15 @@ use Rattle.std.specs.Fmt.{digits}
 use Rattle.qm_kinds.specs.declared.script.ScriptKind.{ScriptKind}
 use Rattle.qm_model.specs.Script.{ScriptLine, script_of}
 use Rattle.qm_manager.specs.Site.{new_site}
-use Rattle.qm_program.specs.Transcript.{LineAt, transcript}
+use Rattle.qm_program.specs.Transcript.{MoveAt, Line, transcript}
 
 -- lines, each ended by a line feed
 abbrev pub lines_of : List (List ℕ) → List ℕ
 lines_of lines = flat_map (λ line. line ++ 10 ∷ []) lines
 
 -- these lines, all at one reading of the clock
-abbrev pub all_at : ℕ → List ScriptLine → List LineAt
-all_at reading lines = map (λ line. record { line = line; reading = reading }) lines
+abbrev pub all_at : ℕ → List ScriptLine → List MoveAt
+all_at reading lines = map (λ line. record { move = Line line; reading = reading }) lines
 
 -- what lines print over a new site of node A, where the clock stands at 1-JAN-2030 10:00:00.00
 abbrev pub printed_by : Result (List ScriptLine) ScriptKind → List ℕ

@@ -1,6 +1,6 @@
 -- How far serving has come with a script.
-use Rattle.std.proofs.Common.{◌≡◌, ◌<◌, ◌≤◌, ℕ, zero, suc, Bool, true, false, ◌&&◌, List, [], ◌∷◌, ◌++◌, length, take, drop, Option, None, Some, refl, sym, ◌∙◌, ap, subst, append_assoc, ◌+◌, get_or, drop-cons, add-one, arith, length-drop, Err}
-use Rattle.std.proofs.lemmas.List.{append-nil, map-append, take-append-drop, drop_all}
+use Rattle.std.proofs.Common.{◌≡◌, ◌⊎◌, ◌<◌, ◌≤◌, ℕ, zero, suc, Bool, true, false, ◌&&◌, List, [], ◌∷◌, ◌++◌, length, take, drop, Option, None, Some, refl, sym, ◌∙◌, ap, subst, append_assoc, ◌+◌, get_or, drop-cons, add-one, arith, length-drop, Err}
+use Rattle.std.proofs.lemmas.List.{append-nil, take-append-drop, drop_all, length_push}
 use Rattle.std.specs.Str.{bytes_eq}
 use Rattle.std.specs.Io.KnownBytes.{Keeps}
 use Rattle.std.proofs.lemmas.Slice.Eq.{bytes_eq-Decides}
@@ -9,12 +9,17 @@ use Rattle.qm_io.specs.Bytes.{TakesPrefix}
 use Rattle.qm_model.specs.Script.{ScriptLine, are_of_node}
 use Rattle.qm_manager.specs.Site.{Site}
 use Rattle.qm_script.specs.Lines.{lines_view, line_view}
-use Rattle.qm_program.specs.Transcript.{Step, LineAt, turn, step_of, steps_of, lines_of, site_behind, after}
-use Rattle.qm_program.specs.Course.{Outside, TakesPart, MakesStep, MakesSteps, StopsAtStep, AnswersLines, StopsWithin}
+use Rattle.qm_symb.specs.Device as symb
+use Rattle.qm_program.specs.Transcript.{Step, MoveAt, turn, step_of, steps_of, site_behind, after}
+use Rattle.qm_program.specs.Moves.{Standing, IsCourse, IsNext, IsOver, next_of, in_front_of, behind_move, behind_moves}
+use Rattle.qm_program.specs.Handing.{Hands, HandAll}
+use Rattle.qm_program.specs.declared.course.TheConstants.{MOVES_LIMIT}
+use Rattle.qm_program.specs.Course.{Outside, TakesPart, MakesStep, MakesSteps, StopsAtStep, ServesAll, ServesTooMany, StopsWithin}
 use Rattle.qm_program.specs.Running.{OthersStay}
 use Rattle.qm_program.specs.declared.outcome.End.{End}
 use Rattle.qm_program.specs.declared.serve.ServeEnd.{ServeEnd}
-use Rattle.qm_program.specs.declared.serve.ServeEnd.TheVariants as ends
+use Rattle.qm_program.specs.declared.serve.ServeEnd.TheVariants as serve
+use Rattle.qm_program.specs.declared.outcome.End.TheVariants as ends
 use Rattle.qm_program.specs.Serving.{CountsSink}
 use Rattle.qm_io.specs.Faults as io
 use Rattle.qm_script.specs.declared.script.Line.{Line}
@@ -25,15 +30,31 @@ pub site_behind-append : (site : Site) (xs ys : List Step) → site_behind site 
 site_behind-append site [] ys = refl
 site_behind-append site (x ∷ xs) ys = site_behind-append x.after xs ys
 
-pub steps_of-append : (site : Site) (xs ys : List LineAt) → steps_of site (xs ++ ys) ≡ steps_of site xs ++ steps_of (after site xs) ys
+pub steps_of-append : (site : Site) (xs ys : List MoveAt) → steps_of site (xs ++ ys) ≡ steps_of site xs ++ steps_of (after site xs) ys
 steps_of-append site [] ys = refl
 steps_of-append site (x ∷ xs) ys = ap (λ (steps : List Step). step_of site x ∷ steps) (steps_of-append (turn site x).site xs ys)
 
--- a line behind others leaves what it leaves of the site behind them
-pub after_one : (site : Site) (ls : List LineAt) (l : LineAt) → after site (ls ++ l ∷ []) ≡ (turn (after site ls) l).site
-after_one site ls l =
-    ap (site_behind site) (steps_of-append site ls (l ∷ []))
-    ∙ site_behind-append site (steps_of site ls) (step_of (after site ls) l ∷ [])
+-- ---- moves, one behind the other
+
+-- the site behind moves is the one that their steps leave
+site_of_moves : (s : Standing) (moves : List MoveAt) → (behind_moves s moves).site ≡ after s.site moves
+site_of_moves s [] = refl
+site_of_moves s (mv ∷ moves) = site_of_moves (behind_move s mv) moves
+
+-- one move more
+behind_one_more : (s : Standing) (moves : List MoveAt) (mv : MoveAt) → behind_moves s (moves ++ mv ∷ []) ≡ behind_move (behind_moves s moves) mv
+behind_one_more s [] mv = refl
+behind_one_more s (first ∷ moves) mv = behind_one_more (behind_move s first) moves mv
+
+course_one_more : (s : Standing) (moves : List MoveAt) (mv : MoveAt) → IsCourse s moves
+    → IsNext (behind_moves s moves).node (next_of (behind_moves s moves).node) mv.move → IsCourse s (moves ++ mv ∷ [])
+course_one_more s [] mv course next = (next, tt)
+course_one_more s (first ∷ moves) mv course next = (course.0, course_one_more (behind_move s first) moves mv course.1 next)
+
+module _ {Y : Type 0} (y : symb.Meaning Y) where
+  hand_one_more : (moves : List MoveAt) (mv : MoveAt) (was between now : Y) → HandAll y moves was between → Hands y mv.move between now → HandAll y (moves ++ mv ∷ []) was now
+  hand_one_more [] mv was between now so_far hands = (now, (subst (λ (o : Y). Hands y mv.move o now) so_far hands, refl))
+  hand_one_more (first ∷ moves) mv was between now so_far hands = (so_far.0, (so_far.1.0, hand_one_more moves mv so_far.0 between now so_far.1.1 hands))
 
 module _ {D : Type 0} (m : Meaning D) where
   -- one step more
@@ -42,57 +63,81 @@ module _ {D : Type 0} (m : Meaning D) where
   one_step_more site [] step old mid new so_far one = (new, (subst (λ (o : Outside D). MakesStep m site step o new) so_far one, refl))
   one_step_more site (first ∷ steps) step old mid new so_far one = (so_far.0, (so_far.1.0, one_step_more first.after steps step so_far.0 mid new so_far.1.1 one))
 
-  -- the lines before these made their steps, each at a reading of its own, and left this site
-  pub record Goes (first : Site) (lines : List ScriptLine) (site : Site) (rest : List ScriptLine) (old now : Outside D) : Type 0 where
-    pub answered : List LineAt
-    pub are : lines ≡ lines_of answered ++ rest
-    pub here : site ≡ after first answered
-    pub so_far : MakesSteps m first (steps_of first answered) old now
+module _ {D Y : Type 0} (m : Meaning D) (y : symb.Meaning Y) where
+  -- a node that was at first there made so many moves, and is here now
+  pub record Goes (count : ℕ) (first here : Standing) (was now : Y) (old new : Outside D) : Type 0 where
+    pub moves : List MoveAt
+    pub counted : length moves ≡ count
+    pub course : IsCourse first moves
+    pub is_here : here ≡ behind_moves first moves
+    pub so_far : MakesSteps m first.site (steps_of first.site moves) old new
+    pub handed : HandAll y moves was now
 
-  abbrev pub goes_first : (site : Site) (lines : List ScriptLine) (old : Outside D) → Goes site lines site lines old old
-  goes_first site lines old = record { answered = []; are = refl; here = refl; so_far = refl }
+  abbrev pub goes_first : (first : Standing) (was : Y) (old : Outside D) → Goes 0 first first was was old old
+  goes_first first was old = record { moves = []; counted = refl; course = tt; is_here = refl; so_far = refl; handed = refl }
 
-  module _ (first : Site) (lines : List ScriptLine) (site : Site) (rest : List ScriptLine) (old now : Outside D) (g : Goes first lines site rest old now) where
-    -- no line is left
-    pub goes_to_end : rest ≡ [] → AnswersLines m first lines old now
-    goes_to_end none = record {
-      answered = g.answered;
-      are = g.are ∙ ap (λ (r : List ScriptLine). lines_of g.answered ++ r) none ∙ append-nil (lines_of g.answered);
-      made = g.so_far;
-    }
+  module _ (count : ℕ) (first here : Standing) (was between : Y) (old next : Outside D) (g : Goes count first here was between old next) where
+    site_here : here.site ≡ after first.site g.moves
+    site_here = ap (λ (s : Standing). s.site) g.is_here ∙ site_of_moves first g.moves
 
-    module _ (line : ScriptLine) (behind : List ScriptLine) (is : rest ≡ line ∷ behind) (reading : ℕ) where
-      -- the next line, at its reading
-      abbrev next_line : LineAt
-      next_line = record { line = line; reading = reading }
+    module _ (mv : MoveAt) (is_next : IsNext here.node (next_of here.node) mv.move) where
+      course_on : IsCourse first (g.moves ++ mv ∷ [])
+      course_on = course_one_more first g.moves mv g.course (subst (λ (s : Standing). IsNext s.node (next_of s.node) mv.move) g.is_here is_next)
 
-      are_begun : lines ≡ lines_of (g.answered ++ next_line ∷ []) ++ behind
-      are_begun = g.are ∙ ap (λ (r : List ScriptLine). lines_of g.answered ++ r) is
-          ∙ sym (append_assoc (lines_of g.answered) (line ∷ []) behind)
-          ∙ ap (λ (ls : List ScriptLine). ls ++ behind) (sym (map-append (λ (l : LineAt). l.line) g.answered (next_line ∷ [])))
-
-      -- the line made its step
-      pub goes_on : (next : Site) (new : Outside D) → next ≡ (turn site next_line).site → MakesStep m site (step_of site next_line) now new → Goes first lines next behind old new
-      goes_on next new same made = record {
-        answered = g.answered ++ next_line ∷ [];
-        are = are_begun;
-        here = same ∙ ap (λ (s : Site). (turn s next_line).site) g.here ∙ sym (after_one first g.answered next_line);
-        so_far = subst (λ (steps : List Step). MakesSteps m first steps old new) (sym (steps_of-append first g.answered (next_line ∷ [])))
-            (one_step_more first (steps_of first g.answered) (step_of (after first g.answered) next_line) old now new g.so_far
-            (subst (λ (s : Site). MakesStep m s (step_of s next_line) now new) g.here made));
+      -- the move was made
+      pub goes_on : (new : Outside D) (now : Y) (there : Standing) → there ≡ behind_move here mv → MakesStep m here.site (step_of here.site mv) next new → Hands y mv.move between now
+          → Goes (count + 1) first there was now old new
+      goes_on new now there is made hands = record {
+        moves = g.moves ++ mv ∷ [];
+        counted = length_push g.moves mv ∙ ap (λ (n : ℕ). n + 1) g.counted;
+        course = course_on;
+        is_here = is ∙ ap (λ (s : Standing). behind_move s mv) g.is_here ∙ sym (behind_one_more first g.moves mv);
+        so_far = subst (λ (steps : List Step). MakesSteps m first.site steps old new) (sym (steps_of-append first.site g.moves (mv ∷ [])))
+            (one_step_more m first.site (steps_of first.site g.moves) (step_of (after first.site g.moves) mv) old next new g.so_far
+            (subst (λ (s : Site). MakesStep m s (step_of s mv) next new) site_here made));
+        handed = hand_one_more y g.moves mv was between now g.handed hands;
       }
 
-      -- the run stopped at it
-      pub stops_here : (new : Outside D) (end : End) → StopsAtStep m site (step_of site next_line) now new end → StopsWithin m end first lines old new
-      stops_here new end stops = record {
-        answered = g.answered;
-        stopped = next_line;
-        behind = behind;
-        are = are_begun;
-        next = now;
-        so_far = g.so_far;
-        stops = subst (λ (s : Site). StopsAtStep m s (step_of s next_line) now new end) g.here stops;
-      }
+-- ---- the moves of a node in front of a script's lines
+
+module _ {D Y : Type 0} (m : Meaning D) (y : symb.Meaning Y) (count : ℕ) (lines : List ScriptLine) (site : Site) (here : Standing) (was between : Y) (old next : Outside D)
+    (g : Goes m y count (in_front_of lines site) here was between old next) where
+  -- nothing is left
+  pub goes_to_end : IsOver here.node → ServesAll m y was between site lines old next
+  goes_to_end over = record {
+    moves = g.moves;
+    course = g.course;
+    over = subst (λ (s : Standing). IsOver s.node) g.is_here over;
+    made = g.so_far;
+    handed = g.handed;
+  }
+
+  -- as many moves were made as one run may make
+  pub goes_too_far : count ≡ MOVES_LIMIT → (IsOver here.node → ⊥) → ServesTooMany m y was between site lines old next
+  goes_too_far all more = record {
+    moves = g.moves;
+    course = g.course;
+    count = g.counted ∙ all;
+    more = λ over. more (subst (λ (s : Standing). IsOver s.node) (sym g.is_here) over);
+    made = g.so_far;
+    handed = g.handed;
+  }
+
+  -- the run stopped at the next move
+  pub stops_here : (mv : MoveAt) → IsNext here.node (next_of here.node) mv.move → (new : Outside D) (now : Y) (end : End)
+      → StopsAtStep m here.site (step_of here.site mv) next new end → Hands y mv.move between now ⊎ ((end ≡ ends.NoMemory) × (now ≡ between))
+      → StopsWithin m y end was now site lines old new
+  stops_here mv is_next new now end stops begun = record {
+    moves = g.moves;
+    stopped = mv;
+    course = course_on m y count (in_front_of lines site) here was between old next g mv is_next;
+    next = next;
+    so_far = g.so_far;
+    stops = subst (λ (s : Site). StopsAtStep m s (step_of s mv) next new end) (site_here m y count (in_front_of lines site) here was between old next g) stops;
+    between = between;
+    handed = g.handed;
+    begun = begun;
+  }
 
 -- ---- lines of the script in memory
 
@@ -175,6 +220,6 @@ module _ {D : Type 0} (m : Meaning D) where
 
 -- what was counted at a line was counted since the first
 pub counts_on : (first old new : ℕ) (end : ServeEnd) → old ≡ first → CountsSink {T = ℕ} old new (Err end) → CountsSink {T = ℕ} first new (Err end)
-counts_on first old new ends.Write same counted = subst (λ (n : ℕ). new ≡ io.counted n) same counted
-counts_on first old new ends.Journal same counted = counted ∙ same
-counts_on first old new ends.NoMemory same counted = counted ∙ same
+counts_on first old new serve.Write same counted = subst (λ (n : ℕ). new ≡ io.counted n) same counted
+counts_on first old new serve.Journal same counted = counted ∙ same
+counts_on first old new serve.NoMemory same counted = counted ∙ same

@@ -4,3 +4,8 @@ pub mod Serving
 pub mod Surviving
 pub mod Ending
 pub mod FirstJob
+pub mod Moving
+pub mod Reporting
+pub mod Stepping
+pub mod Carried
+pub mod Handed

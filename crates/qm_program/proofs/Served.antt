@@ -1,13 +1,15 @@
 -- What lines ask for can be asked here, and what answering leaves of the manager.
-use Rattle.std.proofs.Common.{◌≡◌, ◌<◌, ◌^◌, inl, ℕ, length, Bool, true, false, cond, ◌==◌, List, codes, Option, None, Some, Result, Ok, Err, refl, sym, ◌∙◌, subst, IfOk}
+use Rattle.std.proofs.Common.{◌≡◌, ◌<◌, ◌^◌, inl, ℕ, length, Bool, true, false, cond, ◌==◌, lit<, List, [], ◌∷◌, ◌&&◌, ◌||◌, codes, Option, None, Some, Result, Ok, Err, refl, sym, ◌∙◌, ap, subst, IfSome, IfOk}
+use Rattle.std.specs.Option.{option_map, option_and_then}
+use Rattle.std.proofs.lemmas.Slice.Eq.{bytes_eq-Decides}
 use Rattle.std.specs.Result.{IsErrAnd}
 use Rattle.std.specs.Str.{bytes_eq}
 use Rattle.qm_disk.specs.Disk.{Meaning, CrashState, IsLeft}
 use Rattle.qm_kinds.specs.Files.{file_name_of}
 use Rattle.qm_kinds.specs.declared.file.FileName.{FileName}
 use Rattle.qm_kinds.specs.declared.input.Input.{Input}
-use Rattle.qm_kinds.specs.declared.input.Input.TheVariants.{Ask, Fault}
-use Rattle.qm_kinds.specs.declared.request.Request.TheVariants.{Fill, Mark, Tick}
+use Rattle.qm_kinds.specs.declared.input.Input.TheVariants.{Ask, Show, Fetch, Fault}
+use Rattle.qm_kinds.specs.declared.request.Request.TheVariants.{Fill, Drop, Mark, Tick}
 use Rattle.qm_kinds.specs.declared.query.Row.{Row}
 use Rattle.qm_kinds.specs.declared.refusal.ParseKind.TheVariants as parse
 use Rattle.qm_kinds.specs.declared.refusal.Refusal.{Refusal}
@@ -22,7 +24,7 @@ use Rattle.qm_record.specs.Spelling.{IsShortChange}
 use Rattle.qm_kinds.specs.declared.request.NameOrNumber.{NameOrNumber}
 use Rattle.qm_kinds.specs.declared.queue.QueueChange.{QueueChange}
 use Rattle.qm_model.specs.Batch.{is_mark}
-use Rattle.qm_model.specs.Script.{Sort, Command, Site as AtSite, act_from, act_number, is_act_word, done_by, done_act, line_act, append_to, filled_by, fill_act, drop_act, step_number, step_act, marked_by, mark_act, malformed_act}
+use Rattle.qm_model.specs.Script.{Sort, Command, Site as AtSite, act_from, act_number, is_act_word, done_by, done_act, line_act, append_to, filled_by, fill_act, drop_act, step_number, step_act, marked_by, mark_act, malformed_act, steps_of_line}
 use Rattle.qm_manager.specs.declared.manager.Manager.{Manager}
 use Rattle.qm_manager.specs.Site.{Site}
 use Rattle.qm_manager.proofs.Sites.{steps_nowhere}
@@ -110,48 +112,65 @@ drop_askable : (file : Option FileName) → IsAskable (drop_act file)
 drop_askable None = tt
 drop_askable (Some file) = (refl, tt)
 
-step_askable : (steps : Option ℕ) → IsAskable (step_act steps)
-step_askable None = tt
-step_askable (Some steps) = tt
+marked_askable : (b : Bool) (run : ℕ) (mark : List ℕ) → IsAskable (cond b (Ask (Mark run mark)) (Fault 0 parse.Form))
+marked_askable true run mark = (refl, tt)
+marked_askable false run mark = tt
 
-a_mark_askable : (run : ℕ) (mark : List ℕ) (is : Bool) → IsAskable (cond is (Ask (Mark run mark)) (Fault 0 parse.Form))
-a_mark_askable run mark true = (refl, tt)
-a_mark_askable run mark false = tt
-
-marked_askable : (run : Option ℕ) (mark : List ℕ) → IsAskable (marked_by run mark)
-marked_askable None mark = tt
-marked_askable (Some run) mark = a_mark_askable run mark (is_mark mark)
+marked_by_askable : (run : Option ℕ) (mark : List ℕ) → IsAskable (marked_by run mark)
+marked_by_askable None mark = tt
+marked_by_askable (Some run) mark = marked_askable (is_mark mark) run mark
 
 mark_askable : (parts : Option (List ℕ × List ℕ)) → IsAskable (mark_act parts)
 mark_askable None = tt
-mark_askable (Some parts) = marked_askable (act_number 18446744073709551615 parts.0) parts.1
+mark_askable (Some parts) = marked_by_askable (act_number 18446744073709551615 parts.0) parts.1
 
--- which act it is
-act_or_not : (line fill drop step mark done : Bool) (word rest : List ℕ)
+-- a number of steps that isn't one
+no_steps : (steps : Option ℕ) → steps ≡ None → IsAskable (step_act steps)
+no_steps None none = tt
+no_steps (Some n) some = cc
+
+-- which act it is, if it isn't one that asks for steps
+act_or_not : (line fill drop step mark done : Bool) (word rest : List ℕ) → cond step (step_number rest) None ≡ None
     → IsAskable (cond line (line_act (cut_at_blank rest)) (cond fill (fill_act (cut_at_blank rest))
     (cond drop (drop_act (file_name_of rest)) (cond step (step_act (step_number rest)) (cond mark (mark_act (cut_at_blank rest))
     (cond done (done_act (cut_at_blank rest)) (malformed_act word)))))))
-act_or_not true fill drop step mark done word rest = line_askable (cut_at_blank rest)
-act_or_not false true drop step mark done word rest = fill_askable (cut_at_blank rest)
-act_or_not false false true step mark done word rest = drop_askable (file_name_of rest)
-act_or_not false false false true mark done word rest = step_askable (step_number rest)
-act_or_not false false false false true done word rest = mark_askable (cut_at_blank rest)
-act_or_not false false false false false true word rest = done_askable (cut_at_blank rest)
-act_or_not false false false false false false word rest = faulty (is_act_word word)
+act_or_not true fill drop step mark done word rest none = line_askable (cut_at_blank rest)
+act_or_not false true drop step mark done word rest none = fill_askable (cut_at_blank rest)
+act_or_not false false true step mark done word rest none = drop_askable (file_name_of rest)
+act_or_not false false false true mark done word rest none = no_steps (step_number rest) none
+act_or_not false false false false true done word rest none = mark_askable (cut_at_blank rest)
+act_or_not false false false false false true word rest none = done_askable (cut_at_blank rest)
+act_or_not false false false false false false word rest none = faulty (is_act_word word)
 
-act_askable : (text : List ℕ) (parts : Option (List ℕ × List ℕ)) → IsAskable (act_from text parts)
-act_askable text None = alone (bytes_eq text (codes "TICK")) text
-act_askable text (Some parts) =
-    act_or_not (bytes_eq parts.0 (codes "LINE")) (bytes_eq parts.0 (codes "FILL")) (bytes_eq parts.0 (codes "DROP")) (bytes_eq parts.0 (codes "STEP"))
-    (bytes_eq parts.0 (codes "MARK")) (bytes_eq parts.0 (codes "DONE")) parts.0 parts.1
+-- the steps that the parts of an act allow
+abbrev steps_of_parts : Option (List ℕ × List ℕ) → Option ℕ
+steps_of_parts parts = option_and_then (λ (p : List ℕ × List ℕ). cond (bytes_eq p.0 (codes "STEP")) (step_number p.1) None) parts
 
--- what a line asks for can be asked
-pub input_askable : (sort : Sort) (now : ℕ) (text : List ℕ) → IsAskable (input_of sort now text)
-input_askable Command now text = command_askable (command_of system_user now text) (of_asked each_askable system_user now text)
-input_askable AtSite now text = act_askable text (cut_at_blank text)
+act_askable : (text : List ℕ) (parts : Option (List ℕ × List ℕ)) → steps_of_parts parts ≡ None → IsAskable (act_from text parts)
+act_askable text None none = alone (bytes_eq text (codes "TICK")) text
+act_askable text (Some parts) none =
+    act_or_not (bytes_eq parts.0 (codes "LINE")) (bytes_eq parts.0 (codes "FILL")) (bytes_eq parts.0 (codes "DROP")) (bytes_eq parts.0 (codes "STEP")) (bytes_eq parts.0 (codes "MARK"))
+    (bytes_eq parts.0 (codes "DONE")) parts.0 parts.1 none
 
-pub askable_as : (sort : Sort) (now : ℕ) (text : List ℕ) (input asked : Input) → input ≡ input_of sort now text → input ≡ asked → IsAskable asked
-askable_as sort now text input asked from is = subst IsAskable (sym from ∙ is) (input_askable sort now text)
+-- what a line asks for can be asked, if it isn't a line that asks for steps
+pub input_askable : (sort : Sort) (now : ℕ) (text : List ℕ) → steps_of_line sort text ≡ None → IsAskable (input_of sort now text)
+input_askable Command now text none = command_askable (command_of system_user now text) (of_asked each_askable system_user now text)
+input_askable AtSite now text none = act_askable text (cut_at_blank text) none
+
+-- a line that asks for steps asks for the node's runs
+step_act_is : (word rest : List ℕ) (steps : ℕ) (text : List ℕ) (is_step : Bool) → bytes_eq word (codes "STEP") ≡ is_step → cond is_step (step_number rest) None ≡ Some steps
+    → act_from text (Some (word, rest)) ≡ Fetch []
+step_act_is word rest steps text false is some = cc
+step_act_is word rest steps text true is some =
+    subst (λ (w : List ℕ). act_from text (Some (w, rest)) ≡ Fetch []) (sym ((bytes_eq-Decides word (codes "STEP")).0 is)) (ap step_act some)
+
+parts_ask_for_runs : (text : List ℕ) (parts : Option (List ℕ × List ℕ)) (steps : ℕ) → steps_of_parts parts ≡ Some steps → act_from text parts ≡ Fetch []
+parts_ask_for_runs text None steps some = cc
+parts_ask_for_runs text (Some parts) steps some = step_act_is parts.0 parts.1 steps text (bytes_eq parts.0 (codes "STEP")) refl some
+
+pub steps_ask_for_runs : (sort : Sort) (now : ℕ) (text : List ℕ) (steps : ℕ) → steps_of_line sort text ≡ Some steps → input_of sort now text ≡ Fetch []
+steps_ask_for_runs Command now text steps some = cc
+steps_ask_for_runs AtSite now text steps some = parts_ask_for_runs text (cut_at_blank text) steps some
 
 -- ---- the site that a line leaves
 

@@ -7,8 +7,10 @@ use Rattle.qm_disk.specs.Disk.{Meaning, CrashState, IsLeft, LeavesOnly, KeepsOth
 use Rattle.qm_disk.proofs.Moments.{started, weaker, goes_further, holds_now}
 use Rattle.qm_model.specs.Script.{ScriptLine}
 use Rattle.qm_manager.specs.Site.{Site, IsSite, IsSiteOf, BeforeOrAfter}
-use Rattle.qm_program.specs.Transcript.{Step, LineAt, turn, step_of, steps_of, lines_of, readings_of, readings_taken, site_behind, text_of, after}
-use Rattle.qm_program.specs.Course.{Outside, MakesSteps, StopsAtStep, AnswersLines, StopsWithin, ServesNothing}
+use Rattle.qm_symb.specs.Device as symb
+use Rattle.qm_program.specs.Transcript.{Step, MoveAt, turn, step_of, steps_of, readings_of, readings_taken, site_behind, text_of, after}
+use Rattle.qm_program.specs.Moves.{IsCourse, in_front_of}
+use Rattle.qm_program.specs.Course.{Outside, MakesSteps, StopsAtStep, ServesAll, ServesTooMany, StopsWithin, ServesNothing}
 use Rattle.qm_program.specs.Running.{OfScript, ServesScript, RunsTo}
 use Rattle.qm_program.specs.Surviving.{Reaches, AreBegun, Survives, AreServed, AreServedTo}
 use Rattle.qm_program.specs.declared.outcome.End.{End}
@@ -17,12 +19,12 @@ use Rattle.qm_program.proofs.Going.{site_behind-append, steps_of-append, steps_k
 
 -- ---- what the sink took, and what the clock told
 
-nothing_more : (known : Option (List ℕ)) → Appends known known []
+pub nothing_more : (known : Option (List ℕ)) → Appends known known []
 nothing_more None = tt
 nothing_more (Some xs) = sym (append-nil xs)
 
--- the readings that lines take are those of their steps
-readings_are : (site : Site) (ls : List LineAt) → readings_taken (steps_of site ls) ≡ readings_of ls
+-- the readings that moves take are those of their steps
+readings_are : (site : Site) (ls : List MoveAt) → readings_taken (steps_of site ls) ≡ readings_of ls
 readings_are site [] = refl
 readings_are site (l ∷ ls) = ap (λ (readings : List ℕ). l.reading ∷ readings) (readings_are (turn site l).site ls)
 
@@ -37,25 +39,24 @@ module _ {D : Type 0} (m : Meaning D) where
   steps_told site (step ∷ steps) old new made =
       Appends-trans old.told made.0.told new.told (step.reading ∷ []) (readings_taken steps) made.1.0.told (steps_told step.after steps made.0 new made.1.1)
 
-  lines_told : (site : Site) (ls : List LineAt) (old new : Outside D) → MakesSteps m site (steps_of site ls) old new → Appends old.told new.told (readings_of ls)
+  lines_told : (site : Site) (ls : List MoveAt) (old new : Outside D) → MakesSteps m site (steps_of site ls) old new → Appends old.told new.told (readings_of ls)
   lines_told site ls old new made = subst (Appends old.told new.told) (readings_are site ls) (steps_told site (steps_of site ls) old new made)
 
-  -- every line was begun
-  all_begun : (site : Site) (lines : List ScriptLine) (old new : Outside D) (a : AnswersLines m site lines old new) → AreBegun old.told new.told lines a.answered
-  all_begun site lines old new a = record {
-    behind = [];
-    are = a.are ∙ sym (append-nil (lines_of a.answered));
-    told = lines_told site a.answered old new a.made;
-  }
+-- ---- moves that were begun
+
+module _ {D Y : Type 0} (m : Meaning D) (y : symb.Meaning Y) where
+  -- every move was begun
+  begun_all : (site : Site) (lines : List ScriptLine) (moves : List MoveAt) (old new : Outside D) → IsCourse (in_front_of lines site) moves → MakesSteps m site (steps_of site moves) old new
+      → AreBegun old.told new.told site lines moves
+  begun_all site lines moves old new course made = record { course = course; told = lines_told m site moves old new made }
 
   -- those up to the one at which the run stopped
-  some_begun : (end : End) (site : Site) (lines : List ScriptLine) (old new : Outside D) (s : StopsWithin m end site lines old new)
-      → AreBegun old.told new.told lines (s.answered ++ s.stopped ∷ [])
-  some_begun end site lines old new s = record {
-    behind = s.behind;
-    are = s.are;
-    told = subst (Appends old.told new.told) (sym (map-append (λ (l : LineAt). l.reading) s.answered (s.stopped ∷ [])))
-        (Appends-trans old.told s.next.told new.told (readings_of s.answered) (s.stopped.reading ∷ []) (lines_told site s.answered old s.next s.so_far) s.stops.told);
+  some_begun : (end : End) (was now : Y) (site : Site) (lines : List ScriptLine) (old new : Outside D) (s : StopsWithin m y end was now site lines old new)
+      → AreBegun old.told new.told site lines (s.moves ++ s.stopped ∷ [])
+  some_begun end was now site lines old new s = record {
+    course = s.course;
+    told = subst (Appends old.told new.told) (sym (map-append (λ (mv : MoveAt). mv.reading) s.moves (s.stopped ∷ [])))
+        (Appends-trans old.told s.next.told new.told (readings_of s.moves) (s.stopped.reading ∷ []) (lines_told m site s.moves old s.next s.so_far) s.stops.told);
   }
 
 -- ---- what a crash leaves
@@ -124,32 +125,40 @@ module _ {D : Type 0} (m : Meaning D) (only_now : (disk : D) (crashed : CrashSta
         }
       ])
 
-  -- ---- lines
+  -- ---- moves
 
-  -- the lines that were begun, and what a crash leaves of them
-  record ReachesLines (site : Site) (lines : List ScriptLine) (old new : Outside D) : Type 0 where
-    begun : List LineAt
-    are : AreBegun old.told new.told lines begun
+  -- the moves that were begun, and what a crash leaves of them
+  record ReachesMoves (site : Site) (lines : List ScriptLine) (old new : Outside D) : Type 0 where
+    begun : List MoveAt
+    are : AreBegun old.told new.told site lines begun
     leaves : LeavesOnly m old.disk new.disk (Reaches (m.may_leave old.disk) site (steps_of site begun))
 
-  answered_reach : (site : Site) (lines : List ScriptLine) (old new : Outside D) → AnswersLines m site lines old new → IsTrue m.tells → IsSiteOf m site old.disk → ReachesLines site lines old new
-  answered_reach site lines old new a told is = record {
-    begun = a.answered;
-    are = all_begun m site lines old new a;
-    leaves = all_reach site (steps_of site a.answered) old new a.made told is;
-  }
+  module _ {Y : Type 0} (y : symb.Meaning Y) (was now : Y) where
+    made_reach : (site : Site) (lines : List ScriptLine) (moves : List MoveAt) (old new : Outside D) → IsCourse (in_front_of lines site) moves → MakesSteps m site (steps_of site moves) old new
+        → IsTrue m.tells → IsSiteOf m site old.disk → ReachesMoves site lines old new
+    made_reach site lines moves old new course made told is = record {
+      begun = moves;
+      are = begun_all m y site lines moves old new course made;
+      leaves = all_reach site (steps_of site moves) old new made told is;
+    }
 
-  stopped_reach : (end : End) (site : Site) (lines : List ScriptLine) (old new : Outside D) → StopsWithin m end site lines old new → IsTrue m.tells → IsSiteOf m site old.disk → ReachesLines site lines old new
-  stopped_reach end site lines old new s told is = record {
-    begun = s.answered ++ s.stopped ∷ [];
-    are = some_begun m end site lines old new s;
-    leaves = subst (λ (steps : List Step). LeavesOnly m old.disk new.disk (Reaches (m.may_leave old.disk) site steps)) (sym (steps_of-append site s.answered (s.stopped ∷ [])))
-        (stop_reaches site (steps_of site s.answered) (step_of (after site s.answered) s.stopped) old s.next new end s.so_far s.stops told is);
-  }
+    all_reach_moves : (site : Site) (lines : List ScriptLine) (old new : Outside D) → ServesAll m y was now site lines old new → IsTrue m.tells → IsSiteOf m site old.disk → ReachesMoves site lines old new
+    all_reach_moves site lines old new a told is = made_reach site lines a.moves old new a.course a.made told is
+
+    many_reach_moves : (site : Site) (lines : List ScriptLine) (old new : Outside D) → ServesTooMany m y was now site lines old new → IsTrue m.tells → IsSiteOf m site old.disk → ReachesMoves site lines old new
+    many_reach_moves site lines old new a told is = made_reach site lines a.moves old new a.course a.made told is
+
+    stopped_reach : (end : End) (site : Site) (lines : List ScriptLine) (old new : Outside D) → StopsWithin m y end was now site lines old new → IsTrue m.tells → IsSiteOf m site old.disk → ReachesMoves site lines old new
+    stopped_reach end site lines old new s told is = record {
+      begun = s.moves ++ s.stopped ∷ [];
+      are = some_begun m y end was now site lines old new s;
+      leaves = subst (λ (steps : List Step). LeavesOnly m old.disk new.disk (Reaches (m.may_leave old.disk) site steps)) (sym (steps_of-append site s.moves (s.stopped ∷ [])))
+          (stop_reaches site (steps_of site s.moves) (step_of (after site s.moves) s.stopped) old s.next new end s.so_far s.stops told is);
+    }
 
   -- serving, after what was opened
   module _ (goes : Site → List ScriptLine → Outside D → Outside D → Type 0)
-      (reaches : (site : Site) (lines : List ScriptLine) (old new : Outside D) → goes site lines old new → IsTrue m.tells → IsSiteOf m site old.disk → ReachesLines site lines old new)
+      (reaches : (site : Site) (lines : List ScriptLine) (old new : Outside D) → goes site lines old new → IsTrue m.tells → IsSiteOf m site old.disk → ReachesMoves site lines old new)
       (left : Option (List ℕ)) (old new : Outside D) where
     script_survives : ServesScript m left goes old new → IsTrue m.tells → LeavesOnly m old.disk new.disk (Survives left old.told new.told (m.may_leave old.disk) (m.seen old.disk 1))
     script_survives served told =
@@ -190,27 +199,31 @@ module _ {D : Type 0} (m : Meaning D) (only_now : (disk : D) (crashed : CrashSta
   stays left old new same = subst (λ (o : Outside D). LeavesOnly m old.disk o.disk (Left left old o)) (sym same)
       (started m old.disk (Left left old old) (λ crashed l. inl (only_now old.disk crashed l)))
 
-  -- what a crash leaves of a run, by its end
-  pub run_survives : (left : Option (List ℕ)) (old new : Outside D) (end : End) → RunsTo m left old new end → IsTrue m.tells
-      → LeavesOnly m old.disk new.disk (Survives left old.told new.told (m.may_leave old.disk) (m.seen old.disk 1))
-  run_survives left old new ends.Ok runs told = script_survives (AnswersLines m) answered_reach left old new runs told
-  run_survives left old new ends.Usage runs told = absurd runs
-  run_survives left old new ends.Read runs told = stays left old new runs
-  run_survives left old new (ends.Script line kind) runs told = nothing_survives left old new runs.0
-  run_survives left old new ends.Write runs told = script_survives (StopsWithin m ends.Write) (stopped_reach ends.Write) left old new runs told
-  run_survives left old new ends.Journal runs told =
-      ⊎_elim (λ nothing. nothing_survives left old new nothing.0) (λ served. script_survives (StopsWithin m ends.Journal) (stopped_reach ends.Journal) left old new served told) runs
-  run_survives left old new (ends.Unformatted byte) runs told = nothing_survives left old new runs.0
-  run_survives left old new (ends.Damaged file place) runs told = nothing_survives left old new runs.0
-  run_survives left old new ends.NoMemory runs told =
-      ⊎_elim (λ same. stays left old new same) (λ opened.
-      ⊎_elim (λ nothing. nothing_survives left old new nothing.0.0) (λ served. script_survives (StopsWithin m ends.NoMemory) (stopped_reach ends.NoMemory) left old new served told) opened) runs
+  module _ {Y : Type 0} (y : symb.Meaning Y) (was now : Y) where
+    -- what a crash leaves of a run, by its end
+    pub run_survives : (left : Option (List ℕ)) (old new : Outside D) (end : End) → RunsTo m y was now left old new end → IsTrue m.tells
+        → LeavesOnly m old.disk new.disk (Survives left old.told new.told (m.may_leave old.disk) (m.seen old.disk 1))
+    run_survives left old new ends.Ok runs told = script_survives (ServesAll m y was now) (all_reach_moves y was now) left old new runs told
+    run_survives left old new ends.Usage runs told = absurd runs
+    run_survives left old new ends.Read runs told = stays left old new runs.0
+    run_survives left old new (ends.Script line kind) runs told = nothing_survives left old new runs.0.served
+    run_survives left old new ends.Write runs told = script_survives (StopsWithin m y ends.Write was now) (stopped_reach y was now ends.Write) left old new runs told
+    run_survives left old new ends.Journal runs told =
+        ⊎_elim (λ nothing. nothing_survives left old new nothing.0.served)
+        (λ served. script_survives (StopsWithin m y ends.Journal was now) (stopped_reach y was now ends.Journal) left old new served told) runs
+    run_survives left old new (ends.Unformatted byte) runs told = nothing_survives left old new runs.0.served
+    run_survives left old new (ends.Damaged file place) runs told = nothing_survives left old new runs.0.served
+    run_survives left old new ends.HistoryFull runs told = script_survives (ServesTooMany m y was now) (many_reach_moves y was now) left old new runs told
+    run_survives left old new ends.NoMemory runs told =
+        ⊎_elim (λ same. stays left old new same.0) (λ opened.
+        ⊎_elim (λ nothing. nothing_survives left old new nothing.0.0.served)
+        (λ served. script_survives (StopsWithin m y ends.NoMemory was now) (stopped_reach y was now ends.NoMemory) left old new served told) opened) runs
 
--- ---- the lines of a run
+-- ---- the moves of a run
 
-module _ {D : Type 0} (m : Meaning D) where
+module _ {D Y : Type 0} (m : Meaning D) (y : symb.Meaning Y) (was now : Y) where
   pub served_whole : (only_now : (disk : D) (crashed : CrashState) → m.left_since disk (m.moment disk) crashed → IsLeft (m.may_leave disk) crashed)
-      → (left : Option (List ℕ)) (old new : Outside D) → RunsTo m left old new ends.Ok → OfScript left (AreServed m old new)
+      → (left : Option (List ℕ)) (old new : Outside D) → RunsTo m y was now left old new ends.Ok → OfScript left (AreServed m y was now old new)
   served_whole only_now left old new runs =
       let so = runs.so in
       let all = so.serving in
@@ -225,20 +238,21 @@ module _ {D : Type 0} (m : Meaning D) where
           node = so.node;
           found = so.found;
           for_node = so.for_node;
-          answered = all.answered;
-          are = all.are;
-          told = lines_told m so.site all.answered begins new all.made;
-          taken = steps_print m so.site (steps_of so.site all.answered) begins new all.made;
-          left = λ told. at_end m only_now so.site (steps_of so.site all.answered) begins new all.made told (so.at_rest told);
+          moves = all.moves;
+          are = begun_all m y so.site runs.lines all.moves begins new all.course all.made;
+          over = all.over;
+          taken = steps_print m so.site (steps_of so.site all.moves) begins new all.made;
+          handed = all.handed;
+          left = λ told. at_end m only_now so.site (steps_of so.site all.moves) begins new all.made told (so.at_rest told);
         };
       }
 
-module _ {D : Type 0} (m : Meaning D) (counts_now : (disk : D) (t : ℕ) (crashed : CrashState) → t ≤ m.moment disk → IsLeft (m.may_leave disk) crashed → m.left_since disk t crashed) where
-  pub served_to : (left : Option (List ℕ)) (end : End) (old new : Outside D) → ServesScript m left (StopsWithin m end) old new → OfScript left (AreServedTo m end old new)
+module _ {D Y : Type 0} (m : Meaning D) (y : symb.Meaning Y) (was now : Y) (counts_now : (disk : D) (t : ℕ) (crashed : CrashState) → t ≤ m.moment disk → IsLeft (m.may_leave disk) crashed → m.left_since disk t crashed) where
+  pub served_to : (left : Option (List ℕ)) (end : End) (old new : Outside D) → ServesScript m left (StopsWithin m y end was now) old new → OfScript left (AreServedTo m y was now end old new)
   served_to left end old new served =
       let so = served.so in
       let stopped = so.serving in
-      let here = after so.site stopped.answered in
+      let here = after so.site stopped.moves in
       let begins : Outside D = record { disk = so.opened; taken = old.taken; told = old.told } in
       record {
         text = served.text;
@@ -250,13 +264,16 @@ module _ {D : Type 0} (m : Meaning D) (counts_now : (disk : D) (t : ℕ) (crashe
           node = so.node;
           found = so.found;
           for_node = so.for_node;
-          answered = stopped.answered;
+          moves = stopped.moves;
           stopped = stopped.stopped;
-          are = some_begun m end so.site served.lines begins new stopped;
+          are = some_begun m y end was now so.site served.lines begins new stopped;
           next = stopped.next;
-          told = lines_told m so.site stopped.answered begins stopped.next stopped.so_far;
-          taken = steps_print m so.site (steps_of so.site stopped.answered) begins stopped.next stopped.so_far;
+          told = lines_told m so.site stopped.moves begins stopped.next stopped.so_far;
+          taken = steps_print m so.site (steps_of so.site stopped.moves) begins stopped.next stopped.so_far;
           stops = stopped.stops;
+          between = stopped.between;
+          handed = stopped.handed;
+          begun = stopped.begun;
           left = λ told crashed left.
               (holds_now m stopped.next.disk new.disk (BeforeOrAfter (m.may_leave stopped.next.disk) here (turn here stopped.stopped).site) (stopped.stops.disk.any_moment told) (counts_now new.disk) crashed left).site;
         };

@@ -7,7 +7,11 @@ use Rattle.qm_disk.specs.Disk.{OnlyLooks}
 use Rattle.qm_manager.specs.Site.{Site, IsSiteOf}
 use Rattle.qm_manager.specs.Asking.{Steps}
 use Rattle.qm_model.specs.Script.{ScriptLine}
-use Rattle.qm_program.specs.Transcript.{Step, LineAt, step_of, steps_of, lines_of, after}
+use Rattle.qm_symb.specs.Device as symb
+use Rattle.qm_program.specs.Transcript.{Step, MoveAt, step_of, steps_of, after}
+use Rattle.qm_program.specs.Moves.{IsCourse, IsOver, in_front_of, behind_moves}
+use Rattle.qm_program.specs.Handing.{Hands, HandAll}
+use Rattle.qm_program.specs.declared.course.TheConstants.{MOVES_LIMIT}
 use Rattle.qm_program.specs.declared.outcome.End.{End}
 use Rattle.qm_program.specs.declared.outcome.End.TheVariants as ends
 
@@ -61,6 +65,7 @@ module _ {D : Type 0} (m : Meaning D) where
   EndsAtStep site step old new (ends.Script line kind) = ⊥
   EndsAtStep site step old new (ends.Unformatted byte) = ⊥
   EndsAtStep site step old new (ends.Damaged file place) = ⊥
+  EndsAtStep site step old new ends.HistoryFull = ⊥
 
   -- A step is in work and isn't made whole: a crash at any moment of it leaves the queue file of the site before it or after
   -- it, and of the other files what a crash before it might leave. The clock told its reading, and no other moment.
@@ -69,26 +74,47 @@ module _ {D : Type 0} (m : Meaning D) where
     pub told : Appends old.told new.told (step.reading ∷ [])
     pub ends : EndsAtStep site step old new end
 
-  -- Each of these lines made its step, in order, at a reading of its own.
-  pub record AnswersLines (site : Site) (lines : List ScriptLine) (old new : Outside D) : Type 0 where
-    pub answered : List LineAt
-    pub are : lines ≡ lines_of answered
-    pub made : MakesSteps site (steps_of site answered) old new
-
-  -- The first of these lines made their steps, none to all but one, and that of the next is in work; each took a reading of
-  -- its own, and those behind took none.
-  pub record StopsWithin (end : End) (site : Site) (lines : List ScriptLine) (old new : Outside D) : Type 0 where
-    pub answered : List LineAt
-    pub stopped : LineAt
-    pub behind : List ScriptLine
-    pub are : lines ≡ lines_of (answered ++ stopped ∷ []) ++ behind
-    pub next : Outside D
-    pub so_far : MakesSteps site (steps_of site answered) old next
-    pub stops : StopsAtStep (after site answered) (step_of (after site answered) stopped) next new end
-
   -- Nothing was served: the sink took nothing, the clock told nothing, and the disk was looked at alone. Its files read as
   -- they did, and a crash leaves what it might leave before.
   pub record ServesNothing (old new : Outside D) : Type 0 where
     pub disk : OnlyLooks m old.disk new.disk
     pub taken : Keeps old.taken new.taken
     pub told : new.told ≡ old.told
+
+module _ {D Y : Type 0} (m : Meaning D) (y : symb.Meaning Y) where
+  -- A node in front of these lines made its moves, none of which is left: each is the one that comes next, and made its step
+  -- at a reading of its own, behind what it handed over. While blocks are handed over nothing is asked of the disk, the sink
+  -- and the clock.
+  pub record ServesAll (was now : Y) (site : Site) (lines : List ScriptLine) (old new : Outside D) : Type 0 where
+    pub moves : List MoveAt
+    pub course : IsCourse (in_front_of lines site) moves
+    pub over : IsOver (behind_moves (in_front_of lines site) moves).node
+    pub made : MakesSteps m site (steps_of site moves) old new
+    pub handed : HandAll y moves was now
+
+  -- Nothing was served: nothing was handed over, the sink took nothing, the clock told nothing, and the disk was looked at alone.
+  pub record TouchesNothing (was now : Y) (old new : Outside D) : Type 0 where
+    pub served : ServesNothing m old new
+    pub handed : now ≡ was
+
+  -- So many moves were made as one run may make, and another one would come.
+  pub record ServesTooMany (was now : Y) (site : Site) (lines : List ScriptLine) (old new : Outside D) : Type 0 where
+    pub moves : List MoveAt
+    pub course : IsCourse (in_front_of lines site) moves
+    pub count : length moves ≡ MOVES_LIMIT
+    pub more : IsOver (behind_moves (in_front_of lines site) moves).node → ⊥
+    pub made : MakesSteps m site (steps_of site moves) old new
+    pub handed : HandAll y moves was now
+
+  -- The first moves were made, and the next one is in work. What it hands over was handed over; where memory ran out it may be
+  -- that nothing was.
+  pub record StopsWithin (end : End) (was now : Y) (site : Site) (lines : List ScriptLine) (old new : Outside D) : Type 0 where
+    pub moves : List MoveAt
+    pub stopped : MoveAt
+    pub course : IsCourse (in_front_of lines site) (moves ++ stopped ∷ [])
+    pub next : Outside D
+    pub so_far : MakesSteps m site (steps_of site moves) old next
+    pub stops : StopsAtStep m (after site moves) (step_of (after site moves) stopped) next new end
+    pub between : Y
+    pub handed : HandAll y moves was between
+    pub begun : Hands y stopped.move between now ⊎ ((end ≡ ends.NoMemory) × (now ≡ between))

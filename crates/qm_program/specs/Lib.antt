@@ -1,7 +1,11 @@
 pub mod Transcript
 pub mod Ends
 pub mod Task
+pub mod Moves
+pub mod Handing
 pub mod Course
+pub mod Heard
+pub mod Position
 pub mod Serving
 pub mod Running
 pub mod Surviving

@@ -15,7 +15,8 @@ use Rattle.qm_manager.specs.Site.{Site, IsSite, IsSiteOf, new_site}
 use Rattle.qm_manager.specs.Opened.{IsDamagedFile}
 use Rattle.qm_manager.specs.Restoring.{HasNode}
 use Rattle.qm_program.specs.Task.{initialized}
-use Rattle.qm_program.specs.Course.{Outside, TakesPart, AnswersLines, StopsWithin, ServesNothing}
+use Rattle.qm_symb.specs.Device as symb
+use Rattle.qm_program.specs.Course.{Outside, TakesPart, ServesAll, ServesTooMany, StopsWithin, TouchesNothing}
 use Rattle.qm_script.specs.declared.script.TheConstants.{SCRIPT_BYTES}
 use Rattle.qm_program.specs.declared.outcome.End.{End}
 use Rattle.qm_program.specs.declared.outcome.End.TheVariants as ends
@@ -52,6 +53,7 @@ Reads left rest ends.Write = IsAtEnd rest
 Reads left rest ends.Journal = IsAtEnd rest
 Reads left rest (ends.Unformatted byte) = IsAtEnd rest
 Reads left rest (ends.Damaged file place) = IsAtEnd rest
+Reads left rest ends.HistoryFull = IsAtEnd rest
 Reads left rest ends.NoMemory = (rest ≡ left) ⊎ (IsAtEnd rest × HasScript left)
 
 -- ---- what is served
@@ -83,39 +85,9 @@ module _ {D : Type 0} (m : Meaning D) where
     pub at_rest : IsTrue m.tells → IsSiteOf m site opened
     pub serving : goes site lines (record { disk = opened; taken = old.taken; told = old.told }) new
 
-  -- memory ran out at the opening of the queue file, which begins with a whole record
-  abbrev pub LacksMemory : Outside D → Outside D → Type 0
-  LacksMemory old new = ServesNothing m old new × (IsTrue m.tells → BeginsWithRecord (m.seen old.disk 1))
-
   -- a run over the script that a source had left, whose lines go on so
   abbrev pub ServesScript : Option (List ℕ) → (Site → List ScriptLine → Outside D → Outside D → Type 0) → Outside D → Outside D → Type 0
   ServesScript left goes old new = OfScript left (Serves goes old new)
-
-  -- What serving these lines leaves, by its end.
-  abbrev pub ServesTo : List ScriptLine → Outside D → Outside D → End → Type 0
-  ServesTo lines old new ends.Ok = Serves (AnswersLines m) old new lines
-  ServesTo lines old new ends.Usage = ⊥
-  ServesTo lines old new ends.Read = ⊥
-  ServesTo lines old new (ends.Script line kind) = ServesNothing m old new × (kind ≡ Node)
-  ServesTo lines old new ends.Write = Serves (StopsWithin m ends.Write) old new lines
-  ServesTo lines old new ends.Journal = ServesNothing m old new ⊎ Serves (StopsWithin m ends.Journal) old new lines
-  ServesTo lines old new (ends.Unformatted byte) = ServesNothing m old new
-  ServesTo lines old new (ends.Damaged file place) = ServesNothing m old new
-  ServesTo lines old new ends.NoMemory = LacksMemory old new ⊎ Serves (StopsWithin m ends.NoMemory) old new lines
-
-  -- What a run over what a source had left leaves, by its end. At Ok all lines were answered. At Read, and at Script for
-  -- another reason than the node of a line, the disk wasn't looked at, nor where memory ran out before the script was known.
-  -- At Journal and else at NoMemory either nothing was served, or the run stopped within its lines; at Write it did.
-  abbrev pub RunsTo : Option (List ℕ) → Outside D → Outside D → End → Type 0
-  RunsTo left old new ends.Ok = ServesScript left (AnswersLines m) old new
-  RunsTo left old new ends.Usage = ⊥
-  RunsTo left old new ends.Read = new ≡ old
-  RunsTo left old new (ends.Script line kind) = ServesNothing m old new × (kind ≢ Node → new ≡ old)
-  RunsTo left old new ends.Write = ServesScript left (StopsWithin m ends.Write) old new
-  RunsTo left old new ends.Journal = (ServesNothing m old new × HasScript left) ⊎ ServesScript left (StopsWithin m ends.Journal) old new
-  RunsTo left old new (ends.Unformatted byte) = ServesNothing m old new × HasScript left
-  RunsTo left old new (ends.Damaged file place) = ServesNothing m old new × HasScript left
-  RunsTo left old new ends.NoMemory = (new ≡ old) ⊎ ((LacksMemory old new × HasScript left) ⊎ ServesScript left (StopsWithin m ends.NoMemory) old new)
 
   -- What the making of a queue file leaves, by its end. At Ok and at Write the file is that of a new site of the node. At
   -- Journal it may hold anything. At NoMemory the disk is as it was.
@@ -129,23 +101,63 @@ module _ {D : Type 0} (m : Meaning D) where
   MakesTo node old new (ends.Script line kind) = ⊥
   MakesTo node old new (ends.Unformatted byte) = ⊥
   MakesTo node old new (ends.Damaged file place) = ⊥
+  MakesTo node old new ends.HistoryFull = ⊥
 
   -- A crash at any moment of the making of a queue file leaves of the other files what a crash before it might.
   pub record Makes (node : List ℕ) (old new : Outside D) (end : End) : Type 0 where
     pub leaves : MakesTo node old new end
     pub any_moment : IsTrue m.tells → LeavesOnly m old.disk new.disk (OthersLeft (m.may_leave old.disk) 1)
 
-  -- What the program does, by what its words ask for. Words that ask for nothing touch nothing, and a run alone reads and
-  -- asks the clock.
-  abbrev pub Does : {S C : Type 0} → (S → Option (List ℕ)) → Option Task → S → S → C → C → Outside D → Outside D → End → Type 0
-  Does remaining None source rest clock later old new end = (rest ≡ source) × (later ≡ clock) × (new ≡ old)
-  Does remaining (Some Run) source rest clock later old new end = Reads (remaining source) (remaining rest) end × RunsTo (remaining source) old new end
-  Does remaining (Some (Init node)) source rest clock later old new end = (rest ≡ source) × (later ≡ clock) × Makes node old new end
-
   -- the files other than the queue file read as before, and a crash leaves nothing else of them than it might before
   pub record OthersStay (old new : D) : Type 0 where
     pub reads : (f : ℕ) → f ≤ 2 → f ≢ 1 → m.seen new f ≡ m.seen old f
     pub no_more : (f : ℕ) (c : List ℕ) → f ≤ 2 → f ≢ 1 → m.may_leave new f c → m.may_leave old f c
+
+-- What a run leaves, whose symbiont was so and is so now.
+module _ {D Y : Type 0} (m : Meaning D) (y : symb.Meaning Y) (was now : Y) where
+  -- memory ran out at the opening of the queue file, which begins with a whole record
+  abbrev pub LacksMemory : Outside D → Outside D → Type 0
+  LacksMemory old new = TouchesNothing m y was now old new × (IsTrue m.tells → BeginsWithRecord (m.seen old.disk 1))
+
+  -- What serving these lines leaves, by its end.
+  abbrev pub ServesTo : List ScriptLine → Outside D → Outside D → End → Type 0
+  ServesTo lines old new ends.Ok = Serves m (ServesAll m y was now) old new lines
+  ServesTo lines old new ends.Usage = ⊥
+  ServesTo lines old new ends.Read = ⊥
+  ServesTo lines old new (ends.Script line kind) = TouchesNothing m y was now old new × (kind ≡ Node)
+  ServesTo lines old new ends.Write = Serves m (StopsWithin m y ends.Write was now) old new lines
+  ServesTo lines old new ends.Journal = TouchesNothing m y was now old new ⊎ Serves m (StopsWithin m y ends.Journal was now) old new lines
+  ServesTo lines old new (ends.Unformatted byte) = TouchesNothing m y was now old new
+  ServesTo lines old new (ends.Damaged file place) = TouchesNothing m y was now old new
+  ServesTo lines old new ends.HistoryFull = Serves m (ServesTooMany m y was now) old new lines
+  ServesTo lines old new ends.NoMemory = LacksMemory old new ⊎ Serves m (StopsWithin m y ends.NoMemory was now) old new lines
+
+  -- the outside is as it was
+  abbrev pub Stays : Outside D → Outside D → Type 0
+  Stays old new = (new ≡ old) × (now ≡ was)
+
+  -- What a run over what a source had left leaves, by its end. At Ok all lines were served and every run that could step was
+  -- carried out; at HistoryFull as many moves were made as one run may make. At Read, and at Script for another reason than the
+  -- node of a line, the disk wasn't looked at, nor where memory ran out before the script was known. At Journal and else at
+  -- NoMemory either nothing was served, or the run stopped within its moves; at Write it did.
+  abbrev pub RunsTo : Option (List ℕ) → Outside D → Outside D → End → Type 0
+  RunsTo left old new ends.Ok = ServesScript m left (ServesAll m y was now) old new
+  RunsTo left old new ends.Usage = ⊥
+  RunsTo left old new ends.Read = Stays old new
+  RunsTo left old new (ends.Script line kind) = TouchesNothing m y was now old new × (kind ≢ Node → new ≡ old)
+  RunsTo left old new ends.Write = ServesScript m left (StopsWithin m y ends.Write was now) old new
+  RunsTo left old new ends.Journal = (TouchesNothing m y was now old new × HasScript left) ⊎ ServesScript m left (StopsWithin m y ends.Journal was now) old new
+  RunsTo left old new (ends.Unformatted byte) = TouchesNothing m y was now old new × HasScript left
+  RunsTo left old new (ends.Damaged file place) = TouchesNothing m y was now old new × HasScript left
+  RunsTo left old new ends.HistoryFull = ServesScript m left (ServesTooMany m y was now) old new
+  RunsTo left old new ends.NoMemory = Stays old new ⊎ ((LacksMemory old new × HasScript left) ⊎ ServesScript m left (StopsWithin m y ends.NoMemory was now) old new)
+
+  -- What the program does, by what its words ask for. Words that ask for nothing touch nothing, and a run alone reads, asks the
+  -- clock and hands over blocks.
+  abbrev pub Does : {S C : Type 0} → (S → Option (List ℕ)) → Option Task → S → S → C → C → Outside D → Outside D → End → Type 0
+  Does remaining None source rest clock later old new end = (rest ≡ source) × (later ≡ clock) × (now ≡ was) × (new ≡ old)
+  Does remaining (Some Run) source rest clock later old new end = Reads (remaining source) (remaining rest) end × RunsTo (remaining source) old new end
+  Does remaining (Some (Init node)) source rest clock later old new end = (rest ≡ source) × (later ≡ clock) × (now ≡ was) × Makes m node old new end
 
 -- ---- causes
 
@@ -178,6 +190,7 @@ HasCause tells file Faulty old new ends.Write = (new.sink ≡ counted old.sink) 
 HasCause tells file Faulty old new ends.Journal = (new.disk ≡ counted old.disk) × (new.source ≡ old.source) × (new.sink ≡ old.sink)
 HasCause tells file Faulty old new (ends.Unformatted byte) = (new ≡ old) × (IsTrue tells → (byte ≡ first_byte file) × (byte ≢ 1))
 HasCause tells file Faulty old new (ends.Damaged f place) = (new ≡ old) × (IsTrue tells → (f ≡ 1) × IsDamagedFile file place)
+HasCause tells file Faulty old new ends.HistoryFull = new ≡ old
 HasCause tells file Faulty old new ends.NoMemory = new ≡ old
 
 -- ---- completeness

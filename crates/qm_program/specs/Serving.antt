@@ -2,20 +2,29 @@
 use Rattle.std.specs.Prelude.{◌≡◌, ◌⊎◌, ℕ, true, List, flat_map, Option, Result, Ok, Err}
 use Rattle.std.specs.Io.KnownBytes.{Appends}
 use Rattle.qm_kinds.specs.declared.input.Input.{Input}
-use Rattle.qm_kinds.specs.declared.input.Input.TheVariants.{Ask, Show, Fetch, Fault}
+use Rattle.qm_kinds.specs.declared.input.Input.TheVariants.{Ask, Show, Fault}
 use Rattle.qm_model.specs.Built.{is_built}
 use Rattle.qm_model.specs.Listing.{IsOfOneEntry}
-use Rattle.qm_model.specs.Transcript.{line_text}
+use Rattle.qm_model.specs.Transcript.{turn_text}
 use Rattle.qm_show.specs.declared.answer.Prefix.{Prefix}
 use Rattle.qm_disk.specs.Disk.{Meaning, OneFailed, IsQuiet}
 use Rattle.qm_manager.specs.declared.manager.Manager.{Manager}
 use Rattle.qm_manager.specs.Site.{Site}
 use Rattle.qm_manager.specs.Asking.{Steps, HasShortLists}
 use Rattle.qm_manager.specs.Manager.{site_of, node_of, disk_of, IsReady}
-use Rattle.qm_script.specs.declared.script.Line.{Line}
+use Rattle.qm_script.specs.declared.script.Line.{Line as CodeLine}
 use Rattle.qm_script.specs.Lines.{line_view}
-use Rattle.qm_program.specs.Course.{Outside, TakesPart}
-use Rattle.qm_program.specs.Transcript.{LineAt}
+use Rattle.qm_symb.specs.Device as symb
+use Rattle.qm_program.specs.Course.{Outside, TakesPart, MakesStep, StopsAtStep, ServesAll, ServesTooMany}
+use Rattle.qm_program.specs.declared.course.Served.{Served}
+use Rattle.qm_program.specs.declared.course.Served.TheVariants.{All, TooMany}
+use Rattle.qm_model.specs.Script.{ScriptLine}
+use Rattle.qm_program.specs.Handing.{Hands}
+use Rattle.qm_program.specs.declared.outcome.End.{End}
+use Rattle.qm_program.specs.declared.outcome.End.TheVariants as runs
+use Rattle.qm_program.specs.Transcript.{MoveAt, Line, Report, step_of}
+use Rattle.qm_history.specs.Course.{MadeStep}
+use Rattle.qm_program.specs.Moves.{Standing, IsNext, next_of, behind_move}
 use Rattle.qm_io.specs.Faults.{counted}
 use Rattle.qm_program.specs.declared.serve.ServeEnd.{ServeEnd}
 use Rattle.qm_program.specs.declared.serve.ServeEnd.TheVariants as ends
@@ -27,18 +36,21 @@ abbrev pub outside : {D : Type 0} → Manager D → Option (List ℕ) → Option
 outside manager taken told = record { disk = disk_of manager; taken = taken; told = told }
 
 -- a line of a script at a reading of the clock
-abbrev pub line_at : Line → ℕ → LineAt
-line_at l reading = record { line = line_view l; reading = reading }
+abbrev pub line_at : CodeLine → ℕ → MoveAt
+line_at l reading = record { move = Line (line_view l); reading = reading }
 
--- lines of the transcript, each behind the node and the number of the script's line
+-- a report of a step, at a reading of the clock
+abbrev pub report_at : MadeStep → ℕ → MoveAt
+report_at step reading = record { move = Report step; reading = reading }
+
+-- lines of the transcript, each behind the node and the number of the script's line, or -
 abbrev pub lines_behind : Prefix → List (List ℕ) → List ℕ
-lines_behind prefix lines = flat_map (line_text prefix.node prefix.line) lines
+lines_behind prefix lines = flat_map (turn_text prefix.node prefix.line) lines
 
 -- what can be asked of a manager
 abbrev pub IsAskable : Input → Type 0
 IsAskable (Ask request) = (is_built request ≡ true) × HasShortLists request
 IsAskable (Show query) = IsOfOneEntry query
-IsAskable (Fetch known) = Unit {0}
 IsAskable (Fault place kind) = Unit {0}
 IsAskable _ = ⊥
 
@@ -69,3 +81,24 @@ CountsSink old new (Ok done) = new ≡ old
 CountsSink old new (Err ends.Write) = new ≡ counted old
 CountsSink old new (Err ends.Journal) = new ≡ old
 CountsSink old new (Err ends.NoMemory) = new ≡ old
+
+module _ {D Y : Type 0} (m : Meaning D) (y : symb.Meaning Y) where
+  -- A node made the move that comes next, and is there where that leaves it: it handed over its blocks, and made its step.
+  pub record MakesMove (here there : Standing) (was now : Y) (old new : Outside D) : Type 0 where
+    pub move : MoveAt
+    pub is_next : IsNext here.node (next_of here.node) move.move
+    pub is_there : there ≡ behind_move here move
+    pub handed : Hands y move.move was now
+    pub made : MakesStep m here.site (step_of here.site move) old new
+
+  -- A node stopped at the move that comes next. Where memory ran out it may be that nothing was handed over.
+  pub record StopsAtMove (here : Standing) (was now : Y) (old new : Outside D) (end : End) : Type 0 where
+    pub move : MoveAt
+    pub is_next : IsNext here.node (next_of here.node) move.move
+    pub begun : Hands y move.move was now ⊎ ((end ≡ runs.NoMemory) × (now ≡ was))
+    pub stops : StopsAtStep m here.site (step_of here.site move) old new end
+
+  -- what the moves of a node leave that went so far
+  abbrev pub ServesSo : Served → Y → Y → Site → List ScriptLine → Outside D → Outside D → Type 0
+  ServesSo All was now site lines old new = ServesAll m y was now site lines old new
+  ServesSo TooMany was now site lines old new = ServesTooMany m y was now site lines old new

@@ -1,12 +1,14 @@
 // What follows from what a run leaves.
-ghost use Rattle.std.specs.Prelude.{◌≡◌, ℕ, List, Option, IsTrue};
+ghost use Rattle.std.specs.Prelude.{◌≡◌, ◌++◌, ℕ, List, Option, IsTrue};
 ghost use Rattle.std.specs.Io.KnownBytes.{Appends};
 ghost use Rattle.qm_disk.specs.Disk.{LeavesOnly};
 ghost use Rattle.qm_kinds.specs.declared.moment.TheConstants.{LAST_MOMENT};
 ghost use Rattle.qm_kinds.specs.declared.name.TheConstants.{NODE_NAME_BYTES, SHORT_NAME_BYTES};
 ghost use Rattle.qm_store.specs.declared.store.TheConstants.{QUEUE_CAP, QUEUE_FILE};
 ghost use Rattle.qm_manager.specs.Site.{Site};
-ghost use Rattle.qm_program.specs.Transcript.{Step, readings_taken, text_of};
+ghost use Rattle.qm_symb.specs.declared.handed.HandOver.{HandOver};
+ghost use Rattle.qm_program.specs.Handing.{AreBlocks, HandAll, counted_behind};
+ghost use Rattle.qm_program.specs.Transcript.{MoveAt, Step, readings_taken, text_of};
 ghost use Rattle.qm_program.specs.Course.{MakesSteps, StopsWithin};
 ghost use Rattle.qm_program.specs.Running.{OfScript, ServesScript, RunsTo};
 ghost use Rattle.qm_program.specs.Surviving.{Survives, AreServed, AreServedTo};
@@ -14,32 +16,34 @@ ghost use Rattle.qm_program.specs.declared.outcome.End.{End};
 
 use crate::outcome::End;
 use qm_disk::Disk;
+use qm_symb::Symbiont;
 
 /// A crash at any moment of a run leaves what a crash before it might leave; or, where what the source had left is a script,
-/// the queue file of its site after the first lines of the script, none to all, at the readings that the clock told in this
+/// the queue file of its site after the first moves of its node, none to all, at the readings that the clock told in this
 /// call, and of the other files what a crash before the run might leave.
-pub fn a_crash_leaves_the_site_after_some_lines<D: Disk>(old: &D, new: &D)
-    ensures { (left taken printed told later : Option (List ℕ)) (end : End) → RunsTo D.meaning left
+pub fn a_crash_leaves_the_site_after_some_moves<D: Disk, Y: Symbiont>(old: &D, new: &D, was: &Y, now: &Y)
+    ensures { (left taken printed told later : Option (List ℕ)) (end : End) → RunsTo D.meaning Y.meaning was.now now.now left
         (record { disk = old.now; taken = taken; told = told }) (record { disk = new.now; taken = printed; told = later }) end
         → IsTrue D.meaning.tells → LeavesOnly D.meaning old.now new.now
         (Survives left told later (D.meaning.may_leave old.now) (D.meaning.seen old.now 1)) }
 {}
 
-/// At `Ok` what the source had left is a script, which was served whole, each line at a reading that the clock told in this
-/// call, and the clock told no other.
-pub fn a_run_that_ends_well_has_served_its_script<D: Disk>(old: &D, new: &D)
-    ensures { (left taken printed told later : Option (List ℕ)) → RunsTo D.meaning left
+/// At `Ok` what the source had left is a script, which was served whole, and each run that could step was carried out: each move
+/// at a reading that the clock told in this call, and the clock told no other; and the symbiont handed over the blocks of these
+/// moves, in their order, and no others.
+pub fn a_run_that_ends_well_has_served_its_script<D: Disk, Y: Symbiont>(old: &D, new: &D, was: &Y, now: &Y)
+    ensures { (left taken printed told later : Option (List ℕ)) → RunsTo D.meaning Y.meaning was.now now.now left
         (record { disk = old.now; taken = taken; told = told }) (record { disk = new.now; taken = printed; told = later }) End.Ok
-        → OfScript left (AreServed D.meaning
+        → OfScript left (AreServed D.meaning Y.meaning was.now now.now
         (record { disk = old.now; taken = taken; told = told }) (record { disk = new.now; taken = printed; told = later })) }
 {}
 
-/// Where a run that served a script stopped within it, the first lines were served whole, and it stopped at the next. The
-/// clock told a reading for each of these lines, in this call, and no other.
-pub fn a_run_that_stops_has_served_its_first_lines<D: Disk>(old: &D, new: &D)
-    ensures { (left taken printed told later : Option (List ℕ)) (end : End) → ServesScript D.meaning left (StopsWithin D.meaning end)
+/// Where a run that served a script stopped within a move, those before it were made whole. The clock told a reading for each of
+/// these, in this call, and no other; and the symbiont handed over their blocks, and those of the one at which it stopped.
+pub fn a_run_that_stops_has_made_its_first_moves<D: Disk, Y: Symbiont>(old: &D, new: &D, was: &Y, now: &Y)
+    ensures { (left taken printed told later : Option (List ℕ)) (end : End) → ServesScript D.meaning left (StopsWithin D.meaning Y.meaning end was.now now.now)
         (record { disk = old.now; taken = taken; told = told }) (record { disk = new.now; taken = printed; told = later })
-        → OfScript left (AreServedTo D.meaning end
+        → OfScript left (AreServedTo D.meaning Y.meaning was.now now.now end
         (record { disk = old.now; taken = taken; told = told }) (record { disk = new.now; taken = printed; told = later })) }
 {}
 
@@ -51,6 +55,16 @@ pub fn steps_print_their_text<D: Disk>(old: &D, new: &D)
     ensures readings { (site : Site) (steps : List Step) (taken printed told later : Option (List ℕ)) → MakesSteps D.meaning site steps
         (record { disk = old.now; taken = taken; told = told }) (record { disk = new.now; taken = printed; told = later })
         → Appends told later (readings_taken steps) }
+{}
+
+/// Where moves handed over their blocks, and the symbiont tells what it took, that is the blocks of these moves in their order,
+/// each with its run and its device, and nothing else. Its count of faults rose by one for each move in which a device failed,
+/// and each of those reported the end with status 1028.
+pub fn moves_hand_over_their_blocks<Y: Symbiont>(was: &Y, now: &Y)
+    ensures blocks { (moves : List MoveAt) → HandAll Y.meaning moves was.now now.now → IsTrue Y.meaning.tells
+        → (taken : List HandOver) × AreBlocks moves taken × (Y.meaning.taken now.now ≡ Y.meaning.taken was.now ++ taken) }
+    ensures faults { (moves : List MoveAt) → HandAll Y.meaning moves was.now now.now
+        → Y.meaning.faults now.now ≡ counted_behind moves (Y.meaning.faults was.now) }
 {}
 
 /// A queue file takes 134,217,728 bytes at most. Definitions cite the number by its name, so here it is said.

@@ -1,6 +1,7 @@
 ghost use Rattle.std.specs.Prelude.{◌≡◌, Some};
-ghost use Rattle.qm_program.specs.Ends.{status_of, end_text, end_of, end_of_opening, end_of_making};
+ghost use Rattle.qm_program.specs.Ends.{status_of, end_text, end_of, end_of_served, end_of_opening, end_of_making};
 
+use crate::course::Served;
 use crate::serve::ServeEnd;
 use qm_disk::Disk;
 use qm_kinds::ScriptKind;
@@ -10,7 +11,8 @@ use std::fmt;
 /// How the program ended.
 #[derive(Clone, Copy, Debug, PartialEq, Eq)]
 pub enum End {
-    /// The script was read to its end, and every line was answered; or the files were made.
+    /// The script was read to its end, every line was answered, and each run that could step was carried out; or the files
+    /// were made.
     Ok,
     /// The words aren't those of the program.
     Usage,
@@ -27,6 +29,8 @@ pub enum End {
     Unformatted { byte: u8 },
     /// At this place, in bytes from 0, the file is no queue file.
     Damaged { file: u8, place: u64 },
+    /// As many moves were made as one run may make, and another one would come.
+    HistoryFull,
     /// There was no memory. The sink took the transcript up to a line, or nothing.
     NoMemory,
 }
@@ -45,7 +49,19 @@ impl End {
             End::Journal => 6,
             End::Unformatted { .. } => 7,
             End::Damaged { .. } => 8,
+            End::HistoryFull => 9,
             End::NoMemory => 10,
+        }
+    }
+}
+
+impl From<Served> for End {
+    ghost from_gives = { λ served end. end ≡ end_of_served served };
+
+    fn from(served: Served) -> End {
+        match served {
+            Served::All => End::Ok,
+            Served::TooMany => End::HistoryFull,
         }
     }
 }
@@ -100,6 +116,7 @@ impl fmt::Display for End {
             End::Journal => f.write_str("journal failed"),
             End::Unformatted { byte } => write!(f, "unformatted, byte {byte}"),
             End::Damaged { file, place } => write!(f, "damaged, file {file}, byte {place}"),
+            End::HistoryFull => f.write_str("history full"),
             End::NoMemory => f.write_str("no memory"),
         }
     }

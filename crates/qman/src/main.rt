@@ -9,9 +9,11 @@ ghost use Rattle.qm_program.specs.Ends.{status_of};
 mod advice;
 
 use advice::advice;
+use qm_batch::Standard;
 use qm_files::FileDisk;
 use qm_io::{InputSource, OutputSink, SystemClock};
 use qm_program::{End, Outcome, qman};
+use qm_symb::FileDevice;
 use std::alloc::AllocError;
 use std::io::IsTerminal;
 use std::process::ExitCode;
@@ -38,6 +40,13 @@ fn files(rt: &HostRuntime) -> Result<FileDisk<HostRuntime>, AllocError> {
     ))
 }
 
+// What carries out the runs of the folder's site: it hands their blocks to files of the folder. None is opened or made yet.
+fn symbiont(rt: &HostRuntime) -> Result<Standard<FileDevice<HostRuntime>>, AllocError> {
+    let alloc = rt.alloc();
+    let folder = String::from_str(alloc, ".")?;
+    Ok(Standard::new(alloc, FileDevice::new(rt.clone()?, folder)))
+}
+
 // How the program ended, and whether another run has the folder. A word that isn't UTF-8 is no word of the program.
 fn run(rt: &HostRuntime) -> (End, bool) {
     let words = match words(rt) {
@@ -46,6 +55,9 @@ fn run(rt: &HostRuntime) -> (End, bool) {
         Err(_) => return (End::NoMemory, false),
     };
     let Ok(disk) = files(rt) else {
+        return (End::NoMemory, false);
+    };
+    let Ok(mut symbiont) = symbiont(rt) else {
         return (End::NoMemory, false);
     };
     let mut clock = SystemClock::new(rt);
@@ -58,6 +70,7 @@ fn run(rt: &HostRuntime) -> (End, bool) {
         &mut sink,
         disk,
         &mut clock,
+        &mut symbiont,
     );
     let is_in_use = disk.is_in_use();
     disk.close();

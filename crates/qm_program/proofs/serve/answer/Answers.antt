@@ -31,13 +31,3 @@ pub returns-in_ok-show-in-Show-clause-text : goal.returns-in_ok-show-in-Show-cla
 returns-in_ok-show-in-Show-clause-text g c =
     subst (λ (input : Input). c.in_ok-show-in-Show.field-0.items ≡ lines_behind c.args.prefix.now (turn_of (site_of c.args.manager.now) c.args.now input).answer)
     (sym c.in-Show.is) c.in_ok-show-in-Show.ensures
-
-pub returns-in_err-show_fault-in-Fetch-clause-serves : goal.returns-in_err-show_fault-in-Fetch-clause-serves
-returns-in_err-show_fault-in-Fetch-clause-serves g c =
-    nothing_done_as g.D.Disk.meaning c.args.manager.now c.requires.ready (g.met.D.Disk.only_now (disk_of c.args.manager.now)) (turn_of (site_of c.args.manager.now) c.args.now c.args.input.now).site c.from_residual-in_err-show_fault-in-Fetch.result c.from_residual-in_err-show_fault-in-Fetch.ensures.1
-
-pub returns-in_ok-show_fault-in-Fetch-clause-serves : goal.returns-in_ok-show_fault-in-Fetch-clause-serves
-returns-in_ok-show_fault-in-Fetch-clause-serves g c =
-    let site = site_of c.args.manager.now in
-    only_answered g.D.Disk.meaning c.args.manager.now c.requires.ready (g.met.D.Disk.only_now (disk_of c.args.manager.now)) (turn_of site c.args.now c.args.input.now).site c.in_ok-show_fault-in-Fetch.field-0
-    (ap (λ (input : Input). (turn_of site c.args.now input).site) (sym c.in-Fetch.is))

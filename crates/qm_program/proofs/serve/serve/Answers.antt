@@ -15,7 +15,7 @@ returns-in_default-clause-stops g c = λ before told reads.
     step_wanting g.D.Disk.meaning line manager manager taken taken before told reads {X = ℕ} (nothing_done g.D.Disk.meaning manager c.requires.ready (g.met.D.Disk.only_now (disk_of manager)) (turn (site_of manager) line).site)
 
 pub answer-requires-clause-askable : goal.answer-requires-clause-askable
-answer-requires-clause-askable g c = rw c.in-Ok.ensures.input (input_askable (sort_view c.args.line.now.sort) c.args.now c.args.line.now.text.now)
+answer-requires-clause-askable g c = rw c.in-Ok.ensures.input (input_askable (sort_view c.args.line.now.sort) c.args.now c.args.line.now.text.now c.requires.no_step)
 
 pub returns-in-Ok-answer-clause-stops : goal.returns-in-Ok-answer-clause-stops
 returns-in-Ok-answer-clause-stops g c = λ before told reads.

@@ -12,7 +12,7 @@ returns-in-Some-Run-clause-complete g c asked told sound source sink counted =
     sound_completes disk.tells told (disk.seen c.args.disk 1) (g.S.Source.remaining c.args.source.now)
     (counts_of (g.S.Source.faults c.args.source.now) (g.O.Sink.faults c.args.sink.now) (disk.faults c.args.disk))
     (counts_of (g.S.Source.faults c.run.new.source) (g.O.Sink.faults c.run.new.sink) (disk.faults c.run.result.disk))
-    c.run.result.end (never_usage disk _ _ _ c.run.result.end c.run.ensures.runs) sound source sink counted c.run.ensures.cause
+    c.run.result.end (never_usage disk g.Y.Symbiont.meaning c.args.symbiont.now c.run.new.symbiont _ _ _ c.run.result.end c.run.ensures.runs) sound source sink counted c.run.ensures.cause
 
 pub returns-in-Some-Init-clause-cause : goal.returns-in-Some-Init-clause-cause
 returns-in-Some-Init-clause-cause g c =
@@ -40,7 +40,7 @@ returns-in-Some-Init-clause-does g c =
     let asked = task_of (map (string_bytes {Z = Global}) c.args.words.now) in
     let is : asked ≡ Some (Init c.in-Some-Init.node) = sym c.read_task-task.ensures ∙ c.in-Some-Init.is ∙ ap Some task in
     let told = g.C.Clock.told c.args.clock.now in
-    makes_as_asked g.D.Disk.meaning g.S.Source.remaining asked c.in-Some-Init.node is c.args.source.now c.args.clock.now
+    makes_as_asked g.D.Disk.meaning g.Y.Symbiont.meaning c.args.symbiont.now g.S.Source.remaining asked c.in-Some-Init.node is c.args.source.now c.args.clock.now
     (record { disk = c.args.disk; taken = g.O.Sink.taken c.args.sink.now; told = told })
     (record { disk = c.make.result.disk; taken = g.O.Sink.taken c.make.new.sink; told = told })
     c.make.result.end (c.make.ensures.makes told)
