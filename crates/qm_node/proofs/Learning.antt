@@ -81,7 +81,7 @@ runs_apart s node sound =
     let es : List Entry = filter (is_run_on node) s.entries in
     let on : All (λ (e : Entry). is_run_on node e ≡ true) es = filter_passes (is_run_on node) s.entries in
     let others : AllPairs (λ (a b : Entry). IfSome (run_of a.state) (λ run. run_of b.state ≢ Some run)) es =
-        AllPairs-filter (λ (a b : Entry). IfSome (run_of a.state) (λ run. run_of b.state ≢ Some run)) (is_run_on node) s.entries sound.entries.runs in
+    AllPairs-filter (λ (a b : Entry). IfSome (run_of a.state) (λ run. run_of b.state ≢ Some run)) (is_run_on node) s.entries sound.entries.runs in
     pairs_of Apart es
     (λ i j d below within. entries_apart (get_or es i d) (get_or es j d) (run_on node (get_or es i d).state (on i d (omega (arith, below, within)))) (run_on node (get_or es j d).state (on j d within)) (others i j d below within))
 

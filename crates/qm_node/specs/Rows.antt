@@ -53,11 +53,11 @@ StandOnce (run ∷ others) = AllByRecursion (λ (other : ℕ). (other == run) �
 pub record AreHeld {C : Type 0} (stands : Work → Place → C → Type 0) (rows : List (Row C)) (round : List ℕ) (made : Option Report)
     : Type 0
   where
-  pub order : IsInOrder nat_cmp (λ (row : Row C). row.run) rows
-  pub each : All (IsSound stands made round) rows
-  pub kept : AllByRecursion (λ (run : ℕ). IsSome (run_kept run (all_bare rows))) round
-  pub once : StandOnce round
-  pub stepping : IfSome made (λ told. IsSome (slice_get round 0))
+    pub order : IsInOrder nat_cmp (λ (row : Row C). row.run) rows
+    pub each : All (IsSound stands made round) rows
+    pub kept : AllByRecursion (λ (run : ℕ). IsSome (run_kept run (all_bare rows))) round
+    pub once : StandOnce round
+    pub stepping : IfSome made (λ told. IsSome (slice_get round 0))
 
 -- the rows in front of a step: no report is to be told
 abbrev pub AreAtPlaces : {C : Type 0} → (Work → Place → C → Type 0) → List (Row C) → Type 0

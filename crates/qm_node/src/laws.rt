@@ -15,5 +15,5 @@ pub fn duties_can_be_learned()
 /// Behind a step and its report, however that was answered, fewer reports are left to the runs of the round: so a round ends.
 pub fn steps_lower_the_reports_left()
     ensures { (kept : KeptRuns) (k : KeptRun) (end : StepEnd) (goes_on : Bool) → next_kept kept ≡ Some k →
-      reports_left (behind_next kept (report_told k end) goes_on) < reports_left kept }
+        reports_left (behind_next kept (report_told k end) goes_on) < reports_left kept }
 {}

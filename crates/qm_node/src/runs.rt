@@ -142,7 +142,7 @@ impl<Y: Symbiont> NodeRuns<Y> {
     pub fn told(&mut self, goes_on: bool)
         requires { IsSome self.old.made }
         ensures { IfSome self.old.made (λ told.
-          self.new ≡ record { kept = behind_next self.old.kept told goes_on; made = None }) }
+            self.new ≡ record { kept = behind_next self.old.kept told goes_on; made = None }) }
     {
         let Some(made) = self.made.take() else {
             unreachable!()
@@ -191,7 +191,7 @@ fn step_first<Y: Symbiont>(
     ensures order { IsInOrder nat_cmp (λ row. row.run) rows.new.items }
     ensures sound { IfOk result (λ told. All (IsSound Y.stands (Some told) round.now) rows.new.items) }
     ensures step { IfOk result (λ told. (steps : ℕ) →
-      NextSteps Y.meaning (seen rows.old.items round.now steps) told symbiont.old symbiont.new) }
+        NextSteps Y.meaning (seen rows.old.items round.now steps) told symbiont.old symbiont.new) }
     ensures at_places { OnErr result (AreAtPlaces Y.stands rows.new.items) }
     ensures nothing_handed { OnErr result (symbiont.new ≡ symbiont.old) }
 {
@@ -209,8 +209,8 @@ fn settle<Y: Symbiont>(
     requires { AreHeld Y.stands rows.old.items round.old.items (Some made.now) }
     ensures held { AreHeld Y.stands rows.new.items round.new.items None }
     ensures settled { (steps : ℕ) →
-      seen rows.new.items round.new.items (steps - 1)
-      ≡ behind_next (seen rows.old.items round.old.items steps) made.now goes_on }
+        seen rows.new.items round.new.items (steps - 1)
+        ≡ behind_next (seen rows.old.items round.old.items steps) made.now goes_on }
 {
     match made {
         Report::Mark { next, .. } => {
@@ -229,8 +229,8 @@ fn go_on<Y: Symbiont>(rows: &mut Vec<Row<Y::Cursor>>, round: &mut Vec<u64>, next
     requires held { (value : List ℕ) × AreHeld Y.stands rows.old.items round.old.items (Some (Mark value next)) }
     ensures held { AreHeld Y.stands rows.new.items round.new.items None }
     ensures settled { (steps : ℕ) (value : List ℕ) →
-      seen rows.new.items round.new.items (steps - 1)
-      ≡ behind_next (seen rows.old.items round.old.items steps) (Mark value next) true }
+        seen rows.new.items round.new.items (steps - 1)
+        ≡ behind_next (seen rows.old.items round.old.items steps) (Mark value next) true }
 {
     let place = place_of_next(rows, round);
     rows[place].place = next;
@@ -243,8 +243,8 @@ fn forget<Y: Symbiont>(rows: &mut Vec<Row<Y::Cursor>>, round: &mut Vec<u64>)
     requires some { IsSome (slice_get round.old.items 0) }
     ensures held { AreHeld Y.stands rows.new.items round.new.items None }
     ensures settled { (steps status : ℕ) (goes_on : Bool) →
-      seen rows.new.items round.new.items (steps - 1)
-      ≡ behind_next (seen rows.old.items round.old.items steps) (Done status) goes_on }
+        seen rows.new.items round.new.items (steps - 1)
+        ≡ behind_next (seen rows.old.items round.old.items steps) (Done status) goes_on }
 {
     let place = place_of_next(rows, round);
     rows.remove(place);
@@ -263,7 +263,7 @@ fn take_shown<Y: Symbiont>(
     ensures shown { option_map bare result ≡ kept_of 0 (all_bare old.old.items) duty duty.work }
     ensures sound { IfSome result (IsSound Y.stands None []) }
     ensures others { (run : ℕ) → (run == duty.run) ≡ false →
-      run_kept run (all_bare old.new.items) ≡ run_kept run (all_bare old.old.items) }
+        run_kept run (all_bare old.new.items) ≡ run_kept run (all_bare old.old.items) }
     ensures order { IsInOrder nat_cmp (λ row. row.run) old.new.items }
     ensures each { AreAtPlaces Y.stands old.new.items }
 {
@@ -322,9 +322,9 @@ fn move_one<Y: Symbiont>(
     requires limits { IfSome duty.work IsWithinLimits }
     requires room { vec_len rows.old < vec_capacity rows.old }
     ensures shown { all_bare rows.new.items
-      ≡ all_bare rows.old.items ++ cons_option (kept_of 0 (all_bare old.old.items) duty duty.work) [] }
+        ≡ all_bare rows.old.items ++ cons_option (kept_of 0 (all_bare old.old.items) duty duty.work) [] }
     ensures others { (run : ℕ) → (run == duty.run) ≡ false →
-      run_kept run (all_bare old.new.items) ≡ run_kept run (all_bare old.old.items) }
+        run_kept run (all_bare old.new.items) ≡ run_kept run (all_bare old.old.items) }
     ensures order { IsInOrder nat_cmp (λ row. row.run) old.new.items }
     ensures each { AreAtPlaces Y.stands old.new.items }
     ensures moved { AreAtPlaces Y.stands rows.new.items }

@@ -222,10 +222,16 @@ reads_on p lines held reads none = subst (λ (s : Stage). next_of (state_of (rec
 -- the next move of a node that reads on
 pub line_or_fetch : (p : Position) (lines : List CodeLine) (held : HeldRuns) (comes : Next) → p.stage ≡ stage.Reading → IsReadOn held.kept.steps held.kept.round → IsLineOrFetch p lines comes
     → IsNextMove p lines held comes
-line_or_fetch p lines held (next.Line line) reads none is = (is.0, is.1, (asked_by_system (lines_view (drop (suc p.at) lines)),
+line_or_fetch p lines held (next.Line line) reads none is = (
+  is.0,
+  is.1,
+  (
+    asked_by_system (lines_view (drop (suc p.at) lines)),
     reads_on p lines held reads none
-    ∙ ap (λ (ls : List CodeLine). next_line true (asked_by_system (lines_view ls))) (drop-cons lines p.at line.now is.0)
-    ∙ ap (λ (l : CodeLine). ALine (line_by_system (line_view l)) (asked_by_system (lines_view (drop (suc p.at) lines)))) (sym is.1)))
+        ∙ ap (λ (ls : List CodeLine). next_line true (asked_by_system (lines_view ls))) (drop-cons lines p.at line.now is.0)
+        ∙ ap (λ (l : CodeLine). ALine (line_by_system (line_view l)) (asked_by_system (lines_view (drop (suc p.at) lines)))) (sym is.1),
+  ),
+)
 line_or_fetch p lines held (next.Step run) reads none is = absurd is
 line_or_fetch p lines held next.Fetch reads none past =
     reads_on p lines held reads none

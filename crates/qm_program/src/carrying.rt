@@ -29,8 +29,10 @@ pub(crate) fn learn_runs<D: Disk, Y: Symbiont>(
     requires ready { IsReady D.meaning manager.now }
     requires told { runs.old.made ≡ None }
     ensures count { IfOk result (λ count. count ≡ length (runs_shown (site_of manager.now) (known runs.old.kept))) }
-    ensures runs { OnOk result (runs.new ≡ record runs.old { kept = with_duties 0 runs.old.kept steps
-        (runs_shown (site_of manager.now) (known runs.old.kept)) }) }
+    ensures runs { OnOk result (runs.new ≡ record runs.old {
+      kept = with_duties 0 runs.old.kept steps
+          (runs_shown (site_of manager.now) (known runs.old.kept));
+    }) }
 {
     lawful_sites_are_consistent();
     duties_can_be_learned();

@@ -10,6 +10,7 @@ ghost use Rattle.qm_symb.specs.declared.handed.HandOver.{HandOver};
 ghost use Rattle.qm_program.specs.Handing.{AreBlocks, HandAll, counted_behind};
 ghost use Rattle.qm_program.specs.Transcript.{MoveAt, Step, readings_taken, text_of};
 ghost use Rattle.qm_program.specs.Course.{MakesSteps, StopsWithin};
+ghost use Rattle.qm_program.specs.declared.course.TheConstants.{MOVES_LIMIT};
 ghost use Rattle.qm_program.specs.Running.{OfScript, ServesScript, RunsTo};
 ghost use Rattle.qm_program.specs.Surviving.{Survives, AreServed, AreServedTo};
 ghost use Rattle.qm_program.specs.declared.outcome.End.{End};
@@ -21,7 +22,12 @@ use qm_symb::Symbiont;
 /// A crash at any moment of a run leaves what a crash before it might leave; or, where what the source had left is a script,
 /// the queue file of its site after the first moves of its node, none to all, at the readings that the clock told in this
 /// call, and of the other files what a crash before the run might leave.
-pub fn a_crash_leaves_the_site_after_some_moves<D: Disk, Y: Symbiont>(old: &D, new: &D, was: &Y, now: &Y)
+pub fn a_crash_leaves_the_site_after_some_moves<D: Disk, Y: Symbiont>(
+    old: &D,
+    new: &D,
+    was: &Y,
+    now: &Y,
+)
     ensures { (left taken printed told later : Option (List ℕ)) (end : End) → RunsTo D.meaning Y.meaning was.now now.now left
         (record { disk = old.now; taken = taken; told = told }) (record { disk = new.now; taken = printed; told = later }) end
         → IsTrue D.meaning.tells → LeavesOnly D.meaning old.now new.now
@@ -31,7 +37,12 @@ pub fn a_crash_leaves_the_site_after_some_moves<D: Disk, Y: Symbiont>(old: &D, n
 /// At `Ok` what the source had left is a script, which was served whole, and each run that could step was carried out: each move
 /// at a reading that the clock told in this call, and the clock told no other; and the symbiont handed over the blocks of these
 /// moves, in their order, and no others.
-pub fn a_run_that_ends_well_has_served_its_script<D: Disk, Y: Symbiont>(old: &D, new: &D, was: &Y, now: &Y)
+pub fn a_run_that_ends_well_has_served_its_script<D: Disk, Y: Symbiont>(
+    old: &D,
+    new: &D,
+    was: &Y,
+    now: &Y,
+)
     ensures { (left taken printed told later : Option (List ℕ)) → RunsTo D.meaning Y.meaning was.now now.now left
         (record { disk = old.now; taken = taken; told = told }) (record { disk = new.now; taken = printed; told = later }) End.Ok
         → OfScript left (AreServed D.meaning Y.meaning was.now now.now
@@ -40,7 +51,12 @@ pub fn a_run_that_ends_well_has_served_its_script<D: Disk, Y: Symbiont>(old: &D,
 
 /// Where a run that served a script stopped within a move, those before it were made whole. The clock told a reading for each of
 /// these, in this call, and no other; and the symbiont handed over their blocks, and those of the one at which it stopped.
-pub fn a_run_that_stops_has_made_its_first_moves<D: Disk, Y: Symbiont>(old: &D, new: &D, was: &Y, now: &Y)
+pub fn a_run_that_stops_has_made_its_first_moves<D: Disk, Y: Symbiont>(
+    old: &D,
+    new: &D,
+    was: &Y,
+    now: &Y,
+)
     ensures { (left taken printed told later : Option (List ℕ)) (end : End) → ServesScript D.meaning left (StopsWithin D.meaning Y.meaning end was.now now.now)
         (record { disk = old.now; taken = taken; told = told }) (record { disk = new.now; taken = printed; told = later })
         → OfScript left (AreServedTo D.meaning Y.meaning was.now now.now end
@@ -75,6 +91,11 @@ pub fn a_queue_file_has_a_cap()
 /// The queue file is file 1 of a disk. Definitions cite the number by its name, so here it is said.
 pub fn the_queue_file_has_a_number()
     ensures { QUEUE_FILE ≡ 1 }
+{}
+
+/// A run makes 1,000,000 moves at most. Definitions cite the number by its name, so here it is said.
+pub fn a_run_makes_so_many_moves_at_most()
+    ensures { MOVES_LIMIT ≡ 1000000 }
 {}
 
 /// The last moment is 25,690,901,759,999 hundredths of a second behind the base date. Definitions cite the number by its name,

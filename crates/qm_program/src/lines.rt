@@ -38,8 +38,10 @@ fn answer_step<D: Disk, Y: Symbiont>(
     requires asked { steps_of_line (line_view line.now).sort (line_view line.now).text ≡ Some steps }
     ensures text { (now : ℕ) → IfOk result (λ text. text.items ≡ answer_text (site_of manager.now) (line_at line.now now).move
         (turn (site_of manager.now) (line_at line.now now)).answer) }
-    ensures runs { OnOk result (runs.new ≡ record runs.old { kept = kept_behind_line (site_of manager.now)
-        (steps_of_line (line_view line.now).sort (line_view line.now).text) runs.old.kept }) }
+    ensures runs { OnOk result (runs.new ≡ record runs.old {
+      kept = kept_behind_line (site_of manager.now)
+          (steps_of_line (line_view line.now).sort (line_view line.now).text) runs.old.kept;
+    }) }
 {
     let prefix = Prefix {
         node: line.node,
@@ -75,8 +77,10 @@ fn serve_step<O: Sink, D: Disk, Y: Symbiont>(
         (outside manager.now (O.taken sink.old) before) (outside manager.now (O.taken sink.new) told) (end_of end)) }
     ensures sink { CountsSink (O.faults sink.old) (O.faults sink.new) result }
     ensures site { OnOk result (site_of manager.now ≡ (turn (site_of manager.now) (line_at line.now now)).site) }
-    ensures runs { OnOk result (runs.new ≡ record runs.old { kept = kept_behind_line (site_of manager.now)
-        (steps_of_line (line_view line.now).sort (line_view line.now).text) runs.old.kept }) }
+    ensures runs { OnOk result (runs.new ≡ record runs.old {
+      kept = kept_behind_line (site_of manager.now)
+          (steps_of_line (line_view line.now).sort (line_view line.now).text) runs.old.kept;
+    }) }
 {
     match answer_step(alloc, manager, runs, line, steps, symbiont) {
         Ok(text) => match write_whole(sink, &text) {
@@ -112,8 +116,10 @@ fn answer_line<O: Sink, D: Disk, Y: Symbiont>(
     ensures ready { OnOk result (IsReady D.meaning manager.new) }
     ensures site { OnOk result (site_of manager.new ≡ (turn (site_of manager.old) (line_at line.now now)).site) }
     ensures node { OnOk result (node_of manager.new ≡ node_of manager.old) }
-    ensures runs { OnOk result (runs.new ≡ record runs.old { kept = kept_behind_line (site_of manager.old)
-        (steps_of_line (line_view line.now).sort (line_view line.now).text) runs.old.kept }) }
+    ensures runs { OnOk result (runs.new ≡ record runs.old {
+      kept = kept_behind_line (site_of manager.old)
+          (steps_of_line (line_view line.now).sort (line_view line.now).text) runs.old.kept;
+    }) }
 {
     match steps_asked(line) {
         Some(steps) => serve_step(alloc, manager, now, runs, line, steps, sink, symbiont),

@@ -8,15 +8,15 @@ ghost use Rattle.qm_program.specs.Course.{ServesNothing};
 ghost use Rattle.qm_program.specs.Running.{Does, Reads, RunsTo, ServesTo, Makes, OthersStay, HasCause, IsFaulty, IsOfAnother, IsWithoutFault, HasSoundScript};
 ghost use Rattle.qm_program.specs.declared.task.Task.TheVariants.{Run};
 
-use crate::outcome::{End, Outcome};
 use crate::course::serve_all;
+use crate::outcome::{End, Outcome};
 use crate::task::{Task, read_task};
 use qm_disk::Disk;
 use qm_io::{Clock, ReadEnd, Sink, Source, read_whole, write_whole};
 use qm_kinds::{NODE_NAME_BYTES, Name, ScriptKind};
 use qm_manager::{Manager, init};
-use qm_symb::Symbiont;
 use qm_script::{Line, SCRIPT_BYTES, ScriptEnd, are_of_node, read_script};
+use qm_symb::Symbiont;
 use std::alloc::Global;
 
 // A script that can't be read, or can't be served here.

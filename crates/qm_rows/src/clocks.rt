@@ -33,8 +33,7 @@ fn a_record_has_the_moment_at_which_its_request_acts(rt: HostRuntime) -> Result<
     let clock = clock(alloc, &READINGS)?;
     let mut symbiont = symbiont_with(alloc, &[])?;
     let site = site(&rt)?;
-    let (end, printed, disk) =
-        call(alloc, &["run"], source, sink, site, clock, &mut symbiont)?;
+    let (end, printed, disk) = call(alloc, &["run"], source, sink, site, clock, &mut symbiont)?;
     assert_eq!(rt; end, End::Ok);
     assert_eq!(rt; printed.as_slice(), TRANSCRIPT);
     let file = site_and(alloc, &[APPEND_AT_4, APPEND_AT_5, APPEND_AT_5])?;

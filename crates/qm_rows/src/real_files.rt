@@ -28,8 +28,7 @@ fn ran(rt: &HostRuntime, words: &[&str], script: &[u8]) -> Result<(End, Vec<u8>)
     let disk = files(rt.clone()?)?;
     let clock = clock(alloc, &[])?;
     let mut symbiont = symbiont_with(alloc, &[])?;
-    let (end, printed, disk) =
-        call(alloc, words, source, sink, disk, clock, &mut symbiont)?;
+    let (end, printed, disk) = call(alloc, words, source, sink, disk, clock, &mut symbiont)?;
     disk.close();
     Ok((end, printed))
 }

@@ -118,8 +118,7 @@ pub(crate) fn run_with(
     let sink = MemorySink::new(alloc, writes_that_fail.to_vec(alloc)?);
     let clock = clock(alloc, &[])?;
     let mut symbiont = symbiont_with(alloc, &[])?;
-    let (end, transcript, disk) =
-        call(alloc, words, source, sink, disk, clock, &mut symbiont)?;
+    let (end, transcript, disk) = call(alloc, words, source, sink, disk, clock, &mut symbiont)?;
     Ok(Ran {
         end,
         transcript,
@@ -164,8 +163,15 @@ pub(crate) fn run_on<R: Abort + AllocGlobal>(
     let clock = clock(alloc, &[])?;
     let mut symbiont = symbiont_with(alloc, calls_that_fail)?;
     let words = ["run"];
-    let (end, transcript, disk) =
-        call(alloc, &words, source, sink, site(rt)?, clock, &mut symbiont)?;
+    let (end, transcript, disk) = call(
+        alloc,
+        &words,
+        source,
+        sink,
+        site(rt)?,
+        clock,
+        &mut symbiont,
+    )?;
     let mut handed = Vec::new(alloc);
     for taken in symbiont.device().held() {
         handed.extend_from_slice(taken.block.as_slice())?;

@@ -20,7 +20,12 @@ const SHAPE: Shape = Shape {
     wrap: true,
 };
 
-pub(crate) fn job(alloc: Global, kind: JobKind, text: &[u8], mark: &[u8]) -> Result<Work, AllocError> {
+pub(crate) fn job(
+    alloc: Global,
+    kind: JobKind,
+    text: &[u8],
+    mark: &[u8],
+) -> Result<Work, AllocError> {
     Ok(Work {
         run: 3,
         entry: 7,
