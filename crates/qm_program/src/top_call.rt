@@ -131,11 +131,13 @@ fn run<S: Source, O: Sink, D: Disk, C: Clock, Y: Symbiont>(
 /// of another node than the file), then `Write` (the sink failed), `Journal` (the disk failed), `HistoryFull` and `NoMemory` as
 /// they arise.
 ///
-/// Two laws say what follows from the clause `does` of a run. At `Ok` the script was served whole: the sink took its
-/// transcript over the site of the queue file, at the readings that the clock told in this call, one for each line, and the
-/// file is then that of the site after all lines ([`crate::a_run_that_ends_well_has_served_its_script`]). And a crash at any
-/// moment leaves the queue file of the site after the first lines of the script, none to all, or what a crash before the run
-/// might leave ([`crate::a_crash_leaves_the_site_after_some_moves`]).
+/// Three laws say what follows from the clause `does` of a run. At `Ok` the script was served whole, and each run that could
+/// step was carried out: the sink took what these moves print over the site of the queue file, at the readings that the clock
+/// told in this call, one for each move, and the file is then that of the site after all of them
+/// ([`crate::a_run_that_ends_well_has_served_its_script`]). A crash at any moment leaves the queue file of the site after the
+/// first moves, none to all, or what a crash before the run might leave ([`crate::a_crash_leaves_the_site_after_some_moves`]).
+/// And what the symbiont's devices took in this call is the blocks of these moves, in their order
+/// ([`crate::moves_hand_over_their_blocks`]).
 pub fn qman<S: Source, O: Sink, D: Disk, C: Clock, Y: Symbiont>(
     alloc: Global,
     words: &[String],
