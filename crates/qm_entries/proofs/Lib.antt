@@ -1,4 +1,5 @@
 pub mod Outcomes
 pub mod Boxes
 pub mod Numbers
+pub mod LastOne
 pub mod Behind

@@ -13,12 +13,24 @@ use qm_kinds::{
     CharacteristicSet, Entry, EntryState, FileName, JobKind, JobRetain, Mark, system_user,
 };
 
-/// Where the entry of a number stands, or where one would belong. It asks a logarithm of the entries.
-pub(crate) fn place_of(boxes: &[Box<Entry>], number: u32) -> Result<usize, usize>
+// Where the entry of a number stands, or where one would belong, by a logarithm of the entries.
+fn searched(boxes: &[Box<Entry>], number: u32) -> Result<usize, usize>
     requires { IsInOrder nat_cmp (λ e. e.number) (contents boxes.now) }
     ensures { IsPlace nat_cmp (λ e. e.number) number (contents boxes.now) result }
 {
     boxes.binary_search_by(|entry| entry.number.cmp(&number))
+}
+
+/// Where the entry of a number stands, or where one would belong. The last one is asked first, since an entry that has just come
+/// is looked for most; else it asks a logarithm of the entries.
+pub(crate) fn place_of(boxes: &[Box<Entry>], number: u32) -> Result<usize, usize>
+    requires { IsInOrder nat_cmp (λ e. e.number) (contents boxes.now) }
+    ensures { IsPlace nat_cmp (λ e. e.number) number (contents boxes.now) result }
+{
+    match boxes.last() {
+        Some(last) if last.number == number => Ok(boxes.len() - 1),
+        _ => searched(boxes, number),
+    }
 }
 
 /// Where the first entry of a greater number stands, or would.

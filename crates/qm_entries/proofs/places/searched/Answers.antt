@@ -1,0 +1,16 @@
+use Rattle.std.proofs.Common.{rules}
+use Rattle.std.specs.Ordering.{nat_cmp}
+use Rattle.std.specs.Cmp.{nat_cmp_total}
+use Rattle.qm_keyed.proofs.Mapped.{order_unmapped, place_mapped}
+use Rattle.qm_keyed.proofs.Searches.{place_from_clause}
+use Rattle.qm_entries.proofs.Boxes.{value_of}
+use Rattle.qm_entries.proofs.Numbers.{number_of}
+use Rattle.qm_entries.proofs.places.searched.Goals as goal
+
+-- the closure compares numbers
+pub returns : goal.returns
+returns c =
+    place_mapped nat_cmp value_of number_of c.args.boxes.now c.args.number c.binary_search_by.result
+    (place_from_clause nat_cmp_total (λ b. number_of (value_of b)) c.args.number c.args.boxes.now (order_unmapped nat_cmp value_of number_of c.args.boxes.now c.requires)
+    c.binary_search_by.result c.binary_search_by.ensures.bound c.binary_search_by.ensures.position
+    (λ a q f called. search rules))
