@@ -23,3 +23,4 @@ pub mod ReadyRows
 pub mod FirstReady
 pub mod ByRun
 pub mod OneQueue
+pub mod KeptTimers

@@ -4,3 +4,4 @@ pub mod Choosing
 pub mod Starts
 pub mod Ready
 pub mod ByRun
+pub mod Timing

@@ -7,8 +7,8 @@ use Rattle.qm_kinds.specs.declared.queue.Queue.{Queue}
 use Rattle.qm_kinds.specs.declared.system.Node.{Node}
 use Rattle.qm_kinds.specs.declared.system.System.{System}
 
--- the forms, the characteristics and the entries by number, the queues by name, the number of the next run, and how many more of each
--- have room
+-- the forms, the characteristics and the entries by number, the queues by name, the number of the next run, the timers in order of
+-- their moments, and how many more of each have room
 pub record Tables : Type 0 where
   pub nodes : List Node
   pub forms : List Form
@@ -16,11 +16,13 @@ pub record Tables : Type 0 where
   pub queues : List Queue
   pub entries : List Entry
   pub next_run : ℕ
+  pub timers : List (ℕ × ℕ)
   pub spare_forms : ℕ
   pub spare_characteristics : ℕ
   pub spare_queues : ℕ
   pub spare_entries : ℕ
   pub spare_runs : ℕ
+  pub spare_timers : ℕ
 
 -- the system with what the tables hold in place of its own
 abbrev pub with_tables : System → Tables → System

@@ -1,5 +1,5 @@
-//! The tables that belong together. `TableSet` keeps nodes, forms, characteristics, queues, entries and runs, and sees to it
-//! that the runs are just those of the entries. `Parts` keeps beside them, for each queue, the row of the jobs that it can
+//! The tables that belong together. `TableSet` keeps nodes, forms, characteristics, queues, entries, runs and timers, and sees
+//! to it that the runs are just those of the entries. `Parts` keeps beside them, for each queue, the row of the jobs that it can
 //! start as soon as it has a place. `settle` starts the jobs that can start.
 #![tactic(auto)]
 
@@ -17,6 +17,7 @@ mod running;
 mod settling;
 mod sweeping;
 mod tables;
+mod timing;
 
 pub use choosing::{places, see_entries};
 pub use laws::starts_are_few;

@@ -32,10 +32,10 @@ use qm_ready::ReadyRow;
 use std::alloc::{AllocError, Global};
 use std::marker::Model;
 
-/// Nodes, forms, characteristics, queues, entries and runs, and for each queue a row of the jobs that it can start as soon as
-/// it has a place, in the order in which it takes them. Contracts see `Tables`: each of the lists but that of the runs, which
-/// are just those of the entries that run or are aborting, the number of the next run, and how many more forms,
-/// characteristics, queues, entries and runs have room. An invariant keeps the rows to the entries.
+/// Nodes, forms, characteristics, queues, entries, runs and timers, and for each queue a row of the jobs that it can start as
+/// soon as it has a place, in the order in which it takes them. Contracts see `Tables`: each of the lists but that of the runs,
+/// which are just those of the entries that run or are aborting, the number of the next run, and how many more forms,
+/// characteristics, queues, entries, runs and timers have room. An invariant keeps the rows to the entries.
 ///
 /// Each row has room for each entry. Only the calls named `reserve_..` take memory.
 #[derive(Drop)]

@@ -44,8 +44,7 @@ pub fn settle<L: Ledger>(parts: &mut Parts, out: &mut Vec<Start>, looks: &mut St
     requires runs { (s : System) → length (settled (with_tables s parts.old)).started ≤ parts.old.spare_runs }
     ensures settled { (s : System) → settled (with_tables s parts.old) ≡ record { system = with_tables s parts.new; started = out.new.items } }
     ensures looks { looks.new ≤ looks.old + length out.new.items + execution_queues parts.old.queues }
-    ensures spare_entries { parts.new.spare_entries ≡ parts.old.spare_entries }
-    ensures spare_queues { parts.new.spare_queues ≡ parts.old.spare_queues }
+    ensures rest { parts.new ≡ record parts.old { entries = parts.new.entries; next_run = parts.new.next_run; spare_runs = parts.new.spare_runs } }
 {
     let mut behind: Option<Name> = None;
     while let Some(queue) = parts.queue_after(behind.as_ref()) {

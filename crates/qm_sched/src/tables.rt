@@ -13,12 +13,14 @@ use qm_forms::FormTable;
 use qm_kinds::{Characteristic, Entry, Form, Name, Node, Queue, Seq};
 use qm_queues::QueueTable;
 use qm_runs::Runs;
+use qm_timers::Timers;
 use std::alloc::{AllocError, Global};
 use std::marker::Model;
 
-/// Nodes, forms, characteristics, queues, entries and runs, without the rows of ready jobs: what is opened, and what `Parts`
-/// stands on. Contracts see `Tables`: each of the lists but that of the runs, which are just those of the entries that run or
-/// are aborting, the number of the next run, and how many more forms, characteristics, queues, entries and runs have room.
+/// Nodes, forms, characteristics, queues, entries, runs and timers, without the rows of ready jobs: what is opened, and what
+/// `Parts` stands on. Contracts see `Tables`: each of the lists but that of the runs, which are just those of the entries that
+/// run or are aborting, the number of the next run, and how many more forms, characteristics, queues, entries, runs and timers
+/// have room.
 ///
 /// Only the calls named `reserve_..` take memory.
 #[derive(Drop)]
@@ -28,6 +30,8 @@ pub struct TableSet {
     pub(crate) queues: QueueTable,
     pub(crate) entries: EntryTable,
     pub(crate) runs: Runs,
+    /// The moments that entries wait for, and those until which they are kept, each under the entry's number.
+    pub(crate) timers: Timers,
 }
 
 impl Model for TableSet {
@@ -43,18 +47,20 @@ impl Model for TableSet {
       queues = p.queues.queues;
       entries = p.entries.entries;
       next_run = p.runs.next;
+      timers = p.timers.timers;
       spare_forms = p.forms.spare_forms;
       spare_characteristics = p.forms.spare_characteristics;
       spare_queues = p.queues.spare;
       spare_entries = p.entries.spare;
       spare_runs = p.runs.spare;
+      spare_timers = p.timers.spare;
     } };
 
     ghost invariant = { λ p. Mirrors p.runs.runs p.entries.entries };
 }
 
 impl TableSet {
-    /// These nodes, forms, characteristics and queues, no entry, and room for none. It takes no memory.
+    /// These nodes, forms, characteristics and queues, no entry and no timer, and room for none. It takes no memory.
     pub fn new(
         alloc: Global,
         nodes: Seq<Node>,
@@ -69,11 +75,13 @@ impl TableSet {
           queues = queues.queues;
           entries = [];
           next_run = next_run;
+          timers = [];
           spare_forms = forms.spare_forms;
           spare_characteristics = forms.spare_characteristics;
           spare_queues = queues.spare;
           spare_entries = 0;
           spare_runs = 0;
+          spare_timers = 0;
         } }
     {
         TableSet {
@@ -82,6 +90,7 @@ impl TableSet {
             queues,
             entries: EntryTable::new(alloc),
             runs: Runs::new(alloc, next_run),
+            timers: Timers::new(alloc),
         }
     }
 

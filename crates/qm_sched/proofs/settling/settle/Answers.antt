@@ -1,4 +1,4 @@
-use Rattle.std.proofs.Common.{◌∷◌, None, refl, sym, ◌∙◌, ap, subst, List, [], length, arith, count_by}
+use Rattle.std.proofs.Common.{◌∷◌, ◌-◌, None, refl, sym, ◌∙◌, ap, subst, List, [], length, arith, count_by}
 use Rattle.std.specs.Option.{option_copied}
 use Rattle.std.proofs.lemmas.List.{length-append}
 use Rattle.qm_kinds.specs.declared.run.Start.{Start}
@@ -15,8 +15,7 @@ loop-queue-init g c = record {
   runs = omega (arith, ap length c.requires.empty);
   looks = omega (arith, ap length c.requires.empty, all_behind c.args.parts.now.queues);
   capacity = refl;
-  spare_entries = refl;
-  spare_queues = refl;
+  rest = refl;
 }
 
 pub loop-queue-smaller-in-None : goal.loop-queue-smaller-in-None
@@ -41,8 +40,7 @@ loop-queue-preserved-in-None g c =
             fewer_executing c.loop-queue.behind c.in-Some.queue.now c.loop-queue.parts.queues c.queue_after.ensures.in_order found,
           );
       capacity = c.loop-queue.invariant.capacity;
-      spare_entries = c.loop-queue.invariant.spare_entries;
-      spare_queues = c.loop-queue.invariant.spare_queues;
+      rest = c.loop-queue.invariant.rest;
     }
 
 pub next_start-requires : goal.next_start-requires
@@ -92,6 +90,7 @@ loop-queue-preserved g c =
     one_more c.args.parts.now c.loop-queue.parts c.loop-queue.out.items c.loop-queue.behind c.loop-queue.invariant.progress c.in-Some-next_start.start
     c.start_next.new.parts c.start_next.ensures.starts c.start_next.ensures.in_order in
     let runs = ap (λ (t : Tables). t.spare_runs) c.start_next.ensures.rest in
+    let after : Tables = c.start_next.new.parts in
     record {
       progress =
           subst (λ (out : List Start). Progress c.args.parts.now c.start_next.new.parts out c.loop-queue.behind) (sym c.push_reserved.ensures.items) more;
@@ -116,8 +115,10 @@ loop-queue-preserved g c =
             ap (λ (t : Tables). execution_behind c.loop-queue.behind t.queues) c.start_next.ensures.rest,
           );
       capacity = c.push_reserved.ensures.capacity ∙ c.loop-queue.invariant.capacity;
-      spare_entries = ap (λ (t : Tables). t.spare_entries) c.start_next.ensures.rest ∙ c.loop-queue.invariant.spare_entries;
-      spare_queues = ap (λ (t : Tables). t.spare_queues) c.start_next.ensures.rest ∙ c.loop-queue.invariant.spare_queues;
+      rest =
+          c.start_next.ensures.rest
+          ∙ ap (λ (t : Tables). record t { entries = after.entries; next_run = after.next_run; spare_runs = c.loop-queue.parts.spare_runs - 1 }) c.loop-queue.invariant.rest
+          ∙ ap (λ n. record c.args.parts.now { entries = after.entries; next_run = after.next_run; spare_runs = n }) (sym runs);
     }
 
 pub returns-clause-settled : goal.returns-clause-settled

@@ -11,8 +11,7 @@ invariant-loop-queue g l =
       runs : l.parts.spare_runs + length l.out.items ≡ l.fn.parts.spare_runs;
       looks : l.looks + execution_behind l.behind l.parts.queues ≤ l.fn.looks + length l.out.items + execution_queues l.fn.parts.queues;
       capacity : vec_capacity l.out ≡ vec_capacity l.fn.out;
-      spare_entries : l.parts.spare_entries ≡ l.fn.parts.spare_entries;
-      spare_queues : l.parts.spare_queues ≡ l.fn.parts.spare_queues;
+      rest : l.parts ≡ record l.fn.parts { entries = l.parts.entries; next_run = l.parts.next_run; spare_runs = l.parts.spare_runs };
     }
 
 -- a start takes room for a run, and a queue that starts nothing is passed

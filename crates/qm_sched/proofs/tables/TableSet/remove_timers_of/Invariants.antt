@@ -1,6 +1,6 @@
 use Rattle.std.proofs.Common.{not}
-use Rattle.qm_state.specs.Timers.{is_at_home}
-use Rattle.qm_state.proofs.image.Image.remove_queue.Given as goal
+use Rattle.qm_sched.specs.Timing.{is_at_home}
+use Rattle.qm_sched.proofs.tables.TableSet.remove_timers_of.Given as goal
 
 -- the numbers that are kept are those of no entry of the queue
 abbrev pub ghost-retain : goal.ghost-retain
