@@ -148,7 +148,7 @@ decided s number change e there clear =
     ∙ ap (λ (o : Option Refusal). first_refusal (o ∷ [])) clear
 
 can_replace : (image : Image) (s : System) (now number : ℕ) (change : EntryChange) (e new : Entry) → IsInOrder nat_cmp (λ (x : Entry). x.number) image.parts.entries
-    → entry_numbered number image.parts.entries ≡ Some e → is_waiting e.state ≡ true → new ≡ changed_entry s now change e → 0 < image.timers.spare → CanReplace image new
+    → entry_numbered number image.parts.entries ≡ Some e → is_waiting e.state ≡ true → new ≡ changed_entry s now change e → 0 < image.parts.spare_timers → CanReplace image new
 can_replace image s now number change e new order there waiting is room =
     let after : Entry = changed_entry s now change e in
     let itself : entry_numbered e.number image.parts.entries ≡ Some e = ap (λ (n : ℕ). entry_numbered n image.parts.entries) (number_found number e image.parts.entries there) ∙ there in
@@ -162,7 +162,7 @@ can_replace image s now number change e new order there waiting is room =
 -- what becomes of it can take its place, and is what the model makes of it, where there is room for a timer
 pub entry_prepared : (image reserved : Image) (now number : ℕ) (node : List ℕ) (change : EntryChange) (e new : Entry) → IsInOrder nat_cmp (λ (x : Entry). x.number) image.parts.entries
     → entry_numbered number image.parts.entries ≡ Some e → entry_change_refusal (system_of image) change e ≡ None → new ≡ changed_entry (system_of image) now change e
-    → system_of reserved ≡ system_of image → reserved.parts ≡ image.parts → 0 < reserved.timers.spare → PreparesAt now node (request.SetEntry number change) image reserved (Ok (ReplaceEntry new))
+    → system_of reserved ≡ system_of image → reserved.parts ≡ record image.parts { spare_timers = reserved.parts.spare_timers } → 0 < reserved.parts.spare_timers → PreparesAt now node (request.SetEntry number change) image reserved (Ok (ReplaceEntry new))
 unfolding system_of
 entry_prepared image reserved now number node change e new order there clear is rows same room =
     let s : System = system_of image in

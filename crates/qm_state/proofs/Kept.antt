@@ -11,6 +11,6 @@ kept_at_first i = record { files = refl; tables = refl; runs = omega arith }
 pub kept_on : (a b c : Image) → KeepsOthers a b → KeepsOthers b c → KeepsOthers a c
 kept_on a b c first later = record {
   files = later.files ∙ ap (λ (k : Kept). record k { counts = c.spool.counts }) first.files;
-  tables = later.tables ∙ ap (λ (t : Tables). record t { entries = c.parts.entries; spare_runs = c.parts.spare_runs }) first.tables;
+  tables = later.tables ∙ ap (λ (t : Tables). record t { entries = c.parts.entries; timers = c.parts.timers; spare_runs = c.parts.spare_runs; spare_timers = c.parts.spare_timers }) first.tables;
   runs = omega (arith, first.runs, later.runs);
 }

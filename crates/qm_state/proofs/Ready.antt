@@ -26,9 +26,9 @@ use Rattle.qm_state.proofs.Changed.{waiting_found}
 -- the files, the tables and the next number stay, but for how often files are named, and for entries, none of which comes
 record IsLeft (old new : Image) : Type 0 where
   files : new.spool ≡ record old.spool { counts = new.spool.counts }
-  tables : new.parts ≡ record old.parts { entries = new.parts.entries; spare_runs = new.parts.spare_runs }
+  tables : new.parts ≡ record old.parts { entries = new.parts.entries; timers = new.parts.timers; spare_runs = new.parts.spare_runs; spare_timers = new.parts.spare_timers }
   next : old.next_entry ≡ new.next_entry
-  timers : old.timers.spare ≤ new.timers.spare
+  timers : old.parts.spare_timers ≤ new.parts.spare_timers
   fewer : length new.parts.entries ≤ length old.parts.entries
   unnamed : (name : FileName) → find (λ e. same_file_name e.file name) old.parts.entries ≡ None → find (λ e. same_file_name e.file name) new.parts.entries ≡ None
   without_run : (name : List ℕ) → find (runs_for name) old.parts.entries ≡ None → find (runs_for name) new.parts.entries ≡ None
@@ -39,7 +39,7 @@ module _ (old new : Image) (left : IsLeft old new) where
   of_files : (P : Kept → Type 0) → P (record old.spool { counts = new.spool.counts }) → P new.spool
   of_files P h = subst P (sym left.files) h
 
-  of_tables : (P : Tables → Type 0) → P (record old.parts { entries = new.parts.entries; spare_runs = new.parts.spare_runs }) → P new.parts
+  of_tables : (P : Tables → Type 0) → P (record old.parts { entries = new.parts.entries; timers = new.parts.timers; spare_runs = new.parts.spare_runs; spare_timers = new.parts.spare_timers }) → P new.parts
   of_tables P h = subst P (sym left.tables) h
 
   room_stays : (name : FileName) (bytes : List ℕ) → HasRoomFor old.spool name bytes → HasRoomFor new.spool name bytes
@@ -90,7 +90,7 @@ ready_with_runs old new n is change h =
 
 -- what the moment finds
 module _ (now : ℕ) (old new : Image) (rows : system_of new ≡ found now (system_of old)) (files : new.spool ≡ record old.spool { counts = new.spool.counts })
-    (tables : new.parts ≡ record old.parts { entries = new.parts.entries; spare_runs = new.parts.spare_runs }) (room : old.timers.spare ≤ new.timers.spare) where
+    (tables : new.parts ≡ record old.parts { entries = new.parts.entries; timers = new.parts.timers; spare_runs = new.parts.spare_runs; spare_timers = new.parts.spare_timers }) (room : old.parts.spare_timers ≤ new.parts.spare_timers) where
   entries_are : new.parts.entries ≡ map (entry_at now) (filter (λ e. not (is_over now e.state)) old.parts.entries)
   unfolding system_of
   entries_are = ap (λ (s : System). s.entries) rows

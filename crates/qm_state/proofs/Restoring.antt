@@ -18,6 +18,7 @@ use Rattle.qm_model.specs.JobStates.{run_of}
 use Rattle.qm_model.specs.Standing.{has_run}
 use Rattle.qm_sched.specs.Mirror.{run_of_entry, run_in_state}
 use Rattle.qm_sched.specs.Tables.{Tables, with_tables}
+use Rattle.qm_state.specs.Restoring.{DifferInEntries}
 use Rattle.qm_spool.specs.Kept.{Counted, count_of}
 use Rattle.qm_timers.specs.Timers.{moment_of}
 use Rattle.qm_state.specs.Timers.{AreTimersOf, moment_in}
@@ -80,7 +81,7 @@ module _ (s : System) (h : IsConsistent s) (i : ℕ) (e : Entry) (within : i < l
       runs_apart k = k
 
   module _ (new : Tables) (more : new.entries ≡ t.entries ++ e ∷ []) where
-    pub restored_more : new ≡ record t { entries = new.entries; spare_entries = new.spare_entries; spare_runs = new.spare_runs } → with_tables s new ≡ record s { entries = take (i + 1) s.entries }
+    pub restored_more : DifferInEntries t new → with_tables s new ≡ record s { entries = take (i + 1) s.entries }
     restored_more same =
         ap (with_tables s) same
         ∙ ap (λ (x : System). record x { entries = new.entries }) before

@@ -21,12 +21,13 @@ use Rattle.qm_sched.specs.Mirror.{run_of_entry}
 use Rattle.qm_sched.proofs.Asked.{none_of_number, fails_of_number, passes_of_number}
 use Rattle.qm_sched.proofs.Left.{agree_at_it}
 use Rattle.qm_sched.proofs.Ordered.{each_found}
+use Rattle.qm_sched.specs.Timing.{is_at_home}
 use Rattle.qm_timers.specs.Timers.{moment_of, timer_of, without, with_timer, later_than}
 use Rattle.qm_timers.proofs.Numbers.{timer_of-All, absent_all, without-absent}
 use Rattle.qm_state.specs.Preparing.{IsLeftOf}
 use Rattle.qm_state.proofs.Numbered.{number_found}
 use Rattle.qm_state.proofs.Runless.{runless}
-use Rattle.qm_state.specs.Timers.{moment_in, moment_wanted, moment_left, AreTimersOf, entries_at, is_at_home, HasCome}
+use Rattle.qm_state.specs.Timers.{moment_in, moment_wanted, moment_left, AreTimersOf, entries_at, HasCome}
 
 abbrev numbered : ℕ → Entry → Bool
 numbered n e = e.number == n

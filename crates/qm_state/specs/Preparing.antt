@@ -137,7 +137,7 @@ pub record IsNewEntry (image : Image) (entry : Entry) : Type 0 where
   pub next : image.next_entry + 1 < 2 ^ 32
   pub few : length image.parts.entries < ENTRIES_LIMIT
   pub room : 0 < image.parts.spare_entries
-  pub timer : 0 < image.timers.spare
+  pub timer : 0 < image.parts.spare_timers
   pub file : IsSome (file_named entry.file image.spool.files)
 
 -- the entry of a number is there, and waits: for its start, for its release or for its moment
@@ -148,7 +148,7 @@ IsWaiting number entries = option_map_or (λ e. is_waiting e.state) (entry_numbe
 pub record CanReplace (image : Image) (entry : Entry) : Type 0 where
   pub idle : run_of entry.state ≡ None
   pub waits : IsWaiting entry.number image.parts.entries
-  pub timer : 0 < image.timers.spare
+  pub timer : 0 < image.parts.spare_timers
   pub file : All (λ e. e.number ≡ entry.number → e.file ≡ entry.file) image.parts.entries
 
 -- how many jobs start behind a change of the system that the moment finds
@@ -181,7 +181,7 @@ IsReady image (RemoveQueue name) = find (runs_for name) image.parts.entries ≡ 
 IsReady image (Merge to from) = Unit {0}
 IsReady image (ReplaceEntry entry) = CanReplace image entry
 IsReady image (RemoveEntry entry) = Unit {0}
-IsReady image (Report run report) = 0 < image.timers.spare
+IsReady image (Report run report) = 0 < image.parts.spare_timers
 IsReady image Tick = Unit {0}
 
 -- What is prepared can be made on the image: the change can, it leaves a consistent system before any job is started, and there

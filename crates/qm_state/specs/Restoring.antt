@@ -13,9 +13,15 @@ use Rattle.qm_spool.specs.Kept.{Counted, count_of}
 abbrev pub HasOwnRun : Tables → Entry → Type 0
 HasOwnRun tables e = IfSome (run_of_entry e) (λ r. (r.run < tables.next_run) × (list_any (has_run r.run) tables.entries ≡ false))
 
--- the tables are the same but for their entries, and the room for entries and runs
+-- the tables are the same but for their entries and timers, and the room for entries, runs and timers
 abbrev pub DifferInEntries : Tables → Tables → Type 0
-DifferInEntries old new = new ≡ record old { entries = new.entries; spare_entries = new.spare_entries; spare_runs = new.spare_runs }
+DifferInEntries old new = new ≡ record old {
+  entries = new.entries;
+  timers = new.timers;
+  spare_entries = new.spare_entries;
+  spare_runs = new.spare_runs;
+  spare_timers = new.spare_timers;
+}
 
 -- it is counted that one entry more names the file
 abbrev pub IsNamedOnceMore : FileName → List Counted → List Counted → Type 0

@@ -1,7 +1,6 @@
 -- The timers that entries want.
-use Rattle.std.specs.Prelude.{◌≡◌, ◌≤◌, ℕ, Bool, false, not, List, filter, map, Option, None, Some}
-use Rattle.std.specs.Option.{option_and_then, option_map_or}
-use Rattle.std.specs.Str.{bytes_eq}
+use Rattle.std.specs.Prelude.{◌≡◌, ◌≤◌, ℕ, not, List, filter, map, Option, None, Some}
+use Rattle.std.specs.Option.{option_and_then}
 use Rattle.qm_kinds.specs.declared.entry.Entry.{Entry}
 use Rattle.qm_kinds.specs.declared.entry.EntryState.{EntryState}
 use Rattle.qm_kinds.specs.declared.entry.EntryState.TheVariants.{Pending, Holding, Timed, Running, Aborting, Retained}
@@ -40,7 +39,3 @@ pub record HasCome (now : ℕ) (moment : Option ℕ) : Type 0 where
 -- the moment for which what is left of an entry wants a timer, if anything is left, and wants one
 abbrev pub moment_left : Option Entry → Option ℕ
 moment_left left = option_and_then (λ e. moment_in e.state) left
-
--- the entry of a number has this queue as its home
-abbrev pub is_at_home : ℕ → List ℕ → List Entry → Bool
-is_at_home number home entries = option_map_or (λ e. bytes_eq e.home home) (entry_numbered number entries) false

@@ -51,11 +51,11 @@ fn left_at(now: Moment, entry: &Entry) -> Option<Entry>
 impl Image {
     // The number of the first entry that is due. Where none is told, none is due.
     fn next_due(&self, now: Moment) -> Option<u32>
-        ensures due { IfSome result (λ number. HasCome now (moment_of number self.now.timers.timers)) }
+        ensures due { IfSome result (λ number. HasCome now (moment_of number self.now.parts.timers)) }
         ensures none { IfNone result (All (λ e. is_due now e.state ≡ false) self.now.parts.entries) }
     {
         see_entries(&self.parts);
-        match self.timers.due(now) {
+        match self.parts.timers().due(now) {
             None => None,
             Some((_, number)) => Some(number),
         }
@@ -64,12 +64,12 @@ impl Image {
     // The entry of a number, which is due, becomes what the moment finds.
     #[tactic(auto, unfolding(crate::specs::Image::system_of))]
     fn release(&mut self, now: Moment, number: u32)
-        requires due { HasCome now (moment_of number self.old.timers.timers) }
+        requires due { HasCome now (moment_of number self.old.parts.timers) }
         ensures found { entries_at now self.new.parts.entries ≡ entries_at now self.old.parts.entries }
         ensures rows { system_of self.new ≡ record (system_of self.old) { entries = self.new.parts.entries } }
         ensures others { KeepsOthers self.old self.new }
-        ensures fewer { length self.new.timers.timers < length self.old.timers.timers }
-        ensures room { self.old.timers.spare ≤ self.new.timers.spare }
+        ensures fewer { length self.new.parts.timers < length self.old.parts.timers }
+        ensures room { self.old.parts.spare_timers ≤ self.new.parts.spare_timers }
     {
         let Some(entry) = self.parts.entry(number) else {
             unreachable!()
@@ -84,7 +84,7 @@ impl Image {
         ensures entries { self.new.parts.entries ≡ entries_at now self.old.parts.entries }
         ensures rows { system_of self.new ≡ record (system_of self.old) { entries = self.new.parts.entries } }
         ensures others { KeepsOthers self.old self.new }
-        ensures room { self.old.timers.spare ≤ self.new.timers.spare }
+        ensures room { self.old.parts.spare_timers ≤ self.new.parts.spare_timers }
     {
         what_is_not_due_stays();
         while let Some(number) = self.next_due(now) {
@@ -98,13 +98,13 @@ impl Image {
         ensures entries { self.new.parts.entries ≡ entries_at now self.old.parts.entries }
         ensures rows { system_of self.new ≡ record (system_of self.old) { entries = self.new.parts.entries } }
         ensures others { KeepsOthers self.old self.new }
-        ensures room { self.old.timers.spare ≤ self.new.timers.spare }
+        ensures room { self.old.parts.spare_timers ≤ self.new.parts.spare_timers }
     {
         see_entries(&self.parts);
         leave_files(&mut self.spool, self.parts.entries(), &Leaving::Over(now));
         self.parts.remove_over(now);
         self.parts.wake(now);
-        self.timers.remove_due(now);
+        self.parts.remove_due_timers(now);
     }
 
     /// Makes the rows those that the acting moment finds. Where nothing is due no entry is looked at, and where few are,
@@ -113,10 +113,10 @@ impl Image {
     pub(crate) fn reach(&mut self, now: Moment)
         ensures rows { system_of self.new ≡ found now (system_of self.old) }
         ensures others { KeepsOthers self.old self.new }
-        ensures room { self.old.timers.spare ≤ self.new.timers.spare }
+        ensures room { self.old.parts.spare_timers ≤ self.new.parts.spare_timers }
     {
         self.last = now;
-        if self.timers.due_now(now).len() <= FEW {
+        if self.parts.timers().due_now(now).len() <= FEW {
             self.release_each(now);
         } else {
             self.release_all(now);

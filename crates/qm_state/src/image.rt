@@ -5,7 +5,6 @@ ghost use Rattle.qm_state.specs.Timers.{AreTimersOf};
 use qm_kinds::{Moment, Name, Seq};
 use qm_sched::Parts;
 use qm_spool::Spool;
-use qm_timers::Timers;
 use std::alloc::Global;
 
 /// A queue system in memory.
@@ -16,10 +15,8 @@ pub struct Image {
     pub(crate) spool: Spool,
     /// The nodes that may be queue manager.
     pub(crate) may: Seq<Name>,
-    /// The moments that entries wait for, and those until which they are kept, each under the entry's number.
-    pub(crate) timers: Timers,
     pub(crate) next_entry: u32,
     pub(crate) last: Moment,
     ghost counted: { CountsOf parts.entries spool.counts },
-    ghost timed: { AreTimersOf parts.entries timers.timers } by { Prim.hlevel props },
+    ghost timed: { AreTimersOf parts.entries parts.timers } by { Prim.hlevel props },
 }

@@ -91,10 +91,10 @@ impl Image {
     #[tactic(auto, unfolding(crate::specs::Image::system_of))]
     pub(crate) fn reserve_timer(&mut self) -> Result<(), AllocError>
         ensures rows { system_of self.new ≡ system_of self.old }
-        ensures tables { self.new.parts ≡ self.old.parts }
-        ensures room { OnOk result (0 < self.new.timers.spare) }
+        ensures tables { self.new.parts ≡ record self.old.parts { spare_timers = self.new.parts.spare_timers } }
+        ensures room { OnOk result (0 < self.new.parts.spare_timers) }
     {
-        self.timers.reserve()
+        self.parts.reserve_timer()
     }
 
     /// Decides on what a node reports of a run, and takes the room for a timer: where the report ends the run, the job may be

@@ -11,7 +11,7 @@ ghost use Rattle.qm_model.specs.Stopping.{queue_stopped, stopped_queue, entries_
 ghost use Rattle.qm_state.specs.Ending.{report_of};
 ghost use Rattle.qm_state.specs.Image.{system_of};
 ghost use Rattle.qm_state.specs.Keeping.{KeepsOthers};
-ghost use Rattle.qm_state.specs.Timers.{is_at_home, moment_left};
+ghost use Rattle.qm_state.specs.Timers.{moment_left};
 ghost use Rattle.qm_timers.specs.Timers.{with_timer, without};
 ghost use Rattle.qm_state.specs.Preparing.{queue_put, queue_changed, entry_replaced, entry_removed, with_left, CanReplace, IsLeftOf};
 
@@ -42,16 +42,6 @@ fn reset_jobs(parts: &mut Parts, name: &Name, how: StopMode)
     match how {
         StopMode::Pause | StopMode::Next => {}
         StopMode::Reset => parts.reset_queue(name),
-    }
-}
-
-// Whether the entry of a number has this queue as its home.
-fn is_at_home(parts: &Parts, number: u32, home: &Name) -> bool
-    ensures { result ≡ is_at_home number home.now parts.now.entries }
-{
-    match parts.entry(number) {
-        None => false,
-        Some(entry) => entry.home == *home,
     }
 }
 
@@ -118,9 +108,7 @@ impl Image {
     {
         see_entries(&self.parts);
         leave_files(&mut self.spool, self.parts.entries(), &Leaving::Of(name));
-        let parts = &self.parts;
-        self.timers
-            .retain(|number| !is_at_home(parts, number, name));
+        self.parts.remove_timers_of(name);
         self.parts.remove_of_home(name);
         self.parts.remove_queue(name);
         Act::QueueDeleted { queue: *name }
@@ -131,8 +119,8 @@ impl Image {
     fn take_out(&mut self, number: u32)
         ensures rows { system_of self.new ≡ with_left number None (system_of self.old) }
         ensures others { KeepsOthers self.old self.new }
-        ensures timers { self.new.timers.timers ≡ without number self.old.timers.timers }
-        ensures room { self.new.timers.spare + length self.new.timers.timers ≡ self.old.timers.spare + length self.old.timers.timers }
+        ensures timers { self.new.parts.timers ≡ without number self.old.parts.timers }
+        ensures room { self.new.parts.spare_timers + length self.new.parts.timers ≡ self.old.parts.spare_timers + length self.old.parts.timers }
     {
         let Some(entry) = self.parts.entry(number) else {
             return;
@@ -140,7 +128,7 @@ impl Image {
         let file = entry.file;
         let _ = self.parts.remove_entry(number);
         self.spool.leave(&file);
-        self.timers.set(number, None);
+        self.parts.set_timer(number, None);
     }
 
     /// The entry goes.
@@ -160,16 +148,16 @@ impl Image {
     pub(crate) fn leave(&mut self, number: u32, left: Option<Entry>)
         requires order { IsInOrder nat_cmp (λ e. e.number) self.old.parts.entries }
         requires left { IfSome left (λ e. IsLeftOf e number (entry_numbered number self.old.parts.entries)) }
-        requires timer { IfSome (moment_left left) (λ _. 0 < self.old.timers.spare) }
+        requires timer { IfSome (moment_left left) (λ _. 0 < self.old.parts.spare_timers) }
         ensures rows { system_of self.new ≡ with_left number left (system_of self.old) }
         ensures others { KeepsOthers self.old self.new }
-        ensures timers { self.new.timers.timers ≡ with_timer number (moment_left left) self.old.timers.timers }
-        ensures room { self.new.timers.spare + length self.new.timers.timers ≡ self.old.timers.spare + length self.old.timers.timers }
+        ensures timers { self.new.parts.timers ≡ with_timer number (moment_left left) self.old.parts.timers }
+        ensures room { self.new.parts.spare_timers + length self.new.parts.timers ≡ self.old.parts.spare_timers + length self.old.parts.timers }
     {
         match left {
             None => self.take_out(number),
             Some(entry) => {
-                self.timers.set(number, moment_in(&entry.state));
+                self.parts.set_timer(number, moment_in(&entry.state));
                 self.parts.replace_entry(entry);
             }
         }
@@ -204,7 +192,7 @@ impl Image {
         report: &Reported,
     ) -> Act
         requires sound { IsConsistent (system_of self.old) }
-        requires timer { 0 < self.old.timers.spare }
+        requires timer { 0 < self.old.parts.spare_timers }
         ensures done { run_reported (system_of self.old) now node.now run (report_of report.now) ≡ replied (system_of self.new) result }
         ensures room { self.old.parts.spare_runs ≤ self.new.parts.spare_runs }
     {

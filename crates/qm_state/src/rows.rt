@@ -18,7 +18,6 @@ use qm_kinds::{Entry, Queue, Seq, System};
 use qm_queues::QueueTable;
 use qm_sched::{Parts, TableSet};
 use qm_spool::Spool;
-use qm_timers::Timers;
 use std::alloc::{AllocError, Global};
 
 // A copy of a queue.
@@ -56,6 +55,7 @@ fn copy_queues(alloc: Global, queues: &[Queue]) -> Result<Vec<Queue>, AllocError
 fn tables_of(alloc: Global, system: &System) -> Result<TableSet, AllocError>
     requires { IsConsistent system.now }
     ensures tables { IfOk result (λ tables. with_tables system.now tables ≡ record system.now { entries = [] }) }
+    ensures timers { IfOk result (λ tables. tables.timers ≡ []) }
 {
     let nodes = Seq::of(Vec::from_slice(alloc, system.nodes.as_slice())?);
     let forms = FormTable::of(
@@ -68,12 +68,7 @@ fn tables_of(alloc: Global, system: &System) -> Result<TableSet, AllocError>
 }
 
 // Puts one entry more into tables, with the timer that it wants, and counts that it names its file.
-fn restore_one(
-    parts: &mut TableSet,
-    spool: &mut Spool,
-    timers: &mut Timers,
-    entry: &Entry,
-) -> Result<(), AllocError>
+fn restore_one(parts: &mut TableSet, spool: &mut Spool, entry: &Entry) -> Result<(), AllocError>
     requires there { IsSome (file_named entry.now.file spool.old.files) }
     requires few { count_of entry.now.file spool.old.counts < ENTRIES_LIMIT }
     requires last { All (λ e. e.number < entry.now.number) parts.old.entries }
@@ -82,12 +77,12 @@ fn restore_one(
     ensures tables { DifferInEntries parts.old parts.new }
     ensures files { spool.new ≡ record spool.old { counts = spool.new.counts } }
     ensures counts { OnOk result (IsNamedOnceMore entry.now.file spool.old.counts spool.new.counts) }
-    ensures timers { OnOk result ((number : ℕ) → moment_of number timers.new.timers ≡ (if entry.now.number == number then moment_in entry.now.state else moment_of number timers.old.timers)) }
+    ensures timers { OnOk result ((number : ℕ) → moment_of number parts.new.timers ≡ (if entry.now.number == number then moment_in entry.now.state else moment_of number parts.old.timers)) }
 {
-    timers.reserve()?;
+    parts.reserve_timer()?;
     parts.reserve_entry()?;
     parts.reserve_runs(1)?;
-    timers.set(entry.number, moment_in(&entry.state));
+    parts.set_timer(entry.number, moment_in(&entry.state));
     spool.enter(&entry.file);
     parts.restore_entry(*entry);
     Ok(())
@@ -97,21 +92,20 @@ fn restore_one(
 fn restore_entries(
     parts: &mut TableSet,
     spool: &mut Spool,
-    timers: &mut Timers,
     system: &System,
 ) -> Result<(), AllocError>
     requires consistent { IsConsistent system.now }
     requires tables { with_tables system.now parts.old ≡ record system.now { entries = [] } }
     requires files { spool.old.files ≡ system.now.files }
     requires unnamed { CountsOf [] spool.old.counts }
-    requires untimed { AreTimersOf [] timers.old.timers }
+    requires untimed { AreTimersOf [] parts.old.timers }
     ensures tables { OnOk result (with_tables system.now parts.new ≡ system.now) }
     ensures files { spool.new.files ≡ spool.old.files }
     ensures counts { OnOk result (CountsOf parts.new.entries spool.new.counts) }
-    ensures timers { OnOk result (AreTimersOf parts.new.entries timers.new.timers) }
+    ensures timers { OnOk result (AreTimersOf parts.new.entries parts.new.timers) }
 {
     for entry in system.entries.as_slice() {
-        restore_one(parts, spool, timers, entry)?;
+        restore_one(parts, spool, entry)?;
     }
     Ok(())
 }
@@ -133,15 +127,13 @@ impl Image {
         let mut tables = tables_of(alloc, system)?;
         let mut spool = Spool::from_files(alloc, system.files.as_slice())?;
         let may = Seq::of(Vec::from_slice(alloc, system.may.as_slice())?);
-        let mut timers = Timers::new(alloc);
-        restore_entries(&mut tables, &mut spool, &mut timers, system)?;
+        restore_entries(&mut tables, &mut spool, system)?;
         let parts = Parts::of(alloc, tables)?;
         Ok(Image {
             alloc,
             parts,
             spool,
             may,
-            timers,
             next_entry: next_number(system),
             last: system.last,
         })

@@ -19,8 +19,7 @@ fn settle_by<L: Ledger>(parts: &mut Parts, out: &mut Vec<Start>, blank: Blank)
     requires room { (s : System) → length (settled (with_tables s parts.old)).started ≤ vec_capacity out.old }
     requires runs { (s : System) → length (settled (with_tables s parts.old)).started ≤ parts.old.spare_runs }
     ensures settled { (s : System) → settled (with_tables s parts.old) ≡ record { system = with_tables s parts.new; started = out.new.items } }
-    ensures spare_entries { parts.new.spare_entries ≡ parts.old.spare_entries }
-    ensures spare_queues { parts.new.spare_queues ≡ parts.old.spare_queues }
+    ensures rest { parts.new ≡ record parts.old { entries = parts.new.entries; next_run = parts.new.next_run; spare_runs = parts.new.spare_runs } }
 {
     let mut steps = Steps::<L>::open(blank);
     qm_sched::settle(parts, out, &mut steps);
@@ -32,8 +31,7 @@ pub(crate) fn settle(parts: &mut Parts, out: &mut Vec<Start>)
     requires room { (s : System) → length (settled (with_tables s parts.old)).started ≤ vec_capacity out.old }
     requires runs { (s : System) → length (settled (with_tables s parts.old)).started ≤ parts.old.spare_runs }
     ensures settled { (s : System) → settled (with_tables s parts.old) ≡ record { system = with_tables s parts.new; started = out.new.items } }
-    ensures spare_entries { parts.new.spare_entries ≡ parts.old.spare_entries }
-    ensures spare_queues { parts.new.spare_queues ≡ parts.old.spare_queues }
+    ensures rest { parts.new ≡ record parts.old { entries = parts.new.entries; next_run = parts.new.next_run; spare_runs = parts.new.spare_runs } }
 {
     settle_by::<Brand>(parts, out, Blank::new(1));
 }

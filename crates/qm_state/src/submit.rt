@@ -167,9 +167,9 @@ impl Image {
     fn reserve_entry(&mut self) -> Result<(), AllocError>
         ensures rows { system_of self.new ≡ system_of self.old }
         ensures room { OnOk result (0 < self.new.parts.spare_entries) }
-        ensures timer { OnOk result (0 < self.new.timers.spare) }
+        ensures timer { OnOk result (0 < self.new.parts.spare_timers) }
     {
-        self.timers.reserve()?;
+        self.parts.reserve_timer()?;
         self.parts.reserve_entry()
     }
 
@@ -179,7 +179,7 @@ impl Image {
     fn new_entry<'a>(&self, now: Moment, job: &Job) -> Change<'a>
         requires accepted { submit_refusal (system_of self.now) job.now ≡ None }
         requires room { 0 < self.now.parts.spare_entries }
-        requires timer { 0 < self.now.timers.spare }
+        requires timer { 0 < self.now.parts.spare_timers }
         ensures ready { IsReady self.now result }
         ensures made { (node : List ℕ) → Makes now node (request.Submit job.now) (found now (system_of self.now)) result }
     {
@@ -218,7 +218,7 @@ impl Image {
         ensures room { self.new.parts.spare_runs ≡ self.old.parts.spare_runs }
     {
         let act = submitted(&entry);
-        self.timers.set(entry.number, moment_in(&entry.state));
+        self.parts.set_timer(entry.number, moment_in(&entry.state));
         self.next_entry += 1;
         self.spool.enter(&entry.file);
         self.parts.insert_entry(entry);

@@ -4,13 +4,16 @@ ghost use Rattle.qm_match.specs.Keys.{schedule_of};
 ghost use Rattle.qm_model.specs.Find.{queue_named};
 ghost use Rattle.qm_model.specs.Listing.{IsOfOneEntry, rows_of};
 ghost use Rattle.qm_ready.specs.Jobs.{IsRowOf, fitting};
+ghost use Rattle.qm_sched.specs.Tables.{with_tables};
 ghost use Rattle.qm_state.specs.Image.{system_of};
 ghost use Rattle.qm_state.specs.Refusing.{Refuses};
+ghost use Rattle.qm_state.specs.Timers.{AreTimersOf};
 
 use crate::image::Image;
 use crate::refused::Refused;
 use qm_kinds::{Name, Query, Refusal, Row};
 use qm_ready::ReadyRow;
+use qm_sched::Parts;
 
 impl Image {
     /// The rows that a query asks for. It is refused where the entry isn't there.
@@ -40,5 +43,15 @@ impl Image {
             (λ q. IsRowOf (schedule_of q) (fitting (system_of self.now) q) row.keys)) }
     {
         self.parts.ready(name)
+    }
+
+    /// The tables, whose lists are those of the system. They show for each queue the row of the jobs that it can start, as
+    /// `ready` does, and for each entry the moment that it waits for, or until which it is kept.
+    #[tactic(auto, unfolding(crate::specs::Image::system_of))]
+    pub fn parts(&self) -> &Parts
+        ensures tables { with_tables (system_of self.now) result.now ≡ system_of self.now }
+        ensures timers { AreTimersOf (system_of self.now).entries result.now.timers }
+    {
+        &self.parts
     }
 }

@@ -24,5 +24,5 @@ loop-entry-preserved c =
       tables = restored_more c.args.system.now c.requires.consistent c.loop-entry.entry-index c.entry-item.result within is c.loop-entry.parts c.loop-entry.invariant.tables c.restore_one.new.parts c.in_ok-restore_one.ensures.entries c.restore_one.ensures.tables;
       files = ap (λ (k : Kept). k.files) c.restore_one.ensures.files ∙ c.loop-entry.invariant.files;
       counts = counted_more c.args.system.now c.requires.consistent c.loop-entry.entry-index c.entry-item.result within is c.loop-entry.parts c.loop-entry.invariant.tables c.restore_one.new.parts c.in_ok-restore_one.ensures.entries c.loop-entry.spool.counts c.restore_one.new.spool.counts c.loop-entry.invariant.counts c.in_ok-restore_one.ensures.counts;
-      timers = timed_more c.args.system.now c.requires.consistent c.loop-entry.entry-index c.entry-item.result within is c.loop-entry.parts c.loop-entry.invariant.tables c.restore_one.new.parts c.in_ok-restore_one.ensures.entries c.loop-entry.timers.timers c.restore_one.new.timers.timers c.loop-entry.invariant.timers c.in_ok-restore_one.ensures.timers;
+      timers = timed_more c.args.system.now c.requires.consistent c.loop-entry.entry-index c.entry-item.result within is c.loop-entry.parts c.loop-entry.invariant.tables c.restore_one.new.parts c.in_ok-restore_one.ensures.entries c.loop-entry.parts.timers c.restore_one.new.parts.timers c.loop-entry.invariant.timers c.in_ok-restore_one.ensures.timers;
     }

@@ -10,5 +10,5 @@ invariant-loop-entry l = record {
   tables : with_tables l.system l.parts ≡ record l.system { entries = take l.entry-index l.system.entries };
   files : l.spool.files ≡ l.fn.spool.files;
   counts : CountsOf l.parts.entries l.spool.counts;
-  timers : AreTimersOf l.parts.entries l.timers.timers;
+  timers : AreTimersOf l.parts.entries l.parts.timers;
 }

@@ -1,4 +1,4 @@
-use Rattle.std.proofs.Common.{◌≡◌, ◌≤◌, length, List, ap, sym, subst, arith}
+use Rattle.std.proofs.Common.{◌≡◌, ◌∙◌, ◌≤◌, length, List, ap, sym, subst, arith}
 use Rattle.qm_kinds.specs.declared.entry.Entry.{Entry}
 use Rattle.qm_model.specs.Consistent.{IsConsistent}
 use Rattle.qm_sched.specs.Tables.{Tables}
@@ -32,12 +32,14 @@ settle-requires-clause-runs c =
 pub invariant_of-self : goal.invariant_of-self
 invariant_of-self c =
     let same : c.make-act.new.self.parts.entries ≡ c.stop_idle.new.self.entries = sym (ap (λ (t : Tables). t.entries) c.stop_idle.ensures) in
+    let timers : c.settle.new.parts.timers ≡ c.make-act.new.self.parts.timers = ap (λ (t : Tables). t.timers) c.settle.ensures.rest ∙ ap (λ (t : Tables). t.timers) c.stop_idle.ensures in
     record {
       counted = settled_counts c.make-act.new.self.spool.counts (system_of c.make-act.new.self) c.stop_idle.new.self c.settle.new.out.items c.settle.new.parts (c.settle.ensures.settled (system_of c.make-act.new.self))
           (subst (λ (es : List Entry). CountsOf es c.make-act.new.self.spool.counts) same c.make-act.new.self.counted);
-      timed = settled_timers c.make-act.new.self.timers.timers (system_of c.make-act.new.self) c.stop_idle.new.self c.settle.new.out.items c.settle.new.parts (c.settle.ensures.settled (system_of c.make-act.new.self))
+      timed = subst (AreTimersOf c.settle.new.parts.entries) (sym timers)
+          (settled_timers c.make-act.new.self.parts.timers (system_of c.make-act.new.self) c.stop_idle.new.self c.settle.new.out.items c.settle.new.parts (c.settle.ensures.settled (system_of c.make-act.new.self))
           (idle_sound c.args.prepared c.args.self.now c.reach.new.self c.make-act.new.self c.make-act.result c.stop_idle.new.self c.reach.ensures.rows c.make-act.ensures.done c.stop_idle.ensures c.requires.prepared.sound)
-          (subst (λ (es : List Entry). AreTimersOf es c.make-act.new.self.timers.timers) same c.make-act.new.self.timed);
+          (subst (λ (es : List Entry). AreTimersOf es c.make-act.new.self.parts.timers) same c.make-act.new.self.timed));
     }
 
 pub returns : goal.returns

@@ -1,7 +1,10 @@
-use Rattle.std.proofs.Common.{◌∙◌, ◌==◌, ◌<◌, ℕ, Option, cond, ap, arith}
+use Rattle.std.proofs.Common.{◌≡◌, ◌∙◌, ◌==◌, ◌<◌, ◌++◌, ◌∷◌, [], ℕ, List, Option, cond, ap, sym, subst, arith}
 use Rattle.std.proofs.lemmas.List.Elements.{All-weaker}
 use Rattle.qm_kinds.specs.declared.entry.Entry.{Entry}
 use Rattle.qm_model.specs.Consistent.{IsEntry}
+use Rattle.qm_sched.specs.Tables.{Tables}
+use Rattle.qm_spool.specs.Counts.{CountsOf}
+use Rattle.qm_state.specs.Timers.{AreTimersOf}
 use Rattle.qm_timers.specs.Timers.{moment_of}
 use Rattle.qm_state.specs.Image.{system_of}
 use Rattle.qm_state.proofs.Entries.{counts_behind}
@@ -11,9 +14,16 @@ use Rattle.qm_state.proofs.image.Image.enter.Goals as goal
 pub invariant_of-self : goal.invariant_of-self
 unfolding system_of
 invariant_of-self c =
-    rw c.insert_entry.ensures record {
-      counted = counts_behind c.args.self.now.spool.counts c.enter.new.self.counts c.args.entry c.args.self.now.parts.entries c.args.self.now.counted c.enter.ensures.counts;
-      timed = timers_behind c.args.entry c.args.self.now.parts.entries c.args.self.now.timers.timers c.set.new.self.timers
-          (All-weaker (IsEntry (system_of c.args.self.now)) (λ (e : Entry). e.number < c.args.entry.number) (λ e h. omega (arith, h.number.1, c.requires.new.number)) c.args.self.now.parts.entries c.requires.sound.entries.each)
-          c.args.self.now.timed (λ m. c.set.ensures.each m ∙ ap (λ (o : Option ℕ). cond (c.args.entry.number == m) o (moment_of m c.args.self.now.timers.timers)) c.moment_in.ensures);
+    let es = c.args.self.now.parts.entries in
+    let entries : c.insert_entry.new.self.entries ≡ es ++ c.args.entry ∷ [] =
+    ap (λ (t : Tables). t.entries) c.insert_entry.ensures ∙ ap (λ (t : Tables). t.entries ++ c.args.entry ∷ []) c.set_timer.ensures.tables in
+    let timers : c.insert_entry.new.self.timers ≡ c.set_timer.new.self.timers = ap (λ (t : Tables). t.timers) c.insert_entry.ensures in
+    record {
+      counted = subst (λ (xs : List Entry). CountsOf xs c.enter.new.self.counts) (sym entries)
+          (counts_behind c.args.self.now.spool.counts c.enter.new.self.counts c.args.entry es c.args.self.now.counted c.enter.ensures.counts);
+      timed = subst (AreTimersOf c.insert_entry.new.self.entries) (sym timers)
+          (subst (λ (xs : List Entry). AreTimersOf xs c.set_timer.new.self.timers) (sym entries)
+          (timers_behind c.args.entry es c.args.self.now.parts.timers c.set_timer.new.self.timers
+          (All-weaker (IsEntry (system_of c.args.self.now)) (λ (e : Entry). e.number < c.args.entry.number) (λ e h. omega (arith, h.number.1, c.requires.new.number)) es c.requires.sound.entries.each)
+          c.args.self.now.timed (λ m. c.set_timer.ensures.each m ∙ ap (λ (o : Option ℕ). cond (c.args.entry.number == m) o (moment_of m c.args.self.now.parts.timers)) c.moment_in.ensures)));
     }

@@ -1,7 +1,10 @@
-use Rattle.std.proofs.Common.{◌≡◌, ◌∙◌, ◌==◌, ℕ, Option, Some, cond, IfSome, ap, sym, subst}
+use Rattle.std.proofs.Common.{◌≡◌, ◌∙◌, ◌==◌, ℕ, List, Option, Some, cond, IfSome, ap, sym, subst}
 use Rattle.std.specs.Option.{option_and_then}
+use Rattle.qm_kinds.specs.declared.entry.Entry.{Entry}
 use Rattle.qm_model.specs.Standing.{with_entry}
 use Rattle.qm_sched.specs.Mirror.{run_of_entry}
+use Rattle.qm_sched.specs.Tables.{Tables}
+use Rattle.qm_spool.specs.Counts.{CountsOf}
 use Rattle.qm_timers.specs.Timers.{moment_of}
 use Rattle.qm_state.specs.Timers.{AreTimersOf}
 use Rattle.qm_model.specs.Find.{entry_numbered}
@@ -13,15 +16,24 @@ use Rattle.qm_state.proofs.image.Image.leave.Goals as goal
 pub replace_entry-requires : goal.replace_entry-requires
 replace_entry-requires c =
     let es = c.args.self.now.parts.entries in
+    let same : c.set_timer.new.self.entries ≡ es = ap (λ (t : Tables). t.entries) c.set_timer.ensures.tables in
     let left = subst (λ o. IfSome o (λ e. IsLeftOf e c.args.number (entry_numbered c.args.number es))) c.in-Some.is c.requires.left in
-    subst (λ (n : ℕ). IfSome (run_of_entry c.in-Some.entry) (λ r. option_and_then run_of_entry (entry_numbered n es) ≡ Some r)) (sym left.number_stays) left.run_stays
+    subst (λ (xs : List Entry). IfSome (run_of_entry c.in-Some.entry) (λ r. option_and_then run_of_entry (entry_numbered c.in-Some.entry.number xs) ≡ Some r)) (sym same)
+    (subst (λ (n : ℕ). IfSome (run_of_entry c.in-Some.entry) (λ r. option_and_then run_of_entry (entry_numbered n es) ≡ Some r)) (sym left.number_stays) left.run_stays)
 
 pub invariant_of-self : goal.invariant_of-self
 invariant_of-self c =
-    let left = subst (λ o. IfSome o (λ e. IsLeftOf e c.args.number (entry_numbered c.args.number c.args.self.now.parts.entries))) c.in-Some.is c.requires.left in
-    rw c.replace_entry.ensures.tables record {
-      counted = counts_kept_by c.args.number c.in-Some.entry c.args.self.now.parts.entries c.args.self.now.spool.counts c.requires.order c.args.self.now.counted (subst (λ o. IfSome o (λ e. IsLeftOf e c.args.number (entry_numbered c.args.number c.args.self.now.parts.entries))) c.in-Some.is c.requires.left);
-      timed = subst (λ (n : ℕ). AreTimersOf (with_entry n (λ e. Some c.in-Some.entry) c.args.self.now.parts.entries) c.set.new.self.timers) (sym left.number_stays)
-          (timers_replaced c.args.number c.in-Some.entry c.args.self.now.parts.entries c.args.self.now.timers.timers c.set.new.self.timers left.number_stays left.there c.args.self.now.timed
-          (λ m. c.set.ensures.each m ∙ ap (λ (o : Option ℕ). cond (c.args.number == m) o (moment_of m c.args.self.now.timers.timers)) c.moment_in.ensures));
+    let es = c.args.self.now.parts.entries in
+    let left = subst (λ o. IfSome o (λ e. IsLeftOf e c.args.number (entry_numbered c.args.number es))) c.in-Some.is c.requires.left in
+    let entries : c.replace_entry.new.self.entries ≡ with_entry c.in-Some.entry.number (λ e. Some c.in-Some.entry) es =
+    ap (λ (t : Tables). t.entries) c.replace_entry.ensures.tables ∙ ap (λ (t : Tables). with_entry c.in-Some.entry.number (λ e. Some c.in-Some.entry) t.entries) c.set_timer.ensures.tables in
+    let timers : c.replace_entry.new.self.timers ≡ c.set_timer.new.self.timers = ap (λ (t : Tables). t.timers) c.replace_entry.ensures.tables in
+    record {
+      counted = subst (λ (xs : List Entry). CountsOf xs c.args.self.now.spool.counts) (sym entries)
+          (counts_kept_by c.args.number c.in-Some.entry es c.args.self.now.spool.counts c.requires.order c.args.self.now.counted left);
+      timed = subst (AreTimersOf c.replace_entry.new.self.entries) (sym timers)
+          (subst (λ (xs : List Entry). AreTimersOf xs c.set_timer.new.self.timers) (sym entries)
+          (subst (λ (n : ℕ). AreTimersOf (with_entry n (λ e. Some c.in-Some.entry) es) c.set_timer.new.self.timers) (sym left.number_stays)
+          (timers_replaced c.args.number c.in-Some.entry es c.args.self.now.parts.timers c.set_timer.new.self.timers left.number_stays left.there c.args.self.now.timed
+          (λ m. c.set_timer.ensures.each m ∙ ap (λ (o : Option ℕ). cond (c.args.number == m) o (moment_of m c.args.self.now.parts.timers)) c.moment_in.ensures))));
     }

@@ -14,5 +14,5 @@ pub invariant_of-self : goal.invariant_of-self
 invariant_of-self c =
     rw c.merge-moved.ensures.entries record {
       counted = counts_moved c.args.to.now c.args.from.now c.args.self.now.parts.entries c.args.self.now.spool.counts c.args.self.now.counted;
-      timed = timers_moved c.args.to.now c.args.from.now c.args.self.now.parts.entries c.args.self.now.timers.timers c.args.self.now.timed;
+      timed = timers_moved c.args.to.now c.args.from.now c.args.self.now.parts.entries c.args.self.now.parts.timers c.args.self.now.timed;
     }

@@ -1,8 +1,10 @@
-use Rattle.std.proofs.Common.{ap}
+use Rattle.std.proofs.Common.{ℕ, ◌<◌, List, ap, subst}
+use Rattle.std.specs.List.{All}
 use Rattle.std.specs.Option.{is_some}
 use Rattle.qm_state.proofs.Timed.{none_due}
 use Rattle.qm_state.proofs.image.Image.next_due.Goals as goal
 
 pub returns-in-None-clause-none : goal.returns-in-None-clause-none
 returns-in-None-clause-none c =
-    none_due c.args.now c.args.self.now.parts.entries c.args.self.now.timers.timers c.see_entries.ensures c.args.self.now.timed (c.due.ensures.none.0 (ap is_some c.in-None.is))
+    none_due c.args.now c.args.self.now.parts.entries c.args.self.now.parts.timers c.see_entries.ensures c.args.self.now.timed
+    (subst (λ (ts : List (ℕ × ℕ)). All (λ (t : ℕ × ℕ). c.args.now < t.0) ts) c.timers.ensures.timers (c.due.ensures.none.0 (ap is_some c.in-None.is)))

@@ -7,21 +7,21 @@ use Rattle.qm_state.proofs.Timed.{has_entry, has_come, left_released, no_moment_
 use Rattle.qm_state.proofs.image.Image.release.Goals as goal
 
 pub unreachable-requires : goal.unreachable-requires
-unreachable-requires c = has_entry c.args.now c.args.number c.args.self.now.parts.entries c.args.self.now.timers.timers c.args.self.now.timed c.requires.due (sym c.entry.ensures.found ∙ ap option_copied c.in_default.is)
+unreachable-requires c = has_entry c.args.now c.args.number c.args.self.now.parts.entries c.args.self.now.parts.timers c.args.self.now.timed c.requires.due (sym c.entry.ensures.found ∙ ap option_copied c.in_default.is)
 
 pub leave-requires-clause-left : goal.leave-requires-clause-left
 leave-requires-clause-left c =
     let found = sym c.in-Some.ensures.found in
     left_released c.args.now c.args.number c.args.self.now.parts.entries c.in-Some.entry.now c.left_at-left.result found
-    (has_come c.args.now c.args.number c.args.self.now.parts.entries c.args.self.now.timers.timers c.in-Some.entry.now c.args.self.now.timed found c.requires.due) c.left_at-left.ensures
+    (has_come c.args.now c.args.number c.args.self.now.parts.entries c.args.self.now.parts.timers c.in-Some.entry.now c.args.self.now.timed found c.requires.due) c.left_at-left.ensures
 
 pub leave-requires-clause-timer : goal.leave-requires-clause-timer
 leave-requires-clause-timer c =
     let found = sym c.in-Some.ensures.found in
     let none : moment_left c.left_at-left.result ≡ None =
     no_moment_left c.args.now c.args.number c.args.self.now.parts.entries c.in-Some.entry.now c.left_at-left.result found
-    (has_come c.args.now c.args.number c.args.self.now.parts.entries c.args.self.now.timers.timers c.in-Some.entry.now c.args.self.now.timed found c.requires.due) c.left_at-left.ensures in
-    subst (λ (o : Option ℕ). IfSome o (λ at. 0 < c.args.self.now.timers.spare)) (sym none) tt
+    (has_come c.args.now c.args.number c.args.self.now.parts.entries c.args.self.now.parts.timers c.in-Some.entry.now c.args.self.now.timed found c.requires.due) c.left_at-left.ensures in
+    subst (λ (o : Option ℕ). IfSome o (λ at. 0 < c.args.self.now.parts.spare_timers)) (sym none) tt
 
 pub returns-clause-found : goal.returns-clause-found
 unfolding system_of
@@ -35,13 +35,13 @@ returns-clause-fewer c =
     let found = sym c.in-Some.ensures.found in
     let none : moment_left c.left_at-left.result ≡ None =
     no_moment_left c.args.now c.args.number c.args.self.now.parts.entries c.in-Some.entry.now c.left_at-left.result found
-    (has_come c.args.now c.args.number c.args.self.now.parts.entries c.args.self.now.timers.timers c.in-Some.entry.now c.args.self.now.timed found c.requires.due) c.left_at-left.ensures in
-    one_less c.args.now c.args.number c.args.self.now.timers.timers c.leave.new.self.timers.timers (moment_left c.left_at-left.result) c.requires.due none c.leave.ensures.timers
+    (has_come c.args.now c.args.number c.args.self.now.parts.entries c.args.self.now.parts.timers c.in-Some.entry.now c.args.self.now.timed found c.requires.due) c.left_at-left.ensures in
+    one_less c.args.now c.args.number c.args.self.now.parts.timers c.leave.new.self.parts.timers (moment_left c.left_at-left.result) c.requires.due none c.leave.ensures.timers
 
 pub returns-clause-room : goal.returns-clause-room
 returns-clause-room c =
     let found = sym c.in-Some.ensures.found in
     let none : moment_left c.left_at-left.result ≡ None =
     no_moment_left c.args.now c.args.number c.args.self.now.parts.entries c.in-Some.entry.now c.left_at-left.result found
-    (has_come c.args.now c.args.number c.args.self.now.parts.entries c.args.self.now.timers.timers c.in-Some.entry.now c.args.self.now.timed found c.requires.due) c.left_at-left.ensures in
-    omega (arith, one_less c.args.now c.args.number c.args.self.now.timers.timers c.leave.new.self.timers.timers (moment_left c.left_at-left.result) c.requires.due none c.leave.ensures.timers, c.leave.ensures.room)
+    (has_come c.args.now c.args.number c.args.self.now.parts.entries c.args.self.now.parts.timers c.in-Some.entry.now c.args.self.now.timed found c.requires.due) c.left_at-left.ensures in
+    omega (arith, one_less c.args.now c.args.number c.args.self.now.parts.timers c.leave.new.self.parts.timers (moment_left c.left_at-left.result) c.requires.due none c.leave.ensures.timers, c.leave.ensures.room)

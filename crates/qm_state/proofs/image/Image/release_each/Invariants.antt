@@ -10,9 +10,9 @@ invariant-loop-number l = record {
   found : entries_at l.now l.self.parts.entries ≡ entries_at l.now l.fn.self.parts.entries;
   rows : system_of l.self ≡ record (system_of l.fn.self) { entries = l.self.parts.entries };
   others : KeepsOthers l.fn.self l.self;
-  room : l.fn.self.timers.spare ≤ l.self.timers.spare;
+  room : l.fn.self.parts.spare_timers ≤ l.self.parts.spare_timers;
 }
 
 -- each entry that is released has a timer less
 abbrev pub decreases-loop-number : goal.decreases-loop-number
-decreases-loop-number l = length l.self.timers.timers
+decreases-loop-number l = length l.self.parts.timers

@@ -10,10 +10,14 @@ use Rattle.qm_state.proofs.image.Image.remove_queue.Goals as goal
 pub invariant_of-self : goal.invariant_of-self
 invariant_of-self c =
     let left : c.remove_queue.new.self.entries ≡ filter (λ (e : Entry). not (bytes_eq e.home c.args.name.now)) c.args.self.now.parts.entries =
-    ap (λ (t : Tables). t.entries) c.remove_queue.ensures ∙ ap (λ (t : Tables). t.entries) c.remove_of_home.ensures in
+    ap (λ (t : Tables). t.entries) c.remove_queue.ensures ∙ ap (λ (t : Tables). t.entries) c.remove_of_home.ensures
+    ∙ ap (λ (t : Tables). filter (λ (e : Entry). not (bytes_eq e.home c.args.name.now)) t.entries) c.remove_timers_of.ensures.tables in
+    let timers : c.remove_queue.new.self.timers ≡ c.remove_timers_of.new.self.timers =
+    ap (λ (t : Tables). t.timers) c.remove_queue.ensures ∙ ap (λ (t : Tables). t.timers) c.remove_of_home.ensures in
     record {
       counted = subst (λ (es : List Entry). CountsOf es c.leave_files.new.spool.counts)
           (ap (λ (es : List Entry). filter (λ (e : Entry). not (bytes_eq e.home c.args.name.now)) es) c.entries.ensures ∙ sym left) c.leave_files.ensures.counts;
-      timed = subst (λ (es : List Entry). AreTimersOf es c.retain.new.self.timers) (sym left)
-          (timers_elsewhere c.args.name.now c.args.self.now.parts.entries c.args.self.now.timers.timers c.retain.new.self.timers c.see_entries.ensures c.args.self.now.timed c.retain.ensures.each);
+      timed = subst (λ (es : List Entry). AreTimersOf es c.remove_queue.new.self.timers) (sym left)
+          (subst (AreTimersOf (filter (λ (e : Entry). not (bytes_eq e.home c.args.name.now)) c.args.self.now.parts.entries)) (sym timers)
+          (timers_elsewhere c.args.name.now c.args.self.now.parts.entries c.args.self.now.parts.timers c.remove_timers_of.new.self.timers c.see_entries.ensures c.args.self.now.timed c.remove_timers_of.ensures.each));
     }

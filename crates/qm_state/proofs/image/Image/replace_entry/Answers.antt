@@ -17,4 +17,4 @@ leave-requires-clause-left c = record {
 }
 
 pub leave-requires-clause-timer : goal.leave-requires-clause-timer
-leave-requires-clause-timer c = room_for c.args.self.now.timers.spare (moment_in c.args.entry.state) c.requires.ready.timer
+leave-requires-clause-timer c = room_for c.args.self.now.parts.spare_timers (moment_in c.args.entry.state) c.requires.ready.timer

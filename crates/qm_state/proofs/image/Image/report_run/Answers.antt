@@ -23,4 +23,4 @@ returns-clause-done c =
     (c.report_act-act.ensures ∙ ap (λ (fate : Option Fate). report_act c.args.run (report_of c.args.report.now) fate c.after_report-left.result) c.fate_of-fate.ensures) c.leave.ensures.rows
 
 pub leave-requires-clause-timer : goal.leave-requires-clause-timer
-leave-requires-clause-timer c = room_for c.args.self.now.timers.spare (moment_left c.after_report-left.result) c.requires.timer
+leave-requires-clause-timer c = room_for c.args.self.now.parts.spare_timers (moment_left c.after_report-left.result) c.requires.timer

@@ -1,6 +1,7 @@
-use Rattle.std.proofs.Common.{◌≡◌, ◌∙◌, ap}
+use Rattle.std.proofs.Common.{◌≡◌, ◌∙◌, ap, sym, subst}
 use Rattle.qm_model.specs.Stopping.{entries_on_stop}
 use Rattle.qm_sched.specs.Tables.{Tables}
+use Rattle.qm_state.specs.Timers.{AreTimersOf}
 use Rattle.qm_state.proofs.Stopped.{timers_on_stop, counts_on_stop}
 use Rattle.qm_state.proofs.image.Image.stop_queue.Goals as goal
 
@@ -8,7 +9,9 @@ pub invariant_of-self : goal.invariant_of-self
 invariant_of-self c =
     let same : c.reset_jobs.new.parts.entries ≡ entries_on_stop c.args.how c.args.name.now c.args.self.now.parts.entries =
     ap (λ (t : Tables). t.entries) c.reset_jobs.ensures ∙ ap (λ (t : Tables). entries_on_stop c.args.how c.args.name.now t.entries) c.set_stopped.ensures in
+    let timers : c.reset_jobs.new.parts.timers ≡ c.args.self.now.parts.timers = ap (λ (t : Tables). t.timers) c.reset_jobs.ensures ∙ ap (λ (t : Tables). t.timers) c.set_stopped.ensures in
     rw same record {
       counted = counts_on_stop c.args.how c.args.name.now c.args.self.now.parts.entries c.args.self.now.spool.counts c.args.self.now.counted;
-      timed = timers_on_stop c.args.how c.args.name.now c.args.self.now.parts.entries c.args.self.now.timers.timers c.args.self.now.timed;
+      timed = subst (AreTimersOf (entries_on_stop c.args.how c.args.name.now c.args.self.now.parts.entries)) (sym timers)
+          (timers_on_stop c.args.how c.args.name.now c.args.self.now.parts.entries c.args.self.now.parts.timers c.args.self.now.timed);
     }

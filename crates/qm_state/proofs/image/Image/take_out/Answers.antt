@@ -1,7 +1,12 @@
-use Rattle.std.proofs.Common.{◌==◌, None, refl, sym}
+use Rattle.std.proofs.Common.{◌≡◌, ◌∙◌, ◌==◌, cond, List, None, refl, sym, ap, subst}
 use Rattle.qm_kinds.specs.declared.entry.Entry.{Entry}
+use Rattle.qm_model.specs.Standing.{with_entry}
 use Rattle.qm_sched.proofs.Left.{absent_stays}
+use Rattle.qm_sched.specs.Tables.{Tables}
 use Rattle.qm_spool.proofs.Counting.{counts_gone}
+use Rattle.qm_spool.specs.Counts.{CountsOf}
+use Rattle.qm_state.specs.Timers.{AreTimersOf}
+use Rattle.qm_timers.specs.Timers.{moment_of}
 use Rattle.qm_state.specs.Image.{system_of}
 use Rattle.qm_state.proofs.Entries.{found_is_counted}
 use Rattle.qm_state.proofs.Timed.{timers_without, no_timer}
@@ -13,9 +18,15 @@ leave-requires c =
 
 pub invariant_of-self : goal.invariant_of-self
 invariant_of-self c =
-    rw c.remove_entry.ensures.tables record {
-      counted = counts_gone c.args.number c.args.self.now.parts.entries c.in-Some.entry.now c.args.self.now.spool.counts c.leave.new.self.counts c.in-Some.ensures.in_order (sym c.in-Some.ensures.found) c.args.self.now.counted c.leave.ensures.counts;
-      timed = timers_without c.args.number c.args.self.now.parts.entries c.args.self.now.timers.timers c.set.new.self.timers c.args.self.now.timed c.set.ensures.each;
+    let left : c.set_timer.new.self.entries ≡ with_entry c.args.number (λ e. None) c.args.self.now.parts.entries =
+    ap (λ (t : Tables). t.entries) c.set_timer.ensures.tables ∙ ap (λ (t : Tables). t.entries) c.remove_entry.ensures.tables in
+    let timers : c.remove_entry.new.self.timers ≡ c.args.self.now.parts.timers = ap (λ (t : Tables). t.timers) c.remove_entry.ensures.tables in
+    record {
+      counted = subst (λ (es : List Entry). CountsOf es c.leave.new.self.counts) (sym left)
+          (counts_gone c.args.number c.args.self.now.parts.entries c.in-Some.entry.now c.args.self.now.spool.counts c.leave.new.self.counts c.in-Some.ensures.in_order (sym c.in-Some.ensures.found) c.args.self.now.counted c.leave.ensures.counts);
+      timed = subst (λ (es : List Entry). AreTimersOf es c.set_timer.new.self.timers) (sym left)
+          (timers_without c.args.number c.args.self.now.parts.entries c.args.self.now.parts.timers c.set_timer.new.self.timers c.args.self.now.timed
+          (λ m. c.set_timer.ensures.each m ∙ ap (λ ts. cond (c.args.number == m) None (moment_of m ts)) timers));
     }
 
 pub returns-in_default-clause-rows : goal.returns-in_default-clause-rows
@@ -24,4 +35,4 @@ returns-in_default-clause-rows c =
     rw (absent_stays c.args.number (λ (e : Entry). None) c.args.self.now.parts.entries (sym c.in_default.ensures.found)) refl
 
 pub returns-in_default-clause-timers : goal.returns-in_default-clause-timers
-returns-in_default-clause-timers c = no_timer c.args.number c.args.self.now.parts.entries c.args.self.now.timers.timers c.args.self.now.timed (sym c.in_default.ensures.found)
+returns-in_default-clause-timers c = no_timer c.args.number c.args.self.now.parts.entries c.args.self.now.parts.timers c.args.self.now.timed (sym c.in_default.ensures.found)
