@@ -12,7 +12,7 @@ use std::marker::Model;
 /// Moments, each with a number that no other has. Contracts see a `Waiting`: the pairs of a moment and a number, in
 /// order of the moments and at one moment of the numbers, and how many more have room.
 ///
-/// Only `reserve` takes memory. An insertion, a removal and a search ask a logarithm of the timers; the first two also
+/// Only `reserve` and `reserve_for` take memory. An insertion, a removal and a search ask a logarithm of the timers; the first two also
 /// move those that stand behind, 16 bytes each, in both of two lists. `remove_due` and `retain` take out any number of timers
 /// in one pass over both lists.
 #[derive(Drop)]
@@ -77,8 +77,18 @@ impl Timers {
         ensures no_less { self.old.spare ≤ self.new.spare }
         ensures timers { self.new.timers ≡ self.old.timers }
     {
-        self.by_moment.reserve(1)?;
-        self.by_number.reserve(1)
+        self.reserve_for(1)
+    }
+
+    /// Makes room for so many timers more. Where there is room it takes no memory, and succeeds.
+    pub fn reserve_for(&mut self, count: usize) -> Result<(), AllocError>
+        ensures ok { OnOk result (count ≤ self.new.spare) }
+        ensures err { OnErr result (self.old.spare < count) }
+        ensures no_less { self.old.spare ≤ self.new.spare }
+        ensures timers { self.new.timers ≡ self.old.timers }
+    {
+        self.by_moment.reserve(count)?;
+        self.by_number.reserve(count)
     }
 
     /// Puts in a timer, for which there is room. Its number has none.
