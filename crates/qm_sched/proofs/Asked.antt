@@ -1,5 +1,5 @@
 -- What runs are asked for, of the entries that they mirror.
-use Rattle.std.proofs.Common.{◌≡◌, ◌∙◌, ℕ, ◌≤◌, ◌==◌, Bool, true, false, ◌&&◌, nat_lt, min, List, [], ◌∷◌, length, get_or, map, count_by, filter, find, cond, Option, None, Some, is_some, ◌<◌, refl, sym, ap, arith}
+use Rattle.std.proofs.Common.{◌≡◌, ◌∙◌, ℕ, ◌≤◌, ◌==◌, Bool, true, false, ◌&&◌, nat_lt, min, List, [], ◌∷◌, length, get_or, map, count_by, filter, find, cond, Option, None, Some, is_some, ◌<◌, refl, sym, ap, subst, arith}
 use Rattle.std.specs.List.{All, list_any, reduce}
 use Rattle.std.specs.Option.{option_map, option_map_or}
 use Rattle.std.specs.Prelude.{IfSome}
@@ -9,18 +9,20 @@ use Rattle.std.proofs.lemmas.Bool.{and_parts, and_from}
 use Rattle.std.proofs.lemmas.Bool.Decides.{nat_tests}
 use Rattle.std.proofs.lemmas.List.{length-map}
 use Rattle.std.proofs.lemmas.List.Sums.{length-filter}
+use Rattle.qm_forms.proofs.Found.{found_all}
 use Rattle.qm_kinds.specs.declared.entry.Entry.{Entry}
 use Rattle.qm_kinds.specs.declared.run.Run.{Run}
 use Rattle.qm_model.specs.Consistent.{IsInOrder}
-use Rattle.qm_model.specs.Find.{entry_numbered}
+use Rattle.qm_model.specs.Find.{entry_numbered, is_among}
 use Rattle.qm_model.specs.Queues.{runs_for}
 use Rattle.qm_model.specs.Standing.{has_run, is_run_on}
 use Rattle.qm_model.specs.Stopping.{is_running_in, the_only_one}
 use Rattle.qm_runs.specs.Runs.{run_numbered}
 use Rattle.qm_sched.specs.Mirror.{Mirrors, is_live_in, is_run_for}
+use Rattle.qm_sched.specs.Nodes.{is_run_on_one}
 use Rattle.qm_sched.proofs.Counts.{any_counted, is_found, count_agree, count_filter, count_map, not_found, none_counted, found_counted, found_same, found_passes, found_in_filter, other_fails, both_le_first, both_le_second, and_swap}
 use Rattle.qm_sched.proofs.Ordered.{once, each_found, least_is_first}
-use Rattle.qm_sched.proofs.Mirrored.{count_as, count_with, of_its_run, its_number, is_run, has_the_run, live_in, run_for}
+use Rattle.qm_sched.proofs.Mirrored.{count_as, count_with, of_its_run, its_number, is_run, has_the_run, live_in, run_for, run_on_one}
 use Rattle.qm_sched.proofs.Least.{least_is, none_is_least}
 
 abbrev numbered : ℕ → Entry → Bool
@@ -164,36 +166,67 @@ module _ (runs : List Run) (es : List Entry) (mirror : Mirrors runs es) (order :
       sym (only_is_first runs_here es (sym as_many_live ∙ one)
       ∙ found_same runs_here (numbered r.entry) es (omega (arith, size, as_many_live, one)) (once (λ (e : Entry). e.number) r.entry es order) both)
 
--- ---- the least number of an entry whose run is for a queue
+-- ---- the least number of an entry whose run passes
 
-module _ (runs : List Run) (es : List Entry) (mirror : Mirrors runs es) (order : OrderedEntries es) (name : List ℕ) where
+module _ (runs : List Run) (es : List Entry) (mirror : Mirrors runs es) (order : OrderedEntries es) (test : Run → Bool) (p : Entry → Bool) (same : All (λ (e : Entry). of_its_run test e ≡ p e) es) where
   abbrev numbers : List ℕ
-  numbers = map (λ (r : Run). r.entry) (filter (is_run_for es name) runs)
+  numbers = map (λ (r : Run). r.entry) (filter test runs)
 
-  same_runs : All (λ (e : Entry). of_its_run (is_run_for es name) e ≡ runs_for name e) es
-  same_runs = run_for es name (each_found (λ (e : Entry). e.number) es order)
-
-  asked_of_numbers : (u : ℕ → Bool) → count_by u numbers ≡ count_by (λ (e : Entry). runs_for name e && u e.number) es
+  asked_of_numbers : (u : ℕ → Bool) → count_by u numbers ≡ count_by (λ (e : Entry). p e && u e.number) es
   asked_of_numbers u =
-      count_map u (λ (r : Run). r.entry) (filter (is_run_for es name) runs)
-      ∙ count_filter (λ (r : Run). u r.entry) (is_run_for es name) runs
-      ∙ count_with runs es mirror (is_run_for es name) (runs_for name) same_runs u
+      count_map u (λ (r : Run). r.entry) (filter test runs)
+      ∙ count_filter (λ (r : Run). u r.entry) test runs
+      ∙ count_with runs es mirror test p same u
 
-  none_for : numbers ≡ [] → find (runs_for name) es ≡ None
-  none_for none =
-      not_found (runs_for name) es
-      (sym (count_as runs es mirror (is_run_for es name) (runs_for name) same_runs)
-      ∙ sym (length-filter (is_run_for es name) runs)
-      ∙ sym (length-map (filter (is_run_for es name) runs) (λ (r : Run). r.entry))
+  none_passes : numbers ≡ [] → find p es ≡ None
+  none_passes none =
+      not_found p es
+      (sym (count_as runs es mirror test p same)
+      ∙ sym (length-filter test runs)
+      ∙ sym (length-map (filter test runs) (λ (r : Run). r.entry))
       ∙ ap length none)
 
-  first_at : (o : Option ℕ) → reduce min numbers ≡ o → o ≡ option_map (λ (e : Entry). e.number) (find (runs_for name) es)
-  first_at None is = sym (ap (option_map (λ (e : Entry). e.number)) (none_for (none_is_least numbers is)))
+  first_at : (o : Option ℕ) → reduce min numbers ≡ o → o ≡ option_map (λ (e : Entry). e.number) (find p es)
+  first_at None is = sym (ap (option_map (λ (e : Entry). e.number)) (none_passes (none_is_least numbers is)))
   first_at (Some n) is =
       let least = least_is n numbers is in
-      sym (least_is_first (λ (e : Entry). e.number) (runs_for name) n es order
+      sym (least_is_first (λ (e : Entry). e.number) p n es order
       (sym (asked_of_numbers (λ m. nat_lt m n)) ∙ least.none)
       (omega (arith, least.there, asked_of_numbers (λ m. m == n))))
 
-  pub first_for : reduce min numbers ≡ option_map (λ (e : Entry). e.number) (find (runs_for name) es)
-  first_for = first_at (reduce min numbers) refl
+  pub first_passing : reduce min numbers ≡ option_map (λ (e : Entry). e.number) (find p es)
+  first_passing = first_at (reduce min numbers) refl
+
+-- whose run is for a queue
+pub first_for : (runs : List Run) (es : List Entry) → Mirrors runs es → OrderedEntries es → (name : List ℕ)
+    → reduce min (map (λ (r : Run). r.entry) (filter (is_run_for es name) runs)) ≡ option_map (λ (e : Entry). e.number) (find (runs_for name) es)
+first_for runs es mirror order name = first_passing runs es mirror order (is_run_for es name) (runs_for name) (run_for es name (each_found (λ (e : Entry). e.number) es order))
+
+-- whose run is on one of some nodes
+first_on : (runs : List Run) (es : List Entry) → Mirrors runs es → OrderedEntries es → (nodes : List (List ℕ))
+    → reduce min (map (λ (r : Run). r.entry) (filter (λ r. is_among nodes r.node) runs)) ≡ option_map (λ (e : Entry). e.number) (find (is_run_on_one nodes) es)
+first_on runs es mirror order nodes = first_passing runs es mirror order (λ r. is_among nodes r.node) (is_run_on_one nodes) (run_on_one nodes es)
+
+-- an entry that passes is found by its number
+pub found_by_number : (p : Entry → Bool) (e : Entry) (es : List Entry) → OrderedEntries es → find p es ≡ Some e → entry_numbered e.number es ≡ Some e
+found_by_number p e es order found =
+    subst (λ (o : Option Entry). IfSome o (λ x. entry_numbered x.number es ≡ Some x)) found
+    (found_all (λ (x : Entry). entry_numbered x.number es ≡ Some x) p es (each_found (λ (x : Entry). x.number) es order))
+
+by_number : (p : Entry → Bool) (es : List Entry) → OrderedEntries es → (n : ℕ) (o : Option Entry) → find p es ≡ o → Some n ≡ option_map (λ (e : Entry). e.number) o → entry_numbered n es ≡ o
+by_number p es order n None found is = absurd (cc)
+by_number p es order n (Some e) found is =
+    let same : n ≡ e.number = cc in
+    ap (λ m. entry_numbered m es) same ∙ found_by_number p e es order found
+
+pub entry_on_one : (runs : List Run) (es : List Entry) → Mirrors runs es → OrderedEntries es → (nodes : List (List ℕ)) (n : ℕ)
+    → Some n ≡ reduce min (map (λ (r : Run). r.entry) (filter (λ r. is_among nodes r.node) runs)) → entry_numbered n es ≡ find (is_run_on_one nodes) es
+entry_on_one runs es mirror order nodes n is = by_number (is_run_on_one nodes) es order n (find (is_run_on_one nodes) es) refl (is ∙ first_on runs es mirror order nodes)
+
+nothing_found : (o : Option Entry) → None ≡ option_map (λ (e : Entry). e.number) o → o ≡ None
+nothing_found None is = refl
+nothing_found (Some e) is = absurd (cc)
+
+pub none_on_one : (runs : List Run) (es : List Entry) → Mirrors runs es → OrderedEntries es → (nodes : List (List ℕ))
+    → None ≡ reduce min (map (λ (r : Run). r.entry) (filter (λ r. is_among nodes r.node) runs)) → find (is_run_on_one nodes) es ≡ None
+none_on_one runs es mirror order nodes is = nothing_found (find (is_run_on_one nodes) es) (is ∙ first_on runs es mirror order nodes)

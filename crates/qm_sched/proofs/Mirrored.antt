@@ -7,11 +7,12 @@ use Rattle.qm_kinds.specs.declared.entry.Entry.{Entry}
 use Rattle.qm_kinds.specs.declared.entry.EntryState.{EntryState}
 use Rattle.qm_kinds.specs.declared.entry.EntryState.TheVariants.{Pending, Holding, Timed, Running, Aborting, Retained}
 use Rattle.qm_kinds.specs.declared.run.Run.{Run}
-use Rattle.qm_model.specs.Find.{entry_numbered}
+use Rattle.qm_model.specs.Find.{entry_numbered, is_among}
 use Rattle.qm_model.specs.JobStates.{run_of, runs_in, runs_on}
 use Rattle.qm_model.specs.Queues.{runs_for}
 use Rattle.qm_model.specs.Standing.{occupies, is_executing, has_run, is_run_on}
 use Rattle.qm_model.specs.Stopping.{is_running_in}
+use Rattle.qm_sched.specs.Nodes.{is_run_on_one}
 use Rattle.qm_sched.specs.Mirror.{Mirrors, run_in_state, run_of_entry, runs_of, is_live_in, is_run_for}
 use Rattle.qm_sched.proofs.Counts.{one_if, count_cons, count_agree}
 
@@ -181,3 +182,15 @@ run_for_at es name home n (Retained status until) is = refl
 pub run_for : (es : List Entry) (name : List ℕ) → All (λ e. entry_numbered e.number es ≡ Some e) es → All (λ e. of_its_run (is_run_for es name) e ≡ runs_for name e) es
 run_for es name itself k d within =
     run_for_at es name (get_or es k d).home (get_or es k d).number (get_or es k d).state (ap (λ (o : Option Entry). option_map_or (λ (e : Entry). bytes_eq e.home name) o false) (itself k d within))
+
+-- the run is on one of these nodes
+on_one_at : (nodes : List (List ℕ)) (n : ℕ) (state : EntryState) → option_map_or (λ (r : Run). is_among nodes r.node) (run_in_state n state) false ≡ option_map_or (is_among nodes) (runs_on state) false
+on_one_at nodes n Pending = refl
+on_one_at nodes n Holding = refl
+on_one_at nodes n (Timed at) = refl
+on_one_at nodes n (Running queue node run) = refl
+on_one_at nodes n (Aborting queue node run fate) = refl
+on_one_at nodes n (Retained status until) = refl
+
+pub run_on_one : (nodes : List (List ℕ)) (es : List Entry) → All (λ e. of_its_run (λ (r : Run). is_among nodes r.node) e ≡ is_run_on_one nodes e) es
+run_on_one nodes es k d within = on_one_at nodes (get_or es k d).number (get_or es k d).state

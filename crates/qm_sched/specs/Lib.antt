@@ -5,3 +5,4 @@ pub mod Starts
 pub mod Ready
 pub mod ByRun
 pub mod Timing
+pub mod Nodes

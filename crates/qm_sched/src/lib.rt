@@ -10,6 +10,7 @@ mod fates;
 mod fitting;
 mod forms;
 mod laws;
+mod nodes;
 mod parts;
 mod queues;
 mod rows;
@@ -21,6 +22,7 @@ mod timing;
 
 pub use choosing::{places, see_entries};
 pub use laws::starts_are_few;
+pub use nodes::{NodeChange, is_among};
 pub use parts::Parts;
 pub use settling::settle;
 pub use tables::TableSet;

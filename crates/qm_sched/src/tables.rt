@@ -25,7 +25,7 @@ use std::marker::Model;
 /// Only the calls named `reserve_..` take memory.
 #[derive(Drop)]
 pub struct TableSet {
-    pub(crate) nodes: Seq<Node>,
+    pub(crate) nodes: Vec<Node>,
     pub(crate) forms: FormTable,
     pub(crate) queues: QueueTable,
     pub(crate) entries: EntryTable,
@@ -41,7 +41,7 @@ impl Model for TableSet {
     ghost Value = { Tables };
 
     ghost view = { λ p. record {
-      nodes = p.nodes;
+      nodes = p.nodes.items;
       forms = p.forms.forms;
       characteristics = p.forms.characteristics;
       queues = p.queues.queues;
@@ -85,7 +85,7 @@ impl TableSet {
         } }
     {
         TableSet {
-            nodes,
+            nodes: nodes.into_vec(),
             forms,
             queues,
             entries: EntryTable::new(alloc),

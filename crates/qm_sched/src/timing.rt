@@ -32,6 +32,16 @@ impl TableSet {
         self.timers.reserve()
     }
 
+    /// Makes room for so many timers more. Where there is room it takes no memory, and succeeds.
+    pub fn reserve_timers(&mut self, count: usize) -> Result<(), AllocError>
+        ensures ok { OnOk result (count ≤ self.new.spare_timers) }
+        ensures err { OnErr result (self.old.spare_timers < count) }
+        ensures no_less { self.old.spare_timers ≤ self.new.spare_timers }
+        ensures tables { self.new ≡ record self.old { spare_timers = self.new.spare_timers } }
+    {
+        self.timers.reserve_for(count)
+    }
+
     /// Gives a number a timer for a moment, for which there is room, in place of any other; or none.
     pub fn set_timer(&mut self, number: u32, at: Option<Moment>)
         requires room { IfSome at (λ _. 0 < self.old.spare_timers) }
@@ -81,6 +91,16 @@ impl Parts {
         ensures tables { self.new ≡ record self.old { spare_timers = self.new.spare_timers } }
     {
         self.tables.reserve_timer()
+    }
+
+    /// Makes room for so many timers more. Where there is room it takes no memory, and succeeds.
+    pub fn reserve_timers(&mut self, count: usize) -> Result<(), AllocError>
+        ensures ok { OnOk result (count ≤ self.new.spare_timers) }
+        ensures err { OnErr result (self.old.spare_timers < count) }
+        ensures no_less { self.old.spare_timers ≤ self.new.spare_timers }
+        ensures tables { self.new ≡ record self.old { spare_timers = self.new.spare_timers } }
+    {
+        self.tables.reserve_timers(count)
     }
 
     /// Gives a number a timer for a moment, for which there is room, in place of any other; or none. Where it has just that
