@@ -1,0 +1,134 @@
+-- How the records of a queue file are judged, one by one.
+use Rattle.std.specs.Prelude.{◌≡◌, ℕ, ◌≤◌, ◌<◌, Bool, if◌then◌else◌, List, [], ◌∷◌, ◌++◌, map, Option, None, Some, IsSome, Result, Ok, Err, slice_get}
+use Rattle.std.specs.List.{AllByRecursion}
+use Rattle.qm_bytes.specs.Laws.{Spells}
+use Rattle.qm_kinds.specs.declared.record.Record.{Record}
+use Rattle.qm_kinds.specs.declared.record.Body.{Body}
+use Rattle.qm_kinds.specs.declared.record.Body.TheVariants.{Head}
+use Rattle.qm_kinds.specs.declared.system.Node.{Node}
+use Rattle.qm_kinds.specs.declared.system.System.{System}
+use Rattle.qm_model.specs.Consistent.{AreNodes}
+use Rattle.qm_record.specs.Spelling.{HasSpelling, record_text}
+use Rattle.qm_record.specs.Faults.{IsRecord}
+use Rattle.qm_record.specs.declared.fault.RecordFault.{RecordFault}
+use Rattle.qm_record.specs.declared.fault.RecordFault.TheVariants.{Bad}
+use Rattle.qm_record.specs.declared.fault.RecordFault.TheVariants as record_fault
+use Rattle.qm_restore.specs.Site.{new_rows}
+use Rattle.qm_restore.specs.QueueFile.{left_by, IsFileOf, IsFirstUnlawful}
+use Rattle.qm_restore.specs.declared.fault.RestoreFault.{RestoreFault}
+use Rattle.qm_restore.specs.declared.fault.RestoreFault.TheVariants.{Unlawful, NoMemory}
+use Rattle.qm_restore.specs.declared.fault.Flaw.{Flaw}
+use Rattle.qm_restore.specs.declared.fault.Flaw.TheVariants.{Unreadable, NoRow, Refused}
+
+-- this is so of the body with this index
+abbrev pub OfBody : List (List ℕ) → ℕ → (List ℕ → Type 0) → Type 0
+OfBody bodies index P = (body : List ℕ) → slice_get bodies index ≡ Some body → P body
+
+-- there is a body with this index, and this is so of it
+abbrev pub HasBody : List (List ℕ) → ℕ → (List ℕ → Type 0) → Type 0
+HasBody bodies index P = (body : List ℕ) × (slice_get bodies index ≡ Some body) × P body
+
+-- how many rows a new site has
+abbrev pub rows_count : ℕ
+rows_count = 3
+
+-- What is wrong with the record of this index: its body spells none; or it should be a row of a new site, which it isn't, or the
+-- file ends before it; or it is a record behind the rows, which can't stand there.
+abbrev pub IsFlaw : List (List ℕ) → ℕ → Flaw → Type 0
+IsFlaw bodies index Unreadable = HasBody bodies index (λ body. IsRecord body → ⊥)
+IsFlaw bodies index NoRow = index < rows_count
+IsFlaw bodies index Refused = (rows_count ≤ index) × HasBody bodies index IsRecord
+
+-- the first record that can't stand there, and what is wrong with it
+abbrev pub Judges : List (List ℕ) → RestoreFault → Type 0
+Judges bodies (Unlawful index flaw) = IsFirstUnlawful bodies index × IsFlaw bodies index flaw
+Judges bodies NoMemory = Unit {0}
+
+-- the nodes that a head names
+abbrev pub named_by : Body → List Node
+named_by (Head nodes may next_entry next_run last) = nodes
+named_by _ = []
+
+-- Each queue file that begins with the first of these records is of these nodes, which are named there.
+pub record IsOf (bodies : List (List ℕ)) (nodes : List Node) : Type 0 where
+  pub proper : AreNodes nodes
+  pub fit : AllByRecursion HasSpelling (new_rows nodes)
+  pub first : List ℕ
+  pub others : List (List ℕ)
+  pub are : bodies ≡ first ∷ others
+  pub only : (others : List Node) (more : List (List ℕ)) (s : System) → IsFileOf others (first ∷ more) s → others ≡ nodes
+
+-- The first records are the rows of a new site of these nodes, and each queue file that begins with the first of them is of
+-- these nodes.
+pub record BeginsWithRows (bodies : List (List ℕ)) (nodes : List Node) : Type 0 where
+  pub proper : AreNodes nodes
+  pub fit : AllByRecursion HasSpelling (new_rows nodes)
+  pub rest : List (List ℕ)
+  pub rows : bodies ≡ map record_text (new_rows nodes) ++ rest
+  pub only : (others : List Node) (more : List (List ℕ)) (s : System) → IsFileOf others (map record_text (new_rows nodes) ++ more) s → others ≡ nodes
+
+-- this system, if it was made
+abbrev pub some_if : Bool → System → Option System
+some_if made s = if made then Some s else None
+
+-- What one record, by its body, makes of a system: the system after it, or nothing.
+pub record Leaves (body : List ℕ) (old new : System) : Type 0 where
+  pub value : Record
+  pub spells : Spells HasSpelling record_text value body
+  pub leaves : left_by old value ≡ Some new
+  pub only : (other : Record) → HasSpelling other → body ≡ record_text other → other ≡ value
+
+-- it makes nothing of it
+abbrev pub LeavesNothing : List ℕ → System → Type 0
+LeavesNothing body old = (other : Record) → HasSpelling other → body ≡ record_text other → left_by old other ≡ None
+
+-- what was read of a record makes this of a system
+abbrev pub LeavesBy : Result Record RecordFault → System → System → Type 0
+LeavesBy (Ok r) old new = left_by old r ≡ Some new
+LeavesBy (Err fault) old new = ⊥
+
+-- what a record is that was refused, by what was read of it
+abbrev pub IsFlawOfRead : Result Record RecordFault → Flaw → Type 0
+IsFlawOfRead (Ok r) Unreadable = ⊥
+IsFlawOfRead (Ok r) NoRow = ⊥
+IsFlawOfRead (Ok r) Refused = Unit {0}
+IsFlawOfRead (Err fault) Unreadable = Unit {0}
+IsFlawOfRead (Err fault) NoRow = ⊥
+IsFlawOfRead (Err fault) Refused = ⊥
+
+-- What was read of the record with this index makes nothing of it. Memory is wanted for what can stand there alone, or was
+-- wanted where it was read.
+abbrev pub RefusesRead : ℕ → Result Record RecordFault → System → RestoreFault → Type 0
+RefusesRead index (Ok r) s (Unlawful i flaw) = (i ≡ index) × (left_by s r ≡ None) × IsFlawOfRead (Ok r) flaw
+RefusesRead index (Ok r) s NoMemory = IsSome (left_by s r)
+RefusesRead index (Err (Bad place)) s (Unlawful i flaw) = (i ≡ index) × IsFlawOfRead (Err (Bad place)) flaw
+RefusesRead index (Err (Bad place)) s NoMemory = ⊥
+RefusesRead index (Err record_fault.NoMemory) s (Unlawful i flaw) = ⊥
+RefusesRead index (Err record_fault.NoMemory) s NoMemory = Unit {0}
+
+-- this record was read, unless memory ran out
+abbrev pub IsRead : Record → Result Record RestoreFault → Type 0
+IsRead r (Ok x) = x ≡ r
+IsRead r (Err NoMemory) = Unit {0}
+IsRead r (Err (Unlawful index flaw)) = ⊥
+
+-- what is wrong with a body: it spells no record, or it is one
+abbrev pub IsFlawOf : List ℕ → Flaw → Type 0
+IsFlawOf body Unreadable = IsRecord body → ⊥
+IsFlawOf body NoRow = ⊥
+IsFlawOf body Refused = IsRecord body
+
+-- the record with this index and body can't stand there; or memory ran out over a body that is a record's
+abbrev pub IsRefused : ℕ → List ℕ → System → RestoreFault → Type 0
+IsRefused index body s (Unlawful i flaw) = (i ≡ index) × LeavesNothing body s × IsFlawOf body flaw
+IsRefused index body s NoMemory = IsRecord body
+
+-- the only index that is told, of a record that can't be read
+abbrev pub IsUnreadableAt : ℕ → RestoreFault → Type 0
+IsUnreadableAt index (Unlawful i flaw) = (i ≡ index) × (flaw ≡ Unreadable)
+IsUnreadableAt index NoMemory = Unit {0}
+
+-- it is the first record that is told
+abbrev pub IsFirst : RestoreFault → Type 0
+IsFirst (Unlawful index flaw) = index ≡ 0
+IsFirst NoMemory = Unit {0}

@@ -1,0 +1,119 @@
+// How the records of a queue file become the image of a system.
+ghost use Rattle.std.specs.Prelude.{◌≡◌, ◌<◌, length, IsSome, IsErr, IfOk, IfErr, OnOk};
+ghost use Rattle.qm_model.specs.Consistent.{IsConsistent};
+ghost use Rattle.qm_state.specs.Image.{system_of};
+ghost use Rattle.qm_restore.specs.QueueFile.{can_act, left_by, IsSiteFile};
+ghost use Rattle.qm_restore.specs.Restoring.{some_if, OfBody, Judges, Leaves, LeavesBy, IsRefused, RefusesRead};
+
+use crate::bodies::Bodies;
+use crate::fault::{Flaw, RestoreFault};
+use crate::laws::new_sites_are_consistent;
+use crate::rows::read_rows;
+use crate::site::new_system;
+use qm_kinds::{Body, Moment, Record, Request};
+use qm_model::{built_requests_keep_consistent, nodes_keep_their_names};
+use qm_record::{RecordFault, read_record};
+use qm_state::{Image, Refused, is_built};
+use std::alloc::{AllocError, Global};
+
+// How many rows a new site has.
+const ROWS: usize = 3;
+
+// Whether a request can act: its moment doesn't go back, its node is there, and it is one that can be asked.
+fn can_act(image: &Image, moment: Moment, node: u8, request: &Request) -> bool
+    ensures { result ≡ can_act (system_of image.now) moment node request.now }
+{
+    image.last() <= moment && usize::from(node) < image.nodes().len() && is_built(request)
+}
+
+// Does what a record says, if it can stand there.
+fn replay(image: &mut Image, what: &Record) -> Result<bool, AllocError>
+    requires { IsConsistent (system_of image.old) }
+    ensures sound { IsConsistent (system_of image.new) }
+    ensures nodes { (system_of image.new).nodes ≡ (system_of image.old).nodes }
+    ensures done { IfOk result (λ done. left_by (system_of image.old) what.now ≡ some_if done (system_of image.new)) }
+    // Memory is wanted for what can stand there alone.
+    ensures no_memory { IsErr result → IsSome (left_by (system_of image.old) what.now) }
+{
+    let Body::Ask(request) = &what.body else {
+        return Ok(false);
+    };
+    if !can_act(image, what.moment, what.node, request) {
+        return Ok(false);
+    }
+    nodes_keep_their_names();
+    built_requests_keep_consistent();
+    match image.prepare(what.moment, what.node, request) {
+        Ok(prepared) => {
+            image.commit(prepared);
+            Ok(true)
+        }
+        Err(Refused::By(_)) => Ok(false),
+        Err(Refused::NoMemory) => Err(AllocError),
+    }
+}
+
+// Does what the record of this index says, as it was read.
+fn replay_read(
+    image: &mut Image,
+    index: usize,
+    read: &Result<Record, RecordFault>,
+) -> Result<(), RestoreFault>
+    requires { IsConsistent (system_of image.old) }
+    ensures sound { IsConsistent (system_of image.new) }
+    ensures leaves { OnOk result (LeavesBy read.now (system_of image.old) (system_of image.new)) }
+    ensures refused { IfErr result (RefusesRead index read.now (system_of image.old)) }
+    ensures nodes { (system_of image.new).nodes ≡ (system_of image.old).nodes }
+{
+    match read {
+        Ok(record) => {
+            if replay(image, record)? {
+                Ok(())
+            } else {
+                Err(RestoreFault::Unlawful {
+                    index,
+                    flaw: Flaw::Refused,
+                })
+            }
+        }
+        Err(RecordFault::Bad { .. }) => Err(RestoreFault::Unlawful {
+            index,
+            flaw: Flaw::Unreadable,
+        }),
+        Err(RecordFault::NoMemory) => Err(RestoreFault::NoMemory),
+    }
+}
+
+// Does what the record of this index says. It stays where it was read: it is large.
+fn restore_record<B: Bodies>(
+    alloc: Global,
+    log: &B,
+    index: usize,
+    image: &mut Image,
+) -> Result<(), RestoreFault>
+    requires within { index < length (B.bodies log.now) }
+    requires sound { IsConsistent (system_of image.old) }
+    ensures sound { IsConsistent (system_of image.new) }
+    ensures leaves { OnOk result (OfBody (B.bodies log.now) index (λ body. Leaves body (system_of image.old) (system_of image.new))) }
+    ensures refused { IfErr result (λ fault. OfBody (B.bodies log.now) index (λ body. IsRefused index body (system_of image.old) fault)) }
+    ensures nodes { (system_of image.new).nodes ≡ (system_of image.old).nodes }
+{
+    let read = read_record(alloc, log.body(index));
+    replay_read(image, index, &read)
+}
+
+/// The image of the system for which the records stand: the rows of a new site, of one or more nodes that are up or down, and
+/// then requests, each accepted behind those before it. Where they stand for none, the first record that can't stand there, and
+/// what is wrong with it. The nodes of the system are those that the first row names.
+pub fn restore<B: Bodies>(alloc: Global, log: &B) -> Result<Image, RestoreFault>
+    ensures stands { IfOk result (λ image. IsSiteFile (B.bodies log.now) (system_of image)) }
+    ensures judged { IfErr result (Judges (B.bodies log.now)) }
+{
+    let nodes = read_rows(alloc, log)?;
+    new_sites_are_consistent();
+    let mut image = Image::from_rows(alloc, &new_system(alloc, &nodes)?)?;
+    for index in ROWS..log.count() {
+        restore_record(alloc, log, index, &mut image)?;
+    }
+    Ok(image)
+}
