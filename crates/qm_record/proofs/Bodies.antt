@@ -23,7 +23,7 @@ use Rattle.qm_record.specs.declared.kind.RecordKind.{RecordKind}
 use Rattle.qm_record.specs.declared.kind.RecordKind.TheVariants as record_kind
 use Rattle.qm_record.specs.Kinds.{is_row_kind}
 use Rattle.qm_record.specs.Spelling.{body_parts, fields_in, is_row, RequestFits, BodyFits}
-use Rattle.qm_record.specs.Reading.{append_at, fill_at, drop_at, define_form_at, delete_form_at, define_characteristic_at, delete_characteristic_at, initialize_at, set_queue_at, start_queue_at, stop_queue_at, abort_job_at, delete_queue_at, merge_at, submit_at, set_entry_at, delete_entry_at, run_mark_at, done_at, head_at, form_row_at, queue_row_at, body_at}
+use Rattle.qm_record.specs.Reading.{append_at, fill_at, drop_at, define_form_at, delete_form_at, define_characteristic_at, delete_characteristic_at, initialize_at, set_queue_at, start_queue_at, stop_queue_at, abort_job_at, delete_queue_at, merge_at, submit_at, set_entry_at, delete_entry_at, run_mark_at, done_at, node_lost_at, took_at, head_at, form_row_at, queue_row_at, body_at}
 use Rattle.qm_record.proofs.Codes.{stop_mode_reader}
 use Rattle.qm_record.proofs.Fields.{u16_reader, u32_reader, u64_reader, node_reader, form_reader, characteristic_reader, queue_reader, change_reader, new_queue_reader, entry_change_reader, job_reader}
 
@@ -49,6 +49,9 @@ Given record_kind.DeleteEntry = ℕ
 Given record_kind.Mark = ℕ × List ℕ
 Given record_kind.Done = ℕ × ℕ
 Given record_kind.Tick = Unit {0}
+Given record_kind.NodeUp = Unit {0}
+Given record_kind.NodeLost = List (List ℕ)
+Given record_kind.Took = ℕ × (List (List ℕ) × (List (List ℕ) × (List (List ℕ) × Unit {0})))
 Given record_kind.Head = List Node × (List (List ℕ) × (ℕ × (ℕ × (ℕ × Unit {0}))))
 Given record_kind.Form = Form
 Given record_kind.Queue = Queue
@@ -74,6 +77,9 @@ body_of record_kind.DeleteEntry x = body.Ask (ask.DeleteEntry x)
 body_of record_kind.Mark x = body.Ask (ask.Mark x.0 x.1)
 body_of record_kind.Done x = body.Ask (ask.Done x.0 x.1)
 body_of record_kind.Tick x = body.Ask ask.Tick
+body_of record_kind.NodeUp x = body.Ask ask.NodeUp
+body_of record_kind.NodeLost x = body.Ask (ask.NodeLost x)
+body_of record_kind.Took x = body.Ask (ask.Took x.0 x.1.0 x.1.1.0 x.1.1.1.0)
 body_of record_kind.Head x = body.Head x.0 x.1.0 x.1.1.0 x.1.1.1.0 x.1.1.1.1.0
 body_of record_kind.Form x = body.Form x
 body_of record_kind.Queue x = body.Queue x
@@ -105,7 +111,9 @@ kind_of_request (ask.DeleteEntry entry) fits = made_of record_kind.DeleteEntry e
 kind_of_request (ask.Mark run value) fits = made_of record_kind.Mark (run, value) refl refl refl
 kind_of_request (ask.Done run status) fits = made_of record_kind.Done (run, status) refl refl refl
 kind_of_request ask.Tick fits = made_of record_kind.Tick tt refl refl refl
-kind_of_request r fits = absurd fits
+kind_of_request ask.NodeUp fits = made_of record_kind.NodeUp tt refl refl refl
+kind_of_request (ask.NodeLost nodes) fits = made_of record_kind.NodeLost nodes refl refl refl
+kind_of_request (ask.Took epoch gone up may) fits = made_of record_kind.Took (epoch & gone & up & may & tt) refl refl refl
 
 kind_of_body : (b : Body) → BodyFits b → KindOf b
 kind_of_body (body.Ask r) fits = kind_of_request r fits
@@ -188,7 +196,7 @@ reads {k} {Fit} {text} reader parts_are fit =
 -- ---- the body of each kind
 
 reader_of : (k : RecordKind) → IsReader (BodyAt k) (body_at k)
-unfolding body_at append_at fill_at drop_at define_form_at delete_form_at define_characteristic_at delete_characteristic_at initialize_at set_queue_at start_queue_at stop_queue_at abort_job_at delete_queue_at merge_at submit_at set_entry_at delete_entry_at run_mark_at done_at head_at form_row_at queue_row_at
+unfolding body_at append_at fill_at drop_at define_form_at delete_form_at define_characteristic_at delete_characteristic_at initialize_at set_queue_at start_queue_at stop_queue_at abort_job_at delete_queue_at merge_at submit_at set_entry_at delete_entry_at run_mark_at done_at node_lost_at took_at head_at form_row_at queue_row_at
 reader_of record_kind.Append =
     reads (file_name_reader ⊗ λ file fits. long_bytes_reader ⊗ λ bytes bytes_fit. composed (fits, bytes_fit))
     (λ x. refl) (λ x fits. fits.0 & fits.1 & tt)
@@ -222,6 +230,13 @@ reader_of record_kind.Mark =
 reader_of record_kind.Done =
     reads (u64_reader ⊗ λ run fits. ends u32_reader (λ status status_fits. (fits, status_fits))) (λ x. refl) (λ x fits. fits)
 reader_of record_kind.Tick = reads (composed tt) (λ x. refl) (λ x fits. fits)
+reader_of record_kind.NodeUp = reads (composed tt) (λ x. refl) (λ x fits. fits)
+reader_of record_kind.NodeLost = reads (ends (list_reader name_reader) (λ x fits. fits)) (λ x. refl) (λ x fits. fits)
+reader_of record_kind.Took =
+    reads
+    (u64_reader ⊗ λ epoch epoch_fits. list_reader name_reader ⊗ λ gone gone_fit. list_reader name_reader ⊗ λ up up_fit.
+    list_reader name_reader ⊗ λ may may_fit. composed (epoch_fits, gone_fit, up_fit, may_fit))
+    (λ x. refl) (λ x fits. fits.0 & fits.1 & fits.2 & fits.3 & tt)
 reader_of record_kind.Head =
     reads
     (list_reader node_reader ⊗ λ nodes nodes_fit. list_reader name_reader ⊗ λ may may_fit. u32_reader ⊗ λ next_entry entry_fits.

@@ -5,7 +5,7 @@ use Rattle.qm_bytes.specs.Laws.{Spells, Stops, IsReader}
 use Rattle.qm_bytes.specs.Spelling.{byte}
 use Rattle.qm_bytes.proofs.Readers.{same_value, same_rest}
 use Rattle.qm_record.specs.declared.kind.RecordKind.{RecordKind}
-use Rattle.qm_record.specs.declared.kind.RecordKind.TheVariants.{Append, Fill, Drop, DefineForm, DeleteForm, DefineCharacteristic, DeleteCharacteristic, InitializeQueue, SetQueue, StartQueue, StopQueue, AbortJob, DeleteQueue, Merge, Submit, SetEntry, DeleteEntry, Mark, Done, Tick, Head, Form, Queue}
+use Rattle.qm_record.specs.declared.kind.RecordKind.TheVariants.{Append, Fill, Drop, DefineForm, DeleteForm, DefineCharacteristic, DeleteCharacteristic, InitializeQueue, SetQueue, StartQueue, StopQueue, AbortJob, DeleteQueue, Merge, Submit, SetEntry, DeleteEntry, Mark, Done, Tick, NodeUp, NodeLost, Took, Head, Form, Queue}
 use Rattle.qm_record.specs.Kinds.{number_of, kind_of}
 use Rattle.qm_record.specs.Reading.{told, record_kind_at}
 
@@ -30,6 +30,9 @@ kind_again DeleteEntry = refl
 kind_again Mark = refl
 kind_again Done = refl
 kind_again Tick = refl
+kind_again NodeUp = refl
+kind_again NodeLost = refl
+kind_again Took = refl
 kind_again Head = refl
 kind_again Form = refl
 kind_again Queue = refl
@@ -75,10 +78,13 @@ number_back n k =
     (tells n Mark k
     (tells n Done k
     (tells n Tick k
+    (tells n NodeUp k
+    (tells n NodeLost k
+    (tells n Took k
     (tells n Head k
     (tells n Form k
     (tells n Queue k
-    (tells_none n k)))))))))))))))))))))))
+    (tells_none n k))))))))))))))))))))))))))
 
 abbrev pub KindSpelled : RecordKind → List ℕ → Type 0
 KindSpelled = Spells (λ k. Unit {0}) (λ k. byte (number_of k))

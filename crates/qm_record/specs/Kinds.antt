@@ -1,7 +1,7 @@
 -- The kinds of records and their numbers.
 use Rattle.std.specs.Prelude.{ℕ, ◌==◌, Bool, true, false, if◌then◌else◌, Option, None, Some}
 use Rattle.qm_record.specs.declared.kind.RecordKind.{RecordKind}
-use Rattle.qm_record.specs.declared.kind.RecordKind.TheVariants.{Append, Fill, Drop, DefineForm, DeleteForm, DefineCharacteristic, DeleteCharacteristic, InitializeQueue, SetQueue, StartQueue, StopQueue, AbortJob, DeleteQueue, Merge, Submit, SetEntry, DeleteEntry, Mark, Done, Tick, Head, Form, Queue}
+use Rattle.qm_record.specs.declared.kind.RecordKind.TheVariants.{Append, Fill, Drop, DefineForm, DeleteForm, DefineCharacteristic, DeleteCharacteristic, InitializeQueue, SetQueue, StartQueue, StopQueue, AbortJob, DeleteQueue, Merge, Submit, SetEntry, DeleteEntry, Mark, Done, Tick, NodeUp, NodeLost, Took, Head, Form, Queue}
 
 -- the number of each kind: of requests up to 32, of the rows of an image from 33 on
 abbrev pub number_of : RecordKind → ℕ
@@ -25,6 +25,9 @@ number_of DeleteEntry = 17
 number_of Mark = 18
 number_of Done = 19
 number_of Tick = 20
+number_of NodeUp = 21
+number_of NodeLost = 22
+number_of Took = 23
 number_of Head = 33
 number_of Form = 34
 number_of Queue = 37
@@ -52,6 +55,9 @@ kind_of n =
     if n == 18 then Some Mark else
     if n == 19 then Some Done else
     if n == 20 then Some Tick else
+    if n == 21 then Some NodeUp else
+    if n == 22 then Some NodeLost else
+    if n == 23 then Some Took else
     if n == 33 then Some Head else
     if n == 34 then Some Form else
     if n == 37 then Some Queue else
@@ -79,6 +85,9 @@ is_row_kind DeleteEntry = false
 is_row_kind Mark = false
 is_row_kind Done = false
 is_row_kind Tick = false
+is_row_kind NodeUp = false
+is_row_kind NodeLost = false
+is_row_kind Took = false
 is_row_kind Head = true
 is_row_kind Form = true
 is_row_kind Queue = true

@@ -347,6 +347,17 @@ done_at = do
   status ← number_at 4
   pure (body.Ask (ask.Done run status))
 
+unfoldable pub node_lost_at : Reader Body
+node_lost_at = list_at name_at >>= λ nodes. pure (body.Ask (ask.NodeLost nodes))
+
+unfoldable pub took_at : Reader Body
+took_at = do
+  epoch ← number_at 8
+  gone ← list_at name_at
+  up ← list_at name_at
+  may ← list_at name_at
+  pure (body.Ask (ask.Took epoch gone up may))
+
 unfoldable pub head_at : Reader Body
 head_at = do
   nodes ← list_at node_at
@@ -384,6 +395,9 @@ body_at record_kind.DeleteEntry = delete_entry_at
 body_at record_kind.Mark = run_mark_at
 body_at record_kind.Done = done_at
 body_at record_kind.Tick = pure (body.Ask ask.Tick)
+body_at record_kind.NodeUp = pure (body.Ask ask.NodeUp)
+body_at record_kind.NodeLost = node_lost_at
+body_at record_kind.Took = took_at
 body_at record_kind.Head = head_at
 body_at record_kind.Form = form_row_at
 body_at record_kind.Queue = queue_row_at

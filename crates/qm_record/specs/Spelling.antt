@@ -29,7 +29,6 @@ use Rattle.qm_bytes.specs.Spelling.{low_first, fields, byte, truth, optional, li
 use Rattle.qm_kinds.specs.declared.record.Record.{Record}
 use Rattle.qm_kinds.specs.declared.record.Body.{Body}
 use Rattle.qm_kinds.specs.declared.record.Body.TheVariants as body
-use Rattle.qm_model.specs.Built.{has_record}
 use Rattle.qm_record.specs.declared.kind.RecordKind.{RecordKind}
 use Rattle.qm_record.specs.declared.kind.RecordKind.TheVariants as record_kind
 use Rattle.qm_record.specs.Kinds.{number_of}
@@ -138,7 +137,11 @@ head nodes may next_entry next_run last = fields (
 abbrev pub abort : List ℕ → Option ℕ → Bool → List ℕ
 abort queue_name entry requeue = fields (short_bytes queue_name ∷ optional (low_first 4) entry ∷ truth requeue ∷ [])
 
--- The kind and the fields of a request that is spelled so far.
+-- the epoch of a takeover, the nodes whose runs are lost, those that are up, and those that may be manager
+abbrev pub took : ℕ → List (List ℕ) → List (List ℕ) → List (List ℕ) → List ℕ
+took epoch gone up may = fields (low_first 8 epoch ∷ list short_bytes gone ∷ list short_bytes up ∷ list short_bytes may ∷ [])
+
+-- The kind and the fields of a request: each has a spelling.
 abbrev pub request_parts : Request → Option (RecordKind × List ℕ)
 request_parts (ask.Append file bytes) = Some (record_kind.Append, fields (file_name file ∷ long_bytes bytes ∷ []))
 request_parts (ask.Fill file lines) = Some (record_kind.Fill, file_name file ++ low_first 2 lines)
@@ -160,9 +163,9 @@ request_parts (ask.DeleteEntry entry) = Some (record_kind.DeleteEntry, low_first
 request_parts (ask.Mark run value) = Some (record_kind.Mark, low_first 8 run ++ short_bytes value)
 request_parts (ask.Done run status) = Some (record_kind.Done, low_first 8 run ++ low_first 4 status)
 request_parts ask.Tick = Some (record_kind.Tick, [])
-request_parts ask.NodeUp = None
-request_parts (ask.NodeLost nodes) = None
-request_parts (ask.Took epoch gone up may) = None
+request_parts ask.NodeUp = Some (record_kind.NodeUp, [])
+request_parts (ask.NodeLost nodes) = Some (record_kind.NodeLost, list short_bytes nodes)
+request_parts (ask.Took epoch gone up may) = Some (record_kind.Took, took epoch gone up may)
 
 -- the same of each record
 abbrev pub body_parts : Body → Option (RecordKind × List ℕ)
@@ -299,7 +302,9 @@ RequestFits (ask.DeleteEntry entry) = IsEntryNumber entry
 RequestFits (ask.Mark run value) = (run < 2 ^ 64) × IsMark value
 RequestFits (ask.Done run status) = (run < 2 ^ 64) × (status < 2 ^ 32)
 RequestFits ask.Tick = Unit {0}
-RequestFits other = ⊥
+RequestFits ask.NodeUp = Unit {0}
+RequestFits (ask.NodeLost nodes) = IsList IsName nodes
+RequestFits (ask.Took epoch gone up may) = (epoch < 2 ^ 64) × IsList IsName gone × IsList IsName up × IsList IsName may
 
 abbrev pub BodyFits : Body → Type 0
 BodyFits (body.Ask r) = RequestFits r
@@ -347,11 +352,12 @@ AreListsShort (ask.SetQueue name change) = IsShortChange change
 AreListsShort (ask.StartQueue name change) = IsShortChange change
 AreListsShort (ask.Submit j) = length j.characteristics < 2 ^ 16
 AreListsShort (ask.SetEntry entry change) = IsShortEntryChange change
+AreListsShort (ask.NodeLost nodes) = length nodes < 2 ^ 16
+AreListsShort (ask.Took epoch gone up may) = (length gone < 2 ^ 16) × (length up < 2 ^ 16) × (length may < 2 ^ 16)
 AreListsShort other = Unit {0}
 
 -- What is asked of a request whose record is written.
 pub record CanBeRecorded (r : Request) : Type 0 where
-  pub known : has_record r ≡ true
   pub short : AreListsShort r
 
 -- the lists are short enough, and the body is of a kind that has a spelling

@@ -2,7 +2,7 @@
 ghost use Rattle.std.specs.Prelude.{◌≡◌};
 ghost use Rattle.qm_record.specs.Kinds.{number_of, kind_of, is_row_kind};
 
-/// What a record is, told by its number. These are the kinds that are spelled so far: requests, and the rows of an image.
+/// What a record is, told by its number. These are the kinds that are spelled so far: all requests, and rows of an image.
 #[derive(Clone, Copy, Debug)]
 pub enum RecordKind {
     Append,
@@ -25,6 +25,9 @@ pub enum RecordKind {
     Mark,
     Done,
     Tick,
+    NodeUp,
+    NodeLost,
+    Took,
     Head,
     Form,
     Queue,
@@ -56,6 +59,9 @@ impl RecordKind {
             RecordKind::Mark => 18,
             RecordKind::Done => 19,
             RecordKind::Tick => 20,
+            RecordKind::NodeUp => 21,
+            RecordKind::NodeLost => 22,
+            RecordKind::Took => 23,
             RecordKind::Head => 33,
             RecordKind::Form => 34,
             RecordKind::Queue => 37,
@@ -87,6 +93,9 @@ impl RecordKind {
             18 => Some(RecordKind::Mark),
             19 => Some(RecordKind::Done),
             20 => Some(RecordKind::Tick),
+            21 => Some(RecordKind::NodeUp),
+            22 => Some(RecordKind::NodeLost),
+            23 => Some(RecordKind::Took),
             33 => Some(RecordKind::Head),
             34 => Some(RecordKind::Form),
             37 => Some(RecordKind::Queue),

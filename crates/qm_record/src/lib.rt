@@ -9,6 +9,7 @@ mod field;
 mod file_request;
 mod kind;
 mod laws;
+mod node_request;
 mod queue_request;
 mod reading;
 mod request;
@@ -16,6 +17,6 @@ mod row;
 mod writing;
 
 pub use fault::RecordFault;
-pub use laws::{requests_with_records, rows_are_short};
+pub use laws::{requests_have_records, rows_are_short};
 pub use reading::{no_record_begins_another, read_record};
 pub use writing::{write_record, write_request};

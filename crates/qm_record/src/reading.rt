@@ -14,6 +14,7 @@ use crate::entry_request::{read_delete_entry, read_set_entry};
 use crate::fault::RecordFault;
 use crate::file_request::{read_append, read_drop, read_fill};
 use crate::kind::RecordKind;
+use crate::node_request::{read_node_lost, read_took};
 use crate::queue_request::{
     read_abort_job, read_delete_queue, read_initialize, read_merge, read_set_queue,
     read_start_queue, read_stop_queue,
@@ -73,6 +74,9 @@ fn read_body(
         RecordKind::Mark => read_run_mark(bytes),
         RecordKind::Done => read_done(bytes),
         RecordKind::Tick => Ok(Ok(Body::Ask(Request::Tick))),
+        RecordKind::NodeUp => Ok(Ok(Body::Ask(Request::NodeUp))),
+        RecordKind::NodeLost => read_node_lost(alloc, bytes),
+        RecordKind::Took => read_took(alloc, bytes),
         RecordKind::Head => read_head(alloc, bytes),
         RecordKind::Form => read_form_row(bytes),
         RecordKind::Queue => read_queue_row(alloc, bytes),

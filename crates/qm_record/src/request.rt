@@ -1,8 +1,7 @@
 // The records of requests.
-ghost use Rattle.std.specs.Prelude.{◌≡◌, ◌<◌, ◌^◌, ◌++◌, true, Some, length, OnOk};
+ghost use Rattle.std.specs.Prelude.{◌≡◌, ◌<◌, ◌^◌, ◌++◌, Some, length, OnOk};
 ghost use Rattle.qm_bytes.specs.Spelling.{short_bytes, low_first, IsMoment, IsMark};
 ghost use Rattle.qm_bytes.specs.Reading.{Gives, GivesKept};
-ghost use Rattle.qm_model.specs.Built.{has_record};
 ghost use Rattle.qm_record.specs.Spelling.{job_text, front, fields_in, text_of, request_parts, JobFits, RequestFits, CanBeRecorded};
 ghost use Rattle.qm_record.specs.Reading.{submit_at, run_mark_at, done_at};
 
@@ -12,6 +11,7 @@ use crate::entry_request::put_set_entry;
 use crate::field::{job_kind_code, put_job_retain, read_job_kind, read_job_retain};
 use crate::file_request::{put_append, put_fill};
 use crate::kind::RecordKind;
+use crate::node_request::put_took;
 use crate::queue_request::{put_abort, put_merge, put_new_queue, put_settings, put_stop};
 use crate::row::put_form;
 use qm_bytes::{
@@ -39,9 +39,8 @@ pub(crate) fn put_front(
     Ok(())
 }
 
-// The kind of a request that has a record.
+// The kind of a request.
 fn kind_of(request: &Request) -> RecordKind
-    requires { has_record request.now ≡ true }
     ensures { request_parts request.now ≡ Some (result, fields_in (request_parts request.now)) }
 {
     match request {
@@ -65,7 +64,9 @@ fn kind_of(request: &Request) -> RecordKind
         Request::Mark { .. } => RecordKind::Mark,
         Request::Done { .. } => RecordKind::Done,
         Request::Tick => RecordKind::Tick,
-        _ => unreachable!(),
+        Request::NodeUp => RecordKind::NodeUp,
+        Request::NodeLost { .. } => RecordKind::NodeLost,
+        Request::Took { .. } => RecordKind::Took,
     }
 }
 
@@ -117,8 +118,14 @@ fn put_fields(out: &mut Vec<u8>, request: &Request) -> Result<(), AllocError>
         Request::DeleteEntry { entry } => put_number(out, Width::Four, u64::from(*entry)),
         Request::Mark { run, value } => put_run_mark(out, *run, value),
         Request::Done { run, status } => put_done(out, *run, *status),
-        Request::Tick => Ok(()),
-        _ => unreachable!(),
+        Request::NodeLost { nodes } => put_list(out, nodes),
+        Request::Took {
+            epoch,
+            gone,
+            up,
+            may,
+        } => put_took(out, *epoch, gone, up, may),
+        Request::Tick | Request::NodeUp => Ok(()),
     }
 }
 
