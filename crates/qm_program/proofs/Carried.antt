@@ -1,11 +1,10 @@
 -- How the step of a run and its report make a move of a node.
-use Rattle.std.proofs.Common.{◌≡◌, ◌⊎◌, inl, inr, ℕ, ◌+◌, Bool, true, false, IsSome, List, [], ◌∷◌, drop, Option, None, Some, refl, sym, ◌∙◌, ap, subst}
-use Rattle.qm_disk.specs.Disk.{Meaning}
+use Rattle.std.proofs.Common.{◌≡◌, ℕ, ◌+◌, Bool, true, false, IsSome, List, drop, Option, None, Some, refl, sym, ◌∙◌, ap, subst}
 use Rattle.qm_kinds.specs.declared.input.Input.TheVariants.{Ask}
 use Rattle.qm_kinds.specs.declared.request.Request.{Request}
 use Rattle.qm_kinds.specs.declared.work.Report.{Report as Told}
 use Rattle.qm_model.specs.Acting.{acting}
-use Rattle.qm_model.specs.Kept.{KeptRun, KeptRuns, StepEnd, WentOn, CutShort, IsEndOf, next_kept, behind_next, known, report_told, run_kept, with_duties}
+use Rattle.qm_model.specs.Kept.{KeptRun, StepEnd, WentOn, CutShort, IsEndOf, next_kept, behind_next, known, report_told, run_kept, with_duties}
 use Rattle.qm_model.specs.Script.{steps_of_line}
 use Rattle.qm_history.specs.Calls.{request_of_report}
 use Rattle.qm_history.specs.Course.{MadeStep, NodeState, behind_step}
@@ -22,7 +21,7 @@ use Rattle.qm_program.specs.Heard.{goes_on_of, heard_of}
 use Rattle.qm_program.specs.Moves.{IsNext, Standing, behind_move, kept_behind_line, next_of, replied, keeps_behind}
 use Rattle.qm_program.specs.Position.{IsNextMove, heard_stage, stage_fetched, standing_of, state_of}
 use Rattle.qm_program.specs.Serving.{report_at, line_at}
-use Rattle.qm_program.specs.Transcript.{Fetch, Line, MoveAt, Report, report_request, runs_shown, turn, turn_of}
+use Rattle.qm_program.specs.Transcript.{Fetch, Line, Report, report_request, runs_shown, turn, turn_of}
 use Rattle.qm_program.specs.declared.position.Stage.{Stage}
 use Rattle.qm_program.specs.declared.position.Position.{Position}
 use Rattle.qm_program.specs.declared.position.Next.TheVariants as next

@@ -1,18 +1,13 @@
 -- Which move comes next, and where a node is behind it.
-use Rattle.std.proofs.Common.{◌≡◌, ◌⊎◌, ℕ, zero, suc, ◌+◌, ◌<◌, ◌≤◌, ◌==◌, Bool, true, false, List, [], ◌∷◌, ◌++◌, map, length, drop, Option, None, Some, refl, sym, ◌∙◌, ap, subst, arith, inl, inr, cond, get_or, slice_get, drop-cons, find}
+use Rattle.std.proofs.Common.{◌≡◌, ◌⊎◌, ℕ, zero, suc, ◌+◌, ◌<◌, ◌==◌, Bool, true, false, List, [], ◌∷◌, length, drop, Option, None, Some, refl, sym, ◌∙◌, ap, subst, arith, inl, inr, cond, slice_get, drop-cons, find}
 use Rattle.std.proofs.lemmas.List.{length-map, drop-drop, drop-map, drop_all}
 use Rattle.std.proofs.lemmas.Bool.Decides.{nat_tests}
 use Rattle.std.specs.Option.{option_map_or, option_and_then}
-use Rattle.qm_kinds.specs.declared.work.Duty.{Duty}
 use Rattle.qm_kinds.specs.declared.work.Report.{Report}
 use Rattle.qm_kinds.specs.declared.refusal.Refusal.{Refusal}
 use Rattle.qm_kinds.specs.declared.refusal.Refusal.TheVariants as refused
 use Rattle.qm_kinds.specs.declared.reply.Reply.{Reply}
-use Rattle.qm_model.specs.Acting.{acting}
-use Rattle.qm_model.specs.Duties.{duties, duty_of}
-use Rattle.qm_model.specs.Kept.{KeptRun, KeptRuns, known, next_kept, run_kept, report_told, behind_next, kept_behind, with_duties}
-use Rattle.qm_model.specs.Script.{ScriptLine}
-use Rattle.qm_model.specs.Transcript.{runs_line, turn_text}
+use Rattle.qm_model.specs.Kept.{KeptRun, KeptRuns, known, next_kept, run_kept, behind_next, kept_behind, with_duties}
 use Rattle.qm_history.specs.Course.{NodeState, NextTurn, ALine, AStep, AFetch, ALeave, MadeStep, IsStepOf, behind_line, behind_fetch, behind_step, own_stage, stage_behind, stage_for, goes_on, is_marked, next_line, next_reading, next_working}
 use Rattle.qm_history.specs.Course as course
 use Rattle.qm_history.specs.Script.{UserLine, asked_by_system, line_by_system}
@@ -22,10 +17,9 @@ use Rattle.qm_node.specs.Held.{HeldRuns}
 use Rattle.qm_script.specs.declared.script.Line.{Line as CodeLine}
 use Rattle.qm_script.specs.Lines.{line_view, lines_view}
 use Rattle.qm_program.specs.Heard.{goes_on_of, heard_of, heard_of_refusal, heard_marked}
-use Rattle.qm_program.specs.Moves.{Standing, IsOver, next_of, replied, shown_duties, kept_behind_line}
+use Rattle.qm_program.specs.Moves.{IsOver, next_of, replied, shown_duties, kept_behind_line}
 use Rattle.qm_program.specs.Position.{state_of, stage_view, heard_stage, stage_fetched, step_left, IsNextMove, IsLineOrFetch}
 use Rattle.qm_program.specs.Transcript.{runs_shown}
-use Rattle.qm_program.specs.declared.heard.Heard.{Heard}
 use Rattle.qm_program.specs.declared.heard.Heard.TheVariants as heard
 use Rattle.qm_program.specs.declared.position.Stage.{Stage}
 use Rattle.qm_program.specs.declared.position.Stage.TheVariants as stage

@@ -1,5 +1,5 @@
 -- How a report that is answered, or isn't, makes a step of the run.
-use Rattle.std.proofs.Common.{◌≡◌, ◌⊎◌, inl, inr, ℕ, List, [], ◌∷◌, Option, None, Some, Ok, Err, refl, sym, ◌∙◌, ap, subst}
+use Rattle.std.proofs.Common.{◌≡◌, ℕ, List, [], ◌∷◌, Option, None, Ok, Err, sym, ◌∙◌, ap, subst}
 use Rattle.std.specs.List.{flat_map}
 use Rattle.std.specs.Io.KnownBytes.{Appends}
 use Rattle.qm_disk.specs.Disk.{Meaning, OneFailed}
@@ -10,7 +10,6 @@ use Rattle.qm_model.specs.Standing.{node_at}
 use Rattle.qm_model.specs.Transcript.{journal_line, turn_text}
 use Rattle.qm_history.specs.Course.{MadeStep}
 use Rattle.qm_manager.specs.declared.manager.Manager.{Manager}
-use Rattle.qm_manager.specs.Site.{Site}
 use Rattle.qm_manager.specs.Asking.{Steps}
 use Rattle.qm_manager.specs.Manager.{site_of, node_of, disk_of}
 use Rattle.qm_program.specs.Transcript.{Report, answer_text, node_name, report_request, step_of, turn_of}

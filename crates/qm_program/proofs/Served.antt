@@ -1,6 +1,6 @@
 -- What lines ask for can be asked here, and what answering leaves of the manager.
-use Rattle.std.proofs.Common.{◌≡◌, ◌<◌, ◌^◌, inl, ℕ, length, Bool, true, false, cond, ◌==◌, lit<, List, [], ◌∷◌, ◌&&◌, ◌||◌, codes, Option, None, Some, Result, Ok, Err, refl, sym, ◌∙◌, ap, subst, IfSome, IfOk}
-use Rattle.std.specs.Option.{option_map, option_and_then}
+use Rattle.std.proofs.Common.{◌≡◌, ◌<◌, ◌^◌, inl, ℕ, length, Bool, true, false, cond, ◌==◌, List, [], codes, Option, None, Some, Result, Ok, Err, refl, sym, ap, subst, IfOk}
+use Rattle.std.specs.Option.{option_and_then}
 use Rattle.std.proofs.lemmas.Slice.Eq.{bytes_eq-Decides}
 use Rattle.std.specs.Result.{IsErrAnd}
 use Rattle.std.specs.Str.{bytes_eq}
@@ -8,8 +8,8 @@ use Rattle.qm_disk.specs.Disk.{Meaning, CrashState, IsLeft}
 use Rattle.qm_kinds.specs.Files.{file_name_of}
 use Rattle.qm_kinds.specs.declared.file.FileName.{FileName}
 use Rattle.qm_kinds.specs.declared.input.Input.{Input}
-use Rattle.qm_kinds.specs.declared.input.Input.TheVariants.{Ask, Show, Fetch, Fault}
-use Rattle.qm_kinds.specs.declared.request.Request.TheVariants.{Fill, Drop, Mark, Tick}
+use Rattle.qm_kinds.specs.declared.input.Input.TheVariants.{Ask, Fetch, Fault}
+use Rattle.qm_kinds.specs.declared.request.Request.TheVariants.{Fill, Mark, Tick}
 use Rattle.qm_kinds.specs.declared.query.Row.{Row}
 use Rattle.qm_kinds.specs.declared.refusal.ParseKind.TheVariants as parse
 use Rattle.qm_kinds.specs.declared.refusal.Refusal.{Refusal}
@@ -28,7 +28,7 @@ use Rattle.qm_model.specs.Script.{Sort, Command, Site as AtSite, act_from, act_n
 use Rattle.qm_manager.specs.declared.manager.Manager.{Manager}
 use Rattle.qm_manager.specs.Site.{Site}
 use Rattle.qm_manager.proofs.Sites.{steps_nowhere}
-use Rattle.qm_manager.specs.Asking.{Asked, Done, Refused, Full, Steps, asked, site_after}
+use Rattle.qm_manager.specs.Asking.{Asked, Done, Refused, Full, Steps, site_after}
 use Rattle.qm_manager.specs.Manager.{site_of, disk_of, IsReady}
 use Rattle.qm_program.specs.Transcript.{told, shown}
 use Rattle.qm_program.specs.Serving.{IsAskable, Serves}

@@ -1,11 +1,10 @@
 -- How a line that asks for steps, and a fetch of the node's own, make steps of the run.
-use Rattle.std.proofs.Common.{◌≡◌, inl, inr, ℕ, List, [], ◌∷◌, length, Option, None, Some, Ok, Err, IsTrue, refl, sym, ◌∙◌, ap, subst}
+use Rattle.std.proofs.Common.{◌≡◌, ℕ, List, [], ◌∷◌, length, Option, Some, refl, sym, ◌∙◌, ap, subst}
 use Rattle.std.specs.List.{flat_map}
 use Rattle.std.specs.Io.KnownBytes.{Appends}
 use Rattle.qm_disk.specs.Disk.{Meaning, CrashState, IsLeft}
 use Rattle.qm_io.specs.Bytes.{TakesPrefix}
 use Rattle.qm_kinds.specs.declared.input.Input.{Input}
-use Rattle.qm_kinds.specs.declared.input.Input.TheVariants as input
 use Rattle.qm_model.specs.Script.{ScriptLine, steps_of_line}
 use Rattle.qm_model.specs.Transcript.{runs_line, turn_text}
 use Rattle.qm_history.specs.Course.{NodeState, NextTurn, ALine, AStep, AFetch, MadeStep, IsStepOf}

@@ -2,12 +2,11 @@
 -- OpenVMS System Manager's Manual, Setting Up and Maintaining Queues, on symbionts. This site's own: STEP, and that a node
 -- goes on until nothing is left to do.
 use Rattle.std.specs.Prelude.{◌≡◌, ℕ, true, List, [], ◌∷◌, drop, Option, None, Some}
-use Rattle.qm_kinds.specs.declared.work.Duty.{Duty}
 use Rattle.qm_model.specs.Acting.{acting}
 use Rattle.qm_model.specs.Script.{ScriptLine, steps_of_line}
 use Rattle.qm_history.specs.declared.call.Answer.{Answer}
 use Rattle.qm_history.specs.declared.call.Answer.TheVariants as answer
-use Rattle.qm_history.specs.Course.{NodeState, NextTurn, ALine, AStep, AFetch, ALeave, NoTurn, IsStepOf, at_first, next_at, own_stage, behind_line, behind_fetch, behind_step}
+use Rattle.qm_history.specs.Course.{NodeState, NextTurn, ALine, AStep, AFetch, ALeave, IsStepOf, at_first, next_at, own_stage, behind_line, behind_fetch, behind_step}
 use Rattle.qm_model.specs.Kept.{KeptRuns, known, report_told, with_duties, without_steps}
 use Rattle.qm_history.specs.Script.{asked_by_system, line_by_system}
 use Rattle.qm_manager.specs.Site.{Site}

@@ -1,7 +1,6 @@
 -- Where a node is in its lines, as its code keeps it.
 use Rattle.std.specs.Prelude.{◌≡◌, ◌<◌, ◌≤◌, ℕ, List, [], ◌∷◌, drop, get_or, slice_get, length, ◌==◌, if◌then◌else◌, Option, None, Some, IsSome}
 use Rattle.qm_model.specs.Kept.{KeptRuns, next_kept}
-use Rattle.qm_model.specs.Script.{ScriptLine}
 use Rattle.qm_history.specs.Course.{NodeState, NextTurn, ALine, AStep, AFetch}
 use Rattle.qm_history.specs.Course as course
 use Rattle.qm_history.specs.Script.{UserLine, asked_by_system, line_by_system}
@@ -12,7 +11,7 @@ use Rattle.qm_script.specs.declared.script.Line.{Line as CodeLine}
 use Rattle.qm_script.specs.Lines.{line_view, lines_view}
 use Rattle.qm_program.specs.Moves.{Standing, next_of}
 use Rattle.qm_program.specs.declared.heard.Heard.{Heard}
-use Rattle.qm_program.specs.declared.heard.Heard.TheVariants.{GoesOn, IsOver, NothingMore}
+use Rattle.qm_program.specs.declared.heard.Heard.TheVariants.{NothingMore}
 use Rattle.qm_program.specs.declared.position.Stage.{Stage}
 use Rattle.qm_program.specs.declared.position.Stage.TheVariants.{Reading, Working, Leaving}
 use Rattle.qm_program.specs.declared.position.Position.{Position}
