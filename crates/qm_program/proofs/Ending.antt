@@ -17,12 +17,10 @@ use Rattle.qm_manager.specs.Opened.{IsOpenFault}
 use Rattle.qm_manager.specs.Manager.{site_of, node_of, disk_of, IsReady}
 use Rattle.qm_program.specs.Transcript.{MoveAt, steps_of}
 use Rattle.qm_symb.specs.Device as symb
-use Rattle.qm_program.specs.Course.{Outside, MakesSteps, ServesAll, ServesTooMany, StopsWithin, ServesNothing, TouchesNothing}
+use Rattle.qm_program.specs.Course.{Outside, MakesSteps, ServesAll, StopsWithin, ServesNothing, TouchesNothing}
 use Rattle.qm_program.specs.Running.{IsRead, Reads, OfScript, HasScript, IsFound, Serves, ServesTo, RunsTo, MakesTo, Makes, Does, OthersStay, Counts, IsFaulty, IsOfAnother, HasCause, IsWithoutFault, HasSoundScript}
-use Rattle.qm_program.specs.Serving.{CountsSink, ServesSo}
-use Rattle.qm_program.specs.Ends.{end_of, end_of_opening, end_of_served}
-use Rattle.qm_program.specs.declared.course.Served.{Served}
-use Rattle.qm_program.specs.declared.course.Served.TheVariants as course
+use Rattle.qm_program.specs.Serving.{CountsSink}
+use Rattle.qm_program.specs.Ends.{end_of, end_of_opening}
 use Rattle.qm_script.specs.declared.script.TheConstants.{SCRIPT_BYTES}
 use Rattle.qm_program.specs.declared.outcome.End.{End}
 use Rattle.qm_program.specs.declared.outcome.End.TheVariants as ends
@@ -114,12 +112,11 @@ module _ {D : Type 0} (m : Meaning D) where
         serving = serving;
       }
 
-      abbrev EndsSo : Served → Type 0
-      EndsSo end = ServesSo m y end was is_now (site_of manager) lines begins leaves
+      abbrev EndsSo : Type 0
+      EndsSo = ServesAll m y was is_now (site_of manager) lines begins leaves
 
-      pub course_serves : (end : Served) → EndsSo end → ServesTo m y was is_now lines (record { disk = old; taken = taken; told = told }) leaves (end_of_served end)
-      course_serves course.All made = served (ServesAll m y was is_now) made
-      course_serves course.TooMany made = served (ServesTooMany m y was is_now) made
+      pub course_serves : EndsSo → ServesTo m y was is_now lines (record { disk = old; taken = taken; told = told }) leaves ends.Ok
+      course_serves made = served (ServesAll m y was is_now) made
 
       quiet_over : (moves : List MoveAt) → MakesSteps m (site_of manager) (steps_of (site_of manager) moves) begins leaves → m.faults new ≡ m.faults old
       quiet_over moves made = steps_are_quiet m (site_of manager) (steps_of (site_of manager) moves) begins leaves made ∙ quiet
@@ -129,14 +126,12 @@ module _ {D : Type 0} (m : Meaning D) where
           others_on m old (disk_of manager) new (looks_keep_others m old (disk_of manager) looks)
           (steps_keep_others m (site_of manager) (steps_of (site_of manager) moves) begins leaves made)
 
-      pub course_cause : (Faulty : ScriptKind → Type 0) (source sink more : ℕ) (end : Served) → more ≡ sink → EndsSo end
-          → HasCause m.tells (m.seen old 1) Faulty (counts_of source sink (m.faults old)) (counts_of source more (m.faults new)) (end_of_served end)
-      course_cause Faulty source sink more course.All same made = same_counts source sink (m.faults old) more (m.faults new) same (quiet_over made.moves made.made)
-      course_cause Faulty source sink more course.TooMany same made = same_counts source sink (m.faults old) more (m.faults new) same (quiet_over made.moves made.made)
+      pub course_cause : (Faulty : ScriptKind → Type 0) (source sink more : ℕ) → more ≡ sink → EndsSo
+          → HasCause m.tells (m.seen old 1) Faulty (counts_of source sink (m.faults old)) (counts_of source more (m.faults new)) ends.Ok
+      course_cause Faulty source sink more same made = same_counts source sink (m.faults old) more (m.faults new) same (quiet_over made.moves made.made)
 
-      pub course_keeps_others : (end : Served) → EndsSo end → OthersStay m old new
-      course_keeps_others course.All made = others_over made.moves made.made
-      course_keeps_others course.TooMany made = others_over made.moves made.made
+      pub course_keeps_others : EndsSo → OthersStay m old new
+      course_keeps_others made = others_over made.moves made.made
 
       abbrev StopsSo : End → Type 0
       StopsSo end = StopsWithin m y end was is_now (site_of manager) lines begins leaves
@@ -193,7 +188,6 @@ module _ {D : Type 0} (m : Meaning D) where
   reads_whole y was now left rest lines old new ends.Journal serves lost at_end script = at_end
   reads_whole y was now left rest lines old new (ends.Unformatted byte) serves lost at_end script = at_end
   reads_whole y was now left rest lines old new (ends.Damaged file place) serves lost at_end script = at_end
-  reads_whole y was now left rest lines old new ends.HistoryFull serves lost at_end script = at_end
   reads_whole y was now left rest lines old new ends.NoMemory serves lost at_end script = inr (at_end, script)
 
   -- what was read is a script, over which the run went on
@@ -210,7 +204,6 @@ module _ {D : Type 0} (m : Meaning D) where
     serves_script y was now old new ends.Journal serves = ⊎_elim (λ nothing. inl (nothing, of_script tt)) (λ stopped. inr (of_script stopped)) serves
     serves_script y was now old new (ends.Unformatted byte) serves = (serves, of_script tt)
     serves_script y was now old new (ends.Damaged file place) serves = (serves, of_script tt)
-    serves_script y was now old new ends.HistoryFull serves = of_script serves
     serves_script y was now old new ends.NoMemory serves = ⊎_elim (λ nothing. inr (inl (nothing, of_script tt))) (λ stopped. inr (inr (of_script stopped))) serves
 
     faulty_text : (tells : Bool) (file : List ℕ) (o : Option (List ℕ)) → IsRead o text → (kind : ScriptKind) → IsOfAnother tells file lines kind → IsFaulty tells file o kind
@@ -226,7 +219,6 @@ module _ {D : Type 0} (m : Meaning D) where
     script_cause tells file old new ends.Journal cause = cause
     script_cause tells file old new (ends.Unformatted byte) cause = cause
     script_cause tells file old new (ends.Damaged f place) cause = cause
-    script_cause tells file old new ends.HistoryFull cause = cause
     script_cause tells file old new ends.NoMemory cause = cause
 
 -- words that ask for something aren't those that ask for nothing
@@ -256,7 +248,6 @@ any_script tells file Faulty old new ends.Write cause = cause
 any_script tells file Faulty old new ends.Journal cause = cause
 any_script tells file Faulty old new (ends.Unformatted byte) cause = cause
 any_script tells file Faulty old new (ends.Damaged f place) cause = cause
-any_script tells file Faulty old new ends.HistoryFull cause = cause
 any_script tells file Faulty old new ends.NoMemory cause = cause
 
 -- what was read is no script
@@ -296,11 +287,10 @@ sound_is_not_faulty tells told file (Some bytes) kind sound faulty = elim faulty
     is_no_other : (b : Bool) → b ≡ true → b ≡ false → ⊥
     is_no_other b all another = cc
 
--- over a sound script and queue file a run ends well, or makes as many moves as one may, or memory runs out, where no fault was
--- counted
+-- over a sound script and queue file a run ends well, or memory runs out, where no fault was counted
 pub sound_completes : (tells : Bool) (told : IsTrue tells) (file : List ℕ) (left : Option (List ℕ)) (old new : Counts) (end : End) → (end ≡ ends.Usage → ⊥) → HasSoundScript left file
     → IsWithoutFault old.source new.source → IsWithoutFault old.sink new.sink → IsWithoutFault old.disk new.disk
-    → HasCause tells file (IsFaulty tells file left) old new end → (end ≡ ends.Ok) ⊎ ((end ≡ ends.HistoryFull) ⊎ (end ≡ ends.NoMemory))
+    → HasCause tells file (IsFaulty tells file left) old new end → (end ≡ ends.Ok) ⊎ (end ≡ ends.NoMemory)
 sound_completes tells told file left old new ends.Ok used sound source sink disk cause = inl refl
 sound_completes tells told file left old new ends.Usage used sound source sink disk cause = absurd (used refl)
 sound_completes tells told file left old new ends.Read used sound source sink disk cause = absurd (no_count _ _ source cause.0)
@@ -313,5 +303,4 @@ sound_completes tells told file left old new (ends.Unformatted byte) used sound 
 sound_completes tells told file left old new (ends.Damaged f place) used sound source sink disk cause =
     let damaged = cause.1 told in
     absurd (site_not_damaged file place sound.1.so.some_site sound.1.so.is_site damaged.1)
-sound_completes tells told file left old new ends.HistoryFull used sound source sink disk cause = inr (inl refl)
-sound_completes tells told file left old new ends.NoMemory used sound source sink disk cause = inr (inr refl)
+sound_completes tells told file left old new ends.NoMemory used sound source sink disk cause = inr refl

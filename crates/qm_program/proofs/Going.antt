@@ -1,6 +1,6 @@
 -- How far serving has come with a script.
-use Rattle.std.proofs.Common.{◌≡◌, ◌⊎◌, ◌<◌, ◌≤◌, ℕ, zero, suc, Bool, true, false, ◌&&◌, List, [], ◌∷◌, ◌++◌, length, take, drop, Option, None, Some, refl, sym, ◌∙◌, ap, subst, append_assoc, ◌+◌, get_or, drop-cons, add-one, arith, length-drop, Err}
-use Rattle.std.proofs.lemmas.List.{append-nil, take-append-drop, drop_all, length_push}
+use Rattle.std.proofs.Common.{◌≡◌, ◌<◌, ◌≤◌, ℕ, zero, suc, Bool, true, false, ◌&&◌, List, [], ◌∷◌, ◌++◌, length, take, drop, Option, None, Some, refl, sym, ◌∙◌, ap, subst, ◌+◌, get_or, drop-cons, add-one, arith, length-drop, Err}
+use Rattle.std.proofs.lemmas.List.{take-append-drop, drop_all}
 use Rattle.std.specs.Str.{bytes_eq}
 use Rattle.std.specs.Io.KnownBytes.{Keeps}
 use Rattle.std.proofs.lemmas.Slice.Eq.{bytes_eq-Decides}
@@ -13,13 +13,11 @@ use Rattle.qm_symb.specs.Device as symb
 use Rattle.qm_program.specs.Transcript.{Step, MoveAt, turn, step_of, steps_of, site_behind, after}
 use Rattle.qm_program.specs.Moves.{Standing, IsCourse, IsNext, IsOver, next_of, in_front_of, behind_move, behind_moves}
 use Rattle.qm_program.specs.Handing.{Hands, HandAll}
-use Rattle.qm_program.specs.declared.course.TheConstants.{MOVES_LIMIT}
-use Rattle.qm_program.specs.Course.{Outside, TakesPart, MakesStep, MakesSteps, StopsAtStep, ServesAll, ServesTooMany, StopsWithin}
+use Rattle.qm_program.specs.Course.{Outside, TakesPart, MakesStep, MakesSteps, StopsAtStep, ServesAll, StopsWithin}
 use Rattle.qm_program.specs.Running.{OthersStay}
 use Rattle.qm_program.specs.declared.outcome.End.{End}
 use Rattle.qm_program.specs.declared.serve.ServeEnd.{ServeEnd}
 use Rattle.qm_program.specs.declared.serve.ServeEnd.TheVariants as serve
-use Rattle.qm_program.specs.declared.outcome.End.TheVariants as ends
 use Rattle.qm_program.specs.Serving.{CountsSink}
 use Rattle.qm_io.specs.Faults as io
 use Rattle.qm_script.specs.declared.script.Line.{Line}
@@ -64,19 +62,18 @@ module _ {D : Type 0} (m : Meaning D) where
   one_step_more site (first ∷ steps) step old mid new so_far one = (so_far.0, (so_far.1.0, one_step_more first.after steps step so_far.0 mid new so_far.1.1 one))
 
 module _ {D Y : Type 0} (m : Meaning D) (y : symb.Meaning Y) where
-  -- a node that was at first there made so many moves, and is here now
-  pub record Goes (count : ℕ) (first here : Standing) (was now : Y) (old new : Outside D) : Type 0 where
+  -- a node that was at first there made moves, and is here now
+  pub record Goes (first here : Standing) (was now : Y) (old new : Outside D) : Type 0 where
     pub moves : List MoveAt
-    pub counted : length moves ≡ count
     pub course : IsCourse first moves
     pub is_here : here ≡ behind_moves first moves
     pub so_far : MakesSteps m first.site (steps_of first.site moves) old new
     pub handed : HandAll y moves was now
 
-  abbrev pub goes_first : (first : Standing) (was : Y) (old : Outside D) → Goes 0 first first was was old old
-  goes_first first was old = record { moves = []; counted = refl; course = tt; is_here = refl; so_far = refl; handed = refl }
+  abbrev pub goes_first : (first : Standing) (was : Y) (old : Outside D) → Goes first first was was old old
+  goes_first first was old = record { moves = []; course = tt; is_here = refl; so_far = refl; handed = refl }
 
-  module _ (count : ℕ) (first here : Standing) (was between : Y) (old next : Outside D) (g : Goes count first here was between old next) where
+  module _ (first here : Standing) (was between : Y) (old next : Outside D) (g : Goes first here was between old next) where
     site_here : here.site ≡ after first.site g.moves
     site_here = ap (λ (s : Standing). s.site) g.is_here ∙ site_of_moves first g.moves
 
@@ -86,10 +83,9 @@ module _ {D Y : Type 0} (m : Meaning D) (y : symb.Meaning Y) where
 
       -- the move was made
       pub goes_on : (new : Outside D) (now : Y) (there : Standing) → there ≡ behind_move here mv → MakesStep m here.site (step_of here.site mv) next new → Hands y mv.move between now
-          → Goes (count + 1) first there was now old new
+          → Goes first there was now old new
       goes_on new now there is made hands = record {
         moves = g.moves ++ mv ∷ [];
-        counted = length_push g.moves mv ∙ ap (λ (n : ℕ). n + 1) g.counted;
         course = course_on;
         is_here = is ∙ ap (λ (s : Standing). behind_move s mv) g.is_here ∙ sym (behind_one_more first g.moves mv);
         so_far = subst (λ (steps : List Step). MakesSteps m first.site steps old new) (sym (steps_of-append first.site g.moves (mv ∷ [])))
@@ -100,25 +96,14 @@ module _ {D Y : Type 0} (m : Meaning D) (y : symb.Meaning Y) where
 
 -- ---- the moves of a node in front of a script's lines
 
-module _ {D Y : Type 0} (m : Meaning D) (y : symb.Meaning Y) (count : ℕ) (lines : List ScriptLine) (site : Site) (here : Standing) (was between : Y) (old next : Outside D)
-    (g : Goes m y count (in_front_of lines site) here was between old next) where
+module _ {D Y : Type 0} (m : Meaning D) (y : symb.Meaning Y) (lines : List ScriptLine) (site : Site) (here : Standing) (was between : Y) (old next : Outside D)
+    (g : Goes m y (in_front_of lines site) here was between old next) where
   -- nothing is left
   pub goes_to_end : IsOver here.node → ServesAll m y was between site lines old next
   goes_to_end over = record {
     moves = g.moves;
     course = g.course;
     over = subst (λ (s : Standing). IsOver s.node) g.is_here over;
-    made = g.so_far;
-    handed = g.handed;
-  }
-
-  -- as many moves were made as one run may make
-  pub goes_too_far : count ≡ MOVES_LIMIT → (IsOver here.node → ⊥) → ServesTooMany m y was between site lines old next
-  goes_too_far all more = record {
-    moves = g.moves;
-    course = g.course;
-    count = g.counted ∙ all;
-    more = λ over. more (subst (λ (s : Standing). IsOver s.node) (sym g.is_here) over);
     made = g.so_far;
     handed = g.handed;
   }
@@ -130,10 +115,10 @@ module _ {D Y : Type 0} (m : Meaning D) (y : symb.Meaning Y) (count : ℕ) (line
   stops_here mv is_next new now end stops begun = record {
     moves = g.moves;
     stopped = mv;
-    course = course_on m y count (in_front_of lines site) here was between old next g mv is_next;
+    course = course_on m y (in_front_of lines site) here was between old next g mv is_next;
     next = next;
     so_far = g.so_far;
-    stops = subst (λ (s : Site). StopsAtStep m s (step_of s mv) next new end) (site_here m y count (in_front_of lines site) here was between old next g) stops;
+    stops = subst (λ (s : Site). StopsAtStep m s (step_of s mv) next new end) (site_here m y (in_front_of lines site) here was between old next g) stops;
     between = between;
     handed = g.handed;
     begun = begun;

@@ -9,3 +9,6 @@ pub mod Reporting
 pub mod Stepping
 pub mod Carried
 pub mod Handed
+pub mod Shown
+pub mod Ahead
+pub mod Lasting

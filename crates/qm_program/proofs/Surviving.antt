@@ -1,5 +1,5 @@
 -- What a crash leaves of steps, and of a run that makes them.
-use Rattle.std.proofs.Common.{◌≡◌, ◌≤◌, inl, inr, ⊎_elim, ℕ, List, [], ◌∷◌, ◌++◌, Option, None, Some, IsTrue, refl, sym, ◌∙◌, ap, subst}
+use Rattle.std.proofs.Common.{◌≡◌, ◌≤◌, inl, inr, ⊎_elim, ℕ, List, [], ◌∷◌, ◌++◌, Option, None, Some, IsTrue, refl, sym, ap, subst}
 use Rattle.std.proofs.lemmas.List.{append-nil, map-append}
 use Rattle.std.specs.Io.KnownBytes.{Appends}
 use Rattle.std.proofs.KnownBytes.{Appends-trans}
@@ -10,7 +10,7 @@ use Rattle.qm_manager.specs.Site.{Site, IsSite, IsSiteOf, BeforeOrAfter}
 use Rattle.qm_symb.specs.Device as symb
 use Rattle.qm_program.specs.Transcript.{Step, MoveAt, turn, step_of, steps_of, readings_of, readings_taken, site_behind, text_of, after}
 use Rattle.qm_program.specs.Moves.{IsCourse, in_front_of}
-use Rattle.qm_program.specs.Course.{Outside, MakesSteps, StopsAtStep, ServesAll, ServesTooMany, StopsWithin, ServesNothing}
+use Rattle.qm_program.specs.Course.{Outside, MakesSteps, StopsAtStep, ServesAll, StopsWithin, ServesNothing}
 use Rattle.qm_program.specs.Running.{OfScript, ServesScript, RunsTo}
 use Rattle.qm_program.specs.Surviving.{Reaches, AreBegun, Survives, AreServed, AreServedTo}
 use Rattle.qm_program.specs.declared.outcome.End.{End}
@@ -145,9 +145,6 @@ module _ {D : Type 0} (m : Meaning D) (only_now : (disk : D) (crashed : CrashSta
     all_reach_moves : (site : Site) (lines : List ScriptLine) (old new : Outside D) → ServesAll m y was now site lines old new → IsTrue m.tells → IsSiteOf m site old.disk → ReachesMoves site lines old new
     all_reach_moves site lines old new a told is = made_reach site lines a.moves old new a.course a.made told is
 
-    many_reach_moves : (site : Site) (lines : List ScriptLine) (old new : Outside D) → ServesTooMany m y was now site lines old new → IsTrue m.tells → IsSiteOf m site old.disk → ReachesMoves site lines old new
-    many_reach_moves site lines old new a told is = made_reach site lines a.moves old new a.course a.made told is
-
     stopped_reach : (end : End) (site : Site) (lines : List ScriptLine) (old new : Outside D) → StopsWithin m y end was now site lines old new → IsTrue m.tells → IsSiteOf m site old.disk → ReachesMoves site lines old new
     stopped_reach end site lines old new s told is = record {
       begun = s.moves ++ s.stopped ∷ [];
@@ -213,7 +210,6 @@ module _ {D : Type 0} (m : Meaning D) (only_now : (disk : D) (crashed : CrashSta
         (λ served. script_survives (StopsWithin m y ends.Journal was now) (stopped_reach y was now ends.Journal) left old new served told) runs
     run_survives left old new (ends.Unformatted byte) runs told = nothing_survives left old new runs.0.served
     run_survives left old new (ends.Damaged file place) runs told = nothing_survives left old new runs.0.served
-    run_survives left old new ends.HistoryFull runs told = script_survives (ServesTooMany m y was now) (many_reach_moves y was now) left old new runs told
     run_survives left old new ends.NoMemory runs told =
         ⊎_elim (λ same. stays left old new same.0) (λ opened.
         ⊎_elim (λ nothing. nothing_survives left old new nothing.0.0.served)

@@ -11,7 +11,6 @@ use Rattle.qm_symb.specs.Device as symb
 use Rattle.qm_program.specs.Transcript.{Step, MoveAt, step_of, steps_of, after}
 use Rattle.qm_program.specs.Moves.{IsCourse, IsOver, in_front_of, behind_moves}
 use Rattle.qm_program.specs.Handing.{Hands, HandAll}
-use Rattle.qm_program.specs.declared.course.TheConstants.{MOVES_LIMIT}
 use Rattle.qm_program.specs.declared.outcome.End.{End}
 use Rattle.qm_program.specs.declared.outcome.End.TheVariants as ends
 
@@ -65,7 +64,6 @@ module _ {D : Type 0} (m : Meaning D) where
   EndsAtStep site step old new (ends.Script line kind) = ⊥
   EndsAtStep site step old new (ends.Unformatted byte) = ⊥
   EndsAtStep site step old new (ends.Damaged file place) = ⊥
-  EndsAtStep site step old new ends.HistoryFull = ⊥
 
   -- A step is in work and isn't made whole: a crash at any moment of it leaves the queue file of the site before it or after
   -- it, and of the other files what a crash before it might leave. The clock told its reading, and no other moment.
@@ -96,15 +94,6 @@ module _ {D Y : Type 0} (m : Meaning D) (y : symb.Meaning Y) where
   pub record TouchesNothing (was now : Y) (old new : Outside D) : Type 0 where
     pub served : ServesNothing m old new
     pub handed : now ≡ was
-
-  -- So many moves were made as one run may make, and another one would come.
-  pub record ServesTooMany (was now : Y) (site : Site) (lines : List ScriptLine) (old new : Outside D) : Type 0 where
-    pub moves : List MoveAt
-    pub course : IsCourse (in_front_of lines site) moves
-    pub count : length moves ≡ MOVES_LIMIT
-    pub more : IsOver (behind_moves (in_front_of lines site) moves).node → ⊥
-    pub made : MakesSteps m site (steps_of site moves) old new
-    pub handed : HandAll y moves was now
 
   -- The first moves were made, and the next one is in work. What it hands over was handed over; where memory ran out it may be
   -- that nothing was.

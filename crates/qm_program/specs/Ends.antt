@@ -9,8 +9,6 @@ use Rattle.qm_glog.specs.declared.fault.OpenFault.{OpenFault}
 use Rattle.qm_glog.specs.declared.fault.OpenFault.TheVariants as opening
 use Rattle.qm_program.specs.declared.serve.ServeEnd.{ServeEnd}
 use Rattle.qm_program.specs.declared.serve.ServeEnd.TheVariants as serve
-use Rattle.qm_program.specs.declared.course.Served.{Served}
-use Rattle.qm_program.specs.declared.course.Served.TheVariants as served
 
 abbrev pub status_of : End → ℕ
 status_of ends.Ok = 0
@@ -21,7 +19,6 @@ status_of ends.Write = 5
 status_of ends.Journal = 6
 status_of (ends.Unformatted byte) = 7
 status_of (ends.Damaged file place) = 8
-status_of ends.HistoryFull = 9
 status_of ends.NoMemory = 10
 
 -- what is printed on standard error, behind `qman: `
@@ -34,7 +31,6 @@ end_text ends.Write = codes "write failed"
 end_text ends.Journal = codes "journal failed"
 end_text (ends.Unformatted byte) = codes "unformatted, byte " ++ decimal byte
 end_text (ends.Damaged file place) = codes "damaged, file " ++ decimal file ++ codes ", byte " ++ decimal place
-end_text ends.HistoryFull = codes "history full"
 end_text ends.NoMemory = codes "no memory"
 
 -- the end of a run that stops at a move
@@ -42,11 +38,6 @@ abbrev pub end_of : ServeEnd → End
 end_of serve.Journal = ends.Journal
 end_of serve.Write = ends.Write
 end_of serve.NoMemory = ends.NoMemory
-
--- the end of a run that goes on until nothing is left, or until it made as many moves as one may
-abbrev pub end_of_served : Served → End
-end_of_served served.All = ends.Ok
-end_of_served served.TooMany = ends.HistoryFull
 
 -- the end of a run whose queue file can't be opened
 abbrev pub end_of_opening : OpenFault → End

@@ -2,6 +2,7 @@ pub mod Transcript
 pub mod Ends
 pub mod Task
 pub mod Moves
+pub mod Ahead
 pub mod Handing
 pub mod Course
 pub mod Heard

@@ -16,7 +16,7 @@ use Rattle.qm_manager.specs.Opened.{IsDamagedFile}
 use Rattle.qm_manager.specs.Restoring.{HasNode}
 use Rattle.qm_program.specs.Task.{initialized}
 use Rattle.qm_symb.specs.Device as symb
-use Rattle.qm_program.specs.Course.{Outside, TakesPart, ServesAll, ServesTooMany, StopsWithin, TouchesNothing}
+use Rattle.qm_program.specs.Course.{Outside, TakesPart, ServesAll, StopsWithin, TouchesNothing}
 use Rattle.qm_script.specs.declared.script.TheConstants.{SCRIPT_BYTES}
 use Rattle.qm_program.specs.declared.outcome.End.{End}
 use Rattle.qm_program.specs.declared.outcome.End.TheVariants as ends
@@ -53,7 +53,6 @@ Reads left rest ends.Write = IsAtEnd rest
 Reads left rest ends.Journal = IsAtEnd rest
 Reads left rest (ends.Unformatted byte) = IsAtEnd rest
 Reads left rest (ends.Damaged file place) = IsAtEnd rest
-Reads left rest ends.HistoryFull = IsAtEnd rest
 Reads left rest ends.NoMemory = (rest ≡ left) ⊎ (IsAtEnd rest × HasScript left)
 
 -- ---- what is served
@@ -101,7 +100,6 @@ module _ {D : Type 0} (m : Meaning D) where
   MakesTo node old new (ends.Script line kind) = ⊥
   MakesTo node old new (ends.Unformatted byte) = ⊥
   MakesTo node old new (ends.Damaged file place) = ⊥
-  MakesTo node old new ends.HistoryFull = ⊥
 
   -- A crash at any moment of the making of a queue file leaves of the other files what a crash before it might.
   pub record Makes (node : List ℕ) (old new : Outside D) (end : End) : Type 0 where
@@ -129,7 +127,6 @@ module _ {D Y : Type 0} (m : Meaning D) (y : symb.Meaning Y) (was now : Y) where
   ServesTo lines old new ends.Journal = TouchesNothing m y was now old new ⊎ Serves m (StopsWithin m y ends.Journal was now) old new lines
   ServesTo lines old new (ends.Unformatted byte) = TouchesNothing m y was now old new
   ServesTo lines old new (ends.Damaged file place) = TouchesNothing m y was now old new
-  ServesTo lines old new ends.HistoryFull = Serves m (ServesTooMany m y was now) old new lines
   ServesTo lines old new ends.NoMemory = LacksMemory old new ⊎ Serves m (StopsWithin m y ends.NoMemory was now) old new lines
 
   -- the outside is as it was
@@ -137,9 +134,9 @@ module _ {D Y : Type 0} (m : Meaning D) (y : symb.Meaning Y) (was now : Y) where
   Stays old new = (new ≡ old) × (now ≡ was)
 
   -- What a run over what a source had left leaves, by its end. At Ok all lines were served and every run that could step was
-  -- carried out; at HistoryFull as many moves were made as one run may make. At Read, and at Script for another reason than the
-  -- node of a line, the disk wasn't looked at, nor where memory ran out before the script was known. At Journal and else at
-  -- NoMemory either nothing was served, or the run stopped within its moves; at Write it did.
+  -- carried out. At Read, and at Script for another reason than the node of a line, the disk wasn't looked at, nor where memory
+  -- ran out before the script was known. At Journal and else at NoMemory either nothing was served, or the run stopped within
+  -- its moves; at Write it did.
   abbrev pub RunsTo : Option (List ℕ) → Outside D → Outside D → End → Type 0
   RunsTo left old new ends.Ok = ServesScript m left (ServesAll m y was now) old new
   RunsTo left old new ends.Usage = ⊥
@@ -149,7 +146,6 @@ module _ {D Y : Type 0} (m : Meaning D) (y : symb.Meaning Y) (was now : Y) where
   RunsTo left old new ends.Journal = (TouchesNothing m y was now old new × HasScript left) ⊎ ServesScript m left (StopsWithin m y ends.Journal was now) old new
   RunsTo left old new (ends.Unformatted byte) = TouchesNothing m y was now old new × HasScript left
   RunsTo left old new (ends.Damaged file place) = TouchesNothing m y was now old new × HasScript left
-  RunsTo left old new ends.HistoryFull = ServesScript m left (ServesTooMany m y was now) old new
   RunsTo left old new ends.NoMemory = Stays old new ⊎ ((LacksMemory old new × HasScript left) ⊎ ServesScript m left (StopsWithin m y ends.NoMemory was now) old new)
 
   -- What the program does, by what its words ask for. Words that ask for nothing touch nothing, and a run alone reads, asks the
@@ -190,7 +186,6 @@ HasCause tells file Faulty old new ends.Write = (new.sink ≡ counted old.sink) 
 HasCause tells file Faulty old new ends.Journal = (new.disk ≡ counted old.disk) × (new.source ≡ old.source) × (new.sink ≡ old.sink)
 HasCause tells file Faulty old new (ends.Unformatted byte) = (new ≡ old) × (IsTrue tells → (byte ≡ first_byte file) × (byte ≢ 1))
 HasCause tells file Faulty old new (ends.Damaged f place) = (new ≡ old) × (IsTrue tells → (f ≡ 1) × IsDamagedFile file place)
-HasCause tells file Faulty old new ends.HistoryFull = new ≡ old
 HasCause tells file Faulty old new ends.NoMemory = new ≡ old
 
 -- ---- completeness

@@ -15,13 +15,9 @@ use Rattle.qm_manager.specs.Manager.{site_of, node_of, disk_of, IsReady}
 use Rattle.qm_script.specs.declared.script.Line.{Line as CodeLine}
 use Rattle.qm_script.specs.Lines.{line_view}
 use Rattle.qm_symb.specs.Device as symb
-use Rattle.qm_program.specs.Course.{Outside, TakesPart, MakesStep, StopsAtStep, ServesAll, ServesTooMany}
-use Rattle.qm_program.specs.declared.course.Served.{Served}
-use Rattle.qm_program.specs.declared.course.Served.TheVariants.{All, TooMany}
-use Rattle.qm_model.specs.Script.{ScriptLine}
+use Rattle.qm_program.specs.Course.{Outside, TakesPart, MakesStep, StopsAtStep}
 use Rattle.qm_program.specs.Handing.{Hands}
 use Rattle.qm_program.specs.declared.outcome.End.{End}
-use Rattle.qm_program.specs.declared.outcome.End.TheVariants as runs
 use Rattle.qm_program.specs.Transcript.{MoveAt, Line, Report, step_of}
 use Rattle.qm_history.specs.Course.{MadeStep}
 use Rattle.qm_program.specs.Moves.{Standing, IsNext, next_of, behind_move}
@@ -97,8 +93,3 @@ module _ {D Y : Type 0} (m : Meaning D) (y : symb.Meaning Y) where
     pub is_next : IsNext here.node (next_of here.node) move.move
     pub begun : Hands y move.move was now ⊎ ((end ≡ runs.NoMemory) × (now ≡ was))
     pub stops : StopsAtStep m here.site (step_of here.site move) old new end
-
-  -- what the moves of a node leave that went so far
-  abbrev pub ServesSo : Served → Y → Y → Site → List ScriptLine → Outside D → Outside D → Type 0
-  ServesSo All was now site lines old new = ServesAll m y was now site lines old new
-  ServesSo TooMany was now site lines old new = ServesTooMany m y was now site lines old new

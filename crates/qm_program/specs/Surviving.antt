@@ -11,7 +11,6 @@ use Rattle.qm_program.specs.Handing.{Hands, HandAll}
 use Rattle.qm_program.specs.Course.{Outside, StopsAtStep}
 use Rattle.qm_program.specs.Running.{IsFound, OfScript}
 use Rattle.qm_program.specs.declared.outcome.End.{End}
-use Rattle.qm_program.specs.declared.outcome.End.TheVariants as ends
 
 -- The queue file is that of the site behind some of the steps, the first of them, none to all; the other files are as a
 -- crash before may leave them.

@@ -1,12 +1,12 @@
 // The moves of a node, one behind the other: its lines, and the steps of its runs between them and behind the last one.
-ghost use Rattle.std.specs.Prelude.{◌≡◌, true, None, IfErr, IfOk, OnOk};
+ghost use Rattle.std.specs.Prelude.{◌≡◌, true, None, IfErr, OnOk};
 ghost use Rattle.qm_model.specs.Script.{are_of_node};
 ghost use Rattle.qm_manager.specs.Manager.{site_of, node_of, IsReady};
 ghost use Rattle.qm_script.specs.Lines.{lines_view};
-ghost use Rattle.qm_program.specs.Course.{StopsWithin};
+ghost use Rattle.qm_program.specs.Course.{ServesAll, StopsWithin};
 ghost use Rattle.qm_program.specs.Ends.{end_of};
 ghost use Rattle.qm_program.specs.Position.{IsNextMove, standing_of};
-ghost use Rattle.qm_program.specs.Serving.{CountsSink, MakesMove, ServesSo, StopsAtMove, outside};
+ghost use Rattle.qm_program.specs.Serving.{CountsSink, MakesMove, StopsAtMove, outside};
 
 use crate::carrying::{fetch_runs, report_step};
 use crate::lines::serve_line;
@@ -14,23 +14,11 @@ use crate::position::{Next, Position, Stage, next_move};
 use crate::serve::ServeEnd;
 use qm_disk::Disk;
 use qm_io::{Clock, Sink};
-use qm_manager::Manager;
+use qm_manager::{Manager, lawful_sites_are_consistent};
 use qm_node::NodeRuns;
 use qm_script::Line;
 use qm_symb::Symbiont;
 use std::alloc::Global;
-
-/// The most moves of one run: its lines, its fetches and its reports.
-pub const MOVES_LIMIT: u32 = 1_000_000;
-
-/// How far the moves of a node went.
-#[derive(Clone, Copy, PartialEq, Eq)]
-pub(crate) enum Served {
-    /// Nothing is left to do.
-    All,
-    /// As many moves were made as one run may make, and another one would come.
-    TooMany,
-}
 
 // Makes the move that comes next.
 fn make_move<O: Sink, D: Disk, C: Clock, Y: Symbiont>(
@@ -71,8 +59,9 @@ fn make_move<O: Sink, D: Disk, C: Clock, Y: Symbiont>(
 }
 
 /// Serves the lines in order, makes as many steps of the node's runs behind each as it allows, and behind the last one carries
-/// out the node's runs until none may step. Each line, fetch and report takes a reading of the clock. What a line or a report
-/// changed is on the disk before its answer is handed to the sink, and that before the next move.
+/// out the node's runs until none may step. That comes to an end by itself: each move leaves fewer that may come. Each line, fetch
+/// and report takes a reading of the clock. What a line or a report changed is on the disk before its answer is handed to the
+/// sink, and that before the next move.
 pub(crate) fn serve_all<O: Sink, D: Disk, C: Clock, Y: Symbiont>(
     alloc: Global,
     manager: &mut Manager<D>,
@@ -80,25 +69,23 @@ pub(crate) fn serve_all<O: Sink, D: Disk, C: Clock, Y: Symbiont>(
     sink: &mut O,
     clock: &mut C,
     symbiont: &mut Y,
-) -> Result<Served, ServeEnd>
+) -> Result<(), ServeEnd>
     requires ready { IsReady D.meaning manager.old }
     requires node { are_of_node (node_of manager.old) (lines_view lines.now) ≡ true }
 
-    ensures serves { IfOk result (λ served. ServesSo D.meaning Y.meaning served symbiont.old symbiont.new (site_of manager.old) (lines_view lines.now)
+    ensures serves { OnOk result (ServesAll D.meaning Y.meaning symbiont.old symbiont.new (site_of manager.old) (lines_view lines.now)
         (outside manager.old (O.taken sink.old) (C.told clock.old)) (outside manager.new (O.taken sink.new) (C.told clock.new))) }
     ensures stops { IfErr result (λ end. StopsWithin D.meaning Y.meaning (end_of end) symbiont.old symbiont.new (site_of manager.old) (lines_view lines.now)
         (outside manager.old (O.taken sink.old) (C.told clock.old)) (outside manager.new (O.taken sink.new) (C.told clock.new))) }
     ensures sink { CountsSink (O.faults sink.old) (O.faults sink.new) result }
 {
+    lawful_sites_are_consistent();
     let mut position = Position {
         stage: Stage::Reading,
         at: 0,
     };
     let mut runs = NodeRuns::new(alloc);
-    for _made in 0..MOVES_LIMIT {
-        let Some(next) = next_move(&position, &runs, lines) else {
-            return Ok(Served::All);
-        };
+    'moves: while let Some(next) = next_move(&position, &runs, lines) {
         match make_move(
             alloc,
             manager,
@@ -114,8 +101,5 @@ pub(crate) fn serve_all<O: Sink, D: Disk, C: Clock, Y: Symbiont>(
             Err(end) => return Err(end),
         }
     }
-    match next_move(&position, &runs, lines) {
-        Some(_) => Ok(Served::TooMany),
-        None => Ok(Served::All),
-    }
+    Ok(())
 }

@@ -1,22 +1,27 @@
 // What follows from what a run leaves.
-ghost use Rattle.std.specs.Prelude.{◌≡◌, ◌++◌, ℕ, List, Option, IsTrue};
+ghost use Rattle.std.specs.Prelude.{◌≡◌, ◌≤◌, ◌++◌, ℕ, List, Option, IsTrue, length};
 ghost use Rattle.std.specs.Io.KnownBytes.{Appends};
 ghost use Rattle.qm_disk.specs.Disk.{LeavesOnly};
 ghost use Rattle.qm_kinds.specs.declared.moment.TheConstants.{LAST_MOMENT};
 ghost use Rattle.qm_kinds.specs.declared.name.TheConstants.{NODE_NAME_BYTES, SHORT_NAME_BYTES};
 ghost use Rattle.qm_store.specs.declared.store.TheConstants.{QUEUE_CAP, QUEUE_FILE};
-ghost use Rattle.qm_manager.specs.Site.{Site};
+ghost use Rattle.qm_model.specs.Script.{ScriptLine};
+ghost use Rattle.qm_manager.specs.Restoring.{HasNode};
+ghost use Rattle.qm_manager.specs.Site.{IsLawful, Site};
 ghost use Rattle.qm_symb.specs.declared.handed.HandOver.{HandOver};
 ghost use Rattle.qm_program.specs.Handing.{AreBlocks, HandAll, counted_behind};
 ghost use Rattle.qm_program.specs.Transcript.{MoveAt, Step, readings_taken, text_of};
+ghost use Rattle.qm_program.specs.Ahead.{moves_ahead};
 ghost use Rattle.qm_program.specs.Course.{MakesSteps, StopsWithin};
-ghost use Rattle.qm_program.specs.declared.course.TheConstants.{MOVES_LIMIT};
+ghost use Rattle.qm_program.specs.Moves.{IsCourse, in_front_of};
 ghost use Rattle.qm_program.specs.Running.{OfScript, ServesScript, RunsTo};
 ghost use Rattle.qm_program.specs.Surviving.{Survives, AreServed, AreServedTo};
 ghost use Rattle.qm_program.specs.declared.outcome.End.{End};
 
 use crate::outcome::End;
 use qm_disk::Disk;
+use qm_manager::lawful_sites_are_consistent;
+use qm_model::{built_requests_keep_consistent, nodes_keep_their_names};
 use qm_symb::Symbiont;
 
 /// A crash at any moment of a run leaves what a crash before it might leave; or, where what the source had left is a script,
@@ -83,6 +88,18 @@ pub fn moves_hand_over_their_blocks<Y: Symbiont>(was: &Y, now: &Y)
         → Y.meaning.faults now.now ≡ counted_behind moves (Y.meaning.faults was.now) }
 {}
 
+/// The moves of a node aren't counted, and come to an end: in front of these lines it makes so many at most, whatever is asked,
+/// told, reported and answered. That is a move for each line and each step that a line allows, and behind the last line, for each
+/// report that is recorded and makes the queue file longer, those since the one before it.
+pub fn moves_come_to_an_end()
+    ensures { (site : Site) (node : List ℕ) (lines : List ScriptLine) (moves : List MoveAt) → IsLawful site → HasNode node site.system
+        → IsCourse (in_front_of lines site) moves → length moves ≤ moves_ahead (in_front_of lines site) }
+{
+    lawful_sites_are_consistent();
+    built_requests_keep_consistent();
+    nodes_keep_their_names();
+}
+
 /// A queue file takes 134,217,728 bytes at most. Definitions cite the number by its name, so here it is said.
 pub fn a_queue_file_has_a_cap()
     ensures { QUEUE_CAP ≡ 134217728 }
@@ -91,11 +108,6 @@ pub fn a_queue_file_has_a_cap()
 /// The queue file is file 1 of a disk. Definitions cite the number by its name, so here it is said.
 pub fn the_queue_file_has_a_number()
     ensures { QUEUE_FILE ≡ 1 }
-{}
-
-/// A run makes 1,000,000 moves at most. Definitions cite the number by its name, so here it is said.
-pub fn a_run_makes_so_many_moves_at_most()
-    ensures { MOVES_LIMIT ≡ 1000000 }
 {}
 
 /// The last moment is 25,690,901,759,999 hundredths of a second behind the base date. Definitions cite the number by its name,

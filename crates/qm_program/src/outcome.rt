@@ -1,7 +1,6 @@
 ghost use Rattle.std.specs.Prelude.{◌≡◌, Some};
-ghost use Rattle.qm_program.specs.Ends.{status_of, end_text, end_of, end_of_served, end_of_opening, end_of_making};
+ghost use Rattle.qm_program.specs.Ends.{status_of, end_text, end_of, end_of_opening, end_of_making};
 
-use crate::course::Served;
 use crate::serve::ServeEnd;
 use qm_disk::Disk;
 use qm_kinds::ScriptKind;
@@ -29,8 +28,6 @@ pub enum End {
     Unformatted { byte: u8 },
     /// At this place, in bytes from 0, the file is no queue file.
     Damaged { file: u8, place: u64 },
-    /// As many moves were made as one run may make, and another one would come.
-    HistoryFull,
     /// There was no memory. The sink took the transcript up to a line, or nothing.
     NoMemory,
 }
@@ -49,19 +46,7 @@ impl End {
             End::Journal => 6,
             End::Unformatted { .. } => 7,
             End::Damaged { .. } => 8,
-            End::HistoryFull => 9,
             End::NoMemory => 10,
-        }
-    }
-}
-
-impl From<Served> for End {
-    ghost from_gives = { λ served end. end ≡ end_of_served served };
-
-    fn from(served: Served) -> End {
-        match served {
-            Served::All => End::Ok,
-            Served::TooMany => End::HistoryFull,
         }
     }
 }
@@ -116,7 +101,6 @@ impl fmt::Display for End {
             End::Journal => f.write_str("journal failed"),
             End::Unformatted { byte } => write!(f, "unformatted, byte {byte}"),
             End::Damaged { file, place } => write!(f, "damaged, file {file}, byte {place}"),
-            End::HistoryFull => f.write_str("history full"),
             End::NoMemory => f.write_str("no memory"),
         }
     }

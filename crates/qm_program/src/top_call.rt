@@ -73,7 +73,7 @@ fn serve_site<O: Sink, D: Disk, C: Clock, Y: Symbiont>(
         return Outcome::of(script_end(ScriptKind::Node), manager.give_back());
     }
     let end = match serve_all(alloc, &mut manager, lines, sink, clock, symbiont) {
-        Ok(served) => End::from(served),
+        Ok(()) => End::Ok,
         Err(end) => End::from(end),
     };
     Outcome::of(end, manager.give_back())
@@ -123,13 +123,12 @@ fn run<S: Source, O: Sink, D: Disk, C: Clock, Y: Symbiont>(
 /// clock, before its text is read, whatever it is answered, and so does each time that the node asks for its runs, and each
 /// report, behind its step; nothing else asks the clock. A request acts at that reading, or at the moment of the last change
 /// where the clock was set back. What a line or a report changes is on the disk, by a record that no crash can take away,
-/// before its answer is written; the answer is written before the next move is made. At most [`crate::MOVES_LIMIT`] lines,
-/// fetches and reports are served: the next one ends the run with `HistoryFull`.
+/// before its answer is written; the answer is written before the next move is made. The moves aren't counted: they come to an
+/// end by themselves ([`crate::moves_come_to_an_end`]).
 ///
 /// The ends are tried in this order: `Usage` (other words; nothing is read), `Read` (the source failed), `Script` (what was
 /// read isn't a script; the disk isn't touched), `Journal`, `Unformatted` and `Damaged` as opening tells, `Script` (a line is
-/// of another node than the file), then `Write` (the sink failed), `Journal` (the disk failed), `HistoryFull` and `NoMemory` as
-/// they arise.
+/// of another node than the file), then `Write` (the sink failed), `Journal` (the disk failed) and `NoMemory` as they arise.
 ///
 /// Three laws say what follows from the clause `does` of a run. At `Ok` the script was served whole, and each run that could
 /// step was carried out: the sink took what these moves print over the site of the queue file, at the readings that the clock
@@ -163,11 +162,11 @@ pub fn qman<S: Source, O: Sink, D: Disk, C: Clock, Y: Symbiont>(
     ensures others { OthersStay D.meaning disk result.disk }
 
     // Over a script and a queue file that are sound every line is answered, and each run that can step is carried out, unless the
-    // disk, the sink or the source fails, as many moves were made as one run may make, or memory runs out. Devices may fail.
+    // disk, the sink or the source fails, or memory runs out. Devices may fail.
     ensures complete { task_of (map string_bytes words.now) ≡ Some Run → IsTrue D.meaning.tells → HasSoundScript (S.remaining source.old) (D.meaning.seen disk 1)
         → IsWithoutFault (S.faults source.old) (S.faults source.new) → IsWithoutFault (O.faults sink.old) (O.faults sink.new)
         → IsWithoutFault (D.meaning.faults disk) (D.meaning.faults result.disk)
-        → (result.end ≡ End.Ok) ⊎ ((result.end ≡ End.HistoryFull) ⊎ (result.end ≡ End.NoMemory)) }
+        → (result.end ≡ End.Ok) ⊎ (result.end ≡ End.NoMemory) }
 {
     let task = read_task(words);
     match &task {

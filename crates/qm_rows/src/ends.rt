@@ -164,7 +164,7 @@ fn what_was_done_stays_where_its_answer_is_lost(rt: HostRuntime) -> Result<(), F
 }
 
 // Ends, the line that each prints, and its status.
-const LINES: [(End, &str, u8); 12] = [
+const LINES: [(End, &str, u8); 11] = [
     (End::Ok, "", 0),
     (End::Usage, "usage", 2),
     (FORM, "script line 0: form", 3),
@@ -179,7 +179,6 @@ const LINES: [(End, &str, u8); 12] = [
         "damaged, file 1, byte 12",
         8,
     ),
-    (End::HistoryFull, "history full", 9),
     (End::NoMemory, "no memory", 10),
 ];
 

@@ -24,9 +24,6 @@ pub(crate) fn advice(end: End, is_in_use: bool) -> &'static str {
         End::Damaged { .. } => {
             ": put a whole queue file in its place; `qman init NODE` makes it anew, whatever it holds"
         }
-        End::HistoryFull => {
-            ": one run takes a million lines, fetches and reports; what was answered is kept, so run the lines behind the last one"
-        }
         End::NoMemory => {
             ": give it more memory; what was answered is kept, so look what the last line did, and run those behind it"
         }

@@ -1,9 +1,9 @@
-use Rattle.std.proofs.Common.{◌≡◌, ◌∙◌, sym, ap, refl, inl, inr, None}
-use Rattle.qm_manager.specs.Manager.{site_of, disk_of}
+use Rattle.std.proofs.Common.{◌∙◌, sym, ap, refl, inl, inr}
+use Rattle.qm_manager.specs.Manager.{disk_of}
 use Rattle.qm_node.specs.Held.{HeldRuns}
 use Rattle.qm_program.specs.Heard.{goes_on_of}
 use Rattle.qm_program.specs.Position.{heard_stage}
-use Rattle.qm_program.specs.Serving.{outside, report_at}
+use Rattle.qm_program.specs.Serving.{report_at}
 use Rattle.qm_program.proofs.Carried.{asks_so, begun, hands_so, is_next_step, of_step, there_so}
 use Rattle.qm_program.proofs.Stepping.{wanting}
 use Rattle.qm_program.proofs.carrying.report_step.Goals as goal

@@ -15,12 +15,12 @@ returns-then-not-are_of_node-clause-cause g c source =
 
 pub returns-clause-cause : goal.returns-clause-cause
 returns-clause-cause g c source = rw (c.of-2.ensures.end, c.of-2.ensures.disk, c.give_back-2.ensures) (elim c.match-serve_all.branch [
-  | in-Ok-serve_all w ↦ rw (w.end-is, w.from-end.ensures)
+  | in-Ok-serve_all w ↦ rw w.end-is
       (course_cause g.D.Disk.meaning (lines_view c.args.lines.now) c.args.disk c.in-Ok.manager c.in-Ok.ensures.found c.in-Ok.ensures.ready c.in-Ok.ensures.looks (c.in-Ok.ensures.faults.quiet (λ never. never))
       g.Y.Symbiont.meaning c.args.symbiont.now c.serve_all.new.symbiont (rw c.node.ensures at (sym c.if-not-are_of_node.ensures)) (g.O.Sink.taken c.args.sink.now) (g.O.Sink.taken c.serve_all.new.sink) (g.C.Clock.told c.args.clock.now) (g.C.Clock.told c.serve_all.new.clock) (disk_of c.serve_all.new.manager)
       (IsOfAnother g.D.Disk.meaning.tells (g.D.Disk.meaning.seen c.args.disk 1) (lines_view c.args.lines.now))
-      source (g.O.Sink.faults c.args.sink.now) (g.O.Sink.faults c.serve_all.new.sink) w.in-Ok-serve_all.served w.in-Ok-serve_all.ensures.sink w.in-Ok-serve_all.ensures.serves)
-  | in-Err-serve_all w ↦ rw (w.end-is, w.from-end-in-Err-serve_all.ensures)
+      source (g.O.Sink.faults c.args.sink.now) (g.O.Sink.faults c.serve_all.new.sink) w.in-Ok-serve_all.ensures.sink w.in-Ok-serve_all.ensures.serves)
+  | in-Err-serve_all w ↦ rw (w.end-is, w.from-end.ensures)
       (stopped_cause g.D.Disk.meaning (lines_view c.args.lines.now) c.args.disk c.in-Ok.manager c.in-Ok.ensures.found c.in-Ok.ensures.ready c.in-Ok.ensures.looks (c.in-Ok.ensures.faults.quiet (λ never. never))
       g.Y.Symbiont.meaning c.args.symbiont.now c.serve_all.new.symbiont (rw c.node.ensures at (sym c.if-not-are_of_node.ensures)) (g.O.Sink.taken c.args.sink.now) (g.O.Sink.taken c.serve_all.new.sink) (g.C.Clock.told c.args.clock.now) (g.C.Clock.told c.serve_all.new.clock) (disk_of c.serve_all.new.manager)
       (IsOfAnother g.D.Disk.meaning.tells (g.D.Disk.meaning.seen c.args.disk 1) (lines_view c.args.lines.now))
@@ -29,11 +29,11 @@ returns-clause-cause g c source = rw (c.of-2.ensures.end, c.of-2.ensures.disk, c
 
 pub returns-clause-serves : goal.returns-clause-serves
 returns-clause-serves g c = rw (c.of-2.ensures.end, c.of-2.ensures.disk, c.give_back-2.ensures) (elim c.match-serve_all.branch [
-  | in-Ok-serve_all w ↦ rw (w.end-is, w.from-end.ensures)
+  | in-Ok-serve_all w ↦ rw w.end-is
       (course_serves g.D.Disk.meaning (lines_view c.args.lines.now) c.args.disk c.in-Ok.manager c.in-Ok.ensures.found c.in-Ok.ensures.ready c.in-Ok.ensures.looks (c.in-Ok.ensures.faults.quiet (λ never. never))
       g.Y.Symbiont.meaning c.args.symbiont.now c.serve_all.new.symbiont (rw c.node.ensures at (sym c.if-not-are_of_node.ensures)) (g.O.Sink.taken c.args.sink.now) (g.O.Sink.taken c.serve_all.new.sink) (g.C.Clock.told c.args.clock.now) (g.C.Clock.told c.serve_all.new.clock) (disk_of c.serve_all.new.manager)
-      w.in-Ok-serve_all.served w.in-Ok-serve_all.ensures.serves)
-  | in-Err-serve_all w ↦ rw (w.end-is, w.from-end-in-Err-serve_all.ensures)
+      w.in-Ok-serve_all.ensures.serves)
+  | in-Err-serve_all w ↦ rw (w.end-is, w.from-end.ensures)
       (stopped_serves g.D.Disk.meaning (lines_view c.args.lines.now) c.args.disk c.in-Ok.manager c.in-Ok.ensures.found c.in-Ok.ensures.ready c.in-Ok.ensures.looks (c.in-Ok.ensures.faults.quiet (λ never. never))
       g.Y.Symbiont.meaning c.args.symbiont.now c.serve_all.new.symbiont (rw c.node.ensures at (sym c.if-not-are_of_node.ensures)) (g.O.Sink.taken c.args.sink.now) (g.O.Sink.taken c.serve_all.new.sink) (g.C.Clock.told c.args.clock.now) (g.C.Clock.told c.serve_all.new.clock) (disk_of c.serve_all.new.manager)
       w.in-Err-serve_all.end w.in-Err-serve_all.ensures.stops)
@@ -44,7 +44,7 @@ returns-clause-others g c = rw (c.of-2.ensures.disk, c.give_back-2.ensures) (eli
   | in-Ok-serve_all w ↦
       course_keeps_others g.D.Disk.meaning (lines_view c.args.lines.now) c.args.disk c.in-Ok.manager c.in-Ok.ensures.found c.in-Ok.ensures.ready c.in-Ok.ensures.looks (c.in-Ok.ensures.faults.quiet (λ never. never))
       g.Y.Symbiont.meaning c.args.symbiont.now c.serve_all.new.symbiont (rw c.node.ensures at (sym c.if-not-are_of_node.ensures)) (g.O.Sink.taken c.args.sink.now) (g.O.Sink.taken c.serve_all.new.sink) (g.C.Clock.told c.args.clock.now) (g.C.Clock.told c.serve_all.new.clock) (disk_of c.serve_all.new.manager)
-      w.in-Ok-serve_all.served w.in-Ok-serve_all.ensures.serves
+      w.in-Ok-serve_all.ensures.serves
   | in-Err-serve_all w ↦
       stopped_keeps_others g.D.Disk.meaning (lines_view c.args.lines.now) c.args.disk c.in-Ok.manager c.in-Ok.ensures.found c.in-Ok.ensures.ready c.in-Ok.ensures.looks (c.in-Ok.ensures.faults.quiet (λ never. never))
       g.Y.Symbiont.meaning c.args.symbiont.now c.serve_all.new.symbiont (rw c.node.ensures at (sym c.if-not-are_of_node.ensures)) (g.O.Sink.taken c.args.sink.now) (g.O.Sink.taken c.serve_all.new.sink) (g.C.Clock.told c.args.clock.now) (g.C.Clock.told c.serve_all.new.clock) (disk_of c.serve_all.new.manager)
