@@ -13,7 +13,7 @@ use Rattle.qm_symb.specs.Device as symb
 use Rattle.qm_program.specs.Transcript.{Step, MoveAt, turn, step_of, steps_of, site_behind, after}
 use Rattle.qm_program.specs.Moves.{Standing, IsCourse, IsNext, IsOver, next_of, in_front_of, behind_move, behind_moves}
 use Rattle.qm_program.specs.Handing.{Hands, HandAll}
-use Rattle.qm_program.specs.Course.{Outside, TakesPart, MakesStep, MakesSteps, StopsAtStep, ServesAll, StopsWithin}
+use Rattle.qm_program.specs.Course.{Outside, TakesPart, MakesStep, MakesSteps, StopsAtStep, ServesAll, StopsWithin, HandsFirst}
 use Rattle.qm_program.specs.Running.{OthersStay}
 use Rattle.qm_program.specs.declared.outcome.End.{End}
 use Rattle.qm_program.specs.declared.serve.ServeEnd.{ServeEnd}
@@ -110,7 +110,7 @@ module _ {D Y : Type 0} (m : Meaning D) (y : symb.Meaning Y) (lines : List Scrip
 
   -- the run stopped at the next move
   pub stops_here : (mv : MoveAt) → IsNext here.node (next_of here.node) mv.move → (new : Outside D) (now : Y) (end : End)
-      → StopsAtStep m here.site (step_of here.site mv) next new end → Hands y mv.move between now ⊎ ((end ≡ ends.NoMemory) × (now ≡ between))
+      → StopsAtStep m here.site (step_of here.site mv) next new end → HandsFirst m y mv.move between now next new end
       → StopsWithin m y end was now site lines old new
   stops_here mv is_next new now end stops begun = record {
     moves = g.moves;

@@ -8,7 +8,7 @@ use Rattle.qm_manager.specs.Site.{Site, IsSiteOf}
 use Rattle.qm_manager.specs.Asking.{Steps}
 use Rattle.qm_model.specs.Script.{ScriptLine}
 use Rattle.qm_symb.specs.Device as symb
-use Rattle.qm_program.specs.Transcript.{Step, MoveAt, step_of, steps_of, after}
+use Rattle.qm_program.specs.Transcript.{Move, Step, MoveAt, step_of, steps_of, after}
 use Rattle.qm_program.specs.Moves.{IsCourse, IsOver, in_front_of, behind_moves}
 use Rattle.qm_program.specs.Handing.{Hands, HandAll}
 use Rattle.qm_program.specs.declared.outcome.End.{End}
@@ -95,8 +95,12 @@ module _ {D Y : Type 0} (m : Meaning D) (y : symb.Meaning Y) where
     pub served : ServesNothing m old new
     pub handed : now ≡ was
 
-  -- The first moves were made, and the next one is in work. What it hands over was handed over; where memory ran out it may be
-  -- that nothing was.
+  -- A move at which a run stopped hands over first: it handed over its blocks; or memory ran out before that, and then nothing was
+  -- done to the disk either, so that no report was recorded.
+  abbrev pub HandsFirst : Move → Y → Y → Outside D → Outside D → End → Type 0
+  HandsFirst move was now old new end = Hands y move was now ⊎ ((end ≡ ends.NoMemory) × (now ≡ was) × (new.disk ≡ old.disk))
+
+  -- The first moves were made, and the next one is in work.
   pub record StopsWithin (end : End) (was now : Y) (site : Site) (lines : List ScriptLine) (old new : Outside D) : Type 0 where
     pub moves : List MoveAt
     pub stopped : MoveAt
@@ -106,4 +110,4 @@ module _ {D Y : Type 0} (m : Meaning D) (y : symb.Meaning Y) where
     pub stops : StopsAtStep m (after site moves) (step_of (after site moves) stopped) next new end
     pub between : Y
     pub handed : HandAll y moves was between
-    pub begun : Hands y stopped.move between now ⊎ ((end ≡ ends.NoMemory) × (now ≡ between))
+    pub begun : HandsFirst stopped.move between now next new end

@@ -15,7 +15,7 @@ use Rattle.qm_manager.specs.Manager.{site_of, node_of, disk_of, IsReady}
 use Rattle.qm_script.specs.declared.script.Line.{Line as CodeLine}
 use Rattle.qm_script.specs.Lines.{line_view}
 use Rattle.qm_symb.specs.Device as symb
-use Rattle.qm_program.specs.Course.{Outside, TakesPart, MakesStep, StopsAtStep}
+use Rattle.qm_program.specs.Course.{Outside, TakesPart, MakesStep, StopsAtStep, HandsFirst}
 use Rattle.qm_program.specs.Handing.{Hands}
 use Rattle.qm_program.specs.declared.outcome.End.{End}
 use Rattle.qm_program.specs.Transcript.{MoveAt, Line, Report, step_of}
@@ -87,9 +87,9 @@ module _ {D Y : Type 0} (m : Meaning D) (y : symb.Meaning Y) where
     pub handed : Hands y move.move was now
     pub made : MakesStep m here.site (step_of here.site move) old new
 
-  -- A node stopped at the move that comes next. Where memory ran out it may be that nothing was handed over.
+  -- A node stopped at the move that comes next.
   pub record StopsAtMove (here : Standing) (was now : Y) (old new : Outside D) (end : End) : Type 0 where
     pub move : MoveAt
     pub is_next : IsNext here.node (next_of here.node) move.move
-    pub begun : Hands y move.move was now ⊎ ((end ≡ runs.NoMemory) × (now ≡ was))
+    pub begun : HandsFirst m y move.move was now old new end
     pub stops : StopsAtStep m here.site (step_of here.site move) old new end

@@ -7,8 +7,8 @@ use Rattle.qm_manager.specs.Site.{Site, IsSite, IsSiteOf}
 use Rattle.qm_symb.specs.Device as symb
 use Rattle.qm_program.specs.Transcript.{Step, MoveAt, turn, step_of, steps_of, readings_of, site_behind, after, transcript}
 use Rattle.qm_program.specs.Moves.{IsCourse, IsOver, in_front_of, behind_moves}
-use Rattle.qm_program.specs.Handing.{Hands, HandAll}
-use Rattle.qm_program.specs.Course.{Outside, StopsAtStep}
+use Rattle.qm_program.specs.Handing.{HandAll}
+use Rattle.qm_program.specs.Course.{Outside, StopsAtStep, HandsFirst}
 use Rattle.qm_program.specs.Running.{IsFound, OfScript}
 use Rattle.qm_program.specs.declared.outcome.End.{End}
 
@@ -74,6 +74,6 @@ module _ {D Y : Type 0} (m : Meaning D) (y : symb.Meaning Y) (was now : Y) where
     pub stops : StopsAtStep m (after site moves) (step_of (after site moves) stopped) next new end
     pub between : Y
     pub handed : HandAll y moves was between
-    pub begun : Hands y stopped.move between now ⊎ ((end ≡ ends.NoMemory) × (now ≡ between))
+    pub begun : HandsFirst m y stopped.move between now next new end
     pub left : IsTrue m.tells → (crashed : CrashState) → IsLeft (m.may_leave new.disk) crashed
         → IsSite (crashed 1) (after site moves) ⊎ IsSite (crashed 1) (turn (after site moves) stopped).site

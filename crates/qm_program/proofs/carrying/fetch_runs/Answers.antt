@@ -1,4 +1,4 @@
-use Rattle.std.proofs.Common.{inr, refl}
+use Rattle.std.proofs.Common.{inl, refl}
 use Rattle.qm_manager.specs.Manager.{disk_of}
 use Rattle.qm_program.specs.Position.{state_of}
 use Rattle.qm_program.specs.Transcript.{Fetch}
@@ -20,7 +20,7 @@ pub returns-in-Err-clause-stops : goal.returns-in-Err-clause-stops
 returns-in-Err-clause-stops g c = λ lines taken comes. record {
   move = record { move = Fetch; reading = c.tell.result };
   is_next = next_fetch_is (state_of c.args.position.now lines c.args.runs.now) comes;
-  begun = inr (refl, refl);
+  begun = inl refl;
   stops = wanting g.D.Disk.meaning c.args.manager.now c.requires.ready (g.met.D.Disk.only_now (disk_of c.args.manager.now)) (g.C.Clock.told c.args.clock.now) (g.C.Clock.told c.tell.new.self)
       (record { move = Fetch; reading = c.tell.result }) taken c.tell.ensures.appended;
 }

@@ -49,7 +49,7 @@ returns-clause-stops g c = λ lines comes.
     record {
       move = report_at some.0 c.tell-now.result;
       is_next = some.1;
-      begun = inr (refl, c.in-Err.ensures.nothing_handed);
+      begun = inr (refl, c.in-Err.ensures.nothing_handed, refl);
       stops = wanting g.D.Disk.meaning c.args.manager.now c.requires.ready (g.met.D.Disk.only_now (disk_of c.args.manager.now)) (g.C.Clock.told c.args.clock.now) (g.C.Clock.told c.tell-now.new.self)
           (report_at some.0 c.tell-now.result) (g.O.Sink.taken c.args.sink.now) c.tell-now.ensures.appended;
     }
