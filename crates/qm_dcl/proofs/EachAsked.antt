@@ -28,10 +28,10 @@ use Rattle.qm_dcl.specs.declared.settings.Definition.{Definition}
 use Rattle.qm_dcl.specs.declared.settings.Stop.{Stop}
 use Rattle.qm_dcl.specs.declared.settings.Stop.TheVariants as stop
 use Rattle.qm_dcl.specs.declared.value.Location.{Location}
-use Rattle.qm_dcl.specs.Built.{is_built}
+use Rattle.qm_dcl.specs.Built.{is_built, is_built_command}
 use Rattle.qm_dcl.specs.Forms.{form_named}
 use Rattle.qm_dcl.specs.Settings.{settings_of}
-use Rattle.qm_dcl.specs.Lists.{lists_of}
+use Rattle.qm_dcl.specs.Lists.{lists_of, nodes_of}
 use Rattle.qm_dcl.specs.Submitting.{job_of}
 use Rattle.qm_dcl.specs.Entries.{entry_change_of}
 use Rattle.qm_dcl.specs.Showing.{query_of}
@@ -170,35 +170,39 @@ module _ {P : Input → Type 0} (each : OfEach P) (user : List ℕ) where
     of_queue c None is = tt
     of_queue c (Some name) is = of_request c name is
 
-    of_command : (c : Command) → IfSome (asked user c s lists) P
-    of_command command.ShowEntry = of_shown s.entry
-    of_command command.Submit = of_file Batch s.file
-    of_command command.Print = of_file Print s.file
-    of_command command.SetEntry = of_changed s.entry
-    of_command command.DeleteEntry = of_entry s.entry
-    of_command command.DefineForm = of_form s.definition s.definition.name s.definition.form_number fit.2 fit.3
-    of_command command.DefineCharacteristic = of_characteristic s.definition.name s.definition.characteristic_number fit.2
-    of_command command.DeleteForm = of_form_name s.definition.name
-    of_command command.DeleteCharacteristic = of_characteristic_name s.definition.name
-    of_command c = of_queue c s.queue fit.0
+    of_command : (c : Command) (nodes : Option (List (List ℕ))) → is_built_command c ≡ true → IfSome (asked user c s lists nodes) P
+    of_command command.ShowEntry nodes built = of_shown s.entry
+    of_command command.ShowManagers nodes built = cc
+    of_command command.StartManager nodes built = cc
+    of_command command.Submit nodes built = of_file Batch s.file
+    of_command command.Print nodes built = of_file Print s.file
+    of_command command.SetEntry nodes built = of_changed s.entry
+    of_command command.DeleteEntry nodes built = of_entry s.entry
+    of_command command.DefineForm nodes built = of_form s.definition s.definition.name s.definition.form_number fit.2 fit.3
+    of_command command.DefineCharacteristic nodes built = of_characteristic s.definition.name s.definition.characteristic_number fit.2
+    of_command command.DeleteForm nodes built = of_form_name s.definition.name
+    of_command command.DeleteCharacteristic nodes built = of_characteristic_name s.definition.name
+    of_command c nodes built = of_queue c s.queue fit.0
 
   or_not_built : (o : Option Input) → IfSome o P → IfOk (ok_or o not_built) P
   or_not_built None h = tt
   or_not_built (Some input) h = h
 
-  of_given : (c : Command) (lists : Lists) (given : Result Settings Fault) → AreShort lists → IfOk given AreFit → IfOk (asked_with user c lists given) P
-  of_given c lists (Ok s) short fit = or_not_built (asked user c s lists) (of_command s lists fit short c)
-  of_given c lists (Err f) short fit = tt
+  of_given : (c : Command) (lists : Lists) (nodes : Option (List (List ℕ))) (given : Result Settings Fault) → is_built_command c ≡ true → AreShort lists
+      → IfOk given AreFit → IfOk (asked_with user c lists nodes given) P
+  of_given c lists nodes (Ok s) built short fit = or_not_built (asked user c s lists nodes) (of_command s lists fit short c nodes built)
+  of_given c lists nodes (Err f) built short fit = tt
 
-  of_built : (built : Bool) (now : ℕ) (text : List ℕ) (c : Command) → IfOk (cond built (meant user now text c) (Err not_built)) P
-  of_built true now text c =
-      of_given c (lists_of text (parts_in text)) (judged (command_in text) (settings_of now text c (parts_in text))) (lists_are_short text)
-      (judged_fit (command_in text) (settings_of now text c (parts_in text)) (settings_are_fit now text c (parts_in text)))
-  of_built false now text c = tt
+  of_built : (built : Bool) (now : ℕ) (text : List ℕ) (c : Command) → is_built text (tokens_in text) c ≡ built
+      → IfOk (cond built (meant user now text c) (Err not_built)) P
+  of_built true now text c is =
+      of_given c (lists_of text (parts_in text)) (nodes_of text (parts_in text)) (judged (command_in text) (settings_of now text c (parts_in text))) (first_of_both _ _ is)
+      (lists_are_short text) (judged_fit (command_in text) (settings_of now text c (parts_in text)) (settings_are_fit now text c (parts_in text)))
+  of_built false now text c is = tt
 
   of_named : (now : ℕ) (text : List ℕ) (named : Option Command) → IfOk (command_named user now text named) P
   of_named now text None = tt
-  of_named now text (Some c) = of_built (is_built text (tokens_in text) c) now text c
+  of_named now text (Some c) = of_built (is_built text (tokens_in text) c) now text c refl
 
   -- it holds of what a text asks for
   pub of_asked : (now : ℕ) (text : List ℕ) → IfOk (command_of user now text) P

@@ -10,7 +10,7 @@ use Rattle.qm_dcl.specs.declared.lists.Lists.{Lists}
 use Rattle.qm_dcl.specs.declared.settings.Settings.{Settings}
 use Rattle.qm_dcl.specs.Built.{is_built}
 use Rattle.qm_dcl.specs.Settings.{settings_of}
-use Rattle.qm_dcl.specs.Lists.{lists_of}
+use Rattle.qm_dcl.specs.Lists.{lists_of, nodes_of}
 use Rattle.qm_dcl.specs.Command.{not_built, judged, asked_with, meant, command_named, command_of}
 
 whatever : (P : Type 0) → P → (r : Result Input Fault) → IfOk r (λ _. P)
@@ -35,22 +35,22 @@ same_wrong f g h = cc
 not_wrong : (c : Command) (f : Fault) (read : Result Command Fault) → read ≡ Ok c → read ≡ wrong f → ⊥
 not_wrong c f read a b = cc
 
-module _ (user : List ℕ) (c : Command) (lists : Lists) where
+module _ (user : List ℕ) (c : Command) (lists : Lists) (nodes : Option (List (List ℕ))) where
   -- one of two faults
-  one_told : (P : Type 0) (b : Bool) (f g : Fault) → IfOk (asked_with user c lists (cond b (Err f) (Err g))) (λ _. P)
+  one_told : (P : Type 0) (b : Bool) (f g : Fault) → IfOk (asked_with user c lists nodes (cond b (Err f) (Err g))) (λ _. P)
   one_told P true f g = tt
   one_told P false f g = tt
 
-  right : (read : Result Command Fault) (given : Result Settings Fault) → IfOk (asked_with user c lists (judged read given)) (λ _. IsOk read)
-  right (Ok command) given = whatever (IsOk (lawful command)) refl (asked_with user c lists given)
+  right : (read : Result Command Fault) (given : Result Settings Fault) → IfOk (asked_with user c lists nodes (judged read given)) (λ _. IsOk read)
+  right (Ok command) given = whatever (IsOk (lawful command)) refl (asked_with user c lists nodes given)
   right (Err f) (Ok s) = tt
   right (Err f) (Err value) = one_told (IsOk (wrong f)) (nat_lt value.place f.place) value f
 
-  earlier : (b : Bool) (value f g : Fault) → nat_lt value.place f.place ≡ b → asked_with user c lists (cond b (Err value) (Err f)) ≡ told g → g.place ≤ f.place
+  earlier : (b : Bool) (value f g : Fault) → nat_lt value.place f.place ≡ b → asked_with user c lists nodes (cond b (Err value) (Err f)) ≡ told g → g.place ≤ f.place
   earlier true value f g lt is = let same = same_told value g is in grind (arith, nat_tests)
   earlier false value f g lt is = let same = same_told f g is in grind (arith, nat_tests)
 
-  first : (read : Result Command Fault) (given : Result Settings Fault) (f g : Fault) → read ≡ wrong f → asked_with user c lists (judged read given) ≡ told g → g.place ≤ f.place
+  first : (read : Result Command Fault) (given : Result Settings Fault) (f g : Fault) → read ≡ wrong f → asked_with user c lists nodes (judged read given) ≡ told g → g.place ≤ f.place
   first (Ok command) given f g wrong is = absurd (not_wrong command f (Ok command) refl wrong)
   first (Err e) (Ok s) f g wrong is = let a = same_wrong e f wrong in let b = same_told e g is in grind (arith, nat_tests)
   first (Err e) (Err value) f g wrong is =
@@ -60,7 +60,7 @@ module _ (user : List ℕ) (c : Command) (lists : Lists) where
 
 module _ (user : List ℕ) (now : ℕ) (text : List ℕ) where
   right_built : (built : Bool) (c : Command) → IfOk (cond built (meant user now text c) (Err not_built)) (λ _. IsOk (command_in text))
-  right_built true c = right user c (lists_of text (parts_in text)) (command_in text) (settings_of now text c (parts_in text))
+  right_built true c = right user c (lists_of text (parts_in text)) (nodes_of text (parts_in text)) (command_in text) (settings_of now text c (parts_in text))
   right_built false c = tt
 
   right_named : (named : Option Command) → IfOk (command_named user now text named) (λ _. IsOk (command_in text))
@@ -76,7 +76,7 @@ module _ (user : List ℕ) (now : ℕ) (text : List ℕ) where
 
   first_built : (built : Bool) (c : Command) (f g : Fault) → command_in text ≡ wrong f
       → cond built (meant user now text c) (Err not_built) ≡ told g → g.place ≤ f.place
-  first_built true c f g wrong is = first user c (lists_of text (parts_in text)) (command_in text) (settings_of now text c (parts_in text)) f g wrong is
+  first_built true c f g wrong is = first user c (lists_of text (parts_in text)) (nodes_of text (parts_in text)) (command_in text) (settings_of now text c (parts_in text)) f g wrong is
   first_built false c f g wrong is = not_behind f g is
 
   first_named : (named : Option Command) (f g : Fault) → command_in text ≡ wrong f → command_named user now text named ≡ told g → g.place ≤ f.place

@@ -3,3 +3,4 @@ pub mod FewValues
 pub mod ShortNames
 pub mod EachAsked
 pub mod FirstFault
+pub mod Managers

@@ -1,5 +1,5 @@
 -- The names that are given are those that a queue, a device, a form, a characteristic and a stock can have.
-use Rattle.std.proofs.Common.{◌≡◌, ℕ, Bool, true, false, cond, ◌==◌, ◌+◌, List, [], ◌∷◌, take, drop, Option, None, Some, Result, Ok, Err, IfOk, IfSome, refl, sym, subst}
+use Rattle.std.proofs.Common.{◌≡◌, ℕ, Bool, true, false, cond, ◌&&◌, not, ◌==◌, ◌+◌, List, [], ◌∷◌, take, drop, Option, None, Some, Result, Ok, Err, IfOk, IfSome, refl, sym, subst}
 use Rattle.std.specs.Prelude.{option_map, option_and_then, position}
 use Rattle.qm_kinds.specs.Files.{name_of, file_name_of}
 use Rattle.qm_kinds.specs.declared.entry.JobRetain.{JobRetain}
@@ -17,10 +17,10 @@ use Rattle.qm_dcl.specs.declared.settings.Settings.{Settings}
 use Rattle.qm_dcl.specs.declared.settings.QueueSettings.{QueueSettings}
 use Rattle.qm_dcl.specs.declared.value.Location.{Location}
 use Rattle.qm_dcl.specs.declared.value.Side.{Side}
-use Rattle.qm_dcl.specs.Values.{said_by, raised_by, are_digits, byte_said, form_number_said, entry_said, blocks_said, if_passes, short_name_said, definable_name_said, node_said, form_said, characteristic_said, behind_colon, before_colon, device_said, has_equals, located, location_cut_at, location_said, schedule_said, queue_retain_said, job_retain_said, is_until, side_said, moment_said}
+use Rattle.qm_dcl.specs.Values.{said_by, raised_by, are_digits, byte_said, form_number_said, entry_said, blocks_said, if_passes, short_name_said, definable_name_said, node_said, says_all, form_said, characteristic_said, behind_colon, before_colon, device_said, has_equals, located, location_cut_at, location_said, schedule_said, queue_retain_said, job_retain_said, is_until, side_said, moment_said}
 use Rattle.qm_dcl.specs.Forms.{with_margin}
-use Rattle.qm_dcl.specs.Given.{queue_marked, with_word, with_job, with_queue_settings, with_definition, with_shape, queue_given, entry_given, blocks_with, valued, schedule_given, queue_retain_given, with_retain, until_given, after_given, margin_given, definable_given, form_given, characteristic_given, merge_given, file_given, parametered}
-use Rattle.qm_dcl.specs.Settings.{nothing_given, or_value_fault, with_key, with_until, with_retain_word, with_job_retain, is_of_queue, with_retained, with_value, inner_value, with_part, on_settings, settings_from, settings_of}
+use Rattle.qm_dcl.specs.Given.{queue_marked, with_word, with_job, with_queue_settings, with_definition, with_shape, queue_given, entry_given, blocks_with, valued, nodes_begun, node_given, schedule_given, queue_retain_given, with_retain, until_given, after_given, margin_given, definable_given, form_given, characteristic_given, merge_given, file_given, parametered}
+use Rattle.qm_dcl.specs.Settings.{nothing_given, or_value_fault, with_key, with_until, with_retain_word, with_job_retain, is_of_queue, with_retained, with_value, inner_value, has_value_ahead, lists_nodes, with_part, on_settings, settings_from, settings_of}
 
 abbrev pub IsShort : List ℕ → Type 0
 IsShort name = is_short name ≡ true
@@ -233,10 +233,26 @@ value_fit now text c s (Some words.Schedule) token inner fit =
     (kept (λ by_size. with_queue_settings s (record s.queue_settings { by_size = Some by_size })) (schedule_said (raised_by text token)) (λ by_size. fit))
 value_fit now text c s word token inner fit = or_fault_fit token (valued s word (said_by text token)) (valued_fit s word (said_by text token) fit)
 
+begun_fit : (s : Settings) (alone : Bool) → AreFit s → IfSome (cond alone (Some (record s { has_node = true })) None) AreFit
+begun_fit s true fit = fit
+begun_fit s false fit = tt
+
+node_fit : (s : Settings) (alone all : Bool) (said : List ℕ) → AreFit s
+    → IfSome (cond all (nodes_begun s alone) (option_map (λ node. record s { has_node = true }) (node_said said))) AreFit
+node_fit s alone true said fit = begun_fit s (alone && not s.has_node) fit
+node_fit s alone false said fit = kept (λ node. record s { has_node = true }) (node_said said) (λ node. fit)
+
+value_of_fit : (now : ℕ) (text : List ℕ) (c : Command) (s : Settings) (token : Token) (behind : List Part) (nodes : Bool) → AreFit s
+    → IfOk (cond nodes (or_value_fault token (node_given s (not (has_value_ahead behind)) (said_by text token))) (with_value now text c s s.word token (inner_value behind))) AreFit
+value_of_fit now text c s token behind true fit =
+    or_fault_fit token (node_given s (not (has_value_ahead behind)) (said_by text token))
+    (node_fit s (not (has_value_ahead behind)) (says_all (said_by text token)) (said_by text token) fit)
+value_of_fit now text c s token behind false fit = value_fit now text c s s.word token (inner_value behind) fit
+
 part_fit : (now : ℕ) (text : List ℕ) (c : Command) (s : Settings) (part : Part) (behind : List Part) → AreFit s → IfOk (with_part now text c s part behind) AreFit
 part_fit now text c s (Parameter token) behind fit = parameter_fit text c s token s.awaits_object fit
 part_fit now text c s (Qualifier word place) behind fit = word_fit s word fit
-part_fit now text c s (Value token) behind fit = value_fit now text c s s.word token (inner_value behind) fit
+part_fit now text c s (Value token) behind fit = value_of_fit now text c s token behind (lists_nodes c s.word) fit
 part_fit now text c s (KeyValue token) behind fit = fit
 
 then_fit : (given : Result Settings Fault) (go_on : Settings → Result Settings Fault) → IfOk given AreFit

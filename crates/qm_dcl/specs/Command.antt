@@ -2,7 +2,7 @@
 -- DCL Dictionary, on the commands of queues, jobs, forms and characteristics. This site's own: which fault is told, and what isn't built.
 use Rattle.std.specs.Prelude.{ℕ, nat_lt, if◌then◌else◌, List, Option, None, Some, option_map, option_and_then, Result, Ok, Err, ok_or}
 use Rattle.qm_kinds.specs.declared.input.Input.{Input}
-use Rattle.qm_kinds.specs.declared.input.Input.TheVariants.{Ask, Show}
+use Rattle.qm_kinds.specs.declared.input.Input.TheVariants.{Ask, Show, TakeManager}
 use Rattle.qm_kinds.specs.declared.refusal.ParseKind.TheVariants as fault
 use Rattle.qm_kinds.specs.declared.entry.JobKind.TheVariants.{Batch, Print}
 use Rattle.qm_kinds.specs.declared.request.Request.{Request}
@@ -17,10 +17,10 @@ use Rattle.qm_dcl.specs.declared.settings.Settings.{Settings}
 use Rattle.qm_dcl.specs.Built.{is_built}
 use Rattle.qm_dcl.specs.Forms.{form_of, characteristic_of}
 use Rattle.qm_dcl.specs.Settings.{settings_of}
-use Rattle.qm_dcl.specs.Lists.{lists_of}
+use Rattle.qm_dcl.specs.Lists.{lists_of, nodes_of}
 use Rattle.qm_dcl.specs.Submitting.{job_of}
 use Rattle.qm_dcl.specs.Entries.{entry_change_of}
-use Rattle.qm_dcl.specs.Showing.{query_of}
+use Rattle.qm_dcl.specs.Showing.{manager_query, query_of}
 use Rattle.qm_dcl.specs.Queues.{queue_request}
 
 -- what a command changes, where this form of it is built
@@ -37,9 +37,11 @@ request_of user command.DeleteCharacteristic s lists = option_map DeleteCharacte
 request_of user c s lists = option_and_then (λ name. queue_request name c s lists) s.queue
 
 -- what a command asks for, where this form of it is built
-abbrev pub asked : List ℕ → Command → Settings → Lists → Option Input
-asked user command.ShowEntry s lists = option_map (λ number. Show (query_of number)) s.entry
-asked user c s lists = option_map Ask (request_of user c s lists)
+abbrev pub asked : List ℕ → Command → Settings → Lists → Option (List (List ℕ)) → Option Input
+asked user command.ShowEntry s lists nodes = option_map (λ number. Show (query_of number)) s.entry
+asked user command.ShowManagers s lists nodes = Some (Show manager_query)
+asked user command.StartManager s lists nodes = Some (TakeManager nodes)
+asked user c s lists nodes = option_map Ask (request_of user c s lists)
 
 -- the fault of a text that isn't built
 abbrev pub not_built : Fault
@@ -51,13 +53,15 @@ judged (Ok c) given = given
 judged (Err f) (Ok s) = Err f
 judged (Err f) (Err value) = if nat_lt value.place f.place then Err value else Err f
 
-abbrev pub asked_with : List ℕ → Command → Lists → Result Settings Fault → Result Input Fault
-asked_with user c lists (Ok s) = ok_or (asked user c s lists) not_built
-asked_with user c lists (Err f) = Err f
+abbrev pub asked_with : List ℕ → Command → Lists → Option (List (List ℕ)) → Result Settings Fault → Result Input Fault
+asked_with user c lists nodes (Ok s) = ok_or (asked user c s lists nodes) not_built
+asked_with user c lists nodes (Err f) = Err f
 
 -- what a text asks for that names a command which is built
 abbrev pub meant : List ℕ → ℕ → List ℕ → Command → Result Input Fault
-meant user now text c = asked_with user c (lists_of text (parts_in text)) (judged (command_in text) (settings_of now text c (parts_in text)))
+meant user now text c =
+    asked_with user c (lists_of text (parts_in text)) (nodes_of text (parts_in text))
+    (judged (command_in text) (settings_of now text c (parts_in text)))
 
 -- what a text asks for that names a command
 abbrev pub command_named : List ℕ → ℕ → List ℕ → Option Command → Result Input Fault

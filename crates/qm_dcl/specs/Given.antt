@@ -1,6 +1,6 @@
 -- What a qualifier, its value, or a parameter gives. What is given later counts, and what was given before has no effect.
 -- DCL Dictionary, on the commands of queues, jobs, forms and characteristics.
-use Rattle.std.specs.Prelude.{ℕ, true, false, if◌then◌else◌, List, Option, None, Some, option_map}
+use Rattle.std.specs.Prelude.{ℕ, Bool, true, false, ◌&&◌, not, if◌then◌else◌, List, Option, None, Some, option_map}
 use Rattle.qm_kinds.specs.Files.{name_of, file_name_of}
 use Rattle.qm_kinds.specs.declared.entry.JobRetain.{JobRetain}
 use Rattle.qm_kinds.specs.declared.entry.JobRetain.TheVariants.{Until}
@@ -18,7 +18,7 @@ use Rattle.qm_dcl.specs.declared.settings.Stop.{Stop}
 use Rattle.qm_dcl.specs.declared.settings.Stop.TheVariants as stop
 use Rattle.qm_dcl.specs.declared.value.Side.{Side}
 use Rattle.qm_dcl.specs.Forms.{with_default_margins, with_margin}
-use Rattle.qm_dcl.specs.Values.{are_digits, byte_said, form_number_said, entry_said, blocks_said, short_name_said, definable_name_said, form_said, characteristic_said, location_said, schedule_said, queue_retain_said}
+use Rattle.qm_dcl.specs.Values.{are_digits, byte_said, form_number_said, entry_said, blocks_said, short_name_said, definable_name_said, node_said, says_all, form_said, characteristic_said, location_said, schedule_said, queue_retain_said}
 
 -- ---- what a qualifier gives by itself
 
@@ -59,6 +59,7 @@ stop_marked how _ = how
 abbrev pub with_word : Settings → Word → Settings
 with_word s word = record s {
   word = Some word;
+  has_node = false;
   stop = stop_marked s.stop word;
   job = job_marked s.job word;
   queue_settings = queue_marked s.queue_settings word;
@@ -112,6 +113,15 @@ valued s (Some words.Width) said = option_map (λ number. with_shape s (record s
 valued s (Some words.Characteristics) said = option_map (λ characteristic. s) (characteristic_said said)
 valued s (Some words.Generic) said = option_map (λ name. s) (short_name_said said)
 valued s _ said = None
+
+-- all nodes, where they stand alone
+abbrev pub nodes_begun : Settings → Bool → Option Settings
+nodes_begun s alone = if alone && not s.has_node then Some (record s { has_node = true }) else None
+
+-- A node on which the queue manager may run, or * for all of them. That must stand alone, with no other value behind it or in front.
+abbrev pub node_given : Settings → Bool → List ℕ → Option Settings
+node_given s alone said =
+    if says_all said then nodes_begun s alone else option_map (λ node. record s { has_node = true }) (node_said said)
 
 -- the order in which jobs start
 abbrev pub schedule_given : Settings → List ℕ → Option Settings

@@ -1,5 +1,5 @@
 -- The lists that qualifiers give. Of a list that is given twice the last one counts, whole.
--- DCL Dictionary, on /CHARACTERISTICS and /GENERIC.
+-- DCL Dictionary, on /CHARACTERISTICS and /GENERIC, and START/QUEUE/MANAGER, on /ON.
 use Rattle.std.specs.Prelude.{ℕ, Bool, true, false, if◌then◌else◌, List, [], ◌∷◌, filter_map, Option, None, Some, option_map}
 use Rattle.std.specs.Option.{option_or}
 use Rattle.qm_kinds.specs.declared.request.NameOrNumber.{NameOrNumber}
@@ -9,9 +9,9 @@ use Rattle.qm_grammar.specs.declared.word.Word.TheVariants as words
 use Rattle.qm_grammar.specs.declared.part.Part.{Part}
 use Rattle.qm_grammar.specs.declared.part.Part.TheVariants.{Parameter, Qualifier, Value, KeyValue}
 use Rattle.qm_dcl.specs.declared.lists.ListOf.{ListOf}
-use Rattle.qm_dcl.specs.declared.lists.ListOf.TheVariants.{Characteristics, Targets}
+use Rattle.qm_dcl.specs.declared.lists.ListOf.TheVariants.{Characteristics, Targets, Nodes}
 use Rattle.qm_dcl.specs.declared.lists.Lists.{Lists}
-use Rattle.qm_dcl.specs.Values.{said_by, characteristic_said, short_name_said}
+use Rattle.qm_dcl.specs.Values.{said_by, characteristic_said, short_name_said, node_said}
 
 -- the qualifiers that give a list; /NOCHARACTERISTICS takes no value, and gives the empty one
 abbrev pub gives : ListOf → Word → Bool
@@ -20,6 +20,8 @@ gives Characteristics words.NoCharacteristics = true
 gives Characteristics _ = false
 gives Targets words.Generic = true
 gives Targets _ = false
+gives Nodes words.On = true
+gives Nodes _ = false
 
 abbrev pub begins_list : ListOf → Part → Bool
 begins_list list (Parameter token) = false
@@ -51,9 +53,17 @@ characteristics_said text tokens = filter_map (λ token. characteristic_said (sa
 abbrev pub queues_said : List ℕ → List Token → List (List ℕ)
 queues_said text tokens = filter_map (λ token. short_name_said (said_by text token)) tokens
 
--- the lists of a command
+-- the nodes that values name; * names none, and the empty list stands for all
+abbrev pub nodes_said : List ℕ → List Token → List (List ℕ)
+nodes_said text tokens = filter_map (λ token. node_said (said_by text token)) tokens
+
+-- the lists of a command that asks for a request
 abbrev pub lists_of : List ℕ → List Part → Lists
 lists_of text parts = record {
   characteristics = option_map (characteristics_said text) (listed Characteristics parts);
   targets = option_map (queues_said text) (listed Targets parts);
 }
+
+-- the nodes on which the queue manager may run, if they are given
+abbrev pub nodes_of : List ℕ → List Part → Option (List (List ℕ))
+nodes_of text parts = option_map (nodes_said text) (listed Nodes parts)

@@ -1,6 +1,6 @@
 -- What the parts of a command give, one after the other. Of a qualifier that is given twice the last one counts.
 -- DCL Dictionary, on the qualifiers of the commands of queues and jobs.
-use Rattle.std.specs.Prelude.{ℕ, Bool, true, false, if◌then◌else◌, List, [], ◌∷◌, Option, None, Some, Result, Ok, Err, ok_or}
+use Rattle.std.specs.Prelude.{ℕ, Bool, true, false, not, if◌then◌else◌, List, [], ◌∷◌, Option, None, Some, Result, Ok, Err, ok_or}
 use Rattle.qm_kinds.specs.declared.entry.JobRetain.{JobRetain}
 use Rattle.qm_kinds.specs.declared.refusal.ParseKind.TheVariants as fault
 use Rattle.qm_lex.specs.declared.token.Token.{Token}
@@ -17,7 +17,7 @@ use Rattle.qm_dcl.specs.declared.settings.QueueSettings.{QueueSettings}
 use Rattle.qm_dcl.specs.declared.settings.Definition.{Definition}
 use Rattle.qm_dcl.specs.declared.value.Side.{Side}
 use Rattle.qm_dcl.specs.Forms.{default_shape}
-use Rattle.qm_dcl.specs.Given.{with_word, valued, schedule_given, queue_retain_given, with_retain, until_given, after_given, margin_given, parametered}
+use Rattle.qm_dcl.specs.Given.{with_word, valued, node_given, schedule_given, queue_retain_given, with_retain, until_given, after_given, margin_given, parametered}
 use Rattle.qm_dcl.specs.Values.{said_by, raised_by, has_equals, job_retain_said, is_until, side_said, moment_said}
 
 -- the first parameter of these commands is their option
@@ -57,6 +57,7 @@ abbrev pub nothing_given : Command → Settings
 nothing_given c = record {
   awaits_object = has_object c;
   word = None;
+  has_node = false;
   file = None;
   queue = None;
   source = None;
@@ -130,11 +131,35 @@ inner_value (Qualifier word place ∷ parts) = None
 inner_value (Value token ∷ parts) = None
 inner_value (KeyValue token ∷ parts) = Some token
 
+-- the parts begin with one more value
+abbrev pub has_value_ahead : List Part → Bool
+has_value_ahead [] = false
+has_value_ahead (Parameter token ∷ parts) = false
+has_value_ahead (Qualifier word place ∷ parts) = false
+has_value_ahead (Value token ∷ parts) = true
+has_value_ahead (KeyValue token ∷ parts) = false
+
+abbrev pub is_on : Option Word → Bool
+is_on None = false
+is_on (Some words.On) = true
+is_on (Some _) = false
+
+-- the values of this qualifier are the nodes on which the queue manager may run
+abbrev pub lists_nodes : Command → Option Word → Bool
+lists_nodes command.StartManager word = is_on word
+lists_nodes _ word = false
+
+-- a value, with these parts behind it
+abbrev pub with_value_of : ℕ → List ℕ → Command → Settings → Token → List Part → Result Settings Fault
+with_value_of now text c s token behind =
+    if lists_nodes c s.word then or_value_fault token (node_given s (not (has_value_ahead behind)) (said_by text token)) else
+    with_value now text c s s.word token (inner_value behind)
+
 -- one more part, with these behind it; the value behind an = is read with the value in front
 abbrev pub with_part : ℕ → List ℕ → Command → Settings → Part → List Part → Result Settings Fault
 with_part now text c s (Parameter token) behind = with_parameter text c s token
 with_part now text c s (Qualifier word place) behind = Ok (with_word s word)
-with_part now text c s (Value token) behind = with_value now text c s s.word token (inner_value behind)
+with_part now text c s (Value token) behind = with_value_of now text c s token behind
 with_part now text c s (KeyValue token) behind = Ok s
 
 -- ---- all parts

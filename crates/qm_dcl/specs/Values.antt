@@ -82,6 +82,10 @@ is_node_name name = nat_le (length name) NODE_NAME_BYTES
 abbrev pub node_said : List ℕ → Option (List ℕ)
 node_said said = option_and_then (if_passes is_node_name) (name_of said)
 
+-- all nodes
+abbrev pub says_all : List ℕ → Bool
+says_all said = bytes_eq said (codes "*")
+
 -- a number where it is digits alone, and else a name
 abbrev pub reference_said : ℕ → List ℕ → Option NameOrNumber
 reference_said most said = if are_digits said then option_map Number (number_to most said) else option_map Name (short_name_said said)

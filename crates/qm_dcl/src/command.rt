@@ -8,13 +8,13 @@ use crate::built::is_built;
 use crate::define::{characteristic_of, form_of};
 use crate::entry::entry_change_of;
 use crate::fault::DclFault;
-use crate::lists::{Lists, lists_of};
+use crate::lists::{Lists, lists_of, nodes_of};
 use crate::queue::queue_request;
 use crate::settings::{Settings, settings_of};
-use crate::show::query_of;
+use crate::show::{manager_query, query_of};
 use crate::submit::job_of;
 use qm_grammar::{Command, Fault, Parsed, named_command, parse};
-use qm_kinds::{Input, JobKind, Moment, Name, ParseKind, Request};
+use qm_kinds::{Input, JobKind, Moment, Name, ParseKind, Request, Seq};
 use std::alloc::Global;
 
 const NOT_BUILT: Fault = Fault {
@@ -57,11 +57,20 @@ fn request_of(
 }
 
 // What a command asks for, where this form of it is built.
-fn asked(alloc: Global, user: Name, command: Command, s: &Settings, lists: Lists) -> Option<Input>
-    ensures { result ≡ asked user command s.now lists }
+fn asked(
+    alloc: Global,
+    user: Name,
+    command: Command,
+    s: &Settings,
+    lists: Lists,
+    nodes: Option<Seq<Name>>,
+) -> Option<Input>
+    ensures { result ≡ asked user command s.now lists nodes }
 {
     match command {
         Command::ShowEntry => Some(Input::Show(query_of(s.entry?))),
+        Command::ShowManagers => Some(Input::Show(manager_query())),
+        Command::StartManager => Some(Input::TakeManager { on: nodes }),
         _ => Some(Input::Ask(request_of(alloc, user, command, s, lists)?)),
     }
 }
@@ -109,7 +118,10 @@ fn meant(
     let Ok(lists) = lists_of(alloc, text, &parsed.parts) else {
         return Err(DclFault::NoMemory);
     };
-    match asked(alloc, user, command, &s, lists) {
+    let Ok(nodes) = nodes_of(alloc, text, &parsed.parts) else {
+        return Err(DclFault::NoMemory);
+    };
+    match asked(alloc, user, command, &s, lists, nodes) {
         Some(input) => Ok(input),
         None => Err(told(NOT_BUILT)),
     }

@@ -1,13 +1,14 @@
 // What a qualifier, its value, or a parameter gives.
 ghost use Rattle.std.specs.Prelude.{◌≡◌};
 ghost use Rattle.qm_dcl.specs.Forms.{with_default_margins, with_margin};
-ghost use Rattle.qm_dcl.specs.Given.{job_marked, queue_marked, shape_marked, stop_marked, with_word, with_job, with_queue_settings, with_definition, with_shape, queue_given, entry_given, blocks_with, valued, schedule_given, queue_retain_given, with_retain, until_given, after_given, margin_given, definable_given, form_given, characteristic_given, merge_given, file_given, parametered};
+ghost use Rattle.qm_dcl.specs.Given.{job_marked, queue_marked, shape_marked, stop_marked, with_word, with_job, with_queue_settings, with_definition, with_shape, queue_given, entry_given, blocks_with, valued, nodes_begun, node_given, schedule_given, queue_retain_given, with_retain, until_given, after_given, margin_given, definable_given, form_given, characteristic_given, merge_given, file_given, parametered};
 ghost use Rattle.qm_dcl.specs.Values.{raised_by};
 
 use crate::settings::{DEFAULT_SHAPE, Definition, JobSettings, QueueSettings, Settings, Stop};
 use crate::value::{
     Side, are_digits, blocks_said, byte_said, characteristic_said, definable_name_said, entry_said,
-    form_number_said, form_said, location_said, queue_retain_said, schedule_said, short_name_said,
+    form_number_said, form_said, location_said, node_said, queue_retain_said, says_all,
+    schedule_said, short_name_said,
 };
 use qm_grammar::{Command, Word};
 use qm_kinds::{FileName, JobRetain, Moment, Name, QueueRetain, Shape};
@@ -119,6 +120,7 @@ pub(crate) fn with_word(s: &Settings, word: Word) -> Settings
 {
     Settings {
         word: Some(word),
+        has_node: false,
         stop: stop_marked(s.stop, word),
         job: job_marked(s.job, word),
         queue_settings: queue_marked(s.queue_settings, word),
@@ -363,6 +365,35 @@ pub(crate) fn valued(s: &Settings, said: &[u8]) -> Option<Settings>
         Word::Generic => target_listed(s, said),
         _ => None,
     }
+}
+
+// All nodes, where they stand alone.
+fn nodes_begun(s: &Settings, alone: bool) -> Option<Settings>
+    ensures { result ≡ nodes_begun s.now alone }
+{
+    if alone && !s.has_node {
+        Some(Settings {
+            has_node: true,
+            ..*s
+        })
+    } else {
+        None
+    }
+}
+
+/// A node on which the queue manager may run, if it can be one; or all of them, by a `*` with no other value behind it or in
+/// front.
+pub(crate) fn node_given(s: &Settings, alone: bool, said: &[u8]) -> Option<Settings>
+    ensures { result ≡ node_given s.now alone said.now }
+{
+    if says_all(said) {
+        return nodes_begun(s, alone);
+    }
+    node_said(said)?;
+    Some(Settings {
+        has_node: true,
+        ..*s
+    })
 }
 
 /// The order in which jobs start, if it can be one.

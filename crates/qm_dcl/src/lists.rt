@@ -1,9 +1,9 @@
 // The lists that qualifiers give.
 ghost use Rattle.std.specs.Prelude.{◌≡◌, IfOk, option_map};
 ghost use Rattle.std.specs.Option.{option_copied};
-ghost use Rattle.qm_dcl.specs.Lists.{gives, begins_list, behind_last, values_ahead, listed, characteristics_said, queues_said, lists_of};
+ghost use Rattle.qm_dcl.specs.Lists.{gives, begins_list, behind_last, values_ahead, listed, characteristics_said, queues_said, nodes_said, lists_of, nodes_of};
 
-use crate::value::{characteristic_said, said_by, short_name_said};
+use crate::value::{characteristic_said, node_said, said_by, short_name_said};
 use qm_grammar::{Part, Word};
 use qm_kinds::{Name, NameOrNumber, Seq};
 use std::alloc::{AllocError, Global};
@@ -14,9 +14,11 @@ pub(crate) enum ListOf {
     Characteristics,
     /// The queues to which a generic queue passes its jobs on.
     Targets,
+    /// The nodes on which the queue manager may run.
+    Nodes,
 }
 
-/// The lists of a command; none where a list isn't given.
+/// The lists of a command that asks for a request; none where a list isn't given.
 #[derive(Drop)]
 pub(crate) struct Lists {
     pub(crate) characteristics: Option<Seq<NameOrNumber>>,
@@ -31,6 +33,7 @@ fn gives(list: ListOf, word: Word) -> bool
     match (list, word) {
         (ListOf::Characteristics, Word::Characteristics | Word::NoCharacteristics) => true,
         (ListOf::Targets, Word::Generic) => true,
+        (ListOf::Nodes, Word::On) => true,
         _ => false,
     }
 }
@@ -94,6 +97,21 @@ fn queues_ahead(alloc: Global, text: &[u8], parts: &[Part]) -> Result<Seq<Name>,
     Ok(Seq::of(found))
 }
 
+// The nodes that the values name with which parts begin.
+fn nodes_ahead(alloc: Global, text: &[u8], parts: &[Part]) -> Result<Seq<Name>, AllocError>
+    ensures { IfOk result (λ list. list ≡ nodes_said text.now (values_ahead parts.now)) }
+{
+    let mut found = Vec::new(alloc);
+    let mut rest = parts;
+    while let [Part::Value { token }, behind @ ..] = rest {
+        if let Some(name) = node_said(said_by(text, *token)) {
+            found.push(name)?;
+        }
+        rest = behind;
+    }
+    Ok(Seq::of(found))
+}
+
 // The list of characteristics that counts, if one is given.
 fn characteristics_of(
     alloc: Global,
@@ -118,7 +136,24 @@ fn targets_of(alloc: Global, text: &[u8], parts: &[Part]) -> Result<Option<Seq<N
     }
 }
 
-/// The lists of a command, by its parts. It takes time in the number of these, and memory for the lists.
+/// The nodes on which the queue manager may run, by the parts of a command, if they are given. An empty list stands for all
+/// nodes.
+///
+/// Errors: `AllocError`, where memory ran out.
+pub(crate) fn nodes_of(
+    alloc: Global,
+    text: &[u8],
+    parts: &[Part],
+) -> Result<Option<Seq<Name>>, AllocError>
+    ensures { IfOk result (λ nodes. nodes ≡ nodes_of text.now parts.now) }
+{
+    match behind_last(ListOf::Nodes, parts) {
+        Some(behind) => Ok(Some(nodes_ahead(alloc, text, behind)?)),
+        None => Ok(None),
+    }
+}
+
+/// The lists of a command that asks for a request, by its parts. It takes time in the number of these, and memory for the lists.
 ///
 /// Errors: `AllocError`, where memory ran out.
 pub(crate) fn lists_of(alloc: Global, text: &[u8], parts: &[Part]) -> Result<Lists, AllocError>

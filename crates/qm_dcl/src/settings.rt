@@ -1,11 +1,11 @@
 // What the parts of a command give.
 ghost use Rattle.std.specs.Prelude.{◌≡◌};
-ghost use Rattle.qm_dcl.specs.Settings.{has_object, no_job, no_queue_settings, no_definition, nothing_given, or_value_fault, with_parameter, with_key, with_until, with_retain_word, with_job_retain, is_of_queue, with_retained, with_value, inner_value, with_part, settings_of};
+ghost use Rattle.qm_dcl.specs.Settings.{has_object, no_job, no_queue_settings, no_definition, nothing_given, or_value_fault, with_parameter, with_key, with_until, with_retain_word, with_job_retain, is_of_queue, with_retained, with_value, inner_value, has_value_ahead, lists_nodes, with_value_of, with_part, settings_of};
 ghost use Rattle.qm_dcl.specs.Values.{raised_by, side_said};
 
 use crate::given::{
-    after_given, margin_given, parametered, queue_retain_given, schedule_given, until_given,
-    valued, with_retain, with_word,
+    after_given, margin_given, node_given, parametered, queue_retain_given, schedule_given,
+    until_given, valued, with_retain, with_word,
 };
 use crate::value::{
     Location, has_equals, is_until, job_retain_said, moment_said, said_by, side_said,
@@ -79,6 +79,8 @@ pub(crate) struct Settings {
     pub(crate) awaits_object: bool,
     /// The qualifier whose value may come next.
     pub(crate) word: Option<Word>,
+    /// Whether a value of it has named a node on which the queue manager may run, or all of them.
+    pub(crate) has_node: bool,
     pub(crate) file: Option<FileName>,
     /// The name of a queue; where two are merged, of the target.
     pub(crate) queue: Option<Name>,
@@ -158,6 +160,7 @@ fn nothing_given(command: Command) -> Settings
     Settings {
         awaits_object: has_object(command),
         word: None,
+        has_node: false,
         file: None,
         queue: None,
         source: None,
@@ -323,6 +326,45 @@ fn inner_value(behind: &[Part]) -> Option<Token>
     }
 }
 
+// Whether parts begin with one more value.
+fn has_value_ahead(parts: &[Part]) -> bool
+    ensures { result ≡ has_value_ahead parts.now }
+{
+    match parts {
+        [Part::Value { .. }, ..] => true,
+        _ => false,
+    }
+}
+
+// Whether the values of a qualifier are the nodes on which the queue manager may run.
+fn lists_nodes(command: Command, word: Option<Word>) -> bool
+    ensures { result ≡ lists_nodes command word }
+{
+    match (command, word) {
+        (Command::StartManager, Some(Word::On)) => true,
+        _ => false,
+    }
+}
+
+// A value of a qualifier, with these parts behind it.
+fn with_value_of(
+    text: &[u8],
+    now: Moment,
+    command: Command,
+    s: &Settings,
+    token: Token,
+    behind: &[Part],
+) -> Result<Settings, Fault>
+    ensures { result ≡ with_value_of now text.now command s.now token behind.now }
+{
+    if lists_nodes(command, s.word) {
+        let alone = !has_value_ahead(behind);
+        or_value_fault(token, node_given(s, alone, said_by(text, token)))
+    } else {
+        with_value(text, now, command, s, token, inner_value(behind))
+    }
+}
+
 // One more part, with these behind it.
 fn with_part(
     text: &[u8],
@@ -337,7 +379,7 @@ fn with_part(
     match part {
         Part::Parameter { token } => with_parameter(text, command, s, token),
         Part::Qualifier { word, .. } => Ok(with_word(s, word)),
-        Part::Value { token } => with_value(text, now, command, s, token, inner_value(behind)),
+        Part::Value { token } => with_value_of(text, now, command, s, token, behind),
         Part::KeyValue { .. } => Ok(*s),
     }
 }

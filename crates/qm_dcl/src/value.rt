@@ -6,7 +6,7 @@ ghost use Rattle.std.specs.Option.{option_copied};
 ghost use Rattle.std.specs.Str.{bytes_eq};
 ghost use Rattle.qm_grammar.specs.Spelled.{is_raised_to};
 ghost use Rattle.qm_model.specs.Built.{is_definable};
-ghost use Rattle.qm_dcl.specs.Values.{unquoted, said_by, raised_by, are_digits, number_to, byte_said, form_number_said, entry_said, blocks_said, short_name_said, definable_name_said, node_said, reference_said, form_said, characteristic_said, before_colon, device_said, located, location_said, leads_to_equals, has_equals, schedule_said, queue_retain_said, job_retain_said, is_until, side_said, moment_said};
+ghost use Rattle.qm_dcl.specs.Values.{unquoted, said_by, raised_by, are_digits, number_to, byte_said, form_number_said, entry_said, blocks_said, short_name_said, definable_name_said, node_said, says_all, reference_said, form_said, characteristic_said, before_colon, device_said, located, location_said, leads_to_equals, has_equals, schedule_said, queue_retain_said, job_retain_said, is_until, side_said, moment_said};
 
 use qm_digits::number_up_to;
 use qm_grammar::bytes_of;
@@ -159,14 +159,24 @@ fn is_definable(name: Name) -> bool
     name.as_bytes().len() <= SHORT_NAME_BYTES && !all_digits(name.as_bytes())
 }
 
-// The name of a node, of 6 bytes at most.
-fn node_said(said: &[u8]) -> Option<Name>
+/// The name of a node, of 6 bytes at most.
+pub(crate) fn node_said(said: &[u8]) -> Option<Name>
     ensures { result ≡ node_said said.now }
 {
     match Name::read(said) {
         Ok(name) if name.as_bytes().len() <= NODE_NAME_BYTES => Some(name),
         _ => None,
     }
+}
+
+// What stands for all nodes.
+const ALL_NODES: &[u8] = b"*";
+
+/// Whether all nodes are named, by `*`.
+pub(crate) fn says_all(said: &[u8]) -> bool
+    ensures { result ≡ says_all said.now }
+{
+    said == ALL_NODES
 }
 
 // A number, which isn't above the most, where it is digits alone, and else a name.
