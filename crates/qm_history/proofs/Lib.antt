@@ -22,6 +22,7 @@ pub mod ConsecutiveLemmas
 pub mod OneCourse
 pub mod AnswerLemmas
 pub mod TellingLemmas
+pub mod TextLemmas
 pub mod NodeLemmas
 pub mod NotedLemmas
 pub mod ServedLemmas

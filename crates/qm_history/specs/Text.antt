@@ -77,6 +77,39 @@ prefix_of name why.Fetch = name ++ codes " -: "
 prefix_of name why.Report = name ++ codes " -: "
 prefix_of name why.Leave = name ++ codes " -: "
 
+-- the takeover that an answer tells of
+abbrev pub told_takeover : Answer → Option Takeover
+told_takeover (answer.Done took moment reply) = took
+told_takeover (answer.Shown took moment rows) = took
+told_takeover (answer.Duties took moment duties) = took
+told_takeover (answer.Refused took refusal) = took
+told_takeover (answer.Full took need cap) = took
+told_takeover (answer.Journal took live) = took
+told_takeover (answer.Fenced held current) = None
+told_takeover (answer.NoManager took name) = took
+told_takeover (answer.Damaged file place) = None
+told_takeover answer.HistoryFull = None
+told_takeover (answer.NoMemory took) = took
+
+-- what is printed of an answer, behind its takeover, where rows are listed
+abbrev pub listed_lines : FirstLine → Answer → List (List ℕ)
+listed_lines first (answer.Done took moment reply) = if_printed first (act_text reply.act) ++ map start_text reply.started
+listed_lines first (answer.Shown took moment rows) = row_lines rows
+listed_lines first (answer.Duties took moment duties) = if_printed first (codes "runs: " ++ decimal (length duties))
+listed_lines first (answer.Refused took refusal) = refusal_line refusal ∷ []
+listed_lines first (answer.Full took need cap) = full_line need cap ∷ []
+listed_lines first (answer.Journal took live) = journal_line ∷ []
+listed_lines first (answer.Fenced held current) = fenced_line held current ∷ []
+listed_lines first (answer.NoManager took name) = no_manager_line name ∷ []
+listed_lines first (answer.Damaged file place) = []
+listed_lines first answer.HistoryFull = []
+listed_lines first (answer.NoMemory took) = []
+
+-- the text of an answer, and of its takeover in front, where rows are listed: each line behind the node and the number of the
+-- script's line
+abbrev pub answer_text : List ℕ → Why → Answer → List ℕ
+answer_text name because a = behind (prefix_of name because) (takeover_lines (told_takeover a) ++ listed_lines (first_line_of because) a)
+
 -- the names of the nodes whose turns these are
 abbrev pub turn_names : World → List Turn → List ℕ
 turn_names w turns = flat_map (λ (t : Turn). codes " " ++ node_at t.node (system_in w).nodes) turns
@@ -91,31 +124,8 @@ module _ (items_line : Row → List ℕ) where
 
   -- what is printed of an answer, behind its takeover
   abbrev pub answer_lines : FirstLine → Bool → Answer → List (List ℕ)
-  answer_lines first single (answer.Done took moment reply) = if_printed first (act_text reply.act) ++ map start_text reply.started
   answer_lines first single (answer.Shown took moment rows) = shown_lines single rows
-  answer_lines first single (answer.Duties took moment duties) = if_printed first (codes "runs: " ++ decimal (length duties))
-  answer_lines first single (answer.Refused took refusal) = refusal_line refusal ∷ []
-  answer_lines first single (answer.Full took need cap) = full_line need cap ∷ []
-  answer_lines first single (answer.Journal took live) = journal_line ∷ []
-  answer_lines first single (answer.Fenced held current) = fenced_line held current ∷ []
-  answer_lines first single (answer.NoManager took name) = no_manager_line name ∷ []
-  answer_lines first single (answer.Damaged file place) = []
-  answer_lines first single answer.HistoryFull = []
-  answer_lines first single (answer.NoMemory took) = []
-
-  -- the takeover that an answer tells of
-  abbrev pub told_takeover : Answer → Option Takeover
-  told_takeover (answer.Done took moment reply) = took
-  told_takeover (answer.Shown took moment rows) = took
-  told_takeover (answer.Duties took moment duties) = took
-  told_takeover (answer.Refused took refusal) = took
-  told_takeover (answer.Full took need cap) = took
-  told_takeover (answer.Journal took live) = took
-  told_takeover (answer.Fenced held current) = None
-  told_takeover (answer.NoManager took name) = took
-  told_takeover (answer.Damaged file place) = None
-  told_takeover answer.HistoryFull = None
-  told_takeover (answer.NoMemory took) = took
+  answer_lines first single a = listed_lines first a
 
   -- what is printed of a turn, in the world before it
   abbrev pub turn_lines : World → Turn → List (List ℕ)

@@ -1,5 +1,5 @@
 // Turns that change nothing, and texts and courses of histories.
-ghost use Rattle.std.specs.Prelude.{◌≡◌, ◌≢◌, ◌⊎◌, ◌<◌, ℕ, true, List, [], ◌∷◌, ◌++◌, length, Some};
+ghost use Rattle.std.specs.Prelude.{◌≡◌, ◌≢◌, ◌⊎◌, ◌<◌, ℕ, true, false, List, [], ◌∷◌, ◌++◌, length, Some};
 ghost use Rattle.qm_kinds.specs.declared.input.Input.{Input};
 ghost use Rattle.qm_kinds.specs.declared.query.Row.{Row};
 ghost use Rattle.qm_history.specs.Script.{UserLine};
@@ -13,7 +13,9 @@ ghost use Rattle.qm_history.specs.Calls.{input_of};
 ghost use Rattle.qm_history.specs.Course.{Extent, IsCourse};
 ghost use Rattle.qm_history.specs.Happening.{has_fence, IsForManager, IsCompactionAlone};
 ghost use Rattle.qm_history.specs.Legal.{after_turn, after_turns, IsLegalTurn, IsLegal};
-ghost use Rattle.qm_history.specs.Text.{text, text_of_node, visit_text};
+ghost use Rattle.qm_history.specs.Text.{answer_text, is_single, text, text_of_node, visit_text};
+ghost use Rattle.qm_history.specs.Answers.{answer_of};
+ghost use Rattle.qm_model.specs.Standing.{node_at};
 ghost use Rattle.qm_history.specs.Turn.{IsTurnOf, IsCutShort};
 ghost use Rattle.qm_history.specs.Visits.{Visit, visits, visits_of};
 ghost use Rattle.qm_history.specs.World.{system_in, is_live, held_by, IsSound};
@@ -49,6 +51,12 @@ pub fn texts_follow_turns()
     ensures one { (items_line : Row → List ℕ) (w : World) (t : Turn) (turns : List Turn) → text items_line w (t ∷ turns) ≡ visit_text items_line (record { before = w; turn = t }) ++ text items_line (after_turn w t) turns }
     ensures two { (items_line : Row → List ℕ) (w : World) (before behind : List Turn) → text items_line w (before ++ behind) ≡ text items_line w before ++ text items_line (after_turns w before) behind }
     ensures node { (items_line : Row → List ℕ) (node : ℕ) (w : World) (before behind : List Turn) → text_of_node items_line node w (before ++ behind) ≡ text_of_node items_line node w before ++ text_of_node items_line node (after_turns w before) behind }
+{}
+
+/// What is printed of a turn is the text of its answer, whoever says how a row is printed by its items, where the turn shows no
+/// row of a call by an item list.
+pub fn turns_tell_their_answers()
+    ensures { (items_line : Row → List ℕ) (v : Visit) → is_single v.turn.events ≡ false → visit_text items_line v ≡ answer_text (node_at v.turn.node (system_in v.before).nodes) v.turn.why (answer_of v.before v.turn) }
 {}
 
 /// The course of a node is one of its own turns alone, each in the world in which it is made. So it stays where other nodes'

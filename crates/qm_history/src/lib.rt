@@ -45,7 +45,7 @@ pub use events::{
 pub use format::{FileFormat, Format, QueueFile};
 pub use histories::{
     compactions_can_go_and_come, courses_are_of_own_turns, fenced_turns_change_nothing,
-    other_epochs_are_fenced, texts_follow_turns,
+    other_epochs_are_fenced, texts_follow_turns, turns_tell_their_answers,
 };
 pub use marks::entries_have_their_last_marks;
 pub use masters::{masters_are_judged_once, queue_files_read_one_way};
