@@ -1,3 +1,4 @@
 pub mod ActWords
 pub mod Behind
 pub mod Prefix
+pub mod Turns

@@ -1,14 +1,15 @@
 // The lines of a transcript that answer a line of a script.
-ghost use Rattle.std.specs.Prelude.{◌≡◌, ◌≤◌, ◌+◌, length, ◌++◌, ◌∷◌, [], flat_map, IfOk, IfSome, OnOk, Some};
-ghost use Rattle.qm_model.specs.Words.{act_text, refusal_line};
+ghost use Rattle.std.specs.Prelude.{◌≡◌, ◌≤◌, ◌+◌, length, ◌++◌, ◌∷◌, [], flat_map, map, IfOk, IfSome, OnOk, Some};
+ghost use Rattle.qm_model.specs.Words.{act_text, refusal_line, start_text};
 ghost use Rattle.qm_model.specs.Transcript.{full_line, journal_line, number_text, reply_lines, row_lines, runs_line, turn_text};
 ghost use Rattle.qm_show.specs.Prefix.{prefix_text};
+ghost use Rattle.qm_show.specs.Turns.{lines_behind};
 
 use crate::act::{ActWords, StartText, mark_value};
 use crate::refusal::RefusalText;
 use crate::row::{RowText, characters};
 use arrayvec::ArrayString;
-use qm_kinds::{Act, Name, Refusal, Reply, Row};
+use qm_kinds::{Act, Name, Refusal, Reply, Row, Start};
 use std::alloc::{AllocError, Global};
 use std::fmt;
 use std::io::Write;
@@ -33,11 +34,11 @@ impl fmt::Display for Prefix {
     }
 }
 
-// The queue file has no room.
+/// The queue file has no room.
 #[derive(Clone, Copy)]
-struct FullText {
-    need: u64,
-    cap: u64,
+pub(crate) struct FullText {
+    pub(crate) need: u64,
+    pub(crate) cap: u64,
 }
 
 impl fmt::Display for FullText {
@@ -48,8 +49,8 @@ impl fmt::Display for FullText {
     }
 }
 
-// Appends a line of an answer.
-fn push_line<T: fmt::Display + Drop>(
+/// Appends a line of an answer.
+pub(crate) fn push_line<T: fmt::Display + Drop>(
     out: &mut Vec<u8>,
     prefix: &Prefix,
     text: T,
@@ -62,8 +63,8 @@ fn push_line<T: fmt::Display + Drop>(
     }
 }
 
-// Appends the first line of a reply. The value of a mark may be any bytes.
-fn push_act(out: &mut Vec<u8>, prefix: &Prefix, act: &Act) -> Result<(), AllocError>
+/// Appends the first line of a reply. The value of a mark may be any bytes.
+pub(crate) fn push_act(out: &mut Vec<u8>, prefix: &Prefix, act: &Act) -> Result<(), AllocError>
     ensures { OnOk result (out.new.items ≡ out.old.items ++ turn_text prefix.now.node prefix.now.line (act_text act.now)) }
 {
     let Ok(()) = write!(out, "{prefix}{}", ActWords(act)) else {
@@ -71,6 +72,31 @@ fn push_act(out: &mut Vec<u8>, prefix: &Prefix, act: &Act) -> Result<(), AllocEr
     };
     out.extend_from_slice(mark_value(act))?;
     out.push(b'\n')?;
+    Ok(())
+}
+
+/// Appends a line for each job that was started.
+pub(crate) fn push_starts(
+    out: &mut Vec<u8>,
+    prefix: &Prefix,
+    starts: &[Start],
+) -> Result<(), AllocError>
+    ensures { OnOk result (out.new.items ≡ out.old.items ++ lines_behind prefix.now (map start_text starts.now)) }
+{
+    for start in starts {
+        push_line(out, prefix, StartText(start))?;
+    }
+    Ok(())
+}
+
+/// Appends the lines of a listing: how many rows there are, and the rows.
+pub(crate) fn push_rows(out: &mut Vec<u8>, prefix: &Prefix, rows: &[Row]) -> Result<(), AllocError>
+    ensures { OnOk result (out.new.items ≡ out.old.items ++ lines_behind prefix.now (row_lines rows.now)) }
+{
+    push_line(out, prefix, format_args!("rows: {}", rows.len()))?;
+    for row in rows {
+        push_line(out, prefix, RowText(row))?;
+    }
     Ok(())
 }
 
@@ -93,9 +119,7 @@ pub fn show_reply(alloc: Global, prefix: &Prefix, reply: &Reply) -> Result<Vec<u
 {
     let mut text = Vec::new(alloc);
     push_act(&mut text, prefix, &reply.act)?;
-    for start in reply.started.as_slice() {
-        push_line(&mut text, prefix, StartText(start))?;
-    }
+    push_starts(&mut text, prefix, reply.started.as_slice())?;
     Ok(text)
 }
 
@@ -104,10 +128,7 @@ pub fn show_rows(alloc: Global, prefix: &Prefix, rows: &[Row]) -> Result<Vec<u8>
     ensures { IfOk result (λ text. text.items ≡ flat_map (turn_text prefix.now.node prefix.now.line) (row_lines rows.now)) }
 {
     let mut text = Vec::new(alloc);
-    push_line(&mut text, prefix, format_args!("rows: {}", rows.len()))?;
-    for row in rows {
-        push_line(&mut text, prefix, RowText(row))?;
-    }
+    push_rows(&mut text, prefix, rows)?;
     Ok(text)
 }
 

@@ -1,0 +1,184 @@
+// The lines of a transcript that tell of a turn: one call for whatever a call of a node is answered.
+ghost use Rattle.std.specs.Prelude.{◌≡◌, ◌++◌, ◌∷◌, [], map, Some, IfOk, OnOk};
+ghost use Rattle.std.specs.Option.{option_copied};
+ghost use Rattle.qm_model.specs.Words.{act_text, start_text};
+ghost use Rattle.qm_model.specs.Transcript.{runs_line};
+ghost use Rattle.qm_history.specs.Text.{answer_text, fenced_line, first_line_of, if_printed, kept_lines, listed_lines, no_manager_line, takeover_lines, told_takeover};
+ghost use Rattle.qm_show.specs.Turns.{line_of, lines_behind};
+
+use crate::answer::{FullText, Prefix, push_act, push_line, push_rows, push_starts};
+use crate::refusal::RefusalText;
+use qm_history::{Answer, Takeover, Why};
+use qm_kinds::{Act, Name, Reply};
+use std::alloc::{AllocError, Global};
+use std::fmt;
+
+// The node holds another epoch than the present manager's.
+#[derive(Clone, Copy)]
+struct FencedText {
+    held: u64,
+    current: u64,
+}
+
+impl fmt::Display for FencedText {
+    ghost output = { λ t. Some (fenced_line t.held t.current) };
+
+    fn fmt<W: fmt::Write>(&self, f: &mut fmt::Formatter<W>) -> fmt::Result {
+        write!(
+            f,
+            "%QMAN-E-FENCED, held {}, current {}",
+            self.held, self.current
+        )
+    }
+}
+
+// What stands before each line of a turn of a node.
+fn prefix_of(node: &Name, why: Why) -> Prefix
+    ensures node { result.node ≡ node.now }
+    ensures line { result.line ≡ line_of why }
+{
+    let line = match why {
+        Why::Line(line) => Some(line),
+        Why::Fetch | Why::Report | Why::Leave => None,
+    };
+    Prefix { node: *node, line }
+}
+
+// The takeover that an answer tells of.
+fn told_takeover(answer: &Answer) -> Option<&Takeover>
+    ensures { option_copied result ≡ told_takeover answer.now }
+{
+    match answer {
+        Answer::Done { took, .. }
+        | Answer::Shown { took, .. }
+        | Answer::Duties { took, .. }
+        | Answer::Refused { took, .. }
+        | Answer::Full { took, .. }
+        | Answer::Journal { took, .. }
+        | Answer::NoManager { took, .. }
+        | Answer::NoMemory { took } => took.as_ref(),
+        Answer::Fenced { .. } | Answer::Damaged { .. } | Answer::HistoryFull => None,
+    }
+}
+
+// Appends what became of a record in doubt, where one was.
+fn push_kept(out: &mut Vec<u8>, prefix: &Prefix, kept: Option<bool>) -> Result<(), AllocError>
+    ensures { OnOk result (out.new.items ≡ out.old.items ++ lines_behind prefix.now (kept_lines kept)) }
+{
+    match kept {
+        None => Ok(()),
+        Some(true) => push_line(out, prefix, "%QMAN-I-KEPT"),
+        Some(false) => push_line(out, prefix, "%QMAN-I-NOTKEPT"),
+    }
+}
+
+// Appends the lines of a takeover.
+fn push_takeover(
+    out: &mut Vec<u8>,
+    prefix: &Prefix,
+    took: Option<&Takeover>,
+) -> Result<(), AllocError>
+    ensures { OnOk result (out.new.items ≡ out.old.items ++ lines_behind prefix.now (takeover_lines (option_copied took.entry))) }
+{
+    let Some(took) = took else {
+        return Ok(());
+    };
+    push_kept(out, prefix, took.kept)?;
+    push_starts(out, prefix, took.started.as_slice())
+}
+
+// Appends what was done, where the turn tells of it.
+fn push_first_act(out: &mut Vec<u8>, prefix: &Prefix, why: Why, act: &Act) -> Result<(), AllocError>
+    ensures { OnOk result (out.new.items ≡ out.old.items ++ lines_behind prefix.now (if_printed (first_line_of why) (act_text act.now))) }
+{
+    match why {
+        Why::Line(_) | Why::Report => push_act(out, prefix, act),
+        Why::Fetch | Why::Leave => Ok(()),
+    }
+}
+
+// Appends what was done, where the turn tells of it, and the jobs that were started.
+fn push_reply(out: &mut Vec<u8>, prefix: &Prefix, why: Why, reply: &Reply) -> Result<(), AllocError>
+    ensures { OnOk result (out.new.items ≡ out.old.items ++ lines_behind prefix.now
+        (if_printed (first_line_of why) (act_text reply.now.act) ++ map start_text reply.now.started)) }
+{
+    push_first_act(out, prefix, why, &reply.act)?;
+    push_starts(out, prefix, reply.started.as_slice())
+}
+
+// Appends how many runs the node was shown, where the turn tells of it.
+fn push_runs(out: &mut Vec<u8>, prefix: &Prefix, why: Why, count: usize) -> Result<(), AllocError>
+    ensures { OnOk result (out.new.items ≡ out.old.items ++ lines_behind prefix.now (if_printed (first_line_of why) (runs_line count))) }
+{
+    match why {
+        Why::Line(_) | Why::Report => push_line(out, prefix, format_args!("runs: {count}")),
+        Why::Fetch | Why::Leave => Ok(()),
+    }
+}
+
+// Appends the line of a node that may not be queue manager.
+fn push_no_manager(out: &mut Vec<u8>, prefix: &Prefix, node: &Name) -> Result<(), AllocError>
+    ensures { OnOk result (out.new.items ≡ out.old.items ++ lines_behind prefix.now (no_manager_line node.now ∷ [])) }
+{
+    push_line(out, prefix, format_args!("%QMAN-E-NOMANAGER, {node}"))
+}
+
+// Appends the lines of an answer, behind its takeover.
+fn push_answer(
+    out: &mut Vec<u8>,
+    prefix: &Prefix,
+    why: Why,
+    answer: &Answer,
+) -> Result<(), AllocError>
+    ensures { OnOk result (out.new.items ≡ out.old.items ++ lines_behind prefix.now (listed_lines (first_line_of why) answer.now)) }
+{
+    match answer {
+        Answer::Done { reply, .. } => push_reply(out, prefix, why, reply),
+        Answer::Shown { rows, .. } => push_rows(out, prefix, rows.as_slice()),
+        Answer::Duties { duties, .. } => push_runs(out, prefix, why, duties.as_slice().len()),
+        Answer::Refused { refusal, .. } => push_line(
+            out,
+            prefix,
+            format_args!("%QMAN-E-{}", RefusalText(refusal)),
+        ),
+        Answer::Full { need, cap, .. } => push_line(
+            out,
+            prefix,
+            FullText {
+                need: *need,
+                cap: *cap,
+            },
+        ),
+        Answer::Journal { .. } => push_line(out, prefix, "%QMAN-F-JOURNAL"),
+        Answer::Fenced { held, current } => push_line(
+            out,
+            prefix,
+            FencedText {
+                held: *held,
+                current: *current,
+            },
+        ),
+        Answer::NoManager { node, .. } => push_no_manager(out, prefix, node),
+        Answer::Damaged { .. } | Answer::HistoryFull | Answer::NoMemory { .. } => Ok(()),
+    }
+}
+
+/// The lines of a turn of a node: of a takeover, what became of a record in doubt and the jobs that it started; and behind
+/// that what the call was answered. A turn made for a line of the script has its number, and one of the node's own has `-`.
+/// A node's own fetch, and its leave, tell of no more than jobs and faults. Damage, a full history and want of memory have no
+/// line. Memory may run out.
+#[tactic(auto, using(crate::proofs::TurnLines::whole_answer))]
+pub fn show_answer(
+    alloc: Global,
+    node: &Name,
+    why: Why,
+    answer: &Answer,
+) -> Result<Vec<u8>, AllocError>
+    ensures { IfOk result (λ text. text.items ≡ answer_text node.now why answer.now) }
+{
+    let prefix = prefix_of(node, why);
+    let mut text = Vec::new(alloc);
+    push_takeover(&mut text, &prefix, told_takeover(answer))?;
+    push_answer(&mut text, &prefix, why, answer)?;
+    Ok(text)
+}
