@@ -170,6 +170,13 @@ impl ReadyRow {
         self.keys.get(place)
     }
 
+    /// For how many keys there is room, those that are there among them.
+    pub fn room(&self) -> usize
+        ensures { result ≡ length self.now.keys + self.now.spare }
+    {
+        self.keys.len() + self.spare
+    }
+
     /// How many keys there are.
     pub fn len(&self) -> usize
         ensures len { result ≡ length self.now.keys }
