@@ -1,5 +1,5 @@
 -- Rows that stay kept.
-use Rattle.std.proofs.Common.{◌≡◌, ◌∙◌, ℕ, ◌+◌, ◌-◌, ◌<◌, ◌≤◌, true, false, not, cond, is_some, ⊎_elim, Bool, filter, List, [], ◌∷◌, ◌++◌, length, get_or, Option, Some, None, refl, sym, ap, subst, arith}
+use Rattle.std.proofs.Common.{◌≡◌, ◌∙◌, ℕ, ◌+◌, ◌-◌, ◌<◌, ◌≤◌, true, false, not, cond, is_some, ⊎_elim, Bool, filter, List, [], ◌∷◌, ◌++◌, length, get_or, set, Option, Some, None, refl, sym, ap, subst, arith}
 use Rattle.std.proofs.lemmas.Bool.{cases_lt}
 use Rattle.std.specs.Prelude.{IfSome}
 use Rattle.std.specs.Cmp.Lexicographic.{texts_ties}
@@ -9,9 +9,9 @@ use Rattle.qm_keyed.proofs.Rows.{passes, fails, find_at, find_none}
 use Rattle.qm_queues.proofs.Names.{name_of}
 use Rattle.std.specs.Ordering.{is_lt}
 use Rattle.std.specs.Str.{bytes_eq}
-use Rattle.std.proofs.lemmas.List.{get_or_append_left}
-use Rattle.std.proofs.lemmas.List.Elements.{All-append, All-cons, All-nil}
+use Rattle.std.proofs.lemmas.List.{length-append, get_or_append_left, get_or_default, get_or-set_same, get_or-set_other, length-set}
 use Rattle.std.proofs.lemmas.List.Sums.{length-filter, count_by-le-length}
+use Rattle.qm_kinds.specs.declared.entry.Entry.{Entry}
 use Rattle.qm_kinds.specs.declared.queue.Queue.{Queue}
 use Rattle.qm_match.specs.declared.order.Key.{Key}
 use Rattle.qm_model.specs.Find.{name_cmp, queue_named}
@@ -19,28 +19,25 @@ use Rattle.qm_model.specs.Queues.{without_queue}
 use Rattle.qm_model.proofs.InsertLemmas.{fewer, longer, one_goes}
 use Rattle.qm_queues.specs.Queues.{with_queue_put}
 use Rattle.qm_ready.specs.Rows.{Row, key_numbered}
-use Rattle.qm_sched.specs.Ready.{IsRowOf, AreRowsOf, AreReady, HasRoom, KeepsRoom, KeepsKeys, AreKept}
+use Rattle.qm_sched.specs.Ready.{ready_key, IsRowOf, AreRowsOf, AreReady, KeepsRoom, KeepsKeys, AreKept}
+use Rattle.qm_sched.specs.Rooms.{room_of, rooms_of, reach, HaveRoom, AreBounds}
 use Rattle.qm_sched.specs.Tables.{Tables}
 use Rattle.qm_sched.proofs.Each.{AreDone}
+use Rattle.qm_sched.proofs.Bounds.{at_most_more, bounds_behind}
+use Rattle.qm_sched.proofs.Reach.{NoMore}
+use Rattle.qm_sched.proofs.RowPlaces.{no_row, room_at, same_rooms, met_more}
 
 -- ---- room
 
--- less room is there too
-pub less_room : (m n : ℕ) (rows : List Row) → m ≤ n → HasRoom n rows → HasRoom m rows
-less_room m n rows le room = λ k d within. omega (arith, le, room k d within)
-
--- the sum of the keys and of the room for more stays
+-- the room of a row stays
 abbrev pub SameRoom : Row → Row → Type 0
-SameRoom old new = length new.keys + new.spare ≡ length old.keys + old.spare
+SameRoom old new = room_of new ≡ room_of old
 
 -- where each row that is changed keeps its room, all do
 pub keeps_room : (R : ℕ → Row → Row → Type 0) (place : ℕ) (old now : List Row) → AreDone R place old now → ((k : ℕ) (a b : Row) → R k a b → SameRoom a b) → KeepsRoom old now
-keeps_room R place old now done same most room k d within =
-    let inside : k < length old = omega (arith, within, done.count) in
-    ⊎_elim
-    (λ (less : k < place). omega (arith, room k d inside, same k (get_or old k d) (get_or now k d) (done.changed k d less inside)))
-    (λ (past : place ≤ k). subst (λ (r : Row). most ≤ length r.keys + r.spare) (sym (done.left k d past inside)) (room k d inside))
-    (cases_lt k place)
+keeps_room R place old now done same =
+    same_rooms old now done.count
+    (λ k d within. ⊎_elim (λ (less : k < place). same k (get_or old k d) (get_or now k d) (done.changed k d less within)) (λ (past : place ≤ k). ap room_of (done.left k d past within)) (cases_lt k place))
 
 -- those that pass are no more than all
 pub filter_le : {X : Type 0} (p : X → Bool) (xs : List X) → length (filter p xs) ≤ length xs
@@ -55,38 +52,35 @@ same_rows wanted also queues rows same are place q row within =
 
 -- ---- what stays kept
 
-module _ (t : Tables) (rows : List Row) (more_entries more_queues : ℕ) (kept : AreKept t rows more_entries more_queues) where
-  -- there is a row for each of other queues, where these are no more
-  pub enough_for : (u : Tables) → length u.queues ≤ length t.queues → length u.queues ≤ length rows
-  enough_for u no_queue = omega (arith, kept.enough, no_queue)
+module _ (t : Tables) (rows : List Row) (most : List (Option ℕ)) (more : ℕ) (kept : AreKept t rows most more) where
+  module _ (u : Tables) (no_more : NoMore t u) where
+    -- there is a row for each of other queues, where these are no more
+    pub enough_for : length u.queues ≤ length rows
+    enough_for = omega (arith, kept.enough, no_more.queues)
 
-  -- and room for each of other entries
-  pub room_for : (u : Tables) → length u.entries ≤ length t.entries → HasRoom (length u.entries) rows
-  room_for u no_entry = less_room (length u.entries) (length t.entries + more_entries) rows (omega (arith, no_entry)) kept.room
+    -- with room for the jobs that may come there, where these are no more
+    pub room_for : HaveRoom u.queues u.entries (rooms_of rows)
+    room_for place q within = omega (arith, kept.room place q (omega (arith, within, no_more.queues)), no_more.come place q within)
 
-  -- the rows are those of other tables too, with no more entries and queues, and no less room
-  pub kept_for : (u : Tables) → more_entries ≤ u.spare_entries → more_queues ≤ u.spare_queues → length u.queues ≤ length t.queues → length u.entries ≤ length t.entries
-      → AreReady u rows → AreKept u rows more_entries more_queues
-  kept_for u entries queues no_queue no_entry ready = record {
-    one = kept.one;
-    entries = entries;
-    queues = queues;
-    enough = omega (arith, kept.enough, no_queue);
-    room = less_room (length u.entries + more_entries) (length t.entries + more_entries) rows (omega (arith, no_entry)) kept.room;
-    ready = ready;
-  }
+    bounds_for : AreBounds u.queues u.entries most
+    bounds_for place q within =
+        at_most_more (reach u.queues u.entries (get_or u.queues place q)) (reach t.queues t.entries (get_or t.queues place q)) (get_or most place None) (no_more.come place q within)
+        (kept.bounds place q (omega (arith, within, no_more.queues)))
 
-  -- the rows were built anew, or changed one by one
-  pub kept_by : (u : Tables) (now : List Row) → more_entries ≤ u.spare_entries → more_queues ≤ u.spare_queues → length u.queues ≤ length t.queues → length u.entries ≤ length t.entries
-      → length now ≡ length rows → KeepsRoom rows now → AreReady u now → AreKept u now more_entries more_queues
-  kept_by u now entries queues no_queue no_entry count room ready = record {
-    one = kept.one;
-    entries = entries;
-    queues = queues;
-    enough = omega (arith, kept.enough, no_queue, count);
-    room = less_room (length u.entries + more_entries) (length t.entries + more_entries) now (omega (arith, no_entry)) (room (length t.entries + more_entries) kept.room);
-    ready = ready;
-  }
+    -- the rows were built anew, or changed one by one
+    pub kept_by : (now : List Row) → more ≤ u.spare_queues → length now ≡ length rows → KeepsRoom rows now → AreReady u now → AreKept u now most more
+    kept_by now queues count room ready = record {
+      queues = queues;
+      enough = omega (arith, kept.enough, no_more.queues, count);
+      bounded = kept.bounded ∙ sym count;
+      room = subst (HaveRoom u.queues u.entries) (sym room) room_for;
+      bounds = bounds_for;
+      ready = ready;
+    }
+
+    -- the rows are those of other tables too
+    pub kept_for : more ≤ u.spare_queues → AreReady u rows → AreKept u rows most more
+    kept_for queues ready = kept_by rows queues refl refl ready
 
 -- ---- more room
 
@@ -97,15 +91,23 @@ pub record IsWider (place : ℕ) (old new : Row) : Type 0 where
   pub more : old.spare ≤ new.spare
 
 module _ (place : ℕ) (old now : List Row) (done : AreDone IsWider place old now) where
-  wider_room : KeepsRoom old now
-  wider_room most room k d within =
-      let inside : k < length old = omega (arith, within, done.count) in
-      ⊎_elim
-      (λ (less : k < place).
-      let one = done.changed k d less inside in
-      omega (arith, room k d inside, one.more, ap (λ (ks : List Key). length ks) one.keys))
-      (λ (past : place ≤ k). subst (λ (r : Row). most ≤ length r.keys + r.spare) (sym (done.left k d past inside)) (room k d inside))
-      (cases_lt k place)
+  wider_room : (k : ℕ) → k < length old → get_or (rooms_of old) k 0 ≤ get_or (rooms_of now) k 0
+  wider_room k inside =
+      omega (
+        arith,
+        room_at old k no_row inside,
+        room_at now k no_row (omega (arith, inside, done.count)),
+        ⊎_elim
+            (λ (less : k < place). wider (get_or old k no_row) (get_or now k no_row) k (done.changed k no_row less inside))
+            (λ (past : place ≤ k). let same = ap room_of (done.left k no_row past inside) in no_less (room_of (get_or old k no_row)) (room_of (get_or now k no_row)) same)
+            (cases_lt k place),
+      )
+    where
+      wider : (a b : Row) (i : ℕ) → IsWider i a b → room_of a ≤ room_of b
+      wider a b i one = omega (arith, one.more, ap (λ (ks : List Key). length ks) one.keys)
+
+      no_less : (m n : ℕ) → n ≡ m → m ≤ n
+      no_less m n same = omega (arith, same)
 
   pub all_wider : KeepsKeys old now
   all_wider = record {
@@ -125,13 +127,100 @@ same_keys wanted queues old now enough keeps are place q row within =
       keys = λ number. ap (key_numbered number) (keeps.keys place row inside) ∙ one.keys number;
     }
 
--- one row more
-pub room_behind : (most : ℕ) (rows : List Row) (row : Row) → HasRoom most rows → most ≤ length row.keys + row.spare → HasRoom most (rows ++ row ∷ [])
-room_behind most rows row room one = All-append (λ (r : Row). most ≤ length r.keys + r.spare) rows (row ∷ []) room (All-cons (λ (r : Row). most ≤ length r.keys + r.spare) row [] one (All-nil (λ (r : Row). most ≤ length r.keys + r.spare)))
+-- and they stay kept
+pub kept_wider : (t : Tables) (rows now : List Row) (most also : List (Option ℕ)) (more : ℕ) → AreKept t rows most more → KeepsKeys rows now → length also ≡ length most → AreBounds t.queues t.entries also
+    → AreKept t now also more
+kept_wider t rows now most also more kept keeps count bounds = record {
+  queues = kept.queues;
+  enough = omega (arith, kept.enough, keeps.count);
+  bounded = count ∙ kept.bounded ∙ sym keeps.count;
+  room = met_more (reach t.queues t.entries) t.queues (rooms_of rows) (rooms_of now) (λ k within. keeps.room k (omega (arith, within, kept.enough))) kept.room;
+  bounds = bounds;
+  ready = same_keys (ready_key t) t.queues rows now (omega (arith, kept.enough)) keeps kept.ready;
+}
 
+-- what a row is that is wider
+pub wider_here : (rows : List Row) (place : ℕ) (old new : Row) → place < length rows → old ≡ get_or rows place old → new ≡ record old { spare = new.spare } → old.spare ≤ new.spare
+    → (d : Row) → IsWider place (get_or rows place d) new
+wider_here rows place old new inside read same less d =
+    subst (λ (r : Row). IsWider place r new) (read ∙ get_or_default rows place old d inside)
+    (record { schedule = ap (λ (r : Row). r.schedule) same; keys = ap (λ (r : Row). r.keys) same; more = less })
+
+-- where one row more has the room that is asked for
+pub places_more : (queues : List Queue) (entries : List Entry) (taken : Queue → Bool) (more : ℕ) (rows : List Row) (place : ℕ) (q : Queue) (new : Row) → place < length rows → place < length queues → q ≡ get_or queues place q
+    → (taken q ≡ true → reach queues entries q + more ≤ room_of new)
+    → ((k : ℕ) (p : Queue) (row : Row) → k < place → k < length queues → taken (get_or queues k p) ≡ true → reach queues entries (get_or queues k p) + more ≤ room_of (get_or rows k row))
+    → (k : ℕ) (p : Queue) (row : Row) → k < place + 1 → k < length queues → taken (get_or queues k p) ≡ true → reach queues entries (get_or queues k p) + more ≤ room_of (get_or (set rows place new) k row)
+places_more queues entries taken more rows place q new inside within is here before k p row below at takes =
+    ⊎_elim
+    (λ (less : k < place). omega (arith, before k p row less at takes, ap room_of (get_or-set_other rows place k new row (λ same. omega (arith, same, less)))))
+    (λ (past : place ≤ k).
+    let same : place ≡ k = omega (arith, below, past) in
+    let that : get_or queues k p ≡ q = ap (λ (m : ℕ). get_or queues m p) (sym same) ∙ sym (is ∙ get_or_default queues place q p within) in
+    omega (
+      arith,
+      here (ap taken (sym that) ∙ takes),
+      ap (reach queues entries) that,
+      ap (λ (m : ℕ). room_of (get_or (set rows place new) m row)) (sym same),
+      ap room_of (get_or-set_same rows place new row inside),
+    ))
+    (cases_lt k place)
+
+-- one row is wider
+pub wider_set : (rows : List Row) (place : ℕ) (old new : Row) → place < length rows → old ≡ get_or rows place old → IsWider place old new → KeepsKeys rows (set rows place new)
+wider_set rows place old new inside read wider = all_wider_at
+  where
+    at_it : (k : ℕ) (d : Row) → k < length rows → IsWider k (get_or rows k d) (get_or (set rows place new) k d)
+    at_it k d within =
+        ⊎_elim
+        (λ (less : k < place). same k (get_or rows k d) (get_or (set rows place new) k d) (get_or-set_other rows place k new d (λ same. omega (arith, same, less))))
+        (λ (past : place ≤ k). ⊎_elim
+        (λ (more : place < k). same k (get_or rows k d) (get_or (set rows place new) k d) (get_or-set_other rows place k new d (λ same. omega (arith, same, more))))
+        (λ (back : k ≤ place).
+        let here : place ≡ k = omega (arith, past, back) in
+        subst (λ (m : ℕ). IsWider m (get_or rows m d) (get_or (set rows place new) m d)) here
+        (subst (IsWider place (get_or rows place d)) (sym (get_or-set_same rows place new d inside))
+        (subst (λ (r : Row). IsWider place r new) (read ∙ get_or_default rows place old d inside) wider)))
+        (cases_lt place k))
+        (cases_lt k place)
+      where
+        same : (k : ℕ) (a b : Row) → b ≡ a → IsWider k a b
+        same k a b is = record { schedule = ap (λ (r : Row). r.schedule) is; keys = ap (λ (r : Row). r.keys) is; more = omega (arith, ap (λ (r : Row). r.spare) is) }
+
+    all_wider_at : KeepsKeys rows (set rows place new)
+    all_wider_at = all_wider (length rows) rows (set rows place new) (record {
+      count = length-set rows place new;
+      changed = λ k d below within. at_it k d within;
+      left = λ k d past within. absurd (omega (arith, past, within));
+    })
+
+-- one row more
 pub rows_behind : (wanted : Queue → ℕ → Option Key) (queues : List Queue) (rows : List Row) (row : Row) → length queues ≤ length rows → AreRowsOf wanted queues rows → AreRowsOf wanted queues (rows ++ row ∷ [])
 rows_behind wanted queues rows row enough are place q d within =
     subst (IsRowOf (get_or queues place q) (wanted (get_or queues place q))) (sym (get_or_append_left rows (row ∷ []) d place (omega (arith, within, enough)))) (are place q d within)
+
+-- one row more, and one bound
+pub kept_behind : (t : Tables) (rows : List Row) (most : List (Option ℕ)) (more : ℕ) (row : Row) → AreKept t rows most more → 0 < t.spare_queues → AreKept t (rows ++ row ∷ []) (most ++ None ∷ []) 1
+kept_behind t rows most more row kept some =
+    let enough : length t.queues ≤ length rows = omega (arith, kept.enough) in
+    let count = length-append rows (row ∷ []) in
+    record {
+      queues = omega (arith, some);
+      enough = omega (arith, enough, count);
+      bounded = omega (arith, kept.bounded, count, length-append most (None ∷ []));
+      room =
+          met_more (reach t.queues t.entries) t.queues (rooms_of rows) (rooms_of (rows ++ row ∷ []))
+          (λ k within.
+          omega (
+            arith,
+            room_at rows k no_row (omega (arith, within, enough)),
+            room_at (rows ++ row ∷ []) k no_row (omega (arith, within, enough, count)),
+            ap room_of (get_or_append_left rows (row ∷ []) no_row k (omega (arith, within, enough))),
+          ))
+          kept.room;
+      bounds = bounds_behind t.queues t.entries most (omega (arith, enough, kept.bounded)) kept.bounds;
+      ready = rows_behind (ready_key t) t.queues rows row enough kept.ready;
+    }
 
 -- ---- a queue comes or goes
 

@@ -17,6 +17,10 @@ pub mod Each
 pub mod ReadyKeys
 pub mod ReadyQueues
 pub mod RowKeys
+pub mod Reach
+pub mod Bounds
+pub mod RowPlaces
+pub mod PutRows
 pub mod KeptRows
 pub mod RowLoops
 pub mod ReadyRows

@@ -1,5 +1,5 @@
 -- The rows of tables in which one queue got another state, or other settings.
-use Rattle.std.proofs.Common.{◌≡◌, ◌≢◌, ◌∙◌, ℕ, ◌+◌, ◌<◌, ◌≤◌, ⊎_elim, Bool, true, false, cond, ◌&&◌, List, length, get_or, set, map, Option, None, Some, refl, sym, ap, subst, arith}
+use Rattle.std.proofs.Common.{◌≡◌, ◌≢◌, ◌∙◌, ℕ, ◌<◌, ◌≤◌, ⊎_elim, Bool, true, false, cond, ◌&&◌, List, length, get_or, set, map, Option, None, Some, refl, sym, ap, subst, arith}
 use Rattle.std.specs.List.{list_any}
 use Rattle.std.specs.Option.{option_map, option_and_then}
 use Rattle.std.specs.Ordering.{is_eq}
@@ -19,45 +19,61 @@ use Rattle.qm_model.specs.Standing.{with_queue}
 use Rattle.qm_queues.proofs.Names.{name_of}
 use Rattle.qm_ready.specs.Rows.{Row}
 use Rattle.qm_sched.specs.Ready.{key_where_ready, ready_key, IsRowOf, AreReady, KeepsRoom, LeavesKind}
+use Rattle.qm_sched.specs.Rooms.{room_of}
 use Rattle.qm_sched.specs.Tables.{Tables}
 use Rattle.qm_sched.proofs.Counts.{found_passes}
 use Rattle.qm_sched.proofs.KeptRows.{SameRoom, named_at}
+use Rattle.qm_sched.proofs.RowPlaces.{same_rooms}
 use Rattle.qm_sched.proofs.ReadyQueues.{fits_still, named_mapped}
 
 -- ---- one row is another
 
 pub row_set : (rows : List Row) (place : ℕ) (old new : Row) → place < length rows → old ≡ get_or rows place old → SameRoom old new → KeepsRoom rows (set rows place new)
-row_set rows place old new inside read room most has k d within =
-    ⊎_elim
-    (λ (less : k < place). subst (λ (r : Row). most ≤ length r.keys + r.spare) (sym (get_or-set_other rows place k new d (λ same. omega (arith, same, less)))) (has k d there))
-    (λ (past : place ≤ k). ⊎_elim
-    (λ (more : place < k). subst (λ (r : Row). most ≤ length r.keys + r.spare) (sym (get_or-set_other rows place k new d (λ same. omega (arith, same, more)))) (has k d there))
-    (λ (back : k ≤ place).
-    let here : place ≡ k = omega (arith, past, back) in
-    let at = subst (λ (r : Row). most ≤ length r.keys + r.spare) (sym read) (has place old inside) in
-    subst (λ (m : ℕ). most ≤ length (get_or (set rows place new) m d).keys + (get_or (set rows place new) m d).spare) here
-    (subst (λ (r : Row). most ≤ length r.keys + r.spare) (sym (get_or-set_same rows place new d inside)) (omega (arith, at, room))))
-    (cases_lt place k))
-    (cases_lt k place)
+row_set rows place old new inside read room = same_rooms rows (set rows place new) (length-set rows place new) at_it
   where
-    there : k < length rows
-    there = omega (arith, within, length-set rows place new)
+    at_it : (k : ℕ) (d : Row) → k < length rows → room_of (get_or (set rows place new) k d) ≡ room_of (get_or rows k d)
+    at_it k d within =
+        ⊎_elim
+        (λ (less : k < place). ap room_of (get_or-set_other rows place k new d (λ same. omega (arith, same, less))))
+        (λ (past : place ≤ k). ⊎_elim
+        (λ (more : place < k). ap room_of (get_or-set_other rows place k new d (λ same. omega (arith, same, more))))
+        (λ (back : k ≤ place).
+        let here : place ≡ k = omega (arith, past, back) in
+        subst (λ (m : ℕ). room_of (get_or (set rows place new) m d) ≡ room_of (get_or rows m d)) here
+        (ap room_of (get_or-set_same rows place new d inside) ∙ room ∙ ap room_of (read ∙ get_or_default rows place old d inside)))
+        (cases_lt place k))
+        (cases_lt k place)
 
 -- ---- what fits the others
 
 found_has : (name : List ℕ) (p : Queue) (qs : List Queue) → queue_named name qs ≡ Some p → bytes_eq p.name name ≡ true
 found_has name p qs found = found_passes (λ (q : Queue). bytes_eq q.name name) p qs found
 
+-- the queue of a name is changed
+abbrev pub one_changed : List ℕ → (Queue → Queue) → Queue → Queue
+one_changed name change q = cond (bytes_eq q.name name) (change q) q
+
+module _ (name : List ℕ) (change : Queue → Queue) (leaves : LeavesKind change) where
+  pub one_name : (q : Queue) → (one_changed name change q).name ≡ q.name
+  one_name q = at_it (bytes_eq q.name name)
+    where
+      at_it : (b : Bool) → (cond b (change q) q).name ≡ q.name
+      at_it true = leaves.name q
+      at_it false = refl
+
+  pub one_targets : (q : Queue) → (one_changed name change q).targets ≡ q.targets
+  one_targets q = at_it (bytes_eq q.name name)
+    where
+      at_it : (b : Bool) → (cond b (change q) q).targets ≡ q.targets
+      at_it true = leaves.targets q
+      at_it false = refl
+
 module _ (t : Tables) (name : List ℕ) (change : Queue → Queue) (leaves : LeavesKind change) where
   abbrev g : Queue → Queue
-  g q = cond (bytes_eq q.name name) (change q) q
-
-  names_at : (q : Queue) (b : Bool) → (cond b (change q) q).name ≡ q.name
-  names_at q true = leaves.name q
-  names_at q false = refl
+  g = one_changed name change
 
   names : (q : Queue) → (g q).name ≡ q.name
-  names q = names_at q (bytes_eq q.name name)
+  names = one_name name change leaves
 
   module _ (place : ℕ) (stands : StandsAt name_cmp name_of name (map g t.queues) place) (kind : (q : Queue) → is_generic (get_or (map g t.queues) place q).kind ≡ false) where
     -- the queue of the name is no generic one

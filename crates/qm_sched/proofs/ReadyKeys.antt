@@ -158,6 +158,13 @@ number_reset name e = either (is_running_in name e.state)
     either true = refl
     either false = refl
 
+pub home_reset : (name : List ℕ) (e : Entry) → (reset_in name e).home ≡ e.home
+home_reset name e = either (is_running_in name e.state)
+  where
+    either : (b : Bool) → (cond b (with_fate (reset_fate e) e) e).home ≡ e.home
+    either true = refl
+    either false = refl
+
 -- a change that no row sees
 module _ (kw : Entry → Option Key) (f : Entry → Entry) (same : (e : Entry) → kw (f e) ≡ kw e) where
   unseen : (o : Option Entry) → option_and_then kw (option_map f o) ≡ option_and_then kw o

@@ -1,5 +1,5 @@
 -- What a change of one row makes of its keys.
-use Rattle.std.proofs.Common.{◌≡◌, ◌≢◌, ◌∙◌, ℕ, ◌+◌, ◌<◌, ◌≤◌, ◌==◌, Bool, true, false, cond, ◌&&◌, List, [], ◌∷◌, ◌++◌, length, get_or, take, map, filter, Option, None, Some, is_some, refl, sym, ap, arith}
+use Rattle.std.proofs.Common.{◌≡◌, ◌≢◌, ◌∙◌, ℕ, ◌+◌, ◌<◌, ◌≤◌, ◌==◌, Bool, true, false, cond, ◌&&◌, List, [], ◌∷◌, ◌++◌, length, get_or, take, map, filter, Option, None, Some, is_some, refl, sym, ap, subst, arith}
 use Rattle.std.specs.Prelude.{IsSome}
 use Rattle.std.specs.List.{All, AllPairs}
 use Rattle.std.specs.Option.{option_map_or, option_and_then}
@@ -9,6 +9,8 @@ use Rattle.std.proofs.lemmas.Bool.Decides.{nat_tests}
 use Rattle.std.proofs.lemmas.List.{append-nil, map-append}
 use Rattle.std.proofs.lemmas.List.Elements.{All-head, All-tail, All-cons, All-nil, filter_more}
 use Rattle.std.proofs.lemmas.List.Kept.{AllPairs-filter}
+use Rattle.std.proofs.lemmas.List.Sums.{length-filter}
+use Rattle.std.proofs.lemmas.Option.{same_Some}
 use Rattle.qm_kinds.specs.declared.entry.Entry.{Entry}
 use Rattle.qm_kinds.specs.declared.queue.Queue.{Queue}
 use Rattle.qm_keyed.proofs.Pairs.{pairs_nil, pairs_cons, pairs_first, pairs_tail}
@@ -22,10 +24,28 @@ use Rattle.qm_ready.specs.Rows.{Row, HasNumbersOnce, key_numbered, is_key, has_k
 use Rattle.qm_ready.proofs.Jobs.{no_more}
 use Rattle.qm_ready.proofs.Numbers.{absent_all}
 use Rattle.qm_sched.specs.Ready.{key_where_ready, ready_key, without_number, IsRowOf}
+use Rattle.qm_sched.specs.Rooms.{reach, room_of}
 use Rattle.qm_sched.specs.Tables.{Tables, with_tables}
+use Rattle.qm_sched.proofs.Reach.{fitting_reach}
 use Rattle.qm_sched.proofs.ReadyKeys.{itself, same_number}
 
 -- ---- the key of an entry goes or comes
+
+still_at : (p : Entry → Bool) (m : ℕ) (x y : Entry) (ys : List Entry) (a b : Bool) → (y.number == m) ≡ a → p y ≡ b → cond a (Some y) (entry_numbered m ys) ≡ Some x → p x ≡ true
+    → (entry_numbered m ys ≡ Some x → is_some (entry_numbered m (filter p ys)) ≡ true) → is_some (entry_numbered m (cond b (y ∷ filter p ys) (filter p ys))) ≡ true
+still_at p m x y ys true true is also found passes later = ap (λ (c : Bool). is_some (cond c (Some y) (entry_numbered m (filter p ys)))) is
+still_at p m x y ys true false is also found passes later = let same : y ≡ x = same_Some y x found in absurd (let no : false ≡ true = sym also ∙ ap p same ∙ passes in cc)
+still_at p m x y ys false true is also found passes later = ap (λ (c : Bool). is_some (cond c (Some y) (entry_numbered m (filter p ys)))) is ∙ later found
+still_at p m x y ys false false is also found passes later = later found
+
+-- what is found under a number, and passes, is found among those that pass
+still_numbered : (p : Entry → Bool) (m : ℕ) (x : Entry) (es : List Entry) → entry_numbered m es ≡ Some x → p x ≡ true → is_some (entry_numbered m (filter p es)) ≡ true
+still_numbered p m x [] found passes = absurd (cc)
+still_numbered p m x (y ∷ ys) found passes = still_at p m x y ys (y.number == m) (p y) refl refl found passes (λ later. still_numbered p m x ys later passes)
+
+only_some : (b : Bool) (k : Key) → is_some (cond b (Some k) None) ≡ true → b ≡ true
+only_some true k h = refl
+only_some false k h = absurd (cc)
 
 its_key : (k : Key) → is_key k k ≡ true
 its_key k = ap (λ (b : Bool). b && k.size == k.size && k.number == k.number) (itself k.priority) ∙ ap (λ (b : Bool). b && k.number == k.number) (itself k.size) ∙ itself k.number
@@ -34,8 +54,11 @@ module _ (t : Tables) (q : Queue) (e : Entry) (there : entry_numbered e.number t
   ready_is : ready_key t q e.number ≡ key_where_ready t q e
   ready_is = ap (option_and_then (key_where_ready t q)) there
 
+  abbrev fitting : Entry → Bool
+  fitting x = fits (with_tables no_system t) x q
+
   abbrev fit : Bool
-  fit = fits (with_tables no_system t) e q
+  fit = fitting e
 
   found_is : (old : Row) → IsRowOf q (ready_key t q) old → has_key (key_of e) old.keys ≡ fit
   found_is old is = ap (λ (o : Option Key). option_map_or (is_key (key_of e)) o false) (is.keys e.number ∙ ready_is) ∙ at_it fit
@@ -88,22 +111,29 @@ module _ (t : Tables) (q : Queue) (e : Entry) (there : entry_numbered e.number t
     pub once_with : HasNumbersOnce old.keys → HasNumbersOnce (key_of e ∷ old.keys)
     once_with once = pairs_cons (λ (a b : Key). a.number ≢ b.number) (key_of e) old.keys others once
 
-    there_at : (m : ℕ) (o : Option Entry) → is_some (option_and_then (key_where_ready t q) o) ≡ true → is_some o ≡ true
-    there_at m None has = has
-    there_at m (Some x) has = refl
+    fitting_at : (m : ℕ) (o : Option Entry) → entry_numbered m t.entries ≡ o → is_some (option_and_then (key_where_ready t q) o) ≡ true → is_some (entry_numbered m (filter fitting t.entries)) ≡ true
+    fitting_at m None found has = absurd (cc)
+    fitting_at m (Some x) found has = still_numbered fitting m x t.entries found (only_some (fitting x) (key_of x) has)
 
-    pub each_there : (m : ℕ) → IsSome (key_numbered m (key_of e ∷ old.keys)) → IsSome (entry_numbered m t.entries)
-    each_there m has = at_it (e.number == m) refl has
+    each_fits : fit ≡ true → (m : ℕ) → IsSome (key_numbered m (key_of e ∷ old.keys)) → IsSome (entry_numbered m (filter fitting t.entries))
+    each_fits fits_it m has = at_it (e.number == m) refl has
       where
-        at_it : (c : Bool) → (e.number == m) ≡ c → is_some (cond c (Some (key_of e)) (key_numbered m old.keys)) ≡ true → is_some (entry_numbered m t.entries) ≡ true
-        at_it true same some = ap (λ (n : ℕ). is_some (entry_numbered n t.entries)) (sym (same_number e.number m same)) ∙ ap is_some there
+        at_it : (c : Bool) → (e.number == m) ≡ c → is_some (cond c (Some (key_of e)) (key_numbered m old.keys)) ≡ true → is_some (entry_numbered m (filter fitting t.entries)) ≡ true
+        at_it true same some = subst (λ (n : ℕ). is_some (entry_numbered n (filter fitting t.entries)) ≡ true) (same_number e.number m same) (still_numbered fitting e.number e t.entries there fits_it)
         at_it false same some =
-            there_at m (entry_numbered m t.entries)
+            fitting_at m (entry_numbered m t.entries) refl
             (ap is_some (sym (is.keys m ∙ ap (λ (b : Bool). cond b None (ready_key t q m)) same)) ∙ some)
 
-    -- and there is room for it, where there is room for each entry
-    pub has_room : HasNumbersOnce old.keys → length t.entries ≤ length old.keys + old.spare → 0 < old.spare
-    has_room once room = omega (arith, room, no_more (key_of e ∷ old.keys) t.entries (once_with once) each_there)
+    -- and there is room for it, where there is room for each job that may come
+    pub has_room : HasNumbersOnce old.keys → fit ≡ true → reach t.queues t.entries q ≤ room_of old → 0 < old.spare
+    has_room once fits_it room =
+        omega (
+          arith,
+          room,
+          no_more (key_of e ∷ old.keys) (filter fitting t.entries) (once_with once) (each_fits fits_it),
+          length-filter fitting t.entries,
+          fitting_reach (with_tables no_system t) q t.entries,
+        )
 
 -- ---- the keys of a walk over the entries
 

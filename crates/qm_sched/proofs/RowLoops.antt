@@ -8,10 +8,18 @@ use Rattle.qm_model.specs.Find.{entry_numbered}
 use Rattle.qm_match.specs.declared.order.Key.{Key}
 use Rattle.qm_ready.specs.Rows.{Row, has_key, key_numbered, without}
 use Rattle.qm_sched.specs.Ready.{ready_key, without_number, IsRowOf, AreRowsOf, KeepsRoom}
+use Rattle.qm_sched.specs.Rooms.{reach, room_of, rooms_of, HaveRoom}
 use Rattle.qm_sched.specs.Tables.{Tables}
 use Rattle.qm_sched.proofs.Each.{AreDone}
 use Rattle.qm_sched.proofs.KeptRows.{SameRoom, keeps_room}
 use Rattle.qm_sched.proofs.RowKeys.{forgotten}
+use Rattle.qm_sched.proofs.RowPlaces.{room_at}
+
+-- the row of a queue has room for the jobs that may come there
+pub room_here : (queues : List Queue) (es : List Entry) (place : ℕ) (q : Queue) (row : Row) (rows : List Row) → HaveRoom queues es (rooms_of rows)
+    → place < length queues → length queues ≤ length rows → q ≡ get_or queues place q → row ≡ get_or rows place row → reach queues es q ≤ room_of row
+room_here queues es place q row rows room within enough is read =
+    omega (arith, room place q within, ap (reach queues es) is, room_at rows place row (omega (arith, within, enough)), ap room_of read)
 
 -- the row of a queue has what is wanted now, and the room that it had
 pub record IsMade (wanted : Queue → ℕ → Option Key) (queues : List Queue) (place : ℕ) (old new : Row) : Type 0 where
@@ -33,6 +41,19 @@ module _ (wanted : Queue → ℕ → Option Key) (queues : List Queue) where
 
   pub room_kept : (place : ℕ) (old now : List Row) → AreDone (IsMade wanted queues) place old now → KeepsRoom old now
   room_kept place old now done = keeps_room (IsMade wanted queues) place old now done (λ k a b is. is.room)
+
+  -- the row that is next to be changed has the room that it had
+  pub room_next : (es : List Entry) (place : ℕ) (q : Queue) (row : Row) (old now : List Row) → AreDone (IsMade wanted queues) place old now → HaveRoom queues es (rooms_of old)
+      → place < length queues → length queues ≤ length old → q ≡ get_or queues place q → row ≡ get_or now place row → reach queues es q ≤ room_of row
+  room_next es place q row old now done room within enough is read =
+      let inside : place < length old = omega (arith, within, enough) in
+      omega (
+        arith,
+        room place q within,
+        ap (reach queues es) is,
+        room_at old place row inside,
+        ap room_of (read ∙ done.left place row (omega arith) inside),
+      )
 
   -- the row that is next to be changed is as it was
   pub row_next : (also : Queue → ℕ → Option Key) (place : ℕ) (q : Queue) (row : Row) (old now : List Row) → AreDone (IsMade wanted queues) place old now → AreRowsOf also queues old

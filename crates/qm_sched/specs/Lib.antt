@@ -1,4 +1,5 @@
 pub mod Tables
+pub mod Rooms
 pub mod Mirror
 pub mod Choosing
 pub mod Starts

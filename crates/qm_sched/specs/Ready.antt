@@ -1,5 +1,5 @@
 -- The jobs that are ready for a queue, and the rows of their keys.
-use Rattle.std.specs.Prelude.{◌≡◌, ◌<◌, ◌≤◌, ◌+◌, ◌==◌, ℕ, if◌then◌else◌, List, length, All, Option, None, Some, slice_index_or}
+use Rattle.std.specs.Prelude.{◌≡◌, ◌<◌, ◌≤◌, ◌+◌, ◌==◌, ℕ, if◌then◌else◌, List, length, Option, None, Some, slice_index_or}
 use Rattle.std.specs.Option.{option_and_then}
 use Rattle.qm_kinds.specs.declared.entry.Entry.{Entry}
 use Rattle.qm_kinds.specs.declared.queue.Queue.{Queue}
@@ -9,6 +9,7 @@ use Rattle.qm_model.specs.Find.{entry_numbered}
 use Rattle.qm_model.specs.Fitting.{fits}
 use Rattle.qm_model.specs.Folding.{no_system}
 use Rattle.qm_ready.specs.Rows.{Row, key_numbered}
+use Rattle.qm_sched.specs.Rooms.{rooms_of, HaveRoom, AreBounds}
 use Rattle.qm_sched.specs.Tables.{Tables, with_tables}
 
 -- the key of a job, where it fits the queue
@@ -41,32 +42,29 @@ without_number n wanted number = if n == number then None else wanted number
 abbrev pub AreReadyBut : ℕ → Tables → List Row → Type 0
 AreReadyBut n t rows = AreRowsOf (λ q. without_number n (ready_key t q)) t.queues rows
 
--- a change of a queue that leaves its name and its kind
+-- a change of a queue that leaves its name, its kind and its targets
 pub record LeavesKind (change : Queue → Queue) : Type 0 where
   pub name : (q : Queue) → (change q).name ≡ q.name
   pub kind : (q : Queue) → (change q).kind ≡ q.kind
-
--- each row has room for so many keys, those that it has counted among them
-abbrev pub HasRoom : ℕ → List Row → Type 0
-HasRoom most rows = All (λ row. most ≤ length row.keys + row.spare) rows
+  pub targets : (q : Queue) → (change q).targets ≡ q.targets
 
 -- the room that each row had it has
 abbrev pub KeepsRoom : List Row → List Row → Type 0
-KeepsRoom old new = (most : ℕ) → HasRoom most old → HasRoom most new
+KeepsRoom old new = rooms_of new ≡ rooms_of old
 
 -- the rows have the keys that they had, and no less room
 pub record KeepsKeys (old new : List Row) : Type 0 where
   pub count : length new ≡ length old
   pub schedules : (place : ℕ) (row : Row) → place < length old → (slice_index_or new place row).schedule ≡ (slice_index_or old place row).schedule
   pub keys : (place : ℕ) (row : Row) → place < length old → (slice_index_or new place row).keys ≡ (slice_index_or old place row).keys
-  pub room : KeepsRoom old new
+  pub room : (place : ℕ) → place < length old → slice_index_or (rooms_of old) place 0 ≤ slice_index_or (rooms_of new) place 0
 
--- The rows are those of the jobs that are ready, there is one for each queue and for so many more, and each has room for every
--- entry and for so many more.
-pub record AreKept (t : Tables) (rows : List Row) (more_entries more_queues : ℕ) : Type 0 where
-  pub one : more_entries ≤ 1
-  pub entries : more_entries ≤ t.spare_entries
+-- The rows are those of the jobs that are ready, there is one for each queue and for so many more, and each has room for every job
+-- that may come to its queue. There are as many bounds as rows.
+pub record AreKept (t : Tables) (rows : List Row) (most : List (Option ℕ)) (more_queues : ℕ) : Type 0 where
   pub queues : more_queues ≤ t.spare_queues
   pub enough : length t.queues + more_queues ≤ length rows
-  pub room : HasRoom (length t.entries + more_entries) rows
+  pub bounded : length most ≡ length rows
+  pub room : HaveRoom t.queues t.entries (rooms_of rows)
+  pub bounds : AreBounds t.queues t.entries most
   pub ready : AreReady t rows

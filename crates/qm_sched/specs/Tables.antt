@@ -8,7 +8,7 @@ use Rattle.qm_kinds.specs.declared.system.Node.{Node}
 use Rattle.qm_kinds.specs.declared.system.System.{System}
 
 -- the forms, the characteristics and the entries by number, the queues by name, the number of the next run, the timers in order of
--- their moments, and how many more of each have room
+-- their moments, how many more of each have room, and for how many jobs the rows of the queues have room, in their order
 pub record Tables : Type 0 where
   pub nodes : List Node
   pub forms : List Form
@@ -23,6 +23,7 @@ pub record Tables : Type 0 where
   pub spare_entries : ℕ
   pub spare_runs : ℕ
   pub spare_timers : ℕ
+  pub rooms : List ℕ
 
 -- the system with what the tables hold in place of its own
 abbrev pub with_tables : System → Tables → System

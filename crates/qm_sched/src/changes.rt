@@ -1,10 +1,12 @@
 // What becomes of the tables, with the rows of ready jobs.
 ghost use Rattle.std.specs.Prelude.{◌≡◌, ◌≤◌, ◌<◌, ◌+◌, ◌-◌, ◌^◌, ◌++◌, ◌∷◌, [], All, IfSome, None, Some, false, if◌then◌else◌, is_some, length, not, map, filter, find, count_by};
 ghost use Rattle.std.specs.Option.{option_map, option_and_then};
+ghost use Rattle.std.specs.Ordering.{nat_cmp};
 ghost use Rattle.std.specs.Str.{bytes_eq};
 ghost use Rattle.qm_kinds.specs.declared.entry.EntryState.TheVariants.{Pending, Running};
 ghost use Rattle.qm_kinds.specs.declared.limits.TheConstants.{END_OF_RUNS, LAST_CHARACTERISTIC};
 ghost use Rattle.qm_model.specs.Characteristics.{is_characteristic_taken};
+ghost use Rattle.qm_model.specs.Consistent.{IsInOrder};
 ghost use Rattle.qm_model.specs.Due.{is_over, entry_at};
 ghost use Rattle.qm_model.specs.Find.{entry_numbered, queue_named};
 ghost use Rattle.qm_model.specs.Forms.{is_form_taken};
@@ -19,9 +21,11 @@ ghost use Rattle.qm_forms.specs.Forms.{without_form, without_characteristic};
 ghost use Rattle.qm_queues.specs.Queues.{with_queue_put};
 ghost use Rattle.qm_queues.specs.Settings.{with_settings_and_state};
 ghost use Rattle.qm_sched.specs.Mirror.{run_of_entry};
+ghost use Rattle.qm_sched.specs.Rooms.{AreBounds, CanPut, HavePlacesFor, is_home};
 
 use crate::parts::Parts;
-use crate::rows::{admit_number, forget_number, refill_all, refill_for};
+use crate::rooms::{forget_each, raise_each};
+use crate::rows::{admit_number, close_up, forget_number, make_way, refill_all, refill_for};
 use crate::tables::TableSet;
 use qm_kinds::{Characteristic, Entry, Fate, Form, Moment, Name, Queue, QueueState};
 use qm_queues::Settings;
@@ -48,20 +52,38 @@ fn room_without(tables: &TableSet, name: &Name, room: usize) -> usize
     }
 }
 
+// The bounds once an entry stands in the place of the one of its number: where it has another home, one job more may come to the
+// queues that this leads to.
+fn raise_moved(tables: &TableSet, bounds: &mut Vec<Option<usize>>, entry: &Entry)
+    requires enough { length tables.now.queues ≤ length bounds.old.items }
+    requires bounds { AreBounds tables.now.queues tables.now.entries bounds.old.items }
+    ensures bounds { AreBounds tables.now.queues (with_entry entry.now.number (λ e. Some entry.now) tables.now.entries) bounds.new.items }
+    ensures count { length bounds.new.items ≡ length bounds.old.items }
+    ensures in_order { IsInOrder nat_cmp (λ e. e.number) tables.now.entries }
+{
+    let Some(old) = tables.entry(entry.number) else {
+        return;
+    };
+    if old.home != entry.home {
+        raise_each(tables, bounds, &entry.home);
+    }
+}
+
 // One entry comes, goes or changes: its key goes from the rows where it stood, and comes into those where it fits.
 impl Parts {
-    /// Puts in an entry that has no run, and for which there is room. Its number is greater than all others. It moves no
+    /// Puts in an entry that has no run, and for which there is room, in the rows too. Its number is greater than all others. It moves no
     /// entry.
     pub fn insert_entry(&mut self, entry: Entry)
         requires room { 0 < self.old.spare_entries }
         requires last { All (λ e. e.number < entry.number) self.old.entries }
         requires no_run { run_of entry.state ≡ None }
+        requires places { HavePlacesFor entry.home 1 self.old }
         ensures { self.new ≡ record self.old { entries = self.old.entries ++ entry ∷ []; spare_entries = self.old.spare_entries - 1 } }
     {
         let number = entry.number;
+        raise_each(&self.tables, &mut self.bounds, &entry.home);
         self.tables.insert_entry(entry);
         admit_number(&self.tables, &mut self.rows, number);
-        self.entry_room -= 1;
     }
 
     /// Takes out the entry of a number and the run that it may have, and gives the entry. Where there is none, nothing
@@ -76,13 +98,16 @@ impl Parts {
     }
 
     /// Puts an entry in the place of the one of its number, whose run it keeps or has no more. Where there is none, nothing
-    /// changes. It asks logarithms of the entries and the runs, and moves the runs that stand behind.
+    /// changes. Where it has another home there is room for it in the rows. It asks logarithms of the entries and the runs, and
+    /// moves the runs that stand behind.
     pub fn replace_entry(&mut self, entry: Entry)
-        requires { IfSome (run_of_entry entry) (λ run. option_and_then run_of_entry (entry_numbered entry.number self.old.entries) ≡ Some run) }
+        requires places { IfSome (entry_numbered entry.number self.old.entries) (λ old. bytes_eq old.home entry.home ≡ false → HavePlacesFor entry.home 1 self.old) }
+        requires run { IfSome (run_of_entry entry) (λ run. option_and_then run_of_entry (entry_numbered entry.number self.old.entries) ≡ Some run) }
         ensures room { self.old.spare_runs ≤ self.new.spare_runs }
         ensures tables { self.new ≡ record self.old { entries = with_entry entry.number (λ e. Some entry) self.old.entries; spare_runs = self.new.spare_runs } }
     {
         let number = entry.number;
+        raise_moved(&self.tables, &mut self.bounds, &entry);
         forget_number(&self.tables, &mut self.rows, number);
         self.tables.replace_entry(entry);
         admit_number(&self.tables, &mut self.rows, number);
@@ -196,16 +221,19 @@ impl Parts {
         refill_for(self.alloc, &self.tables, &mut self.rows, name);
     }
 
-    /// Puts a queue in its place by name, for which there is room. It takes the place of any other of its name. It moves
+    /// Puts a queue in its place by name, for which there is room, with its row. It takes the place of any other of its name. It moves
     /// the queues that stand behind.
     pub fn put_queue(&mut self, queue: Queue)
-        requires { 0 < self.old.spare_queues }
+        requires { CanPut queue self.old }
         ensures { self.new ≡ record self.old {
           queues = with_queue_put queue self.old.queues;
           spare_queues = if is_some (queue_named queue.name self.old.queues) then self.old.spare_queues else self.old.spare_queues - 1;
+          rooms = self.new.rooms;
         } }
     {
         self.queue_room = room_with(&self.tables, &queue.name, self.queue_room);
+        make_way(self.tables.queues(), &mut self.rows, &queue.name);
+        forget_each(&mut self.bounds);
         self.tables.put_queue(queue);
         refill_all(self.alloc, &self.tables, &mut self.rows);
     }
@@ -215,9 +243,12 @@ impl Parts {
         ensures { self.new ≡ record self.old {
           queues = without_queue name.now self.old.queues;
           spare_queues = if is_some (queue_named name.now self.old.queues) then self.old.spare_queues + 1 else self.old.spare_queues;
+          rooms = self.new.rooms;
         } }
     {
         self.queue_room = room_without(&self.tables, name, self.queue_room);
+        close_up(self.tables.queues(), &mut self.rows, name);
+        forget_each(&mut self.bounds);
         self.tables.remove_queue(name);
         refill_all(self.alloc, &self.tables, &mut self.rows);
     }
@@ -238,13 +269,15 @@ impl Parts {
         refill_all(self.alloc, &self.tables, &mut self.rows);
     }
 
-    /// Gives each job that waits in the queue `from` the home `to`, and tells how many there were. It looks at each entry
-    /// once.
+    /// Gives each job that waits in the queue `from` the home `to`, and tells how many there were. In the rows there is
+    /// room for all jobs of that home. It looks at each entry once.
     pub fn merge(&mut self, to: &Name, from: &Name) -> usize
+        requires { HavePlacesFor to.now (count_by (is_home from.now) self.old.entries) self.old }
         ensures entries { self.new ≡ record self.old { entries = map (moved_to to.now from.now) self.old.entries } }
         ensures moved { result ≡ count_by (waits_in from.now) self.old.entries }
     {
         let moved = self.tables.merge(to, from);
+        forget_each(&mut self.bounds);
         refill_all(self.alloc, &self.tables, &mut self.rows);
         moved
     }

@@ -13,6 +13,7 @@ mod laws;
 mod nodes;
 mod parts;
 mod queues;
+mod rooms;
 mod rows;
 mod running;
 mod settling;

@@ -1,5 +1,5 @@
 // The tables with the rows of ready jobs, and what is asked of them.
-ghost use Rattle.std.specs.Prelude.{◌≡◌, ◌≤◌, ◌<◌, ◌+◌, ◌&&◌, ℕ, List, length, find, filter, filter_map, is_some, IfOk, IfSome, OnErr, OnOk};
+ghost use Rattle.std.specs.Prelude.{◌≡◌, ◌≤◌, ◌<◌, ◌+◌, ◌&&◌, ℕ, List, length, count_by, slice_index_or, None, find, filter, filter_map, is_some, IfOk, IfSome, OnErr, OnOk};
 ghost use Rattle.std.specs.List.{list_any};
 ghost use Rattle.std.specs.Option.{option_copied, option_map};
 ghost use Rattle.std.specs.Ordering.{nat_cmp};
@@ -17,10 +17,12 @@ ghost use Rattle.qm_sched.specs.ByRun.{entry_on};
 ghost use Rattle.qm_kinds.specs.declared.system.System.{System};
 ghost use Rattle.qm_match.specs.Keys.{schedule_of};
 ghost use Rattle.qm_ready.specs.Jobs.{IsRowOf as HasJobs, fitting};
-ghost use Rattle.qm_sched.specs.Ready.{HasRoom, KeepsKeys, IsRowOf, ready_key};
+ghost use Rattle.qm_sched.specs.Ready.{IsRowOf, ready_key};
+ghost use Rattle.qm_sched.specs.Rooms.{CanPut, HavePlaces, HavePlacesFor, HaveRoom, is_home, reach, rooms_of};
 ghost use Rattle.qm_sched.specs.Tables.{with_tables};
 
 use crate::choosing::see_entries;
+use crate::rooms::{count_at_home, reach, targets_of, widen, widen_each};
 use crate::rows::refill_all;
 use crate::tables::TableSet;
 use qm_forms::FormTable;
@@ -34,18 +36,20 @@ use std::marker::Model;
 
 /// Nodes, forms, characteristics, queues, entries, runs and timers, and for each queue a row of the jobs that it can start as
 /// soon as it has a place, in the order in which it takes them. Contracts see `Tables`: each of the lists but that of the runs,
-/// which are just those of the entries that run or are aborting, the number of the next run, and how many more forms,
-/// characteristics, queues, entries, runs and timers have room. An invariant keeps the rows to the entries.
+/// which are just those of the entries that run or are aborting, the number of the next run, how many more forms,
+/// characteristics, queues, entries, runs and timers have room, and for how many jobs each row has. An invariant keeps the rows
+/// to the entries.
 ///
-/// Each row has room for each entry. Only the calls named `reserve_..` take memory.
+/// Each row has room for the jobs that may come to its queue: those whose home is the queue, or a generic queue that names it,
+/// whatever the states of both. Only the calls named `reserve_..` take memory.
 #[derive(Drop)]
 pub struct Parts {
     pub(crate) alloc: Global,
     pub(crate) tables: TableSet,
     // One for each queue, in order of name, and more for queues that come.
     pub(crate) rows: Vec<ReadyRow>,
-    // For so many more entries there is room in the tables and in each row.
-    pub(crate) entry_room: usize,
+    // How many jobs may come to each queue at most, where that is known: then a row that has room for them isn't counted out.
+    pub(crate) bounds: Vec<Option<usize>>,
     // For so many more queues there is room in the tables, and a row.
     pub(crate) queue_room: usize,
 }
@@ -53,61 +57,55 @@ pub struct Parts {
 impl Model for Parts {
     ghost use Rattle.qm_sched.specs.Tables.{Tables};
     ghost use Rattle.qm_sched.specs.Ready.{AreKept};
+    ghost use Rattle.qm_sched.specs.Rooms.{rooms_of};
 
     ghost Value = { Tables };
 
-    ghost view = { λ p. record p.tables { spare_entries = p.entry_room; spare_queues = p.queue_room } };
+    ghost view = { λ p. record p.tables { spare_queues = p.queue_room; rooms = rooms_of p.rows.items } };
 
-    ghost invariant = { λ p. AreKept p.tables p.rows.items p.entry_room p.queue_room };
+    ghost invariant = { λ p. AreKept p.tables p.rows.items p.bounds.items p.queue_room };
 }
 
-// A row for each queue and no more, each with room for so many keys.
-fn new_rows(alloc: Global, queues: usize, entries: usize) -> Result<Vec<ReadyRow>, AllocError>
-    ensures count { IfOk result (λ rows. queues ≤ length rows.items) }
-    ensures room { IfOk result (λ rows. HasRoom entries rows.items) }
+// A row for each queue and no more, each with room for the jobs that may come there. It looks at each entry once for each queue.
+fn new_rows(alloc: Global, tables: &TableSet) -> Result<Vec<ReadyRow>, AllocError>
+    ensures count { IfOk result (λ rows. length rows.items ≡ length tables.now.queues) }
+    ensures room { IfOk result (λ rows. HaveRoom tables.now.queues tables.now.entries (rooms_of rows.items)) }
 {
     let mut rows = Vec::new(alloc);
-    for _ in 0..queues {
+    for queue in tables.queues() {
         let mut row = ReadyRow::new(alloc, Schedule::ByNumber);
-        row.reserve(entries)?;
+        row.reserve(reach(tables, queue))?;
         rows.push(row)?;
     }
     Ok(rows)
 }
 
-// Makes room for so many keys in each row, those that it has counted among them.
-fn reserve_each(rows: &mut Vec<ReadyRow>, most: usize) -> Result<(), AllocError>
-    ensures room { OnOk result (HasRoom most rows.new.items) }
-    ensures same { KeepsKeys rows.old.items rows.new.items }
+// So many times that nothing is known of how many jobs may come to a queue.
+fn no_bounds(alloc: Global, count: usize) -> Result<Vec<Option<usize>>, AllocError>
+    ensures count { IfOk result (λ bounds. length bounds.items ≡ count) }
+    ensures unknown { IfOk result (λ bounds. (place : ℕ) → slice_index_or bounds.items place None ≡ None) }
 {
-    for place in 0..rows.len() {
-        reserve_to(&mut rows[place], most)?;
+    let mut bounds = Vec::new(alloc);
+    for _ in 0..count {
+        bounds.push(None)?;
     }
-    Ok(())
-}
-
-// Makes room for so many keys in a row, those that it has counted among them.
-fn reserve_to(row: &mut ReadyRow, most: usize) -> Result<(), AllocError>
-    ensures room { OnOk result (most ≤ length row.new.keys + row.new.spare) }
-    ensures same { row.new ≡ record row.old { spare = row.new.spare } }
-    ensures no_less { row.old.spare ≤ row.new.spare }
-{
-    row.reserve(most.saturating_sub(row.len()))
+    Ok(bounds)
 }
 
 impl Parts {
-    /// These tables, with the rows of the jobs that are ready. There is room for no further entry and queue. It walks over the
-    /// entries once for each queue that is open.
+    /// These tables, with the rows of the jobs that are ready. There is room for no further queue. It walks over the entries twice
+    /// for each queue that is open, and once for each other one.
     pub fn of(alloc: Global, tables: TableSet) -> Result<Parts, AllocError>
-        ensures { IfOk result (λ parts. parts ≡ record tables { spare_entries = 0; spare_queues = 0 }) }
+        ensures { IfOk result (λ parts. parts ≡ record tables { spare_queues = 0; rooms = parts.rooms }) }
     {
-        let mut rows = new_rows(alloc, tables.queues().len(), tables.entry_count())?;
+        let mut rows = new_rows(alloc, &tables)?;
+        let bounds = no_bounds(alloc, rows.len())?;
         refill_all(alloc, &tables, &mut rows);
         Ok(Parts {
             alloc,
             tables,
             rows,
-            entry_room: 0,
+            bounds,
             queue_room: 0,
         })
     }
@@ -290,37 +288,96 @@ impl Parts {
         self.tables.first_run_for(queue)
     }
 
-    /// Makes room for one entry more, in each row too. Where there is room it takes no memory, and succeeds.
-    pub fn reserve_entry(&mut self) -> Result<(), AllocError>
-        ensures ok { OnOk result (0 < self.new.spare_entries) }
-        ensures err { OnErr result (self.old.spare_entries ≡ 0) }
-        ensures no_less { self.old.spare_entries ≤ self.new.spare_entries }
-        ensures tables { self.new ≡ record self.old { spare_entries = self.new.spare_entries } }
+    /// How many entries have the queue of this name as their home. It looks at each entry once.
+    pub fn count_at_home(&self, home: &Name) -> usize
+        ensures { result ≡ count_by (is_home home.now) self.now.entries }
     {
-        if self.entry_room > 0 {
-            return Ok(());
-        }
-        self.tables.reserve_entry()?;
-        reserve_each(&mut self.rows, self.tables.entries().len() + 1)?;
-        self.entry_room = 1;
-        Ok(())
+        count_at_home(&self.tables, home)
     }
 
-    /// Makes room for one queue more, with a row. Where there is room it takes no memory, and succeeds.
-    pub fn reserve_queue(&mut self) -> Result<(), AllocError>
+    /// Makes room for so many jobs more in the rows of the queues that jobs of this home may come to. It looks at the entries
+    /// only where what it knows of their number doesn't say that there is room.
+    pub fn reserve_places(&mut self, home: &Name, more: usize) -> Result<(), AllocError>
+        ensures places { OnOk result (HavePlacesFor home.now more self.new) }
+        ensures tables { self.new ≡ record self.old { rooms = self.new.rooms } }
+    {
+        let targets = targets_of(&self.tables, home);
+        widen_each(
+            &self.tables,
+            &mut self.rows,
+            &mut self.bounds,
+            home,
+            targets,
+            more,
+        )
+    }
+
+    /// Makes room for one entry more of this home, in the rows too.
+    pub fn reserve_entry(&mut self, home: &Name) -> Result<(), AllocError>
+        ensures room { OnOk result (0 < self.new.spare_entries) }
+        ensures places { OnOk result (HavePlacesFor home.now 1 self.new) }
+        ensures tables { self.new ≡ record self.old { spare_entries = self.new.spare_entries; rooms = self.new.rooms } }
+    {
+        self.tables.reserve_entry()?;
+        self.reserve_places(home, 1)
+    }
+
+    // Makes a row for a queue that comes, where there is none.
+    fn reserve_row(&mut self) -> Result<(), AllocError>
         ensures ok { OnOk result (0 < self.new.spare_queues) }
-        ensures err { OnErr result (self.old.spare_queues ≡ 0) }
         ensures no_less { self.old.spare_queues ≤ self.new.spare_queues }
-        ensures tables { self.new ≡ record self.old { spare_queues = self.new.spare_queues } }
+        ensures tables { self.new ≡ record self.old { spare_queues = self.new.spare_queues; rooms = self.new.rooms } }
     {
         if self.queue_room > 0 {
             return Ok(());
         }
         self.tables.reserve_queue()?;
-        let mut row = ReadyRow::new(self.alloc, Schedule::ByNumber);
-        row.reserve(self.tables.entries().len() + self.entry_room)?;
-        self.rows.push(row)?;
+        self.bounds.reserve(1)?;
+        self.rows
+            .push(ReadyRow::new(self.alloc, Schedule::ByNumber))?;
+        self.bounds.push_reserved(None);
         self.queue_room = 1;
+        Ok(())
+    }
+
+    // Makes room for so many jobs more in the rows of the queues that a queue names, and in its own, if it is there.
+    fn widen_targets(&mut self, queue: &Queue, more: usize) -> Result<(), AllocError>
+        ensures places { OnOk result (HavePlaces queue.now.name queue.now.targets more self.new) }
+        ensures tables { self.new ≡ record self.old { rooms = self.new.rooms } }
+    {
+        widen_each(
+            &self.tables,
+            &mut self.rows,
+            &mut self.bounds,
+            &queue.name,
+            queue.targets.as_slice(),
+            more,
+        )
+    }
+
+    // Makes room in the row for a queue that comes, for the jobs that may come there and for so many more.
+    fn widen_coming(&mut self, queue: &Queue, more: usize) -> Result<(), AllocError>
+        requires { 0 < self.old.spare_queues }
+        ensures room { OnOk result (reach self.new.queues self.new.entries queue.now + more ≤ slice_index_or self.new.rooms (length self.new.queues) 0) }
+        ensures others { (place : ℕ) → place < length self.old.queues → slice_index_or self.new.rooms place 0 ≡ slice_index_or self.old.rooms place 0 }
+        ensures tables { self.new ≡ record self.old { rooms = self.new.rooms } }
+    {
+        let place = self.tables.queues().len();
+        let mut bound = None;
+        widen(&self.tables, queue, &mut self.rows[place], &mut bound, more)?;
+        Ok(())
+    }
+
+    /// Makes room for a queue, with a row, and in the rows of the queues that it names for the jobs that have it as their home
+    /// already.
+    pub fn reserve_queue(&mut self, queue: &Queue) -> Result<(), AllocError>
+        ensures ok { OnOk result (CanPut queue.now self.new) }
+        ensures tables { self.new ≡ record self.old { spare_queues = self.new.spare_queues; rooms = self.new.rooms } }
+    {
+        self.reserve_row()?;
+        let jobs = self.count_at_home(&queue.name);
+        self.widen_targets(queue, jobs)?;
+        self.widen_coming(queue, jobs)?;
         Ok(())
     }
 

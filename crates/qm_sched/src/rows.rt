@@ -1,25 +1,28 @@
 // The rows of ready jobs: how one is built anew, and how the key of one job goes or comes.
-ghost use Rattle.std.specs.Prelude.{◌≡◌, ◌≤◌, ◌+◌, [], length, map, filter, true, false, IfSome, Some, slice_index_or};
+ghost use Rattle.std.specs.Prelude.{◌≡◌, ◌≤◌, ◌<◌, ◌+◌, [], ◌∷◌, ◌++◌, length, map, filter, count_by, insert, remove, true, false, IfSome, Some, None, ℕ, slice_index_or};
 ghost use Rattle.qm_kinds.specs.declared.system.System.{System};
 ghost use Rattle.qm_keyed.specs.Places.{StandsAt};
 ghost use Rattle.qm_kinds.specs.declared.queue.Queue.{Queue as AnyQueue};
 ghost use Rattle.qm_match.specs.Keys.{key_of};
 ghost use Rattle.qm_model.specs.Consistent.{IsInOrder};
-ghost use Rattle.qm_model.specs.Find.{name_cmp, entry_numbered};
+ghost use Rattle.qm_model.specs.Find.{name_cmp, entry_numbered, queue_named};
+ghost use Rattle.qm_model.specs.Queues.{without_queue};
+ghost use Rattle.qm_queues.specs.Queues.{with_queue_put};
 ghost use Rattle.qm_model.specs.JobStates.{is_pending};
 ghost use Rattle.qm_model.specs.Kinds.{is_generic};
 ghost use Rattle.qm_model.specs.Standing.{with_queue};
 ghost use Rattle.qm_model.specs.Fitting.{fits, is_open, stock_of};
 ghost use Rattle.qm_entries.specs.Boxed.{contents};
-ghost use Rattle.qm_ready.specs.Rows.{HasNumbersOnce};
-ghost use Rattle.qm_sched.specs.Ready.{AreReady, AreReadyBut, IsRowOf, HasRoom, KeepsRoom, LeavesKind, ready_key, without_number};
+ghost use Rattle.qm_ready.specs.Rows.{HasNumbersOnce, Row};
+ghost use Rattle.qm_sched.specs.Ready.{AreReady, AreReadyBut, IsRowOf, KeepsRoom, LeavesKind, ready_key, without_number};
+ghost use Rattle.qm_sched.specs.Rooms.{AreMet, HaveRoom, reach, room_of, rooms_of};
 ghost use Rattle.qm_sched.specs.Tables.{Tables, with_tables};
 
 use crate::choosing::is_execution_queue;
 use crate::fitting::{can_run, is_open, stock_of};
 use crate::running::see_order;
 use crate::tables::TableSet;
-use qm_keyed::place_of;
+use qm_keyed::{place_of, put};
 use qm_kinds::{Entry, EntryState, Name, Queue};
 use qm_match::{Key, Schedule};
 use qm_ready::{Gathering, ReadyRow};
@@ -40,7 +43,7 @@ fn fits(tables: &TableSet, entry: &Entry, queue: &Queue) -> bool
 // Gathers the keys of the jobs that fit a queue, by one walk over the entries. A queue that isn't open takes none.
 fn gather(tables: &TableSet, queue: &Queue, gathering: &mut Gathering)
     requires empty { gathering.old.keys ≡ [] }
-    requires room { length tables.now.entries ≤ gathering.old.spare }
+    requires room { (s : System) → count_by (λ e. fits (with_tables s tables.now) e queue.now) tables.now.entries ≤ gathering.old.spare }
     ensures keys { (s : System) → gathering.new.keys ≡ map key_of (filter (λ e. fits (with_tables s tables.now) e queue.now) tables.now.entries) }
     ensures schedule { gathering.new.schedule ≡ gathering.old.schedule }
     ensures room { gathering.new.spare + length gathering.new.keys ≡ gathering.old.spare }
@@ -64,7 +67,7 @@ fn gather_from(
     requires open { (s : System) → is_open (with_tables s tables.now) queue.now ≡ true }
     requires mounted { mounted.now ≡ stock_of tables.now.forms queue.now.mounted }
     requires empty { gathering.old.keys ≡ [] }
-    requires room { length entries.now ≤ gathering.old.spare }
+    requires room { (s : System) → count_by (λ e. fits (with_tables s tables.now) e queue.now) (contents entries.now) ≤ gathering.old.spare }
     ensures keys { (s : System) → gathering.new.keys ≡ map key_of (filter (λ e. fits (with_tables s tables.now) e queue.now) (contents entries.now)) }
     ensures schedule { gathering.new.schedule ≡ gathering.old.schedule }
     ensures room { gathering.new.spare + length gathering.new.keys ≡ gathering.old.spare }
@@ -77,11 +80,11 @@ fn gather_from(
     }
 }
 
-// Builds the row of a queue anew, whatever it held: it has room for each entry.
+// Builds the row of a queue anew, whatever it held: it has room for each job that may come there.
 fn refill(alloc: Global, tables: &TableSet, queue: &Queue, row: &mut ReadyRow)
-    requires room { length tables.now.entries ≤ length row.old.keys + row.old.spare }
+    requires room { reach tables.now.queues tables.now.entries queue.now ≤ room_of row.old }
     ensures ready { IsRowOf queue.now (ready_key tables.now queue.now) row.new }
-    ensures room { length row.new.keys + row.new.spare ≡ length row.old.keys + row.old.spare }
+    ensures room { room_of row.new ≡ room_of row.old }
 {
     see_order(&tables.entries, &tables.runs);
     let schedule = Schedule::of(queue);
@@ -90,11 +93,11 @@ fn refill(alloc: Global, tables: &TableSet, queue: &Queue, row: &mut ReadyRow)
     *row = gathering.into_row();
 }
 
-/// Builds the rows of all queues anew, whatever they held: for each queue there is one, with room for each entry. It takes
-/// no memory.
+/// Builds the rows of all queues anew, whatever they held: for each queue there is one, with room for each job that may
+/// come there. It takes no memory.
 pub(crate) fn refill_all(alloc: Global, tables: &TableSet, rows: &mut Vec<ReadyRow>)
     requires enough { length tables.now.queues ≤ length rows.old.items }
-    requires room { HasRoom (length tables.now.entries) rows.old.items }
+    requires room { HaveRoom tables.now.queues tables.now.entries (rooms_of rows.old.items) }
     ensures ready { AreReady tables.now rows.new.items }
     ensures count { length rows.new.items ≡ length rows.old.items }
     ensures room { KeepsRoom rows.old.items rows.new.items }
@@ -126,7 +129,7 @@ fn execution_place(queues: &[Queue], name: &Name) -> Option<usize>
 /// is a generic one, which may pass its jobs on to others. It takes no memory.
 pub(crate) fn refill_for(alloc: Global, tables: &TableSet, rows: &mut Vec<ReadyRow>, name: &Name)
     requires enough { length tables.now.queues ≤ length rows.old.items }
-    requires room { HasRoom (length tables.now.entries) rows.old.items }
+    requires room { HaveRoom tables.now.queues tables.now.entries (rooms_of rows.old.items) }
     ensures ready { (t : Tables) (change : AnyQueue → AnyQueue) → LeavesKind change → tables.now ≡ record t { queues = with_queue name.now change t.queues }
         → AreReady t rows.old.items → AreReady tables.now rows.new.items }
     ensures count { length rows.new.items ≡ length rows.old.items }
@@ -163,10 +166,10 @@ fn see_row(row: &ReadyRow)
 // Puts the key of a job into the row of a queue, if it fits there.
 fn admit_to(tables: &TableSet, queue: &Queue, row: &mut ReadyRow, entry: &Entry)
     requires ready { IsRowOf queue.now (without_number entry.now.number (ready_key tables.now queue.now)) row.old }
-    requires room { length tables.now.entries ≤ length row.old.keys + row.old.spare }
+    requires room { reach tables.now.queues tables.now.entries queue.now ≤ room_of row.old }
     requires there { entry_numbered entry.now.number tables.now.entries ≡ Some entry.now }
     ensures ready { IsRowOf queue.now (ready_key tables.now queue.now) row.new }
-    ensures room { length row.new.keys + row.new.spare ≡ length row.old.keys + row.old.spare }
+    ensures room { room_of row.new ≡ room_of row.old }
 {
     if fits(tables, entry, queue) {
         see_row(row);
@@ -178,7 +181,7 @@ fn admit_to(tables: &TableSet, queue: &Queue, row: &mut ReadyRow, entry: &Entry)
 fn admit(tables: &TableSet, rows: &mut Vec<ReadyRow>, entry: &Entry)
     requires ready { AreReadyBut entry.now.number tables.now rows.old.items }
     requires enough { length tables.now.queues ≤ length rows.old.items }
-    requires room { HasRoom (length tables.now.entries) rows.old.items }
+    requires room { HaveRoom tables.now.queues tables.now.entries (rooms_of rows.old.items) }
     requires there { entry_numbered entry.now.number tables.now.entries ≡ Some entry.now }
     ensures ready { AreReady tables.now rows.new.items }
     ensures count { length rows.new.items ≡ length rows.old.items }
@@ -229,12 +232,57 @@ pub(crate) fn forget_number(tables: &TableSet, rows: &mut Vec<ReadyRow>, number:
 pub(crate) fn admit_number(tables: &TableSet, rows: &mut Vec<ReadyRow>, number: u32)
     requires ready { AreReadyBut number tables.now rows.old.items }
     requires enough { length tables.now.queues ≤ length rows.old.items }
-    requires room { HasRoom (length tables.now.entries) rows.old.items }
+    requires room { HaveRoom tables.now.queues tables.now.entries (rooms_of rows.old.items) }
     ensures ready { AreReady tables.now rows.new.items }
     ensures count { length rows.new.items ≡ length rows.old.items }
     ensures room { KeepsRoom rows.old.items rows.new.items }
 {
     if let Some(entry) = tables.entry(number) {
         admit(tables, rows, entry);
+    }
+}
+
+// The row of a queue that comes stands where the queue is to stand: it was the first that had none.
+fn place_row(rows: &mut Vec<ReadyRow>, place: usize, from: usize)
+    requires place { place ≤ from }
+    requires from { from < length rows.old.items }
+    ensures { (row : Row) → rows.new.items ≡ insert (remove rows.old.items from) place (slice_index_or rows.old.items from row) }
+{
+    let row = rows.remove(from);
+    put(rows, place, row);
+}
+
+/// The row for a queue of this name, where there is no such queue yet, stands where the queue is to stand.
+pub(crate) fn make_way(queues: &[Queue], rows: &mut Vec<ReadyRow>, name: &Name)
+    requires order { IsInOrder name_cmp (λ q. q.name) queues.now }
+    requires row { queue_named name.now queues.now ≡ None → length queues.now < length rows.old.items }
+    ensures met { (q : AnyQueue) (needs : AnyQueue → ℕ) → q.name ≡ name.now → ((p : AnyQueue) → p.name ≡ q.name → needs q ≤ needs p)
+        → (queue_named name.now queues.now ≡ None → needs q ≤ slice_index_or (rooms_of rows.old.items) (length queues.now) 0)
+        → AreMet needs queues.now (rooms_of rows.old.items) → AreMet needs (with_queue_put q queues.now) (rooms_of rows.new.items) }
+    ensures count { length rows.new.items ≡ length rows.old.items }
+{
+    if let Err(place) = place_of(queues, name) {
+        place_row(rows, place, queues.len());
+    }
+}
+
+// The row at a place stands behind all others.
+fn put_last(rows: &mut Vec<ReadyRow>, place: usize)
+    requires { place < length rows.old.items }
+    ensures { (row : Row) → rows.new.items ≡ remove rows.old.items place ++ slice_index_or rows.old.items place row ∷ [] }
+{
+    let row = rows.remove(place);
+    rows.push_reserved(row);
+}
+
+/// The row of the queue of a name, if there is such a queue, stands behind all others.
+pub(crate) fn close_up(queues: &[Queue], rows: &mut Vec<ReadyRow>, name: &Name)
+    requires order { IsInOrder name_cmp (λ q. q.name) queues.now }
+    requires rows { length queues.now ≤ length rows.old.items }
+    ensures met { (needs : AnyQueue → ℕ) → AreMet needs queues.now (rooms_of rows.old.items) → AreMet needs (without_queue name.now queues.now) (rooms_of rows.new.items) }
+    ensures count { length rows.new.items ≡ length rows.old.items }
+{
+    if let Ok(place) = place_of(queues, name) {
+        put_last(rows, place);
     }
 }

@@ -35,6 +35,7 @@ pub struct TableSet {
 }
 
 impl Model for TableSet {
+    ghost use Rattle.std.specs.Prelude.{[]};
     ghost use Rattle.qm_sched.specs.Tables.{Tables};
     ghost use Rattle.qm_sched.specs.Mirror.{Mirrors};
 
@@ -54,6 +55,7 @@ impl Model for TableSet {
       spare_entries = p.entries.spare;
       spare_runs = p.runs.spare;
       spare_timers = p.timers.spare;
+      rooms = [];
     } };
 
     ghost invariant = { λ p. Mirrors p.runs.runs p.entries.entries };
@@ -82,6 +84,7 @@ impl TableSet {
           spare_entries = 0;
           spare_runs = 0;
           spare_timers = 0;
+          rooms = [];
         } }
     {
         TableSet {

@@ -23,6 +23,7 @@ use Rattle.qm_model.specs.JobStates.{is_pending, is_waiting}
 use Rattle.qm_model.specs.Outcome.{first_refusal, refused_where}
 use Rattle.qm_model.specs.Replying.{replied}
 use Rattle.qm_model.specs.Wanted.{refused_form, refused_characteristics}
+use Rattle.qm_sched.specs.Rooms.{HavePlacesFor}
 use Rattle.qm_sched.specs.Tables.{Tables}
 use Rattle.qm_sched.proofs.Ordered.{each_found}
 use Rattle.qm_state.proofs.Accepting.{waits_at_first}
@@ -148,23 +149,24 @@ decided s number change e there clear =
     ∙ ap (λ (o : Option Refusal). first_refusal (o ∷ [])) clear
 
 can_replace : (image : Image) (s : System) (now number : ℕ) (change : EntryChange) (e new : Entry) → IsInOrder nat_cmp (λ (x : Entry). x.number) image.parts.entries
-    → entry_numbered number image.parts.entries ≡ Some e → is_waiting e.state ≡ true → new ≡ changed_entry s now change e → 0 < image.parts.spare_timers → CanReplace image new
-can_replace image s now number change e new order there waiting is room =
+    → entry_numbered number image.parts.entries ≡ Some e → is_waiting e.state ≡ true → new ≡ changed_entry s now change e → 0 < image.parts.spare_timers → HavePlacesFor new.home 1 image.parts → CanReplace image new
+can_replace image s now number change e new order there waiting is room places =
     let after : Entry = changed_entry s now change e in
     let itself : entry_numbered e.number image.parts.entries ≡ Some e = ap (λ (n : ℕ). entry_numbered n image.parts.entries) (number_found number e image.parts.entries there) ∙ there in
     subst (CanReplace image) (sym is) (record {
       idle = waits_at_first after.held after.after now;
       waits = ap waits_if itself ∙ waiting;
+      places = subst (λ (x : Entry). HavePlacesFor x.home 1 image.parts) is places;
       timer = room;
       file = keeps_file e image.parts.entries order itself;
     })
 
--- what becomes of it can take its place, and is what the model makes of it, where there is room for a timer
+-- what becomes of it can take its place, and is what the model makes of it, where there is room for it and for a timer
 pub entry_prepared : (image reserved : Image) (now number : ℕ) (node : List ℕ) (change : EntryChange) (e new : Entry) → IsInOrder nat_cmp (λ (x : Entry). x.number) image.parts.entries
     → entry_numbered number image.parts.entries ≡ Some e → entry_change_refusal (system_of image) change e ≡ None → new ≡ changed_entry (system_of image) now change e
-    → system_of reserved ≡ system_of image → reserved.parts ≡ record image.parts { spare_timers = reserved.parts.spare_timers } → 0 < reserved.parts.spare_timers → PreparesAt now node (request.SetEntry number change) image reserved (Ok (ReplaceEntry new))
+    → system_of reserved ≡ system_of image → reserved.parts ≡ record image.parts { spare_timers = reserved.parts.spare_timers; rooms = reserved.parts.rooms } → 0 < reserved.parts.spare_timers → HavePlacesFor new.home 1 reserved.parts → PreparesAt now node (request.SetEntry number change) image reserved (Ok (ReplaceEntry new))
 unfolding system_of
-entry_prepared image reserved now number node change e new order there clear is rows same room =
+entry_prepared image reserved now number node change e new order there clear is rows same room places =
     let s : System = system_of image in
     record {
       decided = decided s number change e there clear;
@@ -173,7 +175,7 @@ entry_prepared image reserved now number node change e new order there clear is 
         rows = rows;
         ready =
             can_replace reserved s now number change e new (subst (λ (t : Tables). IsInOrder nat_cmp (λ (x : Entry). x.number) t.entries) (sym same) order)
-            (subst (λ (t : Tables). entry_numbered number t.entries ≡ Some e) (sym same) there) (waits s change e clear) is room;
+            (subst (λ (t : Tables). entry_numbered number t.entries ≡ Some e) (sym same) there) (waits s change e clear) is room places;
         made = replaced s now number change e new there (waiting_is_left now e.state (waits s change e clear)) is;
       };
     }

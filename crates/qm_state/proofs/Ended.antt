@@ -2,6 +2,9 @@
 use Rattle.std.proofs.Common.{◌≡◌, ◌∙◌, ℕ, Bool, true, false, cond, List, [], find, Option, Some, None, refl, sym, ap, subst}
 use Rattle.std.specs.Option.{IfSome, IsSome, option_map_or, option_and_then}
 use Rattle.std.specs.Ordering.{nat_cmp}
+use Rattle.std.specs.Str.{bytes_eq}
+use Rattle.std.proofs.lemmas.Option.{same_Some}
+use Rattle.std.proofs.lemmas.Slice.Eq.{bytes_eq-Decides}
 use Rattle.qm_kinds.specs.Sizes.{is_success}
 use Rattle.qm_kinds.specs.declared.entry.Entry.{Entry}
 use Rattle.qm_kinds.specs.declared.entry.EntryState.TheVariants.{Retained}
@@ -68,6 +71,51 @@ pub reported_left : (queues : List Queue) (now : ℕ) (report : RunReport) (p : 
     → left ≡ after_report queues now report (fate_of e.state) e → IfSome left (λ l. IsLeftOf l e.number (entry_numbered e.number es))
 reported_left queues now report p e es left order found is =
     subst (λ o. IfSome o (λ l. IsLeftOf l e.number (entry_numbered e.number es))) (sym is) (reported_left_at queues now e es (found_numbered p e es order found) report (fate_of e.state))
+
+-- ---- what is left keeps its home
+
+at_home_at : (e l : Entry) (o : Option Entry) (P : Type 0) → o ≡ Some e → l.home ≡ e.home → IfSome o (λ old. bytes_eq old.home l.home ≡ false → P)
+at_home_at e l None P found home = tt
+at_home_at e l (Some x) P found home =
+    let same : x ≡ e = same_Some x e found in
+    λ other. absurd (no (sym ((bytes_eq-Decides x.home l.home).1 (ap (λ (y : Entry). y.home) same ∙ sym home)) ∙ other))
+  where
+    no : true ≡ false → ⊥
+    no h = cc
+
+-- so it needs no place
+pub home_kept : (n : ℕ) (e : Entry) (es : List Entry) (left : Option Entry) (P : Entry → Type 0) → entry_numbered n es ≡ Some e → IfSome left (λ l. l.home ≡ e.home)
+    → IfSome left (λ l. IfSome (entry_numbered n es) (λ old. bytes_eq old.home l.home ≡ false → P l))
+home_kept n e es None P found home = tt
+home_kept n e es (Some l) P found home = at_home_at e l (entry_numbered n es) (P l) found home
+
+module _ (queues : List Queue) (now : ℕ) (e : Entry) where
+  abbrev Home : Option Entry → Type 0
+  Home left = IfSome left (λ l. l.home ≡ e.home)
+
+  retained_home : (status : ℕ) (until : Option ℕ) (b : Bool) → Home (cond b (Some (record e { state = Retained status until })) None)
+  retained_home status until true = refl
+  retained_home status until false = tt
+
+  ended_home : (status : ℕ) → Home (ended queues now status e)
+  ended_home status = retained_home status (retained_until e.retain) (is_retained e.retain (queue_retain queues e) (is_success status) now)
+
+  fated_home : (fate : Fate) → Home (fated queues now fate e)
+  fated_home Requeue = refl
+  fated_home Finish = ended_home aborted_status
+  fated_home Remove = tt
+
+  reported_home_at : (report : RunReport) (fate : Option Fate) → Home (after_report queues now report fate e)
+  reported_home_at (MarkReport value) None = refl
+  reported_home_at (EndReport status) None = ended_home status
+  reported_home_at (MarkReport value) (Some fate) = fated_home fate
+  reported_home_at (EndReport status) (Some fate) = fated_home fate
+
+pub reported_home : (queues : List Queue) (now : ℕ) (report : RunReport) (p : Entry → Bool) (e : Entry) (es : List Entry) (left : Option Entry) (P : Entry → Type 0) → IsInOrder nat_cmp (λ x. x.number) es → find p es ≡ Some e
+    → left ≡ after_report queues now report (fate_of e.state) e → IfSome left (λ l. IfSome (entry_numbered e.number es) (λ old. bytes_eq old.home l.home ≡ false → P l))
+reported_home queues now report p e es left P order found is =
+    home_kept e.number e es left P (found_numbered p e es order found)
+    (subst (λ o. IfSome o (λ l. l.home ≡ e.home)) (sym is) (reported_home_at queues now e report (fate_of e.state)))
 
 -- what the model says of the report
 pub reported_is : (s new : System) (now : ℕ) (node : List ℕ) (run : ℕ) (report : RunReport) (e : Entry) (queues : List Queue) (left : Option Entry) (act : Act) → Some e ≡ entry_of_run s node run → queues ≡ s.queues

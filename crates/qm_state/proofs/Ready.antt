@@ -1,11 +1,12 @@
 -- A change that can be made on an image can still be made on one that has lost entries, and no more.
-use Rattle.std.proofs.Common.{◌≡◌, ◌∙◌, ℕ, ◌≤◌, ◌<◌, false, not, List, length, filter, find, map, None, refl, sym, ap, subst, arith}
+use Rattle.std.proofs.Common.{◌≡◌, ◌∙◌, ℕ, ◌≤◌, ◌<◌, false, not, List, length, get_or, count_by, filter, find, map, None, refl, sym, ap, subst, arith}
 use Rattle.std.specs.List.{All}
 use Rattle.std.specs.Option.{IsSome}
 use Rattle.std.proofs.lemmas.List.{length-map}
 use Rattle.std.proofs.lemmas.List.Filters.{length-filter_both}
 use Rattle.qm_kinds.specs.declared.entry.Entry.{Entry}
 use Rattle.qm_kinds.specs.declared.file.FileName.{FileName}
+use Rattle.qm_kinds.specs.declared.queue.Queue.{Queue}
 use Rattle.qm_kinds.specs.declared.system.System.{System}
 use Rattle.qm_model.specs.Appending.{is_spool_full}
 use Rattle.qm_model.specs.Characteristics.{is_characteristic_taken}
@@ -13,7 +14,9 @@ use Rattle.qm_model.specs.Due.{entry_at, is_over}
 use Rattle.qm_model.specs.Find.{file_named, same_file_name}
 use Rattle.qm_model.specs.Forms.{is_form_taken}
 use Rattle.qm_model.specs.Queues.{runs_for}
+use Rattle.qm_sched.specs.Rooms.{CanPut, HavePlacesFor, is_home, may_come, reach}
 use Rattle.qm_sched.specs.Tables.{Tables}
+use Rattle.qm_sched.proofs.Reach.{count_map, count_filter_le}
 use Rattle.qm_spool.specs.Kept.{Kept, HasRoomFor}
 use Rattle.qm_state.proofs.Reached.{NamesItsFile, file_found, no_run_found, unnamed_found}
 use Rattle.qm_state.specs.declared.image.Image.{Image}
@@ -30,6 +33,8 @@ record IsLeft (old new : Image) : Type 0 where
   next : old.next_entry ≡ new.next_entry
   timers : old.parts.spare_timers ≤ new.parts.spare_timers
   fewer : length new.parts.entries ≤ length old.parts.entries
+  fewer_come : (queues : List Queue) (q : Queue) → reach queues new.parts.entries q ≤ reach queues old.parts.entries q
+  at_home : (name : List ℕ) → count_by (is_home name) new.parts.entries ≤ count_by (is_home name) old.parts.entries
   unnamed : (name : FileName) → find (λ e. same_file_name e.file name) old.parts.entries ≡ None → find (λ e. same_file_name e.file name) new.parts.entries ≡ None
   without_run : (name : List ℕ) → find (runs_for name) old.parts.entries ≡ None → find (runs_for name) new.parts.entries ≡ None
   with_file : (entry : Entry) → All (NamesItsFile entry) old.parts.entries → All (NamesItsFile entry) new.parts.entries
@@ -41,6 +46,17 @@ module _ (old new : Image) (left : IsLeft old new) where
 
   of_tables : (P : Tables → Type 0) → P (record old.parts { entries = new.parts.entries; timers = new.parts.timers; spare_runs = new.parts.spare_runs; spare_timers = new.parts.spare_timers }) → P new.parts
   of_tables P h = subst P (sym left.tables) h
+
+  places_for_stay : (home : List ℕ) (n m : ℕ) → m ≤ n → HavePlacesFor home n old.parts → HavePlacesFor home m new.parts
+  places_for_stay home n m less has =
+      of_tables (HavePlacesFor home m) (λ place q within is. omega (arith, less, has place q within is, left.fewer_come old.parts.queues (get_or old.parts.queues place q)))
+
+  can_put_still : (queue : Queue) → CanPut queue old.parts → CanPut queue new.parts
+  can_put_still queue can = of_tables (CanPut queue) (record {
+    room = can.room;
+    places = λ place q within is. omega (arith, can.places place q within is, left.fewer_come old.parts.queues (get_or old.parts.queues place q), left.at_home queue.name);
+    row = λ absent. omega (arith, can.row absent, left.fewer_come old.parts.queues queue, left.at_home queue.name);
+  })
 
   room_stays : (name : FileName) (bytes : List ℕ) → HasRoomFor old.spool name bytes → HasRoomFor new.spool name bytes
   room_stays name bytes h = of_files (λ k. HasRoomFor k name bytes) (record { there = h.there; room = h.room; fits = h.fits })
@@ -68,16 +84,17 @@ module _ (old new : Image) (left : IsLeft old new) where
     next = omega (arith, h.next, left.next);
     few = omega (arith, h.few, left.fewer);
     room = of_tables (λ t. 0 < t.spare_entries) h.room;
+    places = places_for_stay entry.home 1 1 (omega arith) h.places;
     timer = omega (arith, h.timer, left.timers);
     file = of_files (λ k. IsSome (file_named entry.file k.files)) h.file;
   }
-  ready_left (PutQueue queue) h = of_tables (λ t. 0 < t.spare_queues) h
+  ready_left (PutQueue queue) h = can_put_still queue h
   ready_left (SetQueue name settings state) h = tt
   ready_left (StopQueue name how) h = tt
   ready_left (CutShort entry fate) h = tt
   ready_left (RemoveQueue name) h = left.without_run name h
-  ready_left (Merge to from) h = tt
-  ready_left (ReplaceEntry entry) h = record { idle = h.idle; waits = left.waits entry.number h.waits; timer = omega (arith, h.timer, left.timers); file = left.with_file entry h.file }
+  ready_left (Merge to from) h = places_for_stay to (count_by (is_home from) old.parts.entries) (count_by (is_home from) new.parts.entries) (left.at_home from) h
+  ready_left (ReplaceEntry entry) h = record { idle = h.idle; waits = left.waits entry.number h.waits; places = places_for_stay entry.home 1 1 (omega arith) h.places; timer = omega (arith, h.timer, left.timers); file = left.with_file entry h.file }
   ready_left (RemoveEntry entry) h = tt
   ready_left (Report run report) h = omega (arith, h, left.timers)
   ready_left Tick h = tt
@@ -86,7 +103,7 @@ module _ (old new : Image) (left : IsLeft old new) where
 pub ready_with_runs : (old new : Image) (n : ℕ) → new ≡ record old { parts = record old.parts { spare_runs = n } } → (change : Change) → IsReady old change → IsReady new change
 ready_with_runs old new n is change h =
     subst (λ (i : Image). IsReady i change) (sym is) (ready_left old (record old { parts = record old.parts { spare_runs = n } })
-    (record { files = refl; tables = refl; next = refl; timers = omega arith; fewer = omega arith; unnamed = λ name none. none; without_run = λ name none. none; with_file = λ entry all. all; waits = λ number waits. waits }) change h)
+    (record { files = refl; tables = refl; next = refl; timers = omega arith; fewer = omega arith; fewer_come = λ qs q. omega arith; at_home = λ name. omega arith; unnamed = λ name none. none; without_run = λ name none. none; with_file = λ entry all. all; waits = λ number waits. waits }) change h)
 
 -- what the moment finds
 module _ (now : ℕ) (old new : Image) (rows : system_of new ≡ found now (system_of old)) (files : new.spool ≡ record old.spool { counts = new.spool.counts })
@@ -107,6 +124,21 @@ module _ (now : ℕ) (old new : Image) (rows : system_of new ≡ found now (syst
     length-filter_both (λ (e : Entry). is_over now e.state) (λ (e : Entry). not (is_over now e.state)) (λ e. refl) old.parts.entries,
   )
 
+  abbrev kept : List Entry
+  kept = filter (λ e. not (is_over now e.state)) old.parts.entries
+
+  fewer_come_found : (qs : List Queue) (q : Queue) → reach qs new.parts.entries q ≤ reach qs old.parts.entries q
+  fewer_come_found qs q =
+      let is = ap (λ (es : List Entry). reach qs es q) entries_are in
+      let mapped : reach qs (map (entry_at now) kept) q ≡ reach qs kept q = count_map (may_come qs q) (entry_at now) kept in
+      omega (arith, is, mapped, count_filter_le (may_come qs q) (λ (e : Entry). not (is_over now e.state)) old.parts.entries)
+
+  fewer_home_found : (name : List ℕ) → count_by (is_home name) new.parts.entries ≤ count_by (is_home name) old.parts.entries
+  fewer_home_found name =
+      let is = ap (λ (es : List Entry). count_by (is_home name) es) entries_are in
+      let mapped : count_by (is_home name) (map (entry_at now) kept) ≡ count_by (is_home name) kept = count_map (is_home name) (entry_at now) kept in
+      omega (arith, is, mapped, count_filter_le (is_home name) (λ (e : Entry). not (is_over now e.state)) old.parts.entries)
+
   pub ready_found : (change : Change) → IsReady old change → IsReady new change
   ready_found = ready_left old new (record {
     files = files;
@@ -114,6 +146,8 @@ module _ (now : ℕ) (old new : Image) (rows : system_of new ≡ found now (syst
     next = same_next;
     timers = room;
     fewer = no_more;
+    fewer_come = fewer_come_found;
+    at_home = fewer_home_found;
     unnamed = λ name none. subst (λ (es : List Entry). find (λ e. same_file_name e.file name) es ≡ None) (sym entries_are) (unnamed_found name now old.parts.entries none);
     without_run = λ name none. subst (λ (es : List Entry). find (runs_for name) es ≡ None) (sym entries_are) (no_run_found name now old.parts.entries none);
     with_file = λ entry all. subst (All (NamesItsFile entry)) (sym entries_are) (file_found entry now old.parts.entries all);

@@ -1,5 +1,5 @@
 -- Changes that are decided, and for which memory is taken.
-use Rattle.std.specs.Prelude.{◌≡◌, ◌<◌, ◌≤◌, ◌+◌, ◌^◌, ℕ, true, false, List, [], ◌∷◌, ◌++◌, length, find, All, Option, None, Some, IfSome, IsSome, vec_capacity}
+use Rattle.std.specs.Prelude.{◌≡◌, ◌<◌, ◌≤◌, ◌+◌, ◌^◌, ℕ, true, false, List, [], ◌∷◌, ◌++◌, length, count_by, find, All, Option, None, Some, IfSome, IsSome, vec_capacity}
 use Rattle.std.specs.Option.{option_map_or, option_and_then}
 use Rattle.qm_kinds.specs.declared.entry.Entry.{Entry}
 use Rattle.qm_kinds.specs.declared.file.FileName.{FileName}
@@ -34,6 +34,7 @@ use Rattle.qm_queues.specs.declared.settings.Settings.{Settings}
 use Rattle.qm_queues.specs.Queues.{with_queue_put}
 use Rattle.qm_queues.specs.Settings.{with_settings_and_state}
 use Rattle.qm_sched.specs.Mirror.{run_of_entry}
+use Rattle.qm_sched.specs.Rooms.{CanPut, HavePlacesFor, is_home}
 use Rattle.qm_spool.specs.Kept.{HasRoomFor}
 use Rattle.qm_state.specs.declared.image.Image.{Image}
 use Rattle.qm_state.specs.declared.prepared.Prepared.{Prepared}
@@ -130,13 +131,14 @@ pub record CanDefineCharacteristic (image : Image) (characteristic : Characteris
   pub small : characteristic.number ≤ LAST_CHARACTERISTIC
   pub free : is_characteristic_taken image.parts.characteristics characteristic ≡ false
 
--- there is room for the entry and a timer, the entry has the next number and no run, and its file is there
+-- there is room for the entry, in the rows too, and for a timer, the entry has the next number and no run, and its file is there
 pub record IsNewEntry (image : Image) (entry : Entry) : Type 0 where
   pub number : entry.number ≡ image.next_entry
   pub idle : run_of entry.state ≡ None
   pub next : image.next_entry + 1 < 2 ^ 32
   pub few : length image.parts.entries < ENTRIES_LIMIT
   pub room : 0 < image.parts.spare_entries
+  pub places : HavePlacesFor entry.home 1 image.parts
   pub timer : 0 < image.parts.spare_timers
   pub file : IsSome (file_named entry.file image.spool.files)
 
@@ -144,10 +146,12 @@ pub record IsNewEntry (image : Image) (entry : Entry) : Type 0 where
 abbrev pub IsWaiting : ℕ → List Entry → Type 0
 IsWaiting number entries = option_map_or (λ e. is_waiting e.state) (entry_numbered number entries) false ≡ true
 
--- the entry has no run, and the one of its number is there, waits and names the same file; and there is room for a timer
+-- the entry has no run, and the one of its number is there, waits and names the same file; and there is room for it in the rows of the
+-- queues that it may come to, and for a timer
 pub record CanReplace (image : Image) (entry : Entry) : Type 0 where
   pub idle : run_of entry.state ≡ None
   pub waits : IsWaiting entry.number image.parts.entries
+  pub places : HavePlacesFor entry.home 1 image.parts
   pub timer : 0 < image.parts.spare_timers
   pub file : All (λ e. e.number ≡ entry.number → e.file ≡ entry.file) image.parts.entries
 
@@ -159,7 +163,7 @@ starts_behind change now node s = length (settled (stopped_when_idle (outcome_of
 abbrev pub StartAtMost : ℕ → Change → System → Type 0
 StartAtMost most change s = (now : ℕ) (node : List ℕ) → starts_behind change now node s ≤ most
 
--- The change can be made on the image: for what comes there is room, a new form or characteristic has a name and a number of its
+-- The change can be made on the image: for what comes there is room, in the rows of the queues too, a new form or characteristic has a name and a number of its
 -- own, a new entry has the next number and no run, its file is there and may be named once more, an entry that is changed waits,
 -- has no run then and keeps its file, no entry names a file that goes, and no job runs for a queue that goes. For what may wait
 -- for a moment, or be kept until one, there is room for a timer.
@@ -173,12 +177,12 @@ IsReady image (RemoveForm name) = Unit {0}
 IsReady image (NewCharacteristic characteristic) = CanDefineCharacteristic image characteristic
 IsReady image (RemoveCharacteristic name) = Unit {0}
 IsReady image (NewEntry entry) = IsNewEntry image entry
-IsReady image (PutQueue queue) = 0 < image.parts.spare_queues
+IsReady image (PutQueue queue) = CanPut queue image.parts
 IsReady image (SetQueue name settings state) = Unit {0}
 IsReady image (StopQueue name how) = Unit {0}
 IsReady image (CutShort entry fate) = Unit {0}
 IsReady image (RemoveQueue name) = find (runs_for name) image.parts.entries ≡ None
-IsReady image (Merge to from) = Unit {0}
+IsReady image (Merge to from) = HavePlacesFor to (count_by (is_home from) image.parts.entries) image.parts
 IsReady image (ReplaceEntry entry) = CanReplace image entry
 IsReady image (RemoveEntry entry) = Unit {0}
 IsReady image (Report run report) = 0 < image.parts.spare_timers

@@ -1,5 +1,5 @@
 // Entries are changed, and the clock is looked at: why that is refused, and what entries become. Nothing is changed here.
-ghost use Rattle.std.specs.Prelude.{◌≡◌, ◌&&◌, ◌||◌, not, ℕ, List, unwrap_or, if◌then◌else◌, None, false};
+ghost use Rattle.std.specs.Prelude.{◌≡◌, ◌<◌, ◌&&◌, ◌||◌, not, ℕ, List, unwrap_or, if◌then◌else◌, None, OnOk, false};
 ghost use Rattle.std.specs.Option.{option_and_then, option_map_or};
 ghost use Rattle.qm_kinds.specs.declared.request.Request.TheVariants as request;
 ghost use Rattle.qm_kinds.specs.declared.system.System.{System};
@@ -7,6 +7,7 @@ ghost use Rattle.qm_model.specs.Entries.{refused_queue, is_entry_of_other_kind, 
 ghost use Rattle.qm_model.specs.Find.{queue_named};
 ghost use Rattle.qm_model.specs.JobStates.{is_pending, is_waiting};
 ghost use Rattle.qm_model.specs.Kinds.{is_other_kind};
+ghost use Rattle.qm_sched.specs.Rooms.{HavePlacesFor};
 ghost use Rattle.qm_state.specs.Deciding.{Prepares, PreparesAt};
 ghost use Rattle.qm_state.specs.Image.{system_of};
 ghost use Rattle.qm_state.specs.Settings.{HasForms, HasQueues};
@@ -168,8 +169,21 @@ impl Image {
         changed_entry(self.parts.form_table(), now, change, entry)
     }
 
-    /// Decides on an entry that is changed, and takes the room for a timer: it may wait for a moment then. Whether it waits is
-    /// judged before what is due at the acting moment is done; its new state goes by that moment.
+    // Makes room for an entry that is changed, in the rows of the queues that jobs of its home may come to, and for a timer.
+    #[tactic(auto, unfolding(crate::specs::Image::system_of))]
+    fn reserve_change(&mut self, home: &Name) -> Result<(), AllocError>
+        ensures rows { system_of self.new ≡ system_of self.old }
+        ensures tables { self.new.parts ≡ record self.old.parts { spare_timers = self.new.parts.spare_timers; rooms = self.new.parts.rooms } }
+        ensures places { OnOk result (HavePlacesFor home.now 1 self.new.parts) }
+        ensures timer { OnOk result (0 < self.new.parts.spare_timers) }
+    {
+        self.reserve_timer()?;
+        self.parts.reserve_places(home, 1)
+    }
+
+    /// Decides on an entry that is changed, and takes the room for it and for a timer: it may have another home and wait for a
+    /// moment then. Whether it waits is judged before what is due at the acting moment is done; its new state goes by that
+    /// moment.
     #[tactic(auto, unfolding(crate::specs::Image::system_of))]
     #[inline(never)]
     pub(crate) fn prepare_set_entry<'a>(
@@ -187,7 +201,7 @@ impl Image {
             return Err(Refused::By(refusal));
         }
         let entry = self.changed_entry(now, change, entry);
-        match self.reserve_timer() {
+        match self.reserve_change(&entry.home) {
             Ok(()) => Ok(Change::ReplaceEntry { entry }),
             Err(AllocError) => Err(Refused::NoMemory),
         }

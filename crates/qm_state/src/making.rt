@@ -1,6 +1,7 @@
 // The changes that were prepared are made.
-ghost use Rattle.std.specs.Prelude.{◌≡◌, ◌<◌, ◌≤◌, ◌+◌, find, None, Some, IfSome, length};
+ghost use Rattle.std.specs.Prelude.{◌≡◌, ◌<◌, ◌≤◌, ◌+◌, find, false, None, Some, IfSome, length};
 ghost use Rattle.std.specs.Ordering.{nat_cmp};
+ghost use Rattle.std.specs.Str.{bytes_eq};
 ghost use Rattle.qm_model.specs.Consistent.{IsConsistent, IsInOrder};
 ghost use Rattle.qm_model.specs.Find.{entry_numbered};
 ghost use Rattle.qm_model.specs.Queues.{runs_for, queue_deleted};
@@ -8,6 +9,7 @@ ghost use Rattle.qm_model.specs.Replying.{replied};
 ghost use Rattle.qm_model.specs.Runs.{run_reported};
 ghost use Rattle.qm_model.specs.Standing.{with_queue};
 ghost use Rattle.qm_model.specs.Stopping.{queue_stopped, stopped_queue, entries_on_stop, entry_aborting};
+ghost use Rattle.qm_sched.specs.Rooms.{CanPut, HavePlacesFor};
 ghost use Rattle.qm_state.specs.Ending.{report_of};
 ghost use Rattle.qm_state.specs.Image.{system_of};
 ghost use Rattle.qm_state.specs.Keeping.{KeepsOthers};
@@ -50,7 +52,7 @@ impl Image {
     #[tactic(auto, unfolding(crate::specs::Image::system_of))]
     #[inline(never)]
     pub(crate) fn put_queue(&mut self, queue: Queue) -> Act
-        requires { 0 < self.old.parts.spare_queues }
+        requires { CanPut queue self.old.parts }
         ensures done { queue_put (system_of self.old) queue ≡ replied (system_of self.new) result }
         ensures room { self.new.parts.spare_runs ≡ self.old.parts.spare_runs }
     {
@@ -148,6 +150,7 @@ impl Image {
     pub(crate) fn leave(&mut self, number: u32, left: Option<Entry>)
         requires order { IsInOrder nat_cmp (λ e. e.number) self.old.parts.entries }
         requires left { IfSome left (λ e. IsLeftOf e number (entry_numbered number self.old.parts.entries)) }
+        requires place { IfSome left (λ e. IfSome (entry_numbered number self.old.parts.entries) (λ old. bytes_eq old.home e.home ≡ false → HavePlacesFor e.home 1 self.old.parts)) }
         requires timer { IfSome (moment_left left) (λ _. 0 < self.old.parts.spare_timers) }
         ensures rows { system_of self.new ≡ with_left number left (system_of self.old) }
         ensures others { KeepsOthers self.old self.new }

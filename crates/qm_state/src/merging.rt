@@ -1,10 +1,11 @@
 // The waiting jobs of one queue are moved to another.
-ghost use Rattle.std.specs.Prelude.{◌≡◌};
+ghost use Rattle.std.specs.Prelude.{◌≡◌, count_by, OnOk};
 ghost use Rattle.qm_kinds.specs.declared.request.Request.TheVariants as request;
 ghost use Rattle.qm_kinds.specs.declared.system.System.{System};
 ghost use Rattle.qm_model.specs.Consistent.{IsConsistent};
 ghost use Rattle.qm_model.specs.Merging.{merge_refusal, merged};
 ghost use Rattle.qm_model.specs.Replying.{replied};
+ghost use Rattle.qm_sched.specs.Rooms.{HavePlacesFor, is_home};
 ghost use Rattle.qm_state.specs.Deciding.{Prepares};
 ghost use Rattle.qm_state.specs.Image.{system_of};
 
@@ -15,6 +16,7 @@ use crate::refusals::refused_where;
 use crate::refused::Refused;
 use qm_kinds::{Act, Name, Refusal};
 use qm_queues::QueueTable;
+use std::alloc::AllocError;
 
 // Why the jobs of one queue can't be moved to another.
 fn merge_refusal(queues: &QueueTable, to: &Name, from: &Name) -> Option<Refusal>
@@ -41,26 +43,46 @@ impl Image {
         merge_refusal(self.parts.queue_table(), to, from)
     }
 
-    /// Decides on jobs that are moved to another queue.
+    // Makes room for the jobs of one queue in the rows of the queues that those of another may come to.
+    #[tactic(auto, unfolding(crate::specs::Image::system_of))]
+    fn reserve_merge(&mut self, to: &Name, from: &Name) -> Result<(), AllocError>
+        ensures rows { system_of self.new ≡ system_of self.old }
+        ensures places { OnOk result (HavePlacesFor to.now (count_by (is_home from.now) self.new.parts.entries) self.new.parts) }
+    {
+        let jobs = self.parts.count_at_home(from);
+        self.parts.reserve_places(to, jobs)
+    }
+
+    /// Decides on jobs that are moved to another queue, and takes the room for them there.
     #[tactic(auto, unfolding(crate::specs::Image::system_of))]
     #[inline(never)]
-    pub(crate) fn prepare_merge<'a>(&self, to: &Name, from: &Name) -> Result<Change<'a>, Refused>
-        ensures { Prepares (request.Merge to.now from.now) self.now self.now result }
+    pub(crate) fn prepare_merge<'a>(
+        &mut self,
+        to: &Name,
+        from: &Name,
+    ) -> Result<Change<'a>, Refused>
+        ensures { Prepares (request.Merge to.now from.now) self.old self.new result }
     {
         if let Some(refusal) = self.merge_refusal(to, from) {
             return Err(Refused::By(refusal));
         }
-        Ok(Change::Merge {
-            to: *to,
-            from: *from,
-        })
+        match self.reserve_merge(to, from) {
+            Ok(()) => {
+                Ok(Change::Merge {
+                    to: *to,
+                    from: *from,
+                })
+            }
+            Err(AllocError) => Err(Refused::NoMemory),
+        }
     }
 
     /// The jobs that wait in the one queue have the other as their home.
     #[tactic(auto, unfolding(crate::specs::Image::system_of))]
     #[inline(never)]
     pub(crate) fn merge(&mut self, to: &Name, from: &Name) -> Act
-        requires { IsConsistent (system_of self.old) }
+        requires sound { IsConsistent (system_of self.old) }
+        requires places { HavePlacesFor to.now (count_by (is_home from.now) self.old.parts.entries) self.old.parts }
         ensures done { merged (system_of self.old) to.now from.now ≡ replied (system_of self.new) result }
         ensures room { self.new.parts.spare_runs ≡ self.old.parts.spare_runs }
     {

@@ -34,7 +34,7 @@ impl Image {
         ensures { (at : ℕ) → TakesAt at node.now (request.InitializeQueue new.now) self.old self.new result }
     {
         let queue = new_queue(self.alloc, self.parts.form_table(), node, new)?;
-        self.parts.reserve_queue()?;
+        self.parts.reserve_queue(&queue)?;
         Ok(Change::PutQueue { queue })
     }
 

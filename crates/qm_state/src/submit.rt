@@ -10,6 +10,7 @@ ghost use Rattle.qm_model.specs.Kinds.{is_other_kind};
 ghost use Rattle.qm_model.specs.Outcome.{refused_where};
 ghost use Rattle.qm_model.specs.Replying.{replied};
 ghost use Rattle.qm_model.specs.Submitting.{submit_refusal, has_bad_value, state_of, form_of, entry_of};
+ghost use Rattle.qm_sched.specs.Rooms.{HavePlacesFor};
 ghost use Rattle.qm_state.specs.Deciding.{Makes, PreparesAt};
 ghost use Rattle.qm_state.specs.Image.{system_of};
 ghost use Rattle.qm_state.specs.Preparing.{found, entered, IsNewEntry, IsReady};
@@ -162,15 +163,16 @@ impl Image {
         }
     }
 
-    // Makes room for one entry more, and a timer.
+    // Makes room for one entry more of this home, and a timer.
     #[tactic(auto, unfolding(crate::specs::Image::system_of))]
-    fn reserve_entry(&mut self) -> Result<(), AllocError>
+    fn reserve_entry(&mut self, home: &Name) -> Result<(), AllocError>
         ensures rows { system_of self.new ≡ system_of self.old }
         ensures room { OnOk result (0 < self.new.parts.spare_entries) }
+        ensures places { OnOk result (HavePlacesFor home.now 1 self.new.parts) }
         ensures timer { OnOk result (0 < self.new.parts.spare_timers) }
     {
         self.parts.reserve_timer()?;
-        self.parts.reserve_entry()
+        self.parts.reserve_entry(home)
     }
 
     // The change by which a job comes that isn't refused, and for which there is room. An entry is large, so it is made at its
@@ -179,6 +181,7 @@ impl Image {
     fn new_entry<'a>(&self, now: Moment, job: &Job) -> Change<'a>
         requires accepted { submit_refusal (system_of self.now) job.now ≡ None }
         requires room { 0 < self.now.parts.spare_entries }
+        requires places { HavePlacesFor job.now.queue 1 self.now.parts }
         requires timer { 0 < self.now.parts.spare_timers }
         ensures ready { IsReady self.now result }
         ensures made { (node : List ℕ) → Makes now node (request.Submit job.now) (found now (system_of self.now)) result }
@@ -202,7 +205,7 @@ impl Image {
         if let Some(refusal) = self.submit_refusal(job) {
             return Err(Refused::By(refusal));
         }
-        match self.reserve_entry() {
+        match self.reserve_entry(&job.queue) {
             Ok(()) => Ok(self.new_entry(now, job)),
             Err(AllocError) => Err(Refused::NoMemory),
         }

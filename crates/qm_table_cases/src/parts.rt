@@ -22,11 +22,13 @@ fn with_a_run(alloc: Global) -> Result<Parts, AllocError> {
         name: batch_queue(),
         number: 127,
     });
-    parts.reserve_queue()?;
-    parts.put_queue(queue(alloc, batch_queue()));
+    let new = queue(alloc, batch_queue());
+    parts.reserve_queue(&new)?;
+    parts.put_queue(new);
     parts.reserve_runs(1)?;
-    parts.reserve_entry()?;
-    parts.insert_entry(job(7, 100));
+    let job = job(7, 100);
+    parts.reserve_entry(&job.home)?;
+    parts.insert_entry(job);
     parts.start(7, batch_queue(), system_user());
     Ok(parts)
 }
@@ -42,6 +44,8 @@ fn a_job_runs(rt: HostRuntime) -> Result<(), Fail> {
     assert!(rt; parts.running_in(&name, None).is_some());
     assert!(rt; parts.first_run_for(&name) == Some(7));
     // A job that runs isn't moved.
+    let jobs = parts.count_at_home(&name);
+    parts.reserve_places(&node, jobs)?;
     assert!(rt; parts.merge(&node, &name) == 0);
     Ok(())
 }

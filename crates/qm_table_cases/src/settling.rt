@@ -53,14 +53,18 @@ fn with_jobs(alloc: Global) -> Result<Parts, AllocError> {
         7,
     );
     let mut parts = Parts::of(alloc, tables)?;
-    parts.reserve_queue()?;
-    parts.put_queue(queue(alloc, batch_queue()));
-    parts.reserve_entry()?;
-    parts.insert_entry(job(1, 100));
-    parts.reserve_entry()?;
-    parts.insert_entry(job(2, 100));
-    parts.reserve_entry()?;
-    parts.insert_entry(job(3, 101));
+    let new = queue(alloc, batch_queue());
+    parts.reserve_queue(&new)?;
+    parts.put_queue(new);
+    let first = job(1, 100);
+    parts.reserve_entry(&first.home)?;
+    parts.insert_entry(first);
+    let second = job(2, 100);
+    parts.reserve_entry(&second.home)?;
+    parts.insert_entry(second);
+    let third = job(3, 101);
+    parts.reserve_entry(&third.home)?;
+    parts.insert_entry(third);
     Ok(parts)
 }
 

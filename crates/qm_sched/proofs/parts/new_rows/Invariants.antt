@@ -1,6 +1,11 @@
-use Rattle.std.proofs.Common.{◌≤◌, length}
-use Rattle.qm_sched.specs.Ready.{HasRoom}
+use Rattle.std.proofs.Common.{◌≡◌, ◌<◌, ◌≤◌, length, get_or, ℕ}
+use Rattle.qm_kinds.specs.declared.queue.Queue.{Queue}
+use Rattle.qm_sched.specs.Rooms.{reach, rooms_of}
 use Rattle.qm_sched.proofs.parts.new_rows.Given as goal
 
-abbrev pub invariant-loop : goal.invariant-loop
-invariant-loop l = record { count : l.counter ≤ length l.rows.items; room : HasRoom l.entries l.rows.items }
+-- there are rows for the queues that were passed
+abbrev pub invariant-loop-queue : goal.invariant-loop-queue
+invariant-loop-queue l = record {
+  count : length l.rows.items ≡ l.queue-index;
+  room : (k : ℕ) (q : Queue) → k < l.queue-index → reach l.tables.queues l.tables.entries (get_or l.tables.queues k q) ≤ get_or (rooms_of l.rows.items) k 0;
+}

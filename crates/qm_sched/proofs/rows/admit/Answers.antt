@@ -2,7 +2,7 @@ use Rattle.std.proofs.Common.{◌<◌, List, length, ap, arith}
 use Rattle.qm_kinds.specs.declared.queue.Queue.{Queue}
 use Rattle.qm_sched.specs.Ready.{ready_key, without_number}
 use Rattle.qm_sched.proofs.Each.{one_done}
-use Rattle.qm_sched.proofs.RowLoops.{IsMade, made, row_next}
+use Rattle.qm_sched.proofs.RowLoops.{IsMade, made, room_kept, room_next, row_next}
 use Rattle.qm_sched.proofs.rows.admit.Goals as goal
 
 pub admit_to-requires-clause-ready : goal.admit_to-requires-clause-ready
@@ -12,6 +12,13 @@ admit_to-requires-clause-ready c =
     row_next (ready_key t) t.queues (λ q. without_number c.args.entry.now.number (ready_key t q)) c.loop-place.place c.index-queues-place.result c.index_mut.result.now c.args.rows.now.items c.loop-place.rows.items
     c.loop-place.invariant c.requires.ready within c.requires.enough (rw c.queues.ensures.queues at c.index-queues-place.is) c.index_mut.ensures.value
 
+pub admit_to-requires-clause-room : goal.admit_to-requires-clause-room
+admit_to-requires-clause-room c =
+    let t = c.args.tables.now in
+    let within : c.loop-place.place < length t.queues = omega (arith, c.loop-place-test.true, ap (λ (qs : List Queue). length qs) c.queues-place-end.ensures.queues) in
+    room_next (ready_key t) t.queues t.entries c.loop-place.place c.index-queues-place.result c.index_mut.result.now c.args.rows.now.items c.loop-place.rows.items
+    c.loop-place.invariant c.requires.room within c.requires.enough (rw c.queues.ensures.queues at c.index-queues-place.is) c.index_mut.ensures.value
+
 pub loop-place-preserved : goal.loop-place-preserved
 loop-place-preserved c =
     let t = c.args.tables.now in
@@ -20,3 +27,6 @@ loop-place-preserved c =
     one_done (IsMade (ready_key t) t.queues) c.loop-place.place c.args.rows.now.items c.loop-place.rows.items c.admit_to.new.row c.loop-place.invariant inside
     (made (ready_key t) t.queues c.loop-place.place c.index-queues-place.result c.loop-place.rows.items c.index_mut.result.now c.admit_to.new.row within inside c.loop-place.invariant.count
     (rw c.queues.ensures.queues at c.index-queues-place.is) c.index_mut.ensures.value c.admit_to.ensures.ready c.admit_to.ensures.room)
+
+pub returns-clause-room : goal.returns-clause-room
+returns-clause-room c = room_kept (ready_key c.args.tables.now) c.args.tables.now.queues c.loop-place.place c.args.rows.now.items c.loop-place.rows.items c.loop-place.invariant

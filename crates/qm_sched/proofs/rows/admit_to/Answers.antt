@@ -7,7 +7,7 @@ use Rattle.qm_sched.proofs.RowKeys.{admitted, passed_by, has_room}
 use Rattle.qm_sched.proofs.rows.admit_to.Goals as goal
 
 pub insert-requires-clause-room : goal.insert-requires-clause-room
-insert-requires-clause-room c = has_room c.args.tables.now c.args.queue.now c.args.entry.now c.requires.there c.args.row.now c.requires.ready c.see_row.ensures c.requires.room
+insert-requires-clause-room c = has_room c.args.tables.now c.args.queue.now c.args.entry.now c.requires.there c.args.row.now c.requires.ready c.see_row.ensures (sym (c.fits.ensures no_system) ∙ c.if-fits.true) c.requires.room
 
 pub returns-then-fits-clause-ready : goal.returns-then-fits-clause-ready
 returns-then-fits-clause-ready c =

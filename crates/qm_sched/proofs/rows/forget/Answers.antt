@@ -2,7 +2,7 @@ use Rattle.std.proofs.Common.{◌<◌, List, length, ap, arith}
 use Rattle.qm_kinds.specs.declared.queue.Queue.{Queue}
 use Rattle.qm_sched.specs.Ready.{ready_key, without_number}
 use Rattle.qm_sched.proofs.Each.{one_done}
-use Rattle.qm_sched.proofs.RowLoops.{IsMade, forgotten_at}
+use Rattle.qm_sched.proofs.RowLoops.{IsMade, forgotten_at, room_kept}
 use Rattle.qm_sched.proofs.rows.forget.Goals as goal
 
 pub loop-place-preserved : goal.loop-place-preserved
@@ -13,3 +13,7 @@ loop-place-preserved c =
     one_done (IsMade (λ q. without_number c.args.entry.now.number (ready_key t q)) t.queues) c.loop-place.place c.args.rows.now.items c.loop-place.rows.items c.remove.new.self c.loop-place.invariant inside
     (forgotten_at t c.args.entry.now c.requires.there c.loop-place.place c.args.rows.now.items c.loop-place.rows.items c.loop-place.invariant c.requires.ready within c.requires.enough
     c.index_mut.result.now c.remove.new.self c.index_mut.ensures.value c.of-key.result c.of-key.ensures c.remove.result c.remove.ensures.found c.remove.ensures.removed c.remove.ensures.each c.remove.ensures.room)
+
+pub returns-clause-room : goal.returns-clause-room
+returns-clause-room c =
+    room_kept (λ q. without_number c.args.entry.now.number (ready_key c.args.tables.now q)) c.args.tables.now.queues c.loop-place.place c.args.rows.now.items c.loop-place.rows.items c.loop-place.invariant

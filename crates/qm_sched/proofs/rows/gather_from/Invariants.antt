@@ -1,4 +1,4 @@
-use Rattle.std.proofs.Common.{◌≡◌, ◌+◌, ◌≤◌, filter, length, map, take}
+use Rattle.std.proofs.Common.{◌≡◌, ◌+◌, filter, length, map, take}
 use Rattle.qm_entries.specs.Boxed.{contents}
 use Rattle.qm_kinds.specs.declared.system.System.{System}
 use Rattle.qm_match.specs.Keys.{key_of}
@@ -13,5 +13,4 @@ invariant-loop-boxed l =
       keys : (s : System) → l.gathering.keys ≡ map key_of (filter (λ e. fits (with_tables s l.tables) e l.queue) (take l.boxed-index (contents l.entries)));
       schedule : l.gathering.schedule ≡ l.initial.gathering.schedule;
       room : l.gathering.spare + length l.gathering.keys ≡ l.initial.gathering.spare;
-      few : length l.gathering.keys ≤ l.boxed-index;
     }

@@ -2,8 +2,18 @@ use Rattle.std.proofs.Common.{◌<◌, List, length, ap, arith}
 use Rattle.qm_kinds.specs.declared.queue.Queue.{Queue}
 use Rattle.qm_sched.specs.Ready.{ready_key}
 use Rattle.qm_sched.proofs.Each.{one_done}
-use Rattle.qm_sched.proofs.RowLoops.{IsMade, made}
+use Rattle.qm_sched.proofs.RowLoops.{IsMade, made, room_kept, room_next}
 use Rattle.qm_sched.proofs.rows.refill_all.Goals as goal
+
+pub refill-requires : goal.refill-requires
+refill-requires c =
+    let t = c.args.tables.now in
+    let within : c.loop-place.place < length t.queues = omega (arith, c.loop-place-test.true, ap (λ (qs : List Queue). length qs) c.queues-place-end.ensures.queues) in
+    record {
+      room =
+          room_next (ready_key t) t.queues t.entries c.loop-place.place c.index-queues-place.result c.index_mut.result.now c.args.rows.now.items c.loop-place.rows.items
+          c.loop-place.invariant c.requires.room within c.requires.enough (rw c.queues.ensures.queues at c.index-queues-place.is) c.index_mut.ensures.value;
+    }
 
 pub loop-place-preserved : goal.loop-place-preserved
 loop-place-preserved c =
@@ -13,3 +23,6 @@ loop-place-preserved c =
     one_done (IsMade (ready_key t) t.queues) c.loop-place.place c.args.rows.now.items c.loop-place.rows.items c.refill.new.row c.loop-place.invariant inside
     (made (ready_key t) t.queues c.loop-place.place c.index-queues-place.result c.loop-place.rows.items c.index_mut.result.now c.refill.new.row within inside c.loop-place.invariant.count
     (rw c.queues.ensures.queues at c.index-queues-place.is) c.index_mut.ensures.value c.refill.ensures.ready c.refill.ensures.room)
+
+pub returns-clause-room : goal.returns-clause-room
+returns-clause-room c = room_kept (ready_key c.args.tables.now) c.args.tables.now.queues c.loop-place.place c.args.rows.now.items c.loop-place.rows.items c.loop-place.invariant

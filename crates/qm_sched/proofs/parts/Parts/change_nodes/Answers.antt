@@ -1,22 +1,23 @@
-use Rattle.std.proofs.Common.{ap, arith, length}
-use Rattle.qm_sched.specs.Tables.{Tables}
 use Rattle.qm_sched.proofs.KeptRows.{kept_by, enough_for, room_for}
+use Rattle.qm_sched.proofs.Reach.{all_stay}
+use Rattle.qm_sched.specs.Tables.{Tables}
+use Rattle.std.proofs.Common.{ap, arith}
 use Rattle.qm_sched.proofs.parts.Parts.change_nodes.Goals as goal
 
 pub refill_all-requires-clause-enough : goal.refill_all-requires-clause-enough
 refill_all-requires-clause-enough c =
-    enough_for c.self.inside.tables c.self.inside.rows.items c.self.inside.entry_room c.self.inside.queue_room c.self.invariant c.change_nodes.new.self
-    (omega (arith, ap (λ (t : Tables). length t.queues) (c.change_nodes.ensures)))
+    enough_for c.self.inside.tables c.self.inside.rows.items c.self.inside.bounds.items c.self.inside.queue_room c.self.invariant c.change_nodes.new.self
+    (all_stay c.self.inside.tables c.change_nodes.new.self (ap (λ (t : Tables). t.queues) c.change_nodes.ensures) (ap (λ (t : Tables). t.entries) c.change_nodes.ensures))
 
 pub refill_all-requires-clause-room : goal.refill_all-requires-clause-room
 refill_all-requires-clause-room c =
-    room_for c.self.inside.tables c.self.inside.rows.items c.self.inside.entry_room c.self.inside.queue_room c.self.invariant c.change_nodes.new.self
-    (omega (arith, ap (λ (t : Tables). length t.entries) (c.change_nodes.ensures)))
+    room_for c.self.inside.tables c.self.inside.rows.items c.self.inside.bounds.items c.self.inside.queue_room c.self.invariant c.change_nodes.new.self
+    (all_stay c.self.inside.tables c.change_nodes.new.self (ap (λ (t : Tables). t.queues) c.change_nodes.ensures) (ap (λ (t : Tables). t.entries) c.change_nodes.ensures))
 
 pub invariant_of-self : goal.invariant_of-self
 invariant_of-self c =
-    kept_by c.self.inside.tables c.self.inside.rows.items c.self.inside.entry_room c.self.inside.queue_room c.self.invariant c.change_nodes.new.self c.refill_all.new.rows.items
-    (omega (arith, c.self.invariant.entries, ap (λ (t : Tables). t.spare_entries) (c.change_nodes.ensures))) (omega (arith, c.self.invariant.queues, ap (λ (t : Tables). t.spare_queues) (c.change_nodes.ensures)))
-    (omega (arith, ap (λ (t : Tables). length t.queues) (c.change_nodes.ensures)))
-    (omega (arith, ap (λ (t : Tables). length t.entries) (c.change_nodes.ensures)))
-    c.refill_all.ensures.count c.refill_all.ensures.room c.refill_all.ensures.ready
+    kept_by c.self.inside.tables c.self.inside.rows.items c.self.inside.bounds.items c.self.inside.queue_room c.self.invariant c.change_nodes.new.self
+    (all_stay c.self.inside.tables c.change_nodes.new.self (ap (λ (t : Tables). t.queues) c.change_nodes.ensures) (ap (λ (t : Tables). t.entries) c.change_nodes.ensures))
+    c.refill_all.new.rows.items
+    (omega (arith, c.self.invariant.queues, ap (λ (t : Tables). t.spare_queues) c.change_nodes.ensures)) c.refill_all.ensures.count c.refill_all.ensures.room
+    c.refill_all.ensures.ready

@@ -1,9 +1,10 @@
-use Rattle.std.proofs.Common.{◌<◌, ◌+◌, ◌-◌, ◌∷◌, [], ap, arith, length, subst, sym}
+use Rattle.std.proofs.Common.{◌<◌, ◌-◌, ◌++◌, ◌∷◌, [], ap, arith, length, subst, sym, ◌∙◌}
 use Rattle.std.specs.List.{All}
-use Rattle.std.proofs.lemmas.List.{length-append}
 use Rattle.qm_sched.specs.Ready.{AreReadyBut}
+use Rattle.qm_sched.specs.Rooms.{AreBounds, HavePlacesFor, HaveRoom, leads_to, rooms_of}
 use Rattle.qm_sched.specs.Tables.{Tables}
-use Rattle.qm_sched.proofs.KeptRows.{less_room}
+use Rattle.qm_sched.proofs.Bounds.{raised_bounds}
+use Rattle.qm_sched.proofs.Reach.{more_room, reach_behind}
 use Rattle.qm_sched.proofs.ReadyRows.{behind_rows}
 use Rattle.qm_sched.proofs.parts.Parts.insert_entry.Goals as goal
 
@@ -14,19 +15,28 @@ admit_number-requires-clause-ready c =
     subst (λ (u : Tables). AreReadyBut c.args.entry.number u c.self.inside.rows.items) (sym c.insert_entry.ensures)
     (behind_rows t c.self.inside.rows.items c.args.entry (t.spare_entries - 1) last c.self.invariant.ready)
 
+pub admit_number-requires-clause-room : goal.admit_number-requires-clause-room
+admit_number-requires-clause-room c =
+    let t = c.self.inside.tables in
+    let e = c.args.entry in
+    let places = subst (HavePlacesFor e.home 1) (sym c.self.view_is) c.requires.places in
+    subst (λ (u : Tables). HaveRoom u.queues u.entries (rooms_of c.self.inside.rows.items)) (sym c.insert_entry.ensures)
+    (more_room 1 (λ q. leads_to t.queues q e.home) t.queues t.entries (t.entries ++ e ∷ []) (rooms_of c.self.inside.rows.items) (λ q. omega (arith, reach_behind t.queues t.entries e q)) c.self.invariant.room places)
+
 pub invariant_of-self : goal.invariant_of-self
 invariant_of-self c =
     let is = c.insert_entry.ensures in
     let t = c.self.inside.tables in
-    let room = ap (λ (u : Tables). u.spare_entries) c.self.view_is in
-    let entries = ap (λ (u : Tables). length u.entries) is in
-    let more = length-append t.entries (c.args.entry ∷ []) in
+    let e = c.args.entry in
+    let places = subst (HavePlacesFor e.home 1) (sym c.self.view_is) c.requires.places in
+    let room = subst (λ (u : Tables). HaveRoom u.queues u.entries (rooms_of c.self.inside.rows.items)) (sym is)
+    (more_room 1 (λ q. leads_to t.queues q e.home) t.queues t.entries (t.entries ++ e ∷ []) (rooms_of c.self.inside.rows.items) (λ q. omega (arith, reach_behind t.queues t.entries e q)) c.self.invariant.room places) in
     record {
-      one = omega (arith, c.self.invariant.one);
-      entries = omega (arith, c.self.invariant.entries, ap (λ (u : Tables). u.spare_entries) is);
       queues = omega (arith, c.self.invariant.queues, ap (λ (u : Tables). u.spare_queues) is);
       enough = omega (arith, c.self.invariant.enough, ap (λ (u : Tables). length u.queues) is, c.admit_number.ensures.count);
-      room = less_room (length c.insert_entry.new.self.entries + (c.self.inside.entry_room - 1)) (length t.entries + c.self.inside.entry_room) c.admit_number.new.rows.items
-          (omega (arith, entries, more, room, c.requires.room)) (c.admit_number.ensures.room (length t.entries + c.self.inside.entry_room) c.self.invariant.room);
+      bounded = c.raise_each.ensures.count ∙ c.self.invariant.bounded ∙ sym c.admit_number.ensures.count;
+      room = subst (HaveRoom c.insert_entry.new.self.queues c.insert_entry.new.self.entries) (sym c.admit_number.ensures.room) room;
+      bounds = subst (λ (u : Tables). AreBounds u.queues u.entries c.raise_each.new.bounds.items) (sym is)
+          (raised_bounds t.queues t.entries (t.entries ++ e ∷ []) e.home c.self.inside.bounds.items c.raise_each.new.bounds.items (λ q. omega (arith, reach_behind t.queues t.entries e q)) c.raise_each.ensures.raised c.self.invariant.bounds);
       ready = c.admit_number.ensures.ready;
     }

@@ -1,15 +1,14 @@
-use Rattle.std.proofs.Common.{◌+◌, List, ap, arith, length}
-use Rattle.qm_kinds.specs.declared.queue.Queue.{Queue}
-use Rattle.qm_sched.proofs.KeptRows.{less_room}
+use Rattle.std.proofs.Common.{arith, subst, sym}
+use Rattle.qm_sched.specs.Rooms.{HaveRoom}
+use Rattle.qm_sched.proofs.Bounds.{unknown_bounds}
 use Rattle.qm_sched.proofs.parts.Parts.of.Goals as goal
 
 pub invariant_of-result : goal.invariant_of-result
 invariant_of-result c = record {
-  one = omega arith;
-  entries = omega arith;
   queues = omega arith;
-  enough = omega (arith, c.in_ok-rows.ensures.count, ap (λ (qs : List Queue). length qs) c.queues.ensures.queues, c.refill_all.ensures.count);
-  room = c.refill_all.ensures.room (length c.args.tables.entries + 0)
-      (less_room (length c.args.tables.entries + 0) c.entry_count.result c.in_ok-rows.rows.items (omega (arith, c.entry_count.ensures)) c.in_ok-rows.ensures.room);
+  enough = omega (arith, c.in_ok-rows.ensures.count, c.refill_all.ensures.count);
+  bounded = omega (arith, c.in_ok-bounds.ensures.count, c.refill_all.ensures.count, c.len.ensures);
+  room = subst (HaveRoom c.args.tables.queues c.args.tables.entries) (sym c.refill_all.ensures.room) c.in_ok-rows.ensures.room;
+  bounds = unknown_bounds c.args.tables.queues c.args.tables.entries c.in_ok-bounds.bounds.items c.in_ok-bounds.ensures.unknown;
   ready = c.refill_all.ensures.ready;
 }

@@ -1,9 +1,12 @@
-use Rattle.std.proofs.Common.{ap, arith, length, subst, sym, ◌∙◌}
-use Rattle.qm_kinds.specs.declared.entry.Entry.{Entry}
+use Rattle.std.proofs.Common.{◌≡◌, ap, arith, false, length, subst, sym, Some, ◌∙◌}
+use Rattle.std.specs.Prelude.{IfSome}
+use Rattle.std.specs.Str.{bytes_eq}
+use Rattle.qm_model.specs.Find.{entry_numbered}
+use Rattle.qm_model.specs.Standing.{with_entry}
 use Rattle.qm_sched.specs.Ready.{AreReadyBut}
+use Rattle.qm_sched.specs.Rooms.{AreBounds, HavePlacesFor, HaveRoom, rooms_of}
 use Rattle.qm_sched.specs.Tables.{Tables}
-use Rattle.qm_sched.proofs.KeptRows.{kept_by, room_for}
-use Rattle.qm_sched.proofs.ReadyKeys.{number_of_changed}
+use Rattle.qm_sched.proofs.Reach.{room_replaced}
 use Rattle.qm_sched.proofs.ReadyRows.{replaced_rows}
 use Rattle.qm_sched.proofs.parts.Parts.replace_entry.Goals as goal
 
@@ -14,16 +17,25 @@ admit_number-requires-clause-ready c =
 
 pub admit_number-requires-clause-room : goal.admit_number-requires-clause-room
 admit_number-requires-clause-room c =
-    let is = c.replace_entry.ensures.tables in
-    c.forget_number.ensures.room (length c.replace_entry.new.self.entries)
-    (room_for c.self.inside.tables c.self.inside.rows.items c.self.inside.entry_room c.self.inside.queue_room c.self.invariant c.replace_entry.new.self
-    (omega (arith, ap (λ (t : Tables). length t.entries) is, number_of_changed c.args.entry.number (λ (e : Entry). c.args.entry) c.self.inside.tables.entries)))
+    let t = c.self.inside.tables in
+    let e = c.args.entry in
+    let places = subst (λ (u : Tables). IfSome (entry_numbered e.number u.entries) (λ old. bytes_eq old.home e.home ≡ false → HavePlacesFor e.home 1 u)) (sym c.self.view_is) c.requires.places in
+    subst (λ (u : Tables). HaveRoom u.queues u.entries (rooms_of c.forget_number.new.rows.items)) (sym c.replace_entry.ensures.tables)
+    (subst (HaveRoom t.queues (with_entry e.number (λ x. Some e) t.entries)) (sym c.forget_number.ensures.room) (room_replaced t.queues t.entries e (rooms_of c.self.inside.rows.items) c.raise_moved.ensures.in_order c.self.invariant.room places))
 
 pub invariant_of-self : goal.invariant_of-self
 invariant_of-self c =
     let is = c.replace_entry.ensures.tables in
-    kept_by c.self.inside.tables c.self.inside.rows.items c.self.inside.entry_room c.self.inside.queue_room c.self.invariant c.replace_entry.new.self c.admit_number.new.rows.items
-    (omega (arith, c.self.invariant.entries, ap (λ (t : Tables). t.spare_entries) (is))) (omega (arith, c.self.invariant.queues, ap (λ (t : Tables). t.spare_queues) (is)))
-    (omega (arith, ap (λ (t : Tables). length t.queues) (is)))
-    (omega (arith, ap (λ (t : Tables). length t.entries) (is), number_of_changed c.args.entry.number (λ (e : Entry). c.args.entry) c.self.inside.tables.entries))
-    (c.admit_number.ensures.count ∙ c.forget_number.ensures.count) (λ most room. c.admit_number.ensures.room most (c.forget_number.ensures.room most room)) c.admit_number.ensures.ready
+    let t = c.self.inside.tables in
+    let e = c.args.entry in
+    let places = subst (λ (u : Tables). IfSome (entry_numbered e.number u.entries) (λ old. bytes_eq old.home e.home ≡ false → HavePlacesFor e.home 1 u)) (sym c.self.view_is) c.requires.places in
+    record {
+      queues = omega (arith, c.self.invariant.queues, ap (λ (u : Tables). u.spare_queues) is);
+      enough = omega (arith, c.self.invariant.enough, ap (λ (u : Tables). length u.queues) is, c.admit_number.ensures.count, c.forget_number.ensures.count);
+      bounded = c.raise_moved.ensures.count ∙ c.self.invariant.bounded ∙ sym (c.admit_number.ensures.count ∙ c.forget_number.ensures.count);
+      room = subst (λ (u : Tables). HaveRoom u.queues u.entries (rooms_of c.admit_number.new.rows.items)) (sym is)
+          (subst (HaveRoom t.queues (with_entry e.number (λ x. Some e) t.entries)) (sym (c.admit_number.ensures.room ∙ c.forget_number.ensures.room))
+          (room_replaced t.queues t.entries e (rooms_of c.self.inside.rows.items) c.raise_moved.ensures.in_order c.self.invariant.room places));
+      bounds = subst (λ (u : Tables). AreBounds u.queues u.entries c.raise_moved.new.bounds.items) (sym is) c.raise_moved.ensures.bounds;
+      ready = c.admit_number.ensures.ready;
+    }

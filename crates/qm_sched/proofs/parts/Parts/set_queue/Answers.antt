@@ -1,25 +1,25 @@
-use Rattle.std.proofs.Common.{ap, arith, length, refl, ◌∙◌}
-use Rattle.std.proofs.lemmas.List.{length-map}
 use Rattle.qm_queues.specs.Settings.{with_settings_and_state}
-use Rattle.qm_sched.specs.Tables.{Tables}
 use Rattle.qm_sched.proofs.KeptRows.{kept_by, enough_for, room_for}
+use Rattle.qm_sched.proofs.OneQueue.{one_changed, one_name, one_targets}
+use Rattle.qm_sched.proofs.Reach.{queues_stay}
+use Rattle.qm_sched.specs.Tables.{Tables}
+use Rattle.std.proofs.Common.{ap, arith, refl}
 use Rattle.qm_sched.proofs.parts.Parts.set_queue.Goals as goal
 
 pub refill_for-requires-clause-enough : goal.refill_for-requires-clause-enough
 refill_for-requires-clause-enough c =
-    enough_for c.self.inside.tables c.self.inside.rows.items c.self.inside.entry_room c.self.inside.queue_room c.self.invariant c.set_queue.new.self
-    (omega (arith, ap (λ (t : Tables). length t.queues) (c.set_queue.ensures) ∙ length-map c.self.inside.tables.queues _))
+    enough_for c.self.inside.tables c.self.inside.rows.items c.self.inside.bounds.items c.self.inside.queue_room c.self.invariant c.set_queue.new.self
+    (queues_stay (one_changed c.args.name.now (with_settings_and_state c.args.settings.now c.args.state)) (one_name c.args.name.now (with_settings_and_state c.args.settings.now c.args.state) (record { name = λ q. refl; kind = λ q. refl; targets = λ q. refl })) (one_targets c.args.name.now (with_settings_and_state c.args.settings.now c.args.state) (record { name = λ q. refl; kind = λ q. refl; targets = λ q. refl })) c.self.inside.tables c.set_queue.new.self (ap (λ (t : Tables). t.queues) c.set_queue.ensures) (ap (λ (t : Tables). t.entries) c.set_queue.ensures))
 
 pub refill_for-requires-clause-room : goal.refill_for-requires-clause-room
 refill_for-requires-clause-room c =
-    room_for c.self.inside.tables c.self.inside.rows.items c.self.inside.entry_room c.self.inside.queue_room c.self.invariant c.set_queue.new.self
-    (omega (arith, ap (λ (t : Tables). length t.entries) (c.set_queue.ensures)))
+    room_for c.self.inside.tables c.self.inside.rows.items c.self.inside.bounds.items c.self.inside.queue_room c.self.invariant c.set_queue.new.self
+    (queues_stay (one_changed c.args.name.now (with_settings_and_state c.args.settings.now c.args.state)) (one_name c.args.name.now (with_settings_and_state c.args.settings.now c.args.state) (record { name = λ q. refl; kind = λ q. refl; targets = λ q. refl })) (one_targets c.args.name.now (with_settings_and_state c.args.settings.now c.args.state) (record { name = λ q. refl; kind = λ q. refl; targets = λ q. refl })) c.self.inside.tables c.set_queue.new.self (ap (λ (t : Tables). t.queues) c.set_queue.ensures) (ap (λ (t : Tables). t.entries) c.set_queue.ensures))
 
 pub invariant_of-self : goal.invariant_of-self
 invariant_of-self c =
-    kept_by c.self.inside.tables c.self.inside.rows.items c.self.inside.entry_room c.self.inside.queue_room c.self.invariant c.set_queue.new.self c.refill_for.new.rows.items
-    (omega (arith, c.self.invariant.entries, ap (λ (t : Tables). t.spare_entries) (c.set_queue.ensures))) (omega (arith, c.self.invariant.queues, ap (λ (t : Tables). t.spare_queues) (c.set_queue.ensures)))
-    (omega (arith, ap (λ (t : Tables). length t.queues) (c.set_queue.ensures) ∙ length-map c.self.inside.tables.queues _))
-    (omega (arith, ap (λ (t : Tables). length t.entries) (c.set_queue.ensures)))
-    c.refill_for.ensures.count c.refill_for.ensures.room
-    (c.refill_for.ensures.ready c.self.inside.tables (with_settings_and_state c.args.settings.now c.args.state) (record { name = λ q. refl; kind = λ q. refl }) c.set_queue.ensures c.self.invariant.ready)
+    kept_by c.self.inside.tables c.self.inside.rows.items c.self.inside.bounds.items c.self.inside.queue_room c.self.invariant c.set_queue.new.self
+    (queues_stay (one_changed c.args.name.now (with_settings_and_state c.args.settings.now c.args.state)) (one_name c.args.name.now (with_settings_and_state c.args.settings.now c.args.state) (record { name = λ q. refl; kind = λ q. refl; targets = λ q. refl })) (one_targets c.args.name.now (with_settings_and_state c.args.settings.now c.args.state) (record { name = λ q. refl; kind = λ q. refl; targets = λ q. refl })) c.self.inside.tables c.set_queue.new.self (ap (λ (t : Tables). t.queues) c.set_queue.ensures) (ap (λ (t : Tables). t.entries) c.set_queue.ensures))
+    c.refill_for.new.rows.items
+    (omega (arith, c.self.invariant.queues, ap (λ (t : Tables). t.spare_queues) c.set_queue.ensures)) c.refill_for.ensures.count c.refill_for.ensures.room
+    (c.refill_for.ensures.ready c.self.inside.tables (with_settings_and_state c.args.settings.now c.args.state) (record { name = λ q. refl; kind = λ q. refl; targets = λ q. refl }) c.set_queue.ensures c.self.invariant.ready)

@@ -2,6 +2,7 @@ use Rattle.std.proofs.Common.{◌≡◌, ◌∙◌, ◌==◌, ◌<◌, ◌++◌,
 use Rattle.std.proofs.lemmas.List.Elements.{All-weaker}
 use Rattle.qm_kinds.specs.declared.entry.Entry.{Entry}
 use Rattle.qm_model.specs.Consistent.{IsEntry}
+use Rattle.qm_sched.specs.Rooms.{HavePlacesFor}
 use Rattle.qm_sched.specs.Tables.{Tables}
 use Rattle.qm_spool.specs.Counts.{CountsOf}
 use Rattle.qm_state.specs.Timers.{AreTimersOf}
@@ -10,6 +11,9 @@ use Rattle.qm_state.specs.Image.{system_of}
 use Rattle.qm_state.proofs.Entries.{counts_behind}
 use Rattle.qm_state.proofs.Timed.{timers_behind}
 use Rattle.qm_state.proofs.image.Image.enter.Goals as goal
+
+pub insert_entry-requires-clause-places : goal.insert_entry-requires-clause-places
+insert_entry-requires-clause-places c = subst (HavePlacesFor c.args.entry.home 1) (sym c.set_timer.ensures.tables) c.requires.new.places
 
 pub invariant_of-self : goal.invariant_of-self
 unfolding system_of

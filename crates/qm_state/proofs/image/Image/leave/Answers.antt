@@ -1,8 +1,10 @@
-use Rattle.std.proofs.Common.{◌≡◌, ◌∙◌, ◌==◌, ℕ, List, Option, Some, cond, IfSome, ap, sym, subst}
+use Rattle.std.proofs.Common.{◌≡◌, ◌∙◌, ◌==◌, false, ℕ, List, Option, Some, cond, IfSome, ap, sym, subst}
 use Rattle.std.specs.Option.{option_and_then}
+use Rattle.std.specs.Str.{bytes_eq}
 use Rattle.qm_kinds.specs.declared.entry.Entry.{Entry}
 use Rattle.qm_model.specs.Standing.{with_entry}
 use Rattle.qm_sched.specs.Mirror.{run_of_entry}
+use Rattle.qm_sched.specs.Rooms.{HavePlacesFor}
 use Rattle.qm_sched.specs.Tables.{Tables}
 use Rattle.qm_spool.specs.Counts.{CountsOf}
 use Rattle.qm_timers.specs.Timers.{moment_of}
@@ -13,13 +15,21 @@ use Rattle.qm_state.proofs.Entries.{counts_kept_by}
 use Rattle.qm_state.proofs.Timed.{timers_replaced}
 use Rattle.qm_state.proofs.image.Image.leave.Goals as goal
 
-pub replace_entry-requires : goal.replace_entry-requires
-replace_entry-requires c =
+pub replace_entry-requires-clause-run : goal.replace_entry-requires-clause-run
+replace_entry-requires-clause-run c =
     let es = c.args.self.now.parts.entries in
     let same : c.set_timer.new.self.entries ≡ es = ap (λ (t : Tables). t.entries) c.set_timer.ensures.tables in
     let left = subst (λ o. IfSome o (λ e. IsLeftOf e c.args.number (entry_numbered c.args.number es))) c.in-Some.is c.requires.left in
     subst (λ (xs : List Entry). IfSome (run_of_entry c.in-Some.entry) (λ r. option_and_then run_of_entry (entry_numbered c.in-Some.entry.number xs) ≡ Some r)) (sym same)
     (subst (λ (n : ℕ). IfSome (run_of_entry c.in-Some.entry) (λ r. option_and_then run_of_entry (entry_numbered n es) ≡ Some r)) (sym left.number_stays) left.run_stays)
+
+pub replace_entry-requires-clause-places : goal.replace_entry-requires-clause-places
+replace_entry-requires-clause-places c =
+    let t = c.args.self.now.parts in
+    let left = subst (λ o. IfSome o (λ e. IsLeftOf e c.args.number (entry_numbered c.args.number t.entries))) c.in-Some.is c.requires.left in
+    let place = subst (λ o. IfSome o (λ e. IfSome (entry_numbered c.args.number t.entries) (λ old. bytes_eq old.home e.home ≡ false → HavePlacesFor e.home 1 t))) c.in-Some.is c.requires.place in
+    subst (λ (u : Tables). IfSome (entry_numbered c.in-Some.entry.number u.entries) (λ old. bytes_eq old.home c.in-Some.entry.home ≡ false → HavePlacesFor c.in-Some.entry.home 1 u)) (sym c.set_timer.ensures.tables)
+    (subst (λ (n : ℕ). IfSome (entry_numbered n t.entries) (λ old. bytes_eq old.home c.in-Some.entry.home ≡ false → HavePlacesFor c.in-Some.entry.home 1 t)) (sym left.number_stays) place)
 
 pub invariant_of-self : goal.invariant_of-self
 invariant_of-self c =

@@ -8,7 +8,7 @@ use Rattle.qm_state.proofs.image.Image.merge.Goals as goal
 pub overflow_cast-result : goal.overflow_cast-result
 unfolding system_of
 overflow_cast-result c =
-    omega (arith, c.merge-moved.ensures.moved, count_by-le-length (waits_in c.args.from.now) c.args.self.now.parts.entries, c.requires.entries.few)
+    omega (arith, c.merge-moved.ensures.moved, count_by-le-length (waits_in c.args.from.now) c.args.self.now.parts.entries, c.requires.sound.entries.few)
 
 pub invariant_of-self : goal.invariant_of-self
 invariant_of-self c =

@@ -1,9 +1,10 @@
-use Rattle.std.proofs.Common.{◌∙◌, ap, sym, subst, arith}
+use Rattle.std.proofs.Common.{◌∙◌, ℕ, List, ap, sym, subst, arith}
 use Rattle.std.specs.Prelude.{IsSome}
 use Rattle.qm_kinds.specs.declared.entry.Entry.{Entry}
 use Rattle.qm_kinds.specs.declared.file.FileName.{FileName}
 use Rattle.qm_model.specs.Find.{file_named}
 use Rattle.qm_model.specs.JobStates.{run_of}
+use Rattle.qm_sched.specs.Rooms.{HavePlacesFor}
 use Rattle.qm_state.specs.Image.{system_of}
 use Rattle.qm_state.proofs.Accepting.{accepted, number_left, waits_at_first}
 use Rattle.qm_state.proofs.image.Image.new_entry.Goals as goal
@@ -19,6 +20,7 @@ returns-clause-ready c =
       next = number_left c.args.self.now.next_entry (omega (arith, c.next_number-number.ensures.value, c.next_number-number.ensures.fits)) holds.number;
       few = holds.few;
       room = c.requires.room;
+      places = subst (λ (home : List ℕ). HavePlacesFor home 1 c.args.self.now.parts) (sym (ap (λ (x : Entry). x.home) e)) c.requires.places;
       timer = c.requires.timer;
       file = subst (λ (n : FileName). IsSome (file_named n c.args.self.now.spool.files)) (sym (ap (λ (x : Entry). x.file) e)) holds.there;
     }

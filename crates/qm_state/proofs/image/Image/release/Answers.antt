@@ -1,10 +1,18 @@
-use Rattle.std.proofs.Common.{◌≡◌, ◌∙◌, ℕ, ◌<◌, Option, None, IfSome, ap, sym, subst, arith}
+use Rattle.std.proofs.Common.{◌≡◌, ◌∙◌, ℕ, ◌<◌, Bool, true, false, cond, Option, None, Some, IfSome, refl, ap, sym, subst, arith}
 use Rattle.std.specs.Option.{option_copied}
+use Rattle.qm_kinds.specs.declared.entry.Entry.{Entry}
 use Rattle.qm_kinds.specs.declared.system.System.{System}
+use Rattle.qm_model.specs.Due.{entry_at, is_over}
+use Rattle.qm_sched.specs.Rooms.{HavePlacesFor}
+use Rattle.qm_state.proofs.Ended.{home_kept}
 use Rattle.qm_state.specs.Image.{system_of}
 use Rattle.qm_state.specs.Timers.{entries_at, moment_left}
 use Rattle.qm_state.proofs.Timed.{has_entry, has_come, left_released, no_moment_left, found_still, one_less}
 use Rattle.qm_state.proofs.image.Image.release.Goals as goal
+
+left_home : (now : ℕ) (e : Entry) (over : Bool) → IfSome (cond over None (Some (entry_at now e))) (λ l. l.home ≡ e.home)
+left_home now e true = tt
+left_home now e false = refl
 
 pub unreachable-requires : goal.unreachable-requires
 unreachable-requires c = has_entry c.args.now c.args.number c.args.self.now.parts.entries c.args.self.now.parts.timers c.args.self.now.timed c.requires.due (sym c.entry.ensures.found ∙ ap option_copied c.in_default.is)
@@ -14,6 +22,11 @@ leave-requires-clause-left c =
     let found = sym c.in-Some.ensures.found in
     left_released c.args.now c.args.number c.args.self.now.parts.entries c.in-Some.entry.now c.left_at-left.result found
     (has_come c.args.now c.args.number c.args.self.now.parts.entries c.args.self.now.parts.timers c.in-Some.entry.now c.args.self.now.timed found c.requires.due) c.left_at-left.ensures
+
+pub leave-requires-clause-place : goal.leave-requires-clause-place
+leave-requires-clause-place c =
+    home_kept c.args.number c.in-Some.entry.now c.args.self.now.parts.entries c.left_at-left.result (λ (e : Entry). HavePlacesFor e.home 1 c.args.self.now.parts) (sym c.in-Some.ensures.found)
+    (subst (λ (o : Option Entry). IfSome o (λ l. l.home ≡ c.in-Some.entry.now.home)) (sym c.left_at-left.ensures) (left_home c.args.now c.in-Some.entry.now (is_over c.args.now c.in-Some.entry.now.state)))
 
 pub leave-requires-clause-timer : goal.leave-requires-clause-timer
 leave-requires-clause-timer c =

@@ -3,17 +3,24 @@ use Rattle.qm_kinds.specs.declared.entry.Entry.{Entry}
 use Rattle.qm_kinds.specs.declared.entry.Fate.{Fate}
 use Rattle.qm_model.specs.Runs.{report_act}
 use Rattle.qm_model.specs.Standing.{has_run, is_run_on}
+use Rattle.qm_sched.specs.Rooms.{HavePlacesFor}
 use Rattle.qm_state.specs.Ending.{report_of}
 use Rattle.qm_state.specs.Image.{system_of}
 use Rattle.qm_state.specs.Timers.{moment_left}
 use Rattle.qm_state.proofs.Timed.{room_for}
-use Rattle.qm_state.proofs.Ended.{reported_left, reported_is}
+use Rattle.qm_state.proofs.Ended.{reported_left, reported_home, reported_is}
 use Rattle.qm_state.proofs.image.Image.report_run.Goals as goal
 
 pub leave-requires-clause-left : goal.leave-requires-clause-left
 unfolding system_of
 leave-requires-clause-left c =
     reported_left c.queue_table.result.now.queues c.args.now (report_of c.args.report.now) (λ (e : Entry). has_run c.args.run e && is_run_on c.args.node.now e) c.in-Some.entry.now c.args.self.now.parts.entries c.after_report-left.result c.requires.sound.entries.order (sym c.in-Some.ensures) c.after_report-left.ensures
+
+pub leave-requires-clause-place : goal.leave-requires-clause-place
+unfolding system_of
+leave-requires-clause-place c =
+    reported_home c.queue_table.result.now.queues c.args.now (report_of c.args.report.now) (λ (e : Entry). has_run c.args.run e && is_run_on c.args.node.now e) c.in-Some.entry.now c.args.self.now.parts.entries c.after_report-left.result
+    (λ (e : Entry). HavePlacesFor e.home 1 c.args.self.now.parts) c.requires.sound.entries.order (sym c.in-Some.ensures) c.after_report-left.ensures
 
 pub returns-clause-done : goal.returns-clause-done
 unfolding system_of
