@@ -12,10 +12,10 @@ use Rattle.qm_script.specs.declared.script.Line.{Line}
 use Rattle.std.proofs.Common.{take_all, length-drop, append_assoc}
 use Rattle.std.proofs.lemmas.List.Splits.{length-slice_split}
 
-found_at : (i n place : ℕ) → Some place ≡ cond (nat_lt i n) (Some i) None → (place ≡ i) × (i < n)
+pub found_at : (i n place : ℕ) → Some place ≡ cond (nat_lt i n) (Some i) None → (place ≡ i) × (i < n)
 found_at i n place e = grind (arith, nat_tests)
 
-found_none : (i n : ℕ) → None ≡ cond (nat_lt i n) (Some i) None → n ≤ i
+pub found_none : (i n : ℕ) → None ≡ cond (nat_lt i n) (Some i) None → n ≤ i
 found_none i n e = grind (arith, nat_tests)
 
 -- the rest of a text, up to its end
@@ -40,7 +40,7 @@ with_more_lines front lines None = refl
 with_more_lines front lines (Some others) = ap Some (append_assoc front lines others)
 
 -- a text has a part at least
-some_part : (text : List ℕ) → (part : List ℕ) × (parts : List (List ℕ)) × (slice_split (λ b. b == 10) text ≡ part ∷ parts)
+pub some_part : (text : List ℕ) → (part : List ℕ) × (parts : List (List ℕ)) × (slice_split (λ b. b == 10) text ≡ part ∷ parts)
 some_part text = named (slice_split (λ b. b == 10) text) (length-slice_split (λ b. b == 10) text)
   where
     named : (parts : List (List ℕ)) → length parts ≡ count_by (λ b. b == 10) text + 1 → (part : List ℕ) × (others : List (List ℕ)) × (parts ≡ part ∷ others)

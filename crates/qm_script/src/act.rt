@@ -23,7 +23,7 @@ const MARK: &[u8] = b"MARK";
 
 pub(crate) const STEP: &[u8] = b"STEP";
 
-const TICK: &[u8] = b"TICK";
+pub(crate) const TICK: &[u8] = b"TICK";
 
 /// The most lines of a `FILL`.
 const FILL_LIMIT: u64 = 1024;
@@ -31,8 +31,8 @@ const FILL_LIMIT: u64 = 1024;
 /// The most steps of a `STEP`.
 const STEP_LIMIT: u64 = 100_000;
 
-// Whether a word is that of an act that is built.
-fn is_act_word(word: &[u8]) -> bool
+/// Whether a word is that of an act that is built.
+pub(crate) fn is_act_word(word: &[u8]) -> bool
     ensures { result ≡ is_act_word word.now }
 {
     word == LINE

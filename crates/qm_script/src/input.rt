@@ -37,8 +37,8 @@ pub fn read_input(alloc: Global, line: &Line<'_>, now: Moment) -> Result<Input, 
     }
 }
 
-// How many steps the text of an act asks for, if it asks for steps.
-fn steps_in(text: &[u8]) -> Option<u32>
+/// How many steps the text of an act asks for, if it asks for steps.
+pub(crate) fn steps_in(text: &[u8]) -> Option<u32>
     ensures { result ≡ steps_in text.now }
 {
     match cut_at_blank(text) {
