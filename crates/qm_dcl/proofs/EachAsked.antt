@@ -28,7 +28,7 @@ use Rattle.qm_dcl.specs.declared.settings.Definition.{Definition}
 use Rattle.qm_dcl.specs.declared.settings.Stop.{Stop}
 use Rattle.qm_dcl.specs.declared.settings.Stop.TheVariants as stop
 use Rattle.qm_dcl.specs.declared.value.Location.{Location}
-use Rattle.qm_dcl.specs.Built.{is_built, is_built_command}
+use Rattle.qm_dcl.specs.Built.{is_built}
 use Rattle.qm_dcl.specs.Forms.{form_named}
 use Rattle.qm_dcl.specs.Settings.{settings_of}
 use Rattle.qm_dcl.specs.Lists.{lists_of, nodes_of}
@@ -36,7 +36,7 @@ use Rattle.qm_dcl.specs.Submitting.{job_of}
 use Rattle.qm_dcl.specs.Entries.{entry_change_of}
 use Rattle.qm_dcl.specs.Showing.{query_of}
 use Rattle.qm_dcl.specs.Queues.{change_of, new_queue_of, stop_of, queue_request}
-use Rattle.qm_dcl.specs.Command.{asked, not_built, judged, asked_with, meant, command_named, command_of}
+use Rattle.qm_dcl.specs.Command.{asked, not_built, judged, asked_with, meant, unnamed, command_named, command_of}
 use Rattle.qm_dcl.proofs.FewValues.{HasFew, AreShort, lists_are_short}
 use Rattle.qm_dcl.proofs.ShortNames.{IsShort, IsDefinable, HasShortDevice, AreFit, settings_are_fit}
 
@@ -170,7 +170,7 @@ module _ {P : Input → Type 0} (each : OfEach P) (user : List ℕ) where
     of_queue c None is = tt
     of_queue c (Some name) is = of_request c name is
 
-    of_command : (c : Command) (nodes : Option (List (List ℕ))) → is_built_command c ≡ true → IfSome (asked user c s lists nodes) P
+    of_command : (c : Command) (nodes : Option (List (List ℕ))) → is_built c ≡ true → IfSome (asked user c s lists nodes) P
     of_command command.ShowEntry nodes built = of_shown s.entry
     of_command command.ShowManagers nodes built = cc
     of_command command.StartManager nodes built = cc
@@ -188,21 +188,25 @@ module _ {P : Input → Type 0} (each : OfEach P) (user : List ℕ) where
   or_not_built None h = tt
   or_not_built (Some input) h = h
 
-  of_given : (c : Command) (lists : Lists) (nodes : Option (List (List ℕ))) (given : Result Settings Fault) → is_built_command c ≡ true → AreShort lists
+  of_given : (c : Command) (lists : Lists) (nodes : Option (List (List ℕ))) (given : Result Settings Fault) → is_built c ≡ true → AreShort lists
       → IfOk given AreFit → IfOk (asked_with user c lists nodes given) P
   of_given c lists nodes (Ok s) built short fit = or_not_built (asked user c s lists nodes) (of_command s lists fit short c nodes built)
   of_given c lists nodes (Err f) built short fit = tt
 
-  of_built : (built : Bool) (now : ℕ) (text : List ℕ) (c : Command) → is_built text (tokens_in text) c ≡ built
+  of_built : (built : Bool) (now : ℕ) (text : List ℕ) (c : Command) → is_built c ≡ built
       → IfOk (cond built (meant user now text c) (Err not_built)) P
   of_built true now text c is =
-      of_given c (lists_of text (parts_in text)) (nodes_of text (parts_in text)) (judged (command_in text) (settings_of now text c (parts_in text))) (first_of_both _ _ is)
+      of_given c (lists_of text (parts_in text)) (nodes_of text (parts_in text)) (judged (command_in text) (settings_of now text c (parts_in text))) is
       (lists_are_short text) (judged_fit (command_in text) (settings_of now text c (parts_in text)) (settings_are_fit now text c (parts_in text)))
   of_built false now text c is = tt
 
+  of_unnamed : (read : Result Command Fault) → IfOk (unnamed read) P
+  of_unnamed (Ok c) = tt
+  of_unnamed (Err f) = tt
+
   of_named : (now : ℕ) (text : List ℕ) (named : Option Command) → IfOk (command_named user now text named) P
-  of_named now text None = tt
-  of_named now text (Some c) = of_built (is_built text (tokens_in text) c) now text c refl
+  of_named now text None = of_unnamed (command_in text)
+  of_named now text (Some c) = of_built (is_built c) now text c refl
 
   -- it holds of what a text asks for
   pub of_asked : (now : ℕ) (text : List ℕ) → IfOk (command_of user now text) P

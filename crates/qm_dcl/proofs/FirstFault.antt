@@ -11,7 +11,7 @@ use Rattle.qm_dcl.specs.declared.settings.Settings.{Settings}
 use Rattle.qm_dcl.specs.Built.{is_built}
 use Rattle.qm_dcl.specs.Settings.{settings_of}
 use Rattle.qm_dcl.specs.Lists.{lists_of, nodes_of}
-use Rattle.qm_dcl.specs.Command.{not_built, judged, asked_with, meant, command_named, command_of}
+use Rattle.qm_dcl.specs.Command.{not_built, judged, asked_with, meant, unnamed, command_named, command_of}
 
 whatever : (P : Type 0) → P → (r : Result Input Fault) → IfOk r (λ _. P)
 whatever P p (Ok input) = p
@@ -63,9 +63,13 @@ module _ (user : List ℕ) (now : ℕ) (text : List ℕ) where
   right_built true c = right user c (lists_of text (parts_in text)) (nodes_of text (parts_in text)) (command_in text) (settings_of now text c (parts_in text))
   right_built false c = tt
 
+  right_unnamed : (P : Type 0) (read : Result Command Fault) → IfOk (unnamed read) (λ _. P)
+  right_unnamed P (Ok c) = tt
+  right_unnamed P (Err f) = tt
+
   right_named : (named : Option Command) → IfOk (command_named user now text named) (λ _. IsOk (command_in text))
-  right_named None = tt
-  right_named (Some c) = right_built (is_built text (tokens_in text) c) c
+  right_named None = right_unnamed (IsOk (command_in text)) (command_in text)
+  right_named (Some c) = right_built (is_built c) c
 
   -- only a command of the grammar asks for something
   pub is_command : IfOk (command_of user now text) (λ _. IsOk (command_in text))
@@ -79,9 +83,13 @@ module _ (user : List ℕ) (now : ℕ) (text : List ℕ) where
   first_built true c f g wrong is = first user c (lists_of text (parts_in text)) (nodes_of text (parts_in text)) (command_in text) (settings_of now text c (parts_in text)) f g wrong is
   first_built false c f g wrong is = not_behind f g is
 
+  first_unnamed : (read : Result Command Fault) (f g : Fault) → read ≡ wrong f → unnamed read ≡ told g → g.place ≤ f.place
+  first_unnamed (Ok c) f g wrong is = not_behind f g is
+  first_unnamed (Err e) f g wrong is = let a = same_wrong e f wrong in let b = same_told e g is in grind (arith, nat_tests)
+
   first_named : (named : Option Command) (f g : Fault) → command_in text ≡ wrong f → command_named user now text named ≡ told g → g.place ≤ f.place
-  first_named None f g wrong is = not_behind f g is
-  first_named (Some c) f g wrong is = first_built (is_built text (tokens_in text) c) c f g wrong is
+  first_named None f g wrong is = first_unnamed (command_in text) f g wrong is
+  first_named (Some c) f g wrong is = first_built (is_built c) c f g wrong is
 
   -- no fault is told behind the first one of the grammar
   pub is_first : (f g : Fault) → command_in text ≡ wrong f → command_of user now text ≡ told g → g.place ≤ f.place

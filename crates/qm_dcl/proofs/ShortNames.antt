@@ -20,7 +20,7 @@ use Rattle.qm_dcl.specs.declared.value.Side.{Side}
 use Rattle.qm_dcl.specs.Values.{said_by, raised_by, are_digits, byte_said, form_number_said, entry_said, blocks_said, if_passes, short_name_said, definable_name_said, node_said, says_all, form_said, characteristic_said, behind_colon, before_colon, device_said, has_equals, located, location_cut_at, location_said, schedule_said, queue_retain_said, job_retain_said, is_until, side_said, moment_said}
 use Rattle.qm_dcl.specs.Forms.{with_margin}
 use Rattle.qm_dcl.specs.Given.{queue_marked, with_word, with_job, with_queue_settings, with_definition, with_shape, queue_given, entry_given, blocks_with, valued, nodes_begun, node_given, schedule_given, queue_retain_given, with_retain, until_given, after_given, margin_given, definable_given, form_given, characteristic_given, merge_given, file_given, parametered}
-use Rattle.qm_dcl.specs.Settings.{nothing_given, or_value_fault, with_key, with_until, with_retain_word, with_job_retain, is_of_queue, with_retained, with_value, inner_value, has_value_ahead, lists_nodes, with_part, on_settings, settings_from, settings_of}
+use Rattle.qm_dcl.specs.Settings.{nothing_given, or_value_fault, with_key, with_until, with_retain_word, with_job_retain, is_of_queue, with_value, inner_value, has_value_ahead, lists_nodes, with_part, on_settings, settings_from, settings_of}
 
 abbrev pub IsShort : List ℕ → Type 0
 IsShort name = is_short name ≡ true

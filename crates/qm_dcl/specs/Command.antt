@@ -63,13 +63,17 @@ meant user now text c =
     asked_with user c (lists_of text (parts_in text)) (nodes_of text (parts_in text))
     (judged (command_in text) (settings_of now text c (parts_in text)))
 
--- what a text asks for that names a command
-abbrev pub command_named : List ℕ → ℕ → List ℕ → Option Command → Result Input Fault
-command_named user now text None = Err not_built
-command_named user now text (Some c) = if is_built text (tokens_in text) c then meant user now text c else Err not_built
+-- what is wrong with a text that names no command
+abbrev pub unnamed : Result Command Fault → Result Input Fault
+unnamed (Ok c) = Err not_built
+unnamed (Err f) = Err f
 
--- What the text of a user asks for that is read at a moment, or the fault with the least place. A text that names no command that
--- is built, or has a qualifier of it that isn't, isn't built, whatever else is wrong with it; nor is another form of a command,
--- where nothing is wrong.
+-- what a text asks for that names a command, or names none
+abbrev pub command_named : List ℕ → ℕ → List ℕ → Option Command → Result Input Fault
+command_named user now text None = unnamed (command_in text)
+command_named user now text (Some c) = if is_built c then meant user now text c else Err not_built
+
+-- What the text of a user asks for that is read at a moment, or the fault with the least place. A text that names a command which
+-- isn't built isn't either, whatever else is wrong with it; nor is another form of a command, where nothing is wrong.
 abbrev pub command_of : List ℕ → ℕ → List ℕ → Result Input Fault
 command_of user now text = command_named user now text (named_command text (tokens_in text))

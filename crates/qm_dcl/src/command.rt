@@ -1,7 +1,7 @@
 // Commands: what a text asks for.
 ghost use Rattle.std.specs.Prelude.{◌≡◌, Ok, Err, IfOk, IfErr};
 ghost use Rattle.qm_grammar.specs.Parsed.{tokens_in, parts_in, command_in};
-ghost use Rattle.qm_dcl.specs.Command.{request_of, asked, judged, meant, command_of};
+ghost use Rattle.qm_dcl.specs.Command.{request_of, asked, judged, meant, unnamed, command_of};
 ghost use Rattle.qm_dcl.specs.Faults.{Explains};
 
 use crate::built::is_built;
@@ -127,12 +127,23 @@ fn meant(
     }
 }
 
+// What is wrong with a text that names no command.
+fn unnamed(read: Result<Command, Fault>) -> Fault
+    ensures { unnamed read ≡ Err result }
+{
+    match read {
+        Ok(_) => NOT_BUILT,
+        Err(fault) => fault,
+    }
+}
+
 /// What the command of a user asks for that is read at a moment, from which its relative times count.
 ///
-/// Built are, with the options and qualifiers that are named here:
+/// Names are whole or cut short, as the grammar has them. Built are, with the options and qualifiers that are named here:
 /// - `SUBMIT file` and `PRINT file` with `/QUEUE=name`, `/NAME=name`, `/PRIORITY=0..255`, `/AFTER=time`, `/HOLD`,
 ///   `/RETAIN=ALWAYS`, `ERROR`, `DEFAULT` or `UNTIL=time`, `/RESTART`, `/NORESTART` and `/CHARACTERISTICS=(name or 0..255, ..)`;
-///   `PRINT` also with `/FORM=name or 0..65535`, `/COPIES=0..255`, `/FLAG` and `/NOFLAG`;
+///   `PRINT` also with `/FORM=name or 0..65535`, `/COPIES=0..255`, `/FLAG` and `/NOFLAG`; both take without effect `/NOTIFY`,
+///   `/NONOTIFY`, `/IDENTIFY`, `/NOIDENTIFY`, `/NOLOG_FILE`, `/NOPRINTER` and `/KEEP`;
 /// - `SET ENTRY number` with `/RELEASE`, `/HOLD`, `/AFTER=time`, `/NOAFTER`, `/PRIORITY=0..255`, `/NAME=name`,
 ///   `/CHARACTERISTICS=(name or 0..255, ..)`, `/FORM=name or 0..65535`, `/REQUEUE=name`, which is a queue, `/RESTART`,
 ///   `/NORESTART` and `/RETAIN=` as a job;
@@ -155,10 +166,9 @@ fn meant(
 /// empty list, for what isn't given, but a form has all its settings, and a job too; what the rules refuse is read, as a limit
 /// of 0.
 ///
-/// Errors: `At` with the fault of the least place: `NotBuilt` at byte 0 where no command that is built is named, or where a name
-/// of it that isn't built, or is cut, stands behind a `/`, whatever else is wrong, and where another form of a command has
-/// nothing wrong; `Value` at the first byte of a name, a number, a word, a time or a file that can't be read; and those of the
-/// grammar.
+/// Errors: `At` with the fault of the least place: `NotBuilt` at byte 0 where a command is named that isn't built, whatever else is
+/// wrong, and where another form of a command has nothing wrong; `Value` at the first byte of a name, a number, a word, a time or a
+/// file that can't be read; and those of the grammar.
 /// `NoMemory`, where memory for the tokens, the parts and the lists ran out.
 pub fn read_command(alloc: Global, text: &[u8], user: Name, now: Moment) -> Result<Input, DclFault>
     ensures read { IfOk result (λ input. command_of user now text.now ≡ Ok input) }
@@ -168,9 +178,8 @@ pub fn read_command(alloc: Global, text: &[u8], user: Name, now: Moment) -> Resu
         return Err(DclFault::NoMemory);
     };
     match named_command(text, &parsed.tokens) {
-        Some(command) if is_built(text, &parsed.tokens, command) => {
-            meant(alloc, text, user, now, command, &parsed)
-        }
-        _ => Err(told(NOT_BUILT)),
+        Some(command) if is_built(command) => meant(alloc, text, user, now, command, &parsed),
+        Some(_) => Err(told(NOT_BUILT)),
+        None => Err(told(unnamed(parsed.command))),
     }
 }

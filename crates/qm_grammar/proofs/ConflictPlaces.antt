@@ -2,6 +2,8 @@
 use Rattle.std.proofs.Common.{◌≡◌, ℕ, ◌-◌, ◌≤◌, ◌<◌, List, [], ◌∷◌, length, get_or, take, drop, take_all, Option, None, Some, refl, sym, ap, ◌∙◌, arith}
 use Rattle.std.proofs.lemmas.Bool.Decides.{nat_tests}
 use Rattle.qm_lex.specs.declared.token.Token.{Token}
+use Rattle.qm_grammar.specs.declared.table.Row.{Row}
+use Rattle.qm_grammar.specs.declared.table.Verb.{Verb}
 use Rattle.qm_grammar.specs.declared.word.Word.{Word}
 use Rattle.qm_grammar.specs.Conflicts.{earlier, conflict_of, first_conflict}
 
@@ -17,18 +19,18 @@ no_further None = refl
 no_further (Some a) = refl
 
 -- one pair more
-pub with_pair : (text : List ℕ) (tokens : List Token) (rest : List (Word × Word)) (d : Word × Word) (place here next all : Option ℕ) → 1 ≤ length rest
-    → here ≡ conflict_of text tokens (get_or rest 0 d) → next ≡ earlier place here → earlier place (first_conflict text tokens rest) ≡ all
-    → earlier next (first_conflict text tokens (take (length rest - 1) (drop 1 rest))) ≡ all
-with_pair text tokens [] d place here next all some is then before = absurd (omega (arith, some))
-with_pair text tokens (pair ∷ pairs) d place here next all some is then before =
-    ap (λ (l : List (Word × Word)). earlier next (first_conflict text tokens l)) (take_all (length (pair ∷ pairs) - 1) pairs (omega arith))
-    ∙ ap (λ (o : Option ℕ). earlier o (first_conflict text tokens pairs)) (then ∙ ap (earlier place) is)
-    ∙ first_of_three place (conflict_of text tokens pair) (first_conflict text tokens pairs)
+pub with_pair : (text : List ℕ) (verb : Verb) (row : Option Row) (tokens : List Token) (rest : List (Word × Word)) (d : Word × Word) (place here next all : Option ℕ) → 1 ≤ length rest
+    → here ≡ conflict_of text verb row tokens (get_or rest 0 d) → next ≡ earlier place here → earlier place (first_conflict text verb row tokens rest) ≡ all
+    → earlier next (first_conflict text verb row tokens (take (length rest - 1) (drop 1 rest))) ≡ all
+with_pair text verb row tokens [] d place here next all some is then before = absurd (omega (arith, some))
+with_pair text verb row tokens (pair ∷ pairs) d place here next all some is then before =
+    ap (λ (l : List (Word × Word)). earlier next (first_conflict text verb row tokens l)) (take_all (length (pair ∷ pairs) - 1) pairs (omega arith))
+    ∙ ap (λ (o : Option ℕ). earlier o (first_conflict text verb row tokens pairs)) (then ∙ ap (earlier place) is)
+    ∙ first_of_three place (conflict_of text verb row tokens pair) (first_conflict text verb row tokens pairs)
     ∙ before
 
 -- no pair more
-pub behind_all : (text : List ℕ) (tokens : List Token) (rest : List (Word × Word)) (place all : Option ℕ) → length rest < 1
-    → earlier place (first_conflict text tokens rest) ≡ all → place ≡ all
-behind_all text tokens [] place all none before = sym (no_further place) ∙ before
-behind_all text tokens (pair ∷ pairs) place all none before = absurd (omega (arith, none))
+pub behind_all : (text : List ℕ) (verb : Verb) (row : Option Row) (tokens : List Token) (rest : List (Word × Word)) (place all : Option ℕ) → length rest < 1
+    → earlier place (first_conflict text verb row tokens rest) ≡ all → place ≡ all
+behind_all text verb row tokens [] place all none before = sym (no_further place) ∙ before
+behind_all text verb row tokens (pair ∷ pairs) place all none before = absurd (omega (arith, none))

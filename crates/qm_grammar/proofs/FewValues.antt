@@ -17,7 +17,8 @@ use Rattle.qm_grammar.specs.declared.rules.Takes.TheVariants as takes
 use Rattle.qm_grammar.specs.declared.table.Row.{Row}
 use Rattle.qm_grammar.specs.declared.table.Verb.{Verb}
 use Rattle.qm_grammar.specs.declared.word.Word.{Word}
-use Rattle.qm_grammar.specs.Finding.{rule_for, verb_of, row_of}
+use Rattle.qm_grammar.specs.Names.{rule_for}
+use Rattle.qm_grammar.specs.Finding.{verb_of, row_of}
 use Rattle.qm_grammar.specs.Parsed.{tokens_in, parts_in}
 use Rattle.qm_grammar.specs.Parts.{qualifier_part, text_part, part_of, on_next, parts_from, parts_behind, parts_of}
 use Rattle.qm_grammar.specs.Places.{begun, misplaced, is_joined, one_more, moved}
@@ -140,14 +141,14 @@ module _ (s : State) (few : s.values ≤ 65535) where
     text_counts slash rule _ = plain_counts
 
     named_counts : (text : List ℕ) (slash : ℕ) (b : Bool) (rule : Option (Word × Takes)) (f : Fault)
-        → Steps s (qualifier_part slash rule) (cond b (named_by text verb s token rule) (Err f))
+        → Steps s (qualifier_part slash rule) (cond b (named_by text verb row s token rule) (Err f))
     named_counts text slash false rule f = tt
     named_counts text slash true None f = tt
     named_counts text slash true (Some rule) f = (omega arith, tt)
 
     module _ (text : List ℕ) where
       abbrev rule : Option (Word × Takes)
-      rule = rule_for text token verb row
+      rule = rule_for text verb row token
 
       word_counts : (at : Place) → at ≡ s.place → Steps s (text_part s.start rule token at) (with_word text verb row s token at)
       word_counts place.VerbSlash is = named_counts text s.start (is_word token.kind) rule _

@@ -3,3 +3,4 @@ pub mod ConflictPlaces
 pub mod RuleLemmas
 pub mod PartLemmas
 pub mod FewValues
+pub mod NameLemmas

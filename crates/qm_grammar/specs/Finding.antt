@@ -1,24 +1,17 @@
--- Which command the tokens behind a verb make of it, and what stands behind its /.
-use Rattle.std.specs.Prelude.{ℕ, Bool, true, false, ◌&&◌, ◌||◌, not, if◌then◌else◌, is_some, find, List, [], ◌∷◌, Option, None, Some}
-use Rattle.std.specs.Option.{option_or, option_map}
-use Rattle.std.specs.List.{list_any}
+-- Which command the tokens behind a verb make of it.
+use Rattle.std.specs.Prelude.{ℕ, Bool, true, false, ◌&&◌, not, if◌then◌else◌, is_some, find, List, [], ◌∷◌, Option, None, Some}
+use Rattle.std.specs.Option.{option_map}
 use Rattle.qm_lex.specs.declared.token.Token.{Token}
 use Rattle.qm_lex.specs.declared.token.TokenKind.{TokenKind}
 use Rattle.qm_lex.specs.declared.token.TokenKind.TheVariants as kinds
 use Rattle.qm_grammar.specs.declared.table.Verb.{Verb}
 use Rattle.qm_grammar.specs.declared.table.Command.{Command}
 use Rattle.qm_grammar.specs.declared.table.Row.{Row}
-use Rattle.qm_grammar.specs.declared.rules.Takes.{Takes}
 use Rattle.qm_grammar.specs.declared.word.Word.{Word}
-use Rattle.qm_grammar.specs.Words.{verb_spelling, short_spelling, spelling}
-use Rattle.qm_grammar.specs.Spelled.{is_spelled, begins, is_text}
+use Rattle.qm_grammar.specs.Spelled.{is_text}
 use Rattle.qm_grammar.specs.Table.{rows_of, verbs}
-use Rattle.qm_grammar.specs.Rules.{rules_of}
+use Rattle.qm_grammar.specs.Names.{is_verb, is_object}
 use Rattle.qm_grammar.specs.Conflicts.{counting_place}
-
--- a token spells the verb, in full or in its short form
-abbrev pub is_verb : List ℕ → Token → Verb → Bool
-is_verb text token verb = is_spelled text (verb_spelling verb) token || is_spelled text (short_spelling verb) token
 
 -- the verb that a token is
 abbrev pub verb_of : List ℕ → Token → Option Verb
@@ -56,24 +49,24 @@ abbrev pub first_parameter : List Token → Option Token
 first_parameter tokens = parameter_behind false true tokens
 
 -- the option that is the first parameter is this one, if there is to be one
-abbrev pub has_object : List ℕ → Option Word → Option Token → Bool
-has_object text None parameter = true
-has_object text (Some word) None = false
-has_object text (Some word) (Some token) = is_spelled text (spelling word) token
+abbrev pub has_object : List ℕ → Verb → Option Word → Option Token → Bool
+has_object text verb None parameter = true
+has_object text verb (Some word) None = false
+has_object text verb (Some word) (Some token) = is_object text verb token word
 
--- the option behind a / is given, if there is to be one
-abbrev pub has_option : List ℕ → List Token → Option Word → Bool
-has_option text tokens None = true
-has_option text tokens (Some word) = is_some (counting_place text tokens word)
+-- the option behind a / is given, if there is to be one; while no command is named it is a name among all of the verb
+abbrev pub has_option : List ℕ → Verb → List Token → Option Word → Bool
+has_option text verb tokens None = true
+has_option text verb tokens (Some word) = is_some (counting_place text verb None tokens word)
 
 -- the tokens behind the verb name this command
-abbrev pub is_named : List ℕ → List Token → Row → Bool
-is_named text tokens row =
-    has_object text row.object (first_parameter tokens) && has_option text tokens row.option && has_option text tokens row.further
+abbrev pub is_named : List ℕ → Verb → List Token → Row → Bool
+is_named text verb tokens row =
+    has_object text verb row.object (first_parameter tokens) && has_option text verb tokens row.option && has_option text verb tokens row.further
 
 -- the command that the tokens behind a verb name
 abbrev pub row_of : List ℕ → List Token → Verb → Option Row
-row_of text tokens verb = find (is_named text tokens) (rows_of verb)
+row_of text tokens verb = find (is_named text verb tokens) (rows_of verb)
 
 abbrev pub named_behind : List ℕ → List Token → Option Verb → Option Command
 named_behind text tokens None = None
@@ -83,25 +76,3 @@ named_behind text tokens (Some verb) = option_map (λ (row : Row). row.command) 
 abbrev pub named_command : List ℕ → List Token → Option Command
 named_command text [] = None
 named_command text (token ∷ tokens) = named_behind text tokens (verb_of text token)
-
--- what a token says behind a / in a command
-abbrev pub rule_in : List ℕ → Token → Command → Option (Word × Takes)
-rule_in text token command = find (λ rule. is_spelled text (spelling rule.0) token) (rules_of command)
-
--- the option or the qualifier of a command that a token names behind a /
-abbrev pub word_in : List ℕ → Token → Command → Option Word
-word_in text token command = option_map (λ (rule : Word × Takes). rule.0) (rule_in text token command)
-
--- a name behind a / of the command begins with a token
-abbrev pub begins_name : List ℕ → Token → Command → Bool
-begins_name text token command = list_any (λ rule. begins text (spelling rule.0) token) (rules_of command)
-
--- what it says in the first of these commands that has it
-abbrev pub rule_among : List ℕ → Token → List Row → Option (Word × Takes)
-rule_among text token [] = None
-rule_among text token (row ∷ rows) = option_or (rule_in text token row.command) (rule_among text token rows)
-
--- what it says in the command, or in any one of the verb where none is named
-abbrev pub rule_for : List ℕ → Token → Verb → Option Row → Option (Word × Takes)
-rule_for text token verb None = rule_among text token (rows_of verb)
-rule_for text token verb (Some row) = rule_in text token row.command

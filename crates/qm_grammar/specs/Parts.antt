@@ -13,7 +13,8 @@ use Rattle.qm_grammar.specs.declared.place.Place.{Place}
 use Rattle.qm_grammar.specs.declared.place.Place.TheVariants as place
 use Rattle.qm_grammar.specs.declared.place.State.{State}
 use Rattle.qm_grammar.specs.Spelled.{is_text}
-use Rattle.qm_grammar.specs.Finding.{verb_of, row_of, rule_for}
+use Rattle.qm_grammar.specs.Names.{rule_for}
+use Rattle.qm_grammar.specs.Finding.{verb_of, row_of}
 use Rattle.qm_grammar.specs.Places.{begun}
 use Rattle.qm_grammar.specs.Steps.{with_token}
 
@@ -35,7 +36,7 @@ text_part slash rule token _ = Some (Parameter token)
 
 -- which part a token is; a sign is none
 abbrev pub part_of : List ℕ → Verb → Option Row → State → Token → Option Part
-part_of text verb row s token = if is_text token.kind then text_part s.start (rule_for text token verb row) token s.place else None
+part_of text verb row s token = if is_text token.kind then text_part s.start (rule_for text verb row token) token s.place else None
 
 abbrev pub on_next : Result State Fault → (State → List Part) → List Part
 on_next (Ok s) go_on = go_on s

@@ -14,6 +14,7 @@ use Rattle.qm_grammar.specs.declared.place.Place.{Place}
 use Rattle.qm_grammar.specs.declared.place.Place.TheVariants as place
 use Rattle.qm_grammar.specs.declared.place.State.{State}
 use Rattle.qm_grammar.specs.Rules.{exclusions_of, needs_value}
+use Rattle.qm_grammar.specs.Names.{begins_verb}
 use Rattle.qm_grammar.specs.Conflicts.{first_conflict}
 use Rattle.qm_grammar.specs.Finding.{verb_of, row_of}
 use Rattle.qm_grammar.specs.Places.{begun, is_owing}
@@ -50,20 +51,24 @@ or_conflict None read = read
 or_conflict (Some at) (Ok command) = Err (fault_at at fault.Conflict)
 or_conflict (Some at) (Err f) = if nat_lt at f.place then Err (fault_at at fault.Conflict) else Err f
 
--- what a text that begins with no verb has wrong
-abbrev pub no_verb : TokenKind → ParseKind
-no_verb kinds.Word = fault.Word
-no_verb kinds.Quoted = fault.Word
-no_verb kinds.Slash = fault.Qualifier
-no_verb kinds.Equals = fault.Form
-no_verb kinds.Open = fault.Form
-no_verb kinds.Close = fault.Form
-no_verb kinds.Comma = fault.Form
+-- what a text that begins with no verb has wrong: several verbs begin with its first word, or none does
+abbrev pub no_verb : List ℕ → Token → TokenKind → ParseKind
+no_verb text token kinds.Word = if begins_verb text token then fault.Ambiguous else fault.Word
+no_verb text token kinds.Quoted = fault.Word
+no_verb text token kinds.Slash = fault.Qualifier
+no_verb text token kinds.Equals = fault.Form
+no_verb text token kinds.Open = fault.Form
+no_verb text token kinds.Close = fault.Form
+no_verb text token kinds.Comma = fault.Form
+
+-- the command of a verb, by its row of the table
+abbrev pub command_by : List ℕ → Token → List Token → Verb → Option Row → Result Command Fault
+command_by text token tokens verb row =
+    or_conflict (first_conflict text verb row tokens (exclusions_of verb)) (read_from text verb row (begun token) tokens)
 
 abbrev pub command_behind : List ℕ → Token → List Token → Option Verb → Result Command Fault
-command_behind text token tokens None = Err (fault_at token.start (no_verb token.kind))
-command_behind text token tokens (Some verb) =
-    or_conflict (first_conflict text tokens (exclusions_of verb)) (read_from text verb (row_of text tokens verb) (begun token) tokens)
+command_behind text token tokens None = Err (fault_at token.start (no_verb text token token.kind))
+command_behind text token tokens (Some verb) = command_by text token tokens verb (row_of text tokens verb)
 
 -- The command that the tokens of a text are, or the fault with the least place. What is missing stands at the text's end.
 abbrev pub command_of : List ℕ → List Token → Result Command Fault

@@ -119,13 +119,13 @@ own_rules command.Print =
     ∷ (words.NoFlag, takes.Nothing) ∷ []
 own_rules command.ShowForms =
     (words.Form, takes.Nothing) ∷ (words.ShownCharacteristics, takes.Nothing) ∷ (words.Managers, takes.Nothing)
-    ∷ (words.Manager, takes.Nothing) ∷ []
+    ∷ []
 own_rules command.ShowCharacteristics =
     (words.Form, takes.Nothing) ∷ (words.ShownCharacteristics, takes.Nothing) ∷ (words.Managers, takes.Nothing)
-    ∷ (words.Manager, takes.Nothing) ∷ []
+    ∷ []
 own_rules command.ShowManagers =
     (words.Form, takes.Nothing) ∷ (words.ShownCharacteristics, takes.Nothing) ∷ (words.Managers, takes.Nothing)
-    ∷ (words.Manager, takes.Nothing) ∷ []
+    ∷ []
 own_rules command.ShowQueue =
     (words.AllJobs, takes.Nothing) ∷ (words.Batch, takes.Nothing) ∷ (words.Device, takes.Nothing)
     ∷ (words.Generic, takes.Nothing) ∷ []
@@ -151,5 +151,4 @@ exclusions_of verb.Define = (words.Form, words.Characteristic) ∷ (words.Wrap, 
 exclusions_of verb.Submit = []
 exclusions_of verb.Print = []
 exclusions_of verb.Show =
-    (words.Form, words.ShownCharacteristics) ∷ (words.Form, words.Managers) ∷ (words.Form, words.Manager)
-    ∷ (words.ShownCharacteristics, words.Managers) ∷ (words.ShownCharacteristics, words.Manager) ∷ []
+    (words.Form, words.ShownCharacteristics) ∷ (words.Form, words.Managers) ∷ (words.ShownCharacteristics, words.Managers) ∷ []

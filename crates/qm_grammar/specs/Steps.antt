@@ -1,6 +1,6 @@
 -- Where one stands behind one more token of a command, or what is wrong with that token.
 -- OpenVMS User's Manual, on entering commands. This site's own: which fault is told, and where it stands.
-use Rattle.std.specs.Prelude.{ℕ, ◌+◌, ◌==◌, true, false, ◌&&◌, Bool, if◌then◌else◌, nat_lt, is_none, List, Option, None, Some, Result, Ok, Err}
+use Rattle.std.specs.Prelude.{ℕ, ◌+◌, ◌==◌, true, false, ◌&&◌, not, Bool, if◌then◌else◌, nat_lt, List, Option, None, Some, Result, Ok, Err}
 use Rattle.qm_kinds.specs.declared.refusal.ParseKind.{ParseKind}
 use Rattle.qm_kinds.specs.declared.refusal.ParseKind.TheVariants as fault
 use Rattle.qm_lex.specs.declared.token.Token.{Token}
@@ -16,24 +16,27 @@ use Rattle.qm_grammar.specs.declared.place.Place.{Place}
 use Rattle.qm_grammar.specs.declared.place.Place.TheVariants as place
 use Rattle.qm_grammar.specs.declared.place.State.{State}
 use Rattle.qm_grammar.specs.Spelled.{is_word}
-use Rattle.qm_grammar.specs.Table.{rows_of, takes_option, takes_object}
+use Rattle.qm_grammar.specs.Table.{takes_option, takes_object}
 use Rattle.qm_grammar.specs.Rules.{most_values, may_have_key, needs_value}
-use Rattle.qm_grammar.specs.Finding.{rule_for, rule_among}
+use Rattle.qm_grammar.specs.Names.{begins_name, rule_for}
 use Rattle.qm_grammar.specs.Places.{moved, is_owing, misplaced, is_joined, one_more}
 
 abbrev pub fault_at : ℕ → ParseKind → Fault
 fault_at at kind = record { place = at; kind = kind }
 
--- a name behind a / that isn't one of the command: right behind a verb that needs an option, and unknown to the verb, it is no option
-abbrev pub unknown_kind : List ℕ → Token → Verb → Place → ParseKind
-unknown_kind text token verb place.VerbSlash =
-    if takes_option verb && is_none (rule_among text token (rows_of verb)) then fault.Word else fault.Qualifier
-unknown_kind text token verb _ = fault.Qualifier
+-- a name behind a / with which none of the command begins: where none of the verb does, right behind a verb that needs an option, it is no option
+abbrev pub unknown_kind : List ℕ → Verb → Token → Place → ParseKind
+unknown_kind text verb token place.VerbSlash = if takes_option verb && not (begins_name text verb None token) then fault.Word else fault.Qualifier
+unknown_kind text verb token _ = fault.Qualifier
+
+-- a name behind a / that is none of the command: several begin with it, or none does
+abbrev pub no_name_kind : List ℕ → Verb → Option Row → Token → Place → ParseKind
+no_name_kind text verb row token place = if begins_name text verb row token then fault.Ambiguous else unknown_kind text verb token place
 
 -- a qualifier or an option: its name
-abbrev pub named_by : List ℕ → Verb → State → Token → Option (Word × Takes) → Result State Fault
-named_by text verb s token None = Err (fault_at s.start (unknown_kind text token verb s.place))
-named_by text verb s token (Some rule) = Ok (record s { place = place.Name; takes = rule.1; in_list = false; values = 0; qualified = true; start = token.start; end = token.end })
+abbrev pub named_by : List ℕ → Verb → Option Row → State → Token → Option (Word × Takes) → Result State Fault
+named_by text verb row s token None = Err (fault_at s.start (no_name_kind text verb row token s.place))
+named_by text verb row s token (Some rule) = Ok (record s { place = place.Name; takes = rule.1; in_list = false; values = 0; qualified = true; start = token.start; end = token.end })
 
 -- a value of a qualifier, unless it has them all
 abbrev pub with_value : State → Token → Result State Fault
@@ -60,7 +63,7 @@ with_parameter verb row s token =
 -- a name behind a /; a quoted string is none
 abbrev pub with_name : List ℕ → Verb → Option Row → State → Token → Result State Fault
 with_name text verb row s token =
-    if is_word token.kind then named_by text verb s token (rule_for text token verb row) else Err (misplaced s.place s token.start)
+    if is_word token.kind then named_by text verb row s token (rule_for text verb row token) else Err (misplaced s.place s token.start)
 
 -- a word or a quoted string that is no name: a value, or a parameter
 abbrev pub with_text : Verb → Option Row → State → Token → Place → Result State Fault

@@ -60,7 +60,6 @@ rows_of verb.Show =
     object_row command.ShowForms words.Queue (Some words.Form) 1 2 false
     ∷ object_row command.ShowCharacteristics words.Queue (Some words.ShownCharacteristics) 1 2 false
     ∷ object_row command.ShowManagers words.Queue (Some words.Managers) 1 1 false
-    ∷ object_row command.ShowManagers words.Queue (Some words.Manager) 1 1 false
     ∷ object_row command.ShowQueue words.Queue None 1 2 false
     ∷ object_row command.ShowEntry words.Entry None 1 2 false
     ∷ []

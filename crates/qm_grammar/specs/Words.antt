@@ -1,4 +1,4 @@
--- How the words of commands are spelled, in full.
+-- How the words of commands are spelled, in full. How they may be cut stands in Names.
 -- DCL Dictionary, on the commands of queues, jobs, forms and characteristics.
 use Rattle.std.specs.Prelude.{ℕ, List, codes, Option, None, Some}
 use Rattle.qm_grammar.specs.declared.table.Verb.{Verb}
@@ -18,11 +18,6 @@ verb_spelling verbs.Define = codes "DEFINE"
 verb_spelling verbs.Submit = codes "SUBMIT"
 verb_spelling verbs.Print = codes "PRINT"
 verb_spelling verbs.Show = codes "SHOW"
-
--- the short form of a verb, or the full one where there is none
-abbrev pub short_spelling : Verb → List ℕ
-short_spelling verbs.Initialize = codes "INIT"
-short_spelling verb = verb_spelling verb
 
 -- the name of an option or of a qualifier
 abbrev pub spelling : Word → List ℕ

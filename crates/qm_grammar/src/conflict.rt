@@ -3,9 +3,9 @@ ghost use Rattle.std.specs.Prelude.{◌≡◌};
 ghost use Rattle.qm_grammar.specs.Rules.{exclusions_of};
 ghost use Rattle.qm_grammar.specs.Conflicts.{slash_place, is_word_given, place_with, counting_place, conflict_of, earlier, first_conflict};
 
-use crate::table::Verb;
-use crate::token::is_spelled;
-use crate::word::{Word, spelling, undone_by};
+use crate::names::is_name;
+use crate::table::{Row, Verb};
+use crate::word::{Word, undone_by};
 use qm_lex::{Token, TokenKind};
 
 // Two words that exclude each other.
@@ -40,12 +40,10 @@ const DEFINE: [Exclusion; 2] = [
     (Word::Wrap, Word::Truncate),
 ];
 
-const SHOW: [Exclusion; 5] = [
+const SHOW: [Exclusion; 3] = [
     (Word::Form, Word::ShownCharacteristics),
     (Word::Form, Word::Managers),
-    (Word::Form, Word::Manager),
     (Word::ShownCharacteristics, Word::Managers),
-    (Word::ShownCharacteristics, Word::Manager),
 ];
 
 // Which exclude each other, options among them.
@@ -73,12 +71,18 @@ fn slash_place(token: Token) -> Option<usize>
     }
 }
 
-// Whether a token is spelled like the word, if there is one.
-fn is_word_given(text: &[u8], word: Option<Word>, token: Token) -> bool
-    ensures { result ≡ is_word_given text.now word token }
+// Whether a token is the word, if there is one.
+fn is_word_given(
+    text: &[u8],
+    verb: Verb,
+    row: Option<Row>,
+    word: Option<Word>,
+    token: Token,
+) -> bool
+    ensures { result ≡ is_word_given text.now verb row word token }
 {
     match word {
-        Some(word) => is_spelled(text, spelling(word), token),
+        Some(word) => is_name(text, verb, row, token, word),
         None => false,
     }
 }
@@ -86,19 +90,21 @@ fn is_word_given(text: &[u8], word: Option<Word>, token: Token) -> bool
 // Where a qualifier was given that counts, once one more token has come, and behind which `/` that stands.
 fn place_with(
     text: &[u8],
+    verb: Verb,
+    row: Option<Row>,
     word: Word,
     slash: Option<usize>,
     so_far: Option<usize>,
     token: Token,
 ) -> Option<usize>
-    ensures { result ≡ place_with text.now word slash so_far token }
+    ensures { result ≡ place_with text.now verb row word slash so_far token }
 {
     if slash.is_none() {
         return so_far;
     }
-    if is_spelled(text, spelling(word), token) {
+    if is_name(text, verb, row, token, word) {
         slash
-    } else if is_word_given(text, undone_by(word), token) {
+    } else if is_word_given(text, verb, row, undone_by(word), token) {
         None
     } else {
         so_far
@@ -106,14 +112,20 @@ fn place_with(
 }
 
 /// The `/` of a qualifier that counts: it is given, and its other form doesn't undo it.
-pub(crate) fn counting_place(text: &[u8], tokens: &[Token], word: Word) -> Option<usize>
-    ensures { result ≡ counting_place text.now tokens.now word }
+pub(crate) fn counting_place(
+    text: &[u8],
+    verb: Verb,
+    row: Option<Row>,
+    tokens: &[Token],
+    word: Word,
+) -> Option<usize>
+    ensures { result ≡ counting_place text.now verb row tokens.now word }
 {
     let mut slash = None;
     let mut place = None;
     let mut rest = tokens;
     while let [token, behind @ ..] = rest {
-        place = place_with(text, word, slash, place, *token);
+        place = place_with(text, verb, row, word, slash, place, *token);
         slash = slash_place(*token);
         rest = behind;
     }
@@ -121,11 +133,17 @@ pub(crate) fn counting_place(text: &[u8], tokens: &[Token], word: Word) -> Optio
 }
 
 // The conflict of two that exclude each other, at the later of them.
-fn conflict_of(text: &[u8], tokens: &[Token], pair: Exclusion) -> Option<usize>
-    ensures { result ≡ conflict_of text.now tokens.now pair }
+fn conflict_of(
+    text: &[u8],
+    verb: Verb,
+    row: Option<Row>,
+    tokens: &[Token],
+    pair: Exclusion,
+) -> Option<usize>
+    ensures { result ≡ conflict_of text.now verb row tokens.now pair }
 {
-    let first = counting_place(text, tokens, pair.0);
-    let second = counting_place(text, tokens, pair.1);
+    let first = counting_place(text, verb, row, tokens, pair.0);
+    let second = counting_place(text, verb, row, tokens, pair.1);
     match (first, second) {
         (Some(first), Some(second)) => Some(if first < second { second } else { first }),
         _ => None,
@@ -143,14 +161,19 @@ fn earlier(first: Option<usize>, second: Option<usize>) -> Option<usize>
     }
 }
 
-/// The first place of a conflict among the qualifiers and options of a verb.
-pub(crate) fn first_conflict(text: &[u8], tokens: &[Token], verb: Verb) -> Option<usize>
-    ensures { result ≡ first_conflict text.now tokens.now (exclusions_of verb) }
+/// The first place of a conflict among the qualifiers and options of a command.
+pub(crate) fn first_conflict(
+    text: &[u8],
+    verb: Verb,
+    row: Option<Row>,
+    tokens: &[Token],
+) -> Option<usize>
+    ensures { result ≡ first_conflict text.now verb row tokens.now (exclusions_of verb) }
 {
     let mut place = None;
     let mut rest = exclusions_of(verb);
     while let [pair, behind @ ..] = rest {
-        place = earlier(place, conflict_of(text, tokens, *pair));
+        place = earlier(place, conflict_of(text, verb, row, tokens, *pair));
         rest = behind;
     }
     place

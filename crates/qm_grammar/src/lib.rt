@@ -6,6 +6,8 @@
 mod conflict;
 mod fault;
 mod finding;
+mod laws;
+mod names;
 mod part;
 mod place;
 mod reader;
@@ -17,7 +19,8 @@ mod token;
 mod word;
 
 pub use fault::Fault;
-pub use finding::{begins_name, named_command, word_in};
+pub use finding::named_command;
+pub use laws::names_are_whole_or_begun_alone;
 pub use part::{Part, parts_of};
 pub use reader::{Parsed, parse};
 pub use reading::command_of;

@@ -1,11 +1,12 @@
 // The parts of a command.
 ghost use Rattle.std.specs.Prelude.{◌≡◌, ◌++◌, IfOk};
 ghost use Rattle.std.specs.Option.{option_to_list};
-ghost use Rattle.qm_grammar.specs.Finding.{rule_for};
+ghost use Rattle.qm_grammar.specs.Names.{rule_for};
 ghost use Rattle.qm_grammar.specs.Places.{begun};
 ghost use Rattle.qm_grammar.specs.Parts.{qualifier_part, text_part, part_of, parts_from, parts_of};
 
-use crate::finding::{row_of, rule_for, verb_of};
+use crate::finding::{row_of, verb_of};
+use crate::names::rule_for;
 use crate::place::{Place, State, begun};
 use crate::rules::Rule;
 use crate::step::with_token;
@@ -39,12 +40,12 @@ fn qualifier_part(s: &State, rule: Option<Rule>) -> Option<Part>
     })
 }
 
-// Which part a word or a quoted string is, by where it stands, and by what it says as a name.
-fn text_part(s: &State, rule: Option<Rule>, token: Token) -> Option<Part>
-    ensures { result ≡ text_part s.now.start rule token s.now.place }
+// Which part a word or a quoted string is, by where it stands, and by which name it is.
+fn text_part(text: &[u8], verb: Verb, row: Option<Row>, s: &State, token: Token) -> Option<Part>
+    ensures { result ≡ text_part s.now.start (rule_for text.now verb row token) token s.now.place }
 {
     match s.place {
-        Place::VerbSlash | Place::Slash => qualifier_part(s, rule),
+        Place::VerbSlash | Place::Slash => qualifier_part(s, rule_for(text, verb, row, token)),
         Place::Equals | Place::Open | Place::Comma => Some(Part::Value { token }),
         Place::Key | Place::KeyOpen => Some(Part::KeyValue { token }),
         _ => Some(Part::Parameter { token }),
@@ -56,7 +57,7 @@ fn part_of(text: &[u8], verb: Verb, row: Option<Row>, s: &State, token: Token) -
     ensures { result ≡ part_of text.now verb row s.now token }
 {
     if is_text(token) {
-        text_part(s, rule_for(text, token, verb, row), token)
+        text_part(text, verb, row, s, token)
     } else {
         None
     }

@@ -5,6 +5,7 @@ ghost use Rattle.qm_grammar.specs.Reading.{is_short, whole, ended, read_from, or
 use crate::conflict::first_conflict;
 use crate::fault::{Fault, fault_at};
 use crate::finding::{row_of, verb_of};
+use crate::names::begins_verb;
 use crate::place::{Place, State, begun};
 use crate::rules::needs_value;
 use crate::step::{is_owing, with_token};
@@ -74,10 +75,11 @@ fn or_conflict(conflict: Option<usize>, read: Result<Command, Fault>) -> Result<
 }
 
 // What a text that begins with no verb has wrong.
-fn no_verb(kind: TokenKind) -> ParseKind
-    ensures { result ≡ no_verb kind }
+fn no_verb(text: &[u8], token: Token) -> ParseKind
+    ensures { result ≡ no_verb text.now token token.kind }
 {
-    match kind {
+    match token.kind {
+        TokenKind::Word if begins_verb(text, token) => ParseKind::Ambiguous,
         TokenKind::Word | TokenKind::Quoted => ParseKind::Word,
         TokenKind::Slash => ParseKind::Qualifier,
         _ => ParseKind::Form,
@@ -86,13 +88,16 @@ fn no_verb(kind: TokenKind) -> ParseKind
 
 /// The command that the tokens of a text are.
 ///
-/// Words are spelled in full and in any case; `INIT` is taken for `INITIALIZE`, and `MANAGER` for `MANAGERS`. Options behind a `/` and qualifiers stand anywhere behind the verb; the option
-/// of `SET` and `SHOW` is the first parameter. What a value says isn't judged here.
+/// Names are spelled in any case, and may be cut to a beginning that no other one has: a verb among the verbs, an option that
+/// names the command among the names of all commands of its verb, and any other name among those of the command, or where none is
+/// named among those of all commands of the verb. One that is spelled whole is that name. Options behind a `/` and qualifiers stand
+/// anywhere behind the verb; the option of `SET` and `SHOW` is the first parameter. What a value says isn't judged here.
 ///
-/// Errors: the fault with the least place. `Word` at a first word that is no verb, at a first parameter of `SET` or `SHOW` that
-/// is no option, and at the `/` of an unknown name right behind a verb whose option stands there; `Qualifier` at the `/` of
-/// another name that isn't one of the command, and at a `/` without a name; `Value` at a value that isn't taken, or is one too
-/// many, at an empty list, and at a list in a list; `Form` at a sign, or a word joined to another, that isn't in place; `Extra`
+/// Errors: the fault with the least place. `Ambiguous` at a first word with which several verbs begin, and at the `/` of a name with
+/// which several of those begin among which it is judged; `Word` at another first word that is no verb, at a first parameter of
+/// `SET` or `SHOW` that is no option, and at the `/` of a name that the verb hasn't, right behind a verb whose option stands there;
+/// `Qualifier` at the `/` of another name that isn't one of the command, and at a `/` without a name; `Value` at a value that isn't
+/// taken, or is one too many, at an empty list, and at a list in a list; `Form` at a sign, or a word joined to another, that isn't in place; `Extra`
 /// at a parameter too many; `Conflict` at the later of two that exclude each other and both count. Where nothing else is wrong,
 /// `Missing` at the text's end for a verb, an option, a parameter, a qualifier, a value or the end of a list.
 pub fn command_of(text: &[u8], tokens: &[Token]) -> Result<Command, Fault>
@@ -102,9 +107,9 @@ pub fn command_of(text: &[u8], tokens: &[Token]) -> Result<Command, Fault>
         return Err(fault_at(text.len(), ParseKind::Missing));
     };
     let Some(verb) = verb_of(text, *first) else {
-        return Err(fault_at(first.start, no_verb(first.kind)));
+        return Err(fault_at(first.start, no_verb(text, *first)));
     };
     let row = row_of(text, behind, verb);
     let read = read(text, verb, row, begun(*first), behind);
-    or_conflict(first_conflict(text, behind, verb), read)
+    or_conflict(first_conflict(text, verb, row, behind), read)
 }

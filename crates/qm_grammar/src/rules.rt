@@ -130,11 +130,10 @@ const PRINT: [Rule; 4] = [
     (Word::NoFlag, Takes::Nothing),
 ];
 
-const SHOW_LISTS: [Rule; 4] = [
+const SHOW_LISTS: [Rule; 3] = [
     (Word::Form, Takes::Nothing),
     (Word::ShownCharacteristics, Takes::Nothing),
     (Word::Managers, Takes::Nothing),
-    (Word::Manager, Takes::Nothing),
 ];
 
 const SHOW_QUEUE: [Rule; 4] = [

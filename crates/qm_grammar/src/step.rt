@@ -1,10 +1,10 @@
 // One token further.
 ghost use Rattle.std.specs.Prelude.{◌≡◌};
 ghost use Rattle.qm_grammar.specs.Places.{is_owing, misplaced, is_joined, one_more};
-ghost use Rattle.qm_grammar.specs.Steps.{unknown_kind, named_by, with_value, is_no_object, with_parameter, with_name, with_text, with_word, with_slash, with_equals, with_key_open, with_open, with_close, with_comma, with_token};
+ghost use Rattle.qm_grammar.specs.Steps.{unknown_kind, no_name_kind, named_by, with_value, is_no_object, with_parameter, with_name, with_text, with_word, with_slash, with_equals, with_key_open, with_open, with_close, with_comma, with_token};
 
 use crate::fault::{Fault, fault_at};
-use crate::finding::{rule_among, rule_for};
+use crate::names::{begins_name, rule_for};
 use crate::place::{Place, State, is_awaited, moved};
 use crate::rules::{Rule, Takes, may_have_key, most_values, needs_value};
 use crate::table::{Row, Verb, takes_object, takes_option};
@@ -58,13 +58,13 @@ fn one_more(row: Option<Row>, parameters: usize) -> Option<usize>
     }
 }
 
-// What is wrong with a name behind a `/` that isn't one of the command.
-fn unknown_kind(text: &[u8], token: Token, verb: Verb, place: Place) -> ParseKind
-    ensures { result ≡ unknown_kind text.now token verb place }
+// What is wrong with a name behind a `/` with which none of the command begins.
+fn unknown_kind(text: &[u8], verb: Verb, token: Token, place: Place) -> ParseKind
+    ensures { result ≡ unknown_kind text.now verb token place }
 {
     match place {
         Place::VerbSlash => {
-            if takes_option(verb) && rule_among(text, token, verb).is_none() {
+            if takes_option(verb) && !begins_name(text, verb, None, token) {
                 ParseKind::Word
             } else {
                 ParseKind::Qualifier
@@ -74,18 +74,30 @@ fn unknown_kind(text: &[u8], token: Token, verb: Verb, place: Place) -> ParseKin
     }
 }
 
+// What is wrong with a name behind a `/` that is none of the command.
+fn no_name_kind(text: &[u8], verb: Verb, row: Option<Row>, token: Token, place: Place) -> ParseKind
+    ensures { result ≡ no_name_kind text.now verb row token place }
+{
+    if begins_name(text, verb, row, token) {
+        ParseKind::Ambiguous
+    } else {
+        unknown_kind(text, verb, token, place)
+    }
+}
+
 // Behind the name of a qualifier or an option, or what is wrong with it.
 fn named_by(
     text: &[u8],
     verb: Verb,
+    row: Option<Row>,
     s: &State,
     token: Token,
     rule: Option<Rule>,
 ) -> Result<State, Fault>
-    ensures { result ≡ named_by text.now verb s.now token rule }
+    ensures { result ≡ named_by text.now verb row s.now token rule }
 {
     match rule {
-        None => Err(fault_at(s.start, unknown_kind(text, token, verb, s.place))),
+        None => Err(fault_at(s.start, no_name_kind(text, verb, row, token, s.place))),
         Some(rule) => Ok(State {
             place: Place::Name,
             takes: rule.1,
@@ -162,7 +174,7 @@ fn with_name(
     ensures { result ≡ with_name text.now verb row s.now token }
 {
     if token.kind == TokenKind::Word {
-        named_by(text, verb, s, token, rule_for(text, token, verb, row))
+        named_by(text, verb, row, s, token, rule_for(text, verb, row, token))
     } else {
         Err(misplaced(s, token.start))
     }

@@ -56,7 +56,7 @@ pub enum Command {
     ShowForms,
     /// `SHOW QUEUE/CHARACTERISTICS [pattern]`
     ShowCharacteristics,
-    /// `SHOW QUEUE/MANAGERS`, or `/MANAGER`
+    /// `SHOW QUEUE/MANAGERS`
     ShowManagers,
     /// `SHOW QUEUE [pattern]`
     ShowQueue,
@@ -234,7 +234,7 @@ const PRINT: [Row; 1] = [Row {
     must_set: false,
 }];
 
-const SHOW: [Row; 6] = [
+const SHOW: [Row; 5] = [
     Row {
         command: Command::ShowForms,
         object: Some(Word::Queue),
@@ -257,15 +257,6 @@ const SHOW: [Row; 6] = [
         command: Command::ShowManagers,
         object: Some(Word::Queue),
         option: Some(Word::Managers),
-        further: None,
-        least: 1,
-        most: 1,
-        must_set: false,
-    },
-    Row {
-        command: Command::ShowManagers,
-        object: Some(Word::Queue),
-        option: Some(Word::Manager),
         further: None,
         least: 1,
         most: 1,

@@ -1,6 +1,6 @@
 // The words of the grammar.
 ghost use Rattle.std.specs.Prelude.{◌≡◌};
-ghost use Rattle.qm_grammar.specs.Words.{spelling, verb_spelling, short_spelling, undone_by};
+ghost use Rattle.qm_grammar.specs.Words.{spelling, verb_spelling, undone_by};
 
 use crate::table::Verb;
 
@@ -77,16 +77,6 @@ pub(crate) fn verb_spelling(verb: Verb) -> &'static [u8]
         Verb::Submit => b"SUBMIT",
         Verb::Print => b"PRINT",
         Verb::Show => b"SHOW",
-    }
-}
-
-/// The short form of a verb, or the full one where there is none.
-pub(crate) fn short_spelling(verb: Verb) -> &'static [u8]
-    ensures { result.now ≡ short_spelling verb }
-{
-    match verb {
-        Verb::Initialize => b"INIT",
-        _ => verb_spelling(verb),
     }
 }
 

@@ -5,7 +5,7 @@ use qm_lex::{Token, TokenKind};
 use std::test::Fail;
 
 // Texts that are commands.
-const COMMANDS: [(&str, Command); 16] = [
+const COMMANDS: [(&str, Command); 28] = [
     ("SUBMIT A.COM", Command::Submit),
     ("submit/hold a.com /queue = b ! a job", Command::Submit),
     ("SUBMIT A/NAME=(B)/RETAIN=UNTIL=TOMORROW", Command::Submit),
@@ -22,10 +22,28 @@ const COMMANDS: [(&str, Command); 16] = [
     ("SUBMIT A/RETAIN=UNTIL=(TOMORROW)", Command::Submit),
     ("INIT/QUEUE/START/BATCH X", Command::InitializeQueue),
     ("SHOW QUEUE/MANAGER", Command::ShowManagers),
+    ("sub/not a", Command::Submit),
+    (
+        "INI/Q/STAR/ON=PLUTO::LPA0:/FORM=LETTER HALL",
+        Command::InitializeQueue,
+    ),
+    (
+        "DEF/FO LETTER 1/STO=WHITE/MARG=(TOP=2)",
+        Command::DefineForm,
+    ),
+    ("SET QUEUE X/RET=ALL/FORM=A", Command::SetQueue),
+    ("SET/R=ALL QUEUE X", Command::SetQueue),
+    ("SH QUEUE/MAN", Command::ShowManagers),
+    ("SHOW Q/A/D", Command::ShowQueue),
+    ("DEL/E=5", Command::DeleteEntry),
+    ("ASS/M A B", Command::AssignMerge),
+    ("SET ENTRY 5/AF=X/REL/NOAF", Command::SetEntry),
+    ("START/QUEUE/MAN/O=*", Command::StartManager),
+    ("STO/Q/REQ X/E=5", Command::StopQueue),
 ];
 
 // Texts that aren't, with the byte at which they go wrong, and how.
-const FAULTS: [(&str, usize, ParseKind); 36] = [
+const FAULTS: [(&str, usize, ParseKind); 60] = [
     ("", 0, ParseKind::Missing),
     ("  SUBMIT", 8, ParseKind::Missing),
     ("FROB", 0, ParseKind::Word),
@@ -74,6 +92,30 @@ const FAULTS: [(&str, usize, ParseKind); 36] = [
     ),
     ("SUBMIT A/HOLD=(5)", 15, ParseKind::Value),
     ("DEFINE/FORM A 5/MARGIN=(TOP=(1))", 28, ParseKind::Value),
+    ("S ENTRY", 0, ParseKind::Ambiguous),
+    ("FOO", 0, ParseKind::Word),
+    ("SH", 2, ParseKind::Missing),
+    ("SHOW ENTRY 1 2", 13, ParseKind::Extra),
+    ("SET ENTRY 1", 11, ParseKind::Missing),
+    ("PRINT/FORM \"A", 11, ParseKind::Form),
+    ("SUBMIT/RE J", 6, ParseKind::Ambiguous),
+    ("START/QUEUE/BATCH LP", 11, ParseKind::Qualifier),
+    ("SET ENTRY 1/REL/HOLD", 15, ParseKind::Conflict),
+    ("INIT/QUEUE/BLOCK=(1,2,3) G", 22, ParseKind::Value),
+    ("SHOW QUEUE/FORM/ALL", 15, ParseKind::Qualifier),
+    ("INIT/QUE/B NIGHT", 8, ParseKind::Ambiguous),
+    ("DEFINE/CHARACTERISTIC/W A 1", 21, ParseKind::Qualifier),
+    ("DEFINE/W/CHARACTERISTIC A 1", 6, ParseKind::Qualifier),
+    ("SET/RE", 3, ParseKind::Ambiguous),
+    ("SET/FORM=A", 10, ParseKind::Missing),
+    ("SET QUEUE X/REL", 11, ParseKind::Qualifier),
+    ("START/N/QUEUE X", 5, ParseKind::Ambiguous),
+    ("DELETE/CHARACTERISTICS A", 6, ParseKind::Word),
+    ("\"SUBMIT\" A", 0, ParseKind::Word),
+    ("SUBMIT/\"HOLD\" A", 6, ParseKind::Qualifier),
+    ("DELETE/QU/FO X", 9, ParseKind::Conflict),
+    ("STOP/QUEUE X/N/R", 14, ParseKind::Ambiguous),
+    ("SHOW QUEUE/MAN/FO", 14, ParseKind::Conflict),
 ];
 
 // Texts, with the command that they name, whatever else is wrong with them.

@@ -183,7 +183,7 @@ const SHAPE: Shape = Shape {
 };
 
 // Texts that ask for something that is built.
-static ASKING: [(&str, Asked); 52] = [
+static ASKING: [(&str, Asked); 57] = [
     (
         "SUBMIT JOB",
         Asked::Batch(WantedJob {
@@ -549,33 +549,54 @@ static ASKING: [(&str, Asked); 52] = [
         "DELETE/CHARACTERISTIC 7A",
         Asked::DeleteCharacteristic("7A"),
     ),
+    (
+        "SUBM/PRIO=5/KEEP/NOPRINTER J",
+        Asked::Batch(WantedJob {
+            priority: 5,
+            ..BATCH_JOB
+        }),
+    ),
+    ("PRI J/NOTIFY", Asked::Print(PRINT_JOB, None, 1, false)),
+    ("SHO ENT 5", Asked::Show(5)),
+    (
+        "DEF/FORM X 1/LEN=5",
+        Asked::Form("X", 1, "X", Shape { length: 5, ..SHAPE }),
+    ),
+    (
+        "SET ENT 5/HOL",
+        Asked::Entry(
+            5,
+            WantedEntry {
+                hold: true,
+                ..SAME_ENTRY
+            },
+        ),
+    ),
 ];
 
 // Texts that aren't built, whatever else is wrong with them.
-const NOT_BUILT: [&str; 19] = [
-    "",
-    "! SUBMIT J",
-    "FROB",
-    "SUBM J",
-    "\"SUBMIT\" J",
-    "\"SUBMIT J",
+const NOT_BUILT: [&str; 7] = [
     "SHOW QUEUE",
     "SHOW QUEUE/FORM",
-    "SHOW ENT 5",
+    "SHOW QUEUE/MAN/BAD",
     "SHOW ENTRY",
     "SHOW ENTRY A*",
-    "STOP X",
-    "SUBMIT/PRIO=5 J",
-    "SUBMIT/BAD J K/KEEP",
-    "SUBMIT J/PRIORITY=300/KEEP",
-    "PRINT J/NOTIFY",
     "START/QUEUE/MANAGER",
-    "DEFINE/FORM X 1/LEN=5",
-    "SET ENTRY 5/HOL",
+    "STAR/Q/MAN/ON=(A,*)",
 ];
 
 // Texts that are wrong, with the byte at which they go wrong, and how.
-const FAULTS: [(&str, usize, ParseKind); 76] = [
+const FAULTS: [(&str, usize, ParseKind); 86] = [
+    ("", 0, ParseKind::Missing),
+    ("! SUBMIT J", 10, ParseKind::Missing),
+    ("FROB", 0, ParseKind::Word),
+    ("\"SUBMIT\" J", 0, ParseKind::Word),
+    ("\"SUBMIT J", 0, ParseKind::Form),
+    ("STOP X", 6, ParseKind::Missing),
+    ("SUBMIT/BAD J K/KEEP", 6, ParseKind::Qualifier),
+    ("SUBMIT J/PRIORITY=300/KEEP", 18, ParseKind::Value),
+    ("SUBMIT J/PR=300/RE", 12, ParseKind::Value),
+    ("SUBMIT J/RE/PR=300", 8, ParseKind::Ambiguous),
     ("SUBMIT", 6, ParseKind::Missing),
     ("SUBMIT A B", 9, ParseKind::Extra),
     ("SUBMIT/BAD J", 6, ParseKind::Qualifier),

@@ -4,7 +4,7 @@ use Rattle.qm_grammar.specs.Conflicts.{earlier, first_conflict}
 use Rattle.qm_grammar.proofs.conflict.first_conflict.Given as goal
 
 abbrev pub invariant-loop-rest : goal.invariant-loop-rest
-invariant-loop-rest l = earlier l.place (first_conflict l.text l.tokens l.rest) ≡ first_conflict l.text l.tokens (exclusions_of l.fn.verb)
+invariant-loop-rest l = earlier l.place (first_conflict l.text l.verb l.row l.tokens l.rest) ≡ first_conflict l.text l.verb l.row l.tokens (exclusions_of l.fn.verb)
 
 abbrev pub decreases-loop-rest : goal.decreases-loop-rest
 decreases-loop-rest l = length l.rest
