@@ -1,0 +1,144 @@
+// Calls: what a function asks for with its items.
+ghost use Rattle.std.specs.Prelude.{◌≡◌, ◌<◌, ◌^◌, Ok, IfOk, IfErr, length};
+ghost use Rattle.qm_item.specs.Text.{text};
+ghost use Rattle.qm_sjc.specs.Asked.{request_of, asked};
+ghost use Rattle.qm_sjc.specs.Calls.{call_of, Explains};
+
+use crate::codes::*;
+use crate::fault::{CallFault, Fault};
+use crate::function::{Function, function_of};
+use crate::jobs::{set_entry, submit_of};
+use crate::judging::first_fault;
+use crate::looking::{Lists, lists_in};
+use crate::others::{append_of, define_characteristic, define_form, fill_of, query_of};
+use crate::queues::{abort_job, initialize_of, merge_of, set_queue, start_queue, stop_queue};
+use crate::reading::{definable_name_in, file_in, long_in, short_name_in};
+use qm_item::Item;
+use qm_kinds::{Input, Listing, Name, ParseKind, Request};
+use std::alloc::Global;
+
+// What a function changes, where nothing that it needs is missing.
+fn request_of(
+    alloc: Global,
+    user: Name,
+    function: Function,
+    items: &[Item],
+    lists: Lists,
+) -> Option<Request>
+    ensures { result ≡ request_of user function items.now lists }
+{
+    match function {
+        Function::Append => append_of(items, lists.bytes),
+        Function::Fill => fill_of(items),
+        Function::Drop => Some(Request::Drop {
+            file: file_in(items, FILE)?,
+        }),
+        Function::DefineForm => define_form(items),
+        Function::DeleteForm => Some(Request::DeleteForm {
+            name: definable_name_in(items, NAME)?,
+        }),
+        Function::DefineCharacteristic => define_characteristic(items),
+        Function::DeleteCharacteristic => Some(Request::DeleteCharacteristic {
+            name: definable_name_in(items, NAME)?,
+        }),
+        Function::InitializeQueue => initialize_of(items, lists),
+        Function::SetQueue => set_queue(items, lists),
+        Function::StartQueue => start_queue(items, lists),
+        Function::StopQueue => stop_queue(items),
+        Function::AbortJob => abort_job(items),
+        Function::DeleteQueue => Some(Request::DeleteQueue {
+            name: short_name_in(items, QUEUE)?,
+        }),
+        Function::Merge => merge_of(items),
+        Function::Submit => submit_of(alloc, user, items, lists),
+        Function::SetEntry => set_entry(items, lists),
+        Function::DeleteEntry => Some(Request::DeleteEntry {
+            entry: long_in(items, ENTRY)?,
+        }),
+        _ => None,
+    }
+}
+
+// What a function asks for, where nothing that it needs is missing.
+fn asked(
+    alloc: Global,
+    user: Name,
+    function: Function,
+    items: &[Item],
+    lists: Lists,
+) -> Option<Input>
+    ensures { result ≡ asked user function items.now lists }
+{
+    let (listing, single) = match function {
+        Function::DisplayQueue => (Listing::Queues, true),
+        Function::DisplayJob => (Listing::Jobs, true),
+        Function::DisplayEntry => (Listing::Entries, true),
+        Function::DisplayForm => (Listing::Forms, true),
+        Function::DisplayCharacteristic => (Listing::Characteristics, true),
+        Function::DisplayManager => (Listing::Manager, true),
+        Function::CancelOperation => (Listing::Cancel, false),
+        _ => return Some(Input::Ask(request_of(alloc, user, function, items, lists)?)),
+    };
+    Some(Input::Show(query_of(listing, single, items)))
+}
+
+/// What a user asks for who calls the function of this number with these items, which are of a list.
+///
+/// The functions, with the items that they take; those in brackets may lack:
+/// - 1 FILE, BYTES; 2 FILE, LINES; 3 FILE;
+/// - 4 NAME, NUMBER (STOCK, SHAPE); 5 NAME; 6 NAME, NUMBER; 7 NAME;
+/// - 8 QUEUE, KIND (NODE, DEVICE, TARGET, START, and the settings of a queue: JOB_LIMIT, CHARACTERISTIC, FORM, BLOCK_LOWER,
+///   BLOCK_UPPER, BY_SIZE, QUEUE_RETAIN); 9 QUEUE, and one setting at least; 10 QUEUE (settings); 11 QUEUE (HOW);
+///   12 QUEUE (ENTRY, REQUEUE); 13 QUEUE; 14 TO_QUEUE, QUEUE;
+/// - 15 KIND, FILE (QUEUE, JOB_NAME, PRIORITY, AFTER, HOLD, RETAIN, RESTART, CHARACTERISTIC, FORM, COPIES, FLAG); 16 ENTRY, and one
+///   at least of RELEASE, HOLD, AFTER, PRIORITY, JOB_NAME, CHARACTERISTIC, FORM, QUEUE, RESTART, RETAIN; 17 ENTRY;
+/// - 41 and 43 to 45 (SEARCH); 42, 46 and 47 none.
+///
+/// What isn't given has the default of the command that asks for the same. It takes time and memory in proportion to the bytes of
+/// the list.
+///
+/// Errors: `At` with the fault of the least place, which is that of its item: `Code` for an item that the function doesn't take,
+/// `Value` for a value that isn't one of its code, and for an empty CHARACTERISTIC beside another, `Repeated` for another item of a
+/// code, or the 65,536th CHARACTERISTIC or TARGET; where no item is at fault `Missing` at 0 for one that lacks; and `Form` at 0 for a
+/// number that is no function's. `NoMemory`, where memory for lists ran out.
+pub fn read_call(
+    alloc: Global,
+    function: u16,
+    items: &[Item],
+    user: Name,
+) -> Result<Input, CallFault>
+    requires { length (text items.now) < 2 ^ 64 }
+    ensures read { IfOk result (λ input. call_of user function items.now ≡ Ok input) }
+    ensures fault { IfErr result (Explains (call_of user function items.now)) }
+{
+    let Some(function) = function_of(function) else {
+        return Err(at_once(ParseKind::Form));
+    };
+    if let Some(fault) = first_fault(function, items) {
+        return Err(told(fault));
+    }
+    let Ok(lists) = lists_in(alloc, items) else {
+        return Err(CallFault::NoMemory);
+    };
+    match asked(alloc, user, function, items, lists) {
+        Some(input) => Ok(input),
+        None => Err(at_once(ParseKind::Missing)),
+    }
+}
+
+// A fault of the whole call.
+fn at_once(kind: ParseKind) -> CallFault
+    ensures { result ≡ CallFault.At 0 kind }
+{
+    CallFault::At { place: 0, kind }
+}
+
+// The fault of an item.
+fn told(fault: Fault) -> CallFault
+    ensures { result ≡ CallFault.At fault.place fault.kind }
+{
+    CallFault::At {
+        place: fault.place,
+        kind: fault.kind,
+    }
+}

@@ -1,0 +1,179 @@
+// Which items a function takes, and what value each has.
+ghost use Rattle.std.specs.Prelude.{◌≡◌};
+ghost use Rattle.qm_sjc.specs.Fields.{fields_of};
+
+use crate::codes::*;
+use crate::function::Function;
+
+/// What the value of an item is. Numbers of several bytes have the lowest byte first.
+#[derive(Clone, Copy)]
+pub(crate) enum Holds {
+    /// No bytes.
+    Nothing,
+    /// One byte.
+    Byte,
+    /// Two bytes.
+    Short,
+    /// Four bytes.
+    Long,
+    /// One byte, 0 or 1.
+    Truth,
+    /// Two bytes, up to 255.
+    CharacteristicNumber,
+    /// One byte, 1 to 3: pause, next, reset.
+    How,
+    /// One byte, 1 to 4.
+    QueueKind,
+    /// One byte, 1 or 2.
+    JobKind,
+    /// One byte, 0 to 2.
+    QueueRetain,
+    /// One byte, 0 to 2; or 3, and a moment.
+    JobRetain,
+    /// Eight bytes, a moment; or none.
+    Moment,
+    /// Seven bytes, of which the last is 0 or 1.
+    Shape,
+    /// A name.
+    Name,
+    /// A name of at most 31 bytes.
+    ShortName,
+    /// A name of at most 6 bytes.
+    NodeName,
+    /// A name of at most 31 bytes that isn't digits alone.
+    DefinableName,
+    /// The name of a file.
+    File,
+    /// A name of at most 31 bytes, or the digits of a number up to 65,535.
+    Reference,
+    /// The same, or nothing, where no other one is given.
+    Characteristic,
+    /// A pattern of names.
+    Pattern,
+    /// One byte at least.
+    Bytes,
+}
+
+/// The code of an item that a function takes, and what value it has.
+pub(crate) type Field = (u16, Holds);
+
+const APPEND_ITEMS: [Field; 2] = [(FILE, Holds::File), (BYTES, Holds::Bytes)];
+
+const FILL_ITEMS: [Field; 2] = [(FILE, Holds::File), (LINES, Holds::Short)];
+
+const FILE_ITEMS: [Field; 1] = [(FILE, Holds::File)];
+
+const DEFINE_FORM_ITEMS: [Field; 4] = [
+    (NAME, Holds::DefinableName),
+    (NUMBER, Holds::Short),
+    (STOCK, Holds::ShortName),
+    (SHAPE, Holds::Shape),
+];
+
+const NAME_ITEMS: [Field; 1] = [(NAME, Holds::DefinableName)];
+
+const DEFINE_CHARACTERISTIC_ITEMS: [Field; 2] = [
+    (NAME, Holds::DefinableName),
+    (NUMBER, Holds::CharacteristicNumber),
+];
+
+const INITIALIZE_ITEMS: [Field; 13] = [
+    (QUEUE, Holds::ShortName),
+    (KIND, Holds::QueueKind),
+    (NODE, Holds::NodeName),
+    (DEVICE, Holds::ShortName),
+    (TARGET, Holds::ShortName),
+    (START, Holds::Nothing),
+    (JOB_LIMIT, Holds::Byte),
+    (CHARACTERISTIC, Holds::Characteristic),
+    (FORM, Holds::Reference),
+    (BLOCK_LOWER, Holds::Long),
+    (BLOCK_UPPER, Holds::Long),
+    (BY_SIZE, Holds::Truth),
+    (QUEUE_RETAIN, Holds::QueueRetain),
+];
+
+const SET_QUEUE_ITEMS: [Field; 8] = [
+    (QUEUE, Holds::ShortName),
+    (JOB_LIMIT, Holds::Byte),
+    (CHARACTERISTIC, Holds::Characteristic),
+    (FORM, Holds::Reference),
+    (BLOCK_LOWER, Holds::Long),
+    (BLOCK_UPPER, Holds::Long),
+    (BY_SIZE, Holds::Truth),
+    (QUEUE_RETAIN, Holds::QueueRetain),
+];
+
+const STOP_ITEMS: [Field; 2] = [(QUEUE, Holds::ShortName), (HOW, Holds::How)];
+
+const ABORT_ITEMS: [Field; 3] = [
+    (QUEUE, Holds::ShortName),
+    (ENTRY, Holds::Long),
+    (REQUEUE, Holds::Nothing),
+];
+
+const QUEUE_ITEMS: [Field; 1] = [(QUEUE, Holds::ShortName)];
+
+const MERGE_ITEMS: [Field; 2] = [(TO_QUEUE, Holds::ShortName), (QUEUE, Holds::ShortName)];
+
+const SUBMIT_ITEMS: [Field; 13] = [
+    (KIND, Holds::JobKind),
+    (QUEUE, Holds::ShortName),
+    (FILE, Holds::File),
+    (JOB_NAME, Holds::Name),
+    (PRIORITY, Holds::Byte),
+    (AFTER, Holds::Moment),
+    (HOLD, Holds::Nothing),
+    (RETAIN, Holds::JobRetain),
+    (RESTART, Holds::Truth),
+    (CHARACTERISTIC, Holds::Characteristic),
+    (FORM, Holds::Reference),
+    (COPIES, Holds::Byte),
+    (FLAG, Holds::Nothing),
+];
+
+const SET_ENTRY_ITEMS: [Field; 11] = [
+    (ENTRY, Holds::Long),
+    (RELEASE, Holds::Nothing),
+    (HOLD, Holds::Nothing),
+    (AFTER, Holds::Moment),
+    (PRIORITY, Holds::Byte),
+    (JOB_NAME, Holds::Name),
+    (CHARACTERISTIC, Holds::Characteristic),
+    (FORM, Holds::Reference),
+    (QUEUE, Holds::ShortName),
+    (RESTART, Holds::Truth),
+    (RETAIN, Holds::JobRetain),
+];
+
+const ENTRY_ITEMS: [Field; 1] = [(ENTRY, Holds::Long)];
+
+const SEARCH_ITEMS: [Field; 1] = [(SEARCH, Holds::Pattern)];
+
+/// The items that a function takes.
+pub(crate) fn fields_of(function: Function) -> &'static [Field]
+    ensures { result.now ≡ fields_of function }
+{
+    match function {
+        Function::Append => &APPEND_ITEMS,
+        Function::Fill => &FILL_ITEMS,
+        Function::Drop => &FILE_ITEMS,
+        Function::DefineForm => &DEFINE_FORM_ITEMS,
+        Function::DeleteForm | Function::DeleteCharacteristic => &NAME_ITEMS,
+        Function::DefineCharacteristic => &DEFINE_CHARACTERISTIC_ITEMS,
+        Function::InitializeQueue => &INITIALIZE_ITEMS,
+        Function::SetQueue | Function::StartQueue => &SET_QUEUE_ITEMS,
+        Function::StopQueue => &STOP_ITEMS,
+        Function::AbortJob => &ABORT_ITEMS,
+        Function::DeleteQueue => &QUEUE_ITEMS,
+        Function::Merge => &MERGE_ITEMS,
+        Function::Submit => &SUBMIT_ITEMS,
+        Function::SetEntry => &SET_ENTRY_ITEMS,
+        Function::DeleteEntry => &ENTRY_ITEMS,
+        Function::DisplayQueue
+        | Function::DisplayEntry
+        | Function::DisplayForm
+        | Function::DisplayCharacteristic => &SEARCH_ITEMS,
+        Function::DisplayJob | Function::DisplayManager | Function::CancelOperation => &[],
+    }
+}
