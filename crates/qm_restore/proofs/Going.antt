@@ -1,5 +1,5 @@
 -- A queue file that goes on, record by record.
-use Rattle.std.proofs.Common.{◌≡◌, ℕ, ◌+◌, ◌<◌, ◌≤◌, List, [], ◌∷◌, ◌++◌, length, map, take, drop, Some, None, Result, Ok, Err, refl, sym, ap, subst, ◌∙◌, arith, append_assoc}
+use Rattle.std.proofs.Common.{◌≡◌, ℕ, ◌+◌, ◌<◌, ◌≤◌, List, [], ◌∷◌, ◌++◌, length, map, take, drop, Some, Result, Ok, Err, refl, sym, ap, subst, ◌∙◌, arith, append_assoc}
 use Rattle.std.specs.Prelude.{IfOk, IfErr, OnOk, IsErrOf}
 use Rattle.std.specs.List.{AllByRecursion, slice_get}
 use Rattle.std.proofs.lemmas.List.{take_more, take_all, map-append, append-nil}
@@ -8,14 +8,15 @@ use Rattle.qm_kinds.specs.declared.record.Record.{Record}
 use Rattle.qm_kinds.specs.declared.system.Node.{Node}
 use Rattle.qm_kinds.specs.declared.system.System.{System}
 use Rattle.qm_bytes.specs.Laws.{Spells}
+use Rattle.qm_model.specs.Folding.{after_record}
 use Rattle.qm_record.specs.Spelling.{HasSpelling, record_text}
 use Rattle.qm_record.specs.Faults.{IsRead as IsReadSo, IsRecord}
 use Rattle.qm_record.specs.declared.fault.RecordFault.{RecordFault}
 use Rattle.qm_record.specs.declared.fault.RecordFault.TheVariants.{Bad}
 use Rattle.qm_record.specs.declared.fault.RecordFault.TheVariants as record_fault
 use Rattle.qm_restore.specs.Site.{new_system, new_rows}
-use Rattle.qm_restore.specs.QueueFile.{left_by, LeadTo, IsFileOf, IsSiteFile, IsFirstUnlawful}
-use Rattle.qm_restore.specs.Restoring.{BeginsWithRows, Judges, Leaves, LeavesNothing, LeavesBy, IsRefused, RefusesRead, IsFlawOf, IsFlawOfRead, IsFlaw}
+use Rattle.qm_restore.specs.QueueFile.{LeadTo, IsFileOf, IsSiteFile, IsFirstUnlawful}
+use Rattle.qm_restore.specs.Restoring.{BeginsWithRows, Judges, GoesTo, CannotStand, Leaves, LeavesNothing, LeavesBy, IsRefused, RefusesRead, IsFlawOf, IsFlawOfRead, IsFlaw}
 use Rattle.qm_restore.specs.declared.fault.RestoreFault.{RestoreFault}
 use Rattle.qm_restore.specs.declared.fault.RestoreFault.TheVariants.{Unlawful, NoMemory}
 use Rattle.qm_restore.specs.declared.fault.Flaw.{Flaw}
@@ -64,7 +65,7 @@ rows_are_there bodies nodes b = omega (arith, ap (λ (l : List (List ℕ)). leng
 -- ---- one more record
 
 -- a queue file with one record more
-pub file_goes_on : (nodes : List Node) (bodies : List (List ℕ)) (s t : System) (r : Record) → IsFileOf nodes bodies s → HasSpelling r → left_by s r ≡ Some t → IsFileOf nodes (bodies ++ record_text r ∷ []) t
+pub file_goes_on : (nodes : List Node) (bodies : List (List ℕ)) (s t : System) (r : Record) → IsFileOf nodes bodies s → HasSpelling r → GoesTo s r t → IsFileOf nodes (bodies ++ record_text r ∷ []) t
 file_goes_on nodes bodies s t r f fits leaves = record {
   requests = f.requests ++ r ∷ [];
   fit = fit_more (new_rows nodes ++ f.requests) r f.fit fits;
@@ -94,7 +95,7 @@ from_records : (s : System) (body : List ℕ) (more : List (List ℕ)) (t u : Sy
 from_records s body more t u l [] fit spelled lead = absurd (not_empty body more spelled)
 from_records s body more t u l (r ∷ rs) fit spelled lead =
     let is : body ≡ record_text r = same_first body (record_text r) more (map record_text rs) spelled in
-    let leaves : left_by s r ≡ Some t = ap (left_by s) (l.only r fit.0 is) ∙ l.leaves in
+    let leaves : after_record s r ≡ t = ap (after_record s) (l.only r fit.0 is) ∙ l.leaves.1 in
     record {
       records = rs;
       fit = fit.1;
@@ -165,7 +166,7 @@ all_stand bodies index s end stands = subst (λ (x : List (List ℕ)). IsSiteFil
 -- ---- one record of the file
 
 read_leaves : (body : List ℕ) (r : Record) (s t : System) → Spells HasSpelling record_text r body
-    → ((other : Record) → HasSpelling other → body ≡ record_text other → r ≡ other) → left_by s r ≡ Some t → Leaves body s t
+    → ((other : Record) → HasSpelling other → body ≡ record_text other → r ≡ other) → GoesTo s r t → Leaves body s t
 read_leaves body r s t spells only leaves = record {
   value = r;
   spells = spells;
@@ -173,8 +174,8 @@ read_leaves body r s t spells only leaves = record {
   only = λ other fits is. sym (only other fits is);
 }
 
-read_leaves_nothing : (body : List ℕ) (r : Record) (s : System) → ((other : Record) → HasSpelling other → body ≡ record_text other → r ≡ other) → left_by s r ≡ None → LeavesNothing body s
-read_leaves_nothing body r s only leaves other fits is = ap (left_by s) (sym (only other fits is)) ∙ leaves
+read_leaves_nothing : (body : List ℕ) (r : Record) (s : System) → ((other : Record) → HasSpelling other → body ≡ record_text other → r ≡ other) → CannotStand s r → LeavesNothing body s
+read_leaves_nothing body r s only cannot other fits is = subst (CannotStand s) (only other fits is) cannot
 
 pub on_ok : {X E P Q : Type 0} (result : Result X E) → (P → Q) → OnOk result P → OnOk result Q
 on_ok (Ok x) step holds = step holds

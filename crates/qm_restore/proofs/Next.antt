@@ -1,88 +1,78 @@
--- What can stand in a queue file is what can be the next record of a log.
-use Rattle.std.proofs.Common.{◌≡◌, ◌<◌, ◌≤◌, ℕ, ◌&&◌, Bool, true, List, [], ◌∷◌, ◌++◌, length, map, Result, Ok, Err, refl, arith}
-use Rattle.std.specs.Prelude.{nat_le, nat_lt, is_ok, IsOk}
-use Rattle.std.specs.List.{AllByRecursion}
-use Rattle.std.proofs.lemmas.Bool.{leb-true}
-use Rattle.std.proofs.lemmas.Bool.Decides.{nat_tests}
+-- Which record can be the next one of a queue file, and that its records are an accepted log.
+use Rattle.std.proofs.Common.{◌≡◌, ◌∙◌, ℕ, List, ◌++◌, map, Result, Ok, Err, IsOk, refl, sym, ap, subst}
+use Rattle.qm_history.specs.Accepted.{HasListsOfNodes, CanFollow, CanStandBehind, IsAccepted, IsNext}
 use Rattle.qm_kinds.specs.declared.record.Record.{Record}
 use Rattle.qm_kinds.specs.declared.record.Body.{Body}
-use Rattle.qm_kinds.specs.declared.record.Body.TheVariants.{Ask}
+use Rattle.qm_kinds.specs.declared.record.Body.TheVariants.{Ask, Head, Form, Characteristic, File, Queue, Entry}
 use Rattle.qm_kinds.specs.declared.refusal.Refusal.{Refusal}
 use Rattle.qm_kinds.specs.declared.request.Request.{Request}
 use Rattle.qm_kinds.specs.declared.request.Request.TheVariants.{NodeLost, Took}
 use Rattle.qm_kinds.specs.declared.system.Node.{Node}
 use Rattle.qm_kinds.specs.declared.system.System.{System}
 use Rattle.qm_model.specs.Applied.{applied}
-use Rattle.qm_model.specs.Built.{is_built}
 use Rattle.qm_model.specs.Consistent.{IsConsistent}
-use Rattle.qm_model.specs.Folding.{after_record, EachStands, system_of}
-use Rattle.qm_model.specs.Log.{request_record}
+use Rattle.qm_model.specs.Folding.{after_record, system_after, system_of}
 use Rattle.qm_model.specs.Outcome.{Accepted}
-use Rattle.qm_model.proofs.BuiltLemmas.{built_lawful}
-use Rattle.qm_history.specs.Accepted.{HasListsOfNodes, CanFollow, CanStandBehind, AreNext, IsAccepted}
 use Rattle.qm_record.specs.Spelling.{HasSpelling, record_text}
 use Rattle.qm_restore.specs.Site.{new_system, new_rows}
-use Rattle.qm_restore.specs.QueueFile.{can_act, can_stand, CanStand, IsFileOf}
-use Rattle.qm_restore.proofs.Consistent.{front, back, second, third}
+use Rattle.qm_restore.specs.QueueFile.{CanAct, IsFileOf}
+use Rattle.qm_restore.specs.Restoring.{GoesTo, CannotStand}
 
--- lists of nodes are those of requests that aren't built
-built_lists : (s : System) (request : Request) → is_built request ≡ true → HasListsOfNodes s request
-built_lists s (NodeLost nodes) built = absurd cc
-built_lists s (Took epoch gone up may) built = absurd cc
-built_lists s _ built = tt
+-- a request without lists of nodes
+pub no_lists : (s : System) (asked : Request) → ((nodes : List (List ℕ)) → asked ≡ NodeLost nodes → ⊥) → ((epoch : ℕ) (gone up may : List (List ℕ)) → asked ≡ Took epoch gone up may → ⊥) → HasListsOfNodes s asked
+no_lists s (NodeLost nodes) no_loss no_manager = absurd (no_loss nodes refl)
+no_lists s (Took epoch gone up may) no_loss no_manager = absurd (no_manager epoch gone up may refl)
+no_lists s _ no_loss no_manager = tt
 
-accepted_is_ok : (o : Result Accepted Refusal) → is_ok o ≡ true → IsOk o
-accepted_is_ok (Ok a) h = refl
-accepted_is_ok (Err refusal) h = absurd cc
+-- a row can't be the next record
+pub no_row : (s : System) (r : Record) → ((asked : Request) → r.body ≡ Ask asked → ⊥) → CannotStand s r
+no_row s r not = by_body r.body not
+  where
+    by_body : (b : Body) → ((asked : Request) → b ≡ Ask asked → ⊥) → CanStandBehind HasSpelling s r.moment r.node b → ⊥
+    by_body (Ask asked) other next = other asked refl
+    by_body (Head nodes may next_entry next_run last) other next = next
+    by_body (Form f) other next = next
+    by_body (Characteristic c) other next = next
+    by_body (File f) other next = next
+    by_body (Queue q) other next = next
+    by_body (Entry e) other next = next
 
-ok_is_accepted : (o : Result Accepted Refusal) → IsOk o → is_ok o ≡ true
-ok_is_accepted (Ok a) h = refl
-ok_is_accepted (Err refusal) h = h
+module _ (s : System) (r : Record) (asked : Request) (is : r.body ≡ Ask asked) where
+  -- what can be the next record
+  can_follow : IsNext HasSpelling s r → CanFollow HasSpelling s r.moment r.node asked
+  can_follow next = subst (λ (b : Body). CanStandBehind HasSpelling s r.moment r.node b) is next
 
-first : (a b d : Bool) → (a && b && d) ≡ true → a ≡ true
-first a b d all = grind arith
+  -- can act,
+  pub cannot_act : (CanAct s r.moment r.node asked → ⊥) → CannotStand s r
+  cannot_act not next =
+      let follows = can_follow next in
+      not (record { not_earlier = follows.not_earlier; node_there = follows.node_there; names = follows.names; lists = follows.lists })
 
-le_test : (a b : ℕ) → a ≤ b → nat_le a b ≡ true
-le_test a b h = grind (arith, nat_tests)
+  -- and isn't refused,
+  pub is_refused : (refusal : Refusal) → applied s r.moment r.node asked ≡ Err refusal → CannotStand s r
+  is_refused refusal refused next = no_answer (applied s r.moment r.node asked) refused (can_follow next).accepted
+    where
+      no_answer : (o : Result Accepted Refusal) → o ≡ Err refusal → IsOk o → ⊥
+      no_answer (Ok a) is ok = cc
+      no_answer (Err other) is ok = cc
 
-lt_test : (a b : ℕ) → a < b → nat_lt a b ≡ true
-lt_test a b h = grind (arith, nat_tests)
+  -- and the other way round
+  pub is_next : HasSpelling r → CanAct s r.moment r.node asked → IsOk (applied s r.moment r.node asked) → IsNext HasSpelling s r
+  is_next spelled can accepted = subst (λ (b : Body). CanStandBehind HasSpelling s r.moment r.node b) (sym is) (record {
+    spelled = subst (λ (b : Body). HasSpelling (record { moment = r.moment; node = r.node; body = b })) is spelled;
+    node_there = can.node_there;
+    not_earlier = can.not_earlier;
+    names = can.names;
+    lists = can.lists;
+    accepted = accepted;
+  })
 
-all_four : (a b d e : Bool) → a ≡ true → b ≡ true → d ≡ true → e ≡ true → (a && b && d && e) ≡ true
-all_four a b d e ha hb hd he = grind arith
-
--- what can stand can follow
-pub follows : (s : System) (moment node : ℕ) (request : Request) → HasSpelling (request_record moment node request)
-    → can_stand s moment node (Ask request) ≡ true → CanFollow HasSpelling s moment node request
-follows s moment node request spelled can =
-    let acts = front (can_act s moment node request) (is_ok (applied s moment node request)) can in
-    let there = leb-true _ _ (second (nat_le s.last moment) (nat_lt node (length s.nodes)) (is_built request) acts) in
-    let built = third (nat_le s.last moment) (nat_lt node (length s.nodes)) (is_built request) acts in
-    record {
-      spelled = spelled;
-      node_there = there;
-      not_earlier = leb-true s.last moment (first (nat_le s.last moment) (nat_lt node (length s.nodes)) (is_built request) acts);
-      names = built_lawful s node request there built;
-      lists = built_lists s request built;
-      accepted = accepted_is_ok (applied s moment node request) (back (can_act s moment node request) (is_ok (applied s moment node request)) can);
-    }
-
--- what can follow, and is built, can stand
-pub stands_next : (s : System) (moment node : ℕ) (request : Request) → is_built request ≡ true
-    → CanFollow HasSpelling s moment node request → can_stand s moment node (Ask request) ≡ true
-stands_next s moment node request built next =
-    all_four (nat_le s.last moment) (nat_lt node (length s.nodes)) (is_built request) (is_ok (applied s moment node request))
-    (le_test s.last moment next.not_earlier) (lt_test node (length s.nodes) next.node_there) built (ok_is_accepted (applied s moment node request) next.accepted)
-
-body_follows : (s : System) (moment node : ℕ) (b : Body) → HasSpelling (record { moment = moment; node = node; body = b })
-    → can_stand s moment node b ≡ true → CanStandBehind HasSpelling s moment node b
-body_follows s moment node (Ask request) spelled can = follows s moment node request spelled can
-body_follows s moment node _ spelled can = absurd cc
-
-each_follows : (s : System) (records : List Record) → AllByRecursion HasSpelling records → EachStands CanStand s records → AreNext HasSpelling s records
-each_follows s [] fit stand = tt
-each_follows s (r ∷ records) fit stand =
-    (body_follows s r.moment r.node r.body fit.0 stand.0, each_follows (after_record s r) records fit.1 stand.1)
+  -- it leaves what the rules of requests say
+  pub goes_to : (a : Accepted) (t : System) → HasSpelling r → CanAct s r.moment r.node asked → applied s r.moment r.node asked ≡ Ok a → a.system ≡ t → GoesTo s r t
+  goes_to a t spelled can accepted left = (
+    is_next spelled can (subst (λ (o : Result Accepted Refusal). IsOk o) (sym accepted) refl),
+    ap (λ (b : Body). after_record s (record { moment = r.moment; node = r.node; body = b })) is ∙ ap (system_after s) accepted ∙ left,
+  )
 
 -- the records of a queue file are an accepted log, which stands for its system
 pub file_is_accepted : (nodes : List Node) (bodies : List (List ℕ)) (s : System) → IsConsistent (new_system nodes) → IsFileOf nodes bodies s
@@ -96,7 +86,7 @@ file_is_accepted nodes bodies s consistent f = (
     consistent = consistent;
     spelled = (f.fit.0, (f.fit.1.0, (f.fit.1.1.0, tt)));
     whole = refl;
-    next = each_follows (new_system nodes) f.requests f.fit.1.1.1 f.lead.stand;
+    next = f.lead.stand;
   },
   f.lead.leave,
 )

@@ -1,44 +1,28 @@
 -- What the records of a queue file stand for.
-use Rattle.std.specs.Prelude.{◌≡◌, ℕ, ◌+◌, ◌<◌, ◌≤◌, nat_le, nat_lt, ◌&&◌, is_ok, if◌then◌else◌, Bool, true, false, List, ◌++◌, length, map, take, Option, None, Some}
+use Rattle.std.specs.Prelude.{◌≡◌, ℕ, ◌+◌, ◌<◌, ◌≤◌, List, ◌++◌, length, map, take}
 use Rattle.std.specs.List.{AllByRecursion}
+use Rattle.qm_history.specs.Accepted.{AreNext, HasListsOfNodes}
 use Rattle.qm_kinds.specs.declared.record.Record.{Record}
-use Rattle.qm_kinds.specs.declared.record.Body.{Body}
-use Rattle.qm_kinds.specs.declared.record.Body.TheVariants.{Ask, Head, Form, Characteristic, File, Queue, Entry}
 use Rattle.qm_kinds.specs.declared.request.Request.{Request}
 use Rattle.qm_kinds.specs.declared.system.Node.{Node}
 use Rattle.qm_kinds.specs.declared.system.System.{System}
-use Rattle.qm_model.specs.Applied.{applied}
-use Rattle.qm_model.specs.Built.{is_built}
 use Rattle.qm_model.specs.Consistent.{AreNodes}
-use Rattle.qm_model.specs.Folding.{after_record, replayed, EachStands}
+use Rattle.qm_model.specs.Folding.{replayed}
+use Rattle.qm_model.specs.Lawful.{IsLawful}
 use Rattle.qm_record.specs.Spelling.{HasSpelling, record_text}
 use Rattle.qm_restore.specs.Site.{new_system, new_rows}
 
--- a request can act: its moment doesn't go back, its node is there, and it is one that can be asked
-abbrev pub can_act : System → ℕ → ℕ → Request → Bool
-can_act s moment node request = nat_le s.last moment && nat_lt node (length s.nodes) && is_built request
+-- A request can act: its moment doesn't go back, its node is there, and its names and lists of nodes keep their rules. What is
+-- spelled then, and isn't refused, can be the next record of a log.
+pub record CanAct (s : System) (moment node : ℕ) (asked : Request) : Type 0 where
+  pub not_earlier : s.last ≤ moment
+  pub node_there : node < length s.nodes
+  pub names : IsLawful s node asked
+  pub lists : HasListsOfNodes s asked
 
--- A record can stand behind others that leave this system: a request that can act and isn't refused. A row stands at the
--- beginning alone.
-abbrev pub can_stand : System → ℕ → ℕ → Body → Bool
-can_stand s moment node (Ask request) = can_act s moment node request && is_ok (applied s moment node request)
-can_stand s moment node (Head nodes may next_entry next_run last) = false
-can_stand s moment node (Form form) = false
-can_stand s moment node (Characteristic characteristic) = false
-can_stand s moment node (File file) = false
-can_stand s moment node (Queue queue) = false
-can_stand s moment node (Entry entry) = false
-
-abbrev pub CanStand : System → Record → Type 0
-CanStand s r = can_stand s r.moment r.node r.body ≡ true
-
--- what a record leaves of a system, if it can stand there
-abbrev pub left_by : System → Record → Option System
-left_by s r = if can_stand s r.moment r.node r.body then Some (after_record s r) else None
-
--- the records can stand one behind the other, and leave this system
+-- each of the records can be the next one of a log behind those before it, and they leave this system
 pub record LeadTo (s : System) (records : List Record) (t : System) : Type 0 where
-  pub stand : EachStands CanStand s records
+  pub stand : AreNext HasSpelling s records
   pub leave : replayed s records ≡ t
 
 -- The records of a queue file, by their bodies, and the system that they stand for: the rows of a new site of these nodes, and

@@ -1,20 +1,22 @@
 -- How the records of a queue file are judged, one by one.
-use Rattle.std.specs.Prelude.{◌≡◌, ℕ, ◌≤◌, ◌<◌, Bool, if◌then◌else◌, List, [], ◌∷◌, ◌++◌, map, Option, None, Some, IsSome, Result, Ok, Err, slice_get}
+use Rattle.std.specs.Prelude.{◌≡◌, ℕ, ◌≤◌, ◌<◌, Bool, true, false, List, [], ◌∷◌, ◌++◌, map, Some, Result, Ok, Err, slice_get}
 use Rattle.std.specs.List.{AllByRecursion}
 use Rattle.qm_bytes.specs.Laws.{Spells}
+use Rattle.qm_history.specs.Accepted.{IsNext}
 use Rattle.qm_kinds.specs.declared.record.Record.{Record}
 use Rattle.qm_kinds.specs.declared.record.Body.{Body}
 use Rattle.qm_kinds.specs.declared.record.Body.TheVariants.{Head}
 use Rattle.qm_kinds.specs.declared.system.Node.{Node}
 use Rattle.qm_kinds.specs.declared.system.System.{System}
 use Rattle.qm_model.specs.Consistent.{AreNodes}
+use Rattle.qm_model.specs.Folding.{after_record}
 use Rattle.qm_record.specs.Spelling.{HasSpelling, record_text}
 use Rattle.qm_record.specs.Faults.{IsRecord}
 use Rattle.qm_record.specs.declared.fault.RecordFault.{RecordFault}
 use Rattle.qm_record.specs.declared.fault.RecordFault.TheVariants.{Bad}
 use Rattle.qm_record.specs.declared.fault.RecordFault.TheVariants as record_fault
 use Rattle.qm_restore.specs.Site.{new_rows}
-use Rattle.qm_restore.specs.QueueFile.{left_by, IsFileOf, IsFirstUnlawful}
+use Rattle.qm_restore.specs.QueueFile.{IsFileOf, IsFirstUnlawful}
 use Rattle.qm_restore.specs.declared.fault.RestoreFault.{RestoreFault}
 use Rattle.qm_restore.specs.declared.fault.RestoreFault.TheVariants.{Unlawful, NoMemory}
 use Rattle.qm_restore.specs.declared.fault.Flaw.{Flaw}
@@ -67,24 +69,33 @@ pub record BeginsWithRows (bodies : List (List ℕ)) (nodes : List Node) : Type 
   pub rows : bodies ≡ map record_text (new_rows nodes) ++ rest
   pub only : (others : List Node) (more : List (List ℕ)) (s : System) → IsFileOf others (map record_text (new_rows nodes) ++ more) s → others ≡ nodes
 
--- this system, if it was made
-abbrev pub some_if : Bool → System → Option System
-some_if made s = if made then Some s else None
+-- the record can be the next one behind this system, and leaves that one
+abbrev pub GoesTo : System → Record → System → Type 0
+GoesTo old r new = IsNext HasSpelling old r × (after_record old r ≡ new)
+
+-- it can't be the next one
+abbrev pub CannotStand : System → Record → Type 0
+CannotStand old r = IsNext HasSpelling old r → ⊥
+
+-- the record was replayed, or it can't be the next one
+abbrev pub IsReplayed : Bool → System → Record → System → Type 0
+IsReplayed true old r new = GoesTo old r new
+IsReplayed false old r new = CannotStand old r
 
 -- What one record, by its body, makes of a system: the system after it, or nothing.
 pub record Leaves (body : List ℕ) (old new : System) : Type 0 where
   pub value : Record
   pub spells : Spells HasSpelling record_text value body
-  pub leaves : left_by old value ≡ Some new
+  pub leaves : GoesTo old value new
   pub only : (other : Record) → HasSpelling other → body ≡ record_text other → other ≡ value
 
 -- it makes nothing of it
 abbrev pub LeavesNothing : List ℕ → System → Type 0
-LeavesNothing body old = (other : Record) → HasSpelling other → body ≡ record_text other → left_by old other ≡ None
+LeavesNothing body old = (other : Record) → HasSpelling other → body ≡ record_text other → CannotStand old other
 
 -- what was read of a record makes this of a system
 abbrev pub LeavesBy : Result Record RecordFault → System → System → Type 0
-LeavesBy (Ok r) old new = left_by old r ≡ Some new
+LeavesBy (Ok r) old new = GoesTo old r new
 LeavesBy (Err fault) old new = ⊥
 
 -- what a record is that was refused, by what was read of it
@@ -99,8 +110,8 @@ IsFlawOfRead (Err fault) Refused = ⊥
 -- What was read of the record with this index makes nothing of it. Memory is wanted for what can stand there alone, or was
 -- wanted where it was read.
 abbrev pub RefusesRead : ℕ → Result Record RecordFault → System → RestoreFault → Type 0
-RefusesRead index (Ok r) s (Unlawful i flaw) = (i ≡ index) × (left_by s r ≡ None) × IsFlawOfRead (Ok r) flaw
-RefusesRead index (Ok r) s NoMemory = IsSome (left_by s r)
+RefusesRead index (Ok r) s (Unlawful i flaw) = (i ≡ index) × CannotStand s r × IsFlawOfRead (Ok r) flaw
+RefusesRead index (Ok r) s NoMemory = IsNext HasSpelling s r
 RefusesRead index (Err (Bad place)) s (Unlawful i flaw) = (i ≡ index) × IsFlawOfRead (Err (Bad place)) flaw
 RefusesRead index (Err (Bad place)) s NoMemory = ⊥
 RefusesRead index (Err record_fault.NoMemory) s (Unlawful i flaw) = ⊥

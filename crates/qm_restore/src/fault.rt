@@ -11,8 +11,8 @@ pub enum Flaw {
     Unreadable,
     /// It should be a row of a new site and isn't, or the records end before that row.
     NoRow,
-    /// It is a record behind the rows and can't stand there: a row; or a request that comes too early, from no node of the site,
-    /// that can't be asked so far, or that the rules refuse.
+    /// It is a record behind the rows and can't stand there: a row; or a request that comes too early or from no node of the site,
+    /// whose names or lists of nodes don't keep their rules, or that is refused.
     Refused,
 }
 

@@ -1,21 +1,18 @@
 // What the records of a queue file stand for.
-ghost use Rattle.std.specs.Prelude.{◌≡◌, ◌↔◌, ℕ, List, map, true, false, [], ◌∷◌};
-ghost use Rattle.qm_kinds.specs.declared.request.Request.{Request};
+ghost use Rattle.std.specs.Prelude.{◌≡◌, ℕ, List, map, true, false, [], ◌∷◌};
 ghost use Rattle.qm_kinds.specs.declared.record.Record.{Record};
 ghost use Rattle.qm_kinds.specs.declared.system.Node.{Node};
 ghost use Rattle.qm_kinds.specs.declared.system.System.{System};
-ghost use Rattle.qm_history.specs.Accepted.{IsAccepted, IsNext};
+ghost use Rattle.qm_history.specs.Accepted.{IsAccepted};
 ghost use Rattle.qm_history.specs.Site.{site_of};
-ghost use Rattle.qm_model.specs.Built.{is_built};
 ghost use Rattle.qm_model.specs.Consistent.{AreNodes, IsConsistent};
 ghost use Rattle.qm_model.specs.First.{first_system};
 ghost use Rattle.qm_model.specs.Folding.{system_of};
-ghost use Rattle.qm_model.specs.Log.{request_record};
 ghost use Rattle.qm_record.specs.Spelling.{record_text, HasSpelling};
-ghost use Rattle.qm_restore.specs.QueueFile.{CanStand, IsFileOf, IsSiteFile};
-ghost use Rattle.qm_restore.specs.Site.{new_system};
+ghost use Rattle.qm_restore.specs.QueueFile.{IsFileOf, IsSiteFile};
+ghost use Rattle.qm_restore.specs.Site.{names_of, new_system};
 
-use qm_model::{built_requests_keep_consistent, nodes_keep_their_names};
+use qm_model::{nodes_keep_their_names, requests_keep_consistent};
 
 /// The system of a new site is consistent, whichever nodes it has and however they are called. It is that of one node which is
 /// up, and that which is made for nodes, all down.
@@ -25,22 +22,18 @@ pub fn new_sites_are_consistent()
     ensures several { (names : List (List ℕ)) → new_system (map (λ name. record { name = name; up = false }) names) ≡ site_of names }
 {}
 
-/// A request that is built can stand behind others exactly where it can be the next record of a history's log.
-pub fn built_requests_stand_as_next()
-    ensures { (s : System) (moment node : ℕ) (request : Request) → HasSpelling (request_record moment node request) → is_built request ≡ true → CanStand s (request_record moment node request) ↔ IsNext HasSpelling s (request_record moment node request) }
-{}
-
 /// The system for which the records of a queue file stand is consistent.
 pub fn site_files_are_consistent()
     ensures { (bodies : List (List ℕ)) (s : System) → IsSiteFile bodies s → IsConsistent s }
 {
     new_sites_are_consistent();
-    built_requests_keep_consistent();
+    requests_keep_consistent();
 }
 
-/// The system for which the records of a queue file of nodes stand has these nodes, as its first row has them.
-pub fn nodes_of_files_stay()
-    ensures { (nodes : List Node) (bodies : List (List ℕ)) (s : System) → IsFileOf nodes bodies s → s.nodes ≡ nodes }
+/// The nodes of the system for which the records of a queue file of nodes stand are called as these, in their order. Which are
+/// up its records tell.
+pub fn names_of_files_stay()
+    ensures { (nodes : List Node) (bodies : List (List ℕ)) (s : System) → IsFileOf nodes bodies s → names_of s.nodes ≡ names_of nodes }
 {
     nodes_keep_their_names();
 }

@@ -4,6 +4,7 @@
 
 mod bodies;
 mod fault;
+mod judging;
 mod laws;
 mod nodes;
 mod restoring;
@@ -12,9 +13,10 @@ mod site;
 
 pub use bodies::Bodies;
 pub use fault::{Flaw, RestoreFault};
+pub use judging::can_act;
 pub use laws::{
-    built_requests_stand_as_next, new_sites_are_consistent, nodes_of_files_stay,
-    site_files_are_accepted, site_files_are_consistent,
+    names_of_files_stay, new_sites_are_consistent, site_files_are_accepted,
+    site_files_are_consistent,
 };
 pub use restoring::restore;
 pub use rows::read_nodes;

@@ -1,39 +1,35 @@
 // How the records of a queue file become the image of a system.
-ghost use Rattle.std.specs.Prelude.{◌≡◌, ◌<◌, length, IsSome, IsErr, IfOk, IfErr, OnOk};
+ghost use Rattle.std.specs.Prelude.{◌<◌, length, IsErr, IfOk, IfErr, OnOk};
+ghost use Rattle.qm_history.specs.Accepted.{IsNext};
 ghost use Rattle.qm_model.specs.Consistent.{IsConsistent};
 ghost use Rattle.qm_state.specs.Image.{system_of};
-ghost use Rattle.qm_restore.specs.QueueFile.{can_act, left_by, IsSiteFile};
-ghost use Rattle.qm_restore.specs.Restoring.{some_if, OfBody, Judges, Leaves, LeavesBy, IsRefused, RefusesRead};
+ghost use Rattle.qm_record.specs.Spelling.{HasSpelling};
+ghost use Rattle.qm_restore.specs.QueueFile.{IsSiteFile};
+ghost use Rattle.qm_restore.specs.Restoring.{OfBody, Judges, IsReplayed, Leaves, LeavesBy, IsRefused, RefusesRead};
 
 use crate::bodies::Bodies;
 use crate::fault::{Flaw, RestoreFault};
+use crate::judging::can_act;
 use crate::laws::new_sites_are_consistent;
 use crate::rows::read_rows;
 use crate::site::new_system;
-use qm_kinds::{Body, Moment, Record, Request};
-use qm_model::{built_requests_keep_consistent, nodes_keep_their_names};
+use qm_kinds::{Body, Record};
+use qm_model::requests_keep_consistent;
 use qm_record::{RecordFault, read_record};
-use qm_state::{Image, Refused, is_built};
+use qm_state::{Image, Refused};
 use std::alloc::{AllocError, Global};
 
 // How many rows a new site has.
 const ROWS: usize = 3;
 
-// Whether a request can act: its moment doesn't go back, its node is there, and it is one that can be asked.
-fn can_act(image: &Image, moment: Moment, node: u8, request: &Request) -> bool
-    ensures { result ≡ can_act (system_of image.now) moment node request.now }
-{
-    image.last() <= moment && usize::from(node) < image.nodes().len() && is_built(request)
-}
-
 // Does what a record says, if it can stand there.
 fn replay(image: &mut Image, what: &Record) -> Result<bool, AllocError>
-    requires { IsConsistent (system_of image.old) }
+    requires sound { IsConsistent (system_of image.old) }
+    requires spelled { HasSpelling what.now }
     ensures sound { IsConsistent (system_of image.new) }
-    ensures nodes { (system_of image.new).nodes ≡ (system_of image.old).nodes }
-    ensures done { IfOk result (λ done. left_by (system_of image.old) what.now ≡ some_if done (system_of image.new)) }
+    ensures done { IfOk result (λ done. IsReplayed done (system_of image.old) what.now (system_of image.new)) }
     // Memory is wanted for what can stand there alone.
-    ensures no_memory { IsErr result → IsSome (left_by (system_of image.old) what.now) }
+    ensures no_memory { IsErr result → IsNext HasSpelling (system_of image.old) what.now }
 {
     let Body::Ask(request) = &what.body else {
         return Ok(false);
@@ -41,8 +37,7 @@ fn replay(image: &mut Image, what: &Record) -> Result<bool, AllocError>
     if !can_act(image, what.moment, what.node, request) {
         return Ok(false);
     }
-    nodes_keep_their_names();
-    built_requests_keep_consistent();
+    requests_keep_consistent();
     match image.prepare(what.moment, what.node, request) {
         Ok(prepared) => {
             image.commit(prepared);
@@ -59,11 +54,11 @@ fn replay_read(
     index: usize,
     read: &Result<Record, RecordFault>,
 ) -> Result<(), RestoreFault>
-    requires { IsConsistent (system_of image.old) }
+    requires sound { IsConsistent (system_of image.old) }
+    requires spelled { IfOk read.now HasSpelling }
     ensures sound { IsConsistent (system_of image.new) }
     ensures leaves { OnOk result (LeavesBy read.now (system_of image.old) (system_of image.new)) }
     ensures refused { IfErr result (RefusesRead index read.now (system_of image.old)) }
-    ensures nodes { (system_of image.new).nodes ≡ (system_of image.old).nodes }
 {
     match read {
         Ok(record) => {
@@ -96,7 +91,6 @@ fn restore_record<B: Bodies>(
     ensures sound { IsConsistent (system_of image.new) }
     ensures leaves { OnOk result (OfBody (B.bodies log.now) index (λ body. Leaves body (system_of image.old) (system_of image.new))) }
     ensures refused { IfErr result (λ fault. OfBody (B.bodies log.now) index (λ body. IsRefused index body (system_of image.old) fault)) }
-    ensures nodes { (system_of image.new).nodes ≡ (system_of image.old).nodes }
 {
     let read = read_record(alloc, log.body(index));
     replay_read(image, index, &read)
@@ -104,7 +98,7 @@ fn restore_record<B: Bodies>(
 
 /// The image of the system for which the records stand: the rows of a new site, of one or more nodes that are up or down, and
 /// then requests, each accepted behind those before it. Where they stand for none, the first record that can't stand there, and
-/// what is wrong with it. The nodes of the system are those that the first row names.
+/// what is wrong with it. The nodes of the system are called as the first row says; which of them are up the last records tell.
 pub fn restore<B: Bodies>(alloc: Global, log: &B) -> Result<Image, RestoreFault>
     ensures stands { IfOk result (λ image. IsSiteFile (B.bodies log.now) (system_of image)) }
     ensures judged { IfErr result (Judges (B.bodies log.now)) }

@@ -15,9 +15,10 @@ use Rattle.qm_kinds.specs.declared.reply.Act.{Act}
 use Rattle.qm_kinds.specs.declared.run.Run.{Run}
 use Rattle.qm_kinds.specs.declared.system.System.{System}
 use Rattle.qm_model.specs.Consistent.{IsInOrder}
-use Rattle.qm_model.specs.Ending.{queue_retain, ended, requeued, fated, aborted_status}
+use Rattle.qm_model.specs.Ending.{queue_retain, ended, requeued, fated, aborted_status, node_lost_status}
 use Rattle.qm_model.specs.Find.{entry_numbered}
 use Rattle.qm_model.specs.JobStates.{fate_of}
+use Rattle.qm_model.specs.Losing.{interrupted}
 use Rattle.qm_model.specs.Replying.{replied}
 use Rattle.qm_model.specs.Retaining.{is_retained, retained_until}
 use Rattle.qm_model.specs.Runs.{RunReport, MarkReport, EndReport, after_report, report_act, reported_of, run_reported, entry_of_run}
@@ -66,6 +67,15 @@ module _ (queues : List Queue) (now : ℕ) (e : Entry) (es : List Entry) (back :
   reported_left_at (EndReport status) None = ended_left status
   reported_left_at (MarkReport value) (Some fate) = fated_left fate
   reported_left_at (EndReport status) (Some fate) = fated_left fate
+
+  -- where its node is lost, by what was decided before
+  interrupted_left : (b : Bool) → Left (cond b (Some (requeued e)) (ended queues now node_lost_status e))
+  interrupted_left true = record { there = there; number_stays = refl; file_stays = same_file (requeued e) refl; run_stays = tt }
+  interrupted_left false = ended_left node_lost_status
+
+  pub lost_left_at : (fate : Option Fate) → Left (option_map_or (λ (f : Fate). fated queues now f e) fate (interrupted queues now e))
+  lost_left_at None = interrupted_left e.restart
+  lost_left_at (Some fate) = fated_left fate
 
 pub reported_left : (queues : List Queue) (now : ℕ) (report : RunReport) (p : Entry → Bool) (e : Entry) (es : List Entry) (left : Option Entry) → IsInOrder nat_cmp (λ x. x.number) es → find p es ≡ Some e
     → left ≡ after_report queues now report (fate_of e.state) e → IfSome left (λ l. IsLeftOf l e.number (entry_numbered e.number es))

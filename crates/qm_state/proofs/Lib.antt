@@ -8,6 +8,8 @@ pub mod Timed
 pub mod Kept
 pub mod Filling
 pub mod Ended
+pub mod Lost
+pub mod Listed
 pub mod Stopped
 pub mod Boxed
 pub mod Accepting

@@ -14,6 +14,7 @@ use Rattle.qm_model.specs.Due.{entry_at, is_over}
 use Rattle.qm_model.specs.Find.{file_named, same_file_name}
 use Rattle.qm_model.specs.Forms.{is_form_taken}
 use Rattle.qm_model.specs.Queues.{runs_for}
+use Rattle.qm_sched.specs.Nodes.{is_run_on_one}
 use Rattle.qm_sched.specs.Rooms.{CanPut, HavePlacesFor, is_home, may_come, reach}
 use Rattle.qm_sched.specs.Tables.{Tables}
 use Rattle.qm_sched.proofs.Reach.{count_map, count_filter_le}
@@ -21,10 +22,12 @@ use Rattle.qm_spool.specs.Kept.{Kept, HasRoomFor}
 use Rattle.qm_state.proofs.Reached.{NamesItsFile, file_found, no_run_found, unnamed_found}
 use Rattle.qm_state.specs.declared.image.Image.{Image}
 use Rattle.qm_state.specs.declared.prepared.Change.{Change}
-use Rattle.qm_state.specs.declared.prepared.Change.TheVariants.{NewFile, MoreBytes, MoreLines, RemoveFile, NewForm, RemoveForm, NewCharacteristic, RemoveCharacteristic, NewEntry, PutQueue, SetQueue, StopQueue, CutShort, RemoveQueue, Merge, ReplaceEntry, RemoveEntry, Report, Tick}
+use Rattle.qm_state.specs.declared.prepared.Change.TheVariants.{NewFile, MoreBytes, MoreLines, RemoveFile, NewForm, RemoveForm, NewCharacteristic, RemoveCharacteristic, NewEntry, PutQueue, SetQueue, StopQueue, CutShort, RemoveQueue, Merge, ReplaceEntry, RemoveEntry, Report, NodeUp, LoseNodes, TakeOver, Tick}
 use Rattle.qm_state.specs.Image.{system_of}
+use Rattle.qm_state.specs.Losing.{HasTimersFor}
 use Rattle.qm_state.specs.Preparing.{found, IsReady, IsWaiting}
 use Rattle.qm_state.proofs.Changed.{waiting_found}
+use Rattle.qm_state.proofs.Lost.{fewer_on_nodes}
 
 -- the files, the tables and the next number stay, but for how often files are named, and for entries, none of which comes
 record IsLeft (old new : Image) : Type 0 where
@@ -39,6 +42,7 @@ record IsLeft (old new : Image) : Type 0 where
   without_run : (name : List ℕ) → find (runs_for name) old.parts.entries ≡ None → find (runs_for name) new.parts.entries ≡ None
   with_file : (entry : Entry) → All (NamesItsFile entry) old.parts.entries → All (NamesItsFile entry) new.parts.entries
   waits : (number : ℕ) → IsWaiting number old.parts.entries → IsWaiting number new.parts.entries
+  on_nodes : (lost : List (List ℕ)) → count_by (is_run_on_one lost) new.parts.entries ≤ count_by (is_run_on_one lost) old.parts.entries
 
 module _ (old new : Image) (left : IsLeft old new) where
   of_files : (P : Kept → Type 0) → P (record old.spool { counts = new.spool.counts }) → P new.spool
@@ -60,6 +64,9 @@ module _ (old new : Image) (left : IsLeft old new) where
 
   room_stays : (name : FileName) (bytes : List ℕ) → HasRoomFor old.spool name bytes → HasRoomFor new.spool name bytes
   room_stays name bytes h = of_files (λ k. HasRoomFor k name bytes) (record { there = h.there; room = h.room; fits = h.fits })
+
+  timers_stay : (lost : List (List ℕ)) → HasTimersFor lost old.parts → HasTimersFor lost new.parts
+  timers_stay lost has = omega (arith, has, left.on_nodes lost, left.timers)
 
   ready_left : (change : Change) → IsReady old change → IsReady new change
   ready_left (NewFile name bytes) h = record {
@@ -97,13 +104,16 @@ module _ (old new : Image) (left : IsLeft old new) where
   ready_left (ReplaceEntry entry) h = record { idle = h.idle; waits = left.waits entry.number h.waits; places = places_for_stay entry.home 1 1 (omega arith) h.places; timer = omega (arith, h.timer, left.timers); file = left.with_file entry h.file }
   ready_left (RemoveEntry entry) h = tt
   ready_left (Report run report) h = omega (arith, h, left.timers)
+  ready_left NodeUp h = tt
+  ready_left (LoseNodes nodes) h = timers_stay nodes.now h
+  ready_left (TakeOver epoch gone up may) h = timers_stay gone.now h
   ready_left Tick h = tt
 
 -- room for runs alone
 pub ready_with_runs : (old new : Image) (n : ℕ) → new ≡ record old { parts = record old.parts { spare_runs = n } } → (change : Change) → IsReady old change → IsReady new change
 ready_with_runs old new n is change h =
     subst (λ (i : Image). IsReady i change) (sym is) (ready_left old (record old { parts = record old.parts { spare_runs = n } })
-    (record { files = refl; tables = refl; next = refl; timers = omega arith; fewer = omega arith; fewer_come = λ qs q. omega arith; at_home = λ name. omega arith; unnamed = λ name none. none; without_run = λ name none. none; with_file = λ entry all. all; waits = λ number waits. waits }) change h)
+    (record { files = refl; tables = refl; next = refl; timers = omega arith; fewer = omega arith; fewer_come = λ qs q. omega arith; at_home = λ name. omega arith; unnamed = λ name none. none; without_run = λ name none. none; with_file = λ entry all. all; waits = λ number waits. waits; on_nodes = λ lost. omega arith }) change h)
 
 -- what the moment finds
 module _ (now : ℕ) (old new : Image) (rows : system_of new ≡ found now (system_of old)) (files : new.spool ≡ record old.spool { counts = new.spool.counts })
@@ -139,6 +149,11 @@ module _ (now : ℕ) (old new : Image) (rows : system_of new ≡ found now (syst
       let mapped : count_by (is_home name) (map (entry_at now) kept) ≡ count_by (is_home name) kept = count_map (is_home name) (entry_at now) kept in
       omega (arith, is, mapped, count_filter_le (is_home name) (λ (e : Entry). not (is_over now e.state)) old.parts.entries)
 
+  fewer_on_nodes_found : (lost : List (List ℕ)) → count_by (is_run_on_one lost) new.parts.entries ≤ count_by (is_run_on_one lost) old.parts.entries
+  fewer_on_nodes_found lost =
+      let is = ap (λ (es : List Entry). count_by (is_run_on_one lost) es) entries_are in
+      omega (arith, is, fewer_on_nodes now lost old.parts.entries)
+
   pub ready_found : (change : Change) → IsReady old change → IsReady new change
   ready_found = ready_left old new (record {
     files = files;
@@ -152,4 +167,5 @@ module _ (now : ℕ) (old new : Image) (rows : system_of new ≡ found now (syst
     without_run = λ name none. subst (λ (es : List Entry). find (runs_for name) es ≡ None) (sym entries_are) (no_run_found name now old.parts.entries none);
     with_file = λ entry all. subst (All (NamesItsFile entry)) (sym entries_are) (file_found entry now old.parts.entries all);
     waits = λ number waits. subst (IsWaiting number) (sym entries_are) (waiting_found number now old.parts.entries waits);
+    on_nodes = fewer_on_nodes_found;
   })

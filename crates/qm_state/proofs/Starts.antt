@@ -8,7 +8,7 @@ use Rattle.qm_model.specs.States.{stopped_when_idle}
 use Rattle.qm_queues.specs.declared.settings.Settings.{Settings}
 use Rattle.qm_sched.specs.Starts.{start_places}
 use Rattle.qm_state.specs.declared.prepared.Change.{Change}
-use Rattle.qm_state.specs.declared.prepared.Change.TheVariants.{NewFile, MoreBytes, MoreLines, RemoveFile, NewForm, RemoveForm, NewCharacteristic, RemoveCharacteristic, NewEntry, PutQueue, SetQueue, StopQueue, CutShort, RemoveQueue, Merge, ReplaceEntry, RemoveEntry, Report, Tick}
+use Rattle.qm_state.specs.declared.prepared.Change.TheVariants.{NewFile, MoreBytes, MoreLines, RemoveFile, NewForm, RemoveForm, NewCharacteristic, RemoveCharacteristic, NewEntry, PutQueue, SetQueue, StopQueue, CutShort, RemoveQueue, Merge, ReplaceEntry, RemoveEntry, Report, NodeUp, LoseNodes, TakeOver, Tick}
 use Rattle.qm_state.specs.Ending.{report_of}
 use Rattle.qm_state.specs.Preparing.{found, outcome_of, starts_behind}
 use Rattle.qm_state.proofs.Bounds.{idle_places, stop_places, without_places, reported_queues, fewer_found}
@@ -35,6 +35,9 @@ places_after (Merge to from) not_put not_set now node s = omega arith
 places_after (ReplaceEntry entry) not_put not_set now node s = omega arith
 places_after (RemoveEntry entry) not_put not_set now node s = omega arith
 places_after (Report run report) not_put not_set now node s = omega (arith, ap start_places (reported_queues s now node run (report_of report)))
+places_after NodeUp not_put not_set now node s = omega arith
+places_after (LoseNodes nodes) not_put not_set now node s = omega arith
+places_after (TakeOver epoch gone up may) not_put not_set now node s = omega arith
 places_after Tick not_put not_set now node s = omega arith
 
 pub places_bound : (change : Change) → ((x : Queue) → change ≡ PutQueue x → ⊥) → ((x : List ℕ) (y : Settings) (z : Option QueueState) → change ≡ SetQueue x y z → ⊥)

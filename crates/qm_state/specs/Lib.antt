@@ -2,6 +2,7 @@ pub mod Settings
 pub mod Timers
 pub mod Leaving
 pub mod Ending
+pub mod Losing
 pub mod Refusing
 pub mod Image
 pub mod Keeping

@@ -21,7 +21,7 @@ use Rattle.qm_model.specs.Find.{entry_numbered, file_named, same_file_name}
 use Rattle.qm_model.specs.Forms.{is_form_taken, form_defined, form_deleted}
 use Rattle.qm_model.specs.JobStates.{is_waiting, run_of}
 use Rattle.qm_model.specs.Merging.{merged}
-use Rattle.qm_model.specs.Nodes.{ticked}
+use Rattle.qm_model.specs.Nodes.{ticked, node_up, nodes_lost, taken_over}
 use Rattle.qm_model.specs.Outcome.{Accepted}
 use Rattle.qm_model.specs.Queues.{queue_deleted, runs_for}
 use Rattle.qm_model.specs.Replying.{replied, replied_with_queue}
@@ -39,9 +39,10 @@ use Rattle.qm_spool.specs.Kept.{HasRoomFor}
 use Rattle.qm_state.specs.declared.image.Image.{Image}
 use Rattle.qm_state.specs.declared.prepared.Prepared.{Prepared}
 use Rattle.qm_state.specs.declared.prepared.Change.{Change}
-use Rattle.qm_state.specs.declared.prepared.Change.TheVariants.{NewFile, MoreBytes, MoreLines, RemoveFile, NewForm, RemoveForm, NewCharacteristic, RemoveCharacteristic, NewEntry, PutQueue, SetQueue, StopQueue, CutShort, RemoveQueue, Merge, ReplaceEntry, RemoveEntry, Report, Tick}
+use Rattle.qm_state.specs.declared.prepared.Change.TheVariants.{NewFile, MoreBytes, MoreLines, RemoveFile, NewForm, RemoveForm, NewCharacteristic, RemoveCharacteristic, NewEntry, PutQueue, SetQueue, StopQueue, CutShort, RemoveQueue, Merge, ReplaceEntry, RemoveEntry, Report, NodeUp, LoseNodes, TakeOver, Tick}
 use Rattle.qm_state.specs.Ending.{report_of}
 use Rattle.qm_state.specs.Image.{system_of}
+use Rattle.qm_state.specs.Losing.{HasTimersFor}
 
 -- the entry stands behind the others, and its number isn't given again
 abbrev pub entered : System → Entry → Accepted
@@ -91,6 +92,9 @@ outcome_of (Merge to from) now node s = merged s to from
 outcome_of (ReplaceEntry entry) now node s = entry_replaced s entry
 outcome_of (RemoveEntry entry) now node s = entry_removed s entry
 outcome_of (Report run report) now node s = run_reported s now node run (report_of report)
+outcome_of NodeUp now node s = node_up s node
+outcome_of (LoseNodes nodes) now node s = nodes_lost s now node nodes.now
+outcome_of (TakeOver epoch gone up may) now node s = taken_over s now node epoch gone.now up.now may
 outcome_of Tick now node s = ticked s
 
 -- the system as the acting moment finds it
@@ -166,7 +170,7 @@ StartAtMost most change s = (now : ℕ) (node : List ℕ) → starts_behind chan
 -- The change can be made on the image: for what comes there is room, in the rows of the queues too, a new form or characteristic has a name and a number of its
 -- own, a new entry has the next number and no run, its file is there and may be named once more, an entry that is changed waits,
 -- has no run then and keeps its file, no entry names a file that goes, and no job runs for a queue that goes. For what may wait
--- for a moment, or be kept until one, there is room for a timer.
+-- for a moment, or be kept until one, there is room for a timer, and so there is for each job that runs on a node that is lost.
 abbrev pub IsReady : Image → Change → Type 0
 IsReady image (NewFile name bytes) = CanInsert image name bytes.items
 IsReady image (MoreBytes name bytes) = CanAppend image name bytes.now
@@ -186,6 +190,9 @@ IsReady image (Merge to from) = HavePlacesFor to (count_by (is_home from) image.
 IsReady image (ReplaceEntry entry) = CanReplace image entry
 IsReady image (RemoveEntry entry) = Unit {0}
 IsReady image (Report run report) = 0 < image.parts.spare_timers
+IsReady image NodeUp = Unit {0}
+IsReady image (LoseNodes nodes) = HasTimersFor nodes.now image.parts
+IsReady image (TakeOver epoch gone up may) = HasTimersFor gone.now image.parts
 IsReady image Tick = Unit {0}
 
 -- What is prepared can be made on the image: the change can, it leaves a consistent system before any job is started, and there

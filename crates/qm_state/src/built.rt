@@ -19,22 +19,22 @@ fn is_of_digits(text: &[u8]) -> bool
     text.iter().all(|byte| byte.is_ascii_digit())
 }
 
-// Whether a form and a characteristic can have the name: it isn't of digits alone.
-fn is_definable(name: &Name) -> bool
+/// Whether a form and a characteristic can have the name: it isn't of digits alone.
+pub(crate) fn is_definable(name: &Name) -> bool
     ensures { result ≡ is_definable name.now }
 {
     is_short(name) && !is_of_digits(name.as_bytes())
 }
 
-// Whether a form can have its name and its stock.
-fn has_form_names(form: &Form) -> bool
+/// Whether a form can have its name and its stock.
+pub(crate) fn has_form_names(form: &Form) -> bool
     ensures { result ≡ is_built (Request.DefineForm form.now) }
 {
     is_definable(&form.name) && is_short(&form.stock)
 }
 
-// Whether a queue can be made under its name, and stand at its device.
-fn has_short_names(new: &NewQueue) -> bool
+/// Whether a queue can be made under its name, and stand at its device.
+pub(crate) fn has_short_names(new: &NewQueue) -> bool
     ensures { result ≡ is_built (Request.InitializeQueue new.now) }
 {
     is_short(&new.name) && new.device.is_none_or(|device| is_short(&device))

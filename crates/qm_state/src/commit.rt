@@ -69,6 +69,14 @@ impl Image {
             Change::ReplaceEntry { entry } => self.replace_entry(entry),
             Change::RemoveEntry { entry } => self.remove_entry(entry),
             Change::Report { run, report } => self.report_run(now, node, run, &report),
+            Change::NodeUp => self.start_node(node),
+            Change::LoseNodes { nodes } => self.lose_nodes(now, node, nodes),
+            Change::TakeOver {
+                epoch,
+                gone,
+                up,
+                may,
+            } => self.take_over(now, node, epoch, gone, up, may),
             Change::Tick => Act::Ticked,
         }
     }

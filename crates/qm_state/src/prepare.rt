@@ -1,7 +1,7 @@
-ghost use Rattle.std.specs.Prelude.{◌≡◌, ◌<◌, ◌≤◌, IfOk, Ok, length, true};
-ghost use Rattle.qm_model.specs.Applied.{applied};
-ghost use Rattle.qm_model.specs.Built.{is_built};
+ghost use Rattle.std.specs.Prelude.{◌≡◌, ◌<◌, ◌≤◌, ◌&&◌, IfOk, Ok, length};
+ghost use Rattle.qm_model.specs.Applied.{applied, are_numbers_spent, asks_for_numbers};
 ghost use Rattle.qm_model.specs.Consistent.{IsConsistent};
+ghost use Rattle.qm_model.specs.Lawful.{IsLawful};
 ghost use Rattle.qm_model.specs.Standing.{node_at};
 ghost use Rattle.qm_state.specs.Deciding.{PreparesAt};
 ghost use Rattle.qm_state.specs.Image.{system_of};
@@ -13,8 +13,14 @@ use crate::image::Image;
 use crate::prepared::{Change, Prepared};
 use crate::refused::Refused;
 use qm_kinds::{Moment, Name, RUNS_LIMIT, Refusal, Request};
-use qm_model::built_changes_keep_consistent;
 use std::alloc::AllocError;
+
+// Whether a request needs numbers of runs to be left: those that the queue manager makes for itself don't.
+fn asks_for_numbers(request: &Request) -> bool
+    ensures { result ≡ asks_for_numbers request.now }
+{
+    !matches!(request, Request::NodeLost { .. } | Request::Took { .. })
+}
 
 impl Image {
     /// Decides on a request that a node serves at the acting moment, and takes the memory for its change and for the jobs that
@@ -27,9 +33,9 @@ impl Image {
         request: &'a Request,
     ) -> Result<Prepared<'a>, Refused>
         requires sound { IsConsistent (system_of self.old) }
-        requires built { is_built request.now ≡ true }
         requires later { (system_of self.old).last ≤ now }
         requires serves { node < length (system_of self.old).nodes }
+        requires lawful { IsLawful (system_of self.old) node request.now }
 
         ensures rows { system_of self.new ≡ system_of self.old }
         ensures refused { Refuses result (applied (system_of self.old) now node request.now) }
@@ -39,8 +45,7 @@ impl Image {
         ensures ready { IfOk result (IsPrepared self.new) }
         ensures accepted { IfOk result (λ prepared. applied (system_of self.old) now node request.now ≡ Ok (made prepared (system_of self.old))) }
     {
-        built_changes_keep_consistent();
-        if self.parts.next_run() >= RUNS_LIMIT {
+        if self.are_numbers_spent(request) {
             return Err(Refused::By(Refusal::NumbersSpent));
         }
         let name = self.node_name(node);
@@ -54,6 +59,14 @@ impl Image {
             }),
             Err(AllocError) => Err(Refused::NoMemory),
         }
+    }
+
+    // Whether a request needs numbers of runs, and they are spent.
+    #[tactic(auto, unfolding(crate::specs::Image::system_of))]
+    fn are_numbers_spent(&self, request: &Request) -> bool
+        ensures { result ≡ (asks_for_numbers request.now && are_numbers_spent (system_of self.now)) }
+    {
+        asks_for_numbers(request) && self.parts.next_run() >= RUNS_LIMIT
     }
 
     // The name of the node at a place.
@@ -73,7 +86,6 @@ impl Image {
         node: &Name,
         request: &'a Request,
     ) -> Result<Change<'a>, Refused>
-        requires { is_built request.now ≡ true }
         ensures { PreparesAt now node.now request.now self.old self.new result }
     {
         match request {
@@ -107,7 +119,14 @@ impl Image {
                 self.prepare_report(node, *run, Reported::End(*status))
             }
             Request::Tick => self.prepare_tick(),
-            _ => unreachable!(),
+            Request::NodeUp => self.prepare_node_up(),
+            Request::NodeLost { nodes } => self.prepare_node_lost(nodes.as_slice()),
+            Request::Took {
+                epoch,
+                gone,
+                up,
+                may,
+            } => self.prepare_took(*epoch, gone.as_slice(), up.as_slice(), may.as_slice()),
         }
     }
 }

@@ -1,10 +1,12 @@
 use crate::ending::Reported;
 use qm_kinds::{
-    Characteristic, Entry, Fate, FileName, Form, Moment, Name, Queue, QueueState, Start, StopMode,
+    Characteristic, Entry, Fate, FileName, Form, Moment, Name, Queue, QueueState, Seq, Start,
+    StopMode,
 };
 use qm_queues::Settings;
 
-/// A change that was decided on, with the memory that it takes. Bytes for a file that is there are still the request's.
+/// A change that was decided on, with the memory that it takes. Bytes for a file that is there are still the request's, and so are
+/// the names of nodes that come up or go.
 #[derive(Drop)]
 pub struct Prepared<'a> {
     /// The acting moment.
@@ -99,6 +101,20 @@ pub(crate) enum Change<'a> {
     Report {
         run: u64,
         report: Reported,
+    },
+    /// The node that serves the request comes up.
+    NodeUp,
+    /// These nodes are lost, with what runs there.
+    LoseNodes {
+        nodes: &'a [Name],
+    },
+    /// The node that serves the request is the queue manager from here on. Some nodes are gone, with what runs there, just these
+    /// are up, and these may be queue manager.
+    TakeOver {
+        epoch: u64,
+        gone: &'a [Name],
+        up: &'a [Name],
+        may: Seq<Name>,
     },
     /// No more than what is due.
     Tick,

@@ -6,8 +6,17 @@ use Rattle.qm_state.specs.Image.{system_of}
 use Rattle.qm_state.specs.Preparing.{made}
 use Rattle.qm_model.specs.Consistent.{IsConsistent}
 use Rattle.std.proofs.lemmas.Bool.{leb-true}
+use Rattle.qm_model.proofs.BuiltLemmas.{built_lawful}
 use Rattle.qm_manager.proofs.Consistent.{second, third}
 use Rattle.qm_manager.proofs.restoring.replay.Goals as goal
+
+pub prepare-requires-clause-lawful : goal.prepare-requires-clause-lawful
+prepare-requires-clause-lawful c =
+    let s : System = system_of c.args.image.now in
+    let can = sym c.can_act.ensures ∙ c.if-not-can_act.false in
+    built_lawful s c.args.what.now.node c.in-Ask.request
+    (leb-true _ _ (second (nat_le s.last c.args.what.now.moment) (nat_lt c.args.what.now.node (length s.nodes)) (is_built c.in-Ask.request) can))
+    (third (nat_le s.last c.args.what.now.moment) (nat_lt c.args.what.now.node (length s.nodes)) (is_built c.in-Ask.request) can)
 
 pub returns-in-Ok-clause-nodes : goal.returns-in-Ok-clause-nodes
 returns-in-Ok-clause-nodes c =

@@ -1,7 +1,9 @@
-use Rattle.std.proofs.Common.{◌∙◌, sym, ap, refl, subst}
+use Rattle.std.proofs.Common.{◌∙◌, List, length, sym, ap, refl, subst, arith}
+use Rattle.qm_kinds.specs.declared.system.Node.{Node}
 use Rattle.qm_kinds.specs.declared.system.System.{System}
 use Rattle.qm_model.specs.Consistent.{IsConsistent}
 use Rattle.qm_model.specs.Outcome.{Accepted}
+use Rattle.qm_model.proofs.BuiltLemmas.{built_lawful}
 use Rattle.qm_state.specs.Image.{system_of}
 use Rattle.qm_state.specs.Preparing.{made}
 use Rattle.qm_store.specs.Store as store
@@ -17,6 +19,10 @@ pub prepare-requires-clause-sound : goal.prepare-requires-clause-sound
 prepare-requires-clause-sound g c =
     let site = site_of c.args.self.now in
     queue_files_are_consistent c.built_requests_keep_consistent.ensures c.first_system_is_consistent.ensures site.bodies site.system c.requires.ready.lawful
+
+pub prepare-requires-clause-lawful : goal.prepare-requires-clause-lawful
+prepare-requires-clause-lawful g c =
+    built_lawful (system_of c.args.self.now.image) 0 c.args.request.now (omega (arith, ap (λ (ns : List Node). length ns) c.args.self.now.named)) c.requires.built
 
 pub commit-requires-clause-sound : goal.commit-requires-clause-sound
 commit-requires-clause-sound g c =

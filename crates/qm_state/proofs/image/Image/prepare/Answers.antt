@@ -1,5 +1,5 @@
-use Rattle.std.proofs.Common.{◌≡◌, ◌∙◌, ◌≤◌, ◌<◌, ℕ, length, vec_capacity, Result, IsOk, refl, sym, subst, ap}
-use Rattle.qm_kinds.specs.declared.limits.TheConstants.{QUEUES_LIMIT, RUNS_LIMIT}
+use Rattle.std.proofs.Common.{◌≡◌, ◌∙◌, ◌≤◌, length, vec_capacity, Result, IsOk, refl, sym, subst, ap}
+use Rattle.qm_kinds.specs.declared.limits.TheConstants.{QUEUES_LIMIT}
 use Rattle.qm_kinds.specs.declared.system.System.{System}
 use Rattle.qm_model.specs.Applied.{change_of, completed, refusal_of}
 use Rattle.qm_model.specs.Outcome.{Accepted}
@@ -12,19 +12,17 @@ use Rattle.qm_state.proofs.Asking.{spent, decided, accepted, refuses, sound_afte
 use Rattle.qm_state.proofs.Ready.{ready_with_runs}
 use Rattle.qm_state.proofs.image.Image.prepare.Goals as goal
 
-pub returns-then-next_run-ge-RUNS_LIMIT-clause-refused : goal.returns-then-next_run-ge-RUNS_LIMIT-clause-refused
-unfolding system_of
-returns-then-next_run-ge-RUNS_LIMIT-clause-refused c =
-    spent (system_of c.args.self.now) c.args.now c.args.node c.args.request.now c.requires.built
-    (subst (λ (n : ℕ). RUNS_LIMIT ≤ n) c.next_run.ensures c.if-next_run-ge-RUNS_LIMIT.true)
+pub returns-then-are_numbers_spent-clause-refused : goal.returns-then-are_numbers_spent-clause-refused
+returns-then-are_numbers_spent-clause-refused c =
+    spent (system_of c.args.self.now) c.args.now c.args.node c.args.request.now (sym c.are_numbers_spent.ensures ∙ c.if-are_numbers_spent.true)
 
 pub returns-in_err-change-clause-refused : goal.returns-in_err-change-clause-refused
 unfolding system_of
 returns-in_err-change-clause-refused c =
     let s = system_of c.args.self.now in
     let name = c.node_name-name.result in
-    let below = subst (λ (n : ℕ). n < RUNS_LIMIT) c.next_run.ensures c.if-next_run-ge-RUNS_LIMIT.false in
-    subst (Refuses c.from_residual.result) (sym (decided s c.args.now c.args.node name c.args.request.now c.node_name-name.ensures c.requires.built below))
+    let left = sym c.are_numbers_spent.ensures ∙ c.if-are_numbers_spent.false in
+    subst (Refuses c.from_residual.result) (sym (decided s c.args.now c.args.node name c.args.request.now c.node_name-name.ensures left))
     (refuses c.prepare_change.result c.from_residual.result c.in_err-change.field-0.0 (refusal_of s name c.args.request.now) (completed (change_of (found c.args.now s) c.args.now name c.args.request.now))
     c.in_err-change.was c.from_residual.ensures c.prepare_change.ensures.decided)
 
@@ -39,20 +37,20 @@ returns-in-Ok-clause-rows c = ap (λ (i : Image). system_of i) c.reserve_starts.
 pub returns-in-Ok-clause-refused : goal.returns-in-Ok-clause-refused
 unfolding system_of
 returns-in-Ok-clause-refused c =
-    let below = subst (λ (n : ℕ). n < RUNS_LIMIT) c.next_run.ensures c.if-next_run-ge-RUNS_LIMIT.false in
+    let left = sym c.are_numbers_spent.ensures ∙ c.if-are_numbers_spent.false in
     let taken = subst (PreparesAt c.args.now c.node_name-name.result c.args.request.now c.args.self.now c.prepare_change.new.self) c.in_ok-change.was c.prepare_change.ensures in
-    subst (λ (model : Result Accepted _). IsOk model) (sym (accepted c.args.self.now c.prepare_change.new.self c.args.node c.args.request.now c.in_ok-change.change c.node_name-name.ensures c.requires.built below taken)) refl
+    subst (λ (model : Result Accepted _). IsOk model) (sym (accepted c.args.self.now c.prepare_change.new.self c.args.node c.args.request.now c.in_ok-change.change c.node_name-name.ensures left taken)) refl
 
 pub returns-in-Ok-clause-ready : goal.returns-in-Ok-clause-ready
 unfolding system_of made changed
 returns-in-Ok-clause-ready c =
-    let below = subst (λ (n : ℕ). n < RUNS_LIMIT) c.next_run.ensures c.if-next_run-ge-RUNS_LIMIT.false in
+    let left = sym c.are_numbers_spent.ensures ∙ c.if-are_numbers_spent.false in
     let taken = subst (PreparesAt c.args.now c.node_name-name.result c.args.request.now c.args.self.now c.prepare_change.new.self) c.in_ok-change.was c.prepare_change.ensures in
     let rows : system_of c.reserve_starts.new.self ≡ system_of c.prepare_change.new.self = ap (λ (i : Image). system_of i) c.in-Ok.ensures.rest in
     record {
       ready = ready_with_runs c.prepare_change.new.self c.reserve_starts.new.self c.reserve_starts.new.self.parts.spare_runs c.in-Ok.ensures.rest c.in_ok-change.change taken.takes.ready;
-      sound = sound_after c.built_changes_keep_consistent.ensures c.args.self.now c.prepare_change.new.self (system_of c.reserve_starts.new.self) c.args.node c.args.request.now c.in_ok-change.change
-          (rows ∙ taken.takes.rows) c.node_name-name.ensures c.requires.sound c.requires.serves c.requires.built below taken;
+      sound = sound_after c.args.self.now c.prepare_change.new.self (system_of c.reserve_starts.new.self) c.args.node c.args.request.now c.in_ok-change.change
+          (rows ∙ taken.takes.rows) c.node_name-name.ensures c.requires.sound c.requires.lawful left taken;
       none_yet = c.in-Ok.ensures.empty;
       started_room = subst (λ (s : System). starts_behind c.in_ok-change.change c.args.now c.node_name-name.result s ≤ vec_capacity c.in-Ok.started) (sym rows) (c.in-Ok.ensures.room c.args.now c.node_name-name.result);
       run_room = subst (λ (s : System). starts_behind c.in_ok-change.change c.args.now c.node_name-name.result s ≤ c.reserve_starts.new.self.parts.spare_runs) (sym rows) (c.in-Ok.ensures.runs c.args.now c.node_name-name.result);
@@ -61,16 +59,16 @@ returns-in-Ok-clause-ready c =
 pub returns-in-Ok-clause-accepted : goal.returns-in-Ok-clause-accepted
 unfolding system_of made changed
 returns-in-Ok-clause-accepted c =
-    let below = subst (λ (n : ℕ). n < RUNS_LIMIT) c.next_run.ensures c.if-next_run-ge-RUNS_LIMIT.false in
+    let left = sym c.are_numbers_spent.ensures ∙ c.if-are_numbers_spent.false in
     let taken = subst (PreparesAt c.args.now c.node_name-name.result c.args.request.now c.args.self.now c.prepare_change.new.self) c.in_ok-change.was c.prepare_change.ensures in
-    accepted c.args.self.now c.prepare_change.new.self c.args.node c.args.request.now c.in_ok-change.change c.node_name-name.ensures c.requires.built below taken
+    accepted c.args.self.now c.prepare_change.new.self c.args.node c.args.request.now c.in_ok-change.change c.node_name-name.ensures left taken
 
 pub returns-clause-refused : goal.returns-clause-refused
 unfolding system_of
 returns-clause-refused c =
-    let below = subst (λ (n : ℕ). n < RUNS_LIMIT) c.next_run.ensures c.if-next_run-ge-RUNS_LIMIT.false in
+    let left = sym c.are_numbers_spent.ensures ∙ c.if-are_numbers_spent.false in
     let taken = subst (PreparesAt c.args.now c.node_name-name.result c.args.request.now c.args.self.now c.prepare_change.new.self) c.in_ok-change.was c.prepare_change.ensures in
-    subst (λ (model : Result Accepted _). IsOk model) (sym (accepted c.args.self.now c.prepare_change.new.self c.args.node c.args.request.now c.in_ok-change.change c.node_name-name.ensures c.requires.built below taken)) refl
+    subst (λ (model : Result Accepted _). IsOk model) (sym (accepted c.args.self.now c.prepare_change.new.self c.args.node c.args.request.now c.in_ok-change.change c.node_name-name.ensures left taken)) refl
 
 pub returns-clause-rows : goal.returns-clause-rows
 unfolding system_of

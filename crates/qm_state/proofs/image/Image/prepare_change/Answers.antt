@@ -1,5 +1,5 @@
 use Rattle.std.proofs.Common.{◌∙◌, ap, sym}
-use Rattle.qm_kinds.specs.declared.request.Request.TheVariants.{Append}
+use Rattle.qm_kinds.specs.declared.request.Request.TheVariants.{Append, NodeLost, Took}
 use Rattle.qm_state.proofs.Handing.{handed}
 use Rattle.qm_state.proofs.image.Image.prepare_change.Goals as goal
 
@@ -62,3 +62,12 @@ returns-in-Done c = handed (sym c.in-Done.is) (c.prepare_report-in-Done.ensures 
 
 pub returns-in-Tick : goal.returns-in-Tick
 returns-in-Tick c = handed (sym c.in-Tick.is) (c.prepare_tick.ensures c.args.now c.args.node.now)
+
+pub returns-in-NodeUp : goal.returns-in-NodeUp
+returns-in-NodeUp c = handed (sym c.in-NodeUp.is) (c.prepare_node_up.ensures c.args.now c.args.node.now)
+
+pub returns-in-NodeLost : goal.returns-in-NodeLost
+returns-in-NodeLost c = handed (ap NodeLost c.as_slice-in-NodeLost.ensures ∙ sym c.in-NodeLost.is) (c.prepare_node_lost.ensures c.args.now c.args.node.now)
+
+pub returns-in-Took : goal.returns-in-Took
+returns-in-Took c = handed ((λ t. Took c.in-Took.epoch (c.as_slice-in-Took.ensures t) (c.as_slice-in-Took-2.ensures t) (c.as_slice-in-Took-3.ensures t)) ∙ sym c.in-Took.is) (c.prepare_took.ensures c.args.now c.args.node.now)
