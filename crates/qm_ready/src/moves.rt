@@ -59,19 +59,18 @@ fn exchange(keys: &mut Vec<Key>, slot: usize, key: Key) -> Key
     mem::replace(&mut keys[slot], key)
 }
 
-// A key comes into its place, those behind it in its tier move on by one, and the last one goes.
-fn push_through(keys: &mut Vec<Key>, heads: &[usize], place: usize, key: Key) -> Key
+// A key comes into a place, those from there up to another place move on by one, and the last one goes.
+fn push_on(keys: &mut Vec<Key>, heads: &[usize], from: usize, to: usize, key: Key) -> Key
     requires tiered { IsTiered TIER heads.now keys.old.items }
-    requires within { place < length heads.now * TIER }
-    ensures moved { insert (laid TIER heads.now keys.new.items) ((place / TIER + 1) * TIER) result
-        ≡ insert (laid TIER heads.now keys.old.items) place key }
+    requires order { from ≤ to }
+    requires within { to ≤ length heads.now * TIER }
+    ensures moved { insert (laid TIER heads.now keys.new.items) to result ≡ insert (laid TIER heads.now keys.old.items) from key }
     ensures len { length keys.new.items ≡ length keys.old.items }
     ensures capacity { vec_capacity keys.new ≡ vec_capacity keys.old }
 {
-    let end = (place / TIER + 1) * TIER;
     let mut carry = key;
-    let mut at = place;
-    while at < end {
+    let mut at = from;
+    while at < to {
         let slot = slot_of(keys, heads, at);
         carry = exchange(keys, slot, carry);
         at += 1;
@@ -79,18 +78,18 @@ fn push_through(keys: &mut Vec<Key>, heads: &[usize], place: usize, key: Key) ->
     carry
 }
 
-// A key comes behind a tier, those from a place on move back by one, and the one of the place goes.
-fn pull_back(keys: &mut Vec<Key>, heads: &[usize], place: usize, key: Key) -> Key
+// A key comes in front of a place, those before it down to another place move back by one, and the first one goes.
+fn pull_back(keys: &mut Vec<Key>, heads: &[usize], from: usize, to: usize, key: Key) -> Key
     requires tiered { IsTiered TIER heads.now keys.old.items }
-    requires within { place < length heads.now * TIER }
-    ensures moved { insert (laid TIER heads.now keys.new.items) place result
-        ≡ insert (laid TIER heads.now keys.old.items) ((place / TIER + 1) * TIER) key }
+    requires order { to ≤ from }
+    requires within { from ≤ length heads.now * TIER }
+    ensures moved { insert (laid TIER heads.now keys.new.items) to result ≡ insert (laid TIER heads.now keys.old.items) from key }
     ensures len { length keys.new.items ≡ length keys.old.items }
     ensures capacity { vec_capacity keys.new ≡ vec_capacity keys.old }
 {
-    let mut at = (place / TIER + 1) * TIER;
+    let mut at = from;
     let mut carry = key;
-    while place < at {
+    while to < at {
         at -= 1;
         let slot = slot_of(keys, heads, at);
         carry = exchange(keys, slot, carry);
@@ -182,6 +181,51 @@ fn ripple_back(keys: &mut Vec<Key>, heads: &mut Vec<usize>, to: usize, key: Key)
     carry
 }
 
+// Whether a place is nearer to the front of its tier than to its end.
+fn is_near_front(place: usize) -> bool {
+    place % TIER < TIER / 2
+}
+
+// A key comes into its place in a tier, and the last one of the tier goes. The keys on the shorter side of the place move.
+fn enter(keys: &mut Vec<Key>, heads: &mut Vec<usize>, place: usize, key: Key) -> Key
+    requires tiered { IsTiered TIER heads.old.items keys.old.items }
+    requires within { place < length heads.old.items * TIER }
+    ensures moved { insert (laid TIER heads.new.items keys.new.items) ((place / TIER + 1) * TIER) result
+        ≡ insert (laid TIER heads.old.items keys.old.items) place key }
+    ensures tiered { IsTiered TIER heads.new.items keys.new.items }
+    ensures tiers { length heads.new.items ≡ length heads.old.items }
+    ensures len { length keys.new.items ≡ length keys.old.items }
+    ensures capacity { vec_capacity keys.new ≡ vec_capacity keys.old }
+    ensures heads_capacity { vec_capacity heads.new ≡ vec_capacity heads.old }
+{
+    let tier = place / TIER;
+    if is_near_front(place) {
+        let first = pull_back(keys, heads, place, tier * TIER, key);
+        return turn_on(keys, heads, tier, first);
+    }
+    push_on(keys, heads, place, (tier + 1) * TIER, key)
+}
+
+// A key comes behind a tier, and the one of a place in the tier goes. The keys on the shorter side of the place move.
+fn leave(keys: &mut Vec<Key>, heads: &mut Vec<usize>, place: usize, key: Key) -> Key
+    requires tiered { IsTiered TIER heads.old.items keys.old.items }
+    requires within { place < length heads.old.items * TIER }
+    ensures moved { insert (laid TIER heads.new.items keys.new.items) place result
+        ≡ insert (laid TIER heads.old.items keys.old.items) ((place / TIER + 1) * TIER) key }
+    ensures tiered { IsTiered TIER heads.new.items keys.new.items }
+    ensures tiers { length heads.new.items ≡ length heads.old.items }
+    ensures len { length keys.new.items ≡ length keys.old.items }
+    ensures capacity { vec_capacity keys.new ≡ vec_capacity keys.old }
+    ensures heads_capacity { vec_capacity heads.new ≡ vec_capacity heads.old }
+{
+    let tier = place / TIER;
+    if is_near_front(place) {
+        let first = turn_back(keys, heads, tier, key);
+        return push_on(keys, heads, tier * TIER, place, first);
+    }
+    pull_back(keys, heads, (tier + 1) * TIER, place, key)
+}
+
 /// A key comes into its place in a full tier, and the last one of all full tiers goes.
 pub(crate) fn make_way(keys: &mut Vec<Key>, heads: &mut Vec<usize>, place: usize, key: Key) -> Key
     requires tiered { IsTiered TIER heads.old.items keys.old.items }
@@ -194,7 +238,7 @@ pub(crate) fn make_way(keys: &mut Vec<Key>, heads: &mut Vec<usize>, place: usize
     ensures capacity { vec_capacity keys.new ≡ vec_capacity keys.old }
     ensures heads_capacity { vec_capacity heads.new ≡ vec_capacity heads.old }
 {
-    let carry = push_through(keys, heads, place, key);
+    let carry = enter(keys, heads, place, key);
     ripple_on(keys, heads, place / TIER + 1, carry)
 }
 
@@ -211,5 +255,5 @@ pub(crate) fn close_up(keys: &mut Vec<Key>, heads: &mut Vec<usize>, place: usize
     ensures heads_capacity { vec_capacity heads.new ≡ vec_capacity heads.old }
 {
     let carry = ripple_back(keys, heads, place / TIER + 1, key);
-    pull_back(keys, heads, place, carry)
+    leave(keys, heads, place, carry)
 }

@@ -4,7 +4,7 @@ use Rattle.qm_match.specs.declared.order.Key.{Key}
 use Rattle.qm_ready.specs.Tiers.{laid}
 use Rattle.qm_ready.specs.declared.moves.TheConstants.{TIER}
 use Rattle.qm_ready.proofs.Tiered.{slot_on}
-use Rattle.qm_ready.proofs.moves.push_through.Goals as goal
+use Rattle.qm_ready.proofs.moves.push_on.Goals as goal
 
 pub loop-at-preserved : goal.loop-at-preserved
 loop-at-preserved c =
