@@ -1,5 +1,5 @@
 -- The last entry stands in the last place.
-use Rattle.std.proofs.Common.{◌≡◌, ◌∙◌, ℕ, zero, suc, ◌+◌, ◌-◌, ◌<◌, List, [], ◌∷◌, length, get_or, Some, None, refl, sym, ap, arith}
+use Rattle.std.proofs.Common.{◌≡◌, ◌∙◌, ℕ, zero, suc, ◌-◌, ◌<◌, List, [], ◌∷◌, length, get_or, Some, refl, sym, ap, arith}
 use Rattle.std.specs.List.{slice_get}
 use Rattle.std.specs.Prelude.{Box}
 use Rattle.std.specs.Ordering.{nat_cmp, ordering_reverse}

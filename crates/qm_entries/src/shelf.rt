@@ -1,10 +1,10 @@
 // Entries in boxes, one behind the other.
-ghost use Rattle.std.specs.Prelude.{◌≡◌, ◌≤◌, ◌<◌, ◌+◌, ◌-◌, ◌++◌, ◌∷◌, [], IsSome, None, Some, OnOk, length, not, map, filter, count_by, drop, vec_len, vec_capacity, slice_set, slice_get, slice_index_or, remove};
+ghost use Rattle.std.specs.Prelude.{◌≡◌, ◌≤◌, ◌<◌, ◌+◌, ◌-◌, ◌++◌, ◌∷◌, [], IsSome, None, Some, OnOk, length, not, map, filter, count_by, drop, take, vec_len, vec_capacity, slice_set, slice_get, slice_index_or, remove};
 ghost use Rattle.std.specs.Str.{bytes_eq};
 ghost use Rattle.qm_kinds.specs.declared.entry.Entry.{Entry as AnyEntry};
 ghost use Rattle.qm_model.specs.Due.{is_over, entry_at};
 ghost use Rattle.qm_model.specs.Merging.{moved_to, waits_in};
-ghost use Rattle.qm_entries.specs.Boxed.{contents};
+ghost use Rattle.qm_entries.specs.Boxed.{brought, contents};
 ghost use Rattle.qm_entries.specs.Changes.{changed_by};
 
 use crate::change::Change;
@@ -14,8 +14,9 @@ use qm_kinds::{Entry, Moment, Name};
 use std::alloc::{AllocError, Global};
 use std::marker::Model;
 
-/// Entries in boxes, one behind the other. The first goes without a move of the others: its box stays until an eighth of the
-/// boxes have gone so, and then these are freed together. Only `reserve` takes memory.
+/// Entries in boxes, one behind the other. The first goes without a move of the others, and each one with a move of those places
+/// that are fewer, before it or behind it: a box from the front half stays until an eighth of the boxes have gone so, and then these
+/// are freed together. Only `reserve` takes memory.
 #[derive(Drop)]
 pub(crate) struct Shelf {
     boxes: Vec<Box<Entry>>,
@@ -93,8 +94,9 @@ impl Shelf {
         change_at(&mut self.boxes, self.gone + place, change);
     }
 
-    /// Takes the entry at a place out. The first moves no other, until an eighth of the boxes have gone so: those that are
-    /// left then move once, 56 bytes for each that has gone.
+    /// Takes the entry at a place out. Where it stands in the front half the places before it move, 8 bytes each, else those
+    /// behind it. The box of one in the front half stays until an eighth of the boxes have gone so: those that are left then move
+    /// once, 56 bytes for each that has gone.
     pub(crate) fn take(&mut self, place: usize) -> Entry
         requires { place < length self.old.entries }
         ensures taken { Some result ≡ slice_get self.old.entries place }
@@ -155,12 +157,45 @@ fn take_at(boxes: &mut Vec<Box<Entry>>, gone: &mut usize, place: usize) -> Entry
     ensures len { vec_len boxes.new ≤ vec_len boxes.old }
     ensures capacity { vec_capacity boxes.new ≡ vec_capacity boxes.old }
 {
-    if place > 0 {
-        return boxed::take(boxes, *gone + place);
+    if place < (boxes.len() - *gone) / 2 {
+        return take_front(boxes, gone, place);
     }
+    boxed::take(boxes, *gone + place)
+}
+
+// Takes the entry at a place behind those that are gone out, by a move of those that stand in front of it: its box stays, as
+// one that is gone.
+fn take_front(boxes: &mut Vec<Box<Entry>>, gone: &mut usize, place: usize) -> Entry
+    requires { gone.old + place < vec_len boxes.old }
+    ensures taken { Some result ≡ slice_get (drop gone.old (contents boxes.old.items)) place }
+    ensures left { drop gone.new (contents boxes.new.items) ≡ remove (drop gone.old (contents boxes.old.items)) place }
+    ensures within { gone.new ≤ vec_len boxes.new }
+    ensures len { vec_len boxes.new ≤ vec_len boxes.old }
+    ensures capacity { vec_capacity boxes.new ≡ vec_capacity boxes.old }
+{
+    turn(boxes, *gone, place);
     let first = *boxes[*gone];
     *gone += 1;
     first
+}
+
+// The box at a place behind the first ones comes to stand right behind these, and those in front of it move on by one.
+fn turn(boxes: &mut Vec<Box<Entry>>, first: usize, place: usize)
+    requires { first + place < vec_len boxes.old }
+    ensures items { boxes.new.items ≡ take first boxes.old.items ++ brought place (drop first boxes.old.items) }
+    ensures len { vec_len boxes.new ≡ vec_len boxes.old }
+    ensures capacity { vec_capacity boxes.new ≡ vec_capacity boxes.old }
+{
+    bring(&mut boxes[first..], place);
+}
+
+// The box at a place comes to the front, and those in front of it move on by one.
+fn bring(boxes: &mut [Box<Entry>], place: usize)
+    requires { place < length boxes.old }
+    ensures items { boxes.new ≡ brought place boxes.old }
+    ensures len { length boxes.new ≡ length boxes.old }
+{
+    boxes[..place + 1].rotate_right(1);
 }
 
 // Frees the boxes of entries that are gone, which moves the others to the front.

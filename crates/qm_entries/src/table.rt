@@ -25,8 +25,8 @@ use std::marker::Model;
 ///
 /// Only `reserve` takes memory: a place of 8 bytes, and the box of the entry that comes next. Each other call asks a
 /// logarithm of the entries. A new entry goes behind the others, so `insert` moves none. `remove` also moves the places that
-/// stand behind, 8 bytes each, but not where it takes out the first entry: its place and its box stay until an eighth of all
-/// have gone so, and are freed together then. No entry is moved when another one comes, is changed or goes.
+/// stand before it or behind it, whichever are fewer, 8 bytes each. The box of an entry of the front half stays until an eighth of
+/// all have gone so, and these are freed together then. No entry is moved when another one comes, is changed or goes.
 #[derive(Drop)]
 pub struct EntryTable {
     alloc: Global,
