@@ -1,6 +1,7 @@
 pub mod Counts
 pub mod Ordered
 pub mod Least
+pub mod ByByte
 pub mod Mirrored
 pub mod Asked
 pub mod Swept
@@ -13,6 +14,7 @@ pub mod Steps
 pub mod Walk
 pub mod Starting
 pub mod Progress
+pub mod ByPlace
 pub mod Each
 pub mod ReadyKeys
 pub mod ReadyQueues
@@ -22,6 +24,7 @@ pub mod Bounds
 pub mod RowPlaces
 pub mod PutRows
 pub mod KeptRows
+pub mod Widening
 pub mod RowLoops
 pub mod ReadyRows
 pub mod FirstReady

@@ -7,3 +7,4 @@ pub mod Ready
 pub mod ByRun
 pub mod Timing
 pub mod Nodes
+pub mod Reaching

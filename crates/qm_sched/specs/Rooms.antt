@@ -1,5 +1,5 @@
 -- The queues that a job may come to, and the room that their rows have.
-use Rattle.std.specs.Prelude.{◌≡◌, ◌<◌, ◌≤◌, ◌+◌, ℕ, Bool, true, ◌||◌, List, [], length, map, count_by, Option, None, IfSome, slice_index_or}
+use Rattle.std.specs.Prelude.{◌≡◌, ◌<◌, ◌≤◌, ◌+◌, ℕ, Bool, true, ◌||◌, if◌then◌else◌, List, [], length, map, count_by, Option, None, IfSome, slice_index_or}
 use Rattle.std.specs.List.{list_any}
 use Rattle.std.specs.Option.{option_map_or}
 use Rattle.std.specs.Str.{bytes_eq}
@@ -49,10 +49,18 @@ AreMet needs queues rooms = (place : ℕ) (q : Queue) → place < length queues 
 abbrev pub HaveRoom : List Queue → List Entry → List ℕ → Type 0
 HaveRoom queues entries rooms = AreMet (reach queues entries) queues rooms
 
--- and for so many more, where the queue has this name or is one of these targets
+-- and for so many more, where the queue passes a test
+abbrev pub HavePlacesWhere : (Queue → Bool) → ℕ → List Queue → List Entry → List ℕ → Type 0
+HavePlacesWhere test more queues entries rooms = (place : ℕ) (q : Queue) → place < length queues → test (slice_index_or queues place q) ≡ true
+    → reach queues entries (slice_index_or queues place q) + more ≤ slice_index_or rooms place 0
+
+-- the same of rows
+abbrev pub HasRoomWhere : (Queue → Bool) → ℕ → Tables → List Row → Type 0
+HasRoomWhere test more t rows = HavePlacesWhere test more t.queues t.entries (rooms_of rows)
+
+-- where the queue has this name or is one of these targets
 abbrev pub HavePlaces : List ℕ → List (List ℕ) → ℕ → Tables → Type 0
-HavePlaces name targets more t = (place : ℕ) (q : Queue) → place < length t.queues → is_one_of name targets (slice_index_or t.queues place q) ≡ true
-    → reach t.queues t.entries (slice_index_or t.queues place q) + more ≤ slice_index_or t.rooms place 0
+HavePlaces name targets more t = HavePlacesWhere (is_one_of name targets) more t.queues t.entries t.rooms
 
 -- the rows of the queues that jobs of this home may come to have room for so many more
 abbrev pub HavePlacesFor : List ℕ → ℕ → Tables → Type 0
@@ -72,3 +80,8 @@ IsAtMost n most = IfSome most (λ m. n ≤ m)
 -- at most so many jobs may come to each queue, where that is known
 abbrev pub AreBounds : List Queue → List Entry → List (Option ℕ) → Type 0
 AreBounds queues entries bounds = (place : ℕ) (q : Queue) → place < length queues → IsAtMost (reach queues entries (slice_index_or queues place q)) (slice_index_or bounds place None)
+
+-- one job more may come to each queue that passes a test
+abbrev pub IsRaisedWhere : (Queue → Bool) → List Queue → List (Option ℕ) → List (Option ℕ) → Type 0
+IsRaisedWhere test queues old new = (place n : ℕ) (q : Queue) → place < length queues → IsAtMost n (slice_index_or old place None)
+    → IsAtMost (n + (if test (slice_index_or queues place q) then 1 else 0)) (slice_index_or new place None)

@@ -1,9 +1,9 @@
 // Which job a queue starts next.
-ghost use Rattle.std.specs.Prelude.{◌≡◌, ◌+◌, ◌&&◌, not, if◌then◌else◌, Some};
+ghost use Rattle.std.specs.Prelude.{◌≡◌, ◌+◌, ◌<◌, ◌&&◌, not, if◌then◌else◌, length, slice_index_or};
 ghost use Rattle.std.specs.Ordering.{nat_cmp};
+ghost use Rattle.qm_kinds.specs.declared.queue.Queue.{Queue as AnyQueue};
 ghost use Rattle.qm_kinds.specs.declared.system.System.{System};
 ghost use Rattle.qm_model.specs.Consistent.{IsInOrder};
-ghost use Rattle.qm_model.specs.Find.{queue_named};
 ghost use Rattle.qm_model.specs.Fitting.{is_open};
 ghost use Rattle.qm_model.specs.Free.{is_free, places};
 ghost use Rattle.qm_model.specs.Kinds.{is_generic};
@@ -82,26 +82,24 @@ fn takes_jobs(parts: &Parts, queue: &Queue) -> bool
     has_place(parts, queue)
 }
 
-/// What a queue starts next, if run numbers are left, it has a place and a job fits it. One look at the row of its jobs tells
-/// it; a queue that takes no job isn't looked at. It asks a logarithm of the queues, and one of the entries, and takes no
-/// memory.
+/// What the queue at a place starts next, if run numbers are left, it has a place and a job fits it. One look at the row of its jobs
+/// tells it; a queue that takes no job isn't looked at. It asks a logarithm of the queues that have runs, and one of the entries,
+/// and takes no memory.
 pub(crate) fn next_start<L: Ledger>(
     parts: &Parts,
-    queue: &Queue,
+    place: usize,
     looks: &mut Steps<L>,
 ) -> Option<Start>
-    requires { queue_named queue.now.name parts.now.queues ≡ Some queue.now }
-    ensures start { (s : System) → result ≡ next_start (with_tables s parts.now) queue.now }
-    ensures looks { (s : System) → looks.new ≡ looks.old + (if takes_jobs (with_tables s parts.now) queue.now then 1 else 0) }
+    requires { place < length parts.now.queues }
+    ensures start { (s : System) (q : AnyQueue) → result ≡ next_start (with_tables s parts.now) (slice_index_or parts.now.queues place q) }
+    ensures looks { (s : System) (q : AnyQueue) → looks.new ≡ looks.old + (if takes_jobs (with_tables s parts.now) (slice_index_or parts.now.queues place q) then 1 else 0) }
 {
+    let queue = &parts.queues()[place];
     if !takes_jobs(parts, queue) {
         return None;
     }
     see_entries(parts);
-    let Some(row) = parts.row_named(&queue.name) else {
-        unreachable!()
-    };
-    let Some(number) = row.first(looks) else {
+    let Some(number) = parts.row_at(place).first(looks) else {
         return None;
     };
     match parts.entry(number) {

@@ -10,6 +10,7 @@ mod fates;
 mod fitting;
 mod forms;
 mod laws;
+mod names;
 mod nodes;
 mod parts;
 mod queues;

@@ -14,6 +14,7 @@ ghost use Rattle.qm_entries.specs.Boxed.{contents};
 ghost use Rattle.qm_entries.specs.Entries.{entry_after};
 ghost use Rattle.qm_queues.specs.Queues.{queue_after};
 ghost use Rattle.qm_sched.specs.ByRun.{entry_on};
+ghost use Rattle.qm_kinds.specs.declared.queue.Queue.{Queue as AnyQueue};
 ghost use Rattle.qm_kinds.specs.declared.system.System.{System};
 ghost use Rattle.qm_match.specs.Keys.{schedule_of};
 ghost use Rattle.qm_ready.specs.Jobs.{IsRowOf as HasJobs, fitting};
@@ -22,11 +23,11 @@ ghost use Rattle.qm_sched.specs.Rooms.{CanPut, HavePlaces, HavePlacesFor, HaveRo
 ghost use Rattle.qm_sched.specs.Tables.{with_tables};
 
 use crate::choosing::see_entries;
-use crate::rooms::{count_at_home, reach, targets_of, widen, widen_each};
+use crate::names::place_of;
+use crate::rooms::{count_at_home, reach, widen, widen_each, widen_home};
 use crate::rows::refill_all;
 use crate::tables::TableSet;
 use qm_forms::FormTable;
-use qm_keyed::place_of;
 use qm_kinds::{Characteristic, Entry, Form, Name, Node, Queue, Run};
 use qm_match::Schedule;
 use qm_queues::QueueTable;
@@ -199,6 +200,14 @@ impl Parts {
         }
     }
 
+    // The row of the queue at a place.
+    pub(crate) fn row_at(&self, place: usize) -> &ReadyRow
+        requires { place < length self.now.queues }
+        ensures { (q : AnyQueue) → IsRowOf (slice_index_or self.now.queues place q) (ready_key self.now (slice_index_or self.now.queues place q)) result.now }
+    {
+        &self.rows[place]
+    }
+
     /// The entries, in order of their numbers.
     pub fn entries(&self) -> &[Box<Entry>]
         ensures { contents result.now ≡ self.now.entries }
@@ -301,15 +310,7 @@ impl Parts {
         ensures places { OnOk result (HavePlacesFor home.now more self.new) }
         ensures tables { self.new ≡ record self.old { rooms = self.new.rooms } }
     {
-        let targets = targets_of(&self.tables, home);
-        widen_each(
-            &self.tables,
-            &mut self.rows,
-            &mut self.bounds,
-            home,
-            targets,
-            more,
-        )
+        widen_home(&self.tables, &mut self.rows, &mut self.bounds, home, more)
     }
 
     /// Makes room for one entry more of this home, in the rows too.

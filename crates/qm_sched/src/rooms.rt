@@ -1,10 +1,13 @@
 // The room that the rows of ready jobs have.
 ghost use Rattle.std.specs.Prelude.{◌≡◌, ◌≤◌, ◌<◌, ◌+◌, ℕ, true, if◌then◌else◌, length, count_by, OnErr, OnOk, slice_index_or, None};
+ghost use Rattle.std.specs.List.{list_any};
+ghost use Rattle.std.specs.Str.{bytes_eq};
 ghost use Rattle.qm_kinds.specs.declared.queue.Queue.{Queue as AnyQueue};
 ghost use Rattle.qm_entries.specs.Boxed.{contents};
 ghost use Rattle.qm_sched.specs.Ready.{KeepsKeys};
-ghost use Rattle.qm_sched.specs.Rooms.{AreBounds, IsAtMost, is_home, is_one_of, leads_to, may_come, reach, room_of, rooms_of, targets_of};
+ghost use Rattle.qm_sched.specs.Rooms.{AreBounds, HasRoomWhere, IsAtMost, IsRaisedWhere, is_home, is_one_of, leads_to, may_come, reach, room_of, targets_of};
 
+use crate::names::{is_same, place_of};
 use crate::tables::TableSet;
 use qm_kinds::{Entry, Name, Queue};
 use qm_ready::ReadyRow;
@@ -12,7 +15,7 @@ use std::alloc::AllocError;
 
 // For how many jobs a row that grows has more room than is asked for, at least: so many can come before all entries are looked
 // at again.
-const SPARE: usize = 64;
+const SPARE: usize = 512;
 
 // Whether a queue has this name, or is one of these targets.
 fn is_one_of(name: &Name, targets: &[Name], queue: &Queue) -> bool
@@ -21,8 +24,8 @@ fn is_one_of(name: &Name, targets: &[Name], queue: &Queue) -> bool
     *name == queue.name || targets.contains(&queue.name)
 }
 
-/// The targets of the queue of a name, if there is such a queue.
-pub(crate) fn targets_of<'a>(tables: &'a TableSet, name: &Name) -> &'a [Name]
+// The targets of the queue of a name, if there is such a queue.
+fn targets_of<'a>(tables: &'a TableSet, name: &Name) -> &'a [Name]
     ensures { result.now ≡ targets_of tables.now.queues name.now }
 {
     match tables.queue(name) {
@@ -51,7 +54,7 @@ fn may_come(tables: &TableSet, queue: &Queue, entry: &Entry, last: &mut Asked) -
     ensures answer { result ≡ may_come tables.now.queues queue.now entry.now }
     ensures last { last.new.leads ≡ leads_to tables.now.queues queue.now last.new.home }
 {
-    if entry.home != last.home {
+    if !is_same(&entry.home, &last.home) {
         last.home = entry.home;
         last.leads = leads_to(tables, queue, &entry.home);
     }
@@ -87,7 +90,7 @@ pub(crate) fn reach(tables: &TableSet, queue: &Queue) -> usize
 fn is_home(entry: &Entry, name: &Name) -> bool
     ensures { result ≡ is_home name.now entry.now }
 {
-    entry.home == *name
+    is_same(&entry.home, name)
 }
 
 // How many of these entries have the queue of this name as their home.
@@ -121,14 +124,15 @@ fn reserve_to(row: &mut ReadyRow, most: usize) -> Result<(), AllocError>
     row.reserve(most.saturating_sub(row.len()))
 }
 
-// Makes room for so many keys in a row, and for an eighth more where there is memory for it, so that it grows seldom.
+// Makes room for so many keys in a row, and for as many more where there is memory for it, so that it grows seldom: each growth
+// looks at all entries.
 fn grow_to(row: &mut ReadyRow, most: usize) -> Result<(), AllocError>
     ensures ok { OnOk result (most ≤ room_of row.new) }
     ensures err { OnErr result (room_of row.old < most) }
     ensures same { row.new ≡ record row.old { spare = row.new.spare } }
     ensures no_less { row.old.spare ≤ row.new.spare }
 {
-    let more = most.saturating_add(most / 8).saturating_add(SPARE);
+    let more = most.saturating_mul(2).saturating_add(SPARE);
     match reserve_to(row, more) {
         Ok(()) => Ok(()),
         Err(AllocError) => reserve_to(row, most),
@@ -171,28 +175,53 @@ pub(crate) fn widen(
     }
 }
 
-// The same, where jobs come at all.
-fn widen_where(
+// Makes room for so many jobs more in the row of the queue of a name, if there is such a queue.
+fn widen_named(
     tables: &TableSet,
-    queue: &Queue,
-    comes: bool,
-    row: &mut ReadyRow,
-    bound: &mut Option<usize>,
+    rows: &mut Vec<ReadyRow>,
+    bounds: &mut Vec<Option<usize>>,
+    name: &Name,
     more: usize,
 ) -> Result<(), AllocError>
-    requires { IsAtMost (reach tables.now.queues tables.now.entries queue.now) bound.old }
-    ensures ok { OnOk result (comes ≡ true → reach tables.now.queues tables.now.entries queue.now + more ≤ room_of row.new) }
-    ensures bound { IsAtMost (reach tables.now.queues tables.now.entries queue.now) bound.new }
-    ensures same { row.new ≡ record row.old { spare = row.new.spare } }
-    ensures no_less { row.old.spare ≤ row.new.spare }
+    requires enough { length tables.now.queues ≤ length rows.old.items }
+    requires bounded { length bounds.old.items ≡ length rows.old.items }
+    requires bounds { AreBounds tables.now.queues tables.now.entries bounds.old.items }
+    ensures places { OnOk result (HasRoomWhere (λ q. bytes_eq name.now q.name) more tables.now rows.new.items) }
+    ensures same { KeepsKeys rows.old.items rows.new.items }
+    ensures bounded { length bounds.new.items ≡ length bounds.old.items }
+    ensures bounds { AreBounds tables.now.queues tables.now.entries bounds.new.items }
 {
-    if !comes {
+    let Ok(place) = place_of(tables.queues(), name) else {
         return Ok(());
-    }
-    widen(tables, queue, row, bound, more)
+    };
+    let queue = &tables.queues()[place];
+    widen(tables, queue, &mut rows[place], &mut bounds[place], more)
 }
 
-/// Makes room for so many jobs more in the rows of the queues that have this name or are among these targets.
+// Makes room for so many jobs more in the rows of the queues that are among these targets.
+fn widen_targets(
+    tables: &TableSet,
+    rows: &mut Vec<ReadyRow>,
+    bounds: &mut Vec<Option<usize>>,
+    targets: &[Name],
+    more: usize,
+) -> Result<(), AllocError>
+    requires enough { length tables.now.queues ≤ length rows.old.items }
+    requires bounded { length bounds.old.items ≡ length rows.old.items }
+    requires bounds { AreBounds tables.now.queues tables.now.entries bounds.old.items }
+    ensures places { OnOk result (HasRoomWhere (λ q. list_any (λ target. bytes_eq target q.name) targets.now) more tables.now rows.new.items) }
+    ensures same { KeepsKeys rows.old.items rows.new.items }
+    ensures bounded { length bounds.new.items ≡ length bounds.old.items }
+    ensures bounds { AreBounds tables.now.queues tables.now.entries bounds.new.items }
+{
+    for target in targets {
+        widen_named(tables, rows, bounds, target, more)?;
+    }
+    Ok(())
+}
+
+/// Makes room for so many jobs more in the rows of the queues that have this name or are among these targets. It asks a logarithm
+/// of the queues for each of them.
 pub(crate) fn widen_each(
     tables: &TableSet,
     rows: &mut Vec<ReadyRow>,
@@ -204,53 +233,84 @@ pub(crate) fn widen_each(
     requires enough { length tables.now.queues ≤ length rows.old.items }
     requires bounded { length bounds.old.items ≡ length rows.old.items }
     requires bounds { AreBounds tables.now.queues tables.now.entries bounds.old.items }
-    ensures places { OnOk result ((place : ℕ) (q : AnyQueue) → place < length tables.now.queues
-        → is_one_of name.now targets.now (slice_index_or tables.now.queues place q) ≡ true
-        → reach tables.now.queues tables.now.entries (slice_index_or tables.now.queues place q) + more ≤ slice_index_or (rooms_of rows.new.items) place 0) }
+    ensures places { OnOk result (HasRoomWhere (is_one_of name.now targets.now) more tables.now rows.new.items) }
     ensures same { KeepsKeys rows.old.items rows.new.items }
     ensures bounded { length bounds.new.items ≡ length bounds.old.items }
     ensures bounds { AreBounds tables.now.queues tables.now.entries bounds.new.items }
 {
-    for place in 0..tables.queues().len() {
-        let queue = &tables.queues()[place];
-        let comes = is_one_of(name, targets, queue);
-        widen_where(
-            tables,
-            queue,
-            comes,
-            &mut rows[place],
-            &mut bounds[place],
-            more,
-        )?;
-    }
-    Ok(())
+    widen_named(tables, rows, bounds, name, more)?;
+    widen_targets(tables, rows, bounds, targets, more)
 }
 
-// A bound for one job more, if it may come.
-fn raise(bound: &mut Option<usize>, comes: bool)
-    ensures { (n : ℕ) → IsAtMost n bound.old → IsAtMost (n + (if comes then 1 else 0)) bound.new }
+/// Makes room for so many jobs more in the rows of the queues that a home leads to. It asks a logarithm of the queues for the home,
+/// and one for each of its targets.
+pub(crate) fn widen_home(
+    tables: &TableSet,
+    rows: &mut Vec<ReadyRow>,
+    bounds: &mut Vec<Option<usize>>,
+    home: &Name,
+    more: usize,
+) -> Result<(), AllocError>
+    requires enough { length tables.now.queues ≤ length rows.old.items }
+    requires bounded { length bounds.old.items ≡ length rows.old.items }
+    requires bounds { AreBounds tables.now.queues tables.now.entries bounds.old.items }
+    ensures places { OnOk result (HasRoomWhere (is_one_of home.now (targets_of tables.now.queues home.now)) more tables.now rows.new.items) }
+    ensures same { KeepsKeys rows.old.items rows.new.items }
+    ensures bounded { length bounds.new.items ≡ length bounds.old.items }
+    ensures bounds { AreBounds tables.now.queues tables.now.entries bounds.new.items }
 {
-    if !comes {
-        return;
-    }
+    let Ok(place) = place_of(tables.queues(), home) else {
+        return Ok(());
+    };
+    let queue = &tables.queues()[place];
+    widen(tables, queue, &mut rows[place], &mut bounds[place], more)?;
+    widen_targets(tables, rows, bounds, queue.targets.as_slice(), more)
+}
+
+// A bound for one job more.
+fn raise(bound: &mut Option<usize>)
+    ensures { (n : ℕ) → IsAtMost n bound.old → IsAtMost (n + 1) bound.new }
+{
     *bound = match *bound {
         None => None,
         Some(most) => most.checked_add(1),
     };
 }
 
-/// One job more may come to the queues that a home leads to.
-pub(crate) fn raise_each(tables: &TableSet, bounds: &mut Vec<Option<usize>>, home: &Name)
+// One job more may come to the queue of a name, if there is such a queue.
+fn raise_named(tables: &TableSet, bounds: &mut Vec<Option<usize>>, name: &Name)
     requires { length tables.now.queues ≤ length bounds.old.items }
-    ensures raised { (place n : ℕ) (q : AnyQueue) → place < length tables.now.queues → IsAtMost n (slice_index_or bounds.old.items place None)
-        → IsAtMost (n + (if leads_to tables.now.queues (slice_index_or tables.now.queues place q) home.now then 1 else 0)) (slice_index_or bounds.new.items place None) }
+    ensures raised { IsRaisedWhere (λ q. bytes_eq name.now q.name) tables.now.queues bounds.old.items bounds.new.items }
     ensures count { length bounds.new.items ≡ length bounds.old.items }
 {
-    let targets = targets_of(tables, home);
-    for place in 0..tables.queues().len() {
-        let comes = is_one_of(home, targets, &tables.queues()[place]);
-        raise(&mut bounds[place], comes);
+    if let Ok(place) = place_of(tables.queues(), name) {
+        raise(&mut bounds[place]);
     }
+}
+
+// One job more may come to the queues that are among these targets.
+fn raise_targets(tables: &TableSet, bounds: &mut Vec<Option<usize>>, targets: &[Name])
+    requires { length tables.now.queues ≤ length bounds.old.items }
+    ensures raised { IsRaisedWhere (λ q. list_any (λ target. bytes_eq target q.name) targets.now) tables.now.queues bounds.old.items bounds.new.items }
+    ensures count { length bounds.new.items ≡ length bounds.old.items }
+{
+    for target in targets {
+        raise_named(tables, bounds, target);
+    }
+}
+
+/// One job more may come to the queues that a home leads to. It asks a logarithm of the queues for the home, and one for each of its
+/// targets.
+pub(crate) fn raise_each(tables: &TableSet, bounds: &mut Vec<Option<usize>>, home: &Name)
+    requires { length tables.now.queues ≤ length bounds.old.items }
+    ensures raised { IsRaisedWhere (λ q. leads_to tables.now.queues q home.now) tables.now.queues bounds.old.items bounds.new.items }
+    ensures count { length bounds.new.items ≡ length bounds.old.items }
+{
+    let Ok(place) = place_of(tables.queues(), home) else {
+        return;
+    };
+    raise(&mut bounds[place]);
+    raise_targets(tables, bounds, tables.queues()[place].targets.as_slice());
 }
 
 /// How many jobs may come to each queue isn't known any more.

@@ -1,5 +1,6 @@
 // The rows of ready jobs: how one is built anew, and how the key of one job goes or comes.
 ghost use Rattle.std.specs.Prelude.{◌≡◌, ◌≤◌, ◌<◌, ◌+◌, [], ◌∷◌, ◌++◌, length, map, filter, count_by, insert, remove, true, false, IfSome, Some, None, ℕ, slice_index_or};
+ghost use Rattle.std.specs.Option.{option_copied};
 ghost use Rattle.qm_kinds.specs.declared.system.System.{System};
 ghost use Rattle.qm_keyed.specs.Places.{StandsAt};
 ghost use Rattle.qm_kinds.specs.declared.queue.Queue.{Queue as AnyQueue};
@@ -19,26 +20,16 @@ ghost use Rattle.qm_sched.specs.Rooms.{AreMet, HaveRoom, reach, room_of, rooms_o
 ghost use Rattle.qm_sched.specs.Tables.{Tables, with_tables};
 
 use crate::choosing::is_execution_queue;
-use crate::fitting::{can_run, is_open, stock_of};
+use crate::fitting::{Asked, can_run, fits, is_open, stock_of};
+use crate::names::place_of;
 use crate::running::see_order;
 use crate::tables::TableSet;
-use qm_keyed::{place_of, put};
+use qm_keyed::put;
 use qm_kinds::{Entry, EntryState, Name, Queue};
 use qm_match::{Key, Schedule};
 use qm_ready::{Gathering, ReadyRow};
 use std::alloc::Global;
 use std::mem;
-
-// Whether a queue can start a job as soon as it has a place.
-fn fits(tables: &TableSet, entry: &Entry, queue: &Queue) -> bool
-    ensures { (s : System) → result ≡ fits (with_tables s tables.now) entry.now queue.now }
-{
-    if !is_open(tables, queue) {
-        return false;
-    }
-    let mounted = stock_of(tables, &queue.mounted);
-    can_run(tables, entry, queue, &mounted)
-}
 
 // Gathers the keys of the jobs that fit a queue, by one walk over the entries. A queue that isn't open takes none.
 fn gather(tables: &TableSet, queue: &Queue, gathering: &mut Gathering)
@@ -72,9 +63,10 @@ fn gather_from(
     ensures schedule { gathering.new.schedule ≡ gathering.old.schedule }
     ensures room { gathering.new.spare + length gathering.new.keys ≡ gathering.old.spare }
 {
+    let mut last = Asked::first(tables, queue);
     for boxed in entries {
         let entry = boxed.as_ref();
-        if can_run(tables, entry, queue, mounted) {
+        if can_run(tables, entry, queue, mounted, &mut last) {
             gathering.add(Key::of(entry));
         }
     }
@@ -163,15 +155,22 @@ fn see_row(row: &ReadyRow)
     let _ = row.len();
 }
 
-// Puts the key of a job into the row of a queue, if it fits there.
-fn admit_to(tables: &TableSet, queue: &Queue, row: &mut ReadyRow, entry: &Entry)
+// Puts the key of a job into the row of a queue, if it fits there. `home` is the queue that is the job's home, if there is one.
+fn admit_to(
+    tables: &TableSet,
+    queue: &Queue,
+    row: &mut ReadyRow,
+    entry: &Entry,
+    home: Option<&Queue>,
+)
     requires ready { IsRowOf queue.now (without_number entry.now.number (ready_key tables.now queue.now)) row.old }
     requires room { reach tables.now.queues tables.now.entries queue.now ≤ room_of row.old }
     requires there { entry_numbered entry.now.number tables.now.entries ≡ Some entry.now }
+    requires home { option_copied home ≡ queue_named entry.now.home tables.now.queues }
     ensures ready { IsRowOf queue.now (ready_key tables.now queue.now) row.new }
     ensures room { room_of row.new ≡ room_of row.old }
 {
-    if fits(tables, entry, queue) {
+    if fits(tables, entry, home, queue) {
         see_row(row);
         row.insert(Key::of(entry));
     }
@@ -187,8 +186,10 @@ fn admit(tables: &TableSet, rows: &mut Vec<ReadyRow>, entry: &Entry)
     ensures count { length rows.new.items ≡ length rows.old.items }
     ensures room { KeepsRoom rows.old.items rows.new.items }
 {
+    let home = tables.queue(&entry.home);
     for place in 0..tables.queues().len() {
-        admit_to(tables, &tables.queues()[place], &mut rows[place], entry);
+        let queue = &tables.queues()[place];
+        admit_to(tables, queue, &mut rows[place], entry, home);
     }
 }
 

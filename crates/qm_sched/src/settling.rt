@@ -9,7 +9,7 @@ ghost use Rattle.qm_sched.specs.Choosing.{IsNextStart, execution_queues};
 
 use crate::choosing::{next_start, see_entries};
 use crate::parts::Parts;
-use qm_kinds::{Name, Start};
+use qm_kinds::Start;
 use qm_ready::Steps;
 use std::sync::ledger::Ledger;
 
@@ -46,11 +46,10 @@ pub fn settle<L: Ledger>(parts: &mut Parts, out: &mut Vec<Start>, looks: &mut St
     ensures looks { looks.new ≤ looks.old + length out.new.items + execution_queues parts.old.queues }
     ensures rest { parts.new ≡ record parts.old { entries = parts.new.entries; next_run = parts.new.next_run; spare_runs = parts.new.spare_runs } }
 {
-    let mut behind: Option<Name> = None;
-    while let Some(queue) = parts.queue_after(behind.as_ref()) {
-        let name = queue.name;
-        match next_start(parts, queue, looks) {
-            None => behind = Some(name),
+    let mut place = 0;
+    while place < parts.queues().len() {
+        match next_start(parts, place, looks) {
+            None => place += 1,
             Some(start) => {
                 start_next(parts, &start);
                 out.push_reserved(start);

@@ -8,6 +8,7 @@ ghost use Rattle.qm_entries.specs.Boxed.{contents};
 ghost use Rattle.qm_entries.specs.Entries.{entry_after};
 ghost use Rattle.qm_queues.specs.Queues.{queue_after};
 
+use crate::names::place_of;
 use qm_entries::EntryTable;
 use qm_forms::FormTable;
 use qm_kinds::{Characteristic, Entry, Form, Name, Node, Queue, Seq};
@@ -146,7 +147,11 @@ impl TableSet {
         ensures found { option_copied result ≡ queue_named name.now self.now.queues }
         ensures in_order { IsInOrder name_cmp (λ q. q.name) self.now.queues }
     {
-        self.queues.get(name)
+        let queues = self.queues.as_slice();
+        match place_of(queues, name) {
+            Ok(place) => Some(&queues[place]),
+            Err(_) => None,
+        }
     }
 
     /// The queue of the least name that is greater than this one, or of the least name where none is given. It asks a

@@ -24,7 +24,7 @@ add-requires c =
     let within : i < length es = omega (arith, c.loop-boxed-test.true, length-map c.args.entries.now (λ b. b.value)) in
     let is : get_or es i e ≡ e =
     get_or-map (λ b. b.value) c.args.entries.now i c.boxed-item.result e c.loop-boxed-test.true ∙ ap (λ b. b.value) (sym c.boxed-item.is) ∙ sym c.as_ref-entry.ensures in
-    let passes : p e ≡ true = sym (c.can_run.ensures no_system) ∙ c.if-can_run.true in
+    let passes : p e ≡ true = sym (c.can_run.ensures.answer no_system) ∙ c.if-can_run.true in
     omega (
       arith,
       c.requires.room no_system,
@@ -48,7 +48,7 @@ loop-boxed-preserved c =
     elim c.if-can_run.branch [
       | then-can_run w ↦
           let added = w.gathering-is ∙ w.add.ensures in
-          let passes : p no_system e ≡ true = sym (c.can_run.ensures no_system) ∙ w.if-can_run.true in
+          let passes : p no_system e ≡ true = sym (c.can_run.ensures.answer no_system) ∙ w.if-can_run.true in
           let some : 0 < c.loop-boxed.gathering.spare = omega (
             arith,
             c.requires.room no_system,
@@ -64,15 +64,17 @@ loop-boxed-preserved c =
           record {
             keys = λ s.
                 ap (λ (r : Row). r.keys) added ∙ ap (λ (k : Key). c.loop-boxed.gathering.keys ++ k ∷ []) w.of.ensures
-                ∙ ap (λ (ks : List Key). ks ++ key_of e ∷ []) (c.loop-boxed.invariant.keys s) ∙ key_taken (p s) es i e within is (sym (c.can_run.ensures s) ∙ w.if-can_run.true);
+                ∙ ap (λ (ks : List Key). ks ++ key_of e ∷ []) (c.loop-boxed.invariant.keys s) ∙ key_taken (p s) es i e within is (sym (c.can_run.ensures.answer s) ∙ w.if-can_run.true);
             schedule = ap (λ (r : Row). r.schedule) added ∙ c.loop-boxed.invariant.schedule;
             room = omega (arith, c.loop-boxed.invariant.room, some, ap (λ (r : Row). r.spare) added, keys, longer);
+            last = c.can_run.ensures.last;
           }
       | else-can_run w ↦
           record {
-            keys = λ s. ap (λ (r : Row). r.keys) w.gathering-is ∙ c.loop-boxed.invariant.keys s ∙ key_passed (p s) es i e within is (sym (c.can_run.ensures s) ∙ w.if-can_run.false);
+            keys = λ s. ap (λ (r : Row). r.keys) w.gathering-is ∙ c.loop-boxed.invariant.keys s ∙ key_passed (p s) es i e within is (sym (c.can_run.ensures.answer s) ∙ w.if-can_run.false);
             schedule = ap (λ (r : Row). r.schedule) w.gathering-is ∙ c.loop-boxed.invariant.schedule;
             room = omega (arith, c.loop-boxed.invariant.room, ap (λ (r : Row). r.spare) w.gathering-is, ap (λ (r : Row). length r.keys) w.gathering-is);
+            last = c.can_run.ensures.last;
           }
     ]
 

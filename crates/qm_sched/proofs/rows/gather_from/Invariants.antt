@@ -3,6 +3,7 @@ use Rattle.qm_entries.specs.Boxed.{contents}
 use Rattle.qm_kinds.specs.declared.system.System.{System}
 use Rattle.qm_match.specs.Keys.{key_of}
 use Rattle.qm_model.specs.Fitting.{fits}
+use Rattle.qm_sched.specs.Reaching.{KnowsWay}
 use Rattle.qm_sched.specs.Tables.{with_tables}
 use Rattle.qm_sched.proofs.rows.gather_from.Given as goal
 
@@ -13,4 +14,5 @@ invariant-loop-boxed l =
       keys : (s : System) → l.gathering.keys ≡ map key_of (filter (λ e. fits (with_tables s l.tables) e l.queue) (take l.boxed-index (contents l.entries)));
       schedule : l.gathering.schedule ≡ l.initial.gathering.schedule;
       room : l.gathering.spare + length l.gathering.keys ≡ l.initial.gathering.spare;
+      last : KnowsWay l.tables.queues l.queue l.last;
     }
