@@ -1,0 +1,4 @@
+pub mod Acts
+pub mod Spelled
+pub mod Rows
+pub mod Worlds

@@ -1,0 +1,4 @@
+pub mod Copying
+pub mod Following
+pub mod Nodes
+pub mod Walking
