@@ -21,8 +21,8 @@ use Rattle.qm_node.proofs.Rows.{kept_bare, kept_without, order_bare, without_bar
 use Rattle.qm_node.proofs.Rounds.{last_apart, round_kept, round_once, shown_last, shown_same}
 
 -- so far the last ones of all runs that are to be kept were moved, the last one first; the duties that are left show the others
-pub record Moved {C : Type 0} (S : Work → Place → C → Type 0) (all : List KeptRun) (old : List (Row C)) (duties : List Duty) (rows : List (Row C)) : Type 0 where
-  pub shown : kept_after 0 (all_bare old) duties ++ reverse (all_bare rows) ≡ all
+pub record Moved {C : Type 0} (fetch : ℕ) (S : Work → Place → C → Type 0) (all : List KeptRun) (old : List (Row C)) (duties : List Duty) (rows : List (Row C)) : Type 0 where
+  pub shown : kept_after fetch (all_bare old) duties ++ reverse (all_bare rows) ≡ all
   pub order : IsInOrder nat_cmp (λ (row : Row C). row.run) old
   pub each : AreAtPlaces S old
   pub moved : AreAtPlaces S rows
@@ -48,21 +48,21 @@ onto None ks = refl
 onto (Some k) ks = refl
 
 -- the last duty is done
-pub moved_one : {C : Type 0} (S : Work → Place → C → Type 0) (all : List KeptRun) (old left : List (Row C)) (ds : List Duty) (d : Duty) (rows more : List (Row C)) → Moved S all old (ds ++ d ∷ []) rows
-    → all_bare more ≡ all_bare rows ++ cons_option (kept_of 0 (all_bare old) d d.work) []
+pub moved_one : {C : Type 0} (fetch : ℕ) (S : Work → Place → C → Type 0) (all : List KeptRun) (old left : List (Row C)) (ds : List Duty) (d : Duty) (rows more : List (Row C)) → Moved fetch S all old (ds ++ d ∷ []) rows
+    → all_bare more ≡ all_bare rows ++ cons_option (kept_of fetch (all_bare old) d d.work) []
     → ((run : ℕ) → (run == d.run) ≡ false → run_kept run (all_bare left) ≡ run_kept run (all_bare old))
-    → IsInOrder nat_cmp (λ (row : Row C). row.run) left → AreAtPlaces S left → AreAtPlaces S more → Moved S all left ds more
-moved_one S all old left ds d rows more h shown others order each moved =
-    let o : Option KeptRun = kept_of 0 (all_bare old) d d.work in
-    let same : kept_after 0 (all_bare old) ds ≡ kept_after 0 (all_bare left) ds = shown_same (all_bare old) (all_bare left) d.run others ds (last_apart ds d h.learnable.order) in
+    → IsInOrder nat_cmp (λ (row : Row C). row.run) left → AreAtPlaces S left → AreAtPlaces S more → Moved fetch S all left ds more
+moved_one fetch S all old left ds d rows more h shown others order each moved =
+    let o : Option KeptRun = kept_of fetch (all_bare old) d d.work in
+    let same : kept_after fetch (all_bare old) ds ≡ kept_after fetch (all_bare left) ds = shown_same fetch (all_bare old) (all_bare left) d.run others ds (last_apart ds d h.learnable.order) in
     let back : reverse (all_bare more) ≡ cons_option o [] ++ reverse (all_bare rows) =
     ap (λ (ks : List KeptRun). reverse ks) shown ∙ reverse-append (all_bare rows) (cons_option o []) ∙ onto o (reverse (all_bare rows)) in
     record {
       shown =
           ap (λ (ks : List KeptRun). ks ++ reverse (all_bare more)) (sym same)
-          ∙ ap (λ (ks : List KeptRun). kept_after 0 (all_bare old) ds ++ ks) back
-          ∙ sym (append_assoc (kept_after 0 (all_bare old) ds) (cons_option o []) (reverse (all_bare rows)))
-          ∙ ap (λ (ks : List KeptRun). ks ++ reverse (all_bare rows)) (sym (shown_last (all_bare old) ds d))
+          ∙ ap (λ (ks : List KeptRun). kept_after fetch (all_bare old) ds ++ ks) back
+          ∙ sym (append_assoc (kept_after fetch (all_bare old) ds) (cons_option o []) (reverse (all_bare rows)))
+          ∙ ap (λ (ks : List KeptRun). ks ++ reverse (all_bare rows)) (sym (shown_last fetch (all_bare old) ds d))
           ∙ h.shown;
       order = order;
       each = each;
@@ -84,13 +84,13 @@ module _ {C : Type 0} where
   flagged d (Some row) = refl
 
   -- a known run as its duty shows it
-  pub shown_known : (rows : List (Row C)) (d : Duty) (o : Option (Row C)) → o ≡ find (λ (row : Row C). row.run == d.run) rows → d.work ≡ None
-      → option_map (λ (row : Row C). bare (record row { aborting = d.aborting; paused = d.paused })) o ≡ kept_of 0 (all_bare rows) d d.work
-  shown_known rows d o taken none =
+  pub shown_known : (fetch : ℕ) (rows : List (Row C)) (d : Duty) (o : Option (Row C)) → o ≡ find (λ (row : Row C). row.run == d.run) rows → d.work ≡ None
+      → option_map (λ (row : Row C). bare (record row { aborting = d.aborting; paused = d.paused })) o ≡ kept_of fetch (all_bare rows) d d.work
+  shown_known fetch rows d o taken none =
       flagged d o
       ∙ ap (λ (x : Option (Row C)). option_map (λ (k : KeptRun). record k { aborting = d.aborting; paused = d.paused }) (option_map bare x)) taken
       ∙ ap (λ (x : Option KeptRun). option_map (λ (k : KeptRun). record k { aborting = d.aborting; paused = d.paused }) x) (sym (kept_bare d.run rows))
-      ∙ ap (λ (work : Option Work). kept_of 0 (all_bare rows) d work) (sym none)
+      ∙ ap (λ (work : Option Work). kept_of fetch (all_bare rows) d work) (sym none)
 
   found_at : (P : Row C → Type 0) (row : Row C) (o : Option (Row C)) → P row → IfSome o P → (b : Bool) → IfSome (cond b (Some row) o) P
   found_at P row o here rest true = here
@@ -158,10 +158,10 @@ module _ {C : Type 0} where
       ap all_bare (reverse-append (row ∷ []) rows) ∙ map-append bare (reverse rows) (row ∷ []) ∙ ap (λ (ks : List KeptRun). ks ++ bare row ∷ []) (bare_reversed rows)
       ∙ sym (reverse-append (bare row ∷ []) (all_bare rows))
 
-  module _ (S : Work → Place → C → Type 0) (all : List KeptRun) (old : List (Row C)) (duties : List Duty) (rows more : List (Row C)) (h : Moved S all old duties rows) (none : duties ≡ []) (is : more ≡ reverse rows) where
+  module _ (fetch : ℕ) (S : Work → Place → C → Type 0) (all : List KeptRun) (old : List (Row C)) (duties : List Duty) (rows more : List (Row C)) (h : Moved fetch S all old duties rows) (none : duties ≡ []) (is : more ≡ reverse rows) where
     pub all_shown : all_bare more ≡ all
     all_shown =
-        ap all_bare is ∙ bare_reversed rows ∙ ap (λ (ds : List Duty). kept_after 0 (all_bare old) ds ++ reverse (all_bare rows)) (sym none) ∙ h.shown
+        ap all_bare is ∙ bare_reversed rows ∙ ap (λ (ds : List Duty). kept_after fetch (all_bare old) ds ++ reverse (all_bare rows)) (sym none) ∙ h.shown
 
     pub all_in_order : IsInOrder nat_cmp (λ (k : KeptRun). k.run) all → IsInOrder nat_cmp (λ (row : Row C). row.run) more
     all_in_order order = order_unmapped nat_cmp bare (λ (k : KeptRun). k.run) more (subst (λ (ks : List KeptRun). IsInOrder nat_cmp (λ (k : KeptRun). k.run) ks) (sym all_shown) order)

@@ -86,19 +86,19 @@ number_flagged : (d : Duty) (o : Option KeptRun) → IfSome o (λ (k : KeptRun).
 number_flagged d None h = tt
 number_flagged d (Some k) h = h
 
-shown_number : (ks : List KeptRun) (d : Duty) (work : Option Work) → IfSome (kept_of 0 ks d work) (λ (k : KeptRun). k.run ≡ d.run)
-shown_number ks d (Some work) = refl
-shown_number ks d None = number_flagged d (run_kept d.run ks) (kept_number d.run ks)
+shown_number : (fetch : ℕ) (ks : List KeptRun) (d : Duty) (work : Option Work) → IfSome (kept_of fetch ks d work) (λ (k : KeptRun). k.run ≡ d.run)
+shown_number fetch ks d (Some work) = refl
+shown_number fetch ks d None = number_flagged d (run_kept d.run ks) (kept_number d.run ks)
 
 after_at : (run : ℕ) (d : Duty) (ks : List KeptRun) → nat_cmp run d.run ≡ Less → All (λ (k : KeptRun). nat_cmp run k.run ≡ Less) ks
     → (o : Option KeptRun) → IfSome o (λ (k : KeptRun). k.run ≡ d.run) → All (λ (k : KeptRun). nat_cmp run k.run ≡ Less) (cons_option o ks)
 after_at run d ks less rest None h = rest
 after_at run d ks less rest (Some k) h = All-cons (λ (k : KeptRun). nat_cmp run k.run ≡ Less) k ks (subst (λ (n : ℕ). nat_cmp run n ≡ Less) (sym h) less) rest
 
-shown_after : (run : ℕ) (ks : List KeptRun) (ds : List Duty) → All (λ (d : Duty). nat_cmp run d.run ≡ Less) ds → All (λ (k : KeptRun). nat_cmp run k.run ≡ Less) (kept_after 0 ks ds)
-shown_after run ks [] all = All-nil (λ (k : KeptRun). nat_cmp run k.run ≡ Less)
-shown_after run ks (d ∷ ds) all =
-    after_at run d (kept_after 0 ks ds) (all 0 d (omega arith)) (shown_after run ks ds (All-tail (λ (d : Duty). nat_cmp run d.run ≡ Less) d ds all)) (kept_of 0 ks d d.work) (shown_number ks d d.work)
+shown_after : (fetch : ℕ) (run : ℕ) (ks : List KeptRun) (ds : List Duty) → All (λ (d : Duty). nat_cmp run d.run ≡ Less) ds → All (λ (k : KeptRun). nat_cmp run k.run ≡ Less) (kept_after fetch ks ds)
+shown_after fetch run ks [] all = All-nil (λ (k : KeptRun). nat_cmp run k.run ≡ Less)
+shown_after fetch run ks (d ∷ ds) all =
+    after_at run d (kept_after fetch ks ds) (all 0 d (omega arith)) (shown_after fetch run ks ds (All-tail (λ (d : Duty). nat_cmp run d.run ≡ Less) d ds all)) (kept_of fetch ks d d.work) (shown_number fetch ks d d.work)
 
 order_at : (d : Duty) (ks : List KeptRun) → All (λ (k : KeptRun). nat_cmp d.run k.run ≡ Less) ks → IsInOrder nat_cmp (λ (k : KeptRun). k.run) ks
     → (o : Option KeptRun) → IfSome o (λ (k : KeptRun). k.run ≡ d.run) → IsInOrder nat_cmp (λ (k : KeptRun). k.run) (cons_option o ks)
@@ -107,27 +107,27 @@ order_at d ks behind rest (Some k) h =
     AllPairs-cons (λ (a b : KeptRun). nat_cmp a.run b.run ≡ Less) k ks (subst (λ (n : ℕ). All (λ (k : KeptRun). nat_cmp n k.run ≡ Less) ks) (sym h) behind) rest
 
 -- what is kept behind a fetch stands by number, as its duties do
-pub shown_in_order : (ks : List KeptRun) (ds : List Duty) → IsInOrder nat_cmp (λ (d : Duty). d.run) ds → IsInOrder nat_cmp (λ (k : KeptRun). k.run) (kept_after 0 ks ds)
-shown_in_order ks [] order = pairs_nil (λ (a b : KeptRun). nat_cmp a.run b.run ≡ Less)
-shown_in_order ks (d ∷ ds) order =
-    order_at d (kept_after 0 ks ds) (shown_after d.run ks ds (pairs_head (λ (a b : Duty). nat_cmp a.run b.run ≡ Less) d ds order))
-    (shown_in_order ks ds (pairs_tail (λ (a b : Duty). nat_cmp a.run b.run ≡ Less) d ds order)) (kept_of 0 ks d d.work) (shown_number ks d d.work)
+pub shown_in_order : (fetch : ℕ) (ks : List KeptRun) (ds : List Duty) → IsInOrder nat_cmp (λ (d : Duty). d.run) ds → IsInOrder nat_cmp (λ (k : KeptRun). k.run) (kept_after fetch ks ds)
+shown_in_order fetch ks [] order = pairs_nil (λ (a b : KeptRun). nat_cmp a.run b.run ≡ Less)
+shown_in_order fetch ks (d ∷ ds) order =
+    order_at d (kept_after fetch ks ds) (shown_after fetch d.run ks ds (pairs_head (λ (a b : Duty). nat_cmp a.run b.run ≡ Less) d ds order))
+    (shown_in_order fetch ks ds (pairs_tail (λ (a b : Duty). nat_cmp a.run b.run ≡ Less) d ds order)) (kept_of fetch ks d d.work) (shown_number fetch ks d d.work)
 
-shown_one : (ks left : List KeptRun) (d : Duty) → run_kept d.run left ≡ run_kept d.run ks → (work : Option Work) → kept_of 0 ks d work ≡ kept_of 0 left d work
-shown_one ks left d same (Some work) = refl
-shown_one ks left d same None = ap (option_map (λ (k : KeptRun). record k { aborting = d.aborting; paused = d.paused })) (sym same)
+shown_one : (fetch : ℕ) (ks left : List KeptRun) (d : Duty) → run_kept d.run left ≡ run_kept d.run ks → (work : Option Work) → kept_of fetch ks d work ≡ kept_of fetch left d work
+shown_one fetch ks left d same (Some work) = refl
+shown_one fetch ks left d same None = ap (option_map (λ (k : KeptRun). record k { aborting = d.aborting; paused = d.paused })) (sym same)
 
 -- what is found of all runs but one is all that the duties of others need
-pub shown_same : (ks left : List KeptRun) (gone : ℕ) → ((run : ℕ) → (run == gone) ≡ false → run_kept run left ≡ run_kept run ks)
-    → (ds : List Duty) → All (λ (d : Duty). (d.run == gone) ≡ false) ds → kept_after 0 ks ds ≡ kept_after 0 left ds
-shown_same ks left gone same [] all = refl
-shown_same ks left gone same (d ∷ ds) all =
-    ap (λ (o : Option KeptRun). cons_option o (kept_after 0 ks ds)) (shown_one ks left d (same d.run (all 0 d (omega arith))) d.work)
-    ∙ ap (λ (xs : List KeptRun). cons_option (kept_of 0 left d d.work) xs) (shown_same ks left gone same ds (All-tail (λ (d : Duty). (d.run == gone) ≡ false) d ds all))
+pub shown_same : (fetch : ℕ) (ks left : List KeptRun) (gone : ℕ) → ((run : ℕ) → (run == gone) ≡ false → run_kept run left ≡ run_kept run ks)
+    → (ds : List Duty) → All (λ (d : Duty). (d.run == gone) ≡ false) ds → kept_after fetch ks ds ≡ kept_after fetch left ds
+shown_same fetch ks left gone same [] all = refl
+shown_same fetch ks left gone same (d ∷ ds) all =
+    ap (λ (o : Option KeptRun). cons_option o (kept_after fetch ks ds)) (shown_one fetch ks left d (same d.run (all 0 d (omega arith))) d.work)
+    ∙ ap (λ (xs : List KeptRun). cons_option (kept_of fetch left d d.work) xs) (shown_same fetch ks left gone same ds (All-tail (λ (d : Duty). (d.run == gone) ≡ false) d ds all))
 
 -- the duties but the last one, and what that one shows
-pub shown_last : (ks : List KeptRun) (ds : List Duty) (d : Duty) → kept_after 0 ks (ds ++ d ∷ []) ≡ kept_after 0 ks ds ++ cons_option (kept_of 0 ks d d.work) []
-shown_last ks ds d = filter_map-append (λ (d : Duty). kept_of 0 ks d d.work) ds (d ∷ [])
+pub shown_last : (fetch : ℕ) (ks : List KeptRun) (ds : List Duty) (d : Duty) → kept_after fetch ks (ds ++ d ∷ []) ≡ kept_after fetch ks ds ++ cons_option (kept_of fetch ks d d.work) []
+shown_last fetch ks ds d = filter_map-append (λ (d : Duty). kept_of fetch ks d d.work) ds (d ∷ [])
 
 apart_less : (a b : ℕ) → nat_cmp a b ≡ Less → (a == b) ≡ false
 apart_less a b less = grind (arith, nat_tests)

@@ -12,9 +12,9 @@ use Rattle.qm_model.specs.Kept.{KeptRun, KeptRuns, run_kept}
 use Rattle.qm_symb.specs.Symbiont.{IsWithinLimits}
 use Rattle.qm_node.specs.declared.row.Row.{Row}
 
--- a run without its cursor; a node numbers no fetches
+-- a run without its cursor
 abbrev pub bare : {C : Type 0} → Row C → KeptRun
-bare row = record { run = row.run; aborting = row.aborting; paused = row.paused; work = row.work; place = row.place; fetched = 0 }
+bare row = record { run = row.run; aborting = row.aborting; paused = row.paused; work = row.work; place = row.place; fetched = row.fetched }
 
 abbrev pub all_bare : {C : Type 0} → List (Row C) → List KeptRun
 all_bare rows = map bare rows

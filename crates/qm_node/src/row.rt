@@ -22,6 +22,8 @@ pub struct Row<C> {
     pub work: Work,
     pub place: Place,
     pub cursor: C,
+    /// The number of the fetch that gave it.
+    pub fetched: u64,
 }
 
 /// Runs stand by number.

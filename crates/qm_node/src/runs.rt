@@ -85,10 +85,26 @@ impl<Y: Symbiont> NodeRuns<Y> {
         ensures ok { OnOk result (self.new ≡ record self.old { kept = with_duties 0 self.old.kept steps duties.items }) }
         ensures err { OnErr result (self.new ≡ self.old) }
     {
+        self.learn_by(symbiont, 0, steps, duties)
+    }
+
+    /// Learns what the fetch of this number showed, as `learn` does. Each run that begins is told by that number from here on.
+    pub fn learn_by(
+        &mut self,
+        symbiont: &Y,
+        fetch: u64,
+        steps: u32,
+        duties: Vec<Duty>,
+    ) -> Result<(), AllocError>
+        requires told { self.old.made ≡ None }
+        requires duties { AreLearnable duties.items }
+        ensures ok { OnOk result (self.new ≡ record self.old { kept = with_duties fetch self.old.kept steps duties.items }) }
+        ensures err { OnErr result (self.new ≡ self.old) }
+    {
         let mut rows = Vec::with_capacity(self.alloc, duties.len())?;
         let mut round = Vec::with_capacity(self.alloc, duties.len())?;
         let old = mem::replace(&mut self.rows, Vec::new(self.alloc));
-        move_shown(symbiont, old, duties, &mut rows);
+        move_shown(symbiont, old, fetch, duties, &mut rows);
         fill_round(&rows, &mut round);
         self.rows = rows;
         self.round = round;
@@ -255,12 +271,13 @@ fn forget<Y: Symbiont>(rows: &mut Vec<Row<Y::Cursor>>, round: &mut Vec<u64>)
 fn take_shown<Y: Symbiont>(
     symbiont: &Y,
     old: &mut Vec<Row<Y::Cursor>>,
+    fetch: u64,
     duty: Duty,
 ) -> Option<Row<Y::Cursor>>
     requires order { IsInOrder nat_cmp (λ row. row.run) old.old.items }
     requires each { AreAtPlaces Y.stands old.old.items }
     requires limits { IfSome duty.work IsWithinLimits }
-    ensures shown { option_map bare result ≡ kept_of 0 (all_bare old.old.items) duty duty.work }
+    ensures shown { option_map bare result ≡ kept_of fetch (all_bare old.old.items) duty duty.work }
     ensures sound { IfSome result (IsSound Y.stands None []) }
     ensures others { (run : ℕ) → (run == duty.run) ≡ false →
         run_kept run (all_bare old.new.items) ≡ run_kept run (all_bare old.old.items) }
@@ -283,6 +300,7 @@ fn take_shown<Y: Symbiont>(
                 work,
                 place: begun.at,
                 cursor: begun.cursor,
+                fetched: fetch,
             })
         }
         None => {
@@ -313,6 +331,7 @@ fn take_row<C>(rows: &mut Vec<Row<C>>, run: u64) -> Option<Row<C>>
 fn move_one<Y: Symbiont>(
     symbiont: &Y,
     old: &mut Vec<Row<Y::Cursor>>,
+    fetch: u64,
     duty: Duty,
     rows: &mut Vec<Row<Y::Cursor>>,
 )
@@ -322,7 +341,7 @@ fn move_one<Y: Symbiont>(
     requires limits { IfSome duty.work IsWithinLimits }
     requires room { vec_len rows.old < vec_capacity rows.old }
     ensures shown { all_bare rows.new.items
-        ≡ all_bare rows.old.items ++ cons_option (kept_of 0 (all_bare old.old.items) duty duty.work) [] }
+        ≡ all_bare rows.old.items ++ cons_option (kept_of fetch (all_bare old.old.items) duty duty.work) [] }
     ensures others { (run : ℕ) → (run == duty.run) ≡ false →
         run_kept run (all_bare old.new.items) ≡ run_kept run (all_bare old.old.items) }
     ensures order { IsInOrder nat_cmp (λ row. row.run) old.new.items }
@@ -331,7 +350,7 @@ fn move_one<Y: Symbiont>(
     ensures few { vec_len rows.new ≤ vec_len rows.old + 1 }
     ensures capacity { vec_capacity rows.new ≡ vec_capacity rows.old }
 {
-    if let Some(row) = take_shown(symbiont, old, duty) {
+    if let Some(row) = take_shown(symbiont, old, fetch, duty) {
         rows.push_reserved(row);
     }
 }
@@ -341,6 +360,7 @@ fn move_one<Y: Symbiont>(
 fn move_shown<Y: Symbiont>(
     symbiont: &Y,
     mut old: Vec<Row<Y::Cursor>>,
+    fetch: u64,
     mut duties: Vec<Duty>,
     rows: &mut Vec<Row<Y::Cursor>>,
 )
@@ -349,13 +369,13 @@ fn move_shown<Y: Symbiont>(
     requires duties { AreLearnable duties.items }
     requires empty { vec_len rows.old ≡ 0 }
     requires room { vec_len duties ≤ vec_capacity rows.old }
-    ensures shown { all_bare rows.new.items ≡ kept_after 0 (all_bare old.items) duties.items }
+    ensures shown { all_bare rows.new.items ≡ kept_after fetch (all_bare old.items) duties.items }
     ensures order { IsInOrder nat_cmp (λ row. row.run) rows.new.items }
     ensures each { AreAtPlaces Y.stands rows.new.items }
     ensures few { vec_len rows.new ≤ vec_len duties }
 {
     while let Some(duty) = duties.pop() {
-        move_one(symbiont, &mut old, duty, rows);
+        move_one(symbiont, &mut old, fetch, duty, rows);
     }
     rows.reverse();
 }

@@ -6,7 +6,7 @@ use Rattle.qm_node.proofs.runs.move_shown.Given as goal
 
 abbrev pub invariant-loop-duty : goal.invariant-loop-duty
 invariant-loop-duty g l =
-    Moved g.Y.Symbiont.stands (kept_after 0 (all_bare l.initial.old.items) l.initial.duties.items) l.old.items l.duties.items l.rows.items
+    Moved l.fetch g.Y.Symbiont.stands (kept_after l.fetch (all_bare l.initial.old.items) l.initial.duties.items) l.old.items l.duties.items l.rows.items
     × (vec_len l.rows + vec_len l.duties ≤ vec_capacity l.rows)
     × (vec_len l.rows + vec_len l.duties ≤ vec_len l.initial.duties)
 

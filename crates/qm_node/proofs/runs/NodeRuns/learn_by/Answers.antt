@@ -2,7 +2,7 @@ use Rattle.std.proofs.Common.{◌∙◌, ap, subst, sym}
 use Rattle.qm_node.specs.Held.{HeldRuns}
 use Rattle.qm_node.specs.Rows.{AreHeld}
 use Rattle.qm_node.proofs.Fetched.{held_new}
-use Rattle.qm_node.proofs.runs.NodeRuns.learn.Goals as goal
+use Rattle.qm_node.proofs.runs.NodeRuns.learn_by.Goals as goal
 
 pub invariant_of-self : goal.invariant_of-self
 invariant_of-self g c =
