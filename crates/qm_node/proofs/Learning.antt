@@ -1,5 +1,5 @@
 -- The duties of a node are by run, each once, and their works can be carried out.
-use Rattle.std.proofs.Common.{◌≡◌, ◌∙◌, ℕ, ◌<◌, nat_lt, Bool, true, false, List, [], ◌∷◌, length, get_or, map, filter, fold, refl, sym, ap, subst, arith, Option, None, Some}
+use Rattle.std.proofs.Common.{◌≡◌, ◌∙◌, ℕ, nat_lt, Bool, true, false, List, [], ◌∷◌, get_or, map, filter, fold, refl, sym, ap, subst, arith, Option, None, Some}
 use Rattle.std.specs.Prelude.{IfSome, ◌≢◌, unwrap_or}
 use Rattle.std.specs.Option.{option_map_or}
 use Rattle.std.specs.Str.{bytes_eq}
@@ -16,13 +16,13 @@ use Rattle.qm_kinds.specs.declared.entry.EntryState.TheVariants.{Pending, Holdin
 use Rattle.qm_kinds.specs.declared.system.System.{System}
 use Rattle.qm_kinds.specs.declared.work.Duty.{Duty}
 use Rattle.qm_kinds.specs.declared.work.Work.{Work}
-use Rattle.qm_model.specs.Consistent.{IsConsistent, IsInOrder}
-use Rattle.qm_model.specs.Duties.{HasProperWork, IsProperWork, by_run, duties, duty_of, run_number}
+use Rattle.qm_model.specs.Consistent.{IsConsistent}
+use Rattle.qm_model.specs.Duties.{IsProperWork, by_run, duties, duty_of, run_number}
 use Rattle.qm_model.specs.Inserting.{inserted}
 use Rattle.qm_model.specs.JobStates.{run_of, runs_on}
 use Rattle.qm_model.specs.Standing.{is_run_on}
 use Rattle.qm_model.proofs.DutyLemmas.{proper_duties}
-use Rattle.qm_model.proofs.InsertLemmas.{Fits, all_inserted, order_inserted}
+use Rattle.qm_model.proofs.InsertLemmas.{all_inserted, order_inserted}
 use Rattle.qm_model.proofs.ListLemmas.{Pairs, all_pairs_of, pairs_of}
 use Rattle.qm_symb.specs.Symbiont.{IsWithinLimits}
 use Rattle.qm_node.specs.Duties.{AreLearnable}

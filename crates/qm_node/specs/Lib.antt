@@ -3,3 +3,4 @@ pub mod Duties
 pub mod Steps
 pub mod Rows
 pub mod Measure
+pub mod Node
