@@ -22,6 +22,7 @@ mod looks;
 mod losing;
 mod making;
 mod merging;
+mod most_started;
 mod naming;
 mod nodes;
 mod prepare;
