@@ -1,6 +1,7 @@
 pub mod Places
 pub mod Moving
 pub mod Loading
+pub mod Faults
 pub mod Opening
 pub mod Appending
 pub mod Made

@@ -75,7 +75,7 @@ live_is_asked_next files content bodies says (Damaged n place) same log told = i
   master_is_log = subst (IsLog (files 0)) log.is_master.whole log.records;
   are_master = log.is_master.are_master;
   file_is = told.0 ∙ ap (λ m. m.live) log.is_master.says_is;
-  damaged = inl (subst (λ (f : List ℕ). IsDamaged f place) (same ∙ ap files (sym told.0)) told.1);
+  cut = subst (λ (f : List ℕ). IsDamaged f place) (same ∙ ap files (sym told.0)) told.1;
 })
 
 -- a log stays as it was left behind a call that only looks

@@ -109,6 +109,7 @@ module _ {D : Type 0} (m : Meaning D) (epoch node : ℕ) (old : Files) (log_ : L
     pub has_begun : Adds m (master_text (Epoch epoch node)) old.master log_ disk → HasBegun m epoch node old with_master disk
     has_begun told = record {
       recorded = ap (λ (b : List (List ℕ)). record { master = b; says = record { cap = old.says.cap; live = old.says.live; epoch = epoch }; bodies = bodies_of old.queue }) told.bodies;
+      queue = refl;
       left = told.left;
     }
 

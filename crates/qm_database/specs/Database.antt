@@ -18,6 +18,10 @@ loaded_disk loaded = loaded.disk
 abbrev pub loaded_record : {D : Type 0} → Loaded D → Recorded
 loaded_record loaded = recorded_in loaded.files
 
+-- one more than the bytes of the longest body for which it has memory, or 0 where it has none
+abbrev pub loaded_spare : {D : Type 0} → Loaded D → ℕ
+loaded_spare loaded = spare_in loaded.files.queue
+
 -- and of an open one
 abbrev pub open_disk : {D : Type 0} → Open D → D
 open_disk open_ = open_.disk

@@ -18,9 +18,10 @@ recorded_in files = record { master = bodies_of files.master; says = state_of fi
 abbrev pub epoch_need : Recorded → ℕ → ℕ → ℕ
 epoch_need r epoch node = need_of r.master (master_text (Epoch epoch node))
 
--- the epoch is the last one that was recorded, and the master is as this left it
+-- the epoch is the last one that was recorded, the master is as this left it, and the live file's log is the same
 pub record HasBegun {D : Type 0} (m : Meaning D) (epoch node : ℕ) (old new : Files) (disk : D) : Type 0 where
   pub recorded : recorded_in new ≡ with_epoch (recorded_in old) epoch node
+  pub queue : new.queue ≡ old.queue
   pub left : IsTrue m.tells → IsAsLeft m new.master disk
 
 -- What beginning an epoch leaves, by its answer. An epoch for which the master has no room is full, and no other one is.

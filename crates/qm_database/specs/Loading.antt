@@ -1,12 +1,13 @@
 -- What loading tells of the files.
-use Rattle.std.specs.Prelude.{◌≡◌, ◌≢◌, ℕ, List, Result, Ok, Err}
+use Rattle.std.specs.Prelude.{◌≡◌, ◌≢◌, ◌⊎◌, ℕ, List, map, Result, Ok, Err}
 use Rattle.qm_disk.specs.Disk.{CrashState}
 use Rattle.qm_glog.specs.Log.{bodies_of}
 use Rattle.qm_glog.specs.Records.{IsLog, IsDamaged}
 use Rattle.qm_glog.specs.declared.fault.OpenFault.{OpenFault}
 use Rattle.qm_glog.specs.declared.fault.OpenFault.TheVariants.{Disk, Unformatted, Damaged, NoMemory}
 use Rattle.qm_glog.specs.declared.log.Log.{Log}
-use Rattle.qm_history.specs.Start.{first_byte, AreDamaged, IsMasterDamaged, IsUnformatted}
+use Rattle.qm_history.specs.Master.{MasterRecord, AreMaster, master_of, master_text, no_master}
+use Rattle.qm_history.specs.Start.{first_byte, IsMasterDamaged, IsUnformatted}
 use Rattle.qm_master.specs.Judging.{IsMaster, place_of}
 use Rattle.qm_master.specs.Records.{state_of}
 use Rattle.qm_master.specs.declared.state.MasterState.{MasterState}
@@ -19,13 +20,26 @@ use Rattle.qm_database.specs.declared.files.Files.{Files}
 use Rattle.qm_database.specs.declared.files.TheConstants.{MASTER_FILE}
 use Rattle.qm_database.specs.declared.loaded.Loaded.{Loaded}
 
+-- the master says which file is live, and that one is broken off at this place
+pub record IsLiveCut (files : CrashState) (file place : ℕ) : Type 0 where
+  pub masters : List MasterRecord
+  pub master_is_log : IsLog (files MASTER_FILE) (map master_text masters)
+  pub are_master : AreMaster masters
+  pub file_is : file ≡ (master_of no_master masters).live
+  pub cut : IsDamaged (files file) place
+
+-- a place is the first that is wrong: in the master as it is judged whole, or else in the live file as a log alone
+abbrev pub IsDamagedAt : CrashState → ℕ → ℕ → Type 0
+IsDamagedAt files file place =
+    ((file ≡ MASTER_FILE) × IsMasterDamaged IsLog IsDamaged place_of HasSpelling record_text (files MASTER_FILE) place) ⊎ IsLiveCut files file place
+
 -- The master doesn't begin with a record; or a place is the first that is wrong, the master before the live file; or the device
 -- failed; or memory ran out, behind a gate that is open.
 abbrev pub IsLoadFault : CrashState → OpenFault → Type 0
 IsLoadFault files Disk = Unit {0}
 IsLoadFault files NoMemory = first_byte (files MASTER_FILE) ≡ 1
 IsLoadFault files (Unformatted byte) = IsUnformatted IsLog IsDamaged place_of HasSpelling record_text files byte
-IsLoadFault files (Damaged file place) = AreDamaged IsLog IsDamaged place_of HasSpelling record_text files file place
+IsLoadFault files (Damaged file place) = IsDamagedAt files file place
 
 -- what the files hold, or why they aren't a database
 abbrev pub Loads : {D : Type 0} → CrashState → Result (Loaded D) (Closed D × OpenFault) → Type 0

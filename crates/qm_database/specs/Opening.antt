@@ -1,7 +1,7 @@
 -- What opening a database answers, and what it leaves.
 use Rattle.std.specs.Prelude.{◌≡◌, ◌<◌, ◌≤◌, ◌^◌, ℕ, IsTrue, Result, Ok, Err}
 use Rattle.qm_disk.specs.Disk.{Meaning}
-use Rattle.qm_database.specs.Database.{disk_of, loaded_disk, loaded_record, open_disk, open_record}
+use Rattle.qm_database.specs.Database.{disk_of, loaded_disk, loaded_record, loaded_spare, open_disk, open_record, spare_of}
 use Rattle.qm_database.specs.Files.{epoch_need}
 use Rattle.qm_database.specs.Recorded.{Recorded, IsAtRest, epoch_behind, with_epoch}
 use Rattle.qm_database.specs.declared.closed.Closed.{Closed}
@@ -19,10 +19,11 @@ in_next_epoch r tried node = with_epoch r (epoch_behind r tried) node
 abbrev pub next_need : Recorded → ℕ → ℕ → ℕ
 next_need r tried node = epoch_need r (epoch_behind r tried) node
 
--- the next epoch is recorded, and no crash can take it away, as long as it is one that a master can hold
+-- the next epoch is recorded, and no crash can take it away, as long as it is one that a master can hold; what was spare is
 pub record IsOpened {D : Type 0} (m : Meaning D) (tried node : ℕ) (old : Loaded D) (new : Open D) : Type 0 where
   pub recorded : open_record new ≡ in_next_epoch (loaded_record old) tried node
   pub at_rest : IsTrue m.tells → epoch_behind (loaded_record old) tried < 2 ^ 62 → IsAtRest m (open_record new) (open_disk new)
+  pub spare : spare_of new ≡ loaded_spare old
 
 -- why it isn't, and the epoch that was tried by then
 abbrev pub IsNotOpened : {D : Type 0} → ℕ → ℕ → Loaded D → Closed D → ℕ → WriteFault → Type 0

@@ -44,6 +44,7 @@ impl Files {
     pub(crate) fn reserve_epoch(&mut self) -> Result<(), AllocError>
         ensures ok { OnOk result (MASTER_RECORD_BYTES < spare_of self.new.master) }
         ensures recorded { recorded_in self.new ≡ recorded_in self.old }
+        ensures queue { self.new.queue ≡ self.old.queue }
     {
         self.master.reserve(MASTER_RECORD_BYTES)
     }

@@ -16,7 +16,7 @@ mod reading;
 pub use closed::Closed;
 pub use fault::{AppendFault, WriteFault};
 pub use files::{FIRST_QUEUE_FILE, MASTER_CAP, MASTER_FILE};
-pub use laws::{at_rest_is_held, held_by_records, one_content};
+pub use laws::{at_rest_is_held, held_by_records, held_files_load, one_content};
 pub use loaded::Loaded;
 pub use making::init;
 pub use opened::Open;

@@ -8,7 +8,7 @@ use qm_disk::Disk;
 use qm_glog::AppendFault;
 use qm_kinds::Record;
 use qm_record::{RecordFault, read_record};
-use std::alloc::Global;
+use std::alloc::{AllocError, Global};
 
 /// The files of a device, which it owns, and what was read of them.
 #[derive(Drop)]
@@ -20,14 +20,14 @@ pub struct Loaded<D> {
 }
 
 impl<D: Disk> Loaded<D> {
-    ghost use Rattle.std.specs.Prelude.{◌≡◌, ◌<◌, ◌≤◌, ◌^◌, ℕ, IsTrue, length, IfOk, IsErrOf, slice_get, Some};
+    ghost use Rattle.std.specs.Prelude.{◌≡◌, ◌<◌, ◌≤◌, ◌^◌, ℕ, IsTrue, length, IfOk, OnOk, IsErrOf, slice_get, Some};
     ghost use Rattle.qm_disk.specs.Disk.{LeavesOnly, KeepsOthers, TellsFaults};
     ghost use Rattle.qm_bytes.specs.Laws.{Spells};
     ghost use Rattle.qm_kinds.specs.declared.record.Record.{Record as AnyRecord};
     ghost use Rattle.qm_master.specs.Judging.{place_of};
     ghost use Rattle.qm_record.specs.Spelling.{record_text, HasSpelling};
     ghost use Rattle.qm_record.specs.Faults.{IsRead, IsFirstFault, IsRecord};
-    ghost use Rattle.qm_database.specs.Database.{disk_of, loaded_disk, loaded_record, OfBody};
+    ghost use Rattle.qm_database.specs.Database.{disk_of, loaded_disk, loaded_record, loaded_spare, OfBody};
     ghost use Rattle.qm_database.specs.Opening.{Opens, FailsBy, disk_behind, in_next_epoch};
     ghost use Rattle.qm_database.specs.Recorded.{IsAtRest, HoldsEither, epoch_behind};
     ghost use Rattle.qm_database.specs.declared.files.TheConstants.{MASTER_FILE};
@@ -82,6 +82,15 @@ impl<D: Disk> Loaded<D> {
         ensures { result ≡ place_of (loaded_record self.now).bodies index }
     {
         place_in(&self.files.queue, index)
+    }
+
+    /// Makes so many bytes spare for the body of one record, which are spare once the database is open.
+    pub fn reserve(&mut self, bytes: usize) -> Result<(), AllocError>
+        ensures ok { OnOk result (bytes < loaded_spare self.new) }
+        ensures disk { loaded_disk self.new ≡ loaded_disk self.old }
+        ensures recorded { loaded_record self.new ≡ loaded_record self.old }
+    {
+        self.files.queue.reserve(bytes)
     }
 
     /// Opens the database for a node as manager, under an epoch one above the greatest of the recorded ones and the one

@@ -1,4 +1,5 @@
-use Rattle.std.proofs.Common.{◌≡◌, ◌≤◌, ◌+◌, sym, subst, arith, ℕ}
+use Rattle.std.proofs.Common.{◌≡◌, ◌≤◌, ◌+◌, ◌∙◌, sym, ap, subst, arith, ℕ}
+use Rattle.qm_glog.specs.Log.{spare_of}
 use Rattle.qm_database.specs.Database.{loaded_record}
 use Rattle.qm_database.specs.Opening.{in_next_epoch}
 use Rattle.qm_database.specs.Recorded.{Recorded, IsAtRest, epoch_behind}
@@ -31,6 +32,7 @@ returns-in-Ok-begin_epoch-clause-answer g c =
         at_rest = λ told early.
             opens_at_rest m r c.args.tried c.args.node c.ranges.node.fits files c.in-Ok.ensures.recorded epoch epoch_is c.args.self.disk c.begin_epoch.new.disk c.begin_epoch.new.self c.begin_epoch.ensures.leaves
             (c.requires.at_rest told) told early begun.1;
+        spare = ap spare_of begun.1.queue ∙ ap spare_of c.in-Ok.ensures.queue;
       },
     )
 
