@@ -1,0 +1,5 @@
+pub mod Short
+pub mod Following
+pub mod Judging
+pub mod Decided
+pub mod Taken

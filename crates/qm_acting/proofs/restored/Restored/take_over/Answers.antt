@@ -1,0 +1,90 @@
+use Rattle.std.proofs.Common.{◌≡◌, ◌∙◌, ◌≤◌, sym, ap, subst}
+use Rattle.qm_database.specs.Database.{disk_of as closed_disk}
+use Rattle.qm_database.specs.Opening.{next_need}
+use Rattle.qm_database.specs.declared.files.TheConstants.{MASTER_CAP}
+use Rattle.qm_faults.specs.Faults.{Tells}
+use Rattle.qm_acting.specs.Asking.{text_of}
+use Rattle.qm_acting.specs.Standing.{Standing, standing_of, disk_of, restored_standing, restored_disk}
+use Rattle.qm_acting.specs.Taking.{in_next, IsDiskFault, FailLeaves, TakesNot}
+use Rattle.qm_acting.proofs.Taken.{epoch_faults, epoch_moments, moments_before, site_in_next, does_in_next, taken_moments, record_moments, record_told, record_faults, faults_behind, done_is}
+use Rattle.qm_acting.proofs.restored.Restored.take_over.Goals as goal
+
+pub returns-in-Err-clause-any_moment : goal.returns-in-Err-clause-any_moment
+returns-in-Err-clause-any_moment g c = λ told.
+    let m = g.D.Disk.meaning in
+    let st = restored_standing c.args.self in
+    epoch_moments m st.recorded (in_next st c.args.tried c.args.node).recorded (text_of c.args.moment c.args.node c.args.request.now) 0 (restored_disk c.args.self) (closed_disk c.in-Err.closed)
+    c.in-Err.fault c.opening_fault.result c.opening_fault.ensures
+    (moments_before m 0 c.args.tried c.args.node (restored_disk c.args.self) (restored_disk c.decide.new.self) (closed_disk c.in-Err.closed) st (restored_standing c.decide.new.self)
+    c.decide.ensures.disk c.decide.ensures.standing (c.in-Err.ensures.any_moment told))
+
+pub returns-in-Err-clause-faults : goal.returns-in-Err-clause-faults
+returns-in-Err-clause-faults g c =
+    let m = g.D.Disk.meaning in
+    epoch_faults (m.faults (restored_disk c.args.self)) (m.faults (closed_disk c.in-Err.closed)) c.in-Err.fault c.opening_fault.result c.opening_fault.ensures
+    (faults_behind _ (m.faults (restored_disk c.args.self)) (m.faults (restored_disk c.decide.new.self)) (m.faults (closed_disk c.in-Err.closed)) (ap m.faults c.decide.ensures.disk) c.in-Err.ensures.faults)
+
+pub record-requires-clause-goes_on : goal.record-requires-clause-goes_on
+record-requires-clause-goes_on g c =
+    let st = restored_standing c.args.self in
+    let mid = standing_of c.in-Ok-open.manager in
+    let is : standing_of c.in-Ok-open.manager ≡ in_next st c.args.tried c.args.node =
+    c.in-Ok-open.ensures.answer.standing ∙ ap (λ (x : Standing). in_next x c.args.tried c.args.node) c.in-Ok.ensures.standing in
+    site_in_next g.D.Disk.meaning c.args.tried c.args.moment c.args.node c.args.request.now st mid is c.decide.new.self.image c.in-Ok.decision c.requires.can c.in-Ok.ensures.decides c.requires.restored.file
+
+pub returns-in-Ok-record-clause-answer : goal.returns-in-Ok-record-clause-answer
+returns-in-Ok-record-clause-answer g c =
+    let st = restored_standing c.args.self in
+    let mid = standing_of c.in-Ok-open.manager in
+    let is : standing_of c.in-Ok-open.manager ≡ in_next st c.args.tried c.args.node =
+    c.in-Ok-open.ensures.answer.standing ∙ ap (λ (x : Standing). in_next x c.args.tried c.args.node) c.in-Ok.ensures.standing in
+    record {
+      master_room = subst (λ (x : Standing). next_need x.recorded c.args.tried c.args.node ≤ MASTER_CAP) c.in-Ok.ensures.standing c.in-Ok-open.ensures.answer.master_room;
+      does = does_in_next g.D.Disk.meaning c.args.tried c.args.moment c.args.node c.args.request.now st mid is c.decide.new.self.image c.in-Ok.decision c.requires.can c.in-Ok.ensures.decides (standing_of c.record.new.self) c.in-Ok-record.reply c.in-Ok-record.ensures.answer;
+      ready = c.in-Ok-record.ensures.ready (done_is c.in-Ok-record.reply);
+    }
+
+pub returns-in-Ok-record-clause-any_moment : goal.returns-in-Ok-record-clause-any_moment
+returns-in-Ok-record-clause-any_moment g c = λ told.
+    let m = g.D.Disk.meaning in
+    let st = restored_standing c.args.self in
+    let mid = standing_of c.in-Ok-open.manager in
+    let is : standing_of c.in-Ok-open.manager ≡ in_next st c.args.tried c.args.node =
+    c.in-Ok-open.ensures.answer.standing ∙ ap (λ (x : Standing). in_next x c.args.tried c.args.node) c.in-Ok.ensures.standing in
+    taken_moments m c.args.tried c.args.moment c.args.node c.args.request.now st mid is c.decide.new.self.image c.in-Ok.decision c.requires.can c.in-Ok.ensures.decides (restored_disk c.args.self) (disk_of c.in-Ok-open.manager) (disk_of c.record.new.self) 0 told
+    (moments_before m 0 c.args.tried c.args.node (restored_disk c.args.self) (restored_disk c.decide.new.self) (disk_of c.in-Ok-open.manager) st (restored_standing c.decide.new.self)
+    c.decide.ensures.disk c.decide.ensures.standing (c.in-Ok-open.ensures.any_moment told)) c.in-Ok-record.ensures.writes
+
+pub returns-in-Err-record-clause-answer : goal.returns-in-Err-record-clause-answer
+returns-in-Err-record-clause-answer g c =
+    let m = g.D.Disk.meaning in
+    let st = restored_standing c.args.self in
+    let mid = standing_of c.in-Ok-open.manager in
+    let is : standing_of c.in-Ok-open.manager ≡ in_next st c.args.tried c.args.node =
+    c.in-Ok-open.ensures.answer.standing ∙ ap (λ (x : Standing). in_next x c.args.tried c.args.node) c.in-Ok.ensures.standing in
+    subst (λ d. TakesNot m c.args.tried c.args.moment c.args.node c.args.request.now st (restored_disk c.args.self) d c.record_fault.result) (sym c.close-in-Err-record.ensures)
+    (record_told m c.args.tried c.args.moment c.args.node c.args.request.now st mid is c.decide.new.self.image c.in-Ok.decision c.requires.can c.in-Ok.ensures.decides (restored_disk c.args.self) (disk_of c.in-Ok-open.manager) (disk_of c.record.new.self)
+    c.in-Err-record.fault c.record_fault.result c.record_fault.ensures (standing_of c.record.new.self)
+    (subst (λ (x : Standing). next_need x.recorded c.args.tried c.args.node ≤ MASTER_CAP) c.in-Ok.ensures.standing c.in-Ok-open.ensures.answer.master_room)
+    c.in-Ok-open.ensures.answer.ready c.in-Err-record.ensures.answer c.in-Err-record.ensures.full)
+
+pub returns-in-Err-record-clause-any_moment : goal.returns-in-Err-record-clause-any_moment
+returns-in-Err-record-clause-any_moment g c = λ told.
+    let m = g.D.Disk.meaning in
+    let st = restored_standing c.args.self in
+    let mid = standing_of c.in-Ok-open.manager in
+    let is : standing_of c.in-Ok-open.manager ≡ in_next st c.args.tried c.args.node =
+    c.in-Ok-open.ensures.answer.standing ∙ ap (λ (x : Standing). in_next x c.args.tried c.args.node) c.in-Ok.ensures.standing in
+    subst (λ d. FailLeaves m st.recorded (in_next st c.args.tried c.args.node).recorded (text_of c.args.moment c.args.node c.args.request.now) (restored_disk c.args.self) d c.record_fault.result) (sym c.close-in-Err-record.ensures)
+    (record_moments m c.args.tried c.args.moment c.args.node c.args.request.now st mid is c.decide.new.self.image c.in-Ok.decision c.requires.can c.in-Ok.ensures.decides (restored_disk c.args.self) (disk_of c.in-Ok-open.manager) (disk_of c.record.new.self)
+    c.in-Err-record.fault c.record_fault.result c.record_fault.ensures 0 told
+    (moments_before m 0 c.args.tried c.args.node (restored_disk c.args.self) (restored_disk c.decide.new.self) (disk_of c.in-Ok-open.manager) st (restored_standing c.decide.new.self)
+    c.decide.ensures.disk c.decide.ensures.standing (c.in-Ok-open.ensures.any_moment told)) c.in-Err-record.ensures.writes c.in-Err-record.ensures.full)
+
+pub returns-in-Err-record-clause-faults : goal.returns-in-Err-record-clause-faults
+returns-in-Err-record-clause-faults g c =
+    let m = g.D.Disk.meaning in
+    subst (λ d. Tells (m.faults (restored_disk c.args.self)) (m.faults d) (IsDiskFault c.record_fault.result)) (sym c.close-in-Err-record.ensures)
+    (record_faults (m.faults (restored_disk c.args.self)) (m.faults (disk_of c.record.new.self)) c.in-Err-record.fault c.record_fault.result c.record_fault.ensures
+    (faults_behind _ (m.faults (restored_disk c.args.self)) (m.faults (disk_of c.in-Ok-open.manager)) (m.faults (disk_of c.record.new.self))
+    (c.in-Ok-open.ensures.faults.quiet (λ no. no) ∙ ap m.faults c.decide.ensures.disk) c.in-Err-record.ensures.faults))

@@ -1,0 +1,5 @@
+pub mod Standing
+pub mod Asking
+pub mod Deciding
+pub mod Reading
+pub mod Taking

@@ -1,0 +1,80 @@
+// How a request is done: decided, written down, and only then made and answered.
+ghost use Rattle.std.specs.Prelude.{◌<◌, length, IsErrOf};
+ghost use Rattle.qm_database.specs.Database.{spare_of};
+ghost use Rattle.qm_disk.specs.Disk.{TellsFaults};
+ghost use Rattle.qm_restore.specs.QueueFile.{IsSiteFile};
+ghost use Rattle.qm_state.specs.Preparing.{IsPrepared};
+ghost use Rattle.qm_acting.specs.Asking.{text_of, Answers, CanBeAsked, LeavesDevice, Writes};
+ghost use Rattle.qm_acting.specs.Deciding.{standing_with, Records, LeavesFull};
+
+use crate::decision::{Decision, decide};
+use crate::fault::{AskFault, RecordFault};
+use crate::manager::Manager;
+use crate::replies::{Replies, copy_of};
+use qm_database::AppendFault;
+use qm_disk::Disk;
+use qm_kinds::{Moment, Reply, Request};
+use qm_restore::site_files_are_consistent;
+use qm_state::Refused;
+
+impl<D: Disk> Manager<D> {
+    ghost use Rattle.qm_acting.specs.Standing.{standing_of, disk_of, IsReady};
+
+    /// Does a request of a node at its acting moment. What is due by then is done where the request is accepted, and only
+    /// there. At `Ok` its record is on the disk, and no crash can take it away. All memory is taken before anything is
+    /// written, that of both replies too.
+    ///
+    /// At `Refused`, `Full` and `NoMemory` nothing has changed. After `Disk` the role has to be let go and the files read
+    /// again, which tells whether the record is there.
+    pub fn ask(&mut self, moment: Moment, node: u8, request: &Request) -> Result<Replies, AskFault>
+        requires ready { IsReady D.meaning self.old }
+        requires can { CanBeAsked (standing_of self.old).system moment node request.now }
+
+        ensures answer { Answers moment node request.now (standing_of self.old) (standing_of self.new) result }
+        ensures ready { (IsErrOf result AskFault.Disk → ⊥) → IsReady D.meaning self.new }
+
+        // A crash at any moment of the call leaves the records before it, or these and the new one.
+        ensures device { LeavesDevice D.meaning (standing_of self.old).recorded (text_of moment node request.now)
+            (disk_of self.old) (disk_of self.new) result }
+    {
+        site_files_are_consistent();
+        let decision = match decide(self.alloc, &mut self.image, moment, node, request) {
+            Ok(decision) => decision,
+            Err(Refused::By(refusal)) => return Err(AskFault::Refused(refusal)),
+            Err(Refused::NoMemory) => return Err(AskFault::NoMemory),
+        };
+        let room = Vec::with_capacity(self.alloc, decision.prepared.most_started())?;
+        self.store.reserve(decision.body.len())?;
+        match self.record(decision) {
+            Ok(reply) => Ok(Replies {
+                told: copy_of(&reply, room),
+                kept: reply,
+            }),
+            Err(RecordFault::Full { need, cap }) => Err(AskFault::Full { need, cap }),
+            Err(RecordFault::Disk) => Err(AskFault::Disk),
+        }
+    }
+
+    // Writes the record of a request that was decided on, for which there is memory, and makes its change.
+    pub(crate) fn record(&mut self, decision: Decision<'_>) -> Result<Reply, RecordFault>
+        requires ready { IsReady D.meaning self.old }
+        requires prepared { IsPrepared self.old.image decision.prepared }
+        requires goes_on { IsSiteFile (standing_with (standing_of self.old) decision).recorded.bodies (standing_with (standing_of self.old) decision).system }
+        requires room { length decision.body.items < spare_of self.old.store }
+        ensures answer { Records decision.entry (standing_of self.old) (standing_of self.new) result }
+        ensures ready { (IsErrOf result RecordFault.Disk → ⊥) → IsReady D.meaning self.new }
+        ensures writes { Writes D.meaning (standing_of self.old).recorded decision.entry.body.items (disk_of self.old) (disk_of self.new) }
+        ensures full { LeavesFull (disk_of self.old) (disk_of self.new) result }
+        ensures faults { TellsFaults D.meaning (disk_of self.old) (disk_of self.new) (IsErrOf result RecordFault.Disk) }
+    {
+        site_files_are_consistent();
+        let Decision { prepared, body } = decision;
+        let epoch = self.store.epoch();
+        match self.store.append(epoch, &body) {
+            Ok(()) => Ok(self.image.commit(prepared)),
+            Err(AppendFault::Full { need, cap }) => Err(RecordFault::Full { need, cap }),
+            Err(AppendFault::Disk) => Err(RecordFault::Disk),
+            Err(AppendFault::Fenced { .. }) => unreachable!(),
+        }
+    }
+}
