@@ -1,0 +1,111 @@
+// Cases that are a script and what it prints.
+use crate::run::{Ran, Site, empty_site, outside_of, run, words_of};
+use qm_disk::MemoryDisk;
+use qm_kinds::Moment;
+use qm_program::End;
+use qm_time::read_time;
+use std::alloc::{AllocError, Global};
+use std::{fs, io};
+
+type MemorySite = Site<MemoryDisk>;
+
+// What the clock of a case tells that has no moments of its own.
+const STANDING: &[u8] = b"1-JAN-2030 10:00:00.00";
+
+/// A new site of the node A.
+pub(crate) fn new_site(alloc: Global) -> Result<MemorySite, AllocError> {
+    let outside = outside_of(alloc, Vec::new(alloc), Vec::new(alloc))?;
+    let words = words_of(alloc, "\"init\" \"A\"")?;
+    let Ran { site, .. } = run(alloc, &words, outside, empty_site(alloc))?;
+    Ok(site)
+}
+
+// A case's file with this ending.
+fn file_of(rt: &HostRuntime, name: &str, ending: &str) -> io::Result<Vec<u8>> {
+    let path = format!(in rt.alloc(); "{name}.{ending}")?;
+    fs::read(rt, path.as_str())
+}
+
+// The moment that a line names. A printed one has a blank in front where the day has one digit.
+fn moment_of(line: &[u8]) -> io::Result<Moment> {
+    let time = line.strip_prefix(b" ").unwrap_or(line);
+    match read_time(time, Moment::BASE) {
+        Ok(moment) => Ok(moment),
+        Err(_) => Err(io::ErrorKind::InvalidData.into()),
+    }
+}
+
+// The moments that a text names, one a line.
+fn moments_in(alloc: Global, text: &[u8]) -> io::Result<Vec<Moment>> {
+    let mut moments = Vec::new(alloc);
+    for line in text.split(|byte| *byte == b'\n') {
+        if !line.is_empty() {
+            moments.push(moment_of(line)?)?;
+        }
+    }
+    Ok(moments)
+}
+
+// The moments that the clock of a case tells.
+fn moments_of(rt: &HostRuntime, name: &str) -> io::Result<Vec<Moment>> {
+    match file_of(rt, name, "clock") {
+        Ok(text) => moments_in(rt.alloc(), &text),
+        Err(error) if error.kind() == io::ErrorKind::NotFound => moments_in(rt.alloc(), STANDING),
+        Err(error) => Err(error),
+    }
+}
+
+// What a device of the site was handed.
+fn output_of(alloc: Global, site: &MemorySite, device: &str) -> Result<Vec<u8>, AllocError> {
+    let mut output = Vec::new(alloc);
+    for handed in site.symbiont.device().held() {
+        if handed.device.as_str() == device {
+            output.extend_from_slice(handed.block.as_slice())?;
+        }
+    }
+    Ok(output)
+}
+
+// Whether a device of the site was handed what the case says.
+fn is_output(rt: &HostRuntime, name: &str, device: &str, site: &MemorySite) -> io::Result<bool> {
+    let output = file_of(rt, name, "out")?;
+    Ok(output_of(rt.alloc(), site, device)? == output)
+}
+
+// Serves a case over a site, and tells whether it printed its transcript.
+fn prints(rt: &HostRuntime, name: &str, site: MemorySite) -> io::Result<(bool, MemorySite)> {
+    let script = file_of(rt, name, "qman")?;
+    let transcript = file_of(rt, name, "transcript")?;
+    let moments = moments_of(rt, name)?;
+    if moments.is_empty() {
+        return Err(io::ErrorKind::InvalidData.into());
+    }
+    let outside = outside_of(rt.alloc(), script, moments)?;
+    let words = words_of(rt.alloc(), "\"run\"")?;
+    let Ran { end, printed, site } = run(rt.alloc(), &words, outside, site)?;
+    Ok((end == End::Ok && printed == transcript, site))
+}
+
+// Serves the case of this name, and looks at a device where one is named behind it.
+fn passes(rt: &HostRuntime, case: &str, site: MemorySite) -> io::Result<(bool, MemorySite)> {
+    match case.split_once("=") {
+        None => prints(rt, case, site),
+        Some((name, device)) => {
+            let (prints, left) = prints(rt, name, site)?;
+            let is_output = is_output(rt, name, device, &left)?;
+            Ok((prints && is_output, left))
+        }
+    }
+}
+
+/// Serves the case that a word names: over a new site, or behind a `+` over the one that the case before it left.
+pub(crate) fn serve_case(
+    rt: &HostRuntime,
+    word: &str,
+    before: MemorySite,
+) -> io::Result<(bool, MemorySite)> {
+    match word.strip_prefix("+") {
+        Some(case) => passes(rt, case, before),
+        None => passes(rt, word, new_site(rt.alloc())?),
+    }
+}

@@ -1,0 +1,52 @@
+// Runs of the program over real files.
+use crate::desk::{Desk, push_told};
+use crate::run::{Ran, Site, run};
+use qm_files::FileDisk;
+use std::alloc::AllocError;
+use std::{fs, io};
+
+// The folder of the files, which is made for a run of `init`.
+const FOLDER: &str = "files";
+
+// The disk over the files of the folder. It opens none yet.
+fn files(rt: &HostRuntime) -> Result<FileDisk<HostRuntime>, AllocError> {
+    let alloc = rt.alloc();
+    Ok(FileDisk::new(
+        rt.clone()?,
+        String::from_str(alloc, "files/lock")?,
+        String::from_str(alloc, "files/master")?,
+        String::from_str(alloc, "files/one")?,
+        String::from_str(alloc, "files/two")?,
+    ))
+}
+
+/// A folder without a file.
+pub(crate) fn new_folder(rt: &HostRuntime) -> io::Result<()> {
+    let _ = fs::remove_dir_all(rt, FOLDER);
+    fs::create_dir(rt, FOLDER)
+}
+
+/// Runs the program over the files of the folder, tells of the run, and keeps the queue file that it left. Other files were
+/// asked for nothing, and so none was made.
+pub(crate) fn run_over_files(
+    rt: &HostRuntime,
+    desk: &mut Desk,
+    told: &mut Vec<u8>,
+    words: &[String],
+) -> io::Result<()> {
+    let outside = desk.outside(desk.script.to_vec(rt.alloc())?)?;
+    let site = Site {
+        disk: files(rt)?,
+        symbiont: desk.symbiont()?,
+    };
+    let ran = run(rt.alloc(), words, outside, site)?;
+    push_told(rt.alloc(), told, &ran, usize::MAX)?;
+    let Ran { site, .. } = ran;
+    let Site { disk, .. } = site;
+    disk.close();
+    desk.file = fs::read(rt, "files/one")?;
+    if fs::exists(rt, "files/master")? || fs::exists(rt, "files/two")? {
+        told.extend_from_slice(b"another file was made\n")?;
+    }
+    Ok(())
+}
