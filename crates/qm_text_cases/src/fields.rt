@@ -5,69 +5,105 @@ use qm_bytes::{
     read_long_bytes, read_mark, read_moment, read_name, read_number, read_number_up_to,
     read_optional_moment, read_optional_name, read_set, read_truth, take_name, take_number,
 };
-use std::alloc::Global;
-use std::test::Fail;
+use qm_kinds::{CharacteristicSet, FileName, Mark, Moment, Name};
+use qm_plans::push_line;
+use std::alloc::{AllocError, Global};
 
-// Each field once, one behind the other.
-const FIELDS: &[u8] =
-    b"\x01\x01\x02\x05\x4c\x4f\x47\x49\x4e\x01\x03\x43\x4f\x4d\x00\x01\xff\xc7\x12\xa1\x5d\x17\x00\x00\x00\x00\x00\x00\x00\x00\x00\x00\x08\x00\x00\x00\x00\x00\x00\x00\x40\x00\x00\x00\x00\x00\x00\x00\x05\x53\x54\x45\x50\x32\x04\x00\x00\x00\x74\x65\x78\x74";
+// One field of each kind but the last.
+#[derive(Drop)]
+struct Fields {
+    truth: bool,
+    number: u16,
+    file: FileName,
+    name: Option<Name>,
+    other: Option<Moment>,
+    moment: Moment,
+    set: CharacteristicSet,
+    mark: Mark,
+}
 
-// Reads these fields, and writes them again.
-fn copy(alloc: Global, bytes: &mut &[u8], out: &mut Vec<u8>) -> Result<(), Fail> {
-    put_truth(out, read_truth(bytes)?)?;
-    put_number(out, Width::Two, read_number(bytes, Width::Two)?)?;
-    put_file_name(out, &read_file_name(bytes)?)?;
-    put_optional_name(out, &read_optional_name(bytes)?)?;
-    put_optional_moment(out, read_optional_moment(bytes)?)?;
-    put_moment(out, read_moment(bytes)?)?;
-    put_set(out, read_set(bytes)?)?;
-    put_mark(out, &read_mark(bytes)?)?;
-    let text = read_long_bytes(alloc, bytes)??;
-    if text.len() == 4 {
-        put_long_bytes(out, text.as_slice())?;
+// Reads these fields.
+fn read_fields(bytes: &mut &[u8]) -> Result<Fields, BadField> {
+    Ok(Fields {
+        truth: read_truth(bytes)?,
+        number: read_number(bytes, Width::Two)? as u16,
+        file: read_file_name(bytes)?,
+        name: read_optional_name(bytes)?,
+        other: read_optional_moment(bytes)?,
+        moment: read_moment(bytes)?,
+        set: read_set(bytes)?,
+        mark: read_mark(bytes)?,
+    })
+}
+
+// Writes these fields.
+fn put_fields(out: &mut Vec<u8>, fields: &Fields) -> Result<(), AllocError> {
+    put_truth(out, fields.truth)?;
+    put_number(out, Width::Two, u64::from(fields.number))?;
+    put_file_name(out, &fields.file)?;
+    put_optional_name(out, &fields.name)?;
+    put_optional_moment(out, fields.other)?;
+    put_moment(out, fields.moment)?;
+    put_set(out, fields.set)?;
+    put_mark(out, &fields.mark)
+}
+
+/// Tells whether one field of each kind, one behind the other, is written as it was read.
+pub(crate) fn tell_copied(
+    alloc: Global,
+    told: &mut Vec<u8>,
+    bytes: &[u8],
+) -> Result<(), AllocError> {
+    let mut rest = bytes;
+    let Ok(fields) = read_fields(&mut rest) else {
+        return push_line(told, "no fields");
+    };
+    let Ok(text) = read_long_bytes(alloc, &mut rest) else {
+        return push_line(told, "no text");
+    };
+    let text = text?;
+    let mut out = Vec::new(alloc);
+    put_fields(&mut out, &fields)?;
+    if text.len() <= 4 {
+        put_long_bytes(&mut out, text.as_slice())?;
     }
-    Ok(())
+    let is_same = out.as_slice() == bytes && rest.is_empty();
+    push_line(
+        told,
+        if is_same {
+            "the same"
+        } else {
+            "something else"
+        },
+    )
 }
 
-#[test]
-fn fields_are_written_as_they_are_read(rt: HostRuntime) -> Result<(), Fail> {
-    let mut rest = FIELDS;
-    let mut out = Vec::new(rt.alloc());
-    copy(rt.alloc(), &mut rest, &mut out)?;
-    assert_eq!(rt; out.as_slice(), FIELDS);
-    assert!(rt; rest.is_empty());
-    Ok(())
-}
-
-// Places of numbers, and what is taken there.
-const NUMBERS: [(usize, Width, Option<u64>); 3] = [
-    (1, Width::Two, Some(513)),
-    (1, Width::One, Some(1)),
-    (FIELDS.len(), Width::One, None),
-];
-
-#[test]
-fn numbers_are_taken_at_a_place(rt: HostRuntime) {
-    for (at, width, number) in NUMBERS {
-        let found = match take_number(FIELDS, at, width) {
-            Some((found, _next)) => Some(found),
-            None => None,
-        };
-        assert_eq!(rt; found, number);
+/// Tells the number of so many bytes, one or two, that is taken at a place.
+pub(crate) fn tell_number_at(
+    alloc: Global,
+    told: &mut Vec<u8>,
+    bytes: &[u8],
+    (count, place): (usize, usize),
+) -> Result<(), AllocError> {
+    let width = if count == 1 { Width::One } else { Width::Two };
+    match take_number(bytes, place, width) {
+        Some((number, next)) => {
+            push_line(told, format!(in alloc; "{number}, then {next}")?.as_str())
+        }
+        None => push_line(told, "none"),
     }
 }
 
-// Places of names, and the place behind each.
-const NAMES: [(usize, Option<usize>); 3] = [(3, Some(9)), (0, None), (4, None)];
-
-#[test]
-fn names_are_taken_at_a_place(rt: HostRuntime) {
-    for (at, next) in NAMES {
-        let found = match take_name(FIELDS, at) {
-            Some((_name, found)) => Some(found),
-            None => None,
-        };
-        assert_eq!(rt; found, next);
+/// Tells the place behind the name that is taken at a place.
+pub(crate) fn tell_name_at(
+    alloc: Global,
+    told: &mut Vec<u8>,
+    bytes: &[u8],
+    place: usize,
+) -> Result<(), AllocError> {
+    match take_name(bytes, place) {
+        Some((_name, next)) => push_line(told, format!(in alloc; "then {next}")?.as_str()),
+        None => push_line(told, "none"),
     }
 }
 
@@ -79,43 +115,28 @@ fn left_by<T: Drop>(outcome: Result<T, BadField>) -> Option<usize> {
     }
 }
 
-// Bytes that begin with no name, and how many are left where that shows.
-const NO_NAMES: [(&[u8], usize); 4] = [
-    (b"\x03LlP", 2),
-    (b"\x03L", 0),
-    (b"\x28L", 2),
-    (b"\x00L", 2),
-];
-
-// The same of moments.
-const NO_MOMENTS: [(&[u8], usize); 2] = [
-    (b"\xff\xff\xff\xff\xff\x17\x00\x00", 3),
-    (b"\x00\x00\x00\x00\x00\x00\x01\x00", 2),
-];
-
-#[test]
-fn a_reader_of_names_stops_at_the_first_byte_that_none_has(rt: HostRuntime) {
-    for (bytes, left) in NO_NAMES {
-        let mut rest = bytes;
-        assert_eq!(rt; left_by(read_name(&mut rest)), Some(left));
+// How many bytes are left where the reader of such a field stops.
+fn left_in(alloc: Global, field: &str, bytes: &[u8]) -> Option<usize> {
+    let mut rest = bytes;
+    match field {
+        "name-in" => left_by(read_name(&mut rest)),
+        "moment-in" => left_by(read_moment(&mut rest)),
+        "number-in" => left_by(read_number_up_to(&mut rest, Width::Two, 512)),
+        "text-in" => left_by(read_long_bytes(alloc, &mut rest)),
+        _ => left_by(read_byte(&mut rest, 0, 1)),
     }
 }
 
-#[test]
-fn a_reader_of_moments_stops_at_the_first_byte_that_none_has(rt: HostRuntime) {
-    for (bytes, left) in NO_MOMENTS {
-        let mut rest = bytes;
-        assert_eq!(rt; left_by(read_moment(&mut rest)), Some(left));
+/// Tells how many bytes are left where the reader of such a field stops: of a name, a moment, a number of two bytes up to 512, a
+/// text with its length, or a byte up to 1.
+pub(crate) fn tell_stop(
+    alloc: Global,
+    told: &mut Vec<u8>,
+    field: &str,
+    bytes: &[u8],
+) -> Result<(), AllocError> {
+    match left_in(alloc, field, bytes) {
+        Some(left) => push_line(told, format!(in alloc; "{left} left")?.as_str()),
+        None => push_line(told, "read"),
     }
-}
-
-#[test]
-fn readers_of_numbers_and_texts_stop_there_too(rt: HostRuntime) {
-    let mut rest = b"\x00\x03".as_slice();
-    let number = left_by(read_number_up_to(&mut rest, Width::Two, 512));
-    assert_eq!(rt; number, Some(1));
-    let mut rest = b"\x02\x00\x00\x00\x07".as_slice();
-    assert_eq!(rt; left_by(read_long_bytes(rt.alloc(), &mut rest)), Some(0));
-    let mut rest = b"\x02\x09".as_slice();
-    assert_eq!(rt; left_by(read_byte(&mut rest, 0, 1)), Some(2));
 }

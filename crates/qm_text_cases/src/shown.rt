@@ -1,14 +1,16 @@
 // What is printed of rows, replies and refusals.
-use crate::names::name;
 use qm_kinds::{
     Act, Characteristic, CharacteristicSet, Entry, EntryState, FileName, Form, JobKind, JobRetain,
     Listing, Mark, Moment, Name, ParseKind, Queue, QueueKind, QueueRetain, QueueState, Refusal,
-    Reply, Row, Seq, Shape, Start,
+    Reply, Row, Seq, Shape, Start, batch_queue,
 };
 use qm_show::{Prefix, show_full, show_journal, show_refusal, show_reply, show_rows, show_runs};
 use std::alloc::{AllocError, Global};
-use std::process::Abort;
-use std::test::Fail;
+
+// The name that a text spells, and SYS$BATCH where it spells none.
+fn name(text: &[u8]) -> Name {
+    Name::read(text).unwrap_or(batch_queue())
+}
 
 // A started queue, on a device of a node with a form, or on a node, or on none.
 fn queue(alloc: Global, queue: &[u8], kind: QueueKind, node: Option<Name>) -> Row {
@@ -130,9 +132,8 @@ fn push_other_rows(alloc: Global, rows: &mut Vec<Row>) -> Result<(), AllocError>
     Ok(())
 }
 
-#[test]
-fn listings_stand_in_columns(rt: HostRuntime) -> Result<(), Fail> {
-    let alloc = rt.alloc();
+/// Tells a listing of each kind of row.
+pub(crate) fn tell_rows(alloc: Global, told: &mut Vec<u8>) -> Result<(), AllocError> {
     let mut rows = print_rows(alloc)?;
     push_batch_rows(alloc, &mut rows)?;
     push_other_rows(alloc, &mut rows)?;
@@ -140,31 +141,7 @@ fn listings_stand_in_columns(rt: HostRuntime) -> Result<(), Fail> {
         node: name(b"PLUTO"),
         line: Some(16),
     };
-    check(
-        &rt,
-        show_rows(alloc, &prefix, &rows),
-        b"PLUTO 16: rows: 9
-PLUTO 16: print queue PLUTO_LP, started, on PLUTO::LPA0:, mounted form LETTER
-PLUTO 16:      1 REPORT           SMITH              13 executing on PLUTO_LP
-PLUTO 16: batch queue SYS$BATCH, started, on PLUTO::
-PLUTO 16:      4 A_LONG_NAME_OF_A_JOB SMITH               1 retained, status 1020
-PLUTO 16: 1234567 F                SMITH        123456789 holding until  1-JAN-2030 12:00:00.00
-PLUTO 16: generic print queue SYS$PRINT, started
-PLUTO 16: form LETTER, number 1, stock WHITE
-PLUTO 16: characteristic DUPLEX, number 7
-PLUTO 16: manager on PLUTO::, epoch 2, may run on PLUTO,MARS
-",
-    )
-}
-
-// That what is shown is this.
-fn check<R: Abort>(
-    rt: &R,
-    shown: Result<Vec<u8>, AllocError>,
-    expected: &[u8],
-) -> Result<(), Fail> {
-    assert_eq!(rt; shown?.as_slice(), expected);
-    Ok(())
+    told.extend_from_slice(&show_rows(alloc, &prefix, &rows)?)
 }
 
 // A job that was accepted, and started by that.
@@ -201,38 +178,23 @@ fn marked(alloc: Global) -> Reply {
     }
 }
 
-const SUBMITTED: &[u8] = b"MARS 10: Job REPORT (queue SYS$PRINT, entry 1) pending
-MARS 10: Job REPORT (queue SYS$PRINT, entry 1) started on PLUTO_LP
-";
-
-const MARKED: &[u8] = b"MARS 10: run 3 mark \xff1\n";
-
-const PARSE: &[u8] = b"MARS 10: %QMAN-E-PARSE, byte 7: word\n";
-
-const FULL: &[u8] = b"MARS 10: %QMAN-E-FULL, need 17, cap 16\n";
-
-const JOURNAL: &[u8] = b"MARS 10: %QMAN-F-JOURNAL\n";
-
-// Refusals that no script meets yet, or seldom, and what stands behind `%QMAN-E-`.
-fn refusals() -> [(Refusal, &'static str); 10] {
-    let busy = EntryState::Retained {
+// Refusals that no script meets yet, or seldom.
+fn refusals() -> [Refusal; 10] {
+    let state = EntryState::Retained {
         status: 44,
         until: None,
     };
     [
-        (Refusal::NumbersSpent, "NUMBERSSPENT"),
-        (Refusal::NotHeld, "NOTHELD"),
-        (Refusal::NodeDown, "NODEDOWN"),
-        (
-            Refusal::EntryBusy { state: busy },
-            "ENTRYBUSY, retained, status 44",
-        ),
-        (Refusal::NoContext, "NOCONTEXT"),
-        (no_more(Listing::Queues), "NOMOREQUE"),
-        (no_more(Listing::Jobs), "NOMOREJOB"),
-        (no_more(Listing::Entries), "NOMOREENT"),
-        (no_more(Listing::Forms), "NOMOREFORM"),
-        (no_more(Listing::Characteristics), "NOMORECHAR"),
+        Refusal::NumbersSpent,
+        Refusal::NotHeld,
+        Refusal::NodeDown,
+        Refusal::EntryBusy { state },
+        Refusal::NoContext,
+        no_more(Listing::Queues),
+        no_more(Listing::Jobs),
+        no_more(Listing::Entries),
+        no_more(Listing::Forms),
+        no_more(Listing::Characteristics),
     ]
 }
 
@@ -240,80 +202,61 @@ fn no_more(listing: Listing) -> Refusal {
     Refusal::NoMore { listing }
 }
 
-// Acts of no script yet, and their texts.
-fn acts() -> [(Act, &'static str); 7] {
+// Acts of no script yet.
+fn acts() -> [Act; 7] {
     let (node, state) = (name(b"MARS"), EntryState::Holding);
     [
-        (Act::EntryIs { entry: 7, state }, "entry 7 holding"),
-        (
-            Act::RunRetained { run: 3, status: 44 },
-            "run 3 retained, status 44",
-        ),
-        (Act::Ticked, "tick"),
-        (Act::NodeStarted { node }, "node MARS started"),
-        (Act::NodeStopped { node }, "node MARS stopped"),
-        (
-            Act::Managing { node, epoch: 2 },
-            "manager on MARS::, epoch 2",
-        ),
-        (Act::Compacted { file: 2 }, "compacted, live file 2"),
+        Act::EntryIs { entry: 7, state },
+        Act::RunRetained { run: 3, status: 44 },
+        Act::Ticked,
+        Act::NodeStarted { node },
+        Act::NodeStopped { node },
+        Act::Managing { node, epoch: 2 },
+        Act::Compacted { file: 2 },
     ]
 }
 
-#[test]
-fn acts_and_refusals_that_no_script_meets_have_their_texts(rt: HostRuntime) -> Result<(), Fail> {
-    let alloc = rt.alloc();
+// Tells acts and refusals that no script meets.
+fn tell_seldom(alloc: Global, told: &mut Vec<u8>) -> Result<(), AllocError> {
     let prefix = Prefix {
         node: name(b"A"),
         line: Some(1),
     };
-    for (refusal, text) in &refusals() {
-        let wanted = format!(in alloc; "A 1: %QMAN-E-{text}\n")?;
-        assert_eq!(rt;
-            show_refusal(alloc, &prefix, refusal)?.as_slice(),
-            wanted.as_bytes()
-        );
+    for refusal in &refusals() {
+        told.extend_from_slice(&show_refusal(alloc, &prefix, refusal)?)?;
     }
-    for (act, text) in &acts() {
-        let wanted = format!(in alloc; "A 1: {text}\n")?;
+    for act in &acts() {
         let reply = Reply {
             act: *act,
             started: Seq::new(alloc),
         };
-        assert_eq!(rt;
-            show_reply(alloc, &prefix, &reply)?.as_slice(),
-            wanted.as_bytes()
-        );
+        told.extend_from_slice(&show_reply(alloc, &prefix, &reply)?)?;
     }
     Ok(())
 }
 
-#[test]
-fn answers_stand_behind_their_prefix(rt: HostRuntime) -> Result<(), Fail> {
-    let alloc = rt.alloc();
+// Tells answers behind the prefix of a node and a line, and of a node alone.
+fn tell_prefixed(alloc: Global, told: &mut Vec<u8>) -> Result<(), AllocError> {
+    let node = name(b"MARS");
     let prefix = Prefix {
-        node: name(b"MARS"),
+        node,
         line: Some(10),
     };
     let fault = Refusal::ParseFault {
         place: 7,
         kind: ParseKind::Word,
     };
-    check(
-        &rt,
-        show_reply(alloc, &prefix, &submitted(alloc)?),
-        SUBMITTED,
-    )?;
-    check(&rt, show_reply(alloc, &prefix, &marked(alloc)), MARKED)?;
-    check(&rt, show_refusal(alloc, &prefix, &fault), PARSE)?;
-    check(&rt, show_full(alloc, &prefix, 17, 16), FULL)?;
-    check(&rt, show_runs(alloc, &prefix, 2), b"MARS 10: runs: 2\n")?;
-    let own = Prefix {
-        node: name(b"MARS"),
-        line: None,
-    };
-    check(&rt, show_runs(alloc, &own, 0), b"MARS -: runs: 0\n")?;
-    let journal = show_journal(&prefix);
-    assert_eq!(rt; journal.as_str().as_bytes(), JOURNAL);
-    Ok(())
+    told.extend_from_slice(&show_reply(alloc, &prefix, &submitted(alloc)?)?)?;
+    told.extend_from_slice(&show_reply(alloc, &prefix, &marked(alloc))?)?;
+    told.extend_from_slice(&show_refusal(alloc, &prefix, &fault)?)?;
+    told.extend_from_slice(&show_full(alloc, &prefix, 17, 16)?)?;
+    told.extend_from_slice(&show_runs(alloc, &prefix, 2)?)?;
+    told.extend_from_slice(&show_runs(alloc, &Prefix { node, line: None }, 0)?)?;
+    told.extend_from_slice(show_journal(&prefix).as_str().as_bytes())
+}
+
+/// Tells answers of each kind, and acts and refusals that no script meets.
+pub(crate) fn tell_answers(alloc: Global, told: &mut Vec<u8>) -> Result<(), AllocError> {
+    tell_prefixed(alloc, told)?;
+    tell_seldom(alloc, told)
 }
