@@ -2,18 +2,19 @@
 ghost use Rattle.std.specs.Prelude.{◌≡◌, ◌<◌, IfSome, None};
 ghost use Rattle.qm_symb.specs.Symbiont.{IsWithinLimits};
 
-use crate::standard::job;
-use crate::work::is_within_limits;
+use crate::job::{Job, is_within_limits};
 use qm_batch::Standard;
-use qm_kinds::JobKind::{Batch, Print};
 use qm_kinds::{Duty, JobKind, Report, Work};
-use qm_node::{ABORTED_STATUS, NodeRuns};
+use qm_node::NodeRuns;
+use qm_plans::push_line;
 use qm_symb::{MemoryDevice, Symbiont};
 use std::alloc::{AllocError, Global};
-use std::test::Fail;
 
+// The work of a run of a job of this kind and text.
 fn work_of(alloc: Global, run: u64, kind: JobKind, text: &[u8]) -> Result<Work, AllocError> {
-    let mut work = job(alloc, kind, text, b"")?;
+    let mut job = Job::new(alloc);
+    job.kind = kind;
+    let mut work = job.work(text.to_vec(alloc)?);
     work.run = run;
     Ok(work)
 }
@@ -38,86 +39,67 @@ fn learn_two<Y: Symbiont>(
     runs.learn(symbiont, 10, duties)
 }
 
-// Makes the next step, if a run may step, whose report is answered as done, and tells its run and the status of its end, if it
-// has ended.
-fn step_next<Y: Symbiont>(
+// Makes the next step, whose report is answered as done, and tells its run, and its status if it has ended; or that no run may
+// step.
+fn tell_step<Y: Symbiont>(
+    alloc: Global,
     runs: &mut NodeRuns<Y>,
     symbiont: &mut Y,
-) -> Result<Option<(u64, Option<u32>)>, AllocError>
+    told: &mut Vec<u8>,
+) -> Result<(), AllocError>
     requires { runs.old.made ≡ None }
     ensures { runs.new.made ≡ None }
 {
     let Some(run) = runs.next() else {
-        return Ok(None);
+        return push_line(told, "none");
     };
     let status = match runs.step(symbiont)? {
         Report::Mark { .. } => None,
         Report::Done { status } => Some(status),
     };
     runs.told(status.is_none());
-    Ok(Some((run, status)))
+    match status {
+        Some(status) => push_line(
+            told,
+            format!(in alloc; "run {run}: status {status}")?.as_str(),
+        ),
+        None => push_line(told, format!(in alloc; "run {run}: mark")?.as_str()),
+    }
 }
 
-#[test]
-fn runs_step_in_turn(rt: HostRuntime) -> Result<(), Fail> {
-    let alloc = rt.alloc();
+/// Tells the steps of two runs, a print job of two pages and a batch job that ends with status 2, the runs that are known behind
+/// them, the steps that are left of ten, and how many blocks were handed over. The first may be cut short; both are paused then.
+pub(crate) fn tell_two_runs(
+    alloc: Global,
+    told: &mut Vec<u8>,
+    cut_short: bool,
+) -> Result<(), AllocError> {
     let mut symbiont = Standard::new(alloc, MemoryDevice::new(alloc, Vec::new(alloc)));
     let mut runs = NodeRuns::new(alloc);
-    let pages = work_of(alloc, 1, Print, b"ab")?;
-    let lines = work_of(alloc, 2, Batch, b"$ EXIT 2")?;
-    assert!(rt; is_within_limits(&pages) && is_within_limits(&lines));
+    let pages = work_of(alloc, 1, JobKind::Print, b"ab")?;
+    let lines = work_of(alloc, 2, JobKind::Batch, b"$ EXIT 2")?;
+    if !is_within_limits(&pages) || !is_within_limits(&lines) {
+        return push_line(told, "beyond the limits");
+    }
     let first = Duty {
         run: 1,
-        aborting: false,
-        paused: false,
+        aborting: cut_short,
+        paused: cut_short,
         work: Some(pages),
     };
     let second = Duty {
         run: 2,
         aborting: false,
-        paused: false,
+        paused: cut_short,
         work: Some(lines),
     };
     learn_two(alloc, &mut runs, &symbiont, first, second)?;
-    assert!(rt; runs.known()?.as_slice() == [1, 2].as_slice());
-    for made in [
-        Some((1, None)),
-        Some((2, Some(2))),
-        Some((1, Some(1))),
-        None,
-    ] {
-        assert!(rt; step_next(&mut runs, &mut symbiont)? == made);
+    for _ in 0..4 {
+        tell_step(alloc, &mut runs, &mut symbiont, told)?;
     }
-    assert!(rt; runs.known()?.is_empty() && runs.steps_left() == 7);
-    assert!(rt; symbiont.device().held().len() == 2);
-    Ok(())
-}
-
-#[test]
-fn a_run_is_cut_short_and_a_paused_one_waits(rt: HostRuntime) -> Result<(), Fail> {
-    let alloc = rt.alloc();
-    let mut symbiont = Standard::new(alloc, MemoryDevice::new(alloc, Vec::new(alloc)));
-    let mut runs = NodeRuns::new(alloc);
-    let pages = work_of(alloc, 1, Print, b"ab")?;
-    let lines = work_of(alloc, 2, Batch, b"$ EXIT 2")?;
-    assert!(rt; is_within_limits(&pages) && is_within_limits(&lines));
-    let first = Duty {
-        run: 1,
-        aborting: true,
-        paused: true,
-        work: Some(pages),
-    };
-    let second = Duty {
-        run: 2,
-        aborting: false,
-        paused: true,
-        work: Some(lines),
-    };
-    learn_two(alloc, &mut runs, &symbiont, first, second)?;
-    for made in [Some((1, Some(ABORTED_STATUS))), None] {
-        assert!(rt; step_next(&mut runs, &mut symbiont)? == made);
-    }
-    assert!(rt; runs.known()?.as_slice() == [2].as_slice());
-    assert!(rt; symbiont.device().held().is_empty());
-    Ok(())
+    let known = runs.known()?;
+    let left = runs.steps_left();
+    let handed = symbiont.device().held().len();
+    let line = format!(in alloc; "known {known:?}, {left} steps left, {handed} blocks")?;
+    push_line(told, line.as_str())
 }

@@ -1,4 +1,4 @@
-use Rattle.qm_symbiont_cases.proofs.standard.carry_out.Given as goal
+use Rattle.qm_symbiont_cases.proofs.job.carry_out.Given as goal
 
 -- the cursor stands at the place
 abbrev pub invariant-loop-marks : goal.invariant-loop-marks
