@@ -5,6 +5,7 @@ use qm_batch::Standard;
 use qm_disk::{Disk, MemoryDisk};
 use qm_io::{MemorySink, MemorySource};
 use qm_kinds::Moment;
+use qm_plans::push_line;
 use qm_program::End;
 use qm_symb::MemoryDevice;
 use std::alloc::{AllocError, Global};
@@ -246,14 +247,14 @@ pub(crate) fn push_told<D: Disk + Drop>(
     last: usize,
 ) -> Result<(), AllocError> {
     told.extend_from_slice(last_lines(&ran.printed, last))?;
-    push_end(alloc, told, ran.end)
-}
-
-/// Tells an end that isn't a good one.
-pub(crate) fn push_end(alloc: Global, told: &mut Vec<u8>, end: End) -> Result<(), AllocError> {
-    if end != End::Ok {
-        let line = format!(in alloc; "end: {end}, status {}\n", end.status())?;
-        told.extend_from_slice(line.as_bytes())?;
+    if ran.end != End::Ok {
+        push_end(alloc, told, ran.end)?;
     }
     Ok(())
+}
+
+/// Tells an end and its status.
+pub(crate) fn push_end(alloc: Global, told: &mut Vec<u8>, end: End) -> Result<(), AllocError> {
+    let line = format!(in alloc; "end: {end}, status {}", end.status())?;
+    push_line(told, line.as_str())
 }

@@ -13,7 +13,7 @@
 // lines) and its end, if that isn't a good one; `over-files` does so over real files, in a new `folder`. Behind `stop`, `looks`
 // tells what is found after a crash of each kind and without one; `cuts` and `raises` tell what is found of the file when it is cut
 // at each place, or has the byte there raised, and only where something else is found than at the place before. `handed` tells what
-// the devices took in the last run, `no-memory` the end of a run without memory.
+// the devices took in the last run, `other-ends` a good end, and that of a run without memory.
 use crate::desk::{Desk, Spoil, push_end};
 use crate::real::{new_folder, run_over_files};
 use crate::run::words_of;
@@ -137,7 +137,10 @@ fn run_by(
             told.extend_from_slice(&desk.handed)?;
             told.push(b'\n')?;
         }
-        "no-memory" => push_end(desk.alloc, told, End::NoMemory)?,
+        "other-ends" => {
+            push_end(desk.alloc, told, End::Ok)?;
+            push_end(desk.alloc, told, End::NoMemory)?;
+        }
         "folder" => new_folder(rt)?,
         "over-files" => run_over_files(rt, desk, told, &words_of(desk.alloc, text)?)?,
         "" | "#" => {}

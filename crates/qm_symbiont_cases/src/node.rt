@@ -67,8 +67,8 @@ fn tell_step<Y: Symbiont>(
     }
 }
 
-/// Tells the steps of two runs, a print job of two pages and a batch job that ends with status 2, the runs that are known behind
-/// them, the steps that are left of ten, and how many blocks were handed over. The first may be cut short; both are paused then.
+/// Tells the steps of two runs, a print job of two pages and a batch job that ends with status 2, the runs that are known before
+/// and behind them, the steps that are left of ten, and how many blocks were handed over. The first may be cut short; both are paused then.
 pub(crate) fn tell_two_runs(
     alloc: Global,
     told: &mut Vec<u8>,
@@ -94,6 +94,8 @@ pub(crate) fn tell_two_runs(
         work: Some(lines),
     };
     learn_two(alloc, &mut runs, &symbiont, first, second)?;
+    let known = runs.known()?;
+    push_line(told, format!(in alloc; "known {known:?}")?.as_str())?;
     for _ in 0..4 {
         tell_step(alloc, &mut runs, &mut symbiont, told)?;
     }

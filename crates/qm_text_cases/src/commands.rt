@@ -23,6 +23,9 @@ fn user() -> Name {
 // The most elements of a list in a record.
 const LIST: usize = 65_535;
 
+// The most bytes of a file's text there.
+const TEXT: usize = 4_294_967_295;
+
 // Whether the lists of a change of a queue are short enough for a record.
 fn is_short_change(change: &QueueChange) -> bool
     ensures { IsTrue result → IsShortChange change.now }
@@ -43,12 +46,13 @@ fn is_short_entry_change(change: &EntryChange) -> bool
     }
 }
 
-// Whether those of a request are that a command asks for.
+// Whether those of a request are.
 fn is_short(request: &Request) -> bool
     ensures { IsTrue result → AreListsShort request.now }
 {
     match request {
-        Request::Append { .. } | Request::NodeLost { .. } | Request::Took { .. } => false,
+        Request::NodeLost { .. } | Request::Took { .. } => false,
+        Request::Append { bytes, .. } => bytes.len() <= TEXT,
         Request::InitializeQueue(queue) => {
             queue.targets.len() <= LIST && is_short_change(&queue.change)
         }
@@ -61,23 +65,24 @@ fn is_short(request: &Request) -> bool
     }
 }
 
-// Adds the record of a request, at the base of the system time, of the node with number 0.
+/// Tells the record of a request, at the base of the system time, of the node with this number.
 pub(crate) fn push_request(
     alloc: Global,
     told: &mut Vec<u8>,
+    node: u8,
     request: &Request,
 ) -> Result<(), AllocError> {
     if !is_short(request) {
-        return push_line(told, "no request of a command");
+        return push_line(told, "no record");
     }
-    told.extend_from_slice(&write_request(alloc, Moment::BASE, 0, request)?)?;
+    told.extend_from_slice(&write_request(alloc, Moment::BASE, node, request)?)?;
     push_line(told, "")
 }
 
 // Tells what is asked for: the record of a request, or the entry that is to be shown.
 fn tell_input(alloc: Global, told: &mut Vec<u8>, input: Input) -> Result<(), AllocError> {
     match input {
-        Input::Ask(request) => push_request(alloc, told, &request),
+        Input::Ask(request) => push_request(alloc, told, 0, &request),
         Input::Show(query) => match query.number {
             Some(number) => push_line(told, format!(in alloc; "entry {number}")?.as_str()),
             None => push_line(told, "entries"),

@@ -55,7 +55,7 @@ fn tell_number(
 
 // Tells a form by the record of its definition, and its row.
 fn tell_form(alloc: Global, told: &mut Vec<u8>, form: Form) -> Result<(), AllocError> {
-    push_request(alloc, told, &Request::DefineForm(form))?;
+    push_request(alloc, told, 0, &Request::DefineForm(form))?;
     let row = Record {
         moment: Moment::BASE,
         node: 0,
@@ -65,20 +65,23 @@ fn tell_form(alloc: Global, told: &mut Vec<u8>, form: Form) -> Result<(), AllocE
     push_line(told, "")
 }
 
-// Tells a request that was read: the file of a job, and the record that is written of it; or the bytes of a file.
-fn tell_request(alloc: Global, told: &mut Vec<u8>, request: &Request) -> Result<(), AllocError> {
+// Tells a request that was read: the file of a job, or a file and the bytes that it gets; and the record that is written of it.
+fn tell_request(
+    alloc: Global,
+    told: &mut Vec<u8>,
+    node: u8,
+    request: &Request,
+) -> Result<(), AllocError> {
     match request {
         Request::Append { file, bytes } => {
             push_line(told, format!(in alloc; "{file}")?.as_str())?;
             told.extend_from_slice(bytes.as_slice())?;
-            push_line(told, "")
+            push_line(told, "")?;
         }
-        Request::Submit(job) => {
-            push_line(told, format!(in alloc; "{}", job.file)?.as_str())?;
-            push_request(alloc, told, request)
-        }
-        _ => push_request(alloc, told, request),
+        Request::Submit(job) => push_line(told, format!(in alloc; "{}", job.file)?.as_str())?,
+        _ => {}
     }
+    push_request(alloc, told, node, request)
 }
 
 // Tells the number of a record, its node, and what is read in it.
@@ -86,7 +89,7 @@ fn tell_read(alloc: Global, told: &mut Vec<u8>, record: Record) -> Result<(), Al
     tell_number(alloc, told, "record", usize::from(number(&record.body)))?;
     tell_number(alloc, told, "of node", usize::from(record.node))?;
     match &record.body {
-        Body::Ask(request) => tell_request(alloc, told, request),
+        Body::Ask(request) => tell_request(alloc, told, record.node, request),
         Body::Form(form) => tell_form(alloc, told, *form),
         _ => Ok(()),
     }
