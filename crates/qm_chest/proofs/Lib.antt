@@ -1,3 +1,10 @@
 pub mod Joining
 pub mod Holding
 pub mod Turning
+pub mod Recording
+pub mod Steps
+pub mod Whole
+pub mod Own
+pub mod Going
+pub mod Names
+pub mod Leaving

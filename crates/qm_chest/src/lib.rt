@@ -1,10 +1,20 @@
-//! The chest, on which the nodes of a cluster will make their turns: so far the definitions of what its files hold between two calls
-//! and of the parts of a call, and laws about them. Each part of a call brings events of its turn; parts come one behind another, and
-//! a part that is the whole call is its turn.
+//! The value on which the nodes of a cluster make their turns: one call of a node is one turn. While a manager is up it has the
+//! manager at work, and while none is, the closed files and where a record in doubt would stand. It stands for a world of
+//! `qm_history`; a call leads to the world behind its turn.
+//!
+//! It isn't built whole: so far there are the laws by which the parts of a call become a turn, and the steps that a manager at
+//! work makes of a call.
 #![tactic(auto)]
 
+mod asking;
+mod book;
+mod chest;
+mod desk;
 mod laws;
 mod place;
+mod serving;
+mod showing;
 
+pub use chest::{Chest, TURNS_KEPT};
 pub use laws::{files_keep_their_world, parts_come_one_behind_another, whole_parts_are_turns};
 pub use place::Place;

@@ -1,0 +1,213 @@
+-- Calls that write nothing: what they leave.
+use Rattle.std.proofs.Common.{◌≡◌, ℕ, ◌<◌, ◌≤◌, Bool, true, false, List, [], ◌∷◌, length, refl, sym, ◌∙◌, ap, subst, arith, Option, None}
+use Rattle.std.specs.Prelude.{unwrap_or}
+use Rattle.qm_disk.specs.Disk.{CrashState, Meaning, IsLeft}
+use Rattle.qm_glog.specs.Records.{IsLog}
+use Rattle.qm_kinds.specs.declared.input.Input.{Input}
+use Rattle.qm_kinds.specs.declared.input.Input.TheVariants as input
+use Rattle.qm_kinds.specs.declared.refusal.ParseKind.{ParseKind}
+use Rattle.qm_kinds.specs.declared.refusal.Refusal.TheVariants as refused
+use Rattle.qm_record.specs.Spelling.{HasSpelling, record_text}
+use Rattle.qm_database.specs.Recorded.{Recorded, Holds}
+use Rattle.qm_acting.specs.Standing.{standing_of}
+use Rattle.qm_history.specs.declared.call.Answer.{Answer}
+use Rattle.qm_history.specs.declared.call.Answer.TheVariants as answer
+use Rattle.qm_history.specs.declared.call.Call.{Call}
+use Rattle.qm_history.specs.declared.call.Takeover.{Takeover}
+use Rattle.qm_history.specs.declared.event.Event.{Event}
+use Rattle.qm_history.specs.declared.event.Event.TheVariants as event
+use Rattle.qm_history.specs.declared.turn.Turn.{Turn}
+use Rattle.qm_history.specs.declared.turn.Why.{Why}
+use Rattle.qm_history.specs.declared.world.World.{World}
+use Rattle.qm_history.specs.Answering.{MayAnswer, SaysItsEvents}
+use Rattle.qm_history.specs.Answers.{answer_of, event_answer, moment_of, shown_answer, takeover_of}
+use Rattle.qm_history.specs.Calls.{input_of, why_of, IsFromOutside}
+use Rattle.qm_history.specs.Contents.{HoldWorld, compacted_by}
+use Rattle.qm_history.specs.Faults.{is_disk_fault, is_journal, tells_disk_fault}
+use Rattle.qm_history.specs.Room.{Room, HasRoom, room_after}
+use Rattle.qm_history.specs.Step.{CanCome, after_event}
+use Rattle.qm_history.specs.Takeover.{takes_over}
+use Rattle.qm_history.specs.Turn.{IsBehindTakeover, IsOwn, IsServed, Nothing, UnlessDown, is_down}
+use Rattle.qm_history.specs.World.{system_in}
+use Rattle.qm_chest.specs.declared.desk.Desk.{Desk}
+use Rattle.qm_chest.specs.declared.desk.Desk.TheVariants.{Up, Down}
+use Rattle.qm_chest.specs.declared.chest.State.{State}
+use Rattle.qm_chest.specs.At.{IsStateAt, state_disk}
+use Rattle.qm_master.specs.declared.state.TheConstants.{GREATEST_QUEUE_CAP}
+use Rattle.qm_chest.specs.declared.asking.Came.{Came}
+use Rattle.qm_chest.specs.declared.book.Book.{Book}
+use Rattle.qm_chest.specs.Books.{IsBookOf}
+use Rattle.qm_chest.specs.Steps.{IsStep}
+use Rattle.qm_chest.specs.Desk.{IsDeskAt, desk_disk}
+use Rattle.qm_chest.specs.Parts.{Part}
+use Rattle.qm_chest.specs.Turns.{made_turn}
+use Rattle.qm_chest.specs.Whole.{IsServedAs}
+use Rattle.qm_chest.proofs.Holding.{SiteFilesAreAccepted, epoch_of_none, holds_world, room_of, still}
+use Rattle.qm_chest.proofs.Turning.{adds, tells_room, whole}
+use Rattle.qm_chest.proofs.Steps.{epoch_of_role}
+use Rattle.qm_database.proofs.Moving.{left_at_rest}
+
+-- ---- what a desk's files hold
+
+module _ (accepted : SiteFilesAreAccepted) {D : Type 0} (m : Meaning D) (cap : ℕ) (w : World) where
+  pub desk_reads : (desk : Desk D) → IsDeskAt m cap w desk → (r : Recorded) × Holds (m.seen (desk_disk desk)) r
+  desk_reads (Up manager node) up = ((standing_of manager).recorded, up.at_rest.holds)
+  desk_reads (Down closed place) down = (down.holds.reads.recorded, down.holds.reads.holds)
+
+  pub desk_crash : (desk : Desk D) → IsDeskAt m cap w desk → (crashed : CrashState) → IsLeft (m.may_leave (desk_disk desk)) crashed → HoldWorld IsLog HasSpelling record_text crashed w
+  desk_crash (Up manager node) up crashed left =
+      holds_world accepted cap w None crashed (standing_of manager).recorded (left_at_rest m (standing_of manager).recorded (desk_disk (Up manager node)) up.at_rest crashed left) up.may
+      (epoch_of_role w (standing_of manager).recorded.says.epoch w.manager (record { node = node; epoch = w.greatest }) up.role up.epoch)
+  desk_crash (Down closed place) down crashed left =
+      let some = down.holds.crash crashed left in
+      holds_world accepted cap w place crashed some.recorded some.holds some.is (epoch_of_none w some.recorded.says.epoch w.manager down.none some.is.epoch)
+
+  -- an event that writes nothing, whatever the chest works with
+  pub desk_still : (only_now : (disk : D) (crashed : CrashState) → m.left_since disk (m.moment disk) crashed → IsLeft (m.may_leave disk) crashed) (desk : Desk D) → IsDeskAt m cap w desk
+      → (reading : ℕ) (asked : Input) (e : Event) → CanCome HasSpelling w e → ((room : Room) → room_after record_text w room e ≡ room) → ((room : Room) → HasRoom record_text None w room reading asked e [])
+      → Part m None w reading asked false (e ∷ []) (desk_disk desk) (desk_disk desk)
+  desk_still only_now desk at reading asked e comes stays has =
+      let reads = desk_reads desk at in
+      still m (desk_disk desk) (only_now (desk_disk desk)) None w reading asked false e reads.0 reads.1 (desk_crash desk at) comes stays (has (room_of reads.0))
+
+-- ---- an answer that says what the events do
+
+-- neither want of memory nor damage, nor that no more turns are kept
+abbrev is_plain : Answer → Bool
+is_plain (answer.NoMemory took) = false
+is_plain (answer.Damaged file place) = false
+is_plain answer.HistoryFull = false
+is_plain (answer.Done took moment reply) = true
+is_plain (answer.Shown took moment rows) = true
+is_plain (answer.Duties took moment duties) = true
+is_plain (answer.Refused took refusal) = true
+is_plain (answer.Full took need cap) = true
+is_plain (answer.Journal took live) = true
+is_plain (answer.Fenced held current) = true
+is_plain (answer.NoManager took name) = true
+
+pub says : (w : World) (asked : Call) (t : Turn) (told : Answer) → is_plain told ≡ true → SaysItsEvents HasSpelling w asked t told → MayAnswer HasSpelling w asked t told
+says w asked t (answer.NoMemory took) plain h = cc
+says w asked t (answer.Damaged file place) plain h = cc
+says w asked t answer.HistoryFull plain h = cc
+says w asked t (answer.Done took moment reply) plain h = h
+says w asked t (answer.Shown took moment rows) plain h = h
+says w asked t (answer.Duties took moment duties) plain h = h
+says w asked t (answer.Refused took refusal) plain h = h
+says w asked t (answer.Full took need cap) plain h = h
+says w asked t (answer.Journal took live) plain h = h
+says w asked t (answer.Fenced held current) plain h = h
+says w asked t (answer.NoManager took name) plain h = h
+
+pub plain_undamaged : (told : Answer) → is_plain told ≡ true → (file place : ℕ) → told ≡ answer.Damaged file place → ⊥
+plain_undamaged told plain file place is = let no : is_plain (answer.Damaged file place) ≡ true = subst (λ (a : Answer). is_plain a ≡ true) is plain in cc
+
+-- ---- what one event that is no takeover says
+
+-- neither a takeover nor a compaction
+abbrev is_simple : Event → Bool
+is_simple (event.Took node moment epoch gone up may kept) = false
+is_simple (event.TakeDoubt node tried kept) = false
+is_simple (event.Compacted node epoch file) = false
+is_simple _ = true
+
+plain_shown : (w : World) (node : ℕ) (took : Option Takeover) (moment : ℕ) (asked : Input) → is_plain (shown_answer w node took moment asked) ≡ true
+plain_shown w node took moment (input.Show query) = refl
+plain_shown w node took moment (input.Fetch known) = refl
+plain_shown w node took moment (input.Ask asked) = refl
+plain_shown w node took moment input.Compact = refl
+plain_shown w node took moment input.StartNode = refl
+plain_shown w node took moment input.StopNode = refl
+plain_shown w node took moment (input.TakeManager on) = refl
+plain_shown w node took moment (input.Fault place kind) = refl
+
+journal_shown : (w : World) (node : ℕ) (took : Option Takeover) (moment : ℕ) (asked : Input) → is_journal (shown_answer w node took moment asked) ≡ false
+journal_shown w node took moment (input.Show query) = refl
+journal_shown w node took moment (input.Fetch known) = refl
+journal_shown w node took moment (input.Ask asked) = refl
+journal_shown w node took moment input.Compact = refl
+journal_shown w node took moment input.StartNode = refl
+journal_shown w node took moment input.StopNode = refl
+journal_shown w node took moment (input.TakeManager on) = refl
+journal_shown w node took moment (input.Fault place kind) = refl
+
+-- what such an event says: its answer is plain, tells of a disk where the event does, and no takeover stands in front; and the greatest
+-- epoch stays
+record SaysOf (w : World) (took : Option Takeover) (because : Why) (moment : ℕ) (e : Event) : Type 0 where
+  plain : is_plain (event_answer w took because moment e) ≡ true
+  journal : is_journal (event_answer w took because moment e) ≡ is_disk_fault e
+  alone : takeover_of w (e ∷ []) ≡ None
+  image : compacted_by (e ∷ []) ≡ None
+  greatest : (after_event w e).greatest ≡ w.greatest
+
+says_of : (w : World) (took : Option Takeover) (because : Why) (moment : ℕ) (e : Event) → is_simple e ≡ true → SaysOf w took because moment e
+says_of w took because moment (event.Took node acted epoch gone up may kept) simple = cc
+says_of w took because moment (event.TakeDoubt node tried kept) simple = cc
+says_of w took because moment (event.Compacted node epoch file) simple = cc
+says_of w took because moment (event.Shown node acted asked) simple =
+    record { plain = plain_shown w node took moment asked; journal = journal_shown w node took moment asked; alone = refl; image = refl; greatest = refl }
+says_of w took because moment (event.Done node acted asked reply) simple = record { plain = refl; journal = refl; alone = refl; image = refl; greatest = refl }
+says_of w took because moment (event.Refused node acted asked refusal) simple = record { plain = refl; journal = refl; alone = refl; image = refl; greatest = refl }
+says_of w took because moment (event.Doubt node acted asked) simple = record { plain = refl; journal = refl; alone = refl; image = refl; greatest = refl }
+says_of w took because moment (event.Full node need cap) simple = record { plain = refl; journal = refl; alone = refl; image = refl; greatest = refl }
+says_of w took because moment (event.NoManager node) simple = record { plain = refl; journal = refl; alone = refl; image = refl; greatest = refl }
+says_of w took because moment (event.Fenced node held current) simple = record { plain = refl; journal = refl; alone = refl; image = refl; greatest = refl }
+says_of w took because moment (event.Stopped node) simple = record { plain = refl; journal = refl; alone = refl; image = refl; greatest = refl }
+says_of w took because moment (event.Left node) simple = record { plain = refl; journal = refl; alone = refl; image = refl; greatest = refl }
+says_of w took because moment (event.Started node) simple = record { plain = refl; journal = refl; alone = refl; image = refl; greatest = refl }
+says_of w took because moment (event.CompactDoubt node) simple = record { plain = refl; journal = refl; alone = refl; image = refl; greatest = refl }
+
+-- ---- a call that is served whole by one event
+
+module _ {D : Type 0} (m : Meaning D) (cap : ℕ) (w : World) (node now : ℕ) (asked : Call) (there : node < length (system_in w).nodes) (outside : IsFromOutside (input_of asked)) where
+  pub one_served : (e : Event) (told : Answer) (failed : Bool) (old : D) (new : State D) → is_simple e ≡ true → Part m None w now (input_of asked) failed (e ∷ []) old (state_disk new) → IsServed w node now asked (e ∷ [])
+      → failed ≡ is_journal told → told ≡ event_answer w None (why_of asked) (unwrap_or (moment_of e) now) e → IsStateAt m cap (after_event w e) new → IsServedAs m cap w node now asked old new (e ∷ []) told
+  one_served e told failed old new simple part served failed_is is at =
+      let t : Turn = made_turn node now asked (e ∷ []) in
+      let of = says_of w None (why_of asked) (unwrap_or (moment_of e) now) e simple in
+      let plain : is_plain told ≡ true = ap is_plain is ∙ of.plain in
+      let answers : told ≡ answer_of w t = is ∙ ap (λ (o : Option Takeover). event_answer w o (why_of asked) (unwrap_or (moment_of e) now) e) (sym of.alone) in
+      let quiet : tells_disk_fault (e ∷ []) ≡ false → failed ≡ false = λ said. failed_is ∙ ap is_journal is ∙ of.journal ∙ said in
+      record {
+        adds = adds m w node now asked failed (e ∷ []) old (state_disk new) there outside part told
+            (says w asked t told plain (whole m w node now asked failed (e ∷ []) old (state_disk new) there outside part served, answers)) (plain_undamaged told plain) quiet of.image;
+        room = tells_room m w node now asked failed (e ∷ []) old (state_disk new) there outside part;
+        at = at;
+        rises = omega (arith, of.greatest);
+      }
+
+  -- a node that is down is told so
+  down_served : is_down w node (input_of asked) ≡ true → IsServed w node now asked (event.Refused node now (input_of asked) refused.NodeDown ∷ [])
+  down_served is =
+      subst (λ (b : Bool). UnlessDown b node now (input_of asked) (IsBehindTakeover w node now asked (takes_over w (input_of asked)) (event.Refused node now (input_of asked) refused.NodeDown ∷ []))
+      (event.Refused node now (input_of asked) refused.NodeDown ∷ [])) (sym is) refl
+
+  -- a call that is served behind no takeover
+  pub own_served : (events : List Event) → is_down w node (input_of asked) ≡ false → takes_over w (input_of asked) ≡ false → IsOwn w node now asked Nothing (input_of asked) events → IsServed w node now asked events
+  own_served events up none own =
+      subst (λ (b : Bool). UnlessDown b node now (input_of asked) (IsBehindTakeover w node now asked (takes_over w (input_of asked)) events) events) (sym up)
+      (subst (λ (b : Bool). IsBehindTakeover w node now asked b events) (sym none) own)
+
+  module _ (accepted : SiteFilesAreAccepted) (only_now : (disk : D) (crashed : CrashState) → m.left_since disk (m.moment disk) crashed → IsLeft (m.may_leave disk) crashed) (state : State D) (at : IsStateAt m cap w state) where
+    pub node_down : is_down w node (input_of asked) ≡ true
+        → IsServedAs m cap w node now asked (state_disk state) state (event.Refused node now (input_of asked) refused.NodeDown ∷ []) (answer.Refused None refused.NodeDown)
+    node_down down =
+        one_served (event.Refused node now (input_of asked) refused.NodeDown) (answer.Refused None refused.NodeDown) false (state_disk state) state refl
+        (desk_still accepted m cap w only_now state.desk at.desk now (input_of asked) (event.Refused node now (input_of asked) refused.NodeDown) tt (λ room. refl) (λ room. tt))
+        (down_served down) refl refl at
+
+    pub not_read : (place : ℕ) (kind : ParseKind) → input_of asked ≡ input.Fault place kind → is_down w node (input_of asked) ≡ false
+        → IsServedAs m cap w node now asked (state_disk state) state (event.Refused node now (input.Fault place kind) (refused.ParseFault place kind) ∷ []) (answer.Refused None (refused.ParseFault place kind))
+    not_read place kind is up =
+        one_served (event.Refused node now (input.Fault place kind) (refused.ParseFault place kind)) (answer.Refused None (refused.ParseFault place kind)) false (state_disk state) state refl
+        (desk_still accepted m cap w only_now state.desk at.desk now (input_of asked) (event.Refused node now (input.Fault place kind) (refused.ParseFault place kind)) tt (λ room. refl) (λ room. tt))
+        (own_served (event.Refused node now (input.Fault place kind) (refused.ParseFault place kind) ∷ []) up (ap (takes_over w) is)
+        (subst (λ (i : Input). IsOwn w node now asked Nothing i (event.Refused node now (input.Fault place kind) (refused.ParseFault place kind) ∷ [])) (sym is) refl)) refl refl at
+
+  -- a step of a manager that is up is the whole call
+  pub step_served : (old : D) (came : Came D) (book : Book) (e : Event) → is_simple e ≡ true → IsStep m cap w now now (input_of asked) None old came e → IsOwn w node now asked Nothing (input_of asked) (e ∷ [])
+      → is_down w node (input_of asked) ≡ false → takes_over w (input_of asked) ≡ false → IsBookOf (after_event w e) book → cap ≤ GREATEST_QUEUE_CAP
+      → IsServedAs m cap w node now asked old (record { book = book; desk = came.desk }) (e ∷ []) came.answer
+  step_served old came book e simple step own up none kept small =
+      one_served e came.answer (is_journal came.answer) old (record { book = book; desk = came.desk }) simple step.part (own_served (e ∷ []) up none own) refl (step.told (why_of asked))
+      (record { book = kept; desk = step.desk; small = small })

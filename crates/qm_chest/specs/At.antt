@@ -1,0 +1,120 @@
+-- The chest at a world, and what a call does to it.
+-- OpenVMS System Manager's Manual, Managing the Queue Manager and Queue Database, on the queue manager process and its files.
+-- This site's own: turns, epochs, and the record in doubt.
+use Rattle.std.specs.Prelude.{◌≡◌, ◌⊎◌, ℕ, ◌+◌, ◌^◌, ◌<◌, ◌≤◌, IsTrue, IsOk, List, ◌++◌, length, map, option_to_list, Option, None, Some}
+use Rattle.qm_disk.specs.Disk.{Meaning}
+use Rattle.qm_glog.specs.Records.{IsLog}
+use Rattle.qm_kinds.specs.declared.input.Input.{Input}
+use Rattle.qm_kinds.specs.declared.input.Input.TheVariants as input
+use Rattle.qm_kinds.specs.declared.query.Listing.TheVariants.{Manager, Cancel}
+use Rattle.qm_kinds.specs.declared.query.Query.{Query}
+use Rattle.qm_kinds.specs.declared.moment.TheConstants.{LAST_MOMENT}
+use Rattle.qm_kinds.specs.declared.request.Request.{Request}
+use Rattle.qm_kinds.specs.declared.system.System.{System}
+use Rattle.qm_master.specs.declared.state.TheConstants.{GREATEST_QUEUE_CAP}
+use Rattle.qm_model.specs.Applied.{applied}
+use Rattle.qm_model.specs.Lawful.{IsLawful}
+use Rattle.qm_model.specs.Listing.{IsOfOneEntry}
+use Rattle.qm_model.specs.Log.{request_record}
+use Rattle.qm_record.specs.Spelling.{HasSpelling, record_text}
+use Rattle.qm_acting.specs.Standing.{standing_of, IsReady}
+use Rattle.qm_history.specs.declared.call.Answer.{Answer}
+use Rattle.qm_history.specs.declared.call.Call.{Call}
+use Rattle.qm_history.specs.declared.turn.Turn.{Turn}
+use Rattle.qm_history.specs.declared.world.World.{World}
+use Rattle.qm_history.specs.Calls.{IsForUsers}
+use Rattle.qm_history.specs.Chest.{Adds, IsMadeFor, LeavesTurn, TellsRoom}
+use Rattle.qm_history.specs.Legal.{after_turn}
+use Rattle.qm_chest.specs.Desk.{desk_disk, IsDeskAt}
+use Rattle.qm_chest.specs.Books.{IsBookOf}
+use Rattle.qm_chest.specs.declared.chest.Chest.{Chest}
+use Rattle.qm_chest.specs.declared.chest.State.{State}
+use Rattle.qm_chest.specs.declared.desk.Desk.{Desk}
+use Rattle.qm_chest.specs.declared.desk.Desk.TheVariants.{Up, Down}
+
+-- ---- the chest at a world
+
+-- What the chest works with stands for a world of a site whose queue files have this cap.
+pub record IsStateAt {D : Type 0} (m : Meaning D) (cap : ℕ) (w : World) (state : State D) : Type 0 where
+  pub book : IsBookOf w state.book
+  pub desk : IsDeskAt m cap w state.desk
+  pub small : cap ≤ GREATEST_QUEUE_CAP
+
+-- the same of a chest, whose epochs are so early that all turns that it can still keep find epochs that a master can hold
+pub record IsAt {D : Type 0} (m : Meaning D) (cap : ℕ) (w : World) (chest : Chest D) : Type 0 where
+  pub state : IsStateAt m cap w chest.state
+  pub early : w.greatest ≤ 2 ^ 61 + length chest.turns.items
+
+-- its device
+abbrev pub state_disk : {D : Type 0} → State D → D
+state_disk state = desk_disk state.desk
+
+abbrev pub chest_disk : {D : Type 0} → Chest D → D
+chest_disk chest = state_disk chest.state
+
+-- ---- whatever the disks tell
+
+-- a manager can be asked, of the nodes that are kept, of which one is its node
+abbrev pub IsDeskOf : {D : Type 0} → Meaning D → List (List ℕ) → Desk D → Type 0
+IsDeskOf m names (Up manager node) = IsReady m manager × (map (λ n. n.name) (standing_of manager).system.nodes ≡ names) × (node < length names)
+IsDeskOf m names (Down closed place) = Unit {0}
+
+-- So many turns are kept, of which each may have tried an epoch.
+pub record IsSteady {D : Type 0} (m : Meaning D) (turns : ℕ) (state : State D) : Type 0 where
+  pub desk : IsDeskOf m state.book.names.items state.desk
+  pub epochs : state.book.greatest ≤ 2 ^ 62 + turns
+
+-- A call can be served: what the chest keeps fits together, and where the disks tell, it stands for some world.
+pub record IsServing {D : Type 0} (m : Meaning D) (chest : Chest D) : Type 0 where
+  pub steady : IsSteady m (length chest.turns.items) chest.state
+  pub stands : IsTrue m.tells → (cap : ℕ) × (w : World) × IsAt m cap w chest
+
+-- ---- what can be asked for
+
+-- In each system the request's names keep their rules, and its record has a spelling where it is accepted.
+pub record CanBeRecorded (node : ℕ) (asked : Request) : Type 0 where
+  pub outside : IsForUsers asked
+  pub names : (s : System) → node < length s.nodes → IsLawful s node asked
+  pub spelled : (s : System) (moment : ℕ) → moment ≤ LAST_MOMENT → IsOk (applied s moment node asked) → HasSpelling (request_record moment node asked)
+
+-- a listing of the queue manager, of one entry, or of nothing
+abbrev pub IsListed : Query → Type 0
+IsListed q = (q.listing ≡ Manager) ⊎ ((q.listing ≡ Cancel) ⊎ IsOfOneEntry q)
+
+-- A node's call can ask for this. No compaction is made so far.
+abbrev pub CanBeAskedFor : ℕ → Input → Type 0
+CanBeAskedFor node (input.Ask asked) = CanBeRecorded node asked
+CanBeAskedFor node (input.Show query) = IsListed query
+CanBeAskedFor node (input.Fetch known) = Unit {0}
+CanBeAskedFor node input.Compact = ⊥
+CanBeAskedFor node (input.TakeManager on) = Unit {0}
+CanBeAskedFor node input.StartNode = Unit {0}
+CanBeAskedFor node input.StopNode = Unit {0}
+CanBeAskedFor node (input.Fault place kind) = Unit {0}
+
+-- ---- what a call does
+
+-- the world behind a turn, if one was left
+abbrev pub behind : World → Option Turn → World
+behind w None = w
+behind w (Some t) = after_turn w t
+
+-- The call of this node at this reading left one turn more, of that node, moment and call, or none for a reason.
+pub record LeavesOne (node now : ℕ) (asked : Call) (old new : List Turn) (told : Answer) : Type 0 where
+  pub turn : Option Turn
+  pub turns : new ≡ old ++ option_to_list turn
+  pub made : IsMadeFor node now asked turn
+  pub leaves : LeavesTurn old turn told
+
+-- In a world for which the chest stood, the turn is one of the call with this answer, a crash leaves what it may within it, room is
+-- told as it is, and the chest then stands for the world behind it.
+pub record Serves {D : Type 0} (m : Meaning D) (cap : ℕ) (w : World) (node now : ℕ) (asked : Call) (old new : Chest D) (told : Answer) : Type 0 where
+  pub one : LeavesOne node now asked old.turns.items new.turns.items told
+  pub adds : Adds IsLog HasSpelling record_text m w (chest_disk old) (chest_disk new) asked one.turn told
+  pub room : TellsRoom IsLog HasSpelling record_text m w (m.seen (chest_disk old)) asked one.turn
+  pub at : IsAt m cap (behind w one.turn) new
+
+-- no manager is up
+abbrev pub IsWithout : {D : Type 0} → Desk D → Type 0
+IsWithout (Up manager node) = ⊥
+IsWithout (Down closed place) = Unit {0}

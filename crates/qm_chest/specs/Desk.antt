@@ -1,0 +1,43 @@
+-- What the chest works with in a world: a manager at work while one is up, and else closed files.
+use Rattle.std.specs.Prelude.{◌≡◌, ℕ, Option, None, Some}
+use Rattle.qm_disk.specs.Disk.{Meaning}
+use Rattle.qm_acting.specs.Standing.{standing_of, disk_of, IsReady}
+use Rattle.qm_acting.specs.declared.manager.Manager.{Manager}
+use Rattle.qm_database.specs.Database.{disk_of as closed_disk}
+use Rattle.qm_database.specs.Recorded.{IsAtRest}
+use Rattle.qm_database.specs.declared.closed.Closed.{Closed}
+use Rattle.qm_history.specs.declared.world.World.{World}
+use Rattle.qm_history.specs.World.{system_in}
+use Rattle.qm_chest.specs.Holding.{MayHold, AllHold}
+use Rattle.qm_chest.specs.declared.desk.Desk.{Desk}
+use Rattle.qm_chest.specs.declared.desk.Desk.TheVariants.{Up, Down}
+use Rattle.qm_chest.specs.declared.place.Place.{Place}
+
+-- the device
+abbrev pub desk_disk : {D : Type 0} → Desk D → D
+desk_disk (Up manager node) = disk_of manager
+desk_disk (Down closed place) = closed_disk closed
+
+-- a manager at work can be asked
+abbrev pub IsReadyDesk : {D : Type 0} → Meaning D → Desk D → Type 0
+IsReadyDesk m (Up manager node) = IsReady m manager
+IsReadyDesk m (Down closed place) = Unit {0}
+
+-- In this world a manager is up on this node: its image is the world's system, and its files hold the world's log, in the epoch that
+-- is the greatest.
+pub record IsUp {D : Type 0} (m : Meaning D) (cap : ℕ) (w : World) (manager : Manager D) (node : ℕ) : Type 0 where
+  pub role : w.manager ≡ Some (record { node = node; epoch = w.greatest })
+  pub sure : w.doubt ≡ None
+  pub system : (standing_of manager).system ≡ system_in w
+  pub at_rest : IsAtRest m (standing_of manager).recorded (disk_of manager)
+  pub may : MayHold cap w None (standing_of manager).recorded
+  pub epoch : (standing_of manager).recorded.says.epoch ≡ w.greatest
+
+-- no manager is up, and the files hold a log of the world
+pub record IsDown {D : Type 0} (m : Meaning D) (cap : ℕ) (w : World) (closed : Closed D) (place : Option Place) : Type 0 where
+  pub none : w.manager ≡ None
+  pub holds : AllHold m (MayHold cap w place) (closed_disk closed)
+
+abbrev pub IsDeskAt : {D : Type 0} → Meaning D → ℕ → World → Desk D → Type 0
+IsDeskAt m cap w (Up manager node) = IsUp m cap w manager node
+IsDeskAt m cap w (Down closed place) = IsDown m cap w closed place

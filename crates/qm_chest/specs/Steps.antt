@@ -1,0 +1,85 @@
+-- One step of a call: what it leaves, and what is answered.
+use Rattle.std.specs.Prelude.{◌≡◌, ◌≤◌, ℕ, Bool, true, false, [], ◌∷◌, unwrap_or, Option, None, Some}
+use Rattle.qm_disk.specs.Disk.{Meaning}
+use Rattle.qm_kinds.specs.declared.input.Input.{Input}
+use Rattle.qm_kinds.specs.declared.request.Request.{Request}
+use Rattle.qm_kinds.specs.declared.request.Request.TheVariants as request
+use Rattle.qm_master.specs.declared.state.TheConstants.{GREATEST_QUEUE_CAP}
+use Rattle.qm_acting.specs.Standing.{disk_of}
+use Rattle.qm_acting.specs.declared.manager.Manager.{Manager}
+use Rattle.qm_history.specs.declared.call.Answer.TheVariants as answer
+use Rattle.qm_history.specs.declared.call.Call.{Call}
+use Rattle.qm_history.specs.declared.call.Takeover.{Takeover}
+use Rattle.qm_history.specs.declared.event.Event.{Event}
+use Rattle.qm_history.specs.declared.event.Event.TheVariants as event
+use Rattle.qm_history.specs.declared.turn.Why.{Why}
+use Rattle.qm_history.specs.declared.world.World.{World}
+use Rattle.qm_history.specs.Answers.{event_answer, moment_of}
+use Rattle.qm_history.specs.Faults.{is_journal}
+use Rattle.qm_history.specs.Room.{own_request}
+use Rattle.qm_history.specs.Step.{after_event}
+use Rattle.qm_history.specs.Turn.{Beside, IsAsked, IsOwn}
+use Rattle.qm_history.specs.World.{is_live}
+use Rattle.qm_chest.specs.Desk.{desk_disk, IsDeskAt, IsUp}
+use Rattle.qm_chest.specs.Parts.{Part}
+use Rattle.qm_chest.specs.Books.{IsBookOf}
+use Rattle.qm_chest.specs.declared.asking.Came.{Came}
+use Rattle.qm_chest.specs.declared.book.Book.{Book}
+
+-- the request is one to the manager that is up, and doesn't tell of a takeover
+abbrev pub IsToManager : Request → Type 0
+IsToManager (request.Took epoch gone up may) = ⊥
+IsToManager _ = Unit {0}
+
+-- a record was written, or may be there
+abbrev pub is_recorded : Option Event → Bool
+is_recorded (Some (event.Done node moment asked reply)) = true
+is_recorded (Some (event.Doubt node moment asked)) = true
+is_recorded _ = false
+
+-- a record has no room
+abbrev pub is_full : Option Event → Bool
+is_full (Some (event.Full node need cap)) = true
+is_full _ = false
+
+-- An event of a call that asked for this: it is a part of it, and leads the desk to the world behind it; and the answer is what the
+-- event says, at its moment or where it has none at that at which the turn acted before.
+pub record IsStep {D : Type 0} (m : Meaning D) (cap : ℕ) (w : World) (reading acted : ℕ) (asked : Input) (took : Option Takeover) (old : D) (came : Came D) (e : Event) : Type 0 where
+  pub part : Part m None w reading asked (is_journal came.answer) (e ∷ []) old (desk_disk came.desk)
+  pub desk : IsDeskAt m cap (after_event w e) came.desk
+  pub told : (because : Why) → came.answer ≡ event_answer w took because (unwrap_or (moment_of e) acted) e
+
+-- memory was short, and nothing has changed
+pub record IsShort {D : Type 0} (m : Meaning D) (cap : ℕ) (w : World) (took : Option Takeover) (old : D) (came : Came D) : Type 0 where
+  pub same : desk_disk came.desk ≡ old
+  pub desk : IsDeskAt m cap w came.desk
+  pub told : came.answer ≡ answer.NoMemory took
+
+-- what a request comes to that is asked of a manager
+abbrev pub ComesTo : {D : Type 0} → Meaning D → ℕ → World → ℕ → ℕ → ℕ → Input → Request → Option Takeover → D → Came D → Option Event → Type 0
+ComesTo m cap w node reading acted asked wanted took old came None = IsShort m cap w took old came
+ComesTo m cap w node reading acted asked wanted took old came (Some e) =
+    IsStep m cap w reading acted asked took old came e × IsAsked w node reading wanted (e ∷ [])
+
+-- the same in each world for which the manager stands, of each call whose own request it is
+abbrev pub Comes : {D : Type 0} → Meaning D → Manager D → ℕ → Bool → ℕ → ℕ → Request → Option Takeover → Came D → Type 0
+Comes m manager at live node reading wanted took came =
+    (cap : ℕ) (w : World) (asked : Input) (acted : ℕ) → cap ≤ GREATEST_QUEUE_CAP → IsUp m cap w manager at → is_live w node ≡ live → own_request w node asked ≡ Some wanted
+    → ComesTo m cap w node reading acted asked wanted took (disk_of manager) came came.event
+
+-- what a call's own step comes to, alone or beside a takeover
+abbrev pub OwnComesTo : {D : Type 0} → Meaning D → ℕ → World → ℕ → ℕ → ℕ → Input → Beside → Option Takeover → D → Came D → Option Event → Type 0
+OwnComesTo m cap w node reading acted asked beside took old came None = IsShort m cap w took old came
+OwnComesTo m cap w node reading acted asked beside took old came (Some e) =
+    IsStep m cap w reading acted asked took old came e × ((called : Call) → IsOwn w node reading called beside asked (e ∷ []))
+
+-- the same in each world for which the manager and what is kept of the nodes stand
+abbrev pub OwnComes : {D : Type 0} → Meaning D → Book → Manager D → ℕ → ℕ → ℕ → ℕ → Input → Beside → Option Takeover → Came D → Type 0
+OwnComes m book manager at node reading acted asked beside took came =
+    (cap : ℕ) (w : World) → cap ≤ GREATEST_QUEUE_CAP → IsBookOf w book → IsUp m cap w manager at
+    → OwnComesTo m cap w node reading acted asked beside took (disk_of manager) came came.event
+
+-- the device stays, and no disk failed
+pub record IsQuietStep {D : Type 0} (old : D) (came : Came D) : Type 0 where
+  pub disk : desk_disk came.desk ≡ old
+  pub told : is_journal came.answer ≡ false
