@@ -12,35 +12,42 @@ use std::os::unix::fs::FileExt;
 use std::test::Fail;
 use std::{fs, io};
 
-// The calls on the files of a folder, a line each, and which of them fails. Calls of a kind in a row have one line.
+// The calls on the files of a folder, a line each, and which of them fail: so many from one on. Calls of a kind in a row
+// have one line.
 #[derive(Drop)]
 struct Calls {
     lines: String,
     made: usize,
     failing: usize,
+    failures: usize,
     // The number that the next file gets.
     number: i32,
 }
 
 impl Calls {
-    fn new(rt: &HostRuntime, failing: usize, number: i32) -> RefCell<Calls> {
+    fn new(rt: &HostRuntime, number: i32) -> RefCell<Calls> {
+        Calls::failing(rt, 0, 0, number)
+    }
+
+    fn failing(rt: &HostRuntime, failing: usize, failures: usize, number: i32) -> RefCell<Calls> {
         RefCell::new(Calls {
             lines: String::new(rt.alloc()),
             made: 0,
             failing,
+            failures,
             number,
         })
     }
 }
 
-// Writes a call down. It fails where it is the one that fails.
+// Writes a call down. It fails where it is one of those that fail.
 fn note(calls: &RefCell<Calls>, what: &str, name: &str) -> io::Result<()> {
     let Ok(mut calls) = calls.try_borrow_mut() else {
         return Err(ErrorKind::Other.into());
     };
     let calls = &mut *calls;
     calls.made = calls.made.wrapping_add(1);
-    if calls.made == calls.failing {
+    if calls.made.wrapping_sub(calls.failing) < calls.failures {
         return Err(ErrorKind::Other.into());
     }
     let mut line = calls.lines.clone()?;
@@ -296,8 +303,11 @@ open qm_files_test/one
 open qm_files_test/two
 ";
 
-const RENEWED: &str = "open qm_files_test/master
-open qm_files_test/one
+const MASTER_IS_NOT_THERE: &str = "open qm_files_test/master\n";
+
+const TWO_IS_NOT_THERE: &str = "open qm_files_test/two\n";
+
+const RENEWED: &str = "open qm_files_test/one
 lock qm_files_test/one
 copy qm_files_test/one
 open qm_files_test/one.NEW
@@ -306,7 +316,6 @@ sync all qm_files_test/one.NEW
 rename qm_files_test/one.NEW
 open qm_files_test
 sync all qm_files_test
-open qm_files_test/two
 ";
 
 const OPENED: &str = "open qm_files_test/one
@@ -315,12 +324,13 @@ open qm_files_test
 sync all qm_files_test
 ";
 
-const CALLED: &str = "write qm_files_test/one
+const CHANGED: &str = "write qm_files_test/one
 size qm_files_test/one
 read qm_files_test/one
 cut qm_files_test/one
-sync qm_files_test/one
 ";
+
+const SYNCED: &str = "sync qm_files_test/one\n";
 
 // The same behind the renewal, whose file keeps here the name that it was opened by.
 const CALLED_ANEW: &str = "write qm_files_test/one.NEW
@@ -340,19 +350,39 @@ enum Leaving {
 const READ: &str = "read qm_files_test/lock\n";
 
 // Runs one behind the other: how each lets the disk go, and what it asks for.
-const RUNS: [(Leaving, [&str; 6]); 4] = [
+const RUNS: [(Leaving, &[&str]); 4] = [
     (
         Leaving::Closed,
-        [LOOKED, MARKED, NOTHING_RENEWED, OPENED, CALLED, MARKED],
+        &[
+            LOOKED,
+            MARKED,
+            NOTHING_RENEWED,
+            OPENED,
+            CHANGED,
+            SYNCED,
+            MARKED,
+        ],
     ),
-    (Leaving::Dropped, [LOOKED, READ, MARKED, OPENED, CALLED, ""]),
     (
-        Leaving::Closed,
-        [LOOKED, READ, MARKED, RENEWED, CALLED_ANEW, MARKED],
+        Leaving::Dropped,
+        &[LOOKED, READ, MARKED, OPENED, CHANGED, SYNCED],
     ),
     (
         Leaving::Closed,
-        [LOOKED, READ, MARKED, OPENED, CALLED, MARKED],
+        &[
+            LOOKED,
+            READ,
+            MARKED,
+            MASTER_IS_NOT_THERE,
+            RENEWED,
+            TWO_IS_NOT_THERE,
+            CALLED_ANEW,
+            MARKED,
+        ],
+    ),
+    (
+        Leaving::Closed,
+        &[LOOKED, READ, MARKED, OPENED, CHANGED, SYNCED, MARKED],
     ),
 ];
 
@@ -367,7 +397,7 @@ fn joined(alloc: Global, parts: &[&str]) -> Result<String, AllocError> {
 
 // Whether one call of each kind holds in a run that lets the disk go so, and what the run asks for.
 fn asked_by(rt: &HostRuntime, leaving: Leaving) -> Result<(bool, String), AllocError> {
-    let calls = Calls::new(rt, 0, 3);
+    let calls = Calls::new(rt, 3);
     let mut disk = disk_watched(rt, &calls)?;
     let holds = each_call(&mut disk) == [true; 5];
     match leaving {
@@ -391,7 +421,7 @@ fn the_system_is_asked_in_this_order(rt: HostRuntime) -> Result<(), Fail> {
     for (leaving, parts) in RUNS {
         let (holds, asked) = asked_by(&rt, leaving)?;
         assert!(rt; holds && has(&rt, "qm_files_test/one", b"a"));
-        assert_eq!(rt; asked.as_str(), joined(rt.alloc(), &parts)?.as_str());
+        assert_eq!(rt; asked.as_str(), joined(rt.alloc(), parts)?.as_str());
     }
     Ok(())
 }
@@ -432,7 +462,7 @@ fn take_away(rt: &HostRuntime) {
 fn a_name_without_a_folder_is_made_durable_too(rt: HostRuntime) -> Result<(), Fail> {
     let alloc = rt.alloc();
     take_away(&rt);
-    let calls = Calls::new(&rt, 0, 3);
+    let calls = Calls::new(&rt, 3);
     let files = Watched {
         rt: rt.clone()?,
         calls: &calls,
@@ -486,7 +516,7 @@ fn folder_with(rt: &HostRuntime, found: Option<(&str, &str)>) -> io::Result<()> 
 // How many calls on the files a run makes in which none fails, and how many files it opens.
 fn counts_of_a_run(rt: &HostRuntime, found: Option<(&str, &str)>) -> io::Result<(usize, i32)> {
     folder_with(rt, found)?;
-    let calls = Calls::new(rt, 0, 1);
+    let calls = Calls::new(rt, 1);
     let mut disk = disk_watched(rt, &calls)?;
     let holds = each_call(&mut disk) == [true; 5];
     drop(disk);
@@ -498,36 +528,75 @@ fn counts_of_a_run(rt: &HostRuntime, found: Option<(&str, &str)>) -> io::Result<
     })
 }
 
-// Whether the calls that held stand before all that failed, of which there is one, and none holds behind them.
-fn fails_for_good(disk: &mut FileDisk<Watched>) -> bool {
-    let mut failed = false;
-    for holds in each_call(disk) {
-        if failed && holds {
-            return false;
-        }
-        failed = !holds;
+// Whether some of a round of calls fail, and all of a round hold behind so many rounds at most.
+fn goes_on(disk: &mut FileDisk<Watched>, rounds: usize) -> bool {
+    if each_call(disk) == [true; 5] {
+        return false;
     }
-    failed && each_call(disk) == [false; 5]
+    for _ in 0..rounds {
+        if each_call(disk) == [true; 5] {
+            return true;
+        }
+    }
+    false
 }
 
-// No failure is hidden: each call on the files that fails is told, and behind it each call is a fault.
+// No failure is hidden: each call on the files that fails is told. It isn't the end: behind it the files are asked again, and
+// the end is marked once all is on the disk.
 #[test]
-fn a_failed_call_is_told_and_each_behind_it_is_a_fault(rt: HostRuntime) -> Result<(), Fail> {
+fn a_failed_call_is_told_and_the_next_ones_go_on(rt: HostRuntime) -> Result<(), Fail> {
     for (found, files) in FOUND {
         let (count, opened) = counts_of_a_run(&rt, found)?;
         assert_eq!(rt; opened, files);
-        for failing in 1..=count {
+        for (failing, failures) in (1..=count).flat_map(|failing| [(failing, 1), (failing, 4)]) {
             folder_with(&rt, found)?;
-            let calls = Calls::new(&rt, failing, 1);
+            let calls = Calls::failing(&rt, failing, failures, 1);
             let mut disk = disk_watched(&rt, &calls)?;
-            assert!(rt; fails_for_good(&mut disk), "call {failing} of {count}");
+            assert!(rt;
+                goes_on(&mut disk, failures),
+                "{failures} calls from {failing} of {count}"
+            );
             assert!(rt; !disk.is_in_use());
             disk.close();
             assert!(rt;
-                !has(&rt, "qm_files_test/lock", b"ended\n"),
-                "call {failing}"
+                has(&rt, "qm_files_test/one", b"a") && has(&rt, "qm_files_test/lock", b"ended\n"),
+                "{failures} calls from {failing}"
             );
         }
+    }
+    Ok(())
+}
+
+// A sync that failed leaves what no disk may hold: the file is copied before anything is asked of it, and a copy that
+// can't be made is tried again.
+#[test]
+fn what_a_failed_sync_left_is_made_durable_first(rt: HostRuntime) -> Result<(), Fail> {
+    let (count, _) = counts_of_a_run(&rt, None)?;
+    for failures in 1..=3 {
+        new_folder(&rt)?;
+        let calls = Calls::failing(&rt, count, failures, 1);
+        let mut disk = disk_watched(&rt, &calls)?;
+        assert!(rt; each_call(&mut disk) == [true, true, true, true, false]);
+        for _ in 1..failures {
+            assert!(rt; disk.size(1).is_err());
+        }
+        assert!(rt; each_call(&mut disk) == [true; 5]);
+        disk.close();
+        let wanted = [
+            LOOKED,
+            MARKED,
+            NOTHING_RENEWED,
+            OPENED,
+            CHANGED,
+            RENEWED,
+            CALLED_ANEW,
+            MARKED,
+        ];
+        assert_eq!(rt;
+            calls.into_inner().lines.as_str(),
+            joined(rt.alloc(), &wanted)?.as_str(),
+            "{failures} failures"
+        );
     }
     Ok(())
 }
@@ -558,7 +627,7 @@ fn calls_on(alloc: Global, name: &str, change: &str) -> Result<String, AllocErro
 fn each_file_is_asked_by_its_own_name_and_has_to_be_synced(rt: HostRuntime) -> Result<(), Fail> {
     for (file, name, change) in [(0, "master", "cut"), (1, "one", "write"), (2, "two", "cut")] {
         new_folder(&rt)?;
-        let calls = Calls::new(&rt, 0, 3);
+        let calls = Calls::new(&rt, 3);
         let mut disk = disk_watched(&rt, &calls)?;
         assert_eq!(rt; each_call_on(&mut disk, file), [true; 5]);
         // What isn't synced keeps the end from being marked.

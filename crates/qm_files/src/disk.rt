@@ -16,24 +16,27 @@ use std::io::ErrorKind;
 /// Three files of a folder, and a fourth that is its lock.
 ///
 /// At the first call the lock is taken, without waiting, and held until the disk is dropped: so no other process has the
-/// files meanwhile. Where another has it, each call is a fault. Where the last run in the folder didn't end with every
-/// call having succeeded, that first call makes durable what the files read: a sync that failed then may have left
-/// bytes in the system's cache that no disk holds.
+/// files meanwhile. While another has it, each call is a fault.
 ///
-/// Each file is opened at the first call on it, and made empty where it isn't there. Behind a call that failed nothing
-/// more is asked of the files, and each call is a fault.
+/// A sync that failed may have left bytes in the system's cache that no disk holds. So behind a call that failed, and where
+/// the last run in the folder didn't end well, the next call first makes durable what each file reads whose last sync isn't
+/// known to have held. Where that fails, the call is a fault, and the one behind it tries again.
+///
+/// Each file is opened at the first call on it, and made empty where it isn't there.
 #[derive(Drop)]
 pub struct FileDisk<R: Files> {
     site: Site<R>,
     faults: Faults,
 }
 
-// What stopped the disk.
+// How the last call on the files ended.
 #[derive(Clone, Copy, Debug, PartialEq, Eq)]
-enum Trouble {
+enum Ending {
+    Well,
+    // The last run in the folder ended badly, or a call failed.
+    Badly,
     // Another process has the lock, or one of the files locked.
     InUse,
-    Failed,
 }
 
 #[derive(Drop)]
@@ -42,7 +45,7 @@ struct Site<R: Files> {
     lock: String,
     folder: Option<Folder<R>>,
     files: [Named<R>; 3],
-    trouble: Option<Trouble>,
+    last: Ending,
 }
 
 impl<R: Files> FileDisk<R>
@@ -59,18 +62,18 @@ where
                 lock,
                 folder: None,
                 files: [Named::new(master), Named::new(one), Named::new(two)],
-                trouble: None,
+                last: Ending::Well,
             },
             faults: Faults::new(),
         }
     }
 
-    /// Whether a call failed since another process has the folder or one of its files.
+    /// Whether the last call failed since another process has the folder or one of its files.
     pub fn is_in_use(&self) -> bool {
-        self.site.trouble == Some(Trouble::InUse)
+        self.site.last == Ending::InUse
     }
 
-    /// Lets the folder go. Where every call succeeded, and all that was written was synced, the next run finds the mark
+    /// Lets the folder go. Where the last call succeeded, and all that was written was synced, the next run finds the mark
     /// of that, and else makes what it reads durable anew; so nothing is lost where no mark can be made.
     pub fn close(self)
     where
@@ -88,36 +91,35 @@ where
         let [master, one, two] = &self.files;
         let is_synced = master.is_synced() && one.is_synced() && two.is_synced();
         match &self.folder {
-            Some(folder) if is_synced && self.trouble.is_none() => folder.end(),
+            Some(folder) if is_synced && self.last == Ending::Well => folder.end(),
             _ => Ok(()),
         }
     }
 
-    // Takes the folder at the first call.
+    // Takes the folder at the first call, and mends what isn't known to be on the disk.
     fn begin(&mut self) -> io::Result<()> {
-        if self.trouble.is_some() {
-            return Err(ErrorKind::Other.into());
+        if self.folder.is_none() {
+            let (folder, last) = Folder::hold(&self.rt, self.lock.as_str())?;
+            self.folder = Some(folder);
+            if last == LastRun::Broken {
+                self.last = Ending::Badly;
+                doubt_all(&mut self.files);
+            }
         }
-        if self.folder.is_some() {
-            return Ok(());
-        }
-        let (folder, last) = Folder::hold(&self.rt, self.lock.as_str())?;
-        self.folder = Some(folder);
-        if last == LastRun::Broken {
+        if self.last != Ending::Well {
             renew_all(&self.rt, &mut self.files)?;
+            self.last = Ending::Well;
         }
         Ok(())
     }
 
-    // Keeps in mind that a call failed.
+    // Keeps in mind how a call ended.
     fn noted<T: Drop>(&mut self, answer: io::Result<T>) -> io::Result<T> {
-        if let Err(error) = &answer
-            && self.trouble.is_none()
-        {
-            self.trouble = Some(match error.kind() {
-                ErrorKind::WouldBlock => Trouble::InUse,
-                _ => Trouble::Failed,
-            });
+        if let Err(error) = &answer {
+            self.last = match error.kind() {
+                ErrorKind::WouldBlock => Ending::InUse,
+                _ => Ending::Badly,
+            };
         }
         answer
     }
@@ -156,6 +158,15 @@ where
         self.begin()?;
         self.files[file as usize].sync(&self.rt)
     }
+}
+
+fn doubt_all<R: Files>(files: &mut [Named<R>; 3])
+where
+    R::File: SiteFile,
+{
+    files[0].doubt();
+    files[1].doubt();
+    files[2].doubt();
 }
 
 fn renew_all<R: Files>(rt: &R, files: &mut [Named<R>; 3]) -> io::Result<()>

@@ -2,8 +2,8 @@
 //
 // A sync that fails leaves the new bytes in the system's cache, where they count as written. Who reads them later is
 // told no fault, and a loss of power takes them all the same, with whatever was acknowledged behind them. So a run marks
-// that it has begun, before it changes anything, and that it ended, where no call failed; and a run that doesn't find
-// the mark of an end makes all that it reads durable anew.
+// that it has begun, before it changes anything, and that it ended, where all is known to be on the disk; and a run that
+// doesn't find the mark of an end makes all that it reads durable anew.
 use crate::SiteFile;
 use std::fs::{Files, OpenFile, OpenOptions};
 use std::io;
@@ -12,7 +12,7 @@ use std::path::Path;
 
 // What the lock's file holds while a run goes on, and where one ended badly.
 const BEGUN: [u8; 6] = *b"begun\n";
-// What it holds where every call of the last run succeeded.
+// What it holds where the last run left nothing behind that isn't known to be on the disk.
 const ENDED: [u8; 6] = *b"ended\n";
 
 // How the last run in the folder ended.
@@ -50,7 +50,7 @@ where
         Ok((folder, last))
     }
 
-    /// Marks that the run ended with every call having succeeded.
+    /// Marks that the run ended with all that it wrote on the disk.
     pub(crate) fn end(&self) -> io::Result<()> {
         mark(&self.lock, &ENDED)
     }

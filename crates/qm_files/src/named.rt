@@ -11,7 +11,7 @@ use std::{fs, io};
 pub(crate) struct Named<R: Files> {
     name: String,
     file: Option<R::File>,
-    // Nothing was written since the last sync that held.
+    // The last sync is known to have held, and nothing was written since.
     is_synced: bool,
 }
 
@@ -27,20 +27,37 @@ where
         }
     }
 
-    /// Whether nothing was written since the last sync that held.
+    /// Whether the last sync is known to have held, and nothing was written since.
     pub(crate) fn is_synced(&self) -> bool {
         self.is_synced
     }
 
-    /// Where the file is there, makes what it reads durable: a copy is made beside it and synced, takes its name, and
-    /// the name is synced. The copy has the file's permissions. What was there before stays until the copy is whole.
+    /// Whether the last sync of another run held isn't known.
+    pub(crate) fn doubt(&mut self) {
+        self.is_synced = false;
+    }
+
+    /// Makes durable what the file reads, where it is there and that isn't known: a copy is made beside it and synced, takes
+    /// its name, and the name is synced. The copy has the file's permissions. What was there before stays until the copy is
+    /// whole.
     pub(crate) fn renew(&mut self, rt: &R) -> io::Result<()> {
-        let name = self.name.as_str();
-        let old = match open_existing(rt, name) {
-            Ok(old) => old,
-            Err(error) if error.kind() == ErrorKind::NotFound => return Ok(()),
+        if self.is_synced {
+            return Ok(());
+        }
+        // (its lock goes with it)
+        self.file = None;
+        self.file = match open_existing(rt, self.name.as_str()) {
+            Ok(old) => Some(self.copied(rt, old)?),
+            Err(error) if error.kind() == ErrorKind::NotFound => None,
             Err(error) => return Err(error),
         };
+        self.is_synced = true;
+        Ok(())
+    }
+
+    // The copy that took the name of this file.
+    fn copied(&self, rt: &R, old: R::File) -> io::Result<R::File> {
+        let name = self.name.as_str();
         old.lock_now()?;
         let mut beside = self.name.clone()?;
         beside.push_str(".NEW")?;
@@ -50,8 +67,7 @@ where
         new.sync_all()?;
         fs::rename(rt, beside.as_str(), name)?;
         sync_folder(rt, name)?;
-        self.file = Some(new);
-        Ok(())
+        Ok(new)
     }
 
     // The open file. It is made empty where it isn't there, and its name in the folder is made durable: whoever made it
@@ -89,6 +105,7 @@ where
 
     /// Syncs what is needed to read the bytes again: they, and the length where it grew. The times of the file can wait.
     pub(crate) fn sync(&mut self, rt: &R) -> io::Result<()> {
+        self.is_synced = false;
         self.opened(rt)?.sync_data()?;
         self.is_synced = true;
         Ok(())
