@@ -147,7 +147,9 @@ fn left_by(read: &Result<Result<Body, AllocError>, BadField>, rest: &[u8]) -> Op
     }
 }
 
-// Reads a record behind which nothing stands. A record is large, so it is made at its place, and its body is moved once.
+// Reads a record behind which nothing stands. A record is large, so it is made at its place, and its body is moved once. It isn't
+// inlined: in a small function most of the clearing of locals goes, since the compiler sees that they are written.
+#[inline(never)]
 fn read_whole(alloc: Global, bytes: &[u8]) -> Result<Record, RecordFault>
     ensures { TellsWhole result bytes.now (whole_at bytes.now) }
 {

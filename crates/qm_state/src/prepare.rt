@@ -79,7 +79,9 @@ impl Image {
     }
 
     // Decides on a request that a node serves, and takes the memory for its change. What prepares one request isn't inlined
-    // here: a function clears all its locals when it is entered, and each request would pay for those of all.
+    // here: a function clears all its locals when it is entered, and each request would pay for those of all. Nor is this inlined
+    // in `prepare`, for the same reason.
+    #[inline(never)]
     fn prepare_change<'a>(
         &mut self,
         now: Moment,
