@@ -49,7 +49,11 @@ impl Image {
             return Err(Refused::By(Refusal::NumbersSpent));
         }
         let name = self.node_name(node);
-        let change = self.prepare_change(now, &name, request)?;
+        // (not by `?`, which moves the change from place to place: it is large)
+        let change = match self.prepare_change(now, &name, request) {
+            Ok(change) => change,
+            Err(refused) => return Err(refused),
+        };
         match self.reserve_starts(&change) {
             Ok(started) => Ok(Prepared {
                 at: now,
