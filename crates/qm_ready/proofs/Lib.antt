@@ -6,3 +6,4 @@ pub mod Sorted
 pub mod Determined
 pub mod Jobs
 pub mod Tiered
+pub mod Replacing

@@ -7,7 +7,7 @@ use Rattle.std.proofs.lemmas.List.{length-append, length-set, length-take, lengt
 use Rattle.std.proofs.lemmas.List.Edits.{insert-append_right, remove-append_right, length-remove}
 use Rattle.std.proofs.lemmas.List.Elements.{All-head, All-tail, All-set}
 use Rattle.std.proofs.lemmas.List.Sorted.{IsPermutation-refl, IsPermutation-append, IsPermutation-append_comm}
-use Rattle.qm_ready.specs.Tiers.{turned, laid, IsInRing, IsInFront, IsSlot}
+use Rattle.qm_ready.specs.Tiers.{turned, laid, AreSlots, IsInRing, IsInFront, IsSlot}
 
 -- ---- lists with a hole
 
@@ -39,6 +39,75 @@ module _ {X : Type 0} where
   emptied xs zero c within = refl
   emptied [] (suc p) c within = absurd (omega arith)
   emptied (x ∷ xs) (suc p) c within = ap (λ (l : List X). x ∷ l) (emptied xs p c (omega arith))
+
+  pub put_there : (xs : List X) (p : ℕ) (c d : X) → p ≤ length xs → get_or (insert xs p c) p d ≡ c
+  put_there xs zero c d within = refl
+  put_there [] (suc p) c d within = absurd (omega arith)
+  put_there (x ∷ xs) (suc p) c d within = put_there xs p c d (omega arith)
+
+  -- a hole that is filled in front of one that is made, and behind it
+  made_behind : (xs : List X) (p q : ℕ) (c : X) → q ≤ p → p < length xs → remove (insert xs q c) (suc p) ≡ insert (remove xs p) q c
+  made_behind xs p zero c order within = refl
+  made_behind [] p (suc q) c order within = absurd (omega arith)
+  made_behind (x ∷ xs) zero (suc q) c order within = absurd (omega arith)
+  made_behind (x ∷ xs) (suc p) (suc q) c order within = ap (λ (l : List X). x ∷ l) (made_behind xs p q c (omega arith) (omega arith))
+
+  made_before : (xs : List X) (p q : ℕ) (c : X) → p ≤ q → q < length xs → remove (insert xs (suc q) c) p ≡ insert (remove xs p) q c
+  made_before [] p q c order within = absurd (omega arith)
+  made_before (x ∷ xs) zero q c order within = refl
+  made_before (x ∷ xs) (suc p) zero c order within = absurd (omega arith)
+  made_before (x ∷ xs) (suc p) (suc q) c order within = ap (λ (l : List X). x ∷ l) (made_before xs p q c (omega arith) (omega arith))
+
+  -- a list in which an element came in front, and one behind it went
+  pub went_on : (xs ys : List X) (p q : ℕ) (c r : X) → length ys ≡ length xs → q ≤ p → p < length xs → insert ys (p + 1) r ≡ insert xs q c → ys ≡ insert (remove xs p) q c
+  went_on xs ys p q c r size order within is =
+      let same : p + 1 ≡ suc p = omega arith in
+      sym (emptied ys (p + 1) r (omega (arith, size, within))) ∙ ap (λ (l : List X). remove l (p + 1)) is ∙ ap (λ (i : ℕ). remove (insert xs q c) i) same
+      ∙ made_behind xs p q c order within
+
+  pub went_back : (xs ys : List X) (p q : ℕ) (c r : X) → length ys ≡ length xs → p ≤ q → q < length xs → insert ys p r ≡ insert xs (q + 1) c → ys ≡ insert (remove xs p) q c
+  went_back xs ys p q c r size order within is =
+      let same : q + 1 ≡ suc q = omega arith in
+      sym (emptied ys p r (omega (arith, size, order, within))) ∙ ap (λ (l : List X). remove l p) (is ∙ ap (λ (i : ℕ). insert xs i c) same)
+      ∙ made_before xs p q c order within
+
+  -- an element goes through a part of a list
+  split : (front back : List X) (n : ℕ) (x : X) → length front ≡ n → insert (front ++ back) n x ≡ front ++ x ∷ back
+  split front back n x size = ap (λ (l : List X). l ++ x ∷ drop n (front ++ back)) (take_at front back n size) ∙ ap (λ (l : List X). front ++ x ∷ l) (drop_at front back n size)
+
+  module _ (xs new : List X) (a k : ℕ) (c r : X) (within : a + k ≤ length xs) (same : length new ≡ length (take ((a + k) - a) (drop a xs))) where
+    abbrev front : List X
+    front = take a xs
+
+    abbrev middle : List X
+    middle = take ((a + k) - a) (drop a xs)
+
+    abbrev behind : List X
+    behind = drop ((a + k) - a) (drop a xs)
+
+    whole : front ++ (middle ++ behind) ≡ xs
+    whole = ap (λ (l : List X). front ++ l) (take-append-drop ((a + k) - a) (drop a xs)) ∙ take-append-drop a xs
+
+    front_long : length front ≡ a
+    front_long = omega (arith, length-take a xs, within)
+
+    middle_long : length middle ≡ k
+    middle_long = omega (arith, length-take ((a + k) - a) (drop a xs), length-drop a xs, within)
+
+    both_long : (l : List X) → length l ≡ k → length (front ++ l) ≡ a + k
+    both_long l size = omega (arith, length-append front l, front_long, size)
+
+    pub part_on : new ++ r ∷ [] ≡ c ∷ middle → insert (front ++ (new ++ behind)) (a + k) r ≡ insert xs a c
+    part_on moved =
+        ap (λ (l : List X). insert l (a + k) r) (sym (append_assoc front new behind)) ∙ split (front ++ new) behind (a + k) r (both_long new (same ∙ middle_long))
+        ∙ append_assoc front new (r ∷ behind) ∙ ap (λ (l : List X). front ++ l) (sym (append_assoc new (r ∷ []) behind) ∙ ap (λ (l : List X). l ++ behind) moved)
+        ∙ sym (split front (middle ++ behind) a c front_long) ∙ ap (λ (l : List X). insert l a c) whole
+
+    pub part_back : r ∷ new ≡ middle ++ c ∷ [] → insert (front ++ (new ++ behind)) a r ≡ insert xs (a + k) c
+    part_back moved =
+        split front (new ++ behind) a r front_long ∙ ap (λ (l : List X). front ++ (l ++ behind)) moved
+        ∙ ap (λ (l : List X). front ++ l) (append_assoc middle (c ∷ []) behind) ∙ sym (append_assoc front middle (c ∷ behind))
+        ∙ sym (split (front ++ middle) behind (a + k) c (both_long middle middle_long)) ∙ ap (λ (l : List X). insert l (a + k) c) (append_assoc front middle behind ∙ whole)
 
 -- ---- one ring
 
@@ -121,6 +190,23 @@ place_below : (n j m r : ℕ) → j < m → r < n → j * n + r < m * n
 place_below n j zero r tier within = absurd (omega arith)
 place_below n zero (suc m) r tier within = omega (arith, suc-mul m n, zero-mul n)
 place_below n (suc j) (suc m) r tier within = omega (arith, suc-mul m n, suc-mul j n, place_below n j m r (omega (arith, tier)) within)
+
+-- a ring's places further on, and back
+ring_more : (n h o r i : ℕ) → IsInRing n h o r → r + i < n → IsInRing n h (o + i) (r + i)
+ring_more n h o r i ring within = elim (cases_lt (h + o) n) [
+  | inl less ↦ let is : r ≡ h + o = ring.before less in record { within = within; before = λ more. omega (arith, is); behind = λ more. absurd (omega (arith, is, more, within)) }
+  | inr past ↦ let is : r + n ≡ h + o = ring.behind past in record { within = within; before = λ more. absurd (omega (arith, past, more)); behind = λ more. omega (arith, is) }
+]
+
+pub ring_less : (n h o r i : ℕ) → h < n → IsInRing n h (o + i) (r + i) → IsInRing n h o r
+ring_less n h o r i below ring = elim (cases_lt (h + (o + i)) n) [
+  | inl less ↦
+      let is : r + i ≡ h + (o + i) = ring.before less in
+      record { within = omega (arith, ring.within); before = λ more. omega (arith, is); behind = λ more. absurd (omega (arith, less, more)) }
+  | inr past ↦
+      let is : (r + i) + n ≡ h + (o + i) = ring.behind past in
+      record { within = omega (arith, ring.within); before = λ more. absurd (omega (arith, is, more)); behind = λ more. omega (arith, is) }
+]
 
 module _ {X : Type 0} (n : ℕ) where
   -- by its first tier and the rest
@@ -316,6 +402,12 @@ module _ {X : Type 0} (n : ℕ) where
     writes = λ xs x full. slot_writes hs j o r xs x tier within heads ring full;
   }
 
+  -- places that stand one behind the other, where neither the ring nor what is kept of it ends
+  pub slots_on : (hs : List ℕ) (j o r k : ℕ) → j < length hs → All (λ h. h < n) hs → IsInRing n (get_or hs j 0) o r → o + k ≤ n → r + k ≤ n → AreSlots X n hs (j * n + o) (j * n + r) k
+  slots_on hs j o r k tier heads ring offsets places i below =
+      subst₂ (λ (a b : ℕ). IsSlot X n hs a b) (omega arith) (omega arith)
+      (slot_of hs j (o + i) (r + i) tier (omega (arith, below, offsets)) heads (ring_more n (get_or hs j 0) o r i ring (omega (arith, below, places))))
+
   -- and the other way round
   pub tier_back : (hs : List ℕ) (j h' : ℕ) (xs : List X) (c d : X) → j < length hs → All (λ h. h < n) hs → h' < n → IsInFront n h' (get_or hs j 0) → length hs * n ≤ length xs
       → insert (laid n (set hs j h') (set xs (j * n + get_or hs j 0) c)) (j * n) (get_or xs (j * n + get_or hs j 0) d) ≡ insert (laid n hs xs) (j * n + n) c
@@ -342,6 +434,35 @@ module _ {X : Type 0} (n : ℕ) where
       hole_back (laid n hs xs) p c d (omega (arith, within, length-laid hs xs))
       ∙ ap (λ (l : List X). insert l p (get_or (laid n hs xs) p d)) (sym (slot.writes xs c full))
       ∙ ap (λ (x : X). insert (laid n hs (set xs s c)) p x) (slot.reads xs d full)
+
+  -- a key goes through so many slots, one behind the other
+  pub run_on : (hs : List ℕ) (k p s : ℕ) (xs ys : List X) (c r : X) → AreSlots X n hs p s k → length hs * n ≤ length xs → s + k ≤ length xs → p + k ≤ length xs → length ys ≡ length xs
+      → insert ys (s + k) r ≡ insert xs s c → insert (laid n hs ys) (p + k) r ≡ insert (laid n hs xs) p c
+  run_on hs zero p s xs ys c r slots full low within size is =
+      let none : s + zero ≡ s = omega arith in
+      let here : p + zero ≡ p = omega arith in
+      let one : insert ys s r ≡ insert xs s c = ap (λ (i : ℕ). insert ys i r) (sym none) ∙ is in
+      let same : ys ≡ xs = sym (emptied ys s r (omega (arith, low, size))) ∙ ap (λ (l : List X). remove l s) one ∙ emptied xs s c (omega (arith, low)) in
+      let out : r ≡ c = sym (put_there ys s r r (omega (arith, low, size))) ∙ ap (λ (l : List X). get_or l s r) one ∙ put_there xs s c r (omega (arith, low)) in
+      ap (λ (i : ℕ). insert (laid n hs ys) i r) here ∙ ap (λ (l : List X). insert (laid n hs l) p r) same ∙ ap (λ (x : X). insert (laid n hs xs) p x) out
+  run_on hs (suc k) p s xs ys c r slots full low within size is =
+      let slot : IsSlot X n hs p s = subst₂ (λ (a b : ℕ). IsSlot X n hs a b) (omega arith) (omega arith) (slots 0 (omega arith)) in
+      let later : AreSlots X n hs (p + 1) (s + 1) k = λ i below. subst₂ (λ (a b : ℕ). IsSlot X n hs a b) (omega arith) (omega arith) (slots (i + 1) (omega (arith, below))) in
+      let next : X = get_or xs s c in
+      let more : insert ys ((s + 1) + k) r ≡ insert (set xs s c) (s + 1) next =
+      ap (λ (i : ℕ). insert ys i r) (omega arith) ∙ is ∙ hole_on xs s c c (omega (arith, low)) in
+      ap (λ (i : ℕ). insert (laid n hs ys) i r) (omega arith)
+      ∙ run_on hs k (p + 1) (s + 1) (set xs s c) ys next r later (omega (arith, full, length-set xs s c)) (omega (arith, low, length-set xs s c)) (omega (arith, within, length-set xs s c)) (omega (arith, size, length-set xs s c)) more
+      ∙ sym (slot_on hs p s xs c c slot full (omega (arith, within)))
+
+  -- they are kept
+  pub slots_kept : (hs : List ℕ) (p s k : ℕ) (xs : List X) → 0 < k → AreSlots X n hs p s k → length hs * n ≤ length xs → s + k ≤ length xs
+  slots_kept hs p s k xs some slots full = let last = slots (k - 1) (omega (arith, some)) in omega (arith, some, full, last.within)
+
+  -- behind the rings it is as it is kept
+  pub run_behind : (hs : List ℕ) (p q : ℕ) (xs ys : List X) (c r : X) → length hs * n ≤ p → length hs * n ≤ q → p ≤ length xs → q ≤ length ys → insert ys q r ≡ insert xs p c
+      → insert (laid n hs ys) q r ≡ insert (laid n hs xs) p c
+  run_behind hs p q xs ys c r low also within inside is = sym (put_behind hs ys q r also inside) ∙ ap (laid n hs) is ∙ put_behind hs xs p c low within
 
   -- behind the rings all is as it is kept
   pub reads_behind : (hs : List ℕ) (xs : List X) (p : ℕ) (d : X) → length hs * n ≤ p → length hs * n ≤ length xs → get_or (laid n hs xs) p d ≡ get_or xs p d

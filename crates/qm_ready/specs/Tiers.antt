@@ -36,6 +36,10 @@ pub record IsSlot (X : Type 0) (size : ℕ) (heads : List ℕ) (place slot : ℕ
   pub writes : (xs : List X) (x : X) → length heads * size ≤ length xs
       → laid size heads (slice_set xs slot x) ≡ slice_set (laid size heads xs) place x
 
+-- so many places, one behind the other, stand at slots one behind the other
+abbrev pub AreSlots : Type 0 → ℕ → List ℕ → ℕ → ℕ → ℕ → Type 0
+AreSlots X size heads place slot count = (k : ℕ) → k < count → IsSlot X size heads (place + k) (slot + k)
+
 -- a list that is kept in tiers, and for how many elements there is room
 pub record Tiered (X : Type 0) : Type 0 where
   pub list : List X

@@ -7,6 +7,7 @@ mod laws;
 mod moves;
 mod places;
 mod row;
+mod runs;
 mod sorting;
 mod steps;
 mod tiers;

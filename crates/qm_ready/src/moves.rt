@@ -1,9 +1,10 @@
 // How a key goes through the tiers of a list, for another one that goes on.
-ghost use Rattle.std.specs.Prelude.{◌≡◌, ◌+◌, ◌*◌, ◌/◌, ◌<◌, ◌≤◌, length, All, insert, slice_set, slice_index, slice_index_or, vec_len, vec_capacity};
+ghost use Rattle.std.specs.Prelude.{◌≡◌, ◌+◌, ◌-◌, ◌*◌, ◌/◌, ◌%◌, ◌<◌, ◌≤◌, false, length, All, insert, slice_set, slice_index, slice_index_or, vec_len, vec_capacity};
 ghost use Rattle.qm_match.specs.declared.order.Key.{Key};
-ghost use Rattle.qm_ready.specs.Tiers.{IsInFront, IsInRing, IsSlot, IsTiered, laid};
+ghost use Rattle.qm_ready.specs.Tiers.{AreSlots, IsInFront, IsInRing, IsSlot, IsTiered, laid};
 ghost use Rattle.qm_ready.specs.declared.moves.TheConstants.{TIER};
 
+use crate::runs::{pull_run, push_run};
 use qm_match::Key;
 use std::mem;
 
@@ -59,6 +60,50 @@ fn exchange(keys: &mut Vec<Key>, slot: usize, key: Key) -> Key
     mem::replace(&mut keys[slot], key)
 }
 
+// So many keys from a place on stand in slots one behind the other, and here is the first of these.
+#[derive(Drop)]
+struct Run {
+    slot: usize,
+    count: usize,
+}
+
+// The run that begins at a place, up to another one.
+fn run_from(heads: &[usize], from: usize, to: usize) -> Run
+    requires tiered { All (λ h. h < TIER) heads.now }
+    requires order { from < to }
+    requires within { to ≤ length heads.now * TIER }
+    ensures some { 0 < result.count }
+    ensures within { from + result.count ≤ to }
+    ensures slots { AreSlots Key TIER heads.now from result.slot result.count }
+{
+    let tier = from / TIER;
+    let slot = in_ring(heads[tier], from % TIER);
+    let count = (TIER - slot).min(TIER - from % TIER);
+    Run {
+        slot: tier * TIER + slot,
+        count: count.min(to - from),
+    }
+}
+
+// The run that ends in front of a place, down to another one.
+fn run_to(heads: &[usize], from: usize, to: usize) -> Run
+    requires tiered { All (λ h. h < TIER) heads.now }
+    requires order { to < from }
+    requires within { from ≤ length heads.now * TIER }
+    ensures some { 0 < result.count }
+    ensures within { to + result.count ≤ from }
+    ensures slots { AreSlots Key TIER heads.now (from - result.count) result.slot result.count }
+{
+    let last = from - 1;
+    let tier = last / TIER;
+    let slot = in_ring(heads[tier], last % TIER);
+    let count = slot.min(last % TIER).min(last - to) + 1;
+    Run {
+        slot: tier * TIER + (slot + 1 - count),
+        count,
+    }
+}
+
 // A key comes into a place, those from there up to another place move on by one, and the last one goes.
 fn push_on(keys: &mut Vec<Key>, heads: &[usize], from: usize, to: usize, key: Key) -> Key
     requires tiered { IsTiered TIER heads.now keys.old.items }
@@ -71,9 +116,9 @@ fn push_on(keys: &mut Vec<Key>, heads: &[usize], from: usize, to: usize, key: Ke
     let mut carry = key;
     let mut at = from;
     while at < to {
-        let slot = slot_of(keys, heads, at);
-        carry = exchange(keys, slot, carry);
-        at += 1;
+        let run = run_from(heads, at, to);
+        carry = push_run(keys, run.slot, run.count, carry);
+        at += run.count;
     }
     carry
 }
@@ -90,9 +135,9 @@ fn pull_back(keys: &mut Vec<Key>, heads: &[usize], from: usize, to: usize, key: 
     let mut at = from;
     let mut carry = key;
     while to < at {
-        at -= 1;
-        let slot = slot_of(keys, heads, at);
-        carry = exchange(keys, slot, carry);
+        let run = run_to(heads, at, to);
+        carry = pull_run(keys, run.slot, run.count, carry);
+        at -= run.count;
     }
     carry
 }
@@ -139,11 +184,12 @@ fn turn_back(keys: &mut Vec<Key>, heads: &mut Vec<usize>, tier: usize, key: Key)
     exchange(keys, tier * TIER + head, key)
 }
 
-// A key comes in front of a tier, and the last one of all full tiers goes.
-fn ripple_on(keys: &mut Vec<Key>, heads: &mut Vec<usize>, from: usize, key: Key) -> Key
+// A key comes in front of a tier, and the last one of those up to another tier goes.
+fn ripple_on(keys: &mut Vec<Key>, heads: &mut Vec<usize>, from: usize, to: usize, key: Key) -> Key
     requires tiered { IsTiered TIER heads.old.items keys.old.items }
-    requires within { from ≤ length heads.old.items }
-    ensures moved { insert (laid TIER heads.new.items keys.new.items) (length heads.new.items * TIER) result
+    requires order { from ≤ to }
+    requires within { to ≤ length heads.old.items }
+    ensures moved { insert (laid TIER heads.new.items keys.new.items) (to * TIER) result
         ≡ insert (laid TIER heads.old.items keys.old.items) (from * TIER) key }
     ensures tiered { IsTiered TIER heads.new.items keys.new.items }
     ensures tiers { length heads.new.items ≡ length heads.old.items }
@@ -153,19 +199,20 @@ fn ripple_on(keys: &mut Vec<Key>, heads: &mut Vec<usize>, from: usize, key: Key)
 {
     let mut carry = key;
     let mut tier = from;
-    while tier < heads.len() {
+    while tier < to {
         carry = turn_on(keys, heads, tier, carry);
         tier += 1;
     }
     carry
 }
 
-// A key comes behind all full tiers, and the first one of those from a tier on goes.
-fn ripple_back(keys: &mut Vec<Key>, heads: &mut Vec<usize>, to: usize, key: Key) -> Key
+// A key comes in front of a tier, and the first one of those before it down to another tier goes.
+fn ripple_back(keys: &mut Vec<Key>, heads: &mut Vec<usize>, from: usize, to: usize, key: Key) -> Key
     requires tiered { IsTiered TIER heads.old.items keys.old.items }
-    requires within { to ≤ length heads.old.items }
+    requires order { to ≤ from }
+    requires within { from ≤ length heads.old.items }
     ensures moved { insert (laid TIER heads.new.items keys.new.items) (to * TIER) result
-        ≡ insert (laid TIER heads.old.items keys.old.items) (length heads.old.items * TIER) key }
+        ≡ insert (laid TIER heads.old.items keys.old.items) (from * TIER) key }
     ensures tiered { IsTiered TIER heads.new.items keys.new.items }
     ensures tiers { length heads.new.items ≡ length heads.old.items }
     ensures len { length keys.new.items ≡ length keys.old.items }
@@ -173,7 +220,7 @@ fn ripple_back(keys: &mut Vec<Key>, heads: &mut Vec<usize>, to: usize, key: Key)
     ensures heads_capacity { vec_capacity heads.new ≡ vec_capacity heads.old }
 {
     let mut carry = key;
-    let mut tier = heads.len();
+    let mut tier = from;
     while to < tier {
         tier -= 1;
         carry = turn_back(keys, heads, tier, carry);
@@ -181,8 +228,10 @@ fn ripple_back(keys: &mut Vec<Key>, heads: &mut Vec<usize>, to: usize, key: Key)
     carry
 }
 
-// Whether a place is nearer to the front of its tier than to its end.
-fn is_near_front(place: usize) -> bool {
+// Whether a place is nearer to the front of its tier than to its end. The front of a tier is.
+fn is_near_front(place: usize) -> bool
+    ensures { result ≡ false → 0 < place % TIER }
+{
     place % TIER < TIER / 2
 }
 
@@ -226,11 +275,31 @@ fn leave(keys: &mut Vec<Key>, heads: &mut Vec<usize>, place: usize, key: Key) ->
     pull_back(keys, heads, (tier + 1) * TIER, place, key)
 }
 
-/// A key comes into its place in a full tier, and the last one of all full tiers goes.
-pub(crate) fn make_way(keys: &mut Vec<Key>, heads: &mut Vec<usize>, place: usize, key: Key) -> Key
+// A key comes in front of a tier, and the one in front of a place in the tier goes. The keys on the shorter side of the place move.
+fn arrive(keys: &mut Vec<Key>, heads: &mut Vec<usize>, place: usize, key: Key) -> Key
     requires tiered { IsTiered TIER heads.old.items keys.old.items }
-    requires within { place < length heads.old.items * TIER }
-    ensures moved { insert (laid TIER heads.new.items keys.new.items) (length heads.new.items * TIER) result
+    requires within { place ≤ length heads.old.items * TIER }
+    ensures moved { insert (laid TIER heads.new.items keys.new.items) place result
+        ≡ insert (laid TIER heads.old.items keys.old.items) (place / TIER * TIER) key }
+    ensures tiered { IsTiered TIER heads.new.items keys.new.items }
+    ensures tiers { length heads.new.items ≡ length heads.old.items }
+    ensures len { length keys.new.items ≡ length keys.old.items }
+    ensures capacity { vec_capacity keys.new ≡ vec_capacity keys.old }
+    ensures heads_capacity { vec_capacity heads.new ≡ vec_capacity heads.old }
+{
+    let tier = place / TIER;
+    if is_near_front(place) {
+        return push_on(keys, heads, tier * TIER, place, key);
+    }
+    let last = turn_on(keys, heads, tier, key);
+    pull_back(keys, heads, (tier + 1) * TIER, place, last)
+}
+
+// A key comes in front of a place in a tier, and the first one of the tier goes. The keys on the shorter side of the place move.
+fn depart(keys: &mut Vec<Key>, heads: &mut Vec<usize>, place: usize, key: Key) -> Key
+    requires tiered { IsTiered TIER heads.old.items keys.old.items }
+    requires within { place ≤ length heads.old.items * TIER }
+    ensures moved { insert (laid TIER heads.new.items keys.new.items) (place / TIER * TIER) result
         ≡ insert (laid TIER heads.old.items keys.old.items) place key }
     ensures tiered { IsTiered TIER heads.new.items keys.new.items }
     ensures tiers { length heads.new.items ≡ length heads.old.items }
@@ -238,22 +307,66 @@ pub(crate) fn make_way(keys: &mut Vec<Key>, heads: &mut Vec<usize>, place: usize
     ensures capacity { vec_capacity keys.new ≡ vec_capacity keys.old }
     ensures heads_capacity { vec_capacity heads.new ≡ vec_capacity heads.old }
 {
-    let carry = enter(keys, heads, place, key);
-    ripple_on(keys, heads, place / TIER + 1, carry)
+    let tier = place / TIER;
+    if is_near_front(place) {
+        return pull_back(keys, heads, place, tier * TIER, key);
+    }
+    let last = push_on(keys, heads, place, (tier + 1) * TIER, key);
+    turn_back(keys, heads, tier, last)
 }
 
-/// A key comes behind all full tiers, and the one of a place in them goes.
-pub(crate) fn close_up(keys: &mut Vec<Key>, heads: &mut Vec<usize>, place: usize, key: Key) -> Key
+/// A key comes into its place in the full tiers, those from there up to another place move on by one, and the last one of these
+/// goes. Of the tiers between both only the heads move.
+pub(crate) fn pass_on(
+    keys: &mut Vec<Key>,
+    heads: &mut Vec<usize>,
+    from: usize,
+    to: usize,
+    key: Key,
+) -> Key
     requires tiered { IsTiered TIER heads.old.items keys.old.items }
-    requires within { place < length heads.old.items * TIER }
-    ensures moved { insert (laid TIER heads.new.items keys.new.items) place result
-        ≡ insert (laid TIER heads.old.items keys.old.items) (length heads.old.items * TIER) key }
+    requires order { from ≤ to }
+    requires within { to ≤ length heads.old.items * TIER }
+    ensures moved { insert (laid TIER heads.new.items keys.new.items) to result
+        ≡ insert (laid TIER heads.old.items keys.old.items) from key }
     ensures tiered { IsTiered TIER heads.new.items keys.new.items }
     ensures tiers { length heads.new.items ≡ length heads.old.items }
     ensures len { length keys.new.items ≡ length keys.old.items }
     ensures capacity { vec_capacity keys.new ≡ vec_capacity keys.old }
     ensures heads_capacity { vec_capacity heads.new ≡ vec_capacity heads.old }
 {
-    let carry = ripple_back(keys, heads, place / TIER + 1, key);
-    leave(keys, heads, place, carry)
+    if from / TIER == to / TIER {
+        return push_on(keys, heads, from, to, key);
+    }
+    let last = enter(keys, heads, from, key);
+    let carry = ripple_on(keys, heads, from / TIER + 1, to / TIER, last);
+    arrive(keys, heads, to, carry)
+}
+
+/// A key comes in front of a place in the full tiers, those before it down to another place move back by one, and the first one of
+/// these goes. Of the tiers between both only the heads move.
+pub(crate) fn pass_back(
+    keys: &mut Vec<Key>,
+    heads: &mut Vec<usize>,
+    from: usize,
+    to: usize,
+    key: Key,
+) -> Key
+    requires tiered { IsTiered TIER heads.old.items keys.old.items }
+    requires order { to ≤ from }
+    requires within { from ≤ length heads.old.items * TIER }
+    ensures moved { insert (laid TIER heads.new.items keys.new.items) to result
+        ≡ insert (laid TIER heads.old.items keys.old.items) from key }
+    ensures tiered { IsTiered TIER heads.new.items keys.new.items }
+    ensures tiers { length heads.new.items ≡ length heads.old.items }
+    ensures len { length keys.new.items ≡ length keys.old.items }
+    ensures capacity { vec_capacity keys.new ≡ vec_capacity keys.old }
+    ensures heads_capacity { vec_capacity heads.new ≡ vec_capacity heads.old }
+{
+    if from / TIER == to / TIER {
+        return pull_back(keys, heads, from, to, key);
+    }
+    let first = depart(keys, heads, from, key);
+    let carry = ripple_back(keys, heads, from / TIER, to / TIER + 1, first);
+    leave(keys, heads, to, carry)
 }

@@ -1,5 +1,5 @@
 // Where keys stand, or belong.
-ghost use Rattle.std.specs.Prelude.{◌≡◌, ◌<◌, false, length, slice_get, slice_index_or};
+ghost use Rattle.std.specs.Prelude.{◌≡◌, ◌<◌, false, length, remove, slice_get, slice_index_or};
 ghost use Rattle.std.specs.Option.{option_map_or};
 ghost use Rattle.qm_match.specs.declared.order.Key.{Key};
 ghost use Rattle.qm_match.specs.Keys.{comes_before};
@@ -36,6 +36,17 @@ pub(crate) fn place_of(keys: &Tiers, schedule: Schedule, key: &Key) -> usize
         }
     }
     low
+}
+
+/// How many of the keys but the one at a place come before this one, which has its number. It asks a logarithm of the keys.
+pub(crate) fn place_beside(keys: &Tiers, schedule: Schedule, place: usize, key: &Key) -> usize
+    requires row { IsRow schedule keys.now.list }
+    requires within { place < length keys.now.list }
+    ensures within { result < length keys.now.list }
+    ensures stands { IsPlaceOf schedule key.now (remove keys.now.list place) result }
+{
+    let all = place_of(keys, schedule, key);
+    if place < all { all - 1 } else { all }
 }
 
 // Whether both are the same key.

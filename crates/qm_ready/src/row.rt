@@ -5,7 +5,7 @@ ghost use Rattle.qm_match.specs.Keys.{comes_before};
 ghost use Rattle.qm_ready.specs.Rows.{IsRow, first_key, first_number, has_key, key_numbered, with_key, without};
 
 use crate::gathering::Gathering;
-use crate::places::{place_of, stands_at};
+use crate::places::{place_beside, place_of, stands_at};
 use crate::steps::Steps;
 use crate::tiers::Tiers;
 use qm_match::{Key, Schedule};
@@ -16,8 +16,8 @@ use std::sync::ledger::Ledger;
 /// The keys of the jobs that a queue can take. Contracts see a `Row`: how the queue chooses, the keys in the order of starts,
 /// and how many more have room.
 ///
-/// Only `reserve` takes memory: 12 bytes a key. An insertion and a removal ask a logarithm of the keys, and make steps in
-/// proportion to a square root of them (`Tiers`), wherever the key stands.
+/// Only `reserve` takes memory: 12 bytes a key. An insertion, a removal and a replacement ask a logarithm of the keys, and make
+/// steps in proportion to a square root of them (`Tiers`), wherever the key stands.
 #[derive(Drop)]
 pub struct ReadyRow {
     pub(crate) schedule: Schedule,
@@ -115,6 +115,28 @@ impl ReadyRow {
         }
         self.keys.remove(place);
         self.spare += 1;
+        true
+    }
+
+    /// Puts a key in the place of another one of its number, and says whether just that one was there. Else nothing changes. Only
+    /// keys that stand between the places of both move.
+    pub fn replace(&mut self, old: &Key, key: Key) -> bool
+        requires number { key.number ≡ old.now.number }
+        ensures found { result ≡ has_key old.now self.old.keys }
+        ensures replaced { self.new ≡ (if result then record self.old {
+          keys = with_key self.old.schedule key (without key.number self.old.keys);
+        } else self.old) }
+        ensures each { (number : ℕ) → key_numbered number self.new.keys
+            ≡ (if result && key.number == number then Some key else key_numbered number self.old.keys) }
+        ensures room { length self.new.keys + self.new.spare ≡ length self.old.keys + self.old.spare }
+        ensures in_order { IsRow self.new.schedule self.new.keys }
+    {
+        let from = place_of(&self.keys, self.schedule, old);
+        if !stands_at(&self.keys, from, old) {
+            return false;
+        }
+        let to = place_beside(&self.keys, self.schedule, from, &key);
+        self.keys.shift(from, to, key);
         true
     }
 

@@ -8,7 +8,8 @@ ghost use Rattle.qm_ready.specs.Rows.{HasNumbersOnce, IsRow, key_numbered};
 ghost use Rattle.qm_ready.specs.Tiers.{IsTiered, laid, turned};
 ghost use Rattle.qm_ready.specs.declared.moves.TheConstants.{TIER};
 
-use crate::moves::{TIER, close_up, make_way, slot_of};
+use crate::moves::{TIER, pass_back, pass_on, slot_of};
+use crate::runs::{pull_run, push_run};
 use crate::sorting::sort;
 use qm_match::{Key, Schedule};
 use std::alloc::{AllocError, Global};
@@ -16,7 +17,8 @@ use std::marker::Model;
 
 /// A list of keys in which one comes and goes anywhere with few moves: a tiered vector. The keys stand in tiers of 512, each a
 /// ring with a head of its own, and a last one that isn't full. Where a key comes, those behind it in its tier move by one, and
-/// of each tier behind only the head does; so do they where one goes. With 65,536 keys that is at most 512 and 128 steps.
+/// of each tier behind only the head does; so do they where one goes. With 65,536 keys that is at most 512 and 128 steps. Where one
+/// goes and another one comes elsewhere, only tiers from the one place to the other are touched.
 ///
 /// Contracts see a `Tiered`: the list, and for how many keys there is room. Only `reserve` takes memory.
 #[derive(Drop)]
@@ -72,7 +74,7 @@ fn insert(keys: &mut Vec<Key>, heads: &mut Vec<usize>, place: usize, key: Key)
         put(keys, place, key);
         return;
     }
-    let last = make_way(keys, heads, place, key);
+    let last = pass_on(keys, heads, place, ends, key);
     put(keys, ends, last);
 }
 
@@ -141,7 +143,83 @@ fn remove(keys: &mut Vec<Key>, heads: &mut Vec<usize>, place: usize)
         return;
     }
     let first = keys.remove(ends);
-    let _ = close_up(keys, heads, place, first);
+    let _ = pass_back(keys, heads, ends, place, first);
+}
+
+// A key comes into its place, those from there up to another place move on by one, and the last one of these goes.
+fn push_through(
+    keys: &mut Vec<Key>,
+    heads: &mut Vec<usize>,
+    from: usize,
+    to: usize,
+    key: Key,
+) -> Key
+    requires tiered { IsTiered TIER heads.old.items keys.old.items }
+    requires order { from ≤ to }
+    requires within { to ≤ length keys.old.items }
+    ensures moved { insert (laid TIER heads.new.items keys.new.items) to result
+        ≡ insert (laid TIER heads.old.items keys.old.items) from key }
+    ensures tiered { IsTiered TIER heads.new.items keys.new.items }
+    ensures len { length keys.new.items ≡ length keys.old.items }
+    ensures capacity { vec_capacity keys.new ≡ vec_capacity keys.old }
+    ensures heads_capacity { vec_capacity heads.new ≡ vec_capacity heads.old }
+{
+    let ends = heads.len() * TIER;
+    if to <= ends {
+        return pass_on(keys, heads, from, to, key);
+    }
+    if ends <= from {
+        return push_run(keys, from, to - from, key);
+    }
+    let carry = pass_on(keys, heads, from, ends, key);
+    push_run(keys, ends, to - ends, carry)
+}
+
+// A key comes in front of a place, those before it down to another place move back by one, and the first one of these goes.
+fn pull_through(
+    keys: &mut Vec<Key>,
+    heads: &mut Vec<usize>,
+    from: usize,
+    to: usize,
+    key: Key,
+) -> Key
+    requires tiered { IsTiered TIER heads.old.items keys.old.items }
+    requires order { to ≤ from }
+    requires within { from ≤ length keys.old.items }
+    ensures moved { insert (laid TIER heads.new.items keys.new.items) to result
+        ≡ insert (laid TIER heads.old.items keys.old.items) from key }
+    ensures tiered { IsTiered TIER heads.new.items keys.new.items }
+    ensures len { length keys.new.items ≡ length keys.old.items }
+    ensures capacity { vec_capacity keys.new ≡ vec_capacity keys.old }
+    ensures heads_capacity { vec_capacity heads.new ≡ vec_capacity heads.old }
+{
+    let ends = heads.len() * TIER;
+    if from <= ends {
+        return pass_back(keys, heads, from, to, key);
+    }
+    if ends <= to {
+        return pull_run(keys, to, from - to, key);
+    }
+    let carry = pull_run(keys, ends, from - ends, key);
+    pass_back(keys, heads, ends, to, carry)
+}
+
+// The key at a place goes, and another one comes in, at the place that it then has.
+fn shift(keys: &mut Vec<Key>, heads: &mut Vec<usize>, from: usize, to: usize, key: Key)
+    requires tiered { IsTiered TIER heads.old.items keys.old.items }
+    requires from { from < length keys.old.items }
+    requires to { to < length keys.old.items }
+    ensures list { laid TIER heads.new.items keys.new.items ≡ insert (remove (laid TIER heads.old.items keys.old.items) from) to key }
+    ensures tiered { IsTiered TIER heads.new.items keys.new.items }
+    ensures len { length keys.new.items ≡ length keys.old.items }
+    ensures capacity { vec_capacity keys.new ≡ vec_capacity keys.old }
+    ensures heads_capacity { vec_capacity heads.new ≡ vec_capacity heads.old }
+{
+    if to <= from {
+        let _ = push_through(keys, heads, to, from + 1, key);
+    } else {
+        let _ = pull_through(keys, heads, to + 1, from, key);
+    }
 }
 
 // Where the key of a place is kept.
@@ -240,6 +318,18 @@ impl Tiers {
     {
         open(&mut self.keys, &mut self.heads);
         remove(&mut self.keys, &mut self.heads, place);
+    }
+
+    /// Takes out the key at a place, and puts another one in at the place that it then has. Only tiers from the one place to the
+    /// other are touched.
+    pub(crate) fn shift(&mut self, from: usize, to: usize, key: Key)
+        requires from { from < length self.old.list }
+        requires to { to < length self.old.list }
+        ensures list { self.new.list ≡ insert (remove self.old.list from) to key }
+        ensures len { length self.new.list ≡ length self.old.list }
+        ensures capacity { self.new.capacity ≡ self.old.capacity }
+    {
+        shift(&mut self.keys, &mut self.heads, from, to, key);
     }
 
     /// Lets all keys go, and keeps their room.

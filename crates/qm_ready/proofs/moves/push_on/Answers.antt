@@ -1,25 +1,23 @@
-use Rattle.std.proofs.Common.{◌∙◌, ℕ, ◌+◌, ◌*◌, ◌≤◌, ◌<◌, List, length, insert, set, sym, ap, arith}
-use Rattle.std.proofs.lemmas.List.{length-set}
+use Rattle.std.proofs.Common.{◌∙◌, ℕ, ◌+◌, ◌*◌, ◌≤◌, List, length, arith}
 use Rattle.qm_match.specs.declared.order.Key.{Key}
-use Rattle.qm_ready.specs.Tiers.{laid}
 use Rattle.qm_ready.specs.declared.moves.TheConstants.{TIER}
-use Rattle.qm_ready.proofs.Tiered.{slot_on}
+use Rattle.qm_ready.proofs.Tiered.{run_on, slots_kept}
 use Rattle.qm_ready.proofs.moves.push_on.Goals as goal
 
 pub loop-at-preserved : goal.loop-at-preserved
 loop-at-preserved c =
     let hs : List ℕ = c.args.heads.now in
     let xs : List Key = c.loop-at.keys.items in
-    let out : Key = c.exchange-carry.result in
-    let carry : Key = c.loop-at.carry in
-    let s : ℕ = c.slot_of-slot.result in
+    let ys : List Key = c.push_run-carry.new.keys.items in
+    let run = c.run_from-run.result in
     let full : length hs * 512 ≤ length xs = omega (arith, c.requires.tiered.full, c.loop-at.invariant.len) in
-    let within : c.loop-at.at < length xs = omega (arith, full, c.requires.within, c.loop-at.invariant.within) in
+    let inside : c.loop-at.at + run.count ≤ length xs = omega (arith, full, c.requires.within, c.run_from-run.ensures.within) in
     record {
-      moved = ap (λ (l : List Key). insert (laid TIER hs l) (c.loop-at.at + 1) out) c.exchange-carry.ensures.items
-          ∙ ap (λ (x : Key). insert (laid TIER hs (set xs s carry)) (c.loop-at.at + 1) x) (c.exchange-carry.ensures.out out)
-          ∙ sym (slot_on TIER hs c.loop-at.at s xs carry out c.slot_of-slot.ensures full within) ∙ c.loop-at.invariant.moved;
-      within = omega arith;
-      len = ap length c.exchange-carry.ensures.items ∙ length-set xs s carry ∙ c.loop-at.invariant.len;
-      capacity = c.exchange-carry.ensures.capacity ∙ c.loop-at.invariant.capacity;
+      moved =
+          run_on TIER hs run.count c.loop-at.at run.slot xs ys c.loop-at.carry c.push_run-carry.result c.run_from-run.ensures.slots full
+          (slots_kept TIER hs c.loop-at.at run.slot run.count xs c.run_from-run.ensures.some c.run_from-run.ensures.slots full) inside c.push_run-carry.ensures.len c.push_run-carry.ensures.moved
+          ∙ c.loop-at.invariant.moved;
+      within = c.run_from-run.ensures.within;
+      len = c.push_run-carry.ensures.len ∙ c.loop-at.invariant.len;
+      capacity = c.push_run-carry.ensures.capacity ∙ c.loop-at.invariant.capacity;
     }

@@ -5,9 +5,9 @@ use Rattle.qm_ready.proofs.moves.ripple_back.Given as goal
 
 abbrev pub invariant-loop-tier : goal.invariant-loop-tier
 invariant-loop-tier l = record {
-  moved : insert (laid TIER l.heads.items l.keys.items) (l.tier * TIER) l.carry ≡ insert (laid TIER l.fn.heads.items l.fn.keys.items) (length l.fn.heads.items * TIER) l.fn.key;
+  moved : insert (laid TIER l.heads.items l.keys.items) (l.tier * TIER) l.carry ≡ insert (laid TIER l.fn.heads.items l.fn.keys.items) (l.fn.from * TIER) l.fn.key;
   tiered : IsTiered TIER l.heads.items l.keys.items;
-  within : (l.to ≤ l.tier) × (l.tier ≤ length l.heads.items);
+  within : (l.to ≤ l.tier) × (l.tier ≤ l.fn.from);
   tiers : length l.heads.items ≡ length l.fn.heads.items;
   len : length l.keys.items ≡ length l.fn.keys.items;
   capacity : vec_capacity l.keys ≡ vec_capacity l.fn.keys;

@@ -7,7 +7,7 @@ abbrev pub invariant-loop-tier : goal.invariant-loop-tier
 invariant-loop-tier l = record {
   moved : insert (laid TIER l.heads.items l.keys.items) (l.tier * TIER) l.carry ≡ insert (laid TIER l.fn.heads.items l.fn.keys.items) (l.from * TIER) l.fn.key;
   tiered : IsTiered TIER l.heads.items l.keys.items;
-  within : l.tier ≤ length l.heads.items;
+  within : (l.tier ≤ l.to) × (l.fn.from ≤ l.tier);
   tiers : length l.heads.items ≡ length l.fn.heads.items;
   len : length l.keys.items ≡ length l.fn.keys.items;
   capacity : vec_capacity l.keys ≡ vec_capacity l.fn.keys;
@@ -15,4 +15,4 @@ invariant-loop-tier l = record {
 }
 
 abbrev pub decreases-loop-tier : goal.decreases-loop-tier
-decreases-loop-tier l = length l.heads.items - l.tier
+decreases-loop-tier l = l.to - l.tier

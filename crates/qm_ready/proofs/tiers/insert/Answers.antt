@@ -1,4 +1,4 @@
-use Rattle.std.proofs.Common.{◌≡◌, ◌∙◌, ℕ, ◌*◌, List, length, insert, ap, arith}
+use Rattle.std.proofs.Common.{◌≡◌, ◌∙◌, ℕ, ◌*◌, List, length, ap, arith}
 use Rattle.qm_match.specs.declared.order.Key.{Key}
 use Rattle.qm_ready.specs.Tiers.{laid}
 use Rattle.qm_ready.specs.declared.moves.TheConstants.{TIER}
@@ -12,9 +12,10 @@ returns-then-ends-place-clause-list c =
 
 pub returns-clause-list : goal.returns-clause-list
 returns-clause-list c =
-    let hs : List ℕ = c.make_way-last.new.heads.items in
-    let xs : List Key = c.make_way-last.new.keys.items in
-    let ends : c.len-ends.result * 512 ≡ length hs * 512 = omega (arith, c.args.heads.now.ok) in
-    ap (laid TIER hs) (c.put-2.ensures.items ∙ ap (λ (i : ℕ). insert xs i c.make_way-last.result) ends)
-    ∙ put_behind TIER hs xs (length hs * 512) c.make_way-last.result (omega arith) (c.make_way-last.ensures.tiered.full)
-    ∙ c.make_way-last.ensures.moved
+    let hs : List ℕ = c.pass_on-last.new.heads.items in
+    let xs : List Key = c.pass_on-last.new.keys.items in
+    let is : c.len-ends.result * 512 ≡ length c.args.heads.now.items * 512 = omega (arith, c.args.heads.now.ok) in
+    let ends : c.len-ends.result * 512 ≡ length hs * 512 = omega (arith, is, c.pass_on-last.ensures.tiers) in
+    ap (laid TIER hs) c.put-2.ensures.items
+    ∙ put_behind TIER hs xs (c.len-ends.result * 512) c.pass_on-last.result (omega (arith, ends)) (omega (arith, ends, c.pass_on-last.ensures.tiered.full))
+    ∙ c.pass_on-last.ensures.moved

@@ -16,11 +16,11 @@ returns-clause-list c =
     let xs : List Key = c.args.keys.now.items in
     let ends : ℕ = c.len-ends.result * 512 in
     let is : ends ≡ length hs * 512 = omega (arith, c.args.heads.now.ok) in
-    let new : List Key = laid TIER c.close_up.new.heads.items c.close_up.new.keys.items in
-    let whole : insert new c.args.place c.close_up.result ≡ laid TIER hs xs =
-    c.close_up.ensures.moved ∙ ap (λ (i : ℕ). insert (laid TIER hs c.remove-first.new.self.items) i c.remove-first.result) (sym is)
+    let new : List Key = laid TIER c.pass_back.new.heads.items c.pass_back.new.keys.items in
+    let whole : insert new c.args.place c.pass_back.result ≡ laid TIER hs xs =
+    c.pass_back.ensures.moved
     ∙ ap (λ (l : List Key). insert (laid TIER hs l) ends c.remove-first.result) c.remove-first.ensures.items
     ∙ ap (λ (x : Key). insert (laid TIER hs (remove xs ends)) ends x) c.remove-first.ensures.value
     ∙ hole_behind TIER hs xs ends c.remove-first.result (omega arith) (omega (arith, c.requires.some)) in
-    sym (emptied new c.args.place c.close_up.result (omega (arith, length-laid TIER c.close_up.new.heads.items c.close_up.new.keys.items, c.close_up.ensures.len, c.remove-first.ensures.len, c.remove-first.new.self.ok, c.args.keys.now.ok, c.requires.some)))
+    sym (emptied new c.args.place c.pass_back.result (omega (arith, length-laid TIER c.pass_back.new.heads.items c.pass_back.new.keys.items, c.pass_back.ensures.len, c.remove-first.ensures.len, c.remove-first.new.self.ok, c.args.keys.now.ok, c.requires.some)))
     ∙ ap (λ (l : List Key). remove l c.args.place) whole
