@@ -31,3 +31,4 @@ pub mod FirstReady
 pub mod ByRun
 pub mod OneQueue
 pub mod KeptTimers
+pub mod Renewed

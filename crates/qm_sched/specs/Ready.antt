@@ -1,5 +1,5 @@
 -- The jobs that are ready for a queue, and the rows of their keys.
-use Rattle.std.specs.Prelude.{◌≡◌, ◌<◌, ◌≤◌, ◌+◌, ◌==◌, ℕ, if◌then◌else◌, List, length, Option, None, Some, slice_index_or}
+use Rattle.std.specs.Prelude.{◌≡◌, ◌<◌, ◌≤◌, ◌+◌, ◌==◌, ℕ, false, if◌then◌else◌, List, length, Option, None, Some, IfSome, slice_index_or}
 use Rattle.std.specs.Option.{option_and_then}
 use Rattle.qm_kinds.specs.declared.entry.Entry.{Entry}
 use Rattle.qm_kinds.specs.declared.queue.Queue.{Queue}
@@ -8,6 +8,7 @@ use Rattle.qm_match.specs.declared.order.Key.{Key}
 use Rattle.qm_model.specs.Find.{entry_numbered}
 use Rattle.qm_model.specs.Fitting.{fits}
 use Rattle.qm_model.specs.Folding.{no_system}
+use Rattle.qm_model.specs.JobStates.{is_pending}
 use Rattle.qm_ready.specs.Rows.{Row, key_numbered}
 use Rattle.qm_sched.specs.Rooms.{rooms_of, HaveRoom, AreBounds}
 use Rattle.qm_sched.specs.Tables.{Tables, with_tables}
@@ -41,6 +42,21 @@ without_number n wanted number = if n == number then None else wanted number
 -- the same, but that no row has the job of this number
 abbrev pub AreReadyBut : ℕ → Tables → List Row → Type 0
 AreReadyBut n t rows = AreRowsOf (λ q. without_number n (ready_key t q)) t.queues rows
+
+-- the key of a job that waits for nothing but its start
+abbrev pub pending_key : Entry → Option Key
+pending_key e = if is_pending e.state then Some (key_of e) else None
+
+-- the row has what is wanted, but that under one number it has an old key, or none
+pub record IsStale (n : ℕ) (old : Option Key) (q : Queue) (wanted : ℕ → Option Key) (row : Row) : Type 0 where
+  pub schedule : row.schedule ≡ schedule_of q
+  pub others : (number : ℕ) → (n == number) ≡ false → key_numbered number row.keys ≡ wanted number
+  pub stale : IfSome (key_numbered n row.keys) (λ key. old ≡ Some key)
+
+-- the rows have the jobs that are ready, but that one of them they have by an old key, or not
+abbrev pub AreStale : ℕ → Option Key → Tables → List Row → Type 0
+AreStale n old t rows = (place : ℕ) (q : Queue) (row : Row) → place < length t.queues
+    → IsStale n old (slice_index_or t.queues place q) (ready_key t (slice_index_or t.queues place q)) (slice_index_or rows place row)
 
 -- a change of a queue that leaves its name, its kind and its targets
 pub record LeavesKind (change : Queue → Queue) : Type 0 where

@@ -24,6 +24,7 @@ ghost use Rattle.qm_sched.specs.Mirror.{run_of_entry};
 ghost use Rattle.qm_sched.specs.Rooms.{AreBounds, CanPut, HavePlacesFor, is_home};
 
 use crate::parts::Parts;
+use crate::renewing::{key_before, renew_number};
 use crate::rooms::{forget_each, raise_each};
 use crate::rows::{admit_number, close_up, forget_number, make_way, refill_all, refill_for};
 use crate::tables::TableSet;
@@ -69,7 +70,8 @@ fn raise_moved(tables: &TableSet, bounds: &mut Vec<Option<usize>>, entry: &Entry
     }
 }
 
-// One entry comes, goes or changes: its key goes from the rows where it stood, and comes into those where it fits.
+// One entry comes, goes or changes: its key goes from the rows where it stood, and comes into those where it fits. Where it stays
+// it goes to its new place at once.
 impl Parts {
     /// Puts in an entry that has no run, and for which there is room, in the rows too. Its number is greater than all others. It moves no
     /// entry.
@@ -108,9 +110,9 @@ impl Parts {
     {
         let number = entry.number;
         raise_moved(&self.tables, &mut self.bounds, &entry);
-        forget_number(&self.tables, &mut self.rows, number);
+        let old = key_before(&self.tables, number);
         self.tables.replace_entry(entry);
-        admit_number(&self.tables, &mut self.rows, number);
+        renew_number(&self.tables, &mut self.rows, &old, number);
     }
 
     /// Makes a pending job run, in a queue and on a node, under the next run number, which it gives. There is room for one

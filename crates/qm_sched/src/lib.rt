@@ -14,6 +14,7 @@ mod names;
 mod nodes;
 mod parts;
 mod queues;
+mod renewing;
 mod rooms;
 mod rows;
 mod running;

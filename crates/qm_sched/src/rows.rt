@@ -148,8 +148,8 @@ fn forget(tables: &TableSet, rows: &mut Vec<ReadyRow>, entry: &Entry)
     }
 }
 
-// That no number stands twice in a row. It costs nothing.
-fn see_row(row: &ReadyRow)
+/// That no number stands twice in a row. It costs nothing.
+pub(crate) fn see_row(row: &ReadyRow)
     ensures { HasNumbersOnce row.now.keys }
 {
     let _ = row.len();
@@ -207,8 +207,8 @@ fn forget_pending(tables: &TableSet, rows: &mut Vec<ReadyRow>, entry: &Entry)
     }
 }
 
-// Whether a job waits for nothing but its start.
-fn is_pending(state: &EntryState) -> bool
+/// Whether a job waits for nothing but its start.
+pub(crate) fn is_pending(state: &EntryState) -> bool
     ensures { result ≡ is_pending state.now }
 {
     matches!(state, EntryState::Pending)
