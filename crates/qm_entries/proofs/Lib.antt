@@ -3,3 +3,4 @@ pub mod Boxes
 pub mod Numbers
 pub mod LastOne
 pub mod Behind
+pub mod Narrowed

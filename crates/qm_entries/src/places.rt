@@ -1,5 +1,5 @@
 // Entries in boxes: where they stand, and what is changed there.
-ghost use Rattle.std.specs.Prelude.{◌≡◌, ◌<◌, ℕ, vec_len, vec_capacity, slice_get, slice_set, slice_index_or};
+ghost use Rattle.std.specs.Prelude.{◌≡◌, ◌≤◌, ◌<◌, ℕ, length, vec_len, vec_capacity, slice_get, slice_set, slice_index_or};
 ghost use Rattle.std.specs.Ordering.{nat_cmp};
 ghost use Rattle.qm_model.specs.Consistent.{IsInOrder};
 ghost use Rattle.qm_keyed.specs.Places.{IsPlace};
@@ -13,12 +13,93 @@ use qm_kinds::{
     CharacteristicSet, Entry, EntryState, FileName, JobKind, JobRetain, Mark, system_user,
 };
 
-// Where the entry of a number stands, or where one would belong, by a logarithm of the entries.
+// The places where an entry may stand yet, from `low` up to `high`, and the numbers that stand in front of these and behind them.
+#[derive(Drop)]
+struct Span {
+    low: usize,
+    high: usize,
+    below: u32,
+    above: u32,
+}
+
+// How many places of a search are guessed by the numbers. The others halve what is left, so that a search asks no more than that
+// and a logarithm of the entries, however uneven the numbers are.
+const MOST_GUESSES: usize = 8;
+
+// All places.
+fn whole(boxes: &[Box<Entry>]) -> Span
+    ensures low { result.low ≡ 0 }
+    ensures high { result.high ≡ length boxes.now }
+{
+    let (below, above) = match (boxes.first(), boxes.last()) {
+        (Some(first), Some(last)) => (first.number, last.number),
+        _ => (0, 0),
+    };
+    Span {
+        low: 0,
+        high: boxes.len(),
+        below: below.saturating_sub(1),
+        above: above.saturating_add(1),
+    }
+}
+
+// Where a number would stand if the numbers between both sides were all as far from each other: they mostly are one apart.
+fn guess(span: &Span, number: u32) -> usize
+    requires { span.now.low < span.now.high }
+    ensures low { span.now.low ≤ result }
+    ensures high { result < span.now.high }
+{
+    let places = span.high - span.low;
+    let numbers = (span.above.saturating_sub(span.below) as usize).max(1);
+    let ahead = number.saturating_sub(span.below) as usize;
+    let place = ahead.saturating_mul(places.saturating_add(1)) / numbers;
+    span.low + place.saturating_sub(1).min(places - 1)
+}
+
+// The place that a search looks at next, where so many may be guessed yet.
+fn probe(span: &Span, number: u32, guesses: usize) -> usize
+    requires { span.now.low < span.now.high }
+    ensures low { span.now.low ≤ result }
+    ensures high { result < span.now.high }
+{
+    if guesses > 0 {
+        return guess(span, number);
+    }
+    span.low + (span.high - span.low) / 2
+}
+
+// The number of the entry at a place.
+fn number_at(boxes: &[Box<Entry>], place: usize) -> u32
+    requires { place < length boxes.now }
+    ensures { (d : AnyEntry) → result ≡ (slice_index_or (contents boxes.now) place d).number }
+{
+    boxes[place].number
+}
+
+// Where the entry of a number stands, or where one would belong. Each entry lies in a box of its own, so each look goes to a far place
+// of the memory: where numbers are evenly spread, as they mostly are, one to four looks are enough, of 65,536 entries too.
 fn searched(boxes: &[Box<Entry>], number: u32) -> Result<usize, usize>
     requires { IsInOrder nat_cmp (λ e. e.number) (contents boxes.now) }
     ensures { IsPlace nat_cmp (λ e. e.number) number (contents boxes.now) result }
 {
-    boxes.binary_search_by(|entry| entry.number.cmp(&number))
+    let mut span = whole(boxes);
+    let mut guesses = MOST_GUESSES;
+    while span.low < span.high {
+        let place = probe(&span, number, guesses);
+        let there = number_at(boxes, place);
+        if there == number {
+            return Ok(place);
+        }
+        if there < number {
+            span.low = place + 1;
+            span.below = there;
+        } else {
+            span.high = place;
+            span.above = there;
+        }
+        guesses = guesses.saturating_sub(1);
+    }
+    Err(span.low)
 }
 
 /// Where the entry of a number stands, or where one would belong. The last one is asked first, since an entry that has just come

@@ -1,16 +1,33 @@
-use Rattle.std.proofs.Common.{rules}
-use Rattle.std.specs.Ordering.{nat_cmp}
-use Rattle.std.specs.Cmp.{nat_cmp_total}
-use Rattle.qm_keyed.proofs.Mapped.{order_unmapped, place_mapped}
-use Rattle.qm_keyed.proofs.Searches.{place_from_clause}
-use Rattle.qm_entries.proofs.Boxes.{value_of}
-use Rattle.qm_entries.proofs.Numbers.{number_of}
+use Rattle.std.proofs.Common.{◌<◌, List, length, arith}
+use Rattle.qm_kinds.specs.declared.entry.Entry.{Entry}
+use Rattle.qm_entries.specs.Boxed.{contents}
+use Rattle.qm_entries.proofs.Narrowed.{lesser_to_it, greater_from_it, stands_there}
 use Rattle.qm_entries.proofs.places.searched.Goals as goal
+use Rattle.qm_entries.proofs.places.searched.Goals.{then-there-number-2, else-there-number-2}
 
--- the closure compares numbers
-pub returns : goal.returns
-returns c =
-    place_mapped nat_cmp value_of number_of c.args.boxes.now c.args.number c.binary_search_by.result
-    (place_from_clause nat_cmp_total (λ b. number_of (value_of b)) c.args.number c.args.boxes.now (order_unmapped nat_cmp value_of number_of c.args.boxes.now c.requires)
-    c.binary_search_by.result c.binary_search_by.ensures.bound c.binary_search_by.ensures.position
-    (λ a q f called. search rules))
+pub returns-then-there-number : goal.returns-then-there-number
+returns-then-there-number c =
+    let es : List Entry = contents c.args.boxes.now in
+    let within : c.probe-place.result < length es = omega (arith, c.probe-place.ensures.high, c.loop-span.invariant.within) in
+    stands_there es c.requires c.probe-place.result c.number_at-there.result c.number_at-there.ensures within c.args.number c.if-there-number.true
+
+pub loop-span-preserved : goal.loop-span-preserved
+loop-span-preserved c =
+    let es : List Entry = contents c.args.boxes.now in
+    let within : c.probe-place.result < length es = omega (arith, c.probe-place.ensures.high, c.loop-span.invariant.within) in
+    elim c.if-there-number-2.branch [
+      | then-there-number-2 w ↦
+          rw w.span-is (record {
+            order = omega (arith, c.probe-place.ensures.high);
+            within = c.loop-span.invariant.within;
+            before = lesser_to_it es c.requires c.probe-place.result c.number_at-there.result c.number_at-there.ensures within c.args.number w.if-there-number-2.true;
+            behind = c.loop-span.invariant.behind;
+          })
+      | else-there-number-2 w ↦
+          rw w.span-is (record {
+            order = c.probe-place.ensures.low;
+            within = omega (arith, within);
+            before = c.loop-span.invariant.before;
+            behind = greater_from_it es c.requires c.probe-place.result c.number_at-there.result c.number_at-there.ensures within c.args.number (omega (arith, c.if-there-number.false, w.if-there-number-2.false));
+          })
+    ]
