@@ -1,0 +1,5 @@
+pub mod Boxed
+pub mod Put
+pub mod Named
+pub mod Found
+pub mod Behind

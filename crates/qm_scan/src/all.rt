@@ -1,0 +1,201 @@
+// All rows of a listing.
+ghost use Rattle.std.specs.Prelude.{◌≡◌, ◌++◌, ◌∷◌, [], if◌then◌else◌, List, length, filter, flat_map, map, IfOk, OnOk};
+ghost use Rattle.qm_entries.specs.Boxed.{contents};
+ghost use Rattle.qm_kinds.specs.Wildcards.{matches};
+ghost use Rattle.qm_kinds.specs.declared.entry.Entry.{Entry as AnyEntry};
+ghost use Rattle.qm_kinds.specs.declared.query.Row.TheVariants as row;
+ghost use Rattle.qm_kinds.specs.declared.system.System.{System};
+ghost use Rattle.qm_model.specs.Consistent.{IsInOrder};
+ghost use Rattle.qm_model.specs.Find.{name_cmp};
+ghost use Rattle.qm_model.specs.Rows.{all_rows};
+ghost use Rattle.qm_sched.specs.Tables.{with_tables};
+ghost use Rattle.qm_scan.specs.Listed.{AreBelow, is_entry_listed, is_queue_listed, rows_below};
+
+use crate::below::groups_below;
+use crate::lent::Lent;
+use crate::listed::{is_entry_listed, is_queue_listed};
+use qm_kinds::{Characteristic, Entry, Form, Listing, Name, Pattern, Query, Queue, Row, Seq};
+use qm_sched::Parts;
+use std::alloc::{AllocError, Global};
+
+/// A copy of a queue.
+pub(crate) fn copy_of(alloc: Global, queue: &Queue) -> Result<Queue, AllocError>
+    ensures { IfOk result (λ copy. copy ≡ queue.now) }
+{
+    Ok(Queue {
+        name: queue.name,
+        kind: queue.kind,
+        state: queue.state,
+        node: queue.node,
+        device: queue.device,
+        limit: queue.limit,
+        characteristics: queue.characteristics,
+        mounted: queue.mounted,
+        lower: queue.lower,
+        upper: queue.upper,
+        by_size: queue.by_size,
+        retain: queue.retain,
+        targets: Seq::of(Vec::from_slice(alloc, queue.targets.as_slice())?),
+    })
+}
+
+// How many rows the listed queues have, with those below them.
+fn count_rows(query: &Query, queues: &[Queue], groups: &[Lent<'_>]) -> usize
+    requires { length groups.now ≡ length queues.now }
+{
+    let mut count = 0usize;
+    for place in 0..queues.len() {
+        if is_queue_listed(query, &queues[place]) {
+            count = count.saturating_add(1).saturating_add(groups[place].len());
+        }
+    }
+    count
+}
+
+// Puts the rows of a queue behind the others, if it is listed.
+fn push_queue(
+    alloc: Global,
+    query: &Query,
+    rows: &mut Vec<Row>,
+    queue: &Queue,
+    below: &Lent<'_>,
+) -> Result<(), AllocError>
+    ensures { OnOk result (rows.new.items
+        ≡ rows.old.items ++ (if is_queue_listed query.now queue.now then row.Queue queue.now ∷ map (λ e. row.Entry e) below.now else [])) }
+{
+    if !is_queue_listed(query, queue) {
+        return Ok(());
+    }
+    rows.push(Row::Queue(copy_of(alloc, queue)?))?;
+    below.push_rows(rows)
+}
+
+// The rows of the listed queues, below each the entries of its group.
+fn grouped_rows(
+    alloc: Global,
+    query: &Query,
+    queues: &[Queue],
+    groups: &[Lent<'_>],
+) -> Result<Vec<Row>, AllocError>
+    requires { length groups.now ≡ length queues.now }
+    ensures { (entries : List AnyEntry) → AreBelow query.now queues.now entries groups.now → IfOk result (λ rows. rows.items
+        ≡ flat_map (rows_below query.now entries) (filter (is_queue_listed query.now) queues.now)) }
+{
+    let mut rows = Vec::with_capacity(alloc, count_rows(query, queues, groups))?;
+    for place in 0..queues.len() {
+        push_queue(alloc, query, &mut rows, &queues[place], &groups[place])?;
+    }
+    Ok(rows)
+}
+
+// The rows of the listed queues, below each the entries that are listed there.
+fn queue_rows(
+    alloc: Global,
+    query: &Query,
+    queues: &[Queue],
+    entries: &[Box<Entry>],
+) -> Result<Vec<Row>, AllocError>
+    requires { IsInOrder name_cmp (λ q. q.name) queues.now }
+    ensures { IfOk result (λ rows. rows.items
+        ≡ flat_map (rows_below query.now (contents entries.now)) (filter (is_queue_listed query.now) queues.now)) }
+{
+    let groups = groups_below(alloc, queues, query, entries)?;
+    grouped_rows(alloc, query, queues, &groups)
+}
+
+// Puts an entry behind the others, if it is listed.
+fn push_listed<'a>(
+    query: &Query,
+    queue: &Option<Name>,
+    listed: &mut Lent<'a>,
+    entry: &'a Entry,
+) -> Result<(), AllocError>
+    ensures { OnOk result (listed.new ≡ listed.old ++ (if is_entry_listed query.now queue.now entry.now then entry.now ∷ [] else [])) }
+{
+    if !is_entry_listed(query, queue, entry) {
+        return Ok(());
+    }
+    listed.push(entry)
+}
+
+// The entries that are listed, of all queues or of one. It looks at each entry once.
+fn listed_entries<'a>(
+    alloc: Global,
+    query: &Query,
+    queue: &Option<Name>,
+    entries: &'a [Box<Entry>],
+) -> Result<Lent<'a>, AllocError>
+    ensures { IfOk result (λ listed. listed ≡ filter (is_entry_listed query.now queue.now) (contents entries.now)) }
+{
+    let mut listed = Lent::new(alloc);
+    for boxed in entries {
+        push_listed(query, queue, &mut listed, boxed.as_ref())?;
+    }
+    Ok(listed)
+}
+
+// The rows of the entries that are listed, of all queues or of one.
+fn entry_rows(
+    alloc: Global,
+    query: &Query,
+    queue: &Option<Name>,
+    entries: &[Box<Entry>],
+) -> Result<Vec<Row>, AllocError>
+    ensures { IfOk result (λ rows. rows.items ≡ map (λ e. row.Entry e) (filter (is_entry_listed query.now queue.now) (contents entries.now))) }
+{
+    let listed = listed_entries(alloc, query, queue, entries)?;
+    let mut rows = Vec::with_capacity(alloc, listed.len())?;
+    listed.push_rows(&mut rows)?;
+    Ok(rows)
+}
+
+// The rows of the forms whose names match.
+fn form_rows(alloc: Global, pattern: &Pattern, forms: &[Form]) -> Result<Vec<Row>, AllocError>
+    ensures { IfOk result (λ rows. rows.items ≡ map (λ f. row.Form f) (filter (λ f. matches pattern.now f.name) forms.now)) }
+{
+    let mut rows = Vec::with_capacity(alloc, forms.len())?;
+    for form in forms {
+        if pattern.matches(&form.name) {
+            rows.push(Row::Form(*form))?;
+        }
+    }
+    Ok(rows)
+}
+
+// The rows of the characteristics whose names match.
+fn characteristic_rows(
+    alloc: Global,
+    pattern: &Pattern,
+    characteristics: &[Characteristic],
+) -> Result<Vec<Row>, AllocError>
+    ensures { IfOk result (λ rows. rows.items
+        ≡ map (λ c. row.Characteristic c) (filter (λ c. matches pattern.now c.name) characteristics.now)) }
+{
+    let mut rows = Vec::with_capacity(alloc, characteristics.len())?;
+    for characteristic in characteristics {
+        if pattern.matches(&characteristic.name) {
+            rows.push(Row::Characteristic(*characteristic))?;
+        }
+    }
+    Ok(rows)
+}
+
+/// All rows of a listing but those of the queue manager: of queues each with the entries below it, and of entries, forms and
+/// characteristics those that are listed. Below a queue its entries stand by number.
+///
+/// It walks over the entries once, and takes memory for each row and for each entry that is listed: no more than 1 KiB a row, and
+/// what the names of a generic queue's targets take.
+pub fn all_rows(alloc: Global, parts: &Parts, query: &Query) -> Result<Vec<Row>, AllocError>
+    ensures { (s : System) → IfOk result (λ rows. rows.items ≡ all_rows (with_tables s parts.now) query.now query.now.listing) }
+{
+    match query.listing {
+        Listing::Queues => queue_rows(alloc, query, parts.queues(), parts.entries()),
+        Listing::Jobs => entry_rows(alloc, query, &query.queue, parts.entries()),
+        Listing::Entries => entry_rows(alloc, query, &None, parts.entries()),
+        Listing::Forms => form_rows(alloc, &query.pattern, parts.forms()),
+        Listing::Characteristics => {
+            characteristic_rows(alloc, &query.pattern, parts.characteristics())
+        }
+        Listing::Manager | Listing::Cancel => Ok(Vec::new(alloc)),
+    }
+}
