@@ -2,7 +2,7 @@
 use Rattle.std.proofs.Common.{◌≡◌, ◌∙◌, ℕ, ◌+◌, ◌==◌, ◌<◌, Bool, true, false, if◌then◌else◌, List, [], ◌∷◌, ◌++◌, length, get_or, set, take, refl, sym, ap, arith}
 use Rattle.std.specs.List.{filter, flat_map}
 use Rattle.std.proofs.lemmas.Grind.{flat_map-append}
-use Rattle.std.specs.Prelude.{Result, Ok, Err, OnOk}
+use Rattle.std.specs.Prelude.{Result, Ok, Err, OnErr, OnOk}
 use Rattle.std.proofs.lemmas.Bool.Decides.{nat_tests}
 use Rattle.std.proofs.lemmas.List.{get_or-set_same, get_or-set_other, append-nil}
 use Rattle.std.proofs.lemmas.List.Elements.{filter_more}
@@ -38,3 +38,8 @@ rows_more f p xs i x within is =
     last : (b : Bool) → flat_map f (if b then x ∷ [] else []) ≡ (if b then f x else [])
     last true = append-nil (f x)
     last false = refl
+
+-- what is so anyway
+pub anyway : {T E P : Type 0} (r : Result T E) → P → OnErr r P
+anyway (Ok x) is = tt
+anyway (Err e) is = is

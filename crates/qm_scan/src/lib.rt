@@ -4,9 +4,13 @@
 
 mod all;
 mod below;
+mod laws;
 mod lent;
 mod listed;
 mod next;
+mod scan;
 
 pub use all::all_rows;
+pub use laws::the_manager_shows_in_its_listing;
 pub use next::next_row;
+pub use scan::{Scan, ScanKind};

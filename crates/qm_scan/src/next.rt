@@ -1,5 +1,5 @@
 // The first row of a listing behind the one that was given last.
-ghost use Rattle.std.specs.Prelude.{◌≡◌, ◌&&◌, ◌≤◌, nat_lt, length, Bool, drop, filter, find, map, IfOk};
+ghost use Rattle.std.specs.Prelude.{◌≡◌, ◌&&◌, ◌≤◌, nat_lt, length, Bool, drop, filter, find, map, IfOk, IsSome, OnErr};
 ghost use Rattle.std.specs.Option.{option_copied};
 ghost use Rattle.std.specs.Ordering.{nat_cmp};
 ghost use Rattle.qm_entries.specs.Boxed.{contents};
@@ -149,7 +149,8 @@ fn next_entry<'a>(query: &Query, queue: &Option<Name>, parts: &'a Parts) -> Opti
 
 // The row of the next queue.
 fn next_queue_row(alloc: Global, query: &Query, queues: &[Queue]) -> Result<Option<Row>, AllocError>
-    ensures { IfOk result (λ one. one ≡ next_row query.now.after (map (λ q. row.Queue q) (filter (is_queue_listed query.now) queues.now))) }
+    ensures row { IfOk result (λ one. one ≡ next_row query.now.after (map (λ q. row.Queue q) (filter (is_queue_listed query.now) queues.now))) }
+    ensures no_memory { OnErr result (IsSome (next_row query.now.after (map (λ q. row.Queue q) (filter (is_queue_listed query.now) queues.now)))) }
 {
     match next_queue(query, queues) {
         None => Ok(None),
@@ -194,7 +195,8 @@ fn next_characteristic_row(query: &Query, defined: &[Characteristic]) -> Option<
 /// An entry's place is found by a logarithm of the entries, and from there it walks to the first that is listed. Of queues, forms and
 /// characteristics it looks from the first on. A row of a queue takes memory.
 pub fn next_row(alloc: Global, parts: &Parts, query: &Query) -> Result<Option<Row>, AllocError>
-    ensures { (s : System) → IfOk result (λ one. one ≡ next_row query.now.after (single_rows (with_tables s parts.now) query.now query.now.listing)) }
+    ensures row { (s : System) → IfOk result (λ one. one ≡ next_row query.now.after (single_rows (with_tables s parts.now) query.now query.now.listing)) }
+    ensures no_memory { (s : System) → OnErr result (IsSome (next_row query.now.after (single_rows (with_tables s parts.now) query.now query.now.listing))) }
 {
     match query.listing {
         Listing::Queues => next_queue_row(alloc, query, parts.queues()),
