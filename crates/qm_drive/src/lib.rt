@@ -1,0 +1,18 @@
+//! What a node does by a thread of its own: it asks a queue manager that all nodes share in turns, and goes through its lines,
+//! its runs and its leave. The queue manager is whatever keeps the contract of `Serve`.
+#![tactic(auto)]
+
+mod asking;
+mod laws;
+mod noted;
+mod serve;
+mod shared;
+
+pub use asking::Asking;
+pub use laws::{
+    closed_histories_have_known_turns, courses_and_texts_are_whole, passes_see_beginnings,
+    turns_are_of_the_nodes_of_their_passes,
+};
+pub use noted::Noted;
+pub use serve::Serve;
+pub use shared::Shared;
