@@ -66,18 +66,18 @@ same_test n = grind (arith, nat_tests)
 
 -- ---- which manager is left
 
-own_role : (node epoch : ℕ) (o : Option Role) → o ≡ Some (record { node = node; epoch = epoch }) → unless_of node o ≡ None
+pub own_role : (node epoch : ℕ) (o : Option Role) → o ≡ Some (record { node = node; epoch = epoch }) → unless_of node o ≡ None
 own_role node epoch o is =
     let role : Role = record { node = node; epoch = epoch } in
     ap (unless_of node) is ∙ ap (λ (b : Bool). cond b None (Some role)) (same_test node)
 
-no_role : (node : ℕ) (o : Option Role) → o ≡ None → unless_of node o ≡ None
+pub no_role : (node : ℕ) (o : Option Role) → o ≡ None → unless_of node o ≡ None
 no_role node o is = ap (unless_of node) is
 
-own_is_no_other : (node epoch : ℕ) (o : Option Role) → o ≡ Some (record { node = node; epoch = epoch }) → option_map_or (λ (role : Role). not (role.node == node)) o false ≡ false
+pub own_is_no_other : (node epoch : ℕ) (o : Option Role) → o ≡ Some (record { node = node; epoch = epoch }) → option_map_or (λ (role : Role). not (role.node == node)) o false ≡ false
 own_is_no_other node epoch o is = ap (λ (x : Option Role). option_map_or (λ (role : Role). not (role.node == node)) x false) is ∙ ap not (same_test node)
 
-none_is_no_other : (node : ℕ) (o : Option Role) → o ≡ None → option_map_or (λ (role : Role). not (role.node == node)) o false ≡ false
+pub none_is_no_other : (node : ℕ) (o : Option Role) → o ≡ None → option_map_or (λ (role : Role). not (role.node == node)) o false ≡ false
 none_is_no_other node o is = ap (λ (x : Option Role). option_map_or (λ (role : Role). not (role.node == node)) x false) is
 
 -- ---- the call

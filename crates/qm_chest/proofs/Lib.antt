@@ -4,7 +4,14 @@ pub mod Turning
 pub mod Recording
 pub mod Steps
 pub mod Whole
-pub mod Own
+pub mod OwnStep
 pub mod Going
 pub mod Names
-pub mod Leaving
+pub mod Moves
+pub mod Requests
+pub mod Relived
+pub mod Kept
+pub mod Deciding
+pub mod ComingUp
+pub mod Losing
+pub mod Ways

@@ -16,6 +16,12 @@ name_of place [] there = absurd (omega arith)
 name_of zero (n ∷ nodes) there = refl
 name_of (suc place) (n ∷ nodes) there = name_of place nodes (omega arith)
 
+-- a place within a list of names has one
+pub name_at : (place : ℕ) (names : List (List ℕ)) → place < length names → (name : List ℕ) × (slice_get names place ≡ Some name)
+name_at place [] there = absurd (omega (arith, there))
+name_at zero (name ∷ names) there = (name, refl)
+name_at (suc place) (name ∷ names) there = name_at place names (omega (arith, there))
+
 same_length : (nodes : List Node) → length (map (λ (n : Node). n.name) nodes) ≡ length nodes
 same_length [] = refl
 same_length (n ∷ nodes) = let more = same_length nodes in ap suc more

@@ -2,6 +2,7 @@
 use Rattle.std.proofs.Common.{◌≡◌, ℕ, ◌<◌, ◌≤◌, Bool, true, false, List, [], ◌∷◌, length, refl, sym, ◌∙◌, ap, subst, arith, Option, None}
 use Rattle.std.specs.Prelude.{unwrap_or}
 use Rattle.qm_disk.specs.Disk.{CrashState, Meaning, IsLeft}
+use Rattle.qm_disk.proofs.Moments.{started}
 use Rattle.qm_glog.specs.Records.{IsLog}
 use Rattle.qm_kinds.specs.declared.input.Input.{Input}
 use Rattle.qm_kinds.specs.declared.input.Input.TheVariants as input
@@ -22,6 +23,7 @@ use Rattle.qm_history.specs.declared.world.World.{World}
 use Rattle.qm_history.specs.Answering.{MayAnswer, SaysItsEvents}
 use Rattle.qm_history.specs.Answers.{answer_of, event_answer, moment_of, shown_answer, takeover_of}
 use Rattle.qm_history.specs.Calls.{input_of, why_of, IsFromOutside}
+use Rattle.qm_history.specs.Chest.{AddsNone}
 use Rattle.qm_history.specs.Contents.{HoldWorld, compacted_by}
 use Rattle.qm_history.specs.Faults.{is_disk_fault, is_journal, tells_disk_fault}
 use Rattle.qm_history.specs.Room.{Room, HasRoom, room_after}
@@ -37,12 +39,13 @@ use Rattle.qm_master.specs.declared.state.TheConstants.{GREATEST_QUEUE_CAP}
 use Rattle.qm_chest.specs.declared.asking.Came.{Came}
 use Rattle.qm_chest.specs.declared.book.Book.{Book}
 use Rattle.qm_chest.specs.Books.{IsBookOf}
-use Rattle.qm_chest.specs.Steps.{IsStep}
+use Rattle.qm_chest.specs.Steps.{IsShort, IsStep, is_plain, is_step}
 use Rattle.qm_chest.specs.Desk.{IsDeskAt, desk_disk}
 use Rattle.qm_chest.specs.Parts.{Part}
 use Rattle.qm_chest.specs.Turns.{made_turn}
-use Rattle.qm_chest.specs.Whole.{IsServedAs}
-use Rattle.qm_chest.proofs.Holding.{SiteFilesAreAccepted, epoch_of_none, holds_world, room_of, still}
+use Rattle.qm_chest.specs.declared.serving.Served.{Served}
+use Rattle.qm_chest.specs.Whole.{IsServedAs, both}
+use Rattle.qm_chest.proofs.Holding.{SiteFilesAreAccepted, epoch_of_none, grows, holds_world, room_of, still}
 use Rattle.qm_chest.proofs.Turning.{adds, tells_room, whole}
 use Rattle.qm_chest.proofs.Steps.{epoch_of_role}
 use Rattle.qm_database.proofs.Moving.{left_at_rest}
@@ -71,20 +74,6 @@ module _ (accepted : SiteFilesAreAccepted) {D : Type 0} (m : Meaning D) (cap : �
       still m (desk_disk desk) (only_now (desk_disk desk)) None w reading asked false e reads.0 reads.1 (desk_crash desk at) comes stays (has (room_of reads.0))
 
 -- ---- an answer that says what the events do
-
--- neither want of memory nor damage, nor that no more turns are kept
-abbrev is_plain : Answer → Bool
-is_plain (answer.NoMemory took) = false
-is_plain (answer.Damaged file place) = false
-is_plain answer.HistoryFull = false
-is_plain (answer.Done took moment reply) = true
-is_plain (answer.Shown took moment rows) = true
-is_plain (answer.Duties took moment duties) = true
-is_plain (answer.Refused took refusal) = true
-is_plain (answer.Full took need cap) = true
-is_plain (answer.Journal took live) = true
-is_plain (answer.Fenced held current) = true
-is_plain (answer.NoManager took name) = true
 
 pub says : (w : World) (asked : Call) (t : Turn) (told : Answer) → is_plain told ≡ true → SaysItsEvents HasSpelling w asked t told → MayAnswer HasSpelling w asked t told
 says w asked t (answer.NoMemory took) plain h = cc
@@ -157,7 +146,52 @@ says_of w took because moment (event.Left node) simple = record { plain = refl; 
 says_of w took because moment (event.Started node) simple = record { plain = refl; journal = refl; alone = refl; image = refl; greatest = refl }
 says_of w took because moment (event.CompactDoubt node) simple = record { plain = refl; journal = refl; alone = refl; image = refl; greatest = refl }
 
--- ---- a call that is served whole by one event
+-- a node that comes up, or goes
+abbrev pub is_move : Event → Bool
+is_move (event.Stopped node) = true
+is_move (event.Left node) = true
+is_move (event.Started node) = true
+is_move _ = false
+
+-- it is no takeover, has no moment of its own, and leaves the greatest epoch
+record MovesOf (w : World) (first : Event) : Type 0 where
+  alone : (events : List Event) → takeover_of w (first ∷ events) ≡ None
+  timeless : moment_of first ≡ None
+  greatest : (after_event w first).greatest ≡ w.greatest
+
+moves_of : (w : World) (first : Event) → is_move first ≡ true → MovesOf w first
+moves_of w (event.Stopped node) move = record { alone = λ events. refl; timeless = refl; greatest = refl }
+moves_of w (event.Left node) move = record { alone = λ events. refl; timeless = refl; greatest = refl }
+moves_of w (event.Started node) move = record { alone = λ events. refl; timeless = refl; greatest = refl }
+moves_of w (event.Done n m r told) move = cc
+moves_of w (event.Doubt n m r) move = cc
+moves_of w (event.Refused n m i refusal) move = cc
+moves_of w (event.Shown n m i) move = cc
+moves_of w (event.Full n need cap) move = cc
+moves_of w (event.NoManager n) move = cc
+moves_of w (event.Took n m epoch gone up may kept) move = cc
+moves_of w (event.TakeDoubt n tried kept) move = cc
+moves_of w (event.Fenced n held current) move = cc
+moves_of w (event.Compacted n epoch file) move = cc
+moves_of w (event.CompactDoubt n) move = cc
+
+pub step_simple : (e : Event) → is_step e ≡ true → is_simple e ≡ true
+step_simple (event.Done n m r told) step = refl
+step_simple (event.Doubt n m r) step = refl
+step_simple (event.Refused n m i refusal) step = refl
+step_simple (event.Shown n m i) step = refl
+step_simple (event.Full n need cap) step = refl
+step_simple (event.Fenced n held current) step = refl
+step_simple (event.NoManager n) step = refl
+step_simple (event.Stopped n) step = refl
+step_simple (event.Left n) step = refl
+step_simple (event.Started n) step = refl
+step_simple (event.Took n m epoch gone up may kept) step = cc
+step_simple (event.TakeDoubt n tried kept) step = cc
+step_simple (event.Compacted n epoch file) step = cc
+step_simple (event.CompactDoubt n) step = cc
+
+-- ---- a call that is served whole by one event, or by a node that moves and its record
 
 module _ {D : Type 0} (m : Meaning D) (cap : ℕ) (w : World) (node now : ℕ) (asked : Call) (there : node < length (system_in w).nodes) (outside : IsFromOutside (input_of asked)) where
   pub one_served : (e : Event) (told : Answer) (failed : Bool) (old : D) (new : State D) → is_simple e ≡ true → Part m None w now (input_of asked) failed (e ∷ []) old (state_disk new) → IsServed w node now asked (e ∷ [])
@@ -174,6 +208,28 @@ module _ {D : Type 0} (m : Meaning D) (cap : ℕ) (w : World) (node now : ℕ) (
         room = tells_room m w node now asked failed (e ∷ []) old (state_disk new) there outside part;
         at = at;
         rises = omega (arith, of.greatest);
+      }
+
+  pub two_served : (first e : Event) (told : Answer) (failed : Bool) (old : D) (new : State D) → is_move first ≡ true → is_step e ≡ true
+      → Part m None w now (input_of asked) failed (first ∷ e ∷ []) old (state_disk new) → IsServed w node now asked (first ∷ e ∷ [])
+      → failed ≡ is_journal told → told ≡ event_answer (after_event w first) None (why_of asked) (unwrap_or (moment_of e) now) e → IsStateAt m cap (after_event (after_event w first) e) new
+      → IsServedAs m cap w node now asked old new (first ∷ e ∷ []) told
+  two_served first e told failed old new move step part served failed_is is at =
+      let events : List Event = first ∷ e ∷ [] in
+      let t : Turn = made_turn node now asked events in
+      let of = says_of (after_event w first) None (why_of asked) (unwrap_or (moment_of e) now) e (step_simple e step) in
+      let moves = moves_of w first move in
+      let plain : is_plain told ≡ true = ap is_plain is ∙ of.plain in
+      let answers : told ≡ answer_of w t =
+      is ∙ ap (λ (o : Option ℕ). event_answer (after_event w first) None (why_of asked) (unwrap_or (moment_of e) (unwrap_or o now)) e) (sym moves.timeless)
+      ∙ ap (λ (o : Option Takeover). event_answer (after_event w first) o (why_of asked) (unwrap_or (moment_of e) (unwrap_or (moment_of first) now)) e) (sym (moves.alone (e ∷ []))) in
+      let quiet : tells_disk_fault events ≡ false → failed ≡ false = λ said. failed_is ∙ ap is_journal is ∙ of.journal ∙ said in
+      record {
+        adds = adds m w node now asked failed events old (state_disk new) there outside part told
+            (says w asked t told plain (whole m w node now asked failed events old (state_disk new) there outside part served, answers)) (plain_undamaged told plain) quiet of.image;
+        room = tells_room m w node now asked failed events old (state_disk new) there outside part;
+        at = at;
+        rises = omega (arith, of.greatest, moves.greatest);
       }
 
   -- a node that is down is told so
@@ -204,6 +260,23 @@ module _ {D : Type 0} (m : Meaning D) (cap : ℕ) (w : World) (node now : ℕ) (
         (own_served (event.Refused node now (input.Fault place kind) (refused.ParseFault place kind) ∷ []) up (ap (takes_over w) is)
         (subst (λ (i : Input). IsOwn w node now asked Nothing i (event.Refused node now (input.Fault place kind) (refused.ParseFault place kind) ∷ [])) (sym is) refl)) refl refl at
 
+    -- memory was short, and nothing has changed
+    pub short_served : (came : Came D) → IsShort m cap w None (state_disk state) came → IsServedAs m cap w node now asked (state_disk state) (record { book = state.book; desk = came.desk }) [] came.answer
+    short_served came short =
+        let old = state_disk state in
+        let reads = desk_reads accepted m cap w state.desk at.desk in
+        let crash = desk_crash accepted m cap w state.desk at.desk in
+        record {
+          adds = subst (λ (d : D). AddsNone IsLog HasSpelling record_text m w old d came.answer) (sym short.same) (record {
+            files = λ full. let no : answer.NoMemory None ≡ answer.HistoryFull = sym short.told ∙ full in cc;
+            moments = started m old (λ (crashed : CrashState). HoldWorld IsLog HasSpelling record_text crashed w) (λ crashed since. crash crashed (only_now old crashed since));
+            reaches = grows m (m.seen old) (m.seen old) reads.0 reads.0 (λ room. room) reads.1 reads.1 refl;
+          });
+          room = tt;
+          at = record { book = at.book; desk = short.desk; small = at.small };
+          rises = omega arith;
+        }
+
   -- a step of a manager that is up is the whole call
   pub step_served : (old : D) (came : Came D) (book : Book) (e : Event) → is_simple e ≡ true → IsStep m cap w now now (input_of asked) None old came e → IsOwn w node now asked Nothing (input_of asked) (e ∷ [])
       → is_down w node (input_of asked) ≡ false → takes_over w (input_of asked) ≡ false → IsBookOf (after_event w e) book → cap ≤ GREATEST_QUEUE_CAP
@@ -211,3 +284,9 @@ module _ {D : Type 0} (m : Meaning D) (cap : ℕ) (w : World) (node now : ℕ) (
   step_served old came book e simple step own up none kept small =
       one_served e came.answer (is_journal came.answer) old (record { book = book; desk = came.desk }) simple step.part (own_served (e ∷ []) up none own) refl (step.told (why_of asked))
       (record { book = kept; desk = step.desk; small = small })
+
+-- what is told by an equation
+module _ {D : Type 0} {m : Meaning D} {cap : ℕ} {w : World} {node now : ℕ} {asked : Call} {old : D} {book : Book} (served other : Served D) where
+  pub served_as : served ≡ other → IsServedAs m cap w node now asked old (record { book = book; desk = other.desk }) (both other.first other.second) other.answer
+      → IsServedAs m cap w node now asked old (record { book = book; desk = served.desk }) (both served.first served.second) served.answer
+  served_as is serves = subst (λ (x : Served D). IsServedAs m cap w node now asked old (record { book = book; desk = x.desk }) (both x.first x.second) x.answer) (sym is) serves

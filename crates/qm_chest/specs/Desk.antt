@@ -1,6 +1,8 @@
 -- What the chest works with in a world: a manager at work while one is up, and else closed files.
-use Rattle.std.specs.Prelude.{◌≡◌, ℕ, Option, None, Some}
+use Rattle.std.specs.Prelude.{◌≡◌, ℕ, Bool, true, false, Option, None, Some}
 use Rattle.qm_disk.specs.Disk.{Meaning}
+use Rattle.qm_kinds.specs.declared.input.Input.{Input}
+use Rattle.qm_kinds.specs.declared.input.Input.TheVariants as input
 use Rattle.qm_acting.specs.Standing.{standing_of, disk_of, IsReady}
 use Rattle.qm_acting.specs.declared.manager.Manager.{Manager}
 use Rattle.qm_database.specs.Database.{disk_of as closed_disk}
@@ -41,3 +43,19 @@ pub record IsDown {D : Type 0} (m : Meaning D) (cap : ℕ) (w : World) (closed :
 abbrev pub IsDeskAt : {D : Type 0} → Meaning D → ℕ → World → Desk D → Type 0
 IsDeskAt m cap w (Up manager node) = IsUp m cap w manager node
 IsDeskAt m cap w (Down closed place) = IsDown m cap w closed place
+
+-- no manager is up
+abbrev pub is_without : {D : Type 0} → Desk D → Bool
+is_without (Up manager node) = false
+is_without (Down closed place) = true
+
+-- a takeover comes first: at START/QUEUE/MANAGER, and while no manager is up at each call that needs one
+abbrev pub is_due : {D : Type 0} → Desk D → Input → Bool
+is_due desk (input.TakeManager on) = true
+is_due desk input.StopNode = false
+is_due desk (input.Fault place kind) = false
+is_due desk (input.Ask asked) = is_without desk
+is_due desk (input.Show query) = is_without desk
+is_due desk (input.Fetch known) = is_without desk
+is_due desk input.Compact = is_without desk
+is_due desk input.StartNode = is_without desk

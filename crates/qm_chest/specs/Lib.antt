@@ -3,6 +3,7 @@ pub mod Parts
 pub mod Turns
 pub mod Books
 pub mod Desk
+pub mod Duties
 pub mod Steps
 pub mod At
 pub mod Whole

@@ -34,12 +34,14 @@ pub record HoldSome (files : CrashState) : Type 0 where
 
 -- the room that files have, whatever records they hold
 abbrev pub OfRoom : CrashState → (Room → Type 0) → Type 0
-OfRoom files P = (says : MasterState) (records : List Record) → (h : HoldRecords IsLog HasSpelling record_text files says records) → P (room_in record_text says h.masters records)
+OfRoom files P =
+    (says : MasterState) (records : List Record) → (h : HoldRecords IsLog HasSpelling record_text files says records) → P (room_in record_text says h.masters records)
 
 -- Some events of a turn of a call, which asked for this at a reading of its node's clock, behind a takeover that failed or not. They
 -- may come in this world; a crash leaves what it may within them; where none writes, the files are as they were; where no disk
 -- failed, the files then reach as far as the events tell; and each has room, or tells what has none.
-pub record Part {D : Type 0} (m : Meaning D) (behind : Option Bool) (w : World) (reading : ℕ) (asked : Input) (failed : Bool) (events : List Event) (old new : D) : Type 0 where
+pub record Part {D : Type 0} (m : Meaning D) (behind : Option Bool) (w : World) (reading : ℕ)
+    (asked : Input) (failed : Bool) (events : List Event) (old new : D) : Type 0 where
   pub comes : CanAllCome HasSpelling w events
   pub moments : LeavesOnly m old new (HoldsWithin w events)
   pub files : LeavesFiles m (are_without_write events) old new

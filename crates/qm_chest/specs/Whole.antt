@@ -1,18 +1,28 @@
 -- What a whole call leaves, by its events.
-use Rattle.std.specs.Prelude.{ℕ, Bool, true, false, ◌+◌, ◌^◌, ◌<◌, ◌≤◌, List, [], ◌∷◌, option_to_list, Option, None, Some}
-use Rattle.qm_disk.specs.Disk.{Meaning}
+use Rattle.std.specs.Prelude.{◌≡◌, ◌≢◌, ℕ, Bool, true, false, ◌+◌, ◌^◌, ◌<◌, ◌≤◌, List, [], ◌∷◌, length, option_to_list, Option, None, Some}
+use Rattle.qm_disk.specs.Disk.{Meaning, TellsFaults}
+use Rattle.qm_kinds.specs.declared.input.Input.{Input}
+use Rattle.qm_kinds.specs.declared.reply.Act.TheVariants as act
 use Rattle.qm_glog.specs.Records.{IsLog}
 use Rattle.qm_record.specs.Spelling.{HasSpelling, record_text}
 use Rattle.qm_history.specs.declared.call.Answer.{Answer}
+use Rattle.qm_history.specs.declared.call.Answer.TheVariants as answer
 use Rattle.qm_history.specs.declared.call.Call.{Call}
 use Rattle.qm_history.specs.declared.call.Call.TheVariants as call
 use Rattle.qm_history.specs.declared.event.Event.{Event}
 use Rattle.qm_history.specs.declared.event.Event.TheVariants as event
 use Rattle.qm_history.specs.declared.turn.Turn.{Turn}
 use Rattle.qm_history.specs.declared.world.World.{World}
-use Rattle.qm_history.specs.Chest.{Adds, TellsRoom}
-use Rattle.qm_chest.specs.At.{IsStateAt, behind, state_disk}
+use Rattle.qm_history.specs.Answers.{plain}
+use Rattle.qm_history.specs.Calls.{input_of}
+use Rattle.qm_history.specs.Chest.{Adds, TellsRoom, hides_events}
+use Rattle.qm_history.specs.Faults.{is_journal, tells_disk_fault}
+use Rattle.qm_history.specs.Takeover.{takes_over}
+use Rattle.qm_history.specs.Turn.{is_down}
+use Rattle.qm_history.specs.World.{IsSound}
+use Rattle.qm_chest.specs.At.{IsDeskOf, IsStateAt, IsWithout, behind, state_disk}
 use Rattle.qm_chest.specs.Desk.{desk_disk}
+use Rattle.qm_chest.specs.Duties.{ShowsDuties}
 use Rattle.qm_chest.specs.Turns.{made_turn}
 use Rattle.qm_chest.specs.declared.book.Book.{Book}
 use Rattle.qm_chest.specs.declared.chest.State.{State}
@@ -36,6 +46,15 @@ abbrev pub goes_by : ℕ → Bool → Event
 goes_by node true = event.Left node
 goes_by node false = event.Stopped node
 
+-- what comes of a node's going alone, behind which the chest works with this
+abbrev pub goes_alone : {D : Type 0} → Desk D → ℕ → ℕ → Bool → List ℕ → Served D
+goes_alone desk node now leaves name = record {
+  desk = desk;
+  first = Some (goes_by node leaves);
+  second = None;
+  answer = answer.Done None now (plain (act.NodeStopped name));
+}
+
 -- up to two events
 abbrev pub both : Option Event → Option Event → List Event
 both None second = []
@@ -43,7 +62,8 @@ both (Some first) second = first ∷ option_to_list second
 
 -- A call leaves the turn of these events with this answer, and what the chest works with stands for the world behind it, whose greatest
 -- epoch is at most one greater.
-pub record IsServedAs {D : Type 0} (m : Meaning D) (cap : ℕ) (w : World) (node now : ℕ) (asked : Call) (old : D) (new : State D) (events : List Event) (told : Answer) : Type 0 where
+pub record IsServedAs {D : Type 0} (m : Meaning D) (cap : ℕ) (w : World) (node now : ℕ) (asked : Call)
+    (old : D) (new : State D) (events : List Event) (told : Answer) : Type 0 where
   pub adds : Adds IsLog HasSpelling record_text m w old (state_disk new) asked (turn_left node now asked events) told
   pub room : TellsRoom IsLog HasSpelling record_text m w (m.seen old) asked (turn_left node now asked events)
   pub at : IsStateAt m cap (behind w (turn_left node now asked events)) new
@@ -54,3 +74,44 @@ abbrev pub ServesWhere : {D : Type 0} → Meaning D → Book → Desk D → ℕ 
 ServesWhere m book desk node now Where after served =
     (cap : ℕ) (w : World) (asked : Call) → IsStateAt m cap w (record { book = book; desk = desk }) → w.greatest + 1 < 2 ^ 62 → Where w asked
     → IsServedAs m cap w node now asked (desk_disk desk) (record { book = after; desk = served.desk }) (both served.first served.second) served.answer
+
+-- ---- which call it is
+
+-- The call asks for this, and is the node's last one or not. The world is sound, so that what is read of a record in doubt is the
+-- same cluster's.
+abbrev pub Asks : Input → Bool → World → Call → Type 0
+Asks what leaves w asked = (input_of asked ≡ what) × (is_leave asked ≡ leaves) × IsSound HasSpelling w
+
+-- the same of a call for which the node isn't down, and before which no takeover comes
+abbrev pub AsksAlone : ℕ → Input → Bool → World → Call → Type 0
+AsksAlone node what leaves w asked = (input_of asked ≡ what) × (is_leave asked ≡ leaves) × (is_down w node what ≡ false) × (takes_over w what ≡ false)
+
+-- the same of one that takes over, which is no node's last one
+abbrev pub AsksToTake : ℕ → Input → World → Call → Type 0
+AsksToTake node what w asked = (input_of asked ≡ what) × (is_down w node what ≡ false) × (takes_over w what ≡ true) × IsSound HasSpelling w
+
+-- ---- whatever the disks tell
+
+-- A call without events is told that memory was short. Another one is told that a disk failed where its last event tells so,
+-- unless its answer hides what they tell.
+abbrev pub IsToldBy : List Event → Answer → Type 0
+IsToldBy [] told = told ≡ answer.NoMemory None
+IsToldBy (e ∷ events) told = (told ≢ answer.HistoryFull) × (hides_events told ≡ false → is_journal told ≡ tells_disk_fault (e ∷ events))
+
+-- The nodes are called as before, at most one epoch more was tried, with an event, a fault is told just where one was counted, and then no
+-- manager is up.
+pub record Leaves {D : Type 0} (m : Meaning D) (old : Book) (was : Desk D) (new : Book) (served : Served D) : Type 0 where
+  pub desk : IsDeskOf m new.names.items served.desk
+  pub names : new.names.items ≡ old.names.items
+  pub rises : new.greatest ≤ old.greatest + length (option_to_list served.first)
+  pub faults : TellsFaults m (desk_disk was) (desk_disk served.desk) (is_journal served.answer ≡ true)
+  pub down : is_journal served.answer ≡ true → IsWithout served.desk
+  pub told : IsToldBy (both served.first served.second) served.answer
+  pub duties : ShowsDuties served.answer
+
+-- Where the disks tell, it stands for a world, whose greatest epoch is so early that one more can be tried.
+pub record StandsEarly {D : Type 0} (m : Meaning D) (state : State D) : Type 0 where
+  pub cap : ℕ
+  pub w : World
+  pub at : IsStateAt m cap w state
+  pub early : w.greatest + 1 < 2 ^ 62

@@ -3,18 +3,22 @@ ghost use Rattle.std.specs.Prelude.{◌≡◌, IsTrue, true, Some, None};
 ghost use Rattle.qm_disk.specs.Disk.{TellsFaults};
 ghost use Rattle.qm_model.specs.Acting.{acting};
 ghost use Rattle.qm_history.specs.Faults.{is_journal};
+ghost use Rattle.qm_history.specs.Accepted.{cluster};
 ghost use Rattle.qm_acting.specs.Asking.{CanBeAsked};
 ghost use Rattle.qm_acting.specs.Standing.{standing_of, disk_of, IsReady};
+ghost use Rattle.qm_chest.specs.At.{IsWithout};
 ghost use Rattle.qm_chest.specs.Desk.{desk_disk, IsReadyDesk};
-ghost use Rattle.qm_chest.specs.Steps.{Comes, IsToManager, is_recorded, is_full};
+ghost use Rattle.qm_chest.specs.Steps.{Comes, IsOfNodes, IsToldStep, IsToManager, goes_then, is_recorded};
 
+use crate::answering::{done, full, refused, short};
 use crate::desk::Desk;
 use crate::place::Place;
 use crate::serving::Served;
-use qm_acting::{AskFault, Manager, Replies, site_files_go_on};
+use qm_acting::{AskFault, Manager, site_files_go_on};
 use qm_disk::Disk;
 use qm_history::{Answer, Event, Takeover};
 use qm_kinds::{Input, Moment, Refusal, Request};
+use qm_model::nodes_keep_their_names;
 use qm_restore::site_files_are_accepted;
 
 /// What one step of a call came to: its event, unless memory was short, and its answer.
@@ -36,11 +40,11 @@ impl<D> Came<D> {
         )
     }
 
-    /// Whether a record has no room.
-    pub(crate) fn is_full(&self) -> bool
-        ensures { result ≡ is_full self.now.event }
+    /// Whether a node goes of whose loss this tells: the record is there or in doubt, or the node leaves and it has no room.
+    pub(crate) fn lets_go(&self, leaves: bool) -> bool
+        ensures { result ≡ goes_then leaves self.now.event }
     {
-        matches!(&self.event, Some(Event::Full { .. }))
+        self.is_recorded() || leaves && matches!(&self.event, Some(Event::Full { .. }))
     }
 
     /// This step is the whole call.
@@ -94,48 +98,28 @@ pub(crate) fn ask<D: Disk>(
     requires to_manager { IsToManager request }
 
     ensures ready { IsReadyDesk D.meaning result.desk }
-    ensures comes { IsTrue D.meaning.tells → Comes D.meaning manager at live node now request took result }
+    ensures nodes { IsOfNodes (cluster (standing_of manager).system) at result.desk }
+    ensures down { is_journal result.answer ≡ true → IsWithout result.desk }
+    ensures told { IsToldStep took result.event result.answer }
     ensures faults { TellsFaults D.meaning (disk_of manager) (desk_disk result.desk) (is_journal result.answer ≡ true) }
+    ensures comes { IsTrue D.meaning.tells → Comes D.meaning manager at live node now request took result }
 {
     site_files_go_on();
     site_files_are_accepted();
+    nodes_keep_their_names();
     let moment = manager.acting(now);
     match manager.ask(moment, node, &request) {
-        Ok(Replies { kept, told }) => Came {
-            desk: Desk::Up { manager, node: at },
-            event: Some(Event::Done {
-                node,
-                moment,
-                request,
-                reply: kept,
-            }),
-            answer: Answer::Done {
-                took,
-                moment,
-                reply: told,
-            },
-        },
-        Err(AskFault::Refused(refusal)) => {
-            let told = same(&refusal);
-            Came {
-                desk: Desk::Up { manager, node: at },
-                event: Some(Event::Refused {
-                    node,
-                    moment,
-                    input: Input::Ask(request),
-                    refusal,
-                }),
-                answer: Answer::Refused {
-                    took,
-                    refusal: told,
-                },
-            }
-        }
-        Err(AskFault::Full { need, cap }) => Came {
-            desk: Desk::Up { manager, node: at },
-            event: Some(Event::Full { node, need, cap }),
-            answer: Answer::Full { took, need, cap },
-        },
+        Ok(replies) => done(manager, at, node, moment, request, replies, took),
+        Err(AskFault::Refused(refusal)) => refused(
+            manager,
+            at,
+            node,
+            moment,
+            Input::Ask(request),
+            refusal,
+            took,
+        ),
+        Err(AskFault::Full { need, cap }) => full(manager, at, node, need, cap, took),
         Err(AskFault::Disk) => {
             let place = Place {
                 file: manager.live(),
@@ -154,11 +138,7 @@ pub(crate) fn ask<D: Disk>(
                 answer: Answer::Journal { took, live },
             }
         }
-        Err(AskFault::NoMemory) => Came {
-            desk: Desk::Up { manager, node: at },
-            event: None,
-            answer: Answer::NoMemory { took },
-        },
+        Err(AskFault::NoMemory) => short(manager, at, took),
     }
 }
 

@@ -1,7 +1,11 @@
 // What the chest works with: a manager, or closed files.
+ghost use Rattle.std.specs.Prelude.{◌≡◌};
+ghost use Rattle.qm_chest.specs.Desk.{is_due, is_without};
+
 use crate::place::Place;
 use qm_acting::Manager;
 use qm_database::Closed;
+use qm_kinds::Input;
 
 /// The manager at work, with the node that has the role; or, while none is up, the files, and where a record in doubt would stand.
 #[derive(Drop)]
@@ -14,4 +18,24 @@ pub enum Desk<D> {
         closed: Closed<D>,
         place: Option<Place>,
     },
+}
+
+impl<D> Desk<D> {
+    // Whether no manager is up.
+    fn is_without(&self) -> bool
+        ensures { result ≡ is_without self.now }
+    {
+        matches!(self, Desk::Down { .. })
+    }
+
+    /// Whether a takeover comes before a call that asks for this.
+    pub(crate) fn is_due(&self, input: &Input) -> bool
+        ensures { result ≡ is_due self.now input.now }
+    {
+        match input {
+            Input::TakeManager { .. } => true,
+            Input::StopNode | Input::Fault { .. } => false,
+            _ => self.is_without(),
+        }
+    }
 }

@@ -2,18 +2,22 @@
 //! manager at work, and while none is, the closed files and where a record in doubt would stand. It stands for a world of
 //! `qm_history`; a call leads to the world behind its turn.
 //!
-//! It isn't built whole: so far there are the laws by which the parts of a call become a turn, and the steps that a manager at
-//! work makes of a call.
+//! It isn't built whole: so far there are the laws by which the parts of a call become a turn, and the calls before which no
+//! takeover comes.
 #![tactic(auto)]
 
+mod answering;
 mod asking;
 mod book;
 mod chest;
 mod desk;
 mod laws;
+mod leaving;
+mod own;
 mod place;
 mod serving;
 mod showing;
+mod starting;
 
 pub use chest::{Chest, TURNS_KEPT};
 pub use laws::{files_keep_their_world, parts_come_one_behind_another, whole_parts_are_turns};

@@ -1,29 +1,24 @@
-// The turn of a call: in which order its answers are asked for, and what each leaves.
-ghost use Rattle.std.specs.Prelude.{◌≡◌, ◌<◌, ℕ, IsTrue, true, false, Some, None, length, unwrap_or};
-ghost use Rattle.qm_disk.specs.Disk.{TellsFaults};
+// The call of a node: whether it is served, by whom, and what it came to.
+ghost use Rattle.std.specs.Prelude.{◌≡◌, ◌<◌, IsTrue, Some, None, false, length};
 ghost use Rattle.qm_kinds.specs.declared.input.Input.TheVariants as input;
-ghost use Rattle.qm_kinds.specs.declared.request.Request.TheVariants as request;
-ghost use Rattle.qm_model.specs.Acting.{acting};
-ghost use Rattle.qm_history.specs.Answers.{plain};
-ghost use Rattle.qm_history.specs.Calls.{input_of, request_of_report};
-ghost use Rattle.qm_history.specs.Faults.{is_journal};
-ghost use Rattle.qm_history.specs.Turn.{Beside, is_down};
+ghost use Rattle.qm_kinds.specs.declared.refusal.Refusal.TheVariants as refused;
 ghost use Rattle.qm_history.specs.declared.call.Answer.TheVariants as answer;
 ghost use Rattle.qm_history.specs.declared.event.Event.TheVariants as event;
-ghost use Rattle.qm_acting.specs.Asking.{CanBeAsked};
-ghost use Rattle.qm_acting.specs.Standing.{standing_of, disk_of, IsReady};
-ghost use Rattle.qm_chest.specs.Desk.{desk_disk, IsReadyDesk};
+ghost use Rattle.qm_chest.specs.declared.desk.Desk.TheVariants as desk;
 ghost use Rattle.qm_chest.specs.At.{CanBeAskedFor, IsDeskOf};
-ghost use Rattle.qm_chest.specs.Steps.{OwnComes};
-ghost use Rattle.qm_chest.specs.Whole.{ServesWhere, is_leave};
+ghost use Rattle.qm_chest.specs.Desk.{is_due};
+ghost use Rattle.qm_chest.specs.Whole.{AsksAlone, Leaves, ServesWhere};
 
-use crate::asking::{Came, ask, same};
+use crate::asking::same;
 use crate::book::Book;
 use crate::desk::Desk;
+use crate::place::Place;
 use qm_acting::Manager;
+use qm_database::Closed;
 use qm_disk::Disk;
-use qm_history::{Answer, Event, Takeover};
-use qm_kinds::{Act, Input, Moment, Refusal, Reply, Request, Seq};
+use qm_history::{Answer, Event};
+use qm_kinds::{Input, Moment, ParseKind, Refusal};
+use qm_model::nodes_keep_their_names;
 use qm_restore::site_files_are_accepted;
 
 /// What a call came to: up to two events, none where memory was short and nothing has changed, and its answer.
@@ -49,7 +44,12 @@ fn one<D>(desk: Desk<D>, event: Event, answer: Answer) -> Served<D>
 
 // A call that is refused before a system is asked: it has the reading's moment.
 fn refused<D>(desk: Desk<D>, node: u8, moment: Moment, input: Input, refusal: Refusal) -> Served<D>
-    ensures { result ≡ record { desk = desk; first = Some (event.Refused node moment input refusal); second = None; answer = answer.Refused None refusal } }
+    ensures { result ≡ record {
+      desk = desk;
+      first = Some (event.Refused node moment input refusal);
+      second = None;
+      answer = answer.Refused None refusal;
+    } }
 {
     let told = same(&refusal);
     one(
@@ -67,48 +67,102 @@ fn refused<D>(desk: Desk<D>, node: u8, moment: Moment, input: Input, refusal: Re
     )
 }
 
+// A call whose line can't be read.
+fn unread<D>(desk: Desk<D>, node: u8, moment: Moment, place: usize, kind: ParseKind) -> Served<D>
+    ensures { result ≡ record {
+      desk = desk;
+      first = Some (event.Refused node moment (input.Fault place kind) (refused.ParseFault place kind));
+      second = None;
+      answer = answer.Refused None (refused.ParseFault place kind);
+    } }
+{
+    refused(
+        desk,
+        node,
+        moment,
+        Input::Fault { place, kind },
+        Refusal::ParseFault { place, kind },
+    )
+}
+
 impl Book {
-    // A reply that starts no job.
-    pub(crate) fn plain(&self, act: Act) -> Reply
-        ensures { result ≡ plain act }
+    /// A call of a node, whose clock told this before, without a takeover. `leaves` is whether it is the node's last one.
+    pub(crate) fn served_alone<D: Disk>(
+        &mut self,
+        desk: Desk<D>,
+        node: u8,
+        now: Moment,
+        input: Input,
+        leaves: bool,
+    ) -> Served<D>
+        requires desk { IsDeskOf D.meaning self.old.names.items desk }
+        requires there { node < length self.old.names.items }
+        requires can { CanBeAskedFor node input }
+        requires due { is_due desk input ≡ false }
+        ensures leaves { Leaves D.meaning self.old desk self.new result }
+        ensures serves { IsTrue D.meaning.tells → ServesWhere D.meaning self.old desk node now (AsksAlone node input leaves) self.new result }
     {
-        Reply {
-            act,
-            started: Seq::new(self.alloc),
+        match desk {
+            Desk::Up { manager, node: at } => self.managed(manager, at, node, now, input, leaves),
+            Desk::Down { closed, place } => {
+                self.unmanaged(closed, place, node, now, input, leaves)
+            }
         }
     }
 
-    // The clock is looked at for a node that holds the manager's epoch.
-    fn tick<D: Disk>(
-        &self,
+    // A call while a manager is up.
+    fn managed<D: Disk>(
+        &mut self,
         manager: Manager<D>,
         at: u8,
         node: u8,
         now: Moment,
-        took: Option<Takeover>,
-    ) -> Came<D>
-        requires ready { IsReady D.meaning manager }
-        requires can { CanBeAsked (standing_of manager).system (acting now (standing_of manager).system) node request.Tick }
-        requires there { node < length self.now.names.items }
-        ensures ready { IsReadyDesk D.meaning result.desk }
-        ensures faults { TellsFaults D.meaning (disk_of manager) (desk_disk result.desk) (is_journal result.answer ≡ true) }
-        ensures comes { IsTrue D.meaning.tells → (acted : ℕ) (beside : Beside) → OwnComes D.meaning self.now manager at node now acted (input.Ask request.Tick) beside took result }
+        input: Input,
+        leaves: bool,
+    ) -> Served<D>
+        requires desk { IsDeskOf D.meaning self.old.names.items (desk.Up manager at) }
+        requires there { node < length self.old.names.items }
+        requires can { CanBeAskedFor node input }
+        requires due { is_due (desk.Up manager at) input ≡ false }
+        ensures leaves { Leaves D.meaning self.old (desk.Up manager at) self.new result }
+        ensures serves { IsTrue D.meaning.tells → ServesWhere D.meaning self.old (desk.Up manager at) node now
+            (AsksAlone node input leaves) self.new result }
     {
         site_files_are_accepted();
-        let held = self.held_by(node);
-        let current = manager.epoch();
-        if held != current {
-            return Came {
-                desk: Desk::Up { manager, node: at },
-                event: Some(Event::Fenced {
-                    node,
-                    held,
-                    current,
-                }),
-                answer: Answer::Fenced { held, current },
-            };
+        nodes_keep_their_names();
+        match input {
+            Input::StartNode => self.started(manager, at, node, now),
+            Input::StopNode => self.gone(manager, at, node, now, leaves),
+            Input::Fault { place, kind } => {
+                unread(Desk::Up { manager, node: at }, node, now, place, kind)
+            }
+            input => self.own(manager, at, node, now, input, None).alone(),
         }
-        let live = self.is_live(node);
-        ask(manager, at, live, node, now, Request::Tick, took)
+    }
+
+    // A call that needs no manager, while none is up.
+    fn unmanaged<D: Disk>(
+        &mut self,
+        closed: Closed<D>,
+        place: Option<Place>,
+        node: u8,
+        now: Moment,
+        input: Input,
+        leaves: bool,
+    ) -> Served<D>
+        requires there { node < length self.old.names.items }
+        requires due { is_due (desk.Down closed place) input ≡ false }
+        ensures leaves { Leaves D.meaning self.old (desk.Down closed place) self.new result }
+        ensures serves { IsTrue D.meaning.tells → ServesWhere D.meaning self.old (desk.Down closed place) node now
+            (AsksAlone node input leaves) self.new result }
+    {
+        site_files_are_accepted();
+        match input {
+            Input::Fault { place: byte, kind } => {
+                unread(Desk::Down { closed, place }, node, now, byte, kind)
+            }
+            Input::StopNode => self.gone_alone(closed, place, node, now, leaves),
+            _ => unreachable!(),
+        }
     }
 }

@@ -1,30 +1,35 @@
-use Rattle.std.proofs.Common.{◌∙◌, ap, sym, subst, length, Some}
+use Rattle.std.proofs.Common.{◌∙◌, ap, refl, sym, subst, length}
 use Rattle.qm_disk.specs.Disk.{CrashState, LeavesOnly}
-use Rattle.qm_kinds.specs.declared.input.Input.TheVariants as input
-use Rattle.qm_kinds.specs.declared.refusal.Refusal.{Refusal}
 use Rattle.qm_database.specs.Recorded.{HoldsEither, with_body}
-use Rattle.qm_history.specs.declared.call.Answer.TheVariants as answer
-use Rattle.qm_history.specs.declared.event.Event.TheVariants as event
+use Rattle.qm_history.specs.Accepted.{cluster}
 use Rattle.qm_acting.specs.Asking.{text_of}
 use Rattle.qm_acting.specs.Standing.{Standing, standing_of, disk_of}
-use Rattle.qm_chest.specs.declared.desk.Desk.TheVariants.{Up}
-use Rattle.qm_chest.specs.Steps.{ComesTo}
-use Rattle.qm_chest.proofs.Steps.{done_comes, doubt_comes, full_comes, refused_comes}
+use Rattle.qm_chest.specs.declared.asking.Came.{Came}
+use Rattle.qm_chest.specs.Steps.{ComesTo, IsOfNodes}
+use Rattle.qm_chest.proofs.Steps.{done_comes, doubt_comes, full_comes, refused_comes, short_comes}
 use Rattle.qm_chest.proofs.asking.ask.Goals as goal
+
+pub returns-in-Ok-clause-nodes : goal.returns-in-Ok-clause-nodes
+returns-in-Ok-clause-nodes g c =
+    let does = c.in-Ok.ensures.answer.0 in
+    subst (λ (came : Came g.row.D.Denot). IsOfNodes (cluster (standing_of c.args.manager).system) c.args.at came.desk) (sym c.done.ensures) (
+      c.nodes_keep_their_names.ensures.names (standing_of c.args.manager).system c.acting-moment.result c.args.node c.args.request
+          (record { system = (standing_of c.ask.new.self).system; reply = c.in-Ok.replies.kept }) does.accepted,
+      refl,
+    )
 
 pub returns-in-Ok-clause-comes : goal.returns-in-Ok-clause-comes
 returns-in-Ok-clause-comes g c = λ tells cap w asked acted small up live own.
     let e = c.in-Ok.ensures in
-    done_comes c.site_files_are_accepted.ensures c.site_files_go_on.ensures g.D.Disk.meaning g.met.D.Disk.only_now g.met.D.Disk.counts_now (λ disk f le. g.met.D.Disk.reads_a_crash_state disk f tells le)
-    cap w c.args.manager c.args.at up small c.args.node c.args.now acted asked c.args.request c.args.took own c.acting-moment.result c.acting-moment.ensures c.ask.new.self c.in-Ok.field-0.kept c.in-Ok.field-0.told
-    e.answer.1 e.answer.0 ((e.ready (λ none. cc)).at_rest tells) (e.device.1.any_moment tells)
+    subst (λ (came : Came g.row.D.Denot). ComesTo g.D.Disk.meaning cap w c.args.node c.args.now acted asked c.args.request c.args.took (disk_of c.args.manager) came came.event) (sym c.done.ensures)
+    (done_comes c.site_files_are_accepted.ensures c.site_files_go_on.ensures g.D.Disk.meaning g.met.D.Disk.only_now g.met.D.Disk.counts_now (λ disk f le. g.met.D.Disk.reads_a_crash_state disk f tells le)
+    cap w c.args.manager c.args.at up small c.args.node c.args.now acted asked c.args.request c.args.took own c.acting-moment.result c.acting-moment.ensures c.ask.new.self c.in-Ok.replies.kept c.in-Ok.replies.told
+    e.answer.1 e.answer.0 ((e.ready (λ none. cc)).at_rest tells) (e.device.1.any_moment tells))
 
 pub returns-in-Err-Refused-clause-comes : goal.returns-in-Err-Refused-clause-comes
 returns-in-Err-Refused-clause-comes g c = λ tells cap w asked acted small up live own.
     let e = rw c.in-Err-Refused.field-0-is at c.in-Err-Refused.ensures in
-    subst (λ (told : Refusal). ComesTo g.D.Disk.meaning cap w c.args.node c.args.now acted asked c.args.request c.args.took (disk_of c.args.manager)
-    (record { desk = Up c.ask.new.self c.args.at; event = Some (event.Refused c.args.node c.acting-moment.result (input.Ask c.args.request) c.in-Err-Refused.refusal); answer = answer.Refused c.args.took told })
-    (Some (event.Refused c.args.node c.acting-moment.result (input.Ask c.args.request) c.in-Err-Refused.refusal))) (sym c.same-told.ensures)
+    subst (λ (came : Came g.row.D.Denot). ComesTo g.D.Disk.meaning cap w c.args.node c.args.now acted asked c.args.request c.args.took (disk_of c.args.manager) came came.event) (sym c.refused.ensures)
     (refused_comes c.site_files_are_accepted.ensures c.site_files_go_on.ensures g.D.Disk.meaning g.met.D.Disk.only_now g.met.D.Disk.counts_now (λ disk f le. g.met.D.Disk.reads_a_crash_state disk f tells le)
     cap w c.args.manager c.args.at up small c.args.node c.args.now acted asked c.args.request c.args.took own c.acting-moment.result c.acting-moment.ensures c.ask.new.self c.in-Err-Refused.refusal
     e.answer.1 e.device e.answer.0)
@@ -32,9 +37,17 @@ returns-in-Err-Refused-clause-comes g c = λ tells cap w asked acted small up li
 pub returns-in-Err-Full-clause-comes : goal.returns-in-Err-Full-clause-comes
 returns-in-Err-Full-clause-comes g c = λ tells cap w asked acted small up live own.
     let e = rw c.in-Err-Full.field-0-is at c.in-Err-Full.ensures in
-    full_comes c.site_files_are_accepted.ensures c.site_files_go_on.ensures g.D.Disk.meaning g.met.D.Disk.only_now g.met.D.Disk.counts_now (λ disk f le. g.met.D.Disk.reads_a_crash_state disk f tells le)
+    subst (λ (came : Came g.row.D.Denot). ComesTo g.D.Disk.meaning cap w c.args.node c.args.now acted asked c.args.request c.args.took (disk_of c.args.manager) came came.event) (sym c.full.ensures)
+    (full_comes c.site_files_are_accepted.ensures c.site_files_go_on.ensures g.D.Disk.meaning g.met.D.Disk.only_now g.met.D.Disk.counts_now (λ disk f le. g.met.D.Disk.reads_a_crash_state disk f tells le)
     cap w c.args.manager c.args.at up small c.args.node c.args.now acted asked c.args.request c.args.took own c.acting-moment.result c.acting-moment.ensures c.ask.new.self c.in-Err-Full.need c.in-Err-Full.cap
-    e.answer.1 e.device e.answer.0 e.answer.0.short
+    e.answer.1 e.device e.answer.0 e.answer.0.short)
+
+pub returns-in-Err-NoMemory-clause-comes : goal.returns-in-Err-NoMemory-clause-comes
+returns-in-Err-NoMemory-clause-comes g c = λ tells cap w asked acted small up live own.
+    let e = rw c.in-Err-NoMemory.field-0-is at c.in-Err-NoMemory.ensures in
+    subst (λ (came : Came g.row.D.Denot). ComesTo g.D.Disk.meaning cap w c.args.node c.args.now acted asked c.args.request c.args.took (disk_of c.args.manager) came came.event) (sym c.short.ensures)
+    (short_comes c.site_files_are_accepted.ensures c.site_files_go_on.ensures g.D.Disk.meaning g.met.D.Disk.only_now g.met.D.Disk.counts_now (λ disk f le. g.met.D.Disk.reads_a_crash_state disk f tells le)
+    cap w c.args.manager c.args.at up small c.args.node c.args.now acted asked c.args.request c.args.took own c.acting-moment.result c.acting-moment.ensures c.ask.new.self e.answer.1 e.device)
 
 pub returns-in-Err-Disk-clause-comes : goal.returns-in-Err-Disk-clause-comes
 returns-in-Err-Disk-clause-comes g c = λ tells cap w asked acted small up live own.

@@ -1,11 +1,11 @@
-use Rattle.std.proofs.Common.{◌∙◌, ℕ, List, ap, sym, subst}
+use Rattle.std.proofs.Common.{◌∙◌, ℕ, List, ap, refl, sym, subst}
 use Rattle.qm_model.specs.Duties.{duties}
 use Rattle.qm_model.specs.Standing.{node_at}
 use Rattle.qm_kinds.specs.declared.input.Input.TheVariants as input
 use Rattle.qm_acting.specs.Standing.{disk_of, standing_of}
 use Rattle.qm_chest.specs.declared.asking.Came.{Came}
-use Rattle.qm_chest.specs.Steps.{OwnComesTo}
-use Rattle.qm_chest.proofs.Own.{fetch_comes}
+use Rattle.qm_chest.specs.Steps.{IsToldStep, OwnComesTo}
+use Rattle.qm_chest.proofs.OwnStep.{fetch_comes}
 use Rattle.qm_chest.proofs.showing.fetch.Goals as goal
 
 pub returns-in-Ok-clause-comes : goal.returns-in-Ok-clause-comes
@@ -13,3 +13,19 @@ returns-in-Ok-clause-comes g c = λ tells book acted beside cap w small kept up.
     subst (λ (came : Came g.row.D.Denot). OwnComesTo g.D.Disk.meaning cap w c.args.node c.args.now acted (input.Fetch c.args.known) beside c.args.took (disk_of c.args.manager) came came.event) (sym c.shown.ensures)
     (fetch_comes c.site_files_are_accepted.ensures g.D.Disk.meaning g.met.D.Disk.only_now cap w c.args.manager c.args.at up c.args.node c.args.now acted beside c.args.took c.acting-moment.result c.acting-moment.ensures
     c.args.known c.of.result (c.of.ensures ∙ c.in-Ok.ensures ∙ ap (λ (k : List ℕ). duties (standing_of c.args.manager).system (node_at c.args.node (standing_of c.args.manager).system.nodes) k) c.as_slice.ensures))
+
+pub returns-in-Ok-clause-told : goal.returns-in-Ok-clause-told
+returns-in-Ok-clause-told g c =
+    let st = standing_of c.args.manager in
+    subst (λ (came : Came g.row.D.Denot). IsToldStep c.args.took came.event came.answer) (sym c.shown.ensures) (
+      refl,
+      refl,
+      refl,
+      record {
+        system = st.system;
+        node = node_at c.args.node st.system.nodes;
+        known = c.as_slice.result.now;
+        consistent = c.site_files_are_consistent.ensures st.recorded.bodies st.system c.requires.ready.file;
+        are = c.of.ensures ∙ c.in-Ok.ensures;
+      },
+    )

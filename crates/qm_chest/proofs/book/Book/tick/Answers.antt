@@ -4,7 +4,7 @@ use Rattle.qm_kinds.specs.declared.input.Input.TheVariants as input
 use Rattle.qm_kinds.specs.declared.request.Request.TheVariants as request
 use Rattle.qm_model.specs.Acting.{acting}
 use Rattle.qm_acting.specs.Standing.{disk_of, standing_of}
-use Rattle.qm_chest.proofs.Own.{ask_comes, fence_comes, unfenced}
+use Rattle.qm_chest.proofs.OwnStep.{ask_comes, fence_comes, unfenced}
 use Rattle.qm_chest.proofs.book.Book.tick.Goals as goal
 
 pub returns-then-held-current-clause-comes : goal.returns-then-held-current-clause-comes

@@ -7,8 +7,7 @@ use Rattle.qm_disk.specs.Disk.{CrashState, Meaning, IsLeft}
 use Rattle.qm_kinds.specs.declared.input.Input.{Input}
 use Rattle.qm_kinds.specs.declared.refusal.Refusal.{Refusal}
 use Rattle.qm_kinds.specs.declared.request.Request.{Request}
-use Rattle.qm_model.specs.Acting.{acting}
-use Rattle.qm_model.specs.Applied.{applied}
+use Rattle.qm_record.specs.Spelling.{HasSpelling, record_text}
 use Rattle.qm_model.specs.Folding.{system_of}
 use Rattle.qm_model.specs.Outcome.{Accepted}
 use Rattle.qm_acting.specs.Standing.{standing_of, disk_of}
@@ -17,15 +16,17 @@ use Rattle.qm_history.specs.declared.event.Event.{Event}
 use Rattle.qm_history.specs.declared.event.Event.TheVariants as event
 use Rattle.qm_history.specs.declared.world.Role.{Role}
 use Rattle.qm_history.specs.declared.world.World.{World}
+use Rattle.qm_history.specs.Happening.{may_come_first}
 use Rattle.qm_history.specs.Leaving.{told_by}
-use Rattle.qm_history.specs.Room.{is_compacted_next}
-use Rattle.qm_history.specs.Step.{unless_of, without}
-use Rattle.qm_history.specs.Turn.{IsAsked, IsChange, IsDecided}
-use Rattle.qm_history.specs.World.{is_live, system_in}
+use Rattle.qm_history.specs.Room.{Room, HasRoom, failed_by, is_compacted_next, room_after}
+use Rattle.qm_history.specs.Step.{CanCome, after_event, unless_of, without}
+use Rattle.qm_history.specs.Turn.{IsChange, IsDecided}
+use Rattle.qm_history.specs.World.{is_live}
 use Rattle.qm_chest.specs.declared.desk.Desk.TheVariants.{Up}
 use Rattle.qm_chest.specs.Desk.{IsUp}
 use Rattle.qm_chest.specs.Parts.{HoldSome, Part}
-use Rattle.qm_chest.specs.Steps.{is_recorded}
+use Rattle.qm_chest.specs.Steps.{is_recorded, is_step}
+use Rattle.qm_chest.specs.Whole.{goes_by}
 use Rattle.qm_chest.proofs.Going.{may_stay}
 use Rattle.qm_chest.proofs.Holding.{SiteFilesAreAccepted, holds_some}
 use Rattle.qm_chest.proofs.Joining.{joined}
@@ -60,7 +61,7 @@ up_without m cap w node manager at up differ = record {
 -- ---- the events of a change
 
 -- what was asked for is recorded or in doubt, so the change is one
-change_is : (first : Event) (node moment : ℕ) (wanted : Request) (res : Result Accepted Refusal) (e : Event) → is_recorded (Some e) ≡ true → IsDecided node moment wanted res (e ∷ []) → IsChange first node moment wanted res (first ∷ e ∷ [])
+pub change_is : (first : Event) (node moment : ℕ) (wanted : Request) (res : Result Accepted Refusal) (e : Event) → is_recorded (Some e) ≡ true → IsDecided node moment wanted res (e ∷ []) → IsChange first node moment wanted res (first ∷ e ∷ [])
 change_is first node moment wanted (Err refusal) (event.Done n m r told) is decided = absurd cc
 change_is first node moment wanted (Err refusal) (event.Doubt n m r) is decided = absurd cc
 change_is first node moment wanted (Ok a) (event.Done n m r told) is decided = (refl, decided)
@@ -78,26 +79,27 @@ change_is first node moment wanted res (event.Started n) is decided = cc
 change_is first node moment wanted res (event.Compacted n epoch file) is decided = cc
 change_is first node moment wanted res (event.CompactDoubt n) is decided = cc
 
-plain_recorded : (e : Event) → is_recorded (Some e) ≡ true → (told_by (e ∷ []) ≡ None) × (is_compacted_next (e ∷ []) ≡ false)
-plain_recorded (event.Done n m r told) is = (refl, refl)
-plain_recorded (event.Doubt n m r) is = (refl, refl)
-plain_recorded (event.Refused n m i refusal) is = cc
-plain_recorded (event.Shown n m i) is = cc
-plain_recorded (event.Full n need cap) is = cc
-plain_recorded (event.NoManager n) is = cc
-plain_recorded (event.Took n m epoch gone up may kept) is = cc
-plain_recorded (event.TakeDoubt n tried kept) is = cc
-plain_recorded (event.Fenced n held current) is = cc
-plain_recorded (event.Stopped n) is = cc
-plain_recorded (event.Left n) is = cc
-plain_recorded (event.Started n) is = cc
-plain_recorded (event.Compacted n epoch file) is = cc
-plain_recorded (event.CompactDoubt n) is = cc
+-- a step tells of no takeover, and isn't a compaction
+plain_step : (e : Event) → is_step e ≡ true → (told_by (e ∷ []) ≡ None) × (is_compacted_next (e ∷ []) ≡ false)
+plain_step (event.Done n m r told) is = (refl, refl)
+plain_step (event.Doubt n m r) is = (refl, refl)
+plain_step (event.Refused n m i refusal) is = (refl, refl)
+plain_step (event.Shown n m i) is = (refl, refl)
+plain_step (event.Full n need cap) is = (refl, refl)
+plain_step (event.Fenced n held current) is = (refl, refl)
+plain_step (event.NoManager n) is = cc
+plain_step (event.Took n m epoch gone up may kept) is = cc
+plain_step (event.TakeDoubt n tried kept) is = cc
+plain_step (event.Stopped n) is = cc
+plain_step (event.Left n) is = cc
+plain_step (event.Started n) is = cc
+plain_step (event.Compacted n epoch file) is = cc
+plain_step (event.CompactDoubt n) is = cc
 
 -- ---- both events
 
 module _ (accepted : SiteFilesAreAccepted) {D : Type 0} (m : Meaning D) (only_now : (disk : D) (crashed : CrashState) → m.left_since disk (m.moment disk) crashed → IsLeft (m.may_leave disk) crashed)
-    (cap : ℕ) (w : World) (manager : Manager D) (at : ℕ) (up : IsUp m cap w manager at) (node now : ℕ) (live : is_live w node ≡ true) (asked : Input) (failed : Bool) (e : Event) (new : D)
+    (cap : ℕ) (w : World) (manager : Manager D) (at : ℕ) (up : IsUp m cap w manager at) (node now : ℕ) (asked : Input) (failed : Bool) (e : Event) (step : is_step e ≡ true) (new : D)
   where
     low : AllByRecursion (λ (h : ℕ). h ≤ w.greatest) w.held
     low = subst (λ (n : ℕ). AllByRecursion (λ (h : ℕ). h ≤ n) w.held) up.epoch up.may.recorded
@@ -105,20 +107,20 @@ module _ (accepted : SiteFilesAreAccepted) {D : Type 0} (m : Meaning D) (only_no
     between : HoldSome (m.seen (disk_of manager))
     between = holds_some accepted (m.seen (disk_of manager)) (standing_of manager).recorded (system_of up.may.log) up.at_rest.holds up.may.site
 
-    -- it stops, and its loss is recorded or in doubt
-    pub stops_and : is_recorded (Some e) ≡ true → Part m None (without w node) now asked failed (e ∷ []) (disk_of manager) new → Part m None w now asked failed (event.Stopped node ∷ e ∷ []) (disk_of manager) new
-    stops_and is part =
-        let of = plain_recorded e is in
-        joined m w now asked failed (event.Stopped node) (e ∷ []) (disk_of manager) (disk_of manager) new refl of.0 of.1 low between
-        (desk_still accepted m cap w only_now (Up manager at) up now asked (event.Stopped node) live (λ room. refl) (λ room. tt)) part
+    -- a node stops or leaves, or comes up, and then a step of the manager comes
+    behind : (first : Event) → may_come_first first ≡ true → failed_by w first ≡ None → CanCome HasSpelling w first → ((room : Room) → room_after record_text w room first ≡ room)
+        → ((room : Room) → HasRoom record_text None w room now asked first []) → Part m (failed_by w first) (after_event w first) now asked failed (e ∷ []) (disk_of manager) new
+        → Part m None w now asked failed (first ∷ e ∷ []) (disk_of manager) new
+    behind first comes_first unfailed comes stays has part =
+        let of = plain_step e step in
+        joined m w now asked failed first (e ∷ []) (disk_of manager) (disk_of manager) new comes_first of.0 of.1 low between
+        (desk_still accepted m cap w only_now (Up manager at) up now asked first comes stays has) part
 
-    pub leaves_and : is_recorded (Some e) ≡ true → Part m None (without w node) now asked failed (e ∷ []) (disk_of manager) new → Part m None w now asked failed (event.Left node ∷ e ∷ []) (disk_of manager) new
-    leaves_and is part =
-        let of = plain_recorded e is in
-        joined m w now asked failed (event.Left node) (e ∷ []) (disk_of manager) (disk_of manager) new refl of.0 of.1 low between
-        (desk_still accepted m cap w only_now (Up manager at) up now asked (event.Left node) live (λ room. refl) (λ room. tt)) part
+    pub goes_and : is_live w node ≡ true → (leaves : Bool) → Part m None (without w node) now asked failed (e ∷ []) (disk_of manager) new
+        → Part m None w now asked failed (goes_by node leaves ∷ e ∷ []) (disk_of manager) new
+    goes_and live true part = behind (event.Left node) refl refl live (λ room. refl) (λ room. tt) part
+    goes_and live false part = behind (event.Stopped node) refl refl live (λ room. refl) (λ room. tt) part
 
-    pub loss_is_change : (first : Event) (moment : ℕ) (wanted : Request) → is_recorded (Some e) ≡ true → IsAsked (without w node) node now wanted (e ∷ [])
-        → IsChange first node (acting now (system_in w)) wanted (applied (system_in w) (acting now (system_in w)) node wanted) (first ∷ e ∷ [])
-    loss_is_change first moment wanted is asks =
-        change_is first node (acting now (system_in w)) wanted (applied (system_in w) (acting now (system_in w)) node wanted) e is asks
+    pub starts_and : is_live w node ≡ false → Part m None (after_event w (event.Started node)) now asked failed (e ∷ []) (disk_of manager) new
+        → Part m None w now asked failed (event.Started node ∷ e ∷ []) (disk_of manager) new
+    starts_and live part = behind (event.Started node) refl refl live (λ room. refl) (λ room. tt) part

@@ -1,0 +1,36 @@
+use Rattle.std.proofs.Common.{◌∙◌, Bool, false, List, ap, refl, sym, subst}
+use Rattle.std.specs.Prelude.{slice_get, unwrap_or}
+use Rattle.qm_kinds.specs.declared.input.Input.TheVariants as input
+use Rattle.qm_kinds.specs.declared.request.Request.{Request}
+use Rattle.qm_kinds.specs.declared.request.Request.TheVariants as request
+use Rattle.qm_model.specs.Acting.{acting}
+use Rattle.qm_acting.specs.Standing.{disk_of, standing_of}
+use Rattle.qm_chest.specs.At.{CanBeRecorded}
+use Rattle.qm_chest.specs.Steps.{OwnComesTo}
+use Rattle.qm_chest.proofs.Names.{node_within}
+use Rattle.qm_chest.proofs.OwnStep.{ask_comes, no_fence}
+use Rattle.qm_chest.proofs.Requests.{can_ask}
+use Rattle.qm_chest.proofs.book.Book.asked.Goals as goal
+
+pub tick-requires-clause-can : goal.tick-requires-clause-can
+tick-requires-clause-can g c =
+    let s = (standing_of c.args.manager).system in
+    can_ask s c.args.node c.args.now (node_within s c.args.self.now.names.items c.args.node c.requires.desk.1 c.requires.there) c.acts_in_time.ensures request.Tick
+    (subst (λ (r : Request). CanBeRecorded c.args.node r) c.in-Tick.is c.requires.can)
+
+pub returns-in-Tick-clause-comes : goal.returns-in-Tick-clause-comes
+returns-in-Tick-clause-comes g c = λ tells acted beside cap w small kept up.
+    subst (λ (r : Request). OwnComesTo g.D.Disk.meaning cap w c.args.node c.args.now acted (input.Ask r) beside c.args.took (disk_of c.args.manager) c.tick.result c.tick.result.event) (sym c.in-Tick.is)
+    (c.tick.ensures.comes tells acted beside cap w small kept up)
+
+pub ask-requires-clause-can : goal.ask-requires-clause-can
+ask-requires-clause-can g c =
+    let s = (standing_of c.args.manager).system in
+    can_ask s c.args.node c.args.now (node_within s c.args.self.now.names.items c.args.node c.requires.desk.1 c.requires.there) c.acts_in_time.ensures c.args.request c.requires.can
+
+pub returns-in_default-clause-comes : goal.returns-in_default-clause-comes
+returns-in_default-clause-comes g c = λ tells acted beside cap w small kept up.
+    let live = sym (c.is_live-live.ensures ∙ ap (λ (l : List Bool). unwrap_or (slice_get l c.args.node) false) kept.live) in
+    ask_comes c.site_files_are_accepted.ensures g.D.Disk.meaning g.met.D.Disk.only_now cap w c.args.manager c.args.at up c.args.node c.args.now acted beside c.args.took (acting c.args.now (standing_of c.args.manager).system) refl
+    c.args.request (disk_of c.args.manager) c.ask.result c.ask.result.event (no_fence w c.args.node c.args.request c.in_default.not-Tick)
+    (c.ask.ensures.comes tells cap w (input.Ask c.args.request) acted small up live refl)

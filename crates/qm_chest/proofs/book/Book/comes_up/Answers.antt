@@ -1,0 +1,53 @@
+use Rattle.std.proofs.Common.{ℕ, ◌∙◌, true, List, ap, arith, refl, sym, subst}
+use Rattle.std.specs.Prelude.{slice_set}
+use Rattle.qm_acting.specs.Standing.{standing_of}
+use Rattle.qm_history.specs.World.{system_in}
+use Rattle.qm_history.specs.declared.event.Event.TheVariants as event
+use Rattle.qm_chest.specs.declared.desk.Desk.TheVariants.{Up}
+use Rattle.qm_chest.specs.Steps.{IsOfNodes}
+use Rattle.qm_chest.proofs.Kept.{alone_leaves, behind_leaves, desk_of, leaves_as, recorded_some}
+use Rattle.qm_chest.proofs.Names.{node_within}
+use Rattle.qm_chest.proofs.Whole.{served_as}
+use Rattle.qm_chest.proofs.ComingUp.{start_moves, start_stays}
+use Rattle.qm_chest.proofs.Requests.{can_start}
+use Rattle.qm_chest.proofs.book.Book.comes_up.Goals as goal
+
+pub ask-came-requires-clause-can : goal.ask-came-requires-clause-can
+ask-came-requires-clause-can g c =
+    let st = standing_of c.args.manager in
+    can_start st.system c.args.node c.args.now (node_within st.system c.args.self.now.names.items c.args.node c.requires.desk.1 c.requires.there) c.acts_in_time.ensures (omega (arith, c.ranges.node.fits))
+
+pub returns-then-not-is_recorded-clause-leaves : goal.returns-then-not-is_recorded-clause-leaves
+returns-then-not-is_recorded-clause-leaves g c =
+    let m = g.D.Disk.meaning in
+    let came = c.ask-came.result in
+    let of = desk_of m c.args.self.now.names.items c.args.at came.desk c.requires.desk.2 c.ask-came.ensures.ready
+    (subst (λ (l : List (List ℕ)). IsOfNodes l c.args.at came.desk) c.requires.desk.1 c.ask-came.ensures.nodes) in
+    leaves_as c.alone.result _ c.alone.ensures
+    (alone_leaves m c.args.self.now c.args.self.now (Up c.args.manager c.args.at) came refl refl of c.ask-came.ensures.faults c.ask-came.ensures.down c.ask-came.ensures.told)
+
+pub returns-then-not-is_recorded-clause-serves : goal.returns-then-not-is_recorded-clause-serves
+returns-then-not-is_recorded-clause-serves g c = λ tells cap w asked state early is.
+    let there = node_within (system_in w) c.args.self.now.names.items c.args.node state.book.names c.requires.there in
+    served_as c.alone.result _ c.alone.ensures
+    (start_stays c.site_files_are_accepted.ensures c.nodes_keep_their_names.ensures.names g.D.Disk.meaning g.met.D.Disk.only_now cap w c.args.manager c.args.at c.args.node c.args.now there c.args.self.now state asked is
+    c.ask-came.result (c.ask-came.ensures.comes tells) (sym c.requires.can) c.own_requests_are_accepted.ensures.up (omega (arith, c.args.self.now.all_live, c.args.self.now.live.ok.0, c.args.self.now.names.ok.0, c.requires.there))
+    (sym c.is_recorded.ensures ∙ c.if-not-is_recorded.true))
+
+pub returns-clause-leaves : goal.returns-clause-leaves
+returns-clause-leaves g c =
+    let m = g.D.Disk.meaning in
+    let came = c.ask-came.result in
+    let of = desk_of m c.args.self.now.names.items c.args.at came.desk c.requires.desk.2 c.ask-came.ensures.ready
+    (subst (λ (l : List (List ℕ)). IsOfNodes l c.args.at came.desk) c.requires.desk.1 c.ask-came.ensures.nodes) in
+    leaves_as c.behind.result _ c.behind.ensures
+    (behind_leaves m c.args.self.now _ (Up c.args.manager c.args.at) came refl refl of c.ask-came.ensures.faults c.ask-came.ensures.down c.ask-came.ensures.told (event.Started c.args.node)
+    (recorded_some came.event (sym c.is_recorded.ensures ∙ c.if-not-is_recorded.false)))
+
+pub returns-clause-serves : goal.returns-clause-serves
+returns-clause-serves g c = λ tells cap w asked state early is.
+    let there = node_within (system_in w) c.args.self.now.names.items c.args.node state.book.names c.requires.there in
+    served_as c.behind.result _ c.behind.ensures
+    (start_moves c.site_files_are_accepted.ensures c.nodes_keep_their_names.ensures.names g.D.Disk.meaning g.met.D.Disk.only_now cap w c.args.manager c.args.at c.args.node c.args.now there c.args.self.now state asked is
+    c.ask-came.result (c.ask-came.ensures.comes tells) (sym c.requires.can) c.own_requests_are_accepted.ensures.up (omega (arith, c.args.self.now.all_live, c.args.self.now.live.ok.0, c.args.self.now.names.ok.0, c.requires.there))
+    _ refl (ap (λ (n : ℕ). slice_set c.args.self.now.live.items n true) c.from.ensures) refl refl (sym c.is_recorded.ensures ∙ c.if-not-is_recorded.false))

@@ -1,0 +1,14 @@
+use Rattle.std.proofs.Common.{sym, subst}
+use Rattle.qm_chest.specs.declared.desk.Desk.{Desk}
+use Rattle.qm_chest.specs.Whole.{AsksAlone, ServesWhere}
+use Rattle.qm_chest.proofs.book.Book.served_alone.Goals as goal
+
+pub returns-in-Up-clause-serves : goal.returns-in-Up-clause-serves
+returns-in-Up-clause-serves g c = λ tells.
+    subst (λ (d : Desk g.row.D.Denot). ServesWhere g.D.Disk.meaning c.args.self.now d c.args.node c.args.now (AsksAlone c.args.node c.args.input c.args.leaves) c.managed.new.self c.managed.result) (sym c.in-Up.is)
+    (c.managed.ensures.serves tells)
+
+pub returns-in-Down-clause-serves : goal.returns-in-Down-clause-serves
+returns-in-Down-clause-serves g c = λ tells.
+    subst (λ (d : Desk g.row.D.Denot). ServesWhere g.D.Disk.meaning c.args.self.now d c.args.node c.args.now (AsksAlone c.args.node c.args.input c.args.leaves) c.unmanaged.new.self c.unmanaged.result) (sym c.in-Down.is)
+    (c.unmanaged.ensures.serves tells)

@@ -1,0 +1,21 @@
+-- What an answer shows of runs, whatever the disks tell.
+-- OpenVMS System Services Reference Manual, $GETQUI, on executing jobs.
+use Rattle.std.specs.Prelude.{◌≡◌, ℕ, List}
+use Rattle.qm_kinds.specs.declared.system.System.{System}
+use Rattle.qm_kinds.specs.declared.work.Duty.{Duty}
+use Rattle.qm_model.specs.Consistent.{IsConsistent}
+use Rattle.qm_model.specs.Duties.{duties}
+use Rattle.qm_history.specs.declared.call.Answer.{Answer}
+use Rattle.qm_history.specs.declared.call.Answer.TheVariants as answer
+
+-- they are those of some node of a consistent system
+pub record AreOfSome (shown : List Duty) : Type 0 where
+  pub system : System
+  pub node : List ℕ
+  pub known : List ℕ
+  pub consistent : IsConsistent system
+  pub are : shown ≡ duties system node known
+
+abbrev pub ShowsDuties : Answer → Type 0
+ShowsDuties (answer.Duties took moment shown) = AreOfSome shown
+ShowsDuties told = Unit {0}

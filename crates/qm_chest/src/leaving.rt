@@ -1,0 +1,156 @@
+// A node that stops, or leaves.
+ghost use Rattle.std.specs.Prelude.{◌≡◌, ◌<◌, ℕ, IsTrue, IfOk, List, [], ◌∷◌, Some, ◌≢◌, false, length, slice_get, slice_set};
+ghost use Rattle.qm_kinds.specs.Text.{IsText, is_name_byte};
+ghost use Rattle.qm_kinds.specs.declared.input.Input.TheVariants as input;
+ghost use Rattle.qm_history.specs.Answers.{plain};
+ghost use Rattle.qm_chest.specs.declared.desk.Desk.TheVariants as desk;
+ghost use Rattle.qm_chest.specs.At.{IsDeskOf};
+ghost use Rattle.qm_chest.specs.Whole.{AsksAlone, Leaves, ServesWhere, goes_alone, goes_by};
+
+use crate::answering::short;
+use crate::asking::ask;
+use crate::book::Book;
+use crate::desk::Desk;
+use crate::own::acts_in_time;
+use crate::place::Place;
+use crate::serving::Served;
+use qm_acting::{Manager, own_requests_are_accepted};
+use qm_database::Closed;
+use qm_disk::Disk;
+use qm_history::{Answer, Event};
+use qm_kinds::{Act, Moment, Name, Reply, Request, Seq};
+use qm_model::nodes_keep_their_names;
+use qm_restore::{site_files_are_accepted, site_files_are_consistent};
+use std::alloc::{AllocError, Global};
+
+impl Book {
+    /// A node goes while a manager is up. Where that is on the node itself, it ends with it, and the next takeover tells that the
+    /// node is gone; else it records the loss.
+    pub(crate) fn gone<D: Disk>(
+        &mut self,
+        manager: Manager<D>,
+        at: u8,
+        node: u8,
+        now: Moment,
+        leaves: bool,
+    ) -> Served<D>
+        requires desk { IsDeskOf D.meaning self.old.names.items (desk.Up manager at) }
+        requires there { node < length self.old.names.items }
+        ensures leaves { Leaves D.meaning self.old (desk.Up manager at) self.new result }
+        ensures serves { IsTrue D.meaning.tells → ServesWhere D.meaning self.old (desk.Up manager at) node now
+            (AsksAlone node input.StopNode leaves) self.new result }
+    {
+        site_files_are_accepted();
+        if at == node {
+            return self.gone_alone(manager.close(), None, node, now, leaves);
+        }
+        self.lost(manager, at, node, now, leaves)
+    }
+
+    // The manager, which is elsewhere, records that a node goes. Without room for the record a node leaves, and doesn't stop.
+    fn lost<D: Disk>(
+        &mut self,
+        manager: Manager<D>,
+        at: u8,
+        node: u8,
+        now: Moment,
+        leaves: bool,
+    ) -> Served<D>
+        requires desk { IsDeskOf D.meaning self.old.names.items (desk.Up manager at) }
+        requires there { node < length self.old.names.items }
+        requires elsewhere { at ≢ node }
+        ensures leaves { Leaves D.meaning self.old (desk.Up manager at) self.new result }
+        ensures serves { IsTrue D.meaning.tells → ServesWhere D.meaning self.old (desk.Up manager at) node now
+            (AsksAlone node input.StopNode leaves) self.new result }
+    {
+        site_files_are_accepted();
+        site_files_are_consistent();
+        own_requests_are_accepted();
+        nodes_keep_their_names();
+        acts_in_time(&manager, now);
+        let Ok(nodes) = self.one(node) else {
+            return short(manager, at, None).alone();
+        };
+        let came = ask(
+            manager,
+            at,
+            false,
+            node,
+            now,
+            Request::NodeLost { nodes },
+            None,
+        );
+        if !came.lets_go(leaves) {
+            return came.alone();
+        }
+        self.live[usize::from(node)] = false;
+        came.behind(gone(node, leaves))
+    }
+
+    // A list of one node.
+    fn one(&self, node: u8) -> Result<Seq<Name>, AllocError>
+        requires { node < length self.now.names.items }
+        ensures one { (name : List ℕ) → slice_get self.now.names.items node ≡ Some name
+            → IfOk result (λ list. list ≡ name ∷ []) }
+        ensures lawful { (name : List ℕ) → slice_get self.now.names.items node ≡ Some name → IsText is_name_byte name }
+    {
+        let name = self.name(node);
+        name.as_bytes();
+        let mut list = Vec::new(self.alloc);
+        list.push(name)?;
+        Ok(Seq::of(list))
+    }
+
+    /// A node goes, and nothing is recorded: no manager is up any more.
+    pub(crate) fn gone_alone<D>(
+        &mut self,
+        closed: Closed<D>,
+        place: Option<Place>,
+        node: u8,
+        now: Moment,
+        leaves: bool,
+    ) -> Served<D>
+        requires { node < length self.old.names.items }
+        ensures served { (name : List ℕ) → slice_get self.old.names.items node ≡ Some name
+            → result ≡ goes_alone (desk.Down closed place) node now leaves name }
+        ensures live { self.new.live.items ≡ slice_set self.old.live.items node false }
+        ensures others { (self.new.names.items ≡ self.old.names.items) × (self.new.held.items ≡ self.old.held.items)
+            × (self.new.greatest ≡ self.old.greatest) }
+    {
+        self.live[usize::from(node)] = false;
+        let act = Act::NodeStopped {
+            node: self.name(node),
+        };
+        Served {
+            desk: Desk::Down { closed, place },
+            first: Some(gone(node, leaves)),
+            second: None,
+            answer: Answer::Done {
+                took: None,
+                moment: now,
+                reply: self.plain(act),
+            },
+        }
+    }
+
+    // A reply that starts no job.
+    pub(crate) fn plain(&self, act: Act) -> Reply
+        ensures { result ≡ plain act }
+    {
+        Reply {
+            act,
+            started: Seq::new(self.alloc),
+        }
+    }
+}
+
+// The event of a node that goes.
+fn gone(node: u8, leaves: bool) -> Event
+    ensures { result ≡ goes_by node leaves }
+{
+    if leaves {
+        Event::Left { node }
+    } else {
+        Event::Stopped { node }
+    }
+}

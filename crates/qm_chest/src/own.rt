@@ -1,0 +1,136 @@
+// A call's own step at a manager that is up: a request, a listing or a fetch.
+ghost use Rattle.std.specs.Prelude.{◌≡◌, ◌<◌, ◌≤◌, ℕ, IsTrue, true, length};
+ghost use Rattle.qm_disk.specs.Disk.{TellsFaults};
+ghost use Rattle.qm_kinds.specs.declared.moment.TheConstants.{LAST_MOMENT};
+ghost use Rattle.qm_kinds.specs.declared.input.Input.TheVariants as input;
+ghost use Rattle.qm_kinds.specs.declared.request.Request.TheVariants as request;
+ghost use Rattle.qm_model.specs.Acting.{acting};
+ghost use Rattle.qm_history.specs.Accepted.{cluster};
+ghost use Rattle.qm_history.specs.Faults.{is_journal};
+ghost use Rattle.qm_history.specs.Turn.{Beside};
+ghost use Rattle.qm_acting.specs.Asking.{CanBeAsked};
+ghost use Rattle.qm_acting.specs.Standing.{standing_of, disk_of, IsReady};
+ghost use Rattle.qm_chest.specs.declared.desk.Desk.TheVariants as desk;
+ghost use Rattle.qm_chest.specs.At.{CanBeAskedFor, CanBeRecorded, IsDeskOf, IsWithout};
+ghost use Rattle.qm_chest.specs.Desk.{desk_disk, IsReadyDesk};
+ghost use Rattle.qm_chest.specs.Steps.{IsOfNodes, IsOwnStep, IsToldStep, OwnComes};
+
+use crate::asking::{Came, ask};
+use crate::book::Book;
+use crate::desk::Desk;
+use crate::showing::fetch;
+use qm_acting::Manager;
+use qm_disk::Disk;
+use qm_history::{Answer, Event, Takeover};
+use qm_kinds::{Input, Moment, Request};
+use qm_restore::site_files_are_accepted;
+
+impl Book {
+    /// What a call makes of the manager, whose node is `at`, alone or behind a takeover of which it tells.
+    pub(crate) fn own<D: Disk>(
+        &self,
+        manager: Manager<D>,
+        at: u8,
+        node: u8,
+        now: Moment,
+        input: Input,
+        took: Option<Takeover>,
+    ) -> Came<D>
+        requires desk { IsDeskOf D.meaning self.now.names.items (desk.Up manager at) }
+        requires there { node < length self.now.names.items }
+        requires can { CanBeAskedFor node input }
+        requires step { IsOwnStep input }
+
+        ensures desk { IsDeskOf D.meaning self.now.names.items result.desk }
+        ensures down { is_journal result.answer ≡ true → IsWithout result.desk }
+        ensures told { IsToldStep took result.event result.answer }
+        ensures faults { TellsFaults D.meaning (disk_of manager) (desk_disk result.desk) (is_journal result.answer ≡ true) }
+        ensures comes { IsTrue D.meaning.tells → (acted : ℕ) (beside : Beside)
+            → OwnComes D.meaning self.now manager at node now acted input beside took result }
+    {
+        match input {
+            Input::Ask(request) => self.asked(manager, at, node, now, request, took),
+            Input::Show(query) => self.show(manager, at, node, now, query, took),
+            Input::Fetch { known } => fetch(manager, at, node, now, known, took),
+            _ => unreachable!(),
+        }
+    }
+
+    // A request. TICK is for the manager's epoch alone.
+    fn asked<D: Disk>(
+        &self,
+        manager: Manager<D>,
+        at: u8,
+        node: u8,
+        now: Moment,
+        request: Request,
+        took: Option<Takeover>,
+    ) -> Came<D>
+        requires desk { IsDeskOf D.meaning self.now.names.items (desk.Up manager at) }
+        requires there { node < length self.now.names.items }
+        requires can { CanBeRecorded node request }
+
+        ensures desk { IsDeskOf D.meaning self.now.names.items result.desk }
+        ensures down { is_journal result.answer ≡ true → IsWithout result.desk }
+        ensures told { IsToldStep took result.event result.answer }
+        ensures faults { TellsFaults D.meaning (disk_of manager) (desk_disk result.desk) (is_journal result.answer ≡ true) }
+        ensures comes { IsTrue D.meaning.tells → (acted : ℕ) (beside : Beside)
+            → OwnComes D.meaning self.now manager at node now acted (input.Ask request) beside took result }
+    {
+        site_files_are_accepted();
+        acts_in_time(&manager, now);
+        match request {
+            Request::Tick => self.tick(manager, at, node, now, took),
+            request => {
+                let live = self.is_live(node);
+                ask(manager, at, live, node, now, request, took)
+            }
+        }
+    }
+
+    // The clock is looked at for a node that holds the manager's epoch.
+    fn tick<D: Disk>(
+        &self,
+        manager: Manager<D>,
+        at: u8,
+        node: u8,
+        now: Moment,
+        took: Option<Takeover>,
+    ) -> Came<D>
+        requires ready { IsReady D.meaning manager }
+        requires can { CanBeAsked (standing_of manager).system (acting now (standing_of manager).system) node request.Tick }
+        requires there { node < length self.now.names.items }
+
+        ensures ready { IsReadyDesk D.meaning result.desk }
+        ensures nodes { IsOfNodes (cluster (standing_of manager).system) at result.desk }
+        ensures down { is_journal result.answer ≡ true → IsWithout result.desk }
+        ensures told { IsToldStep took result.event result.answer }
+        ensures faults { TellsFaults D.meaning (disk_of manager) (desk_disk result.desk) (is_journal result.answer ≡ true) }
+        ensures comes { IsTrue D.meaning.tells → (acted : ℕ) (beside : Beside)
+            → OwnComes D.meaning self.now manager at node now acted (input.Ask request.Tick) beside took result }
+    {
+        site_files_are_accepted();
+        let held = self.held_by(node);
+        let current = manager.epoch();
+        if held != current {
+            return Came {
+                desk: Desk::Up { manager, node: at },
+                event: Some(Event::Fenced {
+                    node,
+                    held,
+                    current,
+                }),
+                answer: Answer::Fenced { held, current },
+            };
+        }
+        let live = self.is_live(node);
+        ask(manager, at, live, node, now, Request::Tick, took)
+    }
+}
+
+/// A request acts at a moment that can be recorded.
+pub(crate) fn acts_in_time<D: Disk>(manager: &Manager<D>, now: Moment)
+    ensures { acting now (standing_of manager.now).system ≤ LAST_MOMENT }
+{
+    manager.acting(now).hundredths();
+}
