@@ -1,6 +1,5 @@
 -- What the model makes of a request, where the numbers of runs are spent and where they aren't.
-use Rattle.std.proofs.Common.{◌≡◌, ◌∙◌, ℕ, ◌&&◌, Bool, true, false, cond, List, Option, None, Some, Result, Ok, Err, IsOk, refl, ap, sym, subst}
-use Rattle.std.specs.Result.{IsErr, IsErrAnd}
+use Rattle.std.proofs.Common.{◌≡◌, ◌∙◌, ℕ, ◌&&◌, Bool, false, cond, List, Option, None, Some, Ok, ap, sym, subst}
 use Rattle.qm_kinds.specs.declared.refusal.Refusal.{Refusal}
 use Rattle.qm_kinds.specs.declared.refusal.Refusal.TheVariants.{NumbersSpent}
 use Rattle.qm_kinds.specs.declared.request.Request.{Request}
@@ -14,12 +13,9 @@ use Rattle.qm_model.specs.States.{stopped_when_idle}
 use Rattle.qm_model.proofs.JobLemmas.{change_is_consistent}
 use Rattle.qm_state.specs.declared.image.Image.{Image}
 use Rattle.qm_state.specs.declared.prepared.Change.{Change}
-use Rattle.qm_state.specs.declared.refused.Refused.{Refused}
-use Rattle.qm_state.specs.declared.refused.Refused.TheVariants.{By, NoMemory}
 use Rattle.qm_state.specs.Image.{system_of}
 use Rattle.qm_state.specs.Deciding.{PreparesAt}
 use Rattle.qm_state.specs.Preparing.{found, outcome_of}
-use Rattle.qm_state.specs.Refusing.{Decides, Refuses}
 
 -- the request needs numbers of runs, and they are spent
 abbrev pub is_spent : System → Request → Bool
@@ -32,28 +28,12 @@ first_by s name r spent = cond spent (Some NumbersSpent) (refusal_of s name r)
 first_left : (s : System) (name : List ℕ) (r : Request) → is_spent s r ≡ false → first_refusal_of s name r ≡ refusal_of s name r
 first_left s name r left = ap (first_by s name r) left
 
--- where the numbers are spent, that is the refusal
-pub spent : (s : System) (now node : ℕ) (r : Request) → is_spent s r ≡ true → applied s now node r ≡ Err NumbersSpent
-spent s now node r is =
-    let name = node_at node s.nodes in
-    ap (λ (b : Bool). unless_refused (first_by s name r b) (completed (change_of (found now s) now name r))) is
-
--- and else the request decides
+-- where numbers are left, the request decides
 pub decided : (s : System) (now node : ℕ) (name : List ℕ) (r : Request) → name ≡ node_at node s.nodes → is_spent s r ≡ false
     → applied s now node r ≡ unless_refused (refusal_of s name r) (completed (change_of (found now s) now name r))
 decided s now node name r named left =
     subst (λ (n : List ℕ). applied s now node r ≡ unless_refused (refusal_of s n r) (completed (change_of (found now s) now n r))) (sym named)
     (ap (λ (b : Bool). unless_refused (first_by s (node_at node s.nodes) r b) (completed (change_of (found now s) now (node_at node s.nodes) r))) left)
-
--- a refusal of the change is the model's, also where it is handed on
-refuses_by : {X : Type 0} (Z : Type 0) (told : Result X Refused) (e : Refused) (refusal : Option Refusal) (accepted : Accepted) → told ≡ Err e → Decides refusal told → Refuses {X = Z} (Err e) (unless_refused refusal accepted)
-refuses_by Z told (By r) refusal accepted is refused = ap (λ (o : Option Refusal). unless_refused o accepted) (subst (Decides refusal) is refused)
-refuses_by Z told NoMemory refusal accepted is refused = subst (λ (o : Option Refusal). IsOk (unless_refused o accepted)) (sym (subst (Decides refusal) is refused)) refl
-
-pub refuses : {X Z : Type 0} (told : Result X Refused) (result : Result Z Refused) (e : Refused) (refusal : Option Refusal) (accepted : Accepted) → told ≡ Err e
-    → IsErr result × IsErrAnd result (λ x. x ≡ e) → Decides refusal told → Refuses result (unless_refused refusal accepted)
-refuses told (Ok x) e refusal accepted is handed refused = let no : false ≡ true = handed.0 in cc
-refuses {Z = Z} told (Err f) e refusal accepted is handed refused = refuses_by Z told f refusal accepted (is ∙ ap Err (sym handed.1)) refused
 
 -- where memory was taken for the request, the change that is prepared is the model's
 pub accepted : {now : ℕ} {name : List ℕ} (old new : Image) (node : ℕ) (r : Request) (change : Change) → name ≡ node_at node (system_of old).nodes → is_spent (system_of old) r ≡ false

@@ -55,7 +55,7 @@ impl Image {
                 self.define_characteristic(characteristic)
             }
             Change::RemoveCharacteristic { name } => self.remove_characteristic(&name),
-            Change::NewEntry { entry } => self.enter(entry),
+            Change::NewEntry { entry } => self.enter(&entry),
             Change::PutQueue { queue } => self.put_queue(queue),
             Change::SetQueue {
                 name,

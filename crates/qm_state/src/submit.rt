@@ -214,17 +214,17 @@ impl Image {
     /// The entry stands behind the others, and names its file.
     #[tactic(auto, unfolding(crate::specs::Image::system_of))]
     #[inline(never)]
-    pub(crate) fn enter(&mut self, entry: Entry) -> Act
+    pub(crate) fn enter(&mut self, entry: &Entry) -> Act
         requires sound { IsConsistent (system_of self.old) }
-        requires new { IsNewEntry self.old entry }
-        ensures done { entered (system_of self.old) entry ≡ replied (system_of self.new) result }
+        requires new { IsNewEntry self.old entry.now }
+        ensures done { entered (system_of self.old) entry.now ≡ replied (system_of self.new) result }
         ensures room { self.new.parts.spare_runs ≡ self.old.parts.spare_runs }
     {
-        let act = submitted(&entry);
+        let act = submitted(entry);
         self.parts.set_timer(entry.number, moment_in(&entry.state));
         self.next_entry += 1;
         self.spool.enter(&entry.file);
-        self.parts.insert_entry(entry);
+        self.parts.insert_entry(*entry);
         act
     }
 }
