@@ -8,6 +8,7 @@ use Rattle.qm_kinds.specs.declared.file.FileName.{FileName}
 use Rattle.qm_kinds.specs.declared.form.Form.{Form}
 use Rattle.qm_kinds.specs.declared.form.Characteristic.{Characteristic}
 use Rattle.qm_kinds.specs.declared.input.Input.{Input}
+use Rattle.qm_kinds.specs.declared.query.Query.{Query}
 use Rattle.qm_kinds.specs.declared.input.Input.TheVariants.{Ask, Show}
 use Rattle.qm_kinds.specs.declared.queue.NewQueue.{NewQueue}
 use Rattle.qm_kinds.specs.declared.queue.QueueChange.{QueueChange}
@@ -34,7 +35,7 @@ use Rattle.qm_dcl.specs.Settings.{settings_of}
 use Rattle.qm_dcl.specs.Lists.{lists_of, nodes_of}
 use Rattle.qm_dcl.specs.Submitting.{job_of}
 use Rattle.qm_dcl.specs.Entries.{entry_change_of}
-use Rattle.qm_dcl.specs.Showing.{query_of}
+use Rattle.qm_dcl.specs.Showing.{characteristics_query, entries_query, forms_query, queues_query}
 use Rattle.qm_dcl.specs.Queues.{change_of, new_queue_of, stop_of, queue_request}
 use Rattle.qm_dcl.specs.Command.{asked, not_built, judged, asked_with, meant, unnamed, command_named, command_of}
 use Rattle.qm_dcl.proofs.FewValues.{HasFew, AreShort, lists_are_short}
@@ -67,7 +68,7 @@ or_empty (Some xs) few = few
 
 -- it holds of each form that is built
 pub record OfEach (P : Input → Type 0) : Type 0 where
-  pub shows : (number : ℕ) → P (Show (query_of number))
+  pub shows : (query : Query) → P (Show query)
   pub submits : (job : Job) → HasFew job.characteristics → P (Ask (Submit job))
   pub sets_entry : (number : ℕ) (change : EntryChange) → HasFewIfGiven change.characteristics → P (Ask (SetEntry number change))
   pub deletes_entry : (number : ℕ) → P (Ask (DeleteEntry number))
@@ -143,10 +144,6 @@ module _ {P : Input → Type 0} (each : OfEach P) (user : List ℕ) where
   of_entry None = tt
   of_entry (Some number) = each.deletes_entry number
 
-  of_shown : (number : Option ℕ) → IfSome (option_map (λ n. Show (query_of n)) number) P
-  of_shown None = tt
-  of_shown (Some number) = each.shows number
-
   module _ (s : Settings) (lists : Lists) (fit : AreFit s) (short : AreShort lists) where
     of_file : (kind : JobKind) (file : Option FileName) → IfSome (option_map Ask (option_map (λ f. Submit (job_of user kind f s lists)) file)) P
     of_file kind None = tt
@@ -171,7 +168,10 @@ module _ {P : Input → Type 0} (each : OfEach P) (user : List ℕ) where
     of_queue c (Some name) is = of_request c name is
 
     of_command : (c : Command) (nodes : Option (List (List ℕ))) → is_built c ≡ true → IfSome (asked user c s lists nodes) P
-    of_command command.ShowEntry nodes built = of_shown s.entry
+    of_command command.ShowQueue nodes built = each.shows (queues_query user s.listing)
+    of_command command.ShowEntry nodes built = each.shows (entries_query user s.listing.pattern s.entry)
+    of_command command.ShowForms nodes built = each.shows (forms_query s.listing.pattern)
+    of_command command.ShowCharacteristics nodes built = each.shows (characteristics_query s.listing.pattern)
     of_command command.ShowManagers nodes built = cc
     of_command command.StartManager nodes built = cc
     of_command command.Submit nodes built = of_file Batch s.file

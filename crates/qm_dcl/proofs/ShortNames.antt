@@ -17,9 +17,9 @@ use Rattle.qm_dcl.specs.declared.settings.Settings.{Settings}
 use Rattle.qm_dcl.specs.declared.settings.QueueSettings.{QueueSettings}
 use Rattle.qm_dcl.specs.declared.value.Location.{Location}
 use Rattle.qm_dcl.specs.declared.value.Side.{Side}
-use Rattle.qm_dcl.specs.Values.{said_by, raised_by, are_digits, byte_said, form_number_said, entry_said, blocks_said, if_passes, short_name_said, definable_name_said, node_said, says_all, form_said, characteristic_said, behind_colon, before_colon, device_said, has_equals, located, location_cut_at, location_said, schedule_said, queue_retain_said, job_retain_said, is_until, side_said, moment_said}
+use Rattle.qm_dcl.specs.Values.{said_by, raised_by, are_digits, byte_said, form_number_said, entry_said, blocks_said, if_passes, short_name_said, definable_name_said, node_said, says_all, form_said, characteristic_said, behind_colon, before_colon, device_said, has_equals, located, location_cut_at, location_said, schedule_said, queue_retain_said, job_retain_said, is_until, side_said, moment_said, pattern_said}
 use Rattle.qm_dcl.specs.Forms.{with_margin}
-use Rattle.qm_dcl.specs.Given.{queue_marked, with_word, with_job, with_queue_settings, with_definition, with_shape, queue_given, entry_given, blocks_with, valued, nodes_begun, node_given, schedule_given, queue_retain_given, with_retain, until_given, after_given, margin_given, definable_given, form_given, characteristic_given, merge_given, file_given, parametered}
+use Rattle.qm_dcl.specs.Given.{queue_marked, with_word, with_job, with_queue_settings, with_definition, with_shape, queue_given, entry_given, pattern_given, blocks_with, valued, nodes_begun, node_given, schedule_given, queue_retain_given, with_retain, until_given, after_given, margin_given, definable_given, form_given, characteristic_given, merge_given, file_given, parametered}
 use Rattle.qm_dcl.specs.Settings.{nothing_given, or_value_fault, with_key, with_until, with_retain_word, with_job_retain, is_of_queue, with_value, inner_value, has_value_ahead, lists_nodes, with_part, on_settings, settings_from, settings_of}
 
 abbrev pub IsShort : List ℕ → Type 0
@@ -152,9 +152,12 @@ merge_fit : (s : Settings) (name : Option (List ℕ)) (said : List ℕ) → AreF
 merge_fit s None said fit = queue_fit s said fit
 merge_fit s (Some target) said fit = kept (λ name. record s { source = Some name }) (short_name_said said) (λ name. fit)
 
-shown_fit : (s : Settings) (said : List ℕ) (digits : Bool) → AreFit s → IfSome (cond digits (entry_given s said) (Some s)) AreFit
+pattern_fit : (s : Settings) (said : List ℕ) → AreFit s → IfSome (pattern_given s said) AreFit
+pattern_fit s said fit = kept (λ pattern. record s { listing = record s.listing { pattern = Some pattern } }) (pattern_said said) (λ pattern. fit)
+
+shown_fit : (s : Settings) (said : List ℕ) (digits : Bool) → AreFit s → IfSome (cond digits (entry_given s said) (pattern_given s said)) AreFit
 shown_fit s said true fit = kept (λ number. record s { entry = Some number }) (entry_said said) (λ number. fit)
-shown_fit s said false fit = fit
+shown_fit s said false fit = pattern_fit s said fit
 
 file_fit : (s : Settings) (said : List ℕ) → AreFit s → IfSome (file_given s said) AreFit
 file_fit s said fit = kept (λ file. record s { file = Some file }) (file_name_of said) (λ file. fit)
@@ -164,6 +167,9 @@ parametered_fit s command.Submit said fit = file_fit s said fit
 parametered_fit s command.Print said fit = file_fit s said fit
 parametered_fit s command.SetEntry said fit = kept (λ number. record s { entry = Some number }) (entry_said said) (λ number. fit)
 parametered_fit s command.ShowEntry said fit = shown_fit s said (are_digits said) fit
+parametered_fit s command.ShowQueue said fit = pattern_fit s said fit
+parametered_fit s command.ShowForms said fit = pattern_fit s said fit
+parametered_fit s command.ShowCharacteristics said fit = pattern_fit s said fit
 parametered_fit s command.InitializeQueue said fit = queue_fit s said fit
 parametered_fit s command.SetQueue said fit = queue_fit s said fit
 parametered_fit s command.StartQueue said fit = queue_fit s said fit

@@ -6,10 +6,10 @@ use Rattle.qm_grammar.specs.declared.table.Command.TheVariants as command
 -- some form of the command is built, with all its qualifiers
 abbrev pub is_built : Command → Bool
 is_built command.StartManager = false
-is_built command.ShowForms = false
-is_built command.ShowCharacteristics = false
+is_built command.ShowForms = true
+is_built command.ShowCharacteristics = true
 is_built command.ShowManagers = false
-is_built command.ShowQueue = false
+is_built command.ShowQueue = true
 is_built command.InitializeQueue = true
 is_built command.SetQueue = true
 is_built command.SetEntry = true

@@ -20,7 +20,7 @@ use Rattle.qm_dcl.specs.Settings.{settings_of}
 use Rattle.qm_dcl.specs.Lists.{lists_of, nodes_of}
 use Rattle.qm_dcl.specs.Submitting.{job_of}
 use Rattle.qm_dcl.specs.Entries.{entry_change_of}
-use Rattle.qm_dcl.specs.Showing.{manager_query, query_of}
+use Rattle.qm_dcl.specs.Showing.{characteristics_query, entries_query, forms_query, manager_query, queues_query}
 use Rattle.qm_dcl.specs.Queues.{queue_request}
 
 -- what a command changes, where this form of it is built
@@ -38,7 +38,10 @@ request_of user c s lists = option_and_then (λ name. queue_request name c s lis
 
 -- what a command asks for, where this form of it is built
 abbrev pub asked : List ℕ → Command → Settings → Lists → Option (List (List ℕ)) → Option Input
-asked user command.ShowEntry s lists nodes = option_map (λ number. Show (query_of number)) s.entry
+asked user command.ShowQueue s lists nodes = Some (Show (queues_query user s.listing))
+asked user command.ShowEntry s lists nodes = Some (Show (entries_query user s.listing.pattern s.entry))
+asked user command.ShowForms s lists nodes = Some (Show (forms_query s.listing.pattern))
+asked user command.ShowCharacteristics s lists nodes = Some (Show (characteristics_query s.listing.pattern))
 asked user command.ShowManagers s lists nodes = Some (Show manager_query)
 asked user command.StartManager s lists nodes = Some (TakeManager nodes)
 asked user c s lists nodes = option_map Ask (request_of user c s lists)
@@ -74,6 +77,6 @@ command_named user now text None = unnamed (command_in text)
 command_named user now text (Some c) = if is_built c then meant user now text c else Err not_built
 
 -- What the text of a user asks for that is read at a moment, or the fault with the least place. A text that names a command which
--- isn't built isn't either, whatever else is wrong with it; nor is another form of a command, where nothing is wrong.
+-- isn't built isn't either, whatever else is wrong with it.
 abbrev pub command_of : List ℕ → ℕ → List ℕ → Result Input Fault
 command_of user now text = command_named user now text (named_command text (tokens_in text))

@@ -12,13 +12,14 @@ use Rattle.qm_grammar.specs.declared.word.Word.{Word}
 use Rattle.qm_grammar.specs.declared.word.Word.TheVariants as words
 use Rattle.qm_dcl.specs.declared.settings.Settings.{Settings}
 use Rattle.qm_dcl.specs.declared.settings.JobSettings.{JobSettings}
+use Rattle.qm_dcl.specs.declared.settings.ListingSettings.{ListingSettings}
 use Rattle.qm_dcl.specs.declared.settings.QueueSettings.{QueueSettings}
 use Rattle.qm_dcl.specs.declared.settings.Definition.{Definition}
 use Rattle.qm_dcl.specs.declared.settings.Stop.{Stop}
 use Rattle.qm_dcl.specs.declared.settings.Stop.TheVariants as stop
 use Rattle.qm_dcl.specs.declared.value.Side.{Side}
 use Rattle.qm_dcl.specs.Forms.{with_default_margins, with_margin}
-use Rattle.qm_dcl.specs.Values.{are_digits, byte_said, form_number_said, entry_said, blocks_said, short_name_said, definable_name_said, node_said, says_all, form_said, characteristic_said, location_said, schedule_said, queue_retain_said}
+use Rattle.qm_dcl.specs.Values.{are_digits, byte_said, form_number_said, entry_said, blocks_said, short_name_said, definable_name_said, node_said, says_all, form_said, characteristic_said, pattern_said, location_said, schedule_said, queue_retain_said}
 
 -- ---- what a qualifier gives by itself
 
@@ -55,6 +56,14 @@ stop_marked how words.Abort = Some stop.Abort
 stop_marked how words.Requeue = Some stop.Requeue
 stop_marked how _ = how
 
+-- the kinds of queue that are listed add up
+abbrev pub listing_marked : ListingSettings → Word → ListingSettings
+listing_marked listing words.AllJobs = record listing { all_jobs = true }
+listing_marked listing words.Batch = record listing { batch = true }
+listing_marked listing words.Device = record listing { device = true }
+listing_marked listing words.Generic = record listing { generic = true }
+listing_marked listing _ = listing
+
 -- a qualifier, whose value may come next
 abbrev pub with_word : Settings → Word → Settings
 with_word s word = record s {
@@ -64,6 +73,7 @@ with_word s word = record s {
   job = job_marked s.job word;
   queue_settings = queue_marked s.queue_settings word;
   definition = record s.definition { shape = shape_marked s.definition.shape word };
+  listing = listing_marked s.listing word;
 }
 
 -- ---- what a value or a parameter gives, if it can be one
@@ -170,12 +180,19 @@ merge_given s (Some target) said = option_map (λ name. record s { source = Some
 abbrev pub file_given : Settings → List ℕ → Option Settings
 file_given s said = option_map (λ file. record s { file = Some file }) (file_name_of said)
 
--- a parameter; for SHOW ENTRY what is no number is a pattern, which gives nothing
+-- a pattern of names
+abbrev pub pattern_given : Settings → List ℕ → Option Settings
+pattern_given s said = option_map (λ pattern. record s { listing = record s.listing { pattern = Some pattern } }) (pattern_said said)
+
+-- a parameter; for SHOW ENTRY what is no number is a pattern
 abbrev pub parametered : Settings → Command → List ℕ → Option Settings
 parametered s command.Submit said = file_given s said
 parametered s command.Print said = file_given s said
 parametered s command.SetEntry said = entry_given s said
-parametered s command.ShowEntry said = if are_digits said then entry_given s said else Some s
+parametered s command.ShowEntry said = if are_digits said then entry_given s said else pattern_given s said
+parametered s command.ShowQueue said = pattern_given s said
+parametered s command.ShowForms said = pattern_given s said
+parametered s command.ShowCharacteristics said = pattern_given s said
 parametered s command.InitializeQueue said = queue_given s said
 parametered s command.SetQueue said = queue_given s said
 parametered s command.StartQueue said = queue_given s said

@@ -13,6 +13,7 @@ use Rattle.qm_grammar.specs.declared.part.Part.{Part}
 use Rattle.qm_grammar.specs.declared.part.Part.TheVariants.{Parameter, Qualifier, Value, KeyValue}
 use Rattle.qm_dcl.specs.declared.settings.Settings.{Settings}
 use Rattle.qm_dcl.specs.declared.settings.JobSettings.{JobSettings}
+use Rattle.qm_dcl.specs.declared.settings.ListingSettings.{ListingSettings}
 use Rattle.qm_dcl.specs.declared.settings.QueueSettings.{QueueSettings}
 use Rattle.qm_dcl.specs.declared.settings.Definition.{Definition}
 use Rattle.qm_dcl.specs.declared.value.Side.{Side}
@@ -53,6 +54,9 @@ no_queue_settings = record { limit = None; form = None; blocks = None; by_size =
 abbrev pub no_definition : Definition
 no_definition = record { name = None; form_number = None; characteristic_number = None; stock = None; shape = default_shape }
 
+abbrev pub no_listing : ListingSettings
+no_listing = record { pattern = None; all_jobs = false; batch = false; device = false; generic = false }
+
 abbrev pub nothing_given : Command → Settings
 nothing_given c = record {
   awaits_object = has_object c;
@@ -66,6 +70,7 @@ nothing_given c = record {
   job = no_job;
   queue_settings = no_queue_settings;
   definition = no_definition;
+  listing = no_listing;
 }
 
 -- ---- one more part

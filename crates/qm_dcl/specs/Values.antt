@@ -7,6 +7,7 @@ use Rattle.std.specs.Char.{is_ascii_digit, to_ascii_uppercase}
 use Rattle.std.specs.Result.{result_ok}
 use Rattle.std.specs.Str.{bytes_eq}
 use Rattle.qm_kinds.specs.Files.{name_of}
+use Rattle.qm_kinds.specs.Text.{text_of, is_pattern_byte}
 use Rattle.qm_kinds.specs.declared.entry.JobRetain.{JobRetain}
 use Rattle.qm_kinds.specs.declared.entry.JobRetain.TheVariants as retain
 use Rattle.qm_kinds.specs.declared.name.TheConstants.{NODE_NAME_BYTES}
@@ -97,6 +98,10 @@ form_said said = reference_said 65535 said
 -- a characteristic, by its name or its number
 abbrev pub characteristic_said : List ℕ → Option NameOrNumber
 characteristic_said said = reference_said 255 said
+
+-- a pattern of names
+abbrev pub pattern_said : List ℕ → Option (List ℕ)
+pattern_said said = result_ok (text_of is_pattern_byte said)
 
 -- ---- where a queue stands: NODE:: or NODE::DEVICE:
 

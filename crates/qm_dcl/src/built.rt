@@ -9,11 +9,7 @@ pub(crate) fn is_built(command: Command) -> bool
     ensures { result ≡ is_built command }
 {
     match command {
-        Command::StartManager
-        | Command::ShowForms
-        | Command::ShowCharacteristics
-        | Command::ShowManagers
-        | Command::ShowQueue => false,
+        Command::StartManager | Command::ShowManagers => false,
         _ => true,
     }
 }

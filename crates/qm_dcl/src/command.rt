@@ -11,7 +11,7 @@ use crate::fault::DclFault;
 use crate::lists::{Lists, lists_of, nodes_of};
 use crate::queue::queue_request;
 use crate::settings::{Settings, settings_of};
-use crate::show::{manager_query, query_of};
+use crate::show::{characteristics_query, entries_query, forms_query, manager_query, queues_query};
 use crate::submit::job_of;
 use qm_grammar::{Command, Fault, Parsed, named_command, parse};
 use qm_kinds::{Input, JobKind, Moment, Name, ParseKind, Request, Seq};
@@ -68,7 +68,12 @@ fn asked(
     ensures { result ≡ asked user command s.now lists nodes }
 {
     match command {
-        Command::ShowEntry => Some(Input::Show(query_of(s.entry?))),
+        Command::ShowQueue => Some(Input::Show(queues_query(user, &s.listing))),
+        Command::ShowEntry => { Some(Input::Show(entries_query(user, s.listing.pattern, s.entry))) }
+        Command::ShowForms => Some(Input::Show(forms_query(s.listing.pattern))),
+        Command::ShowCharacteristics => {
+            Some(Input::Show(characteristics_query(s.listing.pattern)))
+        }
         Command::ShowManagers => Some(Input::Show(manager_query())),
         Command::StartManager => Some(Input::TakeManager { on: nodes }),
         _ => Some(Input::Ask(request_of(alloc, user, command, s, lists)?)),
@@ -147,7 +152,10 @@ fn unnamed(read: Result<Command, Fault>) -> Fault
 /// - `SET ENTRY number` with `/RELEASE`, `/HOLD`, `/AFTER=time`, `/NOAFTER`, `/PRIORITY=0..255`, `/NAME=name`,
 ///   `/CHARACTERISTICS=(name or 0..255, ..)`, `/FORM=name or 0..65535`, `/REQUEUE=name`, which is a queue, `/RESTART`,
 ///   `/NORESTART` and `/RETAIN=` as a job;
-/// - `SHOW ENTRY number` and `DELETE/ENTRY=number`;
+/// - `DELETE/ENTRY=number`;
+/// - `SHOW ENTRY`, which shows the entry of a number, or the user's whose names match a pattern, which is `*` where none is given;
+/// - `SHOW QUEUE` with a pattern of names, `/ALL_JOBS`, and `/BATCH`, `/DEVICE` and `/GENERIC`, which add up; and
+///   `SHOW QUEUE/FORM` and `SHOW QUEUE/CHARACTERISTICS` with a pattern;
 /// - `INITIALIZE/QUEUE name` with `/BATCH`, `/GENERIC=(name, ..)`, `/ON=node::` or `/ON=node::device:`, `/START` and what can be
 ///   set for a queue: `/JOB_LIMIT=0..255`, `/CHARACTERISTICS=(name or 0..255, ..)`, `/NOCHARACTERISTICS`,
 ///   `/FORM_MOUNTED=name or 0..65535`, `/BLOCK_LIMIT=upper` or `(lower, upper)` of 0 to 2 ^ 32 - 1, `/NOBLOCK_LIMIT`,
@@ -167,8 +175,8 @@ fn unnamed(read: Result<Command, Fault>) -> Fault
 /// of 0.
 ///
 /// Errors: `At` with the fault of the least place: `NotBuilt` at byte 0 where a command is named that isn't built, whatever else is
-/// wrong, and where another form of a command has nothing wrong; `Value` at the first byte of a name, a number, a word, a time or a
-/// file that can't be read; and those of the grammar.
+/// wrong; `Value` at the first byte of a name, a number, a pattern, a word, a time or a file that can't be read; and those of the
+/// grammar.
 /// `NoMemory`, where memory for the tokens, the parts and the lists ran out.
 pub fn read_command(alloc: Global, text: &[u8], user: Name, now: Moment) -> Result<Input, DclFault>
     ensures read { IfOk result (λ input. command_of user now text.now ≡ Ok input) }

@@ -1,14 +1,16 @@
 // What a qualifier, its value, or a parameter gives.
 ghost use Rattle.std.specs.Prelude.{◌≡◌};
 ghost use Rattle.qm_dcl.specs.Forms.{with_default_margins, with_margin};
-ghost use Rattle.qm_dcl.specs.Given.{job_marked, queue_marked, shape_marked, stop_marked, with_word, with_job, with_queue_settings, with_definition, with_shape, queue_given, entry_given, blocks_with, valued, nodes_begun, node_given, schedule_given, queue_retain_given, with_retain, until_given, after_given, margin_given, definable_given, form_given, characteristic_given, merge_given, file_given, parametered};
+ghost use Rattle.qm_dcl.specs.Given.{job_marked, queue_marked, shape_marked, stop_marked, listing_marked, with_word, with_job, with_queue_settings, with_definition, with_shape, queue_given, entry_given, blocks_with, valued, nodes_begun, node_given, schedule_given, queue_retain_given, with_retain, until_given, after_given, margin_given, definable_given, form_given, characteristic_given, merge_given, file_given, pattern_given, parametered};
 ghost use Rattle.qm_dcl.specs.Values.{raised_by};
 
-use crate::settings::{DEFAULT_SHAPE, Definition, JobSettings, QueueSettings, Settings, Stop};
+use crate::settings::{
+    DEFAULT_SHAPE, Definition, JobSettings, ListingSettings, QueueSettings, Settings, Stop,
+};
 use crate::value::{
     Side, are_digits, blocks_said, byte_said, characteristic_said, definable_name_said, entry_said,
-    form_number_said, form_said, location_said, node_said, queue_retain_said, says_all,
-    schedule_said, short_name_said,
+    form_number_said, form_said, location_said, node_said, pattern_said, queue_retain_said,
+    says_all, schedule_said, short_name_said,
 };
 use qm_grammar::{Command, Word};
 use qm_kinds::{FileName, JobRetain, Moment, Name, QueueRetain, Shape};
@@ -114,6 +116,31 @@ fn stop_marked(how: Option<Stop>, word: Word) -> Option<Stop>
     }
 }
 
+// What a qualifier gives of a listing. The kinds of queue that are listed add up.
+fn listing_marked(listing: ListingSettings, word: Word) -> ListingSettings
+    ensures { result ≡ listing_marked listing word }
+{
+    match word {
+        Word::AllJobs => ListingSettings {
+            all_jobs: true,
+            ..listing
+        },
+        Word::Batch => ListingSettings {
+            batch: true,
+            ..listing
+        },
+        Word::Device => ListingSettings {
+            device: true,
+            ..listing
+        },
+        Word::Generic => ListingSettings {
+            generic: true,
+            ..listing
+        },
+        _ => listing,
+    }
+}
+
 /// A qualifier, whose value may come next.
 pub(crate) fn with_word(s: &Settings, word: Word) -> Settings
     ensures { result ≡ with_word s.now word }
@@ -128,6 +155,7 @@ pub(crate) fn with_word(s: &Settings, word: Word) -> Settings
             shape: shape_marked(s.definition.shape, word),
             ..s.definition
         },
+        listing: listing_marked(s.listing, word),
         ..*s
     }
 }
@@ -550,6 +578,18 @@ fn file_given(s: &Settings, said: &[u8]) -> Option<Settings>
     })
 }
 
+// A pattern of names, if it can be one.
+fn pattern_given(s: &Settings, said: &[u8]) -> Option<Settings>
+    ensures { result ≡ pattern_given s.now said.now }
+{
+    let pattern = pattern_said(said)?;
+    let listing = ListingSettings {
+        pattern: Some(pattern),
+        ..s.listing
+    };
+    Some(Settings { listing, ..*s })
+}
+
 /// What a parameter gives, if it can be one.
 pub(crate) fn parametered(s: &Settings, command: Command, said: &[u8]) -> Option<Settings>
     ensures { result ≡ parametered s.now command said.now }
@@ -558,7 +598,10 @@ pub(crate) fn parametered(s: &Settings, command: Command, said: &[u8]) -> Option
         Command::Submit | Command::Print => file_given(s, said),
         Command::SetEntry => entry_given(s, said),
         Command::ShowEntry if are_digits(said) => entry_given(s, said),
-        Command::ShowEntry => Some(*s),
+        Command::ShowEntry
+        | Command::ShowQueue
+        | Command::ShowForms
+        | Command::ShowCharacteristics => pattern_given(s, said),
         Command::InitializeQueue
         | Command::SetQueue
         | Command::StartQueue

@@ -1,6 +1,6 @@
 // What the parts of a command give.
 ghost use Rattle.std.specs.Prelude.{◌≡◌};
-ghost use Rattle.qm_dcl.specs.Settings.{has_object, no_job, no_queue_settings, no_definition, nothing_given, or_value_fault, with_parameter, with_key, with_until, with_retain_word, with_job_retain, is_of_queue, with_retained, with_value, inner_value, has_value_ahead, lists_nodes, with_value_of, with_part, settings_of};
+ghost use Rattle.qm_dcl.specs.Settings.{has_object, no_job, no_queue_settings, no_definition, no_listing, nothing_given, or_value_fault, with_parameter, with_key, with_until, with_retain_word, with_job_retain, is_of_queue, with_retained, with_value, inner_value, has_value_ahead, lists_nodes, with_value_of, with_part, settings_of};
 ghost use Rattle.qm_dcl.specs.Values.{raised_by, side_said};
 
 use crate::given::{
@@ -11,7 +11,9 @@ use crate::value::{
     Location, has_equals, is_until, job_retain_said, moment_said, said_by, side_said,
 };
 use qm_grammar::{Command, Fault, Part, Word};
-use qm_kinds::{FileName, JobRetain, Moment, Name, NameOrNumber, ParseKind, QueueRetain, Shape};
+use qm_kinds::{
+    FileName, JobRetain, Moment, Name, NameOrNumber, ParseKind, Pattern, QueueRetain, Shape,
+};
 use qm_lex::Token;
 
 /// How a queue is stopped, or a job of it.
@@ -72,6 +74,20 @@ pub(crate) struct Definition {
     pub(crate) shape: Shape,
 }
 
+/// What is given of a listing.
+#[derive(Clone, Copy)]
+pub(crate) struct ListingSettings {
+    pub(crate) pattern: Option<Pattern>,
+    /// Whether the jobs of all users are listed.
+    pub(crate) all_jobs: bool,
+    /// Whether batch queues are listed.
+    pub(crate) batch: bool,
+    /// Whether print queues are listed.
+    pub(crate) device: bool,
+    /// Whether generic queues of both kinds are listed.
+    pub(crate) generic: bool,
+}
+
 /// What the parts of a command give, but for lists.
 #[derive(Clone, Copy)]
 pub(crate) struct Settings {
@@ -92,6 +108,7 @@ pub(crate) struct Settings {
     pub(crate) job: JobSettings,
     pub(crate) queue_settings: QueueSettings,
     pub(crate) definition: Definition,
+    pub(crate) listing: ListingSettings,
 }
 
 // Whether the first parameter of a command is its option.
@@ -153,6 +170,14 @@ const NO_DEFINITION: Definition = Definition {
     shape: DEFAULT_SHAPE,
 };
 
+const NO_LISTING: ListingSettings = ListingSettings {
+    pattern: None,
+    all_jobs: false,
+    batch: false,
+    device: false,
+    generic: false,
+};
+
 // Nothing is given.
 fn nothing_given(command: Command) -> Settings
     ensures { result ≡ nothing_given command }
@@ -169,6 +194,7 @@ fn nothing_given(command: Command) -> Settings
         job: NO_JOB,
         queue_settings: NO_QUEUE_SETTINGS,
         definition: NO_DEFINITION,
+        listing: NO_LISTING,
     }
 }
 

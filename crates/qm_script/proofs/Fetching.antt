@@ -27,7 +27,7 @@ Else asked = Fetches asked → ⊥
 
 each_else : OfEach Else
 each_else = record {
-  shows = λ number h. h;
+  shows = λ query h. h;
   submits = λ job few h. h;
   sets_entry = λ number change few h. h;
   deletes_entry = λ number h. h;
