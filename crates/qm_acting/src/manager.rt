@@ -11,6 +11,7 @@ ghost use Rattle.qm_state.specs.Refusing.{Refuses};
 use qm_database::{Closed, Open};
 use qm_disk::Disk;
 use qm_kinds::{Duty, Moment, Name, Node, Query, Row};
+use qm_model::one_entry_is_listed;
 use qm_restore::site_files_are_consistent;
 use qm_state::{Image, Refused};
 use std::alloc::{AllocError, Global};
@@ -81,6 +82,7 @@ impl<D: Disk> Manager<D> {
         ensures rows { IfOk result (λ rows. rows_of (standing_of self.now).system query.now ≡ Ok rows.items) }
         ensures refused { Refuses result (rows_of (standing_of self.now).system query.now) }
     {
+        one_entry_is_listed();
         self.image.view(query)
     }
 

@@ -1,7 +1,7 @@
 // The manager.
-ghost use Rattle.std.specs.Prelude.{◌≡◌, Ok, IfOk};
+ghost use Rattle.std.specs.Prelude.{◌≡◌, None, Ok, IfOk};
 ghost use Rattle.qm_model.specs.Duties.{duties};
-ghost use Rattle.qm_model.specs.Listing.{IsOfOneEntry, rows_of};
+ghost use Rattle.qm_model.specs.Rows.{view};
 ghost use Rattle.qm_state.specs.Image.{system_of};
 ghost use Rattle.qm_state.specs.Refusing.{Refuses};
 ghost use Rattle.qm_manager.specs.Restoring.{HasNode};
@@ -33,11 +33,10 @@ impl<D: Disk> Manager<D> {
         self.node
     }
 
-    /// The rows that a query asks for. It is refused where the entry isn't there.
+    /// The rows that a query asks for, as `Image::view` of `qm_state` tells them: no node is told as queue manager.
     pub fn view(&self, query: &Query) -> Result<Vec<Row>, Refused>
-        requires { IsOfOneEntry query.now }
-        ensures rows { IfOk result (λ rows. rows_of (site_of self.now).system query.now ≡ Ok rows.items) }
-        ensures refused { Refuses result (rows_of (site_of self.now).system query.now) }
+        ensures rows { IfOk result (λ rows. view (site_of self.now).system None query.now ≡ Ok rows.items) }
+        ensures refused { Refuses result (view (site_of self.now).system None query.now) }
     {
         self.image.view(query)
     }

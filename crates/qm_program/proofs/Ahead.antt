@@ -18,7 +18,7 @@ use Rattle.qm_kinds.specs.declared.work.Report.TheVariants as report
 use Rattle.qm_model.specs.Acting.{acting}
 use Rattle.qm_model.specs.Applied.{applied, are_numbers_spent}
 use Rattle.qm_model.specs.Kept.{KeptRun, KeptRuns, known, kept_after, kept_behind, report_told, round_of}
-use Rattle.qm_model.specs.Listing.{rows_of}
+use Rattle.qm_model.specs.Rows.{view}
 use Rattle.qm_model.specs.Outcome.{Accepted, unless_refused, refused_where}
 use Rattle.qm_model.specs.Runs.{entry_of_run}
 use Rattle.qm_model.specs.Script.{ScriptLine, Sort, Command, steps_of_line}
@@ -82,7 +82,7 @@ room_shown site (Err refusal) = omega arith
 -- and nothing gives any back
 room_turn : (site : Site) (now : ℕ) (asks : Input) → room_left (turn_of site now asks).site ≤ room_left site
 room_turn site now (input.Ask request) = room_told site now request (asked site now request) refl
-room_turn site now (input.Show query) = room_shown site (rows_of site.system query)
+room_turn site now (input.Show query) = room_shown site (view site.system None query)
 room_turn site now (input.Fault place kind) = omega arith
 room_turn site now input.Compact = omega arith
 room_turn site now (input.Fetch runs) = omega arith

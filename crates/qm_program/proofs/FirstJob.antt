@@ -51,7 +51,8 @@ pub refusals : printed_by (script_of (lines_of
     ≡ lines_of
     (codes "A 1: %QMAN-E-NOSUCHFILE"
     ∷ codes "A 2: %QMAN-E-NOSUCHENT, 7"
-    ∷ codes "A 3: %QMAN-E-PARSE, byte 0: notbuilt"
+    ∷ codes "A 3: rows: 1"
+    ∷ codes "A 3: batch queue SYS$BATCH, stopped, on A::"
     ∷ codes "A 4: %QMAN-E-PARSE, byte 0: form"
     ∷ codes "A 5: file JOB.COM, 2 bytes"
     ∷ codes "A 6: Job JOB (queue SYS$BATCH, entry 1) pending"

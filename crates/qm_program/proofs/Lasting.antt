@@ -15,7 +15,7 @@ use Rattle.qm_model.specs.Applied.{applied}
 use Rattle.qm_model.specs.Built.{is_built}
 use Rattle.qm_model.specs.Consistent.{IsConsistent}
 use Rattle.qm_model.specs.Kept.{report_told}
-use Rattle.qm_model.specs.Listing.{rows_of}
+use Rattle.qm_model.specs.Rows.{view}
 use Rattle.qm_model.specs.Outcome.{Accepted}
 use Rattle.qm_model.specs.Script.{ScriptLine, steps_of_line}
 use Rattle.qm_dcl.specs.Lines.{input_of}
@@ -71,7 +71,7 @@ module _ (keeps : Keeps) (keeps_nodes : KeepsNodes) (node : List ℕ) where
   -- a line that can be asked leaves it so
   asked_well : (site : Site) (now : ℕ) (asks : Input) → IsWell node site.system → IsAskable asks → IsWell node (turn_of site now asks).site.system
   asked_well site now (input.Ask request) well can = decided_well site now request (applied site.system (acting now site.system) 0 request) refl well can.0
-  asked_well site now (input.Show query) well can = shown_well site (rows_of site.system query) well
+  asked_well site now (input.Show query) well can = shown_well site (view site.system None query) well
   asked_well site now (input.Fault place kind) well can = well
   asked_well site now input.Compact well can = absurd can
   asked_well site now (input.Fetch runs) well can = absurd can

@@ -48,7 +48,7 @@ short_change change few = short_given change.characteristics few
 
 each_askable : OfEach IsAskable
 each_askable = record {
-  shows = λ number. (refl, refl);
+  shows = λ query. tt;
   submits = λ job few. (refl, few);
   sets_entry = λ number change few. (refl, short_given change.characteristics few);
   deletes_entry = λ number. (refl, tt);

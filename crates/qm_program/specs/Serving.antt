@@ -4,7 +4,6 @@ use Rattle.std.specs.Io.KnownBytes.{Appends}
 use Rattle.qm_kinds.specs.declared.input.Input.{Input}
 use Rattle.qm_kinds.specs.declared.input.Input.TheVariants.{Ask, Show, Fault}
 use Rattle.qm_model.specs.Built.{is_built}
-use Rattle.qm_model.specs.Listing.{IsOfOneEntry}
 use Rattle.qm_model.specs.Transcript.{turn_text}
 use Rattle.qm_show.specs.declared.answer.Prefix.{Prefix}
 use Rattle.qm_disk.specs.Disk.{Meaning, OneFailed, IsQuiet}
@@ -46,7 +45,7 @@ lines_behind prefix lines = flat_map (turn_text prefix.node prefix.line) lines
 -- what can be asked of a manager
 abbrev pub IsAskable : Input → Type 0
 IsAskable (Ask request) = (is_built request ≡ true) × HasShortLists request
-IsAskable (Show query) = IsOfOneEntry query
+IsAskable (Show query) = Unit {0}
 IsAskable (Fault place kind) = Unit {0}
 IsAskable _ = ⊥
 

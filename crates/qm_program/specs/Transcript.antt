@@ -8,7 +8,7 @@ use Rattle.qm_kinds.specs.declared.refusal.ParseKind.TheVariants.{NotBuilt}
 use Rattle.qm_kinds.specs.declared.refusal.Refusal.{Refusal}
 use Rattle.qm_kinds.specs.declared.refusal.Refusal.TheVariants.{ParseFault}
 use Rattle.qm_model.specs.Kept.{report_told}
-use Rattle.qm_model.specs.Listing.{rows_of}
+use Rattle.qm_model.specs.Rows.{view}
 use Rattle.qm_model.specs.Words.{refusal_line}
 use Rattle.qm_model.specs.Script.{ScriptLine}
 use Rattle.qm_dcl.specs.Lines.{input_of}
@@ -52,10 +52,11 @@ node_name site = node_at 0 site.system.nodes
 abbrev pub runs_shown : Site → List ℕ → List Duty
 runs_shown site known = duties site.system (node_name site) known
 
--- What a line does that asks for this, at a reading of the clock. A request alone acts, and does what is due by then.
+-- What a line does that asks for this, at a reading of the clock. A request alone acts, and does what is due by then. A listing shows
+-- no node as queue manager, since a site of one node has none.
 abbrev pub turn_of : Site → ℕ → Input → Turn
 turn_of site now (Ask request) = told site (asked site now request)
-turn_of site now (Show query) = shown site (rows_of site.system query)
+turn_of site now (Show query) = shown site (view site.system None query)
 turn_of site now (Fault place kind) = refused site (ParseFault place kind)
 turn_of site now Compact = not_built site
 turn_of site now (input.Fetch known) = record { site = site; answer = runs_line (length (runs_shown site known)) ∷ [] }

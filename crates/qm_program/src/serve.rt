@@ -2,7 +2,7 @@
 ghost use Rattle.std.specs.Prelude.{◌≡◌, ℕ, List, ◌∷◌, [], None, Option, true, IfOk, IfErr, OnOk};
 ghost use Rattle.std.specs.Io.KnownBytes.{Appends};
 ghost use Rattle.qm_model.specs.Built.{is_built};
-ghost use Rattle.qm_model.specs.Listing.{IsOfOneEntry, rows_of};
+ghost use Rattle.qm_model.specs.Rows.{view};
 ghost use Rattle.qm_model.specs.Script.{steps_of_line};
 ghost use Rattle.qm_model.specs.Transcript.{journal_line};
 ghost use Rattle.qm_model.specs.Words.{refusal_line};
@@ -102,9 +102,8 @@ fn show<D: Disk>(
     prefix: &Prefix,
     query: &Query,
 ) -> Result<Vec<u8>, AllocError>
-    requires { IsOfOneEntry query.now }
     ensures { IfOk result (λ text. text.items ≡ lines_behind prefix.now
-        (shown (site_of manager.now) (rows_of (site_of manager.now).system query.now)).answer) }
+        (shown (site_of manager.now) (view (site_of manager.now).system None query.now)).answer) }
 {
     match manager.view(query) {
         Ok(rows) => show_rows(alloc, prefix, &rows),

@@ -3,7 +3,9 @@ ghost use Rattle.std.specs.Prelude.{IsTrue};
 ghost use Rattle.qm_record.specs.Spelling.{AreListsShort, IsShortChange, IsShortEntryChange};
 
 use qm_dcl::{DclFault, read_command};
-use qm_kinds::{EntryChange, Input, JobRetain, Moment, Name, QueueChange, Request, system_user};
+use qm_kinds::{
+    EntryChange, Input, JobRetain, Moment, Name, Query, QueueChange, Request, system_user,
+};
 use qm_plans::{push_line, push_times};
 use qm_record::write_request;
 use std::alloc::{AllocError, Global};
@@ -79,14 +81,39 @@ pub(crate) fn push_request(
     push_line(told, "")
 }
 
-// Tells what is asked for: the record of a request, or the entry that is to be shown.
+// Tells which rows are asked for: one entry; or the listing, the pattern, the user, and the kinds of queue.
+fn tell_query(alloc: Global, told: &mut Vec<u8>, query: &Query) -> Result<(), AllocError> {
+    if let Some(number) = query.number {
+        return push_line(told, format!(in alloc; "entry {number}")?.as_str());
+    }
+    let listing = query.listing;
+    told.extend_from_slice(format!(in alloc; "{listing:?} ")?.as_bytes())?;
+    told.extend_from_slice(query.pattern.as_bytes())?;
+    told.extend_from_slice(b" of ")?;
+    match query.user {
+        Some(user) => told.extend_from_slice(user.as_bytes())?,
+        None => told.extend_from_slice(b"all users")?,
+    }
+    let kinds = query.kinds;
+    let names: [(bool, &str); 4] = [
+        (kinds.batch, ", batch"),
+        (kinds.print, ", print"),
+        (kinds.generic_batch, ", generic batch"),
+        (kinds.generic_print, ", generic print"),
+    ];
+    for (listed, name) in names {
+        if listed {
+            told.extend_from_slice(name.as_bytes())?;
+        }
+    }
+    push_line(told, "")
+}
+
+// Tells what is asked for: the record of a request, or the rows that are to be shown.
 fn tell_input(alloc: Global, told: &mut Vec<u8>, input: Input) -> Result<(), AllocError> {
     match input {
         Input::Ask(request) => push_request(alloc, told, 0, &request),
-        Input::Show(query) => match query.number {
-            Some(number) => push_line(told, format!(in alloc; "entry {number}")?.as_str()),
-            None => push_line(told, "entries"),
-        },
+        Input::Show(query) => tell_query(alloc, told, &query),
         _other => push_line(told, "another input"),
     }
 }

@@ -1,6 +1,6 @@
-use Rattle.std.proofs.Common.{◌≡◌, ◌∙◌, sym, ap, subst}
+use Rattle.std.proofs.Common.{◌≡◌, ◌∙◌, None, sym, ap, subst}
 use Rattle.qm_kinds.specs.declared.input.Input.{Input}
-use Rattle.qm_model.specs.Listing.{rows_of}
+use Rattle.qm_model.specs.Rows.{view}
 use Rattle.qm_manager.specs.Manager.{site_of, disk_of}
 use Rattle.qm_program.specs.Transcript.{turn_of}
 use Rattle.qm_program.specs.Serving.{lines_behind}
@@ -19,7 +19,7 @@ pub returns-in_ok-show-in-Show-clause-serves : goal.returns-in_ok-show-in-Show-c
 returns-in_ok-show-in-Show-clause-serves g c =
     let site = site_of c.args.manager.now in
     only_answered g.D.Disk.meaning c.args.manager.now c.requires.ready (g.met.D.Disk.only_now (disk_of c.args.manager.now)) (turn_of site c.args.now c.args.input.now).site c.in_ok-show-in-Show.field-0
-    (shown_site site (rows_of site.system c.in-Show.query) ∙ ap (λ (input : Input). (turn_of site c.args.now input).site) (sym c.in-Show.is))
+    (shown_site site (view site.system None c.in-Show.query) ∙ ap (λ (input : Input). (turn_of site c.args.now input).site) (sym c.in-Show.is))
 
 pub returns-in_ok-show_fault-in-Fault-clause-serves : goal.returns-in_ok-show_fault-in-Fault-clause-serves
 returns-in_ok-show_fault-in-Fault-clause-serves g c =
