@@ -5,3 +5,4 @@ pub mod Looking
 pub mod Judging
 pub mod Asked
 pub mod Calls
+pub mod Rows

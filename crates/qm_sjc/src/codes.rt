@@ -68,3 +68,7 @@ pub(crate) const LINES: u16 = 32;
 pub(crate) const SEARCH: u16 = 33;
 
 pub(crate) const RELEASE: u16 = 34;
+/// The state of a queue or an entry, which answers alone have.
+pub(crate) const STATE: u16 = 35;
+/// The epoch of the queue manager, which answers alone have.
+pub(crate) const EPOCH: u16 = 36;

@@ -13,7 +13,9 @@ mod looking;
 mod others;
 mod queues;
 mod reading;
+mod rows;
 mod value;
 
 pub use call::read_call;
 pub use fault::CallFault;
+pub use rows::row_items;
