@@ -21,11 +21,11 @@ use Rattle.qm_drive.specs.Sharing.{note_view, turns_of}
 use Rattle.qm_drive.specs.Passes.{turns_in, IsOfNode, AreOfTheirNodes, AreOwn, KnowOwnTurns}
 
 module _ {X : Type 0} (P : X → Type 0) where
-  all_front : (xs ys : List X) → AllByRecursion P (xs ++ ys) → AllByRecursion P xs
+  pub all_front : (xs ys : List X) → AllByRecursion P (xs ++ ys) → AllByRecursion P xs
   all_front [] ys h = tt
   all_front (x ∷ xs) ys h = (h.0, all_front xs ys h.1)
 
-  all_back : (xs ys : List X) → AllByRecursion P (xs ++ ys) → AllByRecursion P ys
+  pub all_back : (xs ys : List X) → AllByRecursion P (xs ++ ys) → AllByRecursion P ys
   all_back [] ys h = h
   all_back (x ∷ xs) ys h = all_back xs ys h.1
 
@@ -87,7 +87,7 @@ turns_in_append a b =
 abbrev turn_of : Noted → List Turn
 turn_of n = option_to_list n.turn
 
-turns_from : (e : ℕ × Noted) (log : List (ℕ × Noted)) → turns_in (e ∷ log) ≡ turn_of e.1 ++ turns_in log
+pub turns_from : (e : ℕ × Noted) (log : List (ℕ × Noted)) → turns_in (e ∷ log) ≡ turn_of e.1 ++ turns_in log
 turns_from e log = by_turn e.1.turn refl
   where
     by_turn : (turn : Option Turn) → e.1.turn ≡ turn → turns_in (e ∷ log) ≡ option_to_list turn ++ turns_in log
@@ -99,7 +99,7 @@ other_visit node w t turns other =
     let differ : (t.node == node) ≡ false = grind (arith, nat_tests) in
     ap (λ b. cond b (record { before = w; turn = t } ∷ visits_of node (after_turn w t) turns) (visits_of node (after_turn w t) turns)) differ
 
-none_by : (node : ℕ) (e : ℕ × Noted) (log : List (ℕ × Noted)) → notes_by node (e ∷ log) ≡ [] → (e.0 ≡ node → ⊥) × (notes_by node log ≡ [])
+pub none_by : (node : ℕ) (e : ℕ × Noted) (log : List (ℕ × Noted)) → notes_by node (e ∷ log) ≡ [] → (e.0 ≡ node → ⊥) × (notes_by node log ≡ [])
 none_by node e log none = by_test (e.0 == node) refl
   where
     by_test : (b : Bool) → (e.0 == node) ≡ b → (e.0 ≡ node → ⊥) × (notes_by node log ≡ [])

@@ -1,3 +1,6 @@
 pub mod Serving
 pub mod Sharing
 pub mod Passes
+pub mod Turning
+pub mod Allowed
+pub mod Driving

@@ -1,0 +1,148 @@
+-- What a node has done by its own thread, in the turns that its pass has seen, and how that ends.
+-- OpenVMS System Manager's Manual, Setting Up and Maintaining Queues, on symbionts; OpenVMS System Services Reference Manual,
+-- $GETTIM. This site's own: turns, and that a node goes on until nothing is left to do.
+use Rattle.std.specs.Prelude.{◌≡◌, ◌⊎◌, ◌≤◌, ℕ, zero, suc, Bool, true, false, IsTrue, List, [], ◌∷◌, ◌++◌, length, map, flat_map, Option, None, Some, Result, Ok, Err}
+use Rattle.std.specs.List.{AllByRecursion}
+use Rattle.std.specs.Io.KnownBytes.{Appends}
+use Rattle.qm_faults.specs.Faults.{counted}
+use Rattle.qm_model.specs.Kept.{KeptRun, report_told}
+use Rattle.qm_record.specs.Spelling.{HasSpelling}
+use Rattle.qm_symb.specs.Device.{Meaning, handed_by}
+use Rattle.qm_symb.specs.declared.handed.HandOver.{HandOver}
+use Rattle.qm_history.specs.declared.call.Call.{Call}
+use Rattle.qm_history.specs.declared.turn.Turn.{Turn}
+use Rattle.qm_history.specs.declared.world.World.{World}
+use Rattle.qm_history.specs.Blocks.{AreHanded, all_steps}
+use Rattle.qm_history.specs.Chest.{turns_kept}
+use Rattle.qm_history.specs.Course.{IsCourse, MadeStep, answered, at_first}
+use Rattle.qm_history.specs.Ends.{NodeEnd, Ended, BrokenOff, TurnsSpent, FileDamaged, MemoryShort, HasPrinted, extent_of}
+use Rattle.qm_history.specs.Legal.{after_turns}
+use Rattle.qm_history.specs.Reaching.{Reaches}
+use Rattle.qm_history.specs.Script.{UserLine}
+use Rattle.qm_history.specs.Text.{answer_text}
+use Rattle.qm_history.specs.Visits.{Visit, visits_of}
+use Rattle.qm_history.specs.World.{is_live}
+use Rattle.qm_node.specs.Steps.{Comes}
+use Rattle.qm_script.specs.Served.{read_served}
+use Rattle.qm_turn.specs.History.{notes_by}
+use Rattle.qm_turn.specs.Turns.{Known}
+use Rattle.qm_drive.specs.declared.ending.DriveEnd.{DriveEnd}
+use Rattle.qm_drive.specs.declared.ending.DriveEnd.TheVariants as end
+use Rattle.qm_drive.specs.declared.noted.Noted.{Noted}
+use Rattle.qm_drive.specs.Allowed.{CanAskAll}
+use Rattle.qm_drive.specs.Passes.{turns_in, IsOfNode}
+use Rattle.qm_drive.specs.Sharing.{turns_of}
+use Rattle.qm_drive.specs.Turning.{HeldSeat}
+
+-- ---- how it ends
+
+-- how the turns of the node ended
+abbrev pub node_end : Result (Unit {0}) DriveEnd → NodeEnd
+node_end (Ok done) = Ended
+node_end (Err end.HistoryFull) = TurnsSpent
+node_end (Err (end.Damaged file place)) = FileDamaged file place
+node_end (Err end.NoMemory) = MemoryShort
+
+-- the call left a turn of this node, and was told all that the turn tells
+abbrev pub IsHeard : ℕ → Noted → Type 0
+IsHeard node n = (t : Turn) × (n.turn ≡ Some t) × (t.node ≡ node) × (n.unread ≡ false)
+
+-- what is noted of the last call, where the turns of the node ended so
+abbrev pub IsLastOf : ℕ → NodeEnd → List Noted → Type 0
+IsLastOf node Ended last = last ≡ []
+IsLastOf node BrokenOff last = ⊥
+IsLastOf node TurnsSpent last = (n : Noted) × (last ≡ n ∷ []) × (n.turn ≡ None)
+IsLastOf node (FileDamaged file place) last = (n : Noted) × (t : Turn) × (last ≡ n ∷ []) × (n.turn ≡ Some t) × (t.node ≡ node)
+IsLastOf node MemoryShort last = (last ≡ []) ⊎ ((n : Noted) × (last ≡ n ∷ []) × IsOfNode node n)
+
+-- ---- what a symbiont did
+
+-- a count of faults behind so many more
+abbrev pub counted_times : ℕ → ℕ → ℕ
+counted_times zero faults = faults
+counted_times (suc more) faults = counted_times more (counted faults)
+
+-- the blocks of steps, each handed by its run to its queue's device, in their order
+abbrev pub handed_to : List MadeStep → List (List (List ℕ)) → List HandOver
+handed_to [] handed = []
+handed_to (m ∷ steps) [] = []
+handed_to (m ∷ steps) (blocks ∷ handed) = handed_by m.run.work.run m.run.work.device blocks ++ handed_to steps handed
+
+module _ {Y : Type 0} (y : Meaning Y) where
+  -- the symbiont made these steps, one behind another
+  abbrev pub AreMade : List MadeStep → Y → Y → Type 0
+  AreMade [] was now = now ≡ was
+  AreMade (m ∷ steps) was now = (next : Y) × Comes y m.run m.end (report_told m.run m.end) was next × AreMade steps next now
+
+  -- The devices took the blocks of these steps, and of one more where the course broke off within it, and nothing else.
+  pub record AreTaken (steps : List MadeStep) (broken : Option KeptRun) (was now : Y) : Type 0 where
+    pub handed : List (List (List ℕ))
+    pub are_handed : AreHanded (all_steps steps broken) handed
+    pub taken : IsTrue y.tells → y.taken now ≡ y.taken was ++ handed_to (all_steps steps broken) handed
+
+-- ---- what it did
+
+-- the text of the answers that a node of this name got in its turns
+abbrev pub text_told : List ℕ → List Visit → List ℕ
+text_told name visits = flat_map (λ (v : Visit). answer_text name v.turn.why (answered v)) visits
+
+-- the readings of the turns that are noted
+abbrev pub readings : List Noted → List ℕ
+readings notes = map (λ (t : Turn). t.moment) (turns_of notes)
+
+-- What a pass then knows whose node made its turns: each left a turn of that node, but for the last one, as the end says; they are
+-- all that its number has in what was seen; the clock told a moment for each, and at most one more; and no more turns can be kept
+-- just where the end says so.
+pub record HasDriven (node : ℕ) (stopped : NodeEnd) (old new : Known Noted) (told then : Option (List ℕ)) : Type 0 where
+  pub front : List Noted
+  pub last : List Noted
+  pub mine : new.mine ≡ front ++ last
+  pub heard : AllByRecursion (IsHeard node) front
+  pub ends : IsLastOf node stopped last
+  pub all_mine : notes_by node new.seen ≡ new.mine
+  pub number : new.number ≡ old.number
+  pub took : new.took ≡ old.took
+  pub place : new.place ≡ old.place
+  pub more : List ℕ
+  pub clock : Appends told then (readings new.mine ++ more)
+  pub few : length more ≤ 1
+  pub none_more : stopped ≡ Ended → more ≡ []
+  pub spent : stopped ≡ TurnsSpent → length (turns_in new.seen) ≡ turns_kept
+
+module _ {Y : Type 0} (y : Meaning Y) (first : World) (node : ℕ) (name : List ℕ) (lines : List UserLine) where
+  -- In these turns the node's own are a course of its lines, as far as the end says, in whose steps its device failed as often as
+  -- the symbiont's count rose; the devices took what was handed over in them; and the text is that of its answers, as far as the
+  -- end says.
+  pub record IsDriven (stopped : NodeEnd) (turns : List Turn) (was now : Y) (before after : List ℕ) : Type 0 where
+    pub faults : ℕ
+    pub rose : y.faults now ≡ counted_times faults (y.faults was)
+    pub course : IsCourse HasSpelling read_served (extent_of stopped) first turns node lines faults
+    pub taken : AreTaken y course.steps course.broken was now
+    pub printed : List ℕ
+    pub appended : after ≡ before ++ printed
+    pub text : HasPrinted stopped (text_told name (visits_of node first turns)) printed
+
+-- ---- and so far
+
+module _ {Y : Type 0} (y : Meaning Y) (first : World) (node : ℕ) (name : List ℕ) (lines : List UserLine) (was : Y) (before : List ℕ) where
+  -- behind these turns the node's own have led to where it is
+  pub record HasCome (turns : List Turn) (seat : HeldSeat) (now : Y) (after : List ℕ) : Type 0 where
+    pub live : seat.live ≡ is_live (after_turns first turns) node
+    pub steps : List MadeStep
+    pub reached : Reaches HasSpelling read_served (at_first lines) [] (is_live first node) (visits_of node first turns) steps seat.node.state seat.live
+    pub made : AreMade y steps was now
+    pub count : length (visits_of node first turns) ≡ seat.count
+    pub text : after ≡ before ++ text_told name (visits_of node first turns)
+
+-- what a pass knows between two turns of its node: each of the node's calls left a turn, and was told it
+pub record HasMade (can_ask : ℕ → Call → Type 0) (node : ℕ) (old : Known Noted) (told : Option (List ℕ)) (seat : HeldSeat) (new : Known Noted) (then : Option (List ℕ)) : Type 0 where
+  pub heard : AllByRecursion (IsHeard node) new.mine
+  pub all_mine : notes_by node new.seen ≡ new.mine
+  pub number : (new.number ≡ old.number) × (new.number ≡ node)
+  pub took : new.took ≡ old.took
+  pub place : new.place ≡ old.place
+  pub count : length new.mine ≡ seat.count
+  pub few : seat.count ≤ turns_kept
+  pub clock : Appends told then (readings new.mine)
+  pub none_made : seat.node.made ≡ None
+  pub can : CanAskAll can_ask node seat.node.state.lines

@@ -1,0 +1,84 @@
+// A node between two turns.
+ghost use Rattle.std.specs.Prelude.{◌≡◌, ◌<◌, ◌^◌, None, OnOk, true};
+ghost use Rattle.qm_history.specs.declared.call.Call.{Call as AnyCall};
+ghost use Rattle.qm_history.specs.Course.{at_first};
+ghost use Rattle.qm_living.specs.Living.{bearing_of};
+ghost use Rattle.qm_node.specs.Node.{CanBeHeard, CanBeMade, ComesNext, IsMadeFor};
+ghost use Rattle.qm_script.specs.ClusterLines.{user_lines_view};
+ghost use Rattle.qm_drive.specs.Turning.{TakesIn, ending_of};
+
+use crate::ending::DriveEnd;
+use qm_history::Answer;
+use qm_living::{Bearing, live_behind};
+use qm_node::{Next, NodeState};
+use qm_script::UserLine;
+use qm_symb::Symbiont;
+use std::alloc::{AllocError, Global};
+use std::marker::Model;
+
+/// A node between two turns. Contracts see a `HeldSeat`.
+#[derive(Drop)]
+pub(crate) struct Seat<'a, Y: Symbiont> {
+    pub(crate) state: NodeState<'a, Y>,
+    pub(crate) live: bool,
+    /// How many turns it has made.
+    pub(crate) turns: u64,
+}
+
+impl<'a, Y: Symbiont> Model for Seat<'a, Y> {
+    ghost use Rattle.qm_drive.specs.Turning.{HeldSeat};
+
+    ghost Value = { HeldSeat };
+
+    ghost view = { λ s. record { node = s.state; live = s.live; count = s.turns } };
+}
+
+/// The end that an answer makes of the turns of a node, if it makes one.
+pub(crate) fn ending_of(answer: &Answer) -> Option<DriveEnd>
+    ensures { result ≡ ending_of answer.now }
+{
+    match answer {
+        Answer::HistoryFull => Some(DriveEnd::HistoryFull),
+        Answer::Damaged { file, place } => Some(DriveEnd::Damaged {
+            file: *file,
+            place: *place,
+        }),
+        Answer::NoMemory { .. } => Some(DriveEnd::NoMemory),
+        _ => None,
+    }
+}
+
+impl<'a, Y: Symbiont> Seat<'a, Y> {
+    /// A live node in front of these lines.
+    pub(crate) fn new(alloc: Global, lines: &'a [UserLine<'a>]) -> Seat<'a, Y>
+        ensures { result ≡ record { node = record { state = at_first (user_lines_view lines.now); made = None }; live = true; count = 0 } }
+    {
+        Seat {
+            state: NodeState::new(alloc, lines),
+            live: true,
+            turns: 0,
+        }
+    }
+
+    /// Takes the answer in that the call of what came next got. At want of memory nothing changes.
+    pub(crate) fn take_in(
+        &mut self,
+        next: &Next<'a>,
+        bearing: Bearing,
+        answer: Answer,
+        symbiont: &Y,
+    ) -> Result<(), AllocError>
+        requires next { ComesNext self.old.node.state next.now }
+        requires can { CanBeMade self.old.node.state next.now }
+        requires made { IsMadeFor next.now self.old.node.made }
+        requires duties { CanBeHeard answer }
+        requires few { self.old.count < 2 ^ 32 }
+        ensures { (asked : AnyCall) → bearing ≡ bearing_of asked → OnOk result (TakesIn next.now self.old.node asked answer self.old self.new) }
+    {
+        let live = live_behind(self.live, bearing, &answer);
+        self.state.hear(next, self.turns, answer, symbiont)?;
+        self.live = live;
+        self.turns += 1;
+        Ok(())
+    }
+}

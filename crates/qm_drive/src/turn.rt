@@ -1,0 +1,178 @@
+// One turn of a node at the turnstile.
+ghost use Rattle.std.specs.Prelude.{◌≡◌, ◌<◌, ◌-◌, ◌^◌, ℕ, length, Some, None, IfErr, IfOk, OnErr, OnOk};
+ghost use Rattle.qm_history.specs.declared.call.Call.{Call as AnyCall};
+ghost use Rattle.qm_history.specs.Calls.{why_of};
+ghost use Rattle.qm_history.specs.Course.{next_at};
+ghost use Rattle.qm_living.specs.Living.{bearing_of};
+ghost use Rattle.qm_node.specs.Node.{CanBeHeard, CanBeMade, ComesNext, IsCallOf, IsMadeFor, IsTurn, TellsOne};
+ghost use Rattle.qm_drive.specs.Allowed.{CanAskAll};
+ghost use Rattle.qm_drive.specs.Turning.{EndsAt, EndsBy, IsTurnMade, MakesTurn, MayHear, Prints, TakesIn, ending_of};
+
+use crate::asking::Asking;
+use crate::ending::DriveEnd;
+use crate::seat::{Seat, ending_of};
+use crate::serve::Serve;
+use crate::shared::Shared;
+use crate::station::{Gate, Point, Station};
+use qm_history::{Answer, Call, Why};
+use qm_io::Clock;
+use qm_kinds::{Moment, Name};
+use qm_living::{Bearing, bearing_of};
+use qm_node::{Asked, Next};
+use qm_show::show_answer;
+use qm_symb::Symbiont;
+use qm_turn::{PassOf, TurnsSpent, Turnstile};
+use std::alloc::{AllocError, Global};
+use std::sync::Wait;
+
+/// Why the turn of a call is made.
+fn why_of(call: &Call) -> Why
+    ensures { result ≡ why_of call.now }
+{
+    match call {
+        Call::Line { line, .. } => Why::Line(*line),
+        Call::Fetch { .. } => Why::Fetch,
+        Call::Report { .. } => Why::Report,
+        Call::Leave => Why::Leave,
+    }
+}
+
+/// Waits for the node's turn, and makes its call in it.
+fn ask<S: Serve, R: Wait>(
+    rt: &R,
+    turnstile: &Turnstile<Shared<S>>,
+    pass: &mut PassOf<Shared<S>>,
+    node: u8,
+    now: Moment,
+    call: Call,
+) -> Answer
+    requires here { pass.old.place ≡ turnstile.now.place }
+    requires room { length pass.old.mine < 2 ^ 32 - 1 }
+    requires asked { S.can_ask node call }
+    ensures { IsTurnMade S.tells S.first node now call result pass.old pass.new }
+{
+    match turnstile.turn(rt, pass, Asking::<S>::new(node, now, call)) {
+        Ok(answer) => answer,
+        Err(TurnsSpent) => unreachable!(),
+    }
+}
+
+// Appends the text of an answer. At want of memory nothing is appended.
+fn print_answer(
+    alloc: Global,
+    name: &Name,
+    why: Why,
+    answer: &Answer,
+    text: &mut Vec<u8>,
+) -> Result<(), AllocError>
+    ensures printed { (asked : AnyCall) → why ≡ why_of asked → OnOk result (Prints name.now asked answer.now text.old.items text.new.items) }
+    ensures no_memory { OnErr result (text.new.items ≡ text.old.items) }
+{
+    let shown = show_answer(alloc, name, why, answer)?;
+    text.extend_from_slice(&shown)
+}
+
+// Prints the answer of the call of what came next, and lets the node take it in; or it is the last one.
+fn hear<'a, Y: Symbiont>(
+    alloc: Global,
+    name: &Name,
+    seat: &mut Seat<'a, Y>,
+    next: &Next<'a>,
+    why: Why,
+    bearing: Bearing,
+    answer: Answer,
+    symbiont: &Y,
+    text: &mut Vec<u8>,
+) -> Result<(), DriveEnd>
+    requires next { ComesNext seat.old.node.state next.now }
+    requires can { CanBeMade seat.old.node.state next.now }
+    requires made { IsMadeFor next.now seat.old.node.made }
+    requires duties { CanBeHeard answer }
+    requires few { seat.old.count < 2 ^ 32 }
+    ensures goes_on { OnOk result (ending_of answer ≡ None) }
+    ensures printed { (asked : AnyCall) → why ≡ why_of asked → OnOk result (Prints name.now asked answer text.old.items text.new.items) }
+    ensures takes_in { (asked : AnyCall) → bearing ≡ bearing_of asked → OnOk result (TakesIn next.now seat.old.node asked answer seat.old seat.new) }
+    ensures ends { (asked : AnyCall) → why ≡ why_of asked → IfErr result (λ end. EndsBy name.now end asked answer text.old.items text.new.items) }
+{
+    if let Some(end) = ending_of(&answer) {
+        return Err(end);
+    }
+    let Ok(()) = print_answer(alloc, name, why, &answer, text) else {
+        return Err(DriveEnd::NoMemory);
+    };
+    match seat.take_in(next, bearing, answer, symbiont) {
+        Ok(()) => Ok(()),
+        Err(AllocError) => Err(DriveEnd::NoMemory),
+    }
+}
+
+// Makes the call of what comes next. Where a run is to make a step, the node comes by its gate before that.
+fn make_call<'a, S: Serve, C: Clock, Y: Symbiont, G: Gate>(
+    node: u8,
+    seat: &mut Seat<'a, Y>,
+    next: &Next<'a>,
+    station: &mut Station<C, Y, G>,
+) -> Result<Asked, AllocError>
+    requires next { IsTurn (next_at seat.old.live seat.old.node.state seat.old.node.state.stage) (Some next.now) }
+    requires can { CanBeMade seat.old.node.state next.now }
+    requires told { seat.old.node.made ≡ None }
+    requires asks { CanAskAll S.can_ask node seat.old.node.state.lines }
+    ensures call { IfOk result (λ asked. IsCallOf Y.meaning next.now seat.old.node.state asked seat.new.node station.old.symbiont station.new.symbiont) }
+    ensures asks { IfOk result (λ asked. S.can_ask node asked.call) }
+    ensures clock { TellsOne (C.told station.old.clock) (C.told station.new.clock) result }
+    ensures seat { OnOk result (MayHear next.now seat.old seat.new) }
+    ensures no_memory { OnErr result ((seat.new ≡ seat.old) × (station.new.symbiont ≡ station.old.symbiont)) }
+{
+    if let Next::Step(_) = next {
+        station.gate.at(Point::InStep);
+    }
+    seat.state
+        .call(next, &mut station.clock, &mut station.symbiont)
+}
+
+/// Makes the turn that comes next in a node: the call of it is made, with one reading of the clock, and for a run with a step of
+/// its symbiont; the node waits for its turn, and asks; the text of the answer is appended; and the node takes the answer in.
+pub(crate) fn make_turn<'a, S: Serve, R: Wait, C: Clock, Y: Symbiont, G: Gate>(
+    rt: &R,
+    alloc: Global,
+    turnstile: &Turnstile<Shared<S>>,
+    pass: &mut PassOf<Shared<S>>,
+    node: u8,
+    name: &Name,
+    seat: &mut Seat<'a, Y>,
+    next: &Next<'a>,
+    station: &mut Station<C, Y, G>,
+    text: &mut Vec<u8>,
+) -> Result<(), DriveEnd>
+    requires here { pass.old.place ≡ turnstile.now.place }
+    requires room { length pass.old.mine < 2 ^ 32 - 1 }
+    requires next { IsTurn (next_at seat.old.live seat.old.node.state seat.old.node.state.stage) (Some next.now) }
+    requires can { CanBeMade seat.old.node.state next.now }
+    requires told { seat.old.node.made ≡ None }
+    requires few { seat.old.count < 2 ^ 32 }
+    requires asks { CanAskAll S.can_ask node seat.old.node.state.lines }
+    ensures made { OnOk result (MakesTurn Y.meaning S.tells S.first node name.now next.now seat.old seat.new
+        station.old.symbiont station.new.symbiont (C.told station.old.clock) (C.told station.new.clock) pass.old pass.new text.old.items text.new.items) }
+    ensures ends { IfErr result (λ end. EndsAt Y.meaning S.tells S.first node name.now end next.now seat.old
+        station.old.symbiont station.new.symbiont (C.told station.old.clock) (C.told station.new.clock) pass.old pass.new text.old.items text.new.items) }
+{
+    let Ok(Asked { moment, call }) = make_call::<S, C, Y, G>(node, seat, next, station) else {
+        return Err(DriveEnd::NoMemory);
+    };
+    let why = why_of(&call);
+    let bearing = bearing_of(&call);
+    station.gate.at(Point::BeforeTurn);
+    let answer = ask(rt, turnstile, pass, node, moment, call);
+    station.gate.at(Point::AfterTurn);
+    hear(
+        alloc,
+        name,
+        seat,
+        next,
+        why,
+        bearing,
+        answer,
+        &station.symbiont,
+        text,
+    )
+}
