@@ -1,5 +1,5 @@
 -- The call of what comes next in a node.
-use Rattle.std.proofs.Common.{◌≡◌, ℕ, zero, suc, Bool, true, false, List, [], ◌∷◌, refl, sym, ap, subst, Option, None, Some, Result, Ok, Err}
+use Rattle.std.proofs.Common.{◌≡◌, ℕ, zero, suc, Bool, true, false, List, [], ◌∷◌, refl, sym, subst, Some, Result, Ok, Err}
 use Rattle.std.specs.Prelude.{IfOk}
 use Rattle.std.specs.declared.alloc.AllocError.{AllocError}
 use Rattle.std.specs.List.{AllByRecursion}
@@ -10,12 +10,11 @@ use Rattle.qm_history.specs.declared.call.Call.TheVariants as call
 use Rattle.qm_history.specs.Course.{NodeState, NextTurn, ALine, AStep, AFetch, ALeave, NoTurn, Reading, Fetching, Working, Leaving, Over, next_at, next_line, next_reading, next_working}
 use Rattle.qm_history.specs.Course as course
 use Rattle.qm_history.specs.Script.{UserLine}
-use Rattle.qm_script.specs.ClusterLines.{user_line_view}
 use Rattle.qm_script.specs.Served.{read_served}
 use Rattle.qm_node.specs.declared.course.Asked.{Asked}
 use Rattle.qm_node.specs.declared.course.Next.{Next}
 use Rattle.qm_node.specs.declared.course.Next.TheVariants.{Line, Step, Fetch, Leave}
-use Rattle.qm_node.specs.Node.{CanBeMade, ComesNext, HeldNode, IsCallOf, IsMadeFor, IsTurn}
+use Rattle.qm_node.specs.Node.{HeldNode, IsCallOf, IsTurn}
 use Rattle.qm_drive.specs.Allowed.{CanAskAll, CanAskLine}
 
 -- ---- what comes next of the lines that are left

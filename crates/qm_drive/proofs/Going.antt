@@ -1,18 +1,17 @@
 -- A node's course goes on from the state that it has reached.
-use Rattle.std.proofs.Common.{◌≡◌, ℕ, ◌⊎◌, inl, inr, Bool, List, [], ◌∷◌, ◌++◌, length, refl, sym, ◌∙◌, ap, subst, Option, None, Some}
+use Rattle.std.proofs.Common.{◌≡◌, ℕ, inl, Bool, List, [], ◌∷◌, ◌++◌, length, refl, sym, ◌∙◌, ap, subst, Option, None, Some}
 use Rattle.std.specs.Prelude.{slice_get, drop}
 use Rattle.std.specs.Option.{option_and_then}
 use Rattle.std.proofs.lemmas.List.{append_assoc, append-nil}
 use Rattle.qm_kinds.specs.declared.work.Report.{Report}
 use Rattle.qm_record.specs.Spelling.{HasSpelling}
 use Rattle.qm_symb.specs.Device.{Meaning}
-use Rattle.qm_history.specs.declared.call.Answer.{Answer}
 use Rattle.qm_history.specs.declared.call.Call.{Call}
 use Rattle.qm_history.specs.declared.call.Call.TheVariants as call
 use Rattle.qm_history.specs.declared.turn.Turn.{Turn}
 use Rattle.qm_history.specs.declared.world.World.{World}
-use Rattle.qm_model.specs.Kept.{KeptRun, KeptRuns, StepEnd, known, next_kept, report_told, run_kept}
-use Rattle.qm_history.specs.Course.{Extent, Whole, Begun, Follows, GoesOn, IsBrokenOff, IsStepOf, MadeStep, NextTurn, ALine, AStep, AFetch, ALeave, NoTurn, NodeState, Over, ServesOrEnds, answered, behind_fetch, behind_line, behind_step, call_of_line, is_live_behind, next_at, own_stage}
+use Rattle.qm_model.specs.Kept.{KeptRun, KeptRuns, known, next_kept, report_told, run_kept}
+use Rattle.qm_history.specs.Course.{Extent, Whole, Begun, Follows, GoesOn, MadeStep, NextTurn, ALine, AStep, AFetch, ALeave, NoTurn, NodeState, Over, ServesOrEnds, answered, behind_fetch, behind_line, behind_step, call_of_line, is_live_behind, next_at, own_stage}
 use Rattle.qm_history.specs.Reaching.{Reaches}
 use Rattle.qm_history.specs.Script.{UserLine, steps_asked}
 use Rattle.qm_history.specs.Turn.{IsTurnOf}

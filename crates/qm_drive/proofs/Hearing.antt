@@ -1,5 +1,5 @@
 -- What an answer says of the turn of its call.
-use Rattle.std.proofs.Common.{◌≡◌, ℕ, ◌+◌, ◌≤◌, ◌==◌, cond, ◌⊎◌, inl, inr, Bool, true, false, ◌&&◌, List, [], ◌∷◌, ◌++◌, length, refl, sym, ◌∙◌, ap, subst, arith, Option, None, Some, Result, Ok, Err}
+use Rattle.std.proofs.Common.{◌≡◌, ℕ, ◌≤◌, ◌==◌, cond, inl, inr, Bool, true, false, ◌&&◌, List, [], ◌∷◌, ◌++◌, length, refl, sym, ◌∙◌, ap, subst, arith, Option, None, Some, Err}
 use Rattle.std.specs.Prelude.{IfSome, option_to_list}
 use Rattle.std.specs.List.{AllByRecursion}
 use Rattle.std.proofs.lemmas.List.{length-append}
@@ -69,7 +69,7 @@ serves_or_ends w asked t (answer.Fenced held current) may = inl may.0
 serves_or_ends w asked t (answer.NoManager took name) may = inl may.0
 
 -- where a call left no turn, that ends the turns of the node
-none_ends : (turns : List Turn) (told : Answer) → MayLeaveNone turns told → ending_of told ≡ None → ⊥
+pub none_ends : (turns : List Turn) (told : Answer) → MayLeaveNone turns told → ending_of told ≡ None → ⊥
 none_ends turns told (inl (full, kept)) h = let bad : ending_of answer.HistoryFull ≡ None = sym (ap ending_of full) ∙ h in cc
 none_ends turns told (inr short) h = let bad : ending_of (answer.NoMemory None) ≡ None = sym (ap ending_of short) ∙ h in cc
 

@@ -1,40 +1,28 @@
 -- How the turns of a node end: with its course, or before that.
-use Rattle.std.proofs.Common.{◌≡◌, ℕ, ◌+◌, ◌≤◌, ◌⊎◌, inl, inr, Bool, true, false, List, [], ◌∷◌, ◌++◌, length, refl, sym, ◌∙◌, ap, subst, arith, append_assoc, Option, None, Some, Result, Ok, Err}
-use Rattle.std.specs.Prelude.{IsTrue, option_to_list}
-use Rattle.std.specs.List.{AllByRecursion}
-use Rattle.std.specs.Io.KnownBytes.{Appends}
-use Rattle.std.proofs.lemmas.List.{append-nil, length-append}
-use Rattle.qm_faults.specs.Faults.{counted}
-use Rattle.qm_kinds.specs.declared.work.Report.{Report}
-use Rattle.qm_model.specs.Kept.{KeptRun, StepEnd, WentOn, DeviceFailed, CutShort, IsEndOf, known, report_told, run_kept, next_kept}
+use Rattle.std.proofs.Common.{◌≡◌, ℕ, ◌+◌, ◌≤◌, Bool, true, false, List, [], ◌∷◌, ◌++◌, refl, sym, ◌∙◌, ap, subst, arith, Option, None, Some}
+use Rattle.std.proofs.lemmas.List.{append-nil}
+use Rattle.qm_model.specs.Kept.{KeptRun, StepEnd, WentOn, DeviceFailed, CutShort, IsEndOf, known, report_told, run_kept}
 use Rattle.qm_record.specs.Spelling.{HasSpelling}
 use Rattle.qm_symb.specs.Device.{Meaning}
-use Rattle.qm_history.specs.declared.call.Answer.{Answer}
 use Rattle.qm_history.specs.declared.call.Call.{Call}
 use Rattle.qm_history.specs.declared.call.Call.TheVariants as call
 use Rattle.qm_history.specs.declared.turn.Turn.{Turn}
 use Rattle.qm_history.specs.declared.world.World.{World}
-use Rattle.qm_history.specs.Answering.{MayAnswer}
-use Rattle.qm_history.specs.Chest.{turns_kept}
-use Rattle.qm_history.specs.Course.{Extent, Whole, Begun, Follows, GoesOn, IsAtEnd, IsBrokenOff, IsCourse, IsStepOf, MadeStep, NextTurn, ALine, AStep, AFetch, ALeave, NoTurn, NodeState, ServesOrEnds, answered, at_first, failed_steps, is_live_behind, next_at, next_run}
-use Rattle.qm_history.specs.Ends.{NodeEnd, Ended, TurnsSpent, MemoryShort, HasPrinted, extent_of}
-use Rattle.qm_history.specs.Legal.{IsLegal, after_turns}
+use Rattle.qm_history.specs.Course.{Extent, Begun, Follows, GoesOn, IsAtEnd, IsBrokenOff, IsCourse, MadeStep, NextTurn, ALine, AStep, AFetch, ALeave, NoTurn, NodeState, ServesOrEnds, at_first, failed_steps, is_live_behind, next_at, next_run}
 use Rattle.qm_history.specs.Reaching.{Reaches}
 use Rattle.qm_history.specs.Script.{UserLine}
 use Rattle.qm_history.specs.Visits.{Visit, visits_of}
-use Rattle.qm_history.specs.World.{IsSound, is_live}
-use Rattle.qm_history.proofs.ReachingLemmas.{one_visit}
-use Rattle.qm_script.specs.ClusterLines.{user_line_view}
+use Rattle.qm_history.specs.World.{is_live}
 use Rattle.qm_script.specs.Served.{read_served}
 use Rattle.qm_node.specs.declared.course.Asked.{Asked}
 use Rattle.qm_node.specs.declared.course.Next.{Next}
 use Rattle.qm_node.specs.declared.course.Next.TheVariants.{Line, Step, Fetch, Leave}
 use Rattle.qm_node.specs.Node.{HeldNode, IsCallOf, IsTurn}
-use Rattle.qm_node.specs.Steps.{Comes, IsStep, NextSteps}
+use Rattle.qm_node.specs.Steps.{Comes, NextSteps}
 use Rattle.qm_drive.specs.Driving.{AreMade, AreTaken, counted_times}
-use Rattle.qm_drive.proofs.Calls.{HasLines, HasRound, has_lines, has_round}
+use Rattle.qm_drive.proofs.Calls.{HasRound, has_round}
 use Rattle.qm_drive.proofs.Going.{goes_on, next_is}
-use Rattle.qm_drive.proofs.Steps.{all_rise, faults_in, made_more, one_rise, taken_broken, taken_whole, times_more}
+use Rattle.qm_drive.proofs.Steps.{all_rise, faults_in, one_rise, taken_broken, taken_whole, times_more}
 
 -- ---- a last call without a turn
 
@@ -136,7 +124,7 @@ module _ {Y : Type 0} (y : Meaning Y) (n : NodeState) (earlier : List Visit) (v 
 
 module _ (w : World) (node : ℕ) (lines : List UserLine) where
   -- what was reached is a course, as far as nothing more is to come of it
-  pub course_so_far : (extent : Extent) (turns : List Turn) (steps : List MadeStep) (n : NodeState) (live : Bool) (broken : Option KeptRun) (faults : ℕ) → failed_steps steps ≤ faults
+  abbrev pub course_so_far : (extent : Extent) (turns : List Turn) (steps : List MadeStep) (n : NodeState) (live : Bool) (broken : Option KeptRun) (faults : ℕ) → failed_steps steps ≤ faults
       → Reaches HasSpelling read_served (at_first lines) [] (is_live w node) (visits_of node w turns) steps n live → IsAtEnd extent (next_at live n n.stage) → IsBrokenOff extent (next_run n (next_at live n n.stage)) broken
       → IsCourse HasSpelling read_served extent w turns node lines faults
   course_so_far extent turns steps n live broken faults few reached end off = record {
@@ -149,7 +137,7 @@ module _ (w : World) (node : ℕ) (lines : List UserLine) where
     few_faults = few;
   }
 
-  pub course_with : (turns all : List Turn) (steps more : List MadeStep) (n : NodeState) (live : Bool) (v : Visit) (faults : ℕ) → failed_steps (steps ++ more) ≤ faults
+  abbrev pub course_with : (turns all : List Turn) (steps more : List MadeStep) (n : NodeState) (live : Bool) (v : Visit) (faults : ℕ) → failed_steps (steps ++ more) ≤ faults
       → Reaches HasSpelling read_served (at_first lines) [] (is_live w node) (visits_of node w turns) steps n live
       → GoesOn HasSpelling read_served Begun None n (visits_of node w turns) live (v ∷ []) more → visits_of node w all ≡ visits_of node w turns ++ v ∷ []
       → IsCourse HasSpelling read_served Begun w all node lines faults

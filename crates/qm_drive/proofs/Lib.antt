@@ -9,3 +9,4 @@ pub mod Lives
 pub mod Hearing
 pub mod Onward
 pub mod Lasts
+pub mod Underway

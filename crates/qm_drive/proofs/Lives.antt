@@ -1,5 +1,5 @@
 -- Whether a node is live stays in the turns of other nodes.
-use Rattle.std.proofs.Common.{◌≡◌, ℕ, ◌⊎◌, inl, inr, List, [], ◌∷◌, ◌++◌, refl, sym, ◌∙◌, ap, subst, Option, None, Some}
+use Rattle.std.proofs.Common.{◌≡◌, ℕ, inl, inr, List, [], ◌∷◌, ◌++◌, refl, sym, ◌∙◌, ap, subst, Option, None, Some}
 use Rattle.std.specs.Prelude.{IfSome, option_to_list}
 use Rattle.qm_record.specs.Spelling.{HasSpelling}
 use Rattle.qm_history.specs.declared.turn.Turn.{Turn}

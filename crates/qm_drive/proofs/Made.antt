@@ -1,20 +1,18 @@
 -- A turn of a node, put together from its call, its turn and what the node heard.
-use Rattle.std.proofs.Common.{◌≡◌, ℕ, ◌+◌, ◌∷◌, [], ◌⊎◌, inl, inr, Bool, List, refl, sym, ap, ◌∙◌, subst, Option, None, Some, Result, Ok, Err}
-use Rattle.std.specs.Prelude.{OnOk, IfErr, IfOk, OnErr}
+use Rattle.std.proofs.Common.{◌≡◌, ℕ, ◌+◌, ◌∷◌, [], inl, Bool, List, ap, ◌∙◌, subst, Option, None, Result, Ok, Err}
+use Rattle.std.specs.Prelude.{OnOk, IfErr}
 use Rattle.std.specs.Io.KnownBytes.{Appends}
 use Rattle.qm_symb.specs.Device.{Meaning}
 use Rattle.qm_history.specs.declared.call.Answer.{Answer}
-use Rattle.qm_history.specs.declared.call.Call.{Call}
 use Rattle.qm_history.specs.declared.world.World.{World}
 use Rattle.qm_living.specs.Living.{bearing_of, live_behind}
 use Rattle.qm_node.specs.declared.course.Asked.{Asked}
 use Rattle.qm_node.specs.declared.course.Next.{Next}
-use Rattle.qm_node.specs.Node.{HeldNode, Hears, IsCallOf, TellsOne}
+use Rattle.qm_node.specs.Node.{Hears, IsCallOf}
 use Rattle.qm_turn.specs.Turns.{Known}
 use Rattle.qm_drive.specs.declared.ending.DriveEnd.{DriveEnd}
-use Rattle.qm_drive.specs.declared.ending.DriveEnd.TheVariants as end
 use Rattle.qm_drive.specs.declared.noted.Noted.{Noted}
-use Rattle.qm_drive.specs.Turning.{EndsAt, EndsBy, HeldSeat, IsTurnMade, MakesTurn, MayHear, Prints, TakesIn, ending_of}
+use Rattle.qm_drive.specs.Turning.{EndsAt, EndsBy, HeldSeat, IsTurnMade, MakesTurn, Prints, TakesIn, ending_of}
 
 module _ {Y : Type 0} (y : Meaning Y) (tells : Bool) (first : World) (node : ℕ) (name : List ℕ) (next : Next) (old mid new : HeldSeat) (was now : Y) (told then : Option (List ℕ))
     (before after : Known Noted) (text printed : List ℕ) (asked : Asked) (a : Answer)

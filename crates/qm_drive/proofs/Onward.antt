@@ -1,11 +1,10 @@
 -- A node goes on by one turn: what its pass, its clock and its own state are then.
-use Rattle.std.proofs.Common.{◌≡◌, ℕ, ◌+◌, ◌≤◌, ◌⊎◌, inl, inr, Bool, false, List, [], ◌∷◌, ◌++◌, length, map, refl, sym, ◌∙◌, ap, subst, arith, append_assoc, Option, None, Some}
-use Rattle.std.specs.Prelude.{IfSome, IsTrue, option_to_list, flat_map, drop}
+use Rattle.std.proofs.Common.{◌≡◌, ℕ, ◌+◌, ◌≤◌, Bool, false, List, [], ◌∷◌, ◌++◌, length, map, refl, sym, ◌∙◌, ap, subst, arith, append_assoc, Option, None, Some}
+use Rattle.std.specs.Prelude.{IfSome, IsTrue, option_to_list, drop}
 use Rattle.std.specs.List.{AllByRecursion}
 use Rattle.std.specs.Io.KnownBytes.{Appends}
 use Rattle.std.proofs.lemmas.List.{append-nil, length-append, map-append}
 use Rattle.std.proofs.lemmas.Grind.{flat_map-append}
-use Rattle.qm_kinds.specs.declared.input.Input.{Input}
 use Rattle.qm_record.specs.Spelling.{HasSpelling}
 use Rattle.qm_symb.specs.Device.{Meaning}
 use Rattle.qm_history.specs.declared.call.Answer.{Answer}
@@ -17,7 +16,7 @@ use Rattle.qm_history.specs.Answering.{MayAnswer}
 use Rattle.qm_history.specs.Answers.{answer_of}
 use Rattle.qm_history.specs.Calls.{why_of}
 use Rattle.qm_history.specs.Chest.{turns_kept}
-use Rattle.qm_history.specs.Course.{MadeStep, NodeState, Extent, Whole, Begun, answered, at_first, behind_fetch, behind_line, behind_step_line, is_live_behind, next_at, own_stage}
+use Rattle.qm_history.specs.Course.{MadeStep, NodeState, answered, at_first, behind_fetch, behind_line, behind_step_line, is_live_behind, next_at, own_stage}
 use Rattle.qm_history.specs.Legal.{IsLegal, after_turn, after_turns}
 use Rattle.qm_history.specs.Reaching.{Reaches}
 use Rattle.qm_history.specs.Script.{UserLine}
@@ -33,16 +32,16 @@ use Rattle.qm_node.specs.declared.course.Asked.{Asked}
 use Rattle.qm_node.specs.declared.course.Next.{Next}
 use Rattle.qm_node.specs.declared.course.Next.TheVariants.{Line, Step, Fetch, Leave}
 use Rattle.qm_node.specs.Node.{HeldNode, Hears, IsCallOf, IsTurn}
-use Rattle.qm_turn.specs.History.{notes, notes_by}
+use Rattle.qm_turn.specs.History.{notes_by}
 use Rattle.qm_turn.specs.Turns.{Known}
 use Rattle.qm_turn.proofs.Histories.{notes_by-append, notes_by_same}
 use Rattle.qm_drive.specs.declared.noted.Noted.{Noted}
-use Rattle.qm_drive.specs.Allowed.{CanAskAll, CanAskLine}
+use Rattle.qm_drive.specs.Allowed.{CanAskLine}
 use Rattle.qm_drive.specs.Driving.{AreMade, HasCome, HasMade, IsHeard, readings, text_told}
 use Rattle.qm_drive.specs.Passes.{turns_in, AreOwn}
 use Rattle.qm_drive.specs.Serving.{MayBeTold}
 use Rattle.qm_drive.specs.Sharing.{turns_of}
-use Rattle.qm_drive.specs.Turning.{HeldSeat, IsAskedFor, IsTurnMade, MakesTurn, TakesIn, ending_of}
+use Rattle.qm_drive.specs.Turning.{HeldSeat, IsTurnMade, MakesTurn}
 use Rattle.qm_drive.proofs.Going.{led}
 use Rattle.qm_drive.proofs.Hearing.{fewer, heard_turn, says}
 use Rattle.qm_drive.proofs.Lives.{after_both, legal_back, legal_front, lives_on}

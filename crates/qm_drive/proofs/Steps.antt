@@ -1,14 +1,13 @@
 -- What the steps of a symbiont hand over, and how often its devices failed in them.
-use Rattle.std.proofs.Common.{◌≡◌, ℕ, zero, suc, ◌+◌, ◌<◌, ◌≤◌, Bool, true, false, cond, List, [], ◌∷◌, ◌++◌, length, take, refl, sym, ◌∙◌, ap, subst, append_assoc, Option, None, Some, arith}
+use Rattle.std.proofs.Common.{◌≡◌, ℕ, zero, suc, ◌+◌, false, cond, List, [], ◌∷◌, ◌++◌, length, take, refl, sym, ◌∙◌, ap, subst, append_assoc, None, Some, arith}
 use Rattle.std.specs.Prelude.{IsTrue}
 use Rattle.std.proofs.lemmas.List.{append-nil}
 use Rattle.std.proofs.lemmas.List.Sums.{sum_by-cons}
 use Rattle.std.proofs.Math.Seq.{take-length}
 use Rattle.qm_faults.specs.Faults.{counted}
 use Rattle.qm_model.specs.Kept.{KeptRun, StepEnd, WentOn, DeviceFailed, CutShort, report_told}
-use Rattle.qm_model.specs.Reports.{course, blocks_before_report}
 use Rattle.qm_symb.specs.Device.{Meaning, handed_by}
-use Rattle.qm_history.specs.Blocks.{AreHanded, HandsOver, all_steps, blocks_next, broken_step}
+use Rattle.qm_history.specs.Blocks.{AreHanded, HandsOver, all_steps, blocks_next}
 use Rattle.qm_history.specs.Course.{MadeStep, failed_steps, has_failed}
 use Rattle.qm_node.specs.Steps.{Comes}
 use Rattle.qm_drive.specs.Driving.{AreMade, AreTaken, counted_times, handed_to}

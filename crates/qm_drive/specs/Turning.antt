@@ -7,7 +7,6 @@ use Rattle.qm_symb.specs.Device.{Meaning}
 use Rattle.qm_history.specs.declared.call.Answer.{Answer}
 use Rattle.qm_history.specs.declared.call.Answer.TheVariants as answer
 use Rattle.qm_history.specs.declared.call.Call.{Call}
-use Rattle.qm_history.specs.declared.turn.Turn.{Turn}
 use Rattle.qm_history.specs.declared.world.World.{World}
 use Rattle.qm_history.specs.Calls.{why_of}
 use Rattle.qm_history.specs.Chest.{IsMadeFor as IsOf, LeavesTurn, is_unread, turns_kept}

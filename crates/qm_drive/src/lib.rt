@@ -3,6 +3,7 @@
 #![tactic(auto)]
 
 mod asking;
+mod course;
 mod ending;
 mod laws;
 mod noted;
@@ -13,6 +14,7 @@ mod station;
 mod turn;
 
 pub use asking::Asking;
+pub use course::drive;
 pub use ending::DriveEnd;
 pub use laws::{
     closed_histories_have_known_turns, courses_and_texts_are_whole, passes_see_beginnings,

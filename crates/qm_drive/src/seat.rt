@@ -1,9 +1,9 @@
 // A node between two turns.
-ghost use Rattle.std.specs.Prelude.{◌≡◌, ◌<◌, ◌^◌, None, OnOk, true};
+ghost use Rattle.std.specs.Prelude.{◌≡◌, ◌<◌, ◌^◌, None, IfSome, OnOk, true};
 ghost use Rattle.qm_history.specs.declared.call.Call.{Call as AnyCall};
-ghost use Rattle.qm_history.specs.Course.{at_first};
+ghost use Rattle.qm_history.specs.Course.{at_first, next_at};
 ghost use Rattle.qm_living.specs.Living.{bearing_of};
-ghost use Rattle.qm_node.specs.Node.{CanBeHeard, CanBeMade, ComesNext, IsMadeFor};
+ghost use Rattle.qm_node.specs.Node.{CanBeHeard, CanBeMade, ComesNext, IsMadeFor, IsTurn};
 ghost use Rattle.qm_script.specs.ClusterLines.{user_lines_view};
 ghost use Rattle.qm_drive.specs.Turning.{TakesIn, ending_of};
 
@@ -58,6 +58,14 @@ impl<'a, Y: Symbiont> Seat<'a, Y> {
             live: true,
             turns: 0,
         }
+    }
+
+    /// What comes next, if something does.
+    pub(crate) fn next(&self) -> Option<Next<'a>>
+        ensures next { IsTurn (next_at self.now.live self.now.node.state self.now.node.state.stage) result }
+        ensures can { IfSome result (CanBeMade self.now.node.state) }
+    {
+        self.state.next(self.live)
     }
 
     /// Takes the answer in that the call of what came next got. At want of memory nothing changes.
