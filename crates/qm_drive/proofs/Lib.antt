@@ -10,3 +10,4 @@ pub mod Hearing
 pub mod Onward
 pub mod Lasts
 pub mod Underway
+pub mod Leaving
