@@ -54,7 +54,7 @@ grows m before after r s grown was is same said says old new hold_was hold_is =
 
 -- ---- files of a world
 
-left_of : (doubt : Option Record) (place : Option Place) (before log : List Record) (r : Recorded) → IsFound doubt place before log r → (log ≡ before) ⊎ (log ≡ before ++ option_to_list doubt)
+pub left_of : (doubt : Option Record) (place : Option Place) (before log : List Record) (r : Recorded) → IsFound doubt place before log r → (log ≡ before) ⊎ (log ≡ before ++ option_to_list doubt)
 left_of None None before log r same = inl same
 left_of None (Some place) before log r found = absurd found
 left_of (Some d) None before log r found = absurd found

@@ -15,3 +15,15 @@ pub mod Deciding
 pub mod ComingUp
 pub mod Losing
 pub mod Ways
+pub mod Reading
+pub mod Trying
+pub mod Failures
+pub mod Failed
+pub mod Recorded
+pub mod Following
+pub mod Lists
+pub mod Outcomes
+pub mod Writing
+pub mod Unread
+pub mod Begun
+pub mod Parted

@@ -7,3 +7,5 @@ pub mod Duties
 pub mod Steps
 pub mod At
 pub mod Whole
+pub mod Nodes
+pub mod Taking

@@ -8,16 +8,21 @@
 
 mod answering;
 mod asking;
+mod behind;
 mod book;
 mod chest;
 mod desk;
+mod failing;
 mod laws;
 mod leaving;
+mod nodes;
 mod own;
 mod place;
 mod serving;
 mod showing;
 mod starting;
+mod taken;
+mod taking;
 
 pub use chest::{Chest, TURNS_KEPT};
 pub use laws::{files_keep_their_world, parts_come_one_behind_another, whole_parts_are_turns};

@@ -1,0 +1,51 @@
+use Rattle.std.proofs.Common.{refl, None, Some}
+use Rattle.qm_acting.specs.Standing.{standing_of}
+use Rattle.qm_history.specs.Turn.{ATakeover}
+use Rattle.qm_chest.proofs.Names.{name_there}
+use Rattle.qm_chest.proofs.Parted as parted
+use Rattle.qm_chest.proofs.book.Book.behind.Goals as goal
+
+pub returns-in-TakeManager-clause-leaves : goal.returns-in-TakeManager-clause-leaves
+returns-in-TakeManager-clause-leaves g c =
+    let desk = c.requires.desk in
+    let name = name_there c.args.node (standing_of c.args.taken.manager).system.nodes c.args.self.now.names.items desk.1 desk.2 in
+    parted.managing_leaves g.D.Disk.meaning c.args.self.now c.args.taken c.args.node desk c.parts-manager.result c.parts-manager.ensures c.managing.result name.0 (c.managing.ensures name.0 name.1)
+
+pub returns-in-TakeManager-clause-follows : goal.returns-in-TakeManager-clause-follows
+returns-in-TakeManager-clause-follows g c = λ tells.
+    let desk = c.requires.desk in
+    let name = name_there c.args.node (standing_of c.args.taken.manager).system.nodes c.args.self.now.names.items desk.1 desk.2 in
+    parted.managing_follows c.site_files_are_accepted.ensures c.nodes_keep_their_names.ensures.names g.D.Disk.meaning g.met.D.Disk.only_now c.args.self.now c.args.taken c.args.node c.args.now c.args.input desk.2 c.requires.can
+    c.parts-manager.result c.parts-manager.ensures c.managing.result c.in-TakeManager.on name.0 c.in-TakeManager.is name.1 (c.managing.ensures name.0 name.1)
+
+pub returns-in-Some-clause-follows : goal.returns-in-Some-clause-follows
+returns-in-Some-clause-follows g c = λ tells.
+    parted.refused_follows c.site_files_are_accepted.ensures c.nodes_keep_their_names.ensures.names g.D.Disk.meaning g.met.D.Disk.only_now c.args.self.now c.args.taken c.args.node c.args.now c.args.input c.requires.desk.2 c.requires.can
+    c.parts-manager.result c.parts-manager.ensures c.behind.result c.refused.result c.in-Some.refusal c.acting-acting.result (Some c.in-Some.refusal) c.in-StartNode.is c.acting-acting.ensures c.in-Some.ensures refl
+    c.refused.ensures c.behind.ensures
+
+pub returns-in-None-clause-leaves : goal.returns-in-None-clause-leaves
+returns-in-None-clause-leaves g c =
+    let desk = c.requires.desk in
+    let name = name_there c.args.node (standing_of c.args.taken.manager).system.nodes c.args.self.now.names.items desk.1 desk.2 in
+    let others = c.up_behind.ensures.others in
+    parted.started_leaves g.D.Disk.meaning c.args.self.now c.args.taken c.args.node desk c.parts-manager.result c.parts-manager.ensures c.behind-in-None.result c.up_behind.new.self c.up_behind.result name.0 others.0 others.2
+    (c.up_behind.ensures.came name.0 name.1) c.behind-in-None.ensures
+
+pub returns-in-None-clause-follows : goal.returns-in-None-clause-follows
+returns-in-None-clause-follows g c = λ tells.
+    let desk = c.requires.desk in
+    let name = name_there c.args.node (standing_of c.args.taken.manager).system.nodes c.args.self.now.names.items desk.1 desk.2 in
+    let others = c.up_behind.ensures.others in
+    parted.started_follows c.site_files_are_accepted.ensures c.nodes_keep_their_names.ensures.names g.D.Disk.meaning g.met.D.Disk.only_now c.args.self.now c.args.taken c.args.node c.args.now c.args.input desk.2 c.requires.can
+    c.parts-manager.result c.parts-manager.ensures c.behind-in-None.result c.up_behind.new.self c.up_behind.result name.0 None c.in-StartNode.is c.in-None.ensures refl name.1 others.0 c.up_behind.ensures.live others.1 others.2
+    (c.up_behind.ensures.came name.0 name.1) c.behind-in-None.ensures
+
+pub returns-in_default : goal.returns-in_default
+returns-in_default g c = record {
+  leaves = parted.own_leaves g.D.Disk.meaning c.args.self.now c.args.taken c.args.node c.requires.desk c.parts-manager.result c.parts-manager.ensures c.behind-in_default.result c.own.result c.own.ensures.desk c.own.ensures.down
+      c.own.ensures.told c.own.ensures.faults c.behind-in_default.ensures;
+  follows = λ tells. parted.own_follows c.site_files_are_accepted.ensures c.nodes_keep_their_names.ensures.names g.D.Disk.meaning g.met.D.Disk.only_now c.args.self.now c.args.taken c.args.node c.args.now c.args.input c.requires.desk.2
+      c.requires.can c.parts-manager.result c.parts-manager.ensures c.behind-in_default.result c.own.result c.own.ensures.told
+      (c.own.ensures.comes tells c.args.taken.moment ATakeover) c.behind-in_default.ensures;
+}

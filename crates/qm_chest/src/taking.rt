@@ -1,0 +1,249 @@
+// How a node takes the role of queue manager over before its call is served.
+ghost use Rattle.std.specs.Prelude.{◌≡◌, ◌<◌, ◌≤◌, ◌+◌, ◌^◌, ℕ, List, IsTrue, Ok, Err, true, false, None, Some, length, slice_get};
+ghost use Rattle.qm_database.specs.Database.{disk_of as closed_disk};
+ghost use Rattle.qm_kinds.specs.declared.input.Input.{Input as AnyInput};
+ghost use Rattle.qm_acting.specs.Standing.{restored_standing, restored_disk, disk_of};
+ghost use Rattle.qm_history.specs.Calls.{input_of};
+ghost use Rattle.qm_history.specs.Takeover.{is_named, nodes_on};
+ghost use Rattle.qm_history.specs.declared.call.Call.{Call};
+ghost use Rattle.qm_history.specs.declared.world.World.{World};
+ghost use Rattle.qm_chest.specs.declared.desk.Desk.TheVariants as desk;
+ghost use Rattle.qm_chest.specs.declared.book.Book.{Book as AnyBook};
+ghost use Rattle.qm_chest.specs.At.{CanBeAskedFor, IsDeskOf};
+ghost use Rattle.qm_chest.specs.Desk.{is_due};
+ghost use Rattle.qm_chest.specs.Taking.{AreEarly, CanTake, Finds, FollowsTaken, LeavesFrom, LeavesTaken, NeedsManager, TakesOnFiles, TakesWhere};
+ghost use Rattle.qm_chest.specs.Whole.{AsksToTake, Leaves, ServesWhere, StandsEarly};
+
+use crate::book::Book;
+use crate::desk::Desk;
+use crate::nodes::is_named;
+use crate::place::Place;
+use crate::serving::Served;
+use crate::taken::{Taken, taken_by};
+use qm_acting::{
+    Manager, Restored, TakeFault, own_requests_are_accepted, restore, site_files_go_on,
+    sites_can_be_read,
+};
+use qm_database::{Closed, LoadFault, WriteFault};
+use qm_disk::Disk;
+use qm_history::{Answer, Event};
+use qm_kinds::{Act, Input, Moment};
+use qm_model::nodes_keep_their_names;
+use qm_restore::{names_of_files_stay, site_files_are_accepted, site_files_are_consistent};
+
+// Whether the record is there that was in doubt, where one was.
+fn found<D: Disk>(restored: &Restored<D>, place: Option<Place>) -> Option<bool>
+    ensures { Finds (restored_standing restored.now).recorded place result }
+{
+    match place {
+        Some(Place { file, before }) => Some(restored.is_kept(file, before)),
+        None => None,
+    }
+}
+
+impl Book {
+    /// A call before which a takeover comes.
+    pub(crate) fn taken<D: Disk>(
+        &mut self,
+        desk: Desk<D>,
+        node: u8,
+        now: Moment,
+        input: Input,
+    ) -> Served<D>
+        requires desk { IsDeskOf D.meaning self.old.names.items desk }
+        requires there { node < length self.old.names.items }
+        requires can { CanBeAskedFor node input }
+        requires epochs { self.old.greatest < 2 ^ 63 }
+        requires stands { IsTrue D.meaning.tells → StandsEarly D.meaning (record { book = self.old; desk = desk }) }
+        requires due { is_due desk input ≡ true }
+        ensures leaves { Leaves D.meaning self.old desk self.new result }
+        ensures serves { IsTrue D.meaning.tells → ServesWhere D.meaning self.old desk node now (AsksToTake node input) self.new result }
+    {
+        match desk {
+            Desk::Up { manager, node: at } => self.taken_from(manager, at, node, now, input),
+            Desk::Down { closed, place } => self.taken_up(closed, place, node, now, input),
+        }
+    }
+
+    // The role is taken from a manager that is up, unless the node may not have it.
+    fn taken_from<D: Disk>(
+        &mut self,
+        manager: Manager<D>,
+        at: u8,
+        node: u8,
+        now: Moment,
+        input: Input,
+    ) -> Served<D>
+        requires desk { IsDeskOf D.meaning self.old.names.items (desk.Up manager at) }
+        requires there { node < length self.old.names.items }
+        requires can { CanBeAskedFor node input }
+        requires needs { NeedsManager input }
+        requires epochs { self.old.greatest < 2 ^ 63 }
+        requires stands { IsTrue D.meaning.tells → StandsEarly D.meaning (record { book = self.old; desk = desk.Up manager at }) }
+        ensures leaves { LeavesFrom D.meaning self.old (disk_of manager) (self.old.greatest + 1) self.new result }
+        ensures serves { IsTrue D.meaning.tells → ServesWhere D.meaning self.old (desk.Up manager at) node now (AsksToTake node input) self.new result }
+    {
+        site_files_are_accepted();
+        if is_named(manager.nodes(), manager.may(), &input, node) {
+            return self.taken_up(manager.close(), None, node, now, input);
+        }
+        Served {
+            desk: Desk::Up { manager, node: at },
+            first: Some(Event::NoManager { node }),
+            second: None,
+            answer: Answer::NoManager {
+                took: None,
+                node: self.name(node),
+            },
+        }
+    }
+
+    // The files are read, and the role is taken over on what they hold.
+    fn taken_up<D: Disk>(
+        &mut self,
+        closed: Closed<D>,
+        place: Option<Place>,
+        node: u8,
+        now: Moment,
+        input: Input,
+    ) -> Served<D>
+        requires there { node < length self.old.names.items }
+        requires can { CanBeAskedFor node input }
+        requires needs { NeedsManager input }
+        requires epochs { self.old.greatest < 2 ^ 63 }
+        requires early { IsTrue D.meaning.tells → AreEarly D.meaning self.old (closed_disk closed) place }
+        ensures leaves { LeavesFrom D.meaning self.old (closed_disk closed) (self.old.greatest + 1) self.new result }
+        ensures serves { IsTrue D.meaning.tells → TakesOnFiles D.meaning self.old (closed_disk closed) place node now input self.new result }
+    {
+        site_files_are_accepted();
+        sites_can_be_read();
+        nodes_keep_their_names();
+        let restored = match restore(self.alloc, closed) {
+            Ok(restored) => restored,
+            Err((closed, fault)) => return self.unread(closed, place, node, fault),
+        };
+        let kept = found(&restored, place);
+        if !self.are_nodes(restored.nodes()) {
+            let fault = LoadFault::Damaged {
+                file: restored.live(),
+                place: 0,
+            };
+            return self.unread(restored.close(), place, node, fault);
+        }
+        match self.take(restored, kept, node, now, &input) {
+            Ok(taken) => self.behind(taken, node, now, input),
+            Err(served) => served,
+        }
+    }
+
+    // The role is taken over on files that were read. An `Err` is the whole call.
+    fn take<D: Disk>(
+        &mut self,
+        restored: Restored<D>,
+        kept: Option<bool>,
+        node: u8,
+        now: Moment,
+        input: &Input,
+    ) -> Result<Taken<D>, Served<D>>
+        requires can { CanTake D.meaning self.old restored node }
+        requires asks { CanBeAskedFor node input.now }
+        ensures leaves { LeavesTaken D.meaning self.old (restored_disk restored) node self.new result }
+        ensures takes { IsTrue D.meaning.tells → TakesWhere D.meaning self.old restored kept node now input.now self.new result }
+    {
+        if is_named(restored.nodes(), restored.may(), input, node) {
+            self.recorded(restored, kept, node, now, input)
+        } else {
+            Err(self.unnamed(restored, kept, node))
+        }
+    }
+
+    // A node that may not be manager finds that out behind its epoch.
+    fn unnamed<D: Disk>(&mut self, restored: Restored<D>, kept: Option<bool>, node: u8) -> Served<D>
+        requires can { CanTake D.meaning self.old restored node }
+        ensures leaves { LeavesFrom D.meaning self.old (restored_disk restored) (self.old.greatest + 1) self.new result }
+        ensures serves { IsTrue D.meaning.tells → (now : ℕ) (what : AnyInput) → CanBeAskedFor node what
+            → is_named (restored_standing restored).system (nodes_on what) node ≡ false
+            → TakesWhere D.meaning self.old restored kept node now what self.new (Err result) }
+    {
+        site_files_are_accepted();
+        let tried = self.greatest;
+        let epoch = restored.next_epoch(tried);
+        match restored.open(tried, node) {
+            Ok(manager) => {
+                self.greatest += 1;
+                self.refused(manager.close(), node, epoch, kept)
+            }
+            Err((closed, fault, _)) => match fault {
+                WriteFault::Full { need, cap } => self.master_full(closed, node, kept, need, cap),
+                WriteFault::Disk => {
+                    self.greatest += 1;
+                    self.journal(closed, None, node, epoch, kept, None)
+                }
+                WriteFault::NoMemory => self.short(closed, node, kept),
+            },
+        }
+    }
+
+    // The epoch and the record of the takeover are written.
+    fn recorded<D: Disk>(
+        &mut self,
+        restored: Restored<D>,
+        kept: Option<bool>,
+        node: u8,
+        now: Moment,
+        input: &Input,
+    ) -> Result<Taken<D>, Served<D>>
+        requires can { CanTake D.meaning self.old restored node }
+        requires asks { CanBeAskedFor node input.now }
+        requires named { is_named (restored_standing restored).system (nodes_on input.now) node ≡ true }
+        ensures leaves { LeavesTaken D.meaning self.old (restored_disk restored) node self.new result }
+        ensures takes { IsTrue D.meaning.tells → TakesWhere D.meaning self.old restored kept node now input.now self.new result }
+    {
+        site_files_are_accepted();
+        site_files_are_consistent();
+        site_files_go_on();
+        names_of_files_stay();
+        nodes_keep_their_names();
+        own_requests_are_accepted();
+        let tried = self.greatest;
+        let epoch = restored.next_epoch(tried);
+        let moment = restored.acting(now);
+        let place = Place {
+            file: restored.live(),
+            before: restored.count(),
+        };
+        let Ok(request) = self.request(restored.nodes(), restored.may(), input, node, epoch) else {
+            return Err(self.short(restored.close(), node, kept));
+        };
+        match restored.take_over(tried, moment, node, &request) {
+            Ok((manager, reply)) => {
+                self.greatest += 1;
+                self.held[usize::from(node)] = epoch;
+                Ok(taken_by(manager, moment, request, kept, reply))
+            }
+            Err((closed, fault)) => match fault {
+                TakeFault::MasterFull { need, cap } => {
+                    Err(self.master_full(closed, node, kept, need, cap))
+                }
+                TakeFault::Epoch => {
+                    self.greatest += 1;
+                    Err(self.journal(closed, None, node, epoch, kept, None))
+                }
+                TakeFault::Full { need, cap } => {
+                    self.greatest += 1;
+                    Err(self.full(closed, node, epoch, kept, need, cap))
+                }
+                TakeFault::Record => {
+                    self.greatest += 1;
+                    let doubt = Event::Doubt {
+                        node,
+                        moment,
+                        request,
+                    };
+                    Err(self.journal(closed, Some(place), node, epoch, kept, Some(doubt)))
+                }
+                TakeFault::NoMemory => Err(self.short(closed, node, kept)),
+            },
+        }
+    }
+}
