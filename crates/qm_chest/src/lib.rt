@@ -2,8 +2,7 @@
 //! manager at work, and while none is, the closed files and where a record in doubt would stand. It stands for a world of
 //! `qm_history`; a call leads to the world behind its turn.
 //!
-//! It isn't built whole: so far there are the laws by which the parts of a call become a turn, and the calls before which no
-//! takeover comes.
+//! It isn't built whole: so far there are the laws by which the parts of a call become a turn, and what a call of a node comes to.
 #![tactic(auto)]
 
 mod answering;

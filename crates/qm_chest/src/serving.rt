@@ -1,5 +1,5 @@
 // The call of a node: whether it is served, by whom, and what it came to.
-ghost use Rattle.std.specs.Prelude.{◌≡◌, ◌<◌, IsTrue, Some, None, false, length};
+ghost use Rattle.std.specs.Prelude.{◌≡◌, ◌<◌, ◌^◌, IsTrue, Some, None, false, length};
 ghost use Rattle.qm_kinds.specs.declared.input.Input.TheVariants as input;
 ghost use Rattle.qm_kinds.specs.declared.refusal.Refusal.TheVariants as refused;
 ghost use Rattle.qm_history.specs.declared.call.Answer.TheVariants as answer;
@@ -7,7 +7,7 @@ ghost use Rattle.qm_history.specs.declared.event.Event.TheVariants as event;
 ghost use Rattle.qm_chest.specs.declared.desk.Desk.TheVariants as desk;
 ghost use Rattle.qm_chest.specs.At.{CanBeAskedFor, IsDeskOf};
 ghost use Rattle.qm_chest.specs.Desk.{is_due};
-ghost use Rattle.qm_chest.specs.Whole.{AsksAlone, Leaves, ServesWhere};
+ghost use Rattle.qm_chest.specs.Whole.{Asks, AsksAlone, Leaves, ServesWhere, StandsEarly};
 
 use crate::asking::same;
 use crate::book::Book;
@@ -86,8 +86,36 @@ fn unread<D>(desk: Desk<D>, node: u8, moment: Moment, place: usize, kind: ParseK
 }
 
 impl Book {
-    /// A call of a node, whose clock told this before, without a takeover. `leaves` is whether it is the node's last one.
-    pub(crate) fn served_alone<D: Disk>(
+    /// A call of a node, whose clock told this before. A node that is down is told so, and a takeover comes first where one is due.
+    /// `leaves` is whether it is the node's last call.
+    pub(crate) fn served<D: Disk>(
+        &mut self,
+        desk: Desk<D>,
+        node: u8,
+        now: Moment,
+        input: Input,
+        leaves: bool,
+    ) -> Served<D>
+        requires desk { IsDeskOf D.meaning self.old.names.items desk }
+        requires there { node < length self.old.names.items }
+        requires can { CanBeAskedFor node input }
+        requires epochs { self.old.greatest < 2 ^ 63 }
+        requires stands { IsTrue D.meaning.tells → StandsEarly D.meaning (record { book = self.old; desk = desk }) }
+        ensures leaves { Leaves D.meaning self.old desk self.new result }
+        ensures serves { IsTrue D.meaning.tells → ServesWhere D.meaning self.old desk node now (Asks input leaves) self.new result }
+    {
+        site_files_are_accepted();
+        if self.is_down(node, &input) {
+            return refused(desk, node, now, input, Refusal::NodeDown);
+        }
+        if desk.is_due(&input) {
+            return self.taken(desk, node, now, input);
+        }
+        self.served_alone(desk, node, now, input, leaves)
+    }
+
+    // A call before which no takeover comes.
+    fn served_alone<D: Disk>(
         &mut self,
         desk: Desk<D>,
         node: u8,
