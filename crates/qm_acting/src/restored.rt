@@ -2,6 +2,7 @@
 ghost use Rattle.std.specs.Prelude.{◌≡◌, ◌<◌, ◌^◌, length};
 ghost use Rattle.qm_database.specs.Database.{disk_of as closed_disk};
 ghost use Rattle.qm_database.specs.Recorded.{epoch_behind};
+ghost use Rattle.qm_glog.specs.Records.{size_of};
 ghost use Rattle.qm_model.specs.Acting.{acting};
 
 use qm_database::{Closed, Loaded};
@@ -49,6 +50,13 @@ impl<D: Disk> Restored<D> {
         ensures { result ≡ length (restored_standing self.now).recorded.bodies }
     {
         self.loaded.count()
+    }
+
+    /// How many bytes the records of the live file take.
+    pub fn size(&self) -> u64
+        ensures { result ≡ size_of (restored_standing self.now).recorded.bodies }
+    {
+        self.loaded.place(self.loaded.count())
     }
 
     /// Whether a record is there that was in doubt in this queue file behind so many others.

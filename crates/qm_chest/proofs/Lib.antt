@@ -15,6 +15,10 @@ pub mod Deciding
 pub mod ComingUp
 pub mod Losing
 pub mod Ways
+pub mod Opened
+pub mod Beginning
+pub mod Notes
+pub mod Since
 pub mod Reading
 pub mod Trying
 pub mod Failures
@@ -27,3 +31,4 @@ pub mod Writing
 pub mod Unread
 pub mod Begun
 pub mod Parted
+pub mod Served

@@ -1,6 +1,6 @@
 -- The record of a takeover, which is there behind its epoch, or in doubt.
-use Rattle.std.proofs.Common.{◌≡◌, inl, inr, ℕ, zero, suc, ◌+◌, ◌<◌, ◌≤◌, Bool, true, false, List, [], ◌∷◌, ◌++◌, length, take, refl, sym, ◌∙◌, ap, subst, arith, Option, None, Some, Result, Ok}
-use Rattle.std.specs.Prelude.{filter_map, slice_get, slice_set, unwrap_or, IsTrue}
+use Rattle.std.proofs.Common.{◌≡◌, inl, inr, ℕ, zero, suc, ◌+◌, ◌^◌, ◌<◌, ◌≤◌, Bool, true, false, List, [], ◌∷◌, ◌++◌, length, take, refl, sym, ◌∙◌, ap, subst, arith, Option, None, Some, Result, Ok}
+use Rattle.std.specs.Prelude.{filter_map, max, slice_get, slice_set, unwrap_or, IsTrue}
 use Rattle.std.specs.List.{AllByRecursion}
 use Rattle.std.proofs.lemmas.List.{length-append}
 use Rattle.qm_disk.specs.Disk.{CrashState, Meaning, IsLeft, LeavesOnly}
@@ -154,7 +154,7 @@ module _ (accepted : SiteFilesAreAccepted) (goes_on : SiteFilesGoOn) (names : No
       recorded = recorded_next;
     }
 
-    more_fits : size_of more.bodies ≤ cap
+    more_fits : size_of more.bodies ≤ max cap (2 ^ 62)
     more_fits = let larger = one_larger r.bodies (record_text rec) in omega (arith, larger, room)
 
     within_cap : record_need record_text (room_of next) rec ≤ (room_of next).cap

@@ -1,6 +1,6 @@
 -- A request whose record is written, has no room, or is in doubt: what comes of it, and what the files then hold.
 use Rattle.std.proofs.Common.{◌≡◌, ◌⊎◌, inl, inr, ℕ, ◌+◌, ◌-◌, ◌^◌, ◌<◌, ◌≤◌, Bool, true, false, List, [], ◌∷◌, ◌++◌, length, take, refl, sym, ◌∙◌, ap, subst, arith, Option, None, Some}
-use Rattle.std.specs.Prelude.{IsSome}
+use Rattle.std.specs.Prelude.{IsSome, max}
 use Rattle.std.specs.List.{cons_option}
 use Rattle.std.proofs.lemmas.List.{length-append}
 use Rattle.qm_disk.specs.Disk.{CrashState, Meaning, IsLeft, LeavesOnly}
@@ -99,7 +99,7 @@ module _ (accepted : SiteFilesAreAccepted) {D : Type 0} (m : Meaning D) (cap : �
     site_is : IsSiteFile r.bodies (system_of w.log)
     site_is = subst (λ (log : List Record). IsSiteFile r.bodies (system_of log)) log_is may.site
 
-    more_fits : size_of more.bodies ≤ cap
+    more_fits : size_of more.bodies ≤ max cap (2 ^ 62)
     more_fits = let larger = one_larger r.bodies (record_text rec) in omega (arith, larger, within)
 
     -- what a crash leaves within an event that writes this record

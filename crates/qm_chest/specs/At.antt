@@ -1,7 +1,7 @@
 -- The chest at a world, and what a call does to it.
 -- OpenVMS System Manager's Manual, Managing the Queue Manager and Queue Database, on the queue manager process and its files.
 -- This site's own: turns, epochs, and the record in doubt.
-use Rattle.std.specs.Prelude.{◌≡◌, ◌⊎◌, ℕ, ◌+◌, ◌^◌, ◌<◌, ◌≤◌, IsTrue, IsOk, List, ◌++◌, length, map, option_to_list, Option, None, Some}
+use Rattle.std.specs.Prelude.{◌≡◌, ◌⊎◌, ℕ, ◌+◌, ◌^◌, ◌<◌, ◌≤◌, false, IsTrue, IsOk, List, ◌++◌, length, map, option_to_list, Option, None, Some}
 use Rattle.qm_disk.specs.Disk.{Meaning}
 use Rattle.qm_glog.specs.Records.{IsLog}
 use Rattle.qm_kinds.specs.declared.input.Input.{Input}
@@ -23,8 +23,10 @@ use Rattle.qm_history.specs.declared.call.Call.{Call}
 use Rattle.qm_history.specs.declared.turn.Turn.{Turn}
 use Rattle.qm_history.specs.declared.world.World.{World}
 use Rattle.qm_history.specs.Calls.{IsForUsers}
-use Rattle.qm_history.specs.Chest.{Adds, IsMadeFor, LeavesTurn, TellsRoom}
+use Rattle.qm_history.specs.Chest.{Adds, IsMadeFor, LeavesTurn, TellsRoom, hides_events}
+use Rattle.qm_history.specs.Faults.{is_journal, tells_disk_fault}
 use Rattle.qm_history.specs.Legal.{after_turn}
+use Rattle.qm_history.specs.World.{IsSound}
 use Rattle.qm_chest.specs.Desk.{desk_disk, IsDeskAt}
 use Rattle.qm_chest.specs.Books.{IsBookOf}
 use Rattle.qm_chest.specs.declared.chest.Chest.{Chest}
@@ -40,9 +42,11 @@ pub record IsStateAt {D : Type 0} (m : Meaning D) (cap : ℕ) (w : World) (state
   pub desk : IsDeskAt m cap w state.desk
   pub small : cap ≤ GREATEST_QUEUE_CAP
 
--- the same of a chest, whose epochs are so early that all turns that it can still keep find epochs that a master can hold
+-- The same of a chest, in a sound world whose epochs are so early that all turns that the chest can still keep find epochs that a
+-- master can hold.
 pub record IsAt {D : Type 0} (m : Meaning D) (cap : ℕ) (w : World) (chest : Chest D) : Type 0 where
   pub state : IsStateAt m cap w chest.state
+  pub sound : IsSound HasSpelling w
   pub early : w.greatest ≤ 2 ^ 61 + length chest.turns.items
 
 -- its device
@@ -51,6 +55,10 @@ state_disk state = desk_disk state.desk
 
 abbrev pub chest_disk : {D : Type 0} → Chest D → D
 chest_disk chest = state_disk chest.state
+
+-- the names of its nodes
+abbrev pub chest_names : {D : Type 0} → Chest D → List (List ℕ)
+chest_names chest = chest.state.book.names.items
 
 -- ---- whatever the disks tell
 
@@ -99,12 +107,18 @@ abbrev pub behind : World → Option Turn → World
 behind w None = w
 behind w (Some t) = after_turn w t
 
+-- the answer tells that a disk failed just where the turn does, unless it hides what the turn tells
+abbrev pub TellsDisk : Option Turn → Answer → Type 0
+TellsDisk None told = Unit {0}
+TellsDisk (Some t) told = hides_events told ≡ false → is_journal told ≡ tells_disk_fault t.events
+
 -- The call of this node at this reading left one turn more, of that node, moment and call, or none for a reason.
 pub record LeavesOne (node now : ℕ) (asked : Call) (old new : List Turn) (told : Answer) : Type 0 where
   pub turn : Option Turn
   pub turns : new ≡ old ++ option_to_list turn
   pub made : IsMadeFor node now asked turn
   pub leaves : LeavesTurn old turn told
+  pub tells : TellsDisk turn told
 
 -- In a world for which the chest stood, the turn is one of the call with this answer, a crash leaves what it may within it, room is
 -- told as it is, and the chest then stands for the world behind it.

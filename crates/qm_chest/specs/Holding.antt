@@ -1,7 +1,7 @@
 -- What the files hold of a world between two calls.
 -- OpenVMS System Manager's Manual, Managing the Queue Manager and Queue Database, on the files of the queue database.
 -- This site's own: the record in doubt.
-use Rattle.std.specs.Prelude.{◌≡◌, ◌⊎◌, ℕ, ◌+◌, ◌≤◌, List, [], ◌∷◌, ◌++◌, length, Option, None, Some}
+use Rattle.std.specs.Prelude.{◌≡◌, ◌⊎◌, ℕ, ◌+◌, ◌^◌, ◌≤◌, max, List, [], ◌∷◌, ◌++◌, length, Option, None, Some}
 use Rattle.std.specs.List.{AllByRecursion}
 use Rattle.qm_disk.specs.Disk.{CrashState, Meaning, IsLeft}
 use Rattle.qm_glog.specs.Records.{size_of}
@@ -22,14 +22,14 @@ IsFound (Some doubt) (Some place) before log r =
     (r.says.live ≡ place.file)
     × (((length r.bodies ≡ place.before) × (log ≡ before)) ⊎ ((length r.bodies ≡ place.before + 1) × (log ≡ before ++ doubt ∷ [])))
 
--- What the files of a site may hold in a world, whose record in doubt would stand in this place: a log of the world, within the cap,
--- under a master that has the epoch of each node and none above the greatest.
+-- What the files of a site may hold in a world, whose record in doubt would stand in this place: a log of the world, under a master
+-- that has the epoch of each node and none above the greatest. The log is within the cap, or was found longer, up to 2^62 bytes.
 pub record MayHold (cap : ℕ) (w : World) (place : Option Place) (r : Recorded) : Type 0 where
   pub log : List Record
   pub found : IsFound w.doubt place w.log log r
   pub site : IsSiteFile r.bodies (system_of log)
   pub cap_is : r.says.cap ≡ cap
-  pub fits : size_of r.bodies ≤ cap
+  pub fits : size_of r.bodies ≤ max cap (2 ^ 62)
   pub epoch : r.says.epoch ≤ w.greatest
   pub recorded : AllByRecursion (λ (held : ℕ). held ≤ r.says.epoch) w.held
 

@@ -9,3 +9,6 @@ pub mod At
 pub mod Whole
 pub mod Nodes
 pub mod Taking
+pub mod Checking
+pub mod Noting
+pub mod Serving

@@ -1,9 +1,9 @@
 // What is kept of the nodes: which are live, the epochs that they hold, and the greatest epoch.
-ghost use Rattle.std.specs.Prelude.{◌≡◌, ◌==◌, ◌&&◌, not, ◌<◌, ◌↔◌, false, map, true, slice_get, unwrap_or, Some, vec_len};
+ghost use Rattle.std.specs.Prelude.{◌≡◌, ◌==◌, ◌&&◌, not, ◌<◌, ◌↔◌, false, map, true, slice_get, unwrap_or, IfOk, Some, vec_len};
 ghost use Rattle.std.specs.List.{list_all};
 
-use qm_kinds::{Input, Name};
-use std::alloc::Global;
+use qm_kinds::{Input, Name, Node};
+use std::alloc::{AllocError, Global};
 
 /// What is kept of the nodes, in the cluster's order.
 #[derive(Drop)]
@@ -20,8 +20,32 @@ pub struct Book {
     ghost all_held: { vec_len held ≡ vec_len names },
 }
 
+// The names of nodes.
+fn names_of(alloc: Global, nodes: &[Node]) -> Result<Vec<Name>, AllocError>
+    ensures { IfOk result (λ names. names.items ≡ map (λ n. n.name) nodes.now) }
+{
+    nodes.iter().map(|node| node.name).collect(alloc)
+}
+
 impl Book {
     ghost use Rattle.qm_history.specs.Calls.{is_start};
+    ghost use Rattle.qm_chest.specs.Checking.{IsFirstBook};
+
+    /// What is kept of nodes of which each is live and none holds an epoch.
+    pub(crate) fn new(alloc: Global, nodes: &[Node], greatest: u64) -> Result<Book, AllocError>
+        ensures { IfOk result (IsFirstBook nodes.now greatest) }
+    {
+        let names = names_of(alloc, nodes)?;
+        let live = vec![in alloc; true; nodes.len()]?;
+        let held = vec![in alloc; 0; nodes.len()]?;
+        Ok(Book {
+            alloc,
+            names,
+            live,
+            held,
+            greatest,
+        })
+    }
 
     /// Whether the node of this place serves its lines.
     pub(crate) fn is_live(&self, node: u8) -> bool

@@ -1,10 +1,12 @@
 // What the chest works with: a manager, or closed files.
 ghost use Rattle.std.specs.Prelude.{◌≡◌};
 ghost use Rattle.qm_chest.specs.Desk.{is_due, is_without};
+ghost use Rattle.qm_database.specs.Database.{disk_of as closed_disk};
 
 use crate::place::Place;
 use qm_acting::Manager;
 use qm_database::Closed;
+use qm_disk::Disk;
 use qm_kinds::Input;
 
 /// The manager at work, with the node that has the role; or, while none is up, the files, and where a record in doubt would stand.
@@ -36,6 +38,20 @@ impl<D> Desk<D> {
             Input::TakeManager { .. } => true,
             Input::StopNode | Input::Fault { .. } => false,
             _ => self.is_without(),
+        }
+    }
+}
+
+impl<D: Disk> Desk<D> {
+    ghost use Rattle.qm_chest.specs.Desk.{desk_disk};
+
+    /// The files, which a manager lets go of.
+    pub(crate) fn close(self) -> Closed<D>
+        ensures { closed_disk result ≡ desk_disk self }
+    {
+        match self {
+            Desk::Up { manager, .. } => manager.close(),
+            Desk::Down { closed, .. } => closed,
         }
     }
 }

@@ -20,12 +20,21 @@ ghost use Rattle.qm_history.specs.declared.call.Answer.TheVariants as answer;
 ghost use Rattle.qm_history.specs.declared.call.Call.{Call};
 ghost use Rattle.qm_history.specs.declared.event.Event.{Event};
 ghost use Rattle.qm_history.specs.declared.world.World.{World};
+ghost use Rattle.qm_disk.specs.Disk.{CrashState};
+ghost use Rattle.qm_database.specs.Recorded.{Holds, Recorded};
+ghost use Rattle.qm_kinds.specs.declared.system.System.{System};
+ghost use Rattle.qm_restore.specs.QueueFile.{IsSiteFile};
+ghost use Rattle.qm_history.specs.Start.{Starts};
+ghost use Rattle.qm_chest.specs.Checking.{BeginsWorld};
 ghost use Rattle.qm_chest.specs.Holding.{AllHold, MayHold};
 ghost use Rattle.qm_chest.specs.Parts.{HoldSome, Part};
 ghost use Rattle.qm_chest.specs.Turns.{made_turn};
 ghost use Rattle.qm_chest.specs.declared.place.Place.{Place as AnyPlace};
 
 use qm_disk::Disk;
+use qm_glog::one_list;
+use qm_history::{QueueFile, files_that_hold_a_log_begin_a_world};
+use qm_record::no_record_begins_another;
 use qm_restore::site_files_are_accepted;
 
 /// Behind an event with which a turn may begin, and in which no disk failed, come other events: both parts are one. The world, the
@@ -47,4 +56,18 @@ pub fn files_keep_their_world<D: Disk>()
     ensures { (cap : ℕ) (w : World) (place : Option AnyPlace) (disk : D) → w.manager ≡ None → AllHold D.meaning (MayHold cap w place) disk → Keeps IsLog HasSpelling record_text D.meaning w disk }
 {
     site_files_are_accepted();
+}
+
+/// On files that hold a site a program begins in one world, which is sound: its log is what the files hold, no node has been manager, and
+/// each is live.
+pub fn sites_begin_one_world()
+    ensures begins { (files : CrashState) (r : Recorded) (s : System) → Holds files r → IsSiteFile r.bodies s
+        → (w : World) × Starts IsLog HasSpelling record_text files w }
+    ensures one { (files : CrashState) (r : Recorded) (s : System) (w : World) → Holds files r → IsSiteFile r.bodies s
+        → Starts IsLog HasSpelling record_text files w → BeginsWorld r s w }
+{
+    site_files_are_accepted();
+    one_list();
+    no_record_begins_another();
+    files_that_hold_a_log_begin_a_world::<QueueFile>();
 }

@@ -1,28 +1,39 @@
 //! The value on which the nodes of a cluster make their turns: one call of a node is one turn. While a manager is up it has the
 //! manager at work, and while none is, the closed files and where a record in doubt would stand. It stands for a world of
-//! `qm_history`; a call leads to the world behind its turn.
-//!
-//! It isn't built whole: so far there are the laws by which the parts of a call become a turn, and what a call of a node comes to.
+//! `qm_history`; a call leads to the world behind its turn. `check` reads a site's files, `Chest::new` begins on them, `serve`
+//! serves a call and keeps its turn, and `end` gives back the files and the turns.
 #![tactic(auto)]
 
 mod answering;
 mod asking;
 mod behind;
 mod book;
+mod calls;
+mod checked;
+mod checking;
 mod chest;
 mod desk;
 mod failing;
 mod laws;
 mod leaving;
 mod nodes;
+mod noting;
 mod own;
 mod place;
 mod serving;
 mod showing;
 mod starting;
+mod stepping;
 mod taken;
 mod taking;
+mod wanted;
 
+pub use checked::Checked;
+pub use checking::check;
 pub use chest::{Chest, TURNS_KEPT};
-pub use laws::{files_keep_their_world, parts_come_one_behind_another, whole_parts_are_turns};
+pub use laws::{
+    files_keep_their_world, parts_come_one_behind_another, sites_begin_one_world,
+    whole_parts_are_turns,
+};
+pub use noting::{calls_are_noted, chests_begin_without_notes};
 pub use place::Place;

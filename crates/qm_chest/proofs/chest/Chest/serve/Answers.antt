@@ -1,0 +1,67 @@
+use Rattle.std.proofs.Common.{◌≡◌, ◌++◌, List, refl, sym, ◌∙◌, ap, subst}
+use Rattle.std.specs.Prelude.{option_to_list}
+use Rattle.qm_history.specs.declared.turn.Turn.{Turn}
+use Rattle.qm_chest.specs.At.{chest_disk}
+use Rattle.qm_chest.specs.Serving.{CanServe, Serving, turn_made}
+use Rattle.qm_chest.specs.Whole.{both}
+use Rattle.qm_chest.specs.declared.wanted.Wanted.{Wanted}
+use Rattle.qm_chest.proofs.Served.{can_serve, kept_so, none_down, none_failed, none_left, none_served, none_shows, one_left, served_at, serving_behind, serving_still}
+use Rattle.qm_chest.proofs.chest.Chest.serve.Goals as goal
+
+-- ---- no turn is left
+
+pub returns-in-Err-clause-serves : goal.returns-in-Err-clause-serves
+returns-in-Err-clause-serves g c = λ tells cap w at.
+    let e = c.in-Err.ensures in
+    none_served c.site_files_are_accepted.ensures g.D.Disk.meaning g.met.D.Disk.only_now cap w c.args.self.now _ refl e.turns at c.args.node c.args.now c.args.call c.in-Err.told e.why
+
+pub returns-in-Err-clause-one : goal.returns-in-Err-clause-one
+returns-in-Err-clause-one g c =
+    let e = c.in-Err.ensures in none_left c.args.self.now.turns.items c.room_for.new.turns.items e.turns c.args.node c.args.now c.args.call c.in-Err.told e.why
+
+pub returns-in-Err-clause-serving : goal.returns-in-Err-clause-serving
+returns-in-Err-clause-serving g c = serving_still g.D.Disk.meaning c.args.self.now _ refl c.in-Err.ensures.turns c.requires.serving
+
+pub returns-in-Err-clause-duties : goal.returns-in-Err-clause-duties
+returns-in-Err-clause-duties g c = none_shows c.args.self.now.turns.items c.in-Err.told c.in-Err.ensures.why
+
+pub returns-in-Err-clause-faults : goal.returns-in-Err-clause-faults
+returns-in-Err-clause-faults g c =
+    none_failed g.D.Disk.meaning (chest_disk c.args.self.now) c.args.self.now.turns.items c.in-Err.told c.in-Err.ensures.why
+
+pub returns-in-Err-clause-down : goal.returns-in-Err-clause-down
+returns-in-Err-clause-down g c = none_down c.args.self.now.turns.items c.in-Err.told c.in-Err.ensures.why _
+
+-- ---- a turn is left
+
+pub replace_with-first-requires : goal.replace_with-first-requires
+replace_with-first-requires g c =
+    subst (λ (wanted : Wanted). CanServe g.D.Disk.meaning wanted c.args.self.now.state) (sym c.by-wanted.ensures)
+    (can_serve g.D.Disk.meaning c.args.node c.args.now c.args.call c.args.self.now c.requires.serving c.requires.there c.requires.can c.in-Ok.ensures.few)
+
+pub returns-in-Ok-clause-serves : goal.returns-in-Ok-clause-serves
+returns-in-Ok-clause-serves g c = λ tells cap w at.
+    let old = c.args.self.now in
+    let out = c.replace_with-first.result in
+    let served = subst (λ (wanted : Wanted). Serving g.D.Disk.meaning wanted old.state c.replace_with-first.new.dest out) c.by-wanted.ensures c.replace_with-first.ensures in
+    let kept = kept_so old.turns.items c.room_for.new.turns.items c.keep.new.turns.items c.by-wanted.result c.args.node c.args.now c.args.call (both out.first out.second)
+    c.by-wanted.ensures c.in-Ok.ensures.turns c.keep.ensures in
+    served_at g.D.Disk.meaning c.args.node c.args.now c.args.call old _ out served kept c.worlds_stay_sound.ensures.events tells c.in-Ok.ensures.few cap w at
+
+pub returns-in-Ok-clause-one : goal.returns-in-Ok-clause-one
+returns-in-Ok-clause-one g c =
+    let old = c.args.self.now in
+    let out = c.replace_with-first.result in
+    let served = subst (λ (wanted : Wanted). Serving g.D.Disk.meaning wanted old.state c.replace_with-first.new.dest out) c.by-wanted.ensures c.replace_with-first.ensures in
+    let kept = kept_so old.turns.items c.room_for.new.turns.items c.keep.new.turns.items c.by-wanted.result c.args.node c.args.now c.args.call (both out.first out.second)
+    c.by-wanted.ensures c.in-Ok.ensures.turns c.keep.ensures in
+    one_left c.args.node c.args.now c.args.call old.turns.items c.keep.new.turns.items out served.leaves.told kept
+
+pub returns-in-Ok-clause-serving : goal.returns-in-Ok-clause-serving
+returns-in-Ok-clause-serving g c =
+    let old = c.args.self.now in
+    let out = c.replace_with-first.result in
+    let served = subst (λ (wanted : Wanted). Serving g.D.Disk.meaning wanted old.state c.replace_with-first.new.dest out) c.by-wanted.ensures c.replace_with-first.ensures in
+    let kept = kept_so old.turns.items c.room_for.new.turns.items c.keep.new.turns.items c.by-wanted.result c.args.node c.args.now c.args.call (both out.first out.second)
+    c.by-wanted.ensures c.in-Ok.ensures.turns c.keep.ensures in
+    serving_behind g.D.Disk.meaning c.args.node c.args.now c.args.call old _ out served kept c.worlds_stay_sound.ensures.events c.in-Ok.ensures.few c.requires.serving

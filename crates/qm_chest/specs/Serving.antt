@@ -1,0 +1,44 @@
+-- What a call wants of the chest, and what it comes to.
+use Rattle.std.specs.Prelude.{ℕ, ◌^◌, ◌<◌, IsTrue, List, [], ◌∷◌, length, Option, None, Some}
+use Rattle.qm_disk.specs.Disk.{Meaning}
+use Rattle.qm_history.specs.declared.call.Call.{Call}
+use Rattle.qm_history.specs.declared.event.Event.{Event}
+use Rattle.qm_history.specs.declared.turn.Turn.{Turn}
+use Rattle.qm_history.specs.Calls.{input_of, why_of}
+use Rattle.qm_chest.specs.At.{CanBeAskedFor, IsDeskOf}
+use Rattle.qm_chest.specs.Whole.{Asks, Leaves, ServesWhere, StandsEarly, is_leave}
+use Rattle.qm_chest.specs.declared.chest.State.{State}
+use Rattle.qm_chest.specs.declared.serving.Served.{Served}
+use Rattle.qm_chest.specs.declared.wanted.Maker.{Maker}
+use Rattle.qm_chest.specs.declared.wanted.Outcome.{Outcome}
+use Rattle.qm_chest.specs.declared.wanted.Wanted.{Wanted}
+
+-- who makes the turn of a call of a node, at a reading of its clock
+abbrev pub maker_of : ℕ → ℕ → Call → Maker
+maker_of node now asked = record { node = node; why = why_of asked; moment = now }
+
+abbrev pub wanted_by : ℕ → ℕ → Call → Wanted
+wanted_by node now asked = record { maker = maker_of node now asked; input = input_of asked; leaves = is_leave asked }
+
+-- the turn of these events, if there are any
+abbrev pub turn_made : Maker → List Event → Option Turn
+turn_made maker [] = None
+turn_made maker (e ∷ events) = Some (record { node = maker.node; why = maker.why; moment = maker.moment; events = e ∷ events })
+
+-- what the call came to, with what the chest then works with
+abbrev pub served_of : {D : Type 0} → State D → Outcome → Served D
+served_of state outcome = record { desk = state.desk; first = outcome.first; second = outcome.second; answer = outcome.answer }
+
+-- the call can be served: what the chest works with fits together, and stands for some world of early epochs where the disks tell
+pub record CanServe {D : Type 0} (m : Meaning D) (wanted : Wanted) (state : State D) : Type 0 where
+  pub desk : IsDeskOf m state.book.names.items state.desk
+  pub there : wanted.maker.node < length state.book.names.items
+  pub can : CanBeAskedFor wanted.maker.node wanted.input
+  pub epochs : state.book.greatest < 2 ^ 63
+  pub stands : IsTrue m.tells → StandsEarly m state
+
+-- what serving it comes to, whatever the disks tell and where they do
+pub record Serving {D : Type 0} (m : Meaning D) (wanted : Wanted) (old new : State D) (outcome : Outcome) : Type 0 where
+  pub leaves : Leaves m old.book old.desk new.book (served_of new outcome)
+  pub serves : IsTrue m.tells
+      → ServesWhere m old.book old.desk wanted.maker.node wanted.maker.moment (Asks wanted.input wanted.leaves) new.book (served_of new outcome)

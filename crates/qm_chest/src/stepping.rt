@@ -1,0 +1,93 @@
+// What a call makes of what the chest works with, and how its turn is kept.
+ghost use Rattle.std.specs.Prelude.{◌≡◌, ◌<◌, ◌≤◌, ◌++◌, [], IfErr, IfOk, OnOk, length, option_to_list, vec_capacity, vec_len};
+ghost use Rattle.qm_history.specs.Chest.{MayLeaveNone, turns_kept};
+ghost use Rattle.qm_chest.specs.Serving.{CanServe, Serving, turn_made};
+ghost use Rattle.qm_chest.specs.Whole.{both};
+
+use crate::chest::{State, TURNS_KEPT};
+use crate::serving::Served;
+use crate::wanted::{Maker, Outcome, Wanted};
+use qm_disk::Disk;
+use qm_history::{Answer, Event, Turn};
+use qm_kinds::Seq;
+use std::alloc::{AllocError, Global};
+
+impl<D: Disk> State<D> {
+    // What a call makes of it.
+    pub(crate) fn step(self, wanted: Wanted) -> (State<D>, Outcome)
+        requires { CanServe D.meaning wanted self }
+        ensures { Serving D.meaning wanted self result.0 result.1 }
+    {
+        let State { mut book, desk } = self;
+        let Wanted {
+            maker,
+            input,
+            leaves,
+        } = wanted;
+        let Served {
+            desk,
+            first,
+            second,
+            answer,
+        } = book.served(desk, maker.node, maker.moment, input, leaves);
+        (
+            State { book, desk },
+            Outcome {
+                first,
+                second,
+                answer,
+            },
+        )
+    }
+}
+
+/// Takes the memory for one turn more, and for its events; or tells why there can be none.
+pub(crate) fn room_for(alloc: Global, turns: &mut Vec<Turn>) -> Result<Vec<Event>, Answer>
+    requires { vec_len turns.old ≤ turns_kept }
+    ensures turns { turns.new.items ≡ turns.old.items }
+    ensures few { OnOk result (length turns.old.items < turns_kept) }
+    ensures place { OnOk result (vec_len turns.new < vec_capacity turns.new) }
+    ensures events { IfOk result (λ events. (events.items ≡ []) × (vec_capacity events ≡ 2)) }
+    ensures why { IfErr result (MayLeaveNone turns.old.items) }
+{
+    if turns.len() == TURNS_KEPT {
+        return Err(Answer::HistoryFull);
+    }
+    let Ok(()) = turns.reserve(1) else {
+        return Err(Answer::NoMemory { took: None });
+    };
+    match Vec::with_capacity(alloc, 2) {
+        Ok(events) => Ok(events),
+        Err(AllocError) => Err(Answer::NoMemory { took: None }),
+    }
+}
+
+/// Keeps the turn of these events, if there are any, in memory that was taken before.
+pub(crate) fn keep(
+    turns: &mut Vec<Turn>,
+    room: Vec<Event>,
+    maker: Maker,
+    first: Option<Event>,
+    second: Option<Event>,
+)
+    requires place { vec_len turns.old < vec_capacity turns.old }
+    requires empty { room.items ≡ [] }
+    requires room { vec_capacity room ≡ 2 }
+    ensures { turns.new.items ≡ turns.old.items ++ option_to_list (turn_made maker (both first second)) }
+{
+    let Some(first) = first else {
+        return;
+    };
+    let mut events = room;
+    events.push_reserved(first);
+    if let Some(second) = second {
+        events.push_reserved(second);
+    }
+    events.shrink_to_fit();
+    turns.push_reserved(Turn {
+        node: maker.node,
+        why: maker.why,
+        moment: maker.moment,
+        events: Seq::of(events),
+    });
+}
