@@ -1,17 +1,13 @@
 // How a node takes the role of queue manager over before its call is served.
-ghost use Rattle.std.specs.Prelude.{◌≡◌, ◌<◌, ◌≤◌, ◌+◌, ◌^◌, ℕ, List, IsTrue, Ok, Err, true, false, None, Some, length, slice_get};
+ghost use Rattle.std.specs.Prelude.{◌≡◌, ◌<◌, ◌+◌, ◌^◌, ℕ, IsTrue, Err, true, false, length};
 ghost use Rattle.qm_database.specs.Database.{disk_of as closed_disk};
 ghost use Rattle.qm_kinds.specs.declared.input.Input.{Input as AnyInput};
 ghost use Rattle.qm_acting.specs.Standing.{restored_standing, restored_disk, disk_of};
-ghost use Rattle.qm_history.specs.Calls.{input_of};
 ghost use Rattle.qm_history.specs.Takeover.{is_named, nodes_on};
-ghost use Rattle.qm_history.specs.declared.call.Call.{Call};
-ghost use Rattle.qm_history.specs.declared.world.World.{World};
 ghost use Rattle.qm_chest.specs.declared.desk.Desk.TheVariants as desk;
-ghost use Rattle.qm_chest.specs.declared.book.Book.{Book as AnyBook};
 ghost use Rattle.qm_chest.specs.At.{CanBeAskedFor, IsDeskOf};
 ghost use Rattle.qm_chest.specs.Desk.{is_due};
-ghost use Rattle.qm_chest.specs.Taking.{AreEarly, CanTake, Finds, FollowsTaken, LeavesFrom, LeavesTaken, NeedsManager, TakesOnFiles, TakesWhere};
+ghost use Rattle.qm_chest.specs.Taking.{AreEarly, CanTake, Finds, LeavesFrom, LeavesTaken, NeedsManager, TakesOnFiles, TakesWhere};
 ghost use Rattle.qm_chest.specs.Whole.{AsksToTake, Leaves, ServesWhere, StandsEarly};
 
 use crate::book::Book;
