@@ -1,9 +1,9 @@
 -- Who is live behind the events of a call.
-use Rattle.std.proofs.Common.{◌≡◌, ◌≢◌, ℕ, zero, suc, ◌<◌, ◌⊎◌, inl, inr, Bool, true, false, not, cond, ◌||◌, ◌&&◌, List, [], ◌∷◌, length, refl, sym, ◌∙◌, ap, subst, arith, Option, None, Some, Result, Ok, Err}
-use Rattle.std.specs.Prelude.{◌==◌, is_none, unwrap_or, slice_get, slice_set, get_or}
+use Rattle.std.proofs.Common.{◌≡◌, ◌≢◌, ℕ, zero, suc, ◌<◌, inl, inr, Bool, true, false, not, cond, ◌||◌, ◌&&◌, List, [], ◌∷◌, length, refl, sym, ◌∙◌, ap, subst, Option, None, Some, Result, Ok, Err}
+use Rattle.std.specs.Prelude.{◌==◌, is_none, unwrap_or, slice_get, slice_set}
 use Rattle.std.specs.Option.{option_and_then}
-use Rattle.std.proofs.lemmas.List.{get_or-set_same, get_or-set_other, set_past}
-use Rattle.std.proofs.lemmas.Option.{unwrap_or-slice_get, slice_get_past}
+use Rattle.std.proofs.lemmas.List.{get_or-set_same, get_or-set_other}
+use Rattle.std.proofs.lemmas.Option.{unwrap_or-slice_get}
 use Rattle.qm_kinds.specs.declared.input.Input.{Input}
 use Rattle.qm_kinds.specs.declared.input.Input.TheVariants as input
 use Rattle.qm_kinds.specs.declared.record.Record.{Record}
@@ -32,8 +32,8 @@ use Rattle.qm_history.specs.Answers.{answer_of, events_answer, last_moment, take
 use Rattle.qm_history.specs.Calls.{input_of, request_of_report}
 use Rattle.qm_history.specs.Legal.{after_turn}
 use Rattle.qm_history.specs.Step.{after_event, after_events}
-use Rattle.qm_history.specs.Takeover.{IsFailure, StandsOrFails, TakesOverThen, UnlessRefused, is_named, nodes_on, takes_over}
-use Rattle.qm_history.specs.Turn.{ATakeover, Beside, FencedOr, IsAsked, IsBehindTakeover, IsChange, IsComeUp, IsCompaction, IsCutShort, IsDecided, IsFull, IsGoing, IsLeft, IsLeftFull, IsOwn, IsRecorded, IsServed, IsStarted, IsStopped, IsTurnOf, IsViewed, Nothing, UnlessDown, fence, fence_of, has_other_manager, is_down, loss_of, start_refusal}
+use Rattle.qm_history.specs.Takeover.{IsFailure, StandsOrFails, UnlessRefused, is_named, nodes_on, takes_over}
+use Rattle.qm_history.specs.Turn.{ATakeover, Beside, FencedOr, IsAsked, IsBehindTakeover, IsChange, IsComeUp, IsCompaction, IsCutShort, IsDecided, IsFull, IsLeft, IsLeftFull, IsOwn, IsRecorded, IsServed, IsStarted, IsStopped, IsTurnOf, IsViewed, Nothing, UnlessDown, fence, fence_of, has_other_manager, is_down, loss_of, start_refusal}
 use Rattle.qm_history.specs.World.{IsSound, held_by, is_live, role_in, system_in}
 use Rattle.qm_living.specs.declared.living.Bearing.{Bearing}
 use Rattle.qm_living.specs.declared.living.Bearing.TheVariants.{Comes, Stops, Leaves, Stays}
@@ -193,6 +193,23 @@ module _ (w : World) (n : ℕ) (took : Option Takeover) (because : Why) (acted :
       change_tells Leaves (event.Left n) false n moment (loss_of w n) (applied (system_in w) moment n (loss_of w n)) events refl (leaves n refl) refl h
   left_tells moment true events (inr h) = left_full_tells events h
 
+  -- who leaves is live no more
+  lost_down : (first : Event) (moment : ℕ) (asked : Request) (found : Result Accepted Refusal) (events : List Event) → Turns first false → IsChange first n moment asked found events
+      → is_live (after_events w events) n ≡ false
+  lost_down first moment asked (Err refusal) events turned h = absurd h
+  lost_down first moment asked (Ok accepted) (e ∷ event.Done k m r told ∷ []) turned h = ap (λ (x : Event). is_live (after_event w x) n) h.0 ∙ turned.own
+  lost_down first moment asked (Ok accepted) (e ∷ event.Doubt k m r ∷ []) turned h = ap (λ (x : Event). is_live (after_event w x) n) h.0 ∙ turned.own
+  lost_down first moment asked (Ok accepted) events turned h = absurd h
+
+  left_full_down : (events : List Event) → IsLeftFull n events → is_live (after_events w events) n ≡ false
+  left_full_down (event.Left k ∷ event.Full m need cap ∷ []) h = (leaves k h.0).own
+  left_full_down events h = absurd h
+
+  left_down : (moment : ℕ) (other : Bool) (events : List Event) → IsLeft w n moment other events → is_live (after_events w events) n ≡ false
+  left_down moment false events h = ap (λ (l : List Event). is_live (after_events w l) n) h ∙ (leaves n refl).own
+  left_down moment true events (inl h) = lost_down (event.Left n) moment (loss_of w n) (applied (system_in w) moment n (loss_of w n)) events (leaves n refl) h
+  left_down moment true events (inr h) = left_full_down events h
+
 -- ---- a call's own events
 
 module _ (w : World) (n reading : ℕ) (took : Option Takeover) (because : Why) (acted : ℕ) where
@@ -280,7 +297,7 @@ module _ (w : World) (n reading : ℕ) (took : Option Takeover) (because : Why) 
       → IsOwn (after_event w (event.Took k moment epoch gone up may kept)) n reading asked ATakeover (input_of asked) own → Asked (event.Took k moment epoch gone up may kept ∷ own)
   stood_tells k moment epoch gone up may kept [] within h = (
     taken_answered acted (node_at k (system_in w).nodes) epoch because
-    (role_alone w (after_event w (event.Took k moment epoch gone up may kept)) n reading asked (is_live w n) takes h),
+        (role_alone w (after_event w (event.Took k moment epoch gone up may kept)) n reading asked (is_live w n) takes h),
     others_same w n,
   )
   stood_tells k moment epoch gone up may kept (e ∷ events) within h =
@@ -337,7 +354,19 @@ unless_stays w n reading on false events h = alone_stays w n reading on events h
 
 -- ---- turns
 
+was_down : (live : Bool) → (not live && not false) ≡ true → live ≡ false
+was_down true is = cc
+was_down false is = refl
+
+leave_down : (w : World) (n reading : ℕ) (down : Bool) (events : List Event) → is_down w n input.StopNode ≡ down
+    → UnlessDown down n reading input.StopNode (IsBehindTakeover w n reading call.Leave false events) events → is_live (after_events w events) n ≡ false
+leave_down w n reading true events is h = ap (λ (l : List Event). is_live (after_events w l) n) h ∙ was_down (is_live w n) is
+leave_down w n reading false events is h = left_down w n None why.Leave 0 (acting reading (system_in w)) (has_other_manager w n) events h
+
 module _ (HasSpelling : Record → Type 0) where
+  pub who_left : (w : World) (t : Turn) → IsTurnOf HasSpelling w call.Leave t → is_live (after_turn w t) t.node ≡ false
+  who_left w t turn = leave_down w t.node t.moment (is_down w t.node input.StopNode) t.events refl turn.1
+
   pub answer_tells : (w : World) (asked : Call) (t : Turn) → IsSound HasSpelling w → IsTurnOf HasSpelling w asked t
       → is_live (after_turn w t) t.node ≡ live_behind (is_live w t.node) (bearing_of asked) (answer_of w t)
   answer_tells w asked t sound turn =
