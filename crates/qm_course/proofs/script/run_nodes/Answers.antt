@@ -1,0 +1,72 @@
+use Rattle.std.proofs.Common.{◌<◌, ◌∙◌, ℕ, [], length, get_or, refl, sym, subst, arith}
+use Rattle.std.specs.Prelude.{slice_set}
+use Rattle.std.proofs.lemmas.List.{length-set}
+use Rattle.std.proofs.lemmas.Option.{slice_get-get_or}
+use Rattle.qm_course.specs.Runs.{IsCluster, site_of, so_far}
+use Rattle.qm_course.proofs.Outing.{all_none, out_cluster, out_on, out_stops_on, out_waits, reading_next, through_next}
+use Rattle.qm_course.proofs.Sitting.{names_same}
+use Rattle.qm_course.proofs.script.run_nodes.Goals as goal
+
+pub nodes-init : goal.nodes-init
+nodes-init g c = record {
+  go = λ last. (
+    last,
+    all_none g.S.Serve.meaning g.Y.Symbiont.meaning (so_far [] last) (site_of g.C.Clock.told c.args.server.now (g.O.Sink.taken c.args.sink.now) c.args.seats.now c.args.stations.now)
+        c.requires.serves c.requires.kept,
+  );
+  cluster = c.requires.cluster;
+  through = λ node seat below is. absurd (omega (arith, below));
+  reading = λ node seat above is. c.requires.reading node seat is;
+  names = refl;
+}
+
+pub work_on-requires-clause-can : goal.work_on-requires-clause-can
+work_on-requires-clause-can g c =
+    let within : c.nodes.place < length c.nodes.seats = omega (arith, c.nodes-test.true, c.nodes.auto.place-end, c.nodes.auto.seats) in
+    c.nodes.invariant.cluster.can c.nodes.place (get_or c.nodes.seats c.nodes.place c.index-seats-place.result)
+    (slice_get-get_or c.nodes.seats c.nodes.place c.index-seats-place.result within)
+
+pub work_on-requires-clause-reading : goal.work_on-requires-clause-reading
+work_on-requires-clause-reading g c =
+    let within : c.nodes.place < length c.nodes.seats = omega (arith, c.nodes-test.true, c.nodes.auto.place-end, c.nodes.auto.seats) in
+    c.nodes.invariant.reading c.nodes.place (get_or c.nodes.seats c.nodes.place c.index-seats-place.result) (omega arith)
+    (slice_get-get_or c.nodes.seats c.nodes.place c.index-seats-place.result within)
+
+pub returns-in-Err-clause-stops : goal.returns-in-Err-clause-stops
+returns-in-Err-clause-stops g c = λ last.
+    let within : c.nodes.place < length c.nodes.seats = omega (arith, c.nodes-test.true, c.nodes.auto.place-end, c.nodes.auto.seats) in
+    let has : c.nodes.place < length c.nodes.stations = omega (arith, within, c.nodes.invariant.cluster.enough) in
+    let at = slice_get-get_or c.nodes.seats c.nodes.place c.index-seats-place.result within in
+    let here = get_or c.nodes.seats c.nodes.place c.index-seats-place.result in
+    let side = slice_get-get_or c.nodes.stations c.nodes.place c.index-stations-place.result has in
+    let station = get_or c.nodes.stations c.nodes.place c.index-stations-place.result in
+    let start = site_of g.C.Clock.told c.args.server.now (g.O.Sink.taken c.args.sink.now) c.args.seats.now c.args.stations.now in
+    let before = c.nodes.invariant.go last in
+    out_stops_on g.S.Serve.meaning g.Y.Symbiont.meaning g.C.Clock.told c.nodes.server c.work_on.new.server (g.O.Sink.taken c.nodes.sink) (g.O.Sink.taken c.work_on.new.sink) c.nodes.seats c.nodes.stations
+    c.nodes.place here c.work_on.new.seat station c.work_on.new.station at side (so_far [] last) start before.0
+    (slice_set c.nodes.seats c.nodes.place c.work_on.new.seat) c.in-Err.end before.1 c.nodes.invariant.through (out_waits c.nodes.place c.nodes.seats c.nodes.invariant.through c.nodes.invariant.reading)
+    c.in-Err.ensures.stops
+
+pub nodes-preserved : goal.nodes-preserved
+nodes-preserved g c =
+    let within : c.nodes.place < length c.nodes.seats = omega (arith, c.nodes-test.true, c.nodes.auto.place-end, c.nodes.auto.seats) in
+    let has : c.nodes.place < length c.nodes.stations = omega (arith, within, c.nodes.invariant.cluster.enough) in
+    let at = slice_get-get_or c.nodes.seats c.nodes.place c.index-seats-place.result within in
+    let here = get_or c.nodes.seats c.nodes.place c.index-seats-place.result in
+    let side = slice_get-get_or c.nodes.stations c.nodes.place c.index-stations-place.result has in
+    let station = get_or c.nodes.stations c.nodes.place c.index-stations-place.result in
+    let start = site_of g.C.Clock.told c.args.server.now (g.O.Sink.taken c.args.sink.now) c.args.seats.now c.args.stations.now in
+    let seats = slice_set c.nodes.seats c.nodes.place c.work_on.new.seat in
+    record {
+      go = λ last.
+          let before = c.nodes.invariant.go last in
+          out_on g.S.Serve.meaning g.Y.Symbiont.meaning g.C.Clock.told c.nodes.server c.work_on.new.server (g.O.Sink.taken c.nodes.sink) (g.O.Sink.taken c.work_on.new.sink) c.nodes.seats c.nodes.stations
+          c.nodes.place here c.work_on.new.seat station c.work_on.new.station at side (so_far [] last) start before.0 before.1 c.nodes.invariant.through
+          c.in-Ok.ensures.runs;
+      cluster = subst (λ (n : ℕ). IsCluster g.S.Serve.meaning c.work_on.new.server seats n) (sym (length-set c.nodes.stations c.nodes.place c.work_on.new.station))
+          (out_cluster g.S.Serve.meaning g.Y.Symbiont.meaning g.C.Clock.told c.nodes.server c.work_on.new.server (g.O.Sink.taken c.nodes.sink) (g.O.Sink.taken c.work_on.new.sink) c.nodes.seats c.nodes.stations
+          c.nodes.place here c.work_on.new.seat station c.work_on.new.station at side (length c.nodes.stations) c.nodes.invariant.cluster c.in-Ok.ensures.runs);
+      through = through_next c.nodes.place c.nodes.seats here c.work_on.new.seat at c.nodes.invariant.through c.in-Ok.ensures.runs.over;
+      reading = reading_next c.nodes.place c.nodes.seats c.work_on.new.seat c.nodes.invariant.reading;
+      names = names_same c.nodes.seats c.nodes.place here c.work_on.new.seat at c.in-Ok.ensures.runs.name ∙ c.nodes.invariant.names;
+    }

@@ -1,0 +1,33 @@
+use Rattle.std.proofs.Common.{◌∙◌, sym, inr, refl, subst, List, ℕ}
+use Rattle.qm_history.specs.declared.turn.Why.{Why}
+use Rattle.qm_history.specs.Calls.{why_of}
+use Rattle.qm_history.specs.Text.{answer_text}
+use Rattle.qm_course.specs.Turning.{TakesFront}
+use Rattle.qm_course.proofs.Fronts.{front_of_all, none_of}
+use Rattle.qm_course.proofs.turn.serve_call.Goals as goal
+
+pub returns-in-Err-clause-stopped : goal.returns-in-Err-clause-stopped
+returns-in-Err-clause-stopped g c = record {
+  told = c.serve-answer.result;
+  serves = c.serve-answer.ensures;
+  ends = inr (
+    sym c.stop_of.ensures ∙ none_of c.stop_of.result c.in_default.not-Some,
+    subst (λ (name : List ℕ). TakesFront (g.O.Sink.taken c.args.sink.now) (g.O.Sink.taken c.print_answer.new.sink) (answer_text name (why_of c.args.asked.call) c.serve-answer.result)) c.name-name.ensures
+        (subst (λ (w : Why). TakesFront (g.O.Sink.taken c.args.sink.now) (g.O.Sink.taken c.print_answer.new.sink) (answer_text c.name-name.result w c.serve-answer.result)) c.why_of-why.ensures
+        c.in-Err.ensures.front),
+    c.in-Err.ensures.ends,
+  );
+}
+
+pub returns-in-Err-take_in-clause-stopped : goal.returns-in-Err-take_in-clause-stopped
+returns-in-Err-take_in-clause-stopped g c = record {
+  told = c.serve-answer.result;
+  serves = c.serve-answer.ensures;
+  ends = inr (
+    sym c.stop_of.ensures ∙ none_of c.stop_of.result c.in_default.not-Some,
+    subst (λ (name : List ℕ). TakesFront (g.O.Sink.taken c.args.sink.now) (g.O.Sink.taken c.print_answer.new.sink) (answer_text name (why_of c.args.asked.call) c.serve-answer.result)) c.name-name.ensures
+        (subst (λ (w : Why). TakesFront (g.O.Sink.taken c.args.sink.now) (g.O.Sink.taken c.print_answer.new.sink) (answer_text c.name-name.result w c.serve-answer.result)) c.why_of-why.ensures
+        (front_of_all (g.O.Sink.taken c.args.sink.now) (g.O.Sink.taken c.print_answer.new.sink) _ c.in-Ok.ensures.all)),
+    inr refl,
+  );
+}

@@ -1,0 +1,94 @@
+-- What comes of one call of a node: its answer, what is printed of it, and what the node keeps behind it.
+use Rattle.std.specs.Prelude.{◌≡◌, ◌⊎◌, ◌+◌, ℕ, List, drop, Option, None, Some}
+use Rattle.std.specs.Io.KnownBytes.{Appends}
+use Rattle.qm_history.specs.declared.call.Answer.{Answer}
+use Rattle.qm_history.specs.declared.call.Answer.TheVariants as answer
+use Rattle.qm_history.specs.declared.call.Call.{Call}
+use Rattle.qm_history.specs.Calls.{why_of}
+use Rattle.qm_history.specs.Course.{Reading}
+use Rattle.qm_history.specs.Script.{UserLine}
+use Rattle.qm_history.specs.Text.{answer_text}
+use Rattle.qm_node.specs.Node.{Hears, IsCallOf}
+use Rattle.qm_node.specs.declared.course.Asked.{Asked}
+use Rattle.qm_node.specs.declared.course.Next.{Next}
+use Rattle.qm_node.specs.declared.course.Next.TheVariants as next
+use Rattle.qm_symb.specs.Device as symb
+use Rattle.qm_course.specs.Asking.{built_call}
+use Rattle.qm_living.specs.Living.{bearing_of, live_behind}
+use Rattle.qm_course.specs.Seats.{HeldSeat}
+use Rattle.qm_course.specs.Serving.{Meaning, Serves}
+use Rattle.qm_course.specs.Turning.{TakesFront}
+use Rattle.qm_course.specs.declared.turn.TurnEnd.{TurnEnd}
+use Rattle.qm_course.specs.declared.turn.TurnEnd.TheVariants as end
+
+-- the lines that are left behind a turn
+abbrev pub lines_behind : Next → List UserLine → List UserLine
+lines_behind (next.Line line) lines = drop 1 lines
+lines_behind (next.Step run) lines = lines
+lines_behind next.Fetch lines = lines
+lines_behind next.Leave lines = lines
+
+-- the turn is made for a line, or tells of a step
+abbrev pub IsLineOrStep : Next → Type 0
+IsLineOrStep (next.Line line) = Unit {0}
+IsLineOrStep (next.Step run) = Unit {0}
+IsLineOrStep next.Fetch = ⊥
+IsLineOrStep next.Leave = ⊥
+
+-- What a node keeps between two turns whatever the disks tell: no step is untold, its name stays, its lines are those that are
+-- left, and behind a line or a step it reads on where it read before.
+pub record MovesOn (next : Next) (old new : HeldSeat) : Type 0 where
+  pub name : new.name ≡ old.name
+  pub ready : new.node.made ≡ None
+  pub lines : new.node.state.lines ≡ lines_behind next old.node.state.lines
+  pub reads : IsLineOrStep next → old.node.state.stage ≡ Reading → new.node.state.stage ≡ Reading
+  pub count : new.count ≡ old.count + 1
+
+-- the end behind an answer, where none can come
+abbrev pub stop_of : Answer → Option TurnEnd
+stop_of answer.HistoryFull = Some end.HistoryFull
+stop_of (answer.Damaged file place) = Some (end.Damaged file place)
+stop_of (answer.NoMemory took) = Some end.NoMemory
+stop_of (answer.Done took moment reply) = None
+stop_of (answer.Shown took moment rows) = None
+stop_of (answer.Duties took moment duties) = None
+stop_of (answer.Refused took refusal) = None
+stop_of (answer.Full took need cap) = None
+stop_of (answer.Journal took live) = None
+stop_of (answer.Fenced held current) = None
+stop_of (answer.NoManager took name) = None
+
+-- The call of what comes next was made, as far as that is built, and nothing else of the node changed.
+pub record IsCalled {Y : Type 0} (y : symb.Meaning Y) (next : Next) (old new : HeldSeat) (asked : Asked) (was now : Y) : Type 0 where
+  pub plain : Call
+  pub asked_is : asked.call ≡ built_call plain
+  pub by : IsCallOf y next old.node.state (record { moment = asked.moment; call = plain }) new.node was now
+  pub same : new ≡ record old { node = new.node }
+
+-- the node behind the answer of what came next
+pub record TakesIn (next : Next) (asked : Call) (told : Answer) (old new : HeldSeat) : Type 0 where
+  pub name : new.name ≡ old.name
+  pub heard : Hears old.count next old.node told new.node
+  pub live : new.live ≡ live_behind old.live (bearing_of asked) told
+  pub count : new.count ≡ old.count + 1
+
+module _ {S : Type 0} (m : Meaning S) (node now : ℕ) (next : Next) (asked : Call) where
+  -- The call was served and answered, the sink took what is printed of it, and the node took the answer in.
+  pub record IsAnsweredBy (here there : HeldSeat) (old new : S) (taken then : Option (List ℕ)) : Type 0 where
+    pub told : Answer
+    pub serves : Serves m node now asked old new told
+    pub goes_on : stop_of told ≡ None
+    pub printed : Appends taken then (answer_text here.name (why_of asked) told)
+    pub takes_in : TakesIn next asked told here there
+
+  -- the call was told the end; or it was answered, and the sink took first bytes of that, or all
+  abbrev pub EndsBy : TurnEnd → Answer → List ℕ → Option (List ℕ) → Option (List ℕ) → Type 0
+  EndsBy stopped told text taken then =
+      ((stop_of told ≡ Some stopped) × (then ≡ taken))
+      ⊎ ((stop_of told ≡ None) × TakesFront taken then text × ((stopped ≡ end.Write) ⊎ (stopped ≡ end.NoMemory)))
+
+  -- The call was served, and serving stopped there.
+  pub record IsAnsweredUpTo (here : HeldSeat) (old new : S) (taken then : Option (List ℕ)) (stopped : TurnEnd) : Type 0 where
+    pub told : Answer
+    pub serves : Serves m node now asked old new told
+    pub ends : EndsBy stopped told (answer_text here.name (why_of asked) told) taken then

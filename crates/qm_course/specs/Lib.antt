@@ -1,0 +1,10 @@
+pub mod Answered
+pub mod Asking
+pub mod Nodes
+pub mod Parts
+pub mod Runs
+pub mod Seats
+pub mod Serving
+pub mod Standing
+pub mod Taken
+pub mod Turning

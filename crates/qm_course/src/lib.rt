@@ -1,0 +1,16 @@
+//! A node's turns on one value, one behind another, and those of several nodes on one thread: what comes next is asked for, the
+//! value serves it, its answer is printed, and the node takes it in. Nothing here knows what the value is: `Serve` says what its
+//! one call does.
+#![tactic(auto)]
+
+mod asking;
+mod node;
+mod script;
+mod seat;
+mod serve;
+mod turn;
+
+pub use script::serve_script;
+pub use seat::{Seat, Station};
+pub use serve::Serve;
+pub use turn::TurnEnd;
