@@ -1,11 +1,12 @@
 -- What nodes ask for can be asked for.
-use Rattle.std.proofs.Common.{◌<◌, ◌^◌, inr, ℕ, length, Bool, true, false, cond, ◌==◌, List, [], codes, Option, None, Some, Result, Ok, Err, refl, IfOk}
+use Rattle.std.proofs.Common.{◌≡◌, ◌<◌, ◌^◌, ℕ, length, Bool, true, false, cond, ◌==◌, List, [], codes, Option, None, Some, Result, Ok, Err, refl, IfOk}
 use Rattle.std.specs.Prelude.{nat_le, ◌&&◌}
 use Rattle.std.specs.Str.{bytes_eq}
 use Rattle.qm_kinds.specs.Files.{file_name_of}
 use Rattle.qm_kinds.specs.declared.file.FileName.{FileName}
 use Rattle.qm_kinds.specs.declared.input.Input.{Input}
 use Rattle.qm_kinds.specs.declared.input.Input.TheVariants as input
+use Rattle.qm_kinds.specs.declared.query.Query.{Query}
 use Rattle.qm_kinds.specs.declared.queue.QueueChange.{QueueChange}
 use Rattle.qm_kinds.specs.declared.refusal.ParseKind.TheVariants as parse
 use Rattle.qm_kinds.specs.declared.request.NameOrNumber.{NameOrNumber}
@@ -26,7 +27,7 @@ use Rattle.qm_history.specs.Acts as acts
 use Rattle.qm_history.specs.Calls.{request_of_report}
 use Rattle.qm_history.specs.Script.{LineSort, Command, Items, Act, UserLine}
 use Rattle.qm_script.specs.Served.{act_word, is_served_word, not_served, text_served}
-use Rattle.qm_course.specs.Asking.{IsAskable, built, read_built}
+use Rattle.qm_course.specs.Asking.{IsAskable, built, built_listing, read_built}
 
 -- it can be asked for, as far as it is built
 abbrev Can : Input → Type 0
@@ -41,9 +42,13 @@ short_given (Some xs) few = few
 short_change : (change : QueueChange) → HasFewIfGiven change.characteristics → IsShortChange change
 short_change change few = short_given change.characteristics few
 
+listing_can : (single : Bool) (query : Query) → query.single ≡ single → IsAskable (built_listing single query)
+listing_can true query is = tt
+listing_can false query is = is
+
 each_can : OfEach Can
 each_can = record {
-  shows = λ number. (inr (inr (refl, refl)), refl);
+  shows = λ query. listing_can query.single query refl;
   submits = λ job few. (refl, few);
   sets_entry = λ number change few. (refl, short_given change.characteristics few);
   deletes_entry = λ number. (refl, tt);

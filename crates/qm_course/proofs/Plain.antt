@@ -117,7 +117,7 @@ own_plain : (w : World) (n reading : ℕ) (asked : Call) (beside : Beside) (what
 own_plain w n reading asked beside (input.Ask r) events can h =
     fenced_plain (fence_of w n r) (fence_of_plain w n r) (IsAsked w n reading r events) events
     (decided_plain n (acting reading (system_in w)) r (applied (system_in w) (acting reading (system_in w)) n r) events) h
-own_plain w n reading asked beside (input.Show query) events can h = viewed_plain n (acting reading (system_in w)) query (view (system_in w) (role_in w) query) events can.1 h
+own_plain w n reading asked beside (input.Show query) events can h = viewed_plain n (acting reading (system_in w)) query (view (system_in w) (role_in w) query) events can h
 own_plain w n reading asked beside (input.Fetch known) events can h = subst Plain (sym h) refl
 own_plain w n reading asked beside input.Compact events can h = absurd can
 own_plain w n reading asked beside (input.TakeManager on) events can h = subst Plain (sym h) refl

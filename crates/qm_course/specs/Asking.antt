@@ -1,14 +1,12 @@
 -- What nodes ask for: what their lines do, as far as that is built, and what they ask for of themselves.
 -- OpenVMS User's Manual, on entering commands. This site's own: the acts, and that a compaction isn't built.
-use Rattle.std.specs.Prelude.{◌≡◌, ◌⊎◌, ◌<◌, ◌^◌, ℕ, true, false, List, length}
+use Rattle.std.specs.Prelude.{◌≡◌, ◌<◌, ◌^◌, ℕ, Bool, true, false, List, length}
 use Rattle.qm_kinds.specs.declared.input.Input.{Input}
 use Rattle.qm_kinds.specs.declared.input.Input.TheVariants as input
-use Rattle.qm_kinds.specs.declared.query.Listing.TheVariants.{Manager, Cancel}
 use Rattle.qm_kinds.specs.declared.query.Query.{Query}
 use Rattle.qm_kinds.specs.declared.request.Request.{Request}
 use Rattle.qm_kinds.specs.declared.request.Request.TheVariants as request
 use Rattle.qm_model.specs.Built.{is_built}
-use Rattle.qm_model.specs.Listing.{IsOfOneEntry}
 use Rattle.qm_record.specs.Spelling.{IsShortChange, IsShortEntryChange, IsShortQueue}
 use Rattle.qm_history.specs.declared.call.Call.{Call}
 use Rattle.qm_history.specs.declared.call.Call.TheVariants as call
@@ -16,11 +14,16 @@ use Rattle.qm_history.specs.Script.{UserLine}
 use Rattle.qm_history.specs.Visits.{Visit}
 use Rattle.qm_script.specs.Served.{not_served, read_served}
 
+-- a listing that is told row by row isn't built
+abbrev pub built_listing : Bool → Query → Input
+built_listing true query = not_served
+built_listing false query = input.Show query
+
 -- the input, or where it isn't built that it isn't
 abbrev pub built : Input → Input
 built input.Compact = not_served
 built (input.Ask asked) = input.Ask asked
-built (input.Show query) = input.Show query
+built (input.Show query) = built_listing query.single query
 built (input.Fetch known) = input.Fetch known
 built (input.TakeManager on) = input.TakeManager on
 built input.StartNode = input.StartNode
@@ -47,14 +50,10 @@ HasShortLists (request.Submit job) = length job.characteristics < 2 ^ 16
 HasShortLists (request.SetEntry entry change) = IsShortEntryChange change
 HasShortLists other = Unit {0}
 
--- a listing of the queue manager, of one entry, or of nothing
-abbrev pub IsListed : Query → Type 0
-IsListed q = (q.listing ≡ Manager) ⊎ ((q.listing ≡ Cancel) ⊎ IsOfOneEntry q)
-
--- Nodes ask for this: for requests that users and symbionts may make, for listings, and for what makes no record of its own.
+-- Nodes ask for this: for requests that users and symbionts may make, for whole listings, and for what makes no record of its own.
 abbrev pub IsAskable : Input → Type 0
 IsAskable (input.Ask asked) = (is_built asked ≡ true) × HasShortLists asked
-IsAskable (input.Show query) = IsListed query × (query.single ≡ false)
+IsAskable (input.Show query) = query.single ≡ false
 IsAskable (input.Fetch known) = Unit {0}
 IsAskable input.Compact = ⊥
 IsAskable (input.TakeManager on) = Unit {0}
