@@ -9,7 +9,7 @@ use Rattle.qm_kinds.specs.declared.form.Form.{Form}
 use Rattle.qm_kinds.specs.declared.form.Characteristic.{Characteristic}
 use Rattle.qm_kinds.specs.declared.input.Input.{Input}
 use Rattle.qm_kinds.specs.declared.query.Query.{Query}
-use Rattle.qm_kinds.specs.declared.input.Input.TheVariants.{Ask, Show}
+use Rattle.qm_kinds.specs.declared.input.Input.TheVariants.{Ask, Show, TakeManager}
 use Rattle.qm_kinds.specs.declared.queue.NewQueue.{NewQueue}
 use Rattle.qm_kinds.specs.declared.queue.QueueChange.{QueueChange}
 use Rattle.qm_kinds.specs.declared.request.EntryChange.{EntryChange}
@@ -29,13 +29,12 @@ use Rattle.qm_dcl.specs.declared.settings.Definition.{Definition}
 use Rattle.qm_dcl.specs.declared.settings.Stop.{Stop}
 use Rattle.qm_dcl.specs.declared.settings.Stop.TheVariants as stop
 use Rattle.qm_dcl.specs.declared.value.Location.{Location}
-use Rattle.qm_dcl.specs.Built.{is_built}
 use Rattle.qm_dcl.specs.Forms.{form_named}
 use Rattle.qm_dcl.specs.Settings.{settings_of}
 use Rattle.qm_dcl.specs.Lists.{lists_of, nodes_of}
 use Rattle.qm_dcl.specs.Submitting.{job_of}
 use Rattle.qm_dcl.specs.Entries.{entry_change_of}
-use Rattle.qm_dcl.specs.Showing.{characteristics_query, entries_query, forms_query, queues_query}
+use Rattle.qm_dcl.specs.Showing.{characteristics_query, entries_query, forms_query, manager_query, queues_query}
 use Rattle.qm_dcl.specs.Queues.{change_of, new_queue_of, stop_of, queue_request}
 use Rattle.qm_dcl.specs.Command.{asked, not_built, judged, asked_with, meant, unnamed, command_named, command_of}
 use Rattle.qm_dcl.proofs.FewValues.{HasFew, AreShort, lists_are_short}
@@ -69,6 +68,7 @@ or_empty (Some xs) few = few
 -- it holds of each form that is built
 pub record OfEach (P : Input → Type 0) : Type 0 where
   pub shows : (query : Query) → P (Show query)
+  pub takes_manager : (on : Option (List (List ℕ))) → P (TakeManager on)
   pub submits : (job : Job) → HasFew job.characteristics → P (Ask (Submit job))
   pub sets_entry : (number : ℕ) (change : EntryChange) → HasFewIfGiven change.characteristics → P (Ask (SetEntry number change))
   pub deletes_entry : (number : ℕ) → P (Ask (DeleteEntry number))
@@ -167,38 +167,36 @@ module _ {P : Input → Type 0} (each : OfEach P) (user : List ℕ) where
     of_queue c None is = tt
     of_queue c (Some name) is = of_request c name is
 
-    of_command : (c : Command) (nodes : Option (List (List ℕ))) → is_built c ≡ true → IfSome (asked user c s lists nodes) P
-    of_command command.ShowQueue nodes built = each.shows (queues_query user s.listing)
-    of_command command.ShowEntry nodes built = each.shows (entries_query user s.listing.pattern s.entry)
-    of_command command.ShowForms nodes built = each.shows (forms_query s.listing.pattern)
-    of_command command.ShowCharacteristics nodes built = each.shows (characteristics_query s.listing.pattern)
-    of_command command.ShowManagers nodes built = cc
-    of_command command.StartManager nodes built = cc
-    of_command command.Submit nodes built = of_file Batch s.file
-    of_command command.Print nodes built = of_file Print s.file
-    of_command command.SetEntry nodes built = of_changed s.entry
-    of_command command.DeleteEntry nodes built = of_entry s.entry
-    of_command command.DefineForm nodes built = of_form s.definition s.definition.name s.definition.form_number fit.2 fit.3
-    of_command command.DefineCharacteristic nodes built = of_characteristic s.definition.name s.definition.characteristic_number fit.2
-    of_command command.DeleteForm nodes built = of_form_name s.definition.name
-    of_command command.DeleteCharacteristic nodes built = of_characteristic_name s.definition.name
-    of_command c nodes built = of_queue c s.queue fit.0
+    of_command : (c : Command) (nodes : Option (List (List ℕ))) → IfSome (asked user c s lists nodes) P
+    of_command command.ShowQueue nodes = each.shows (queues_query user s.listing)
+    of_command command.ShowEntry nodes = each.shows (entries_query user s.listing.pattern s.entry)
+    of_command command.ShowForms nodes = each.shows (forms_query s.listing.pattern)
+    of_command command.ShowCharacteristics nodes = each.shows (characteristics_query s.listing.pattern)
+    of_command command.ShowManagers nodes = each.shows manager_query
+    of_command command.StartManager nodes = each.takes_manager nodes
+    of_command command.Submit nodes = of_file Batch s.file
+    of_command command.Print nodes = of_file Print s.file
+    of_command command.SetEntry nodes = of_changed s.entry
+    of_command command.DeleteEntry nodes = of_entry s.entry
+    of_command command.DefineForm nodes = of_form s.definition s.definition.name s.definition.form_number fit.2 fit.3
+    of_command command.DefineCharacteristic nodes = of_characteristic s.definition.name s.definition.characteristic_number fit.2
+    of_command command.DeleteForm nodes = of_form_name s.definition.name
+    of_command command.DeleteCharacteristic nodes = of_characteristic_name s.definition.name
+    of_command c nodes = of_queue c s.queue fit.0
 
   or_not_built : (o : Option Input) → IfSome o P → IfOk (ok_or o not_built) P
   or_not_built None h = tt
   or_not_built (Some input) h = h
 
-  of_given : (c : Command) (lists : Lists) (nodes : Option (List (List ℕ))) (given : Result Settings Fault) → is_built c ≡ true → AreShort lists
+  of_given : (c : Command) (lists : Lists) (nodes : Option (List (List ℕ))) (given : Result Settings Fault) → AreShort lists
       → IfOk given AreFit → IfOk (asked_with user c lists nodes given) P
-  of_given c lists nodes (Ok s) built short fit = or_not_built (asked user c s lists nodes) (of_command s lists fit short c nodes built)
-  of_given c lists nodes (Err f) built short fit = tt
+  of_given c lists nodes (Ok s) short fit = or_not_built (asked user c s lists nodes) (of_command s lists fit short c nodes)
+  of_given c lists nodes (Err f) short fit = tt
 
-  of_built : (built : Bool) (now : ℕ) (text : List ℕ) (c : Command) → is_built c ≡ built
-      → IfOk (cond built (meant user now text c) (Err not_built)) P
-  of_built true now text c is =
-      of_given c (lists_of text (parts_in text)) (nodes_of text (parts_in text)) (judged (command_in text) (settings_of now text c (parts_in text))) is
+  of_meant : (now : ℕ) (text : List ℕ) (c : Command) → IfOk (meant user now text c) P
+  of_meant now text c =
+      of_given c (lists_of text (parts_in text)) (nodes_of text (parts_in text)) (judged (command_in text) (settings_of now text c (parts_in text)))
       (lists_are_short text) (judged_fit (command_in text) (settings_of now text c (parts_in text)) (settings_are_fit now text c (parts_in text)))
-  of_built false now text c is = tt
 
   of_unnamed : (read : Result Command Fault) → IfOk (unnamed read) P
   of_unnamed (Ok c) = tt
@@ -206,7 +204,7 @@ module _ {P : Input → Type 0} (each : OfEach P) (user : List ℕ) where
 
   of_named : (now : ℕ) (text : List ℕ) (named : Option Command) → IfOk (command_named user now text named) P
   of_named now text None = of_unnamed (command_in text)
-  of_named now text (Some c) = of_built (is_built c) now text c refl
+  of_named now text (Some c) = of_meant now text c
 
   -- it holds of what a text asks for
   pub of_asked : (now : ℕ) (text : List ℕ) → IfOk (command_of user now text) P

@@ -8,7 +8,6 @@ use Rattle.qm_grammar.specs.Finding.{named_command}
 use Rattle.qm_grammar.specs.Parsed.{tokens_in, parts_in, command_in}
 use Rattle.qm_dcl.specs.declared.lists.Lists.{Lists}
 use Rattle.qm_dcl.specs.declared.settings.Settings.{Settings}
-use Rattle.qm_dcl.specs.Built.{is_built}
 use Rattle.qm_dcl.specs.Settings.{settings_of}
 use Rattle.qm_dcl.specs.Lists.{lists_of, nodes_of}
 use Rattle.qm_dcl.specs.Command.{not_built, judged, asked_with, meant, unnamed, command_named, command_of}
@@ -59,9 +58,8 @@ module _ (user : List ℕ) (c : Command) (lists : Lists) (nodes : Option (List (
       subst P a (earlier (nat_lt value.place e.place) value e g refl is)
 
 module _ (user : List ℕ) (now : ℕ) (text : List ℕ) where
-  right_built : (built : Bool) (c : Command) → IfOk (cond built (meant user now text c) (Err not_built)) (λ _. IsOk (command_in text))
-  right_built true c = right user c (lists_of text (parts_in text)) (nodes_of text (parts_in text)) (command_in text) (settings_of now text c (parts_in text))
-  right_built false c = tt
+  right_meant : (c : Command) → IfOk (meant user now text c) (λ _. IsOk (command_in text))
+  right_meant c = right user c (lists_of text (parts_in text)) (nodes_of text (parts_in text)) (command_in text) (settings_of now text c (parts_in text))
 
   right_unnamed : (P : Type 0) (read : Result Command Fault) → IfOk (unnamed read) (λ _. P)
   right_unnamed P (Ok c) = tt
@@ -69,7 +67,7 @@ module _ (user : List ℕ) (now : ℕ) (text : List ℕ) where
 
   right_named : (named : Option Command) → IfOk (command_named user now text named) (λ _. IsOk (command_in text))
   right_named None = right_unnamed (IsOk (command_in text)) (command_in text)
-  right_named (Some c) = right_built (is_built c) c
+  right_named (Some c) = right_meant c
 
   -- only a command of the grammar asks for something
   pub is_command : IfOk (command_of user now text) (λ _. IsOk (command_in text))
@@ -78,10 +76,8 @@ module _ (user : List ℕ) (now : ℕ) (text : List ℕ) where
   not_behind : (f g : Fault) → told not_built ≡ told g → g.place ≤ f.place
   not_behind f g is = let same = same_told not_built g is in let at : g.place ≡ 0 = ap (λ (x : Fault). x.place) (sym same) in omega (arith, at)
 
-  first_built : (built : Bool) (c : Command) (f g : Fault) → command_in text ≡ wrong f
-      → cond built (meant user now text c) (Err not_built) ≡ told g → g.place ≤ f.place
-  first_built true c f g wrong is = first user c (lists_of text (parts_in text)) (nodes_of text (parts_in text)) (command_in text) (settings_of now text c (parts_in text)) f g wrong is
-  first_built false c f g wrong is = not_behind f g is
+  first_meant : (c : Command) (f g : Fault) → command_in text ≡ wrong f → meant user now text c ≡ told g → g.place ≤ f.place
+  first_meant c f g wrong is = first user c (lists_of text (parts_in text)) (nodes_of text (parts_in text)) (command_in text) (settings_of now text c (parts_in text)) f g wrong is
 
   first_unnamed : (read : Result Command Fault) (f g : Fault) → read ≡ wrong f → unnamed read ≡ told g → g.place ≤ f.place
   first_unnamed (Ok c) f g wrong is = not_behind f g is
@@ -89,7 +85,7 @@ module _ (user : List ℕ) (now : ℕ) (text : List ℕ) where
 
   first_named : (named : Option Command) (f g : Fault) → command_in text ≡ wrong f → command_named user now text named ≡ told g → g.place ≤ f.place
   first_named None f g wrong is = first_unnamed (command_in text) f g wrong is
-  first_named (Some c) f g wrong is = first_built (is_built c) c f g wrong is
+  first_named (Some c) f g wrong is = first_meant c f g wrong is
 
   -- no fault is told behind the first one of the grammar
   pub is_first : (f g : Fault) → command_in text ≡ wrong f → command_of user now text ≡ told g → g.place ≤ f.place

@@ -1,5 +1,6 @@
 -- What the text of a command asks for, or what is wrong and where.
--- DCL Dictionary, on the commands of queues, jobs, forms and characteristics. This site's own: which fault is told, and what isn't built.
+-- DCL Dictionary, on the commands of queues, jobs, forms and characteristics. This site's own: which fault is told, and which forms
+-- aren't built.
 use Rattle.std.specs.Prelude.{ℕ, nat_lt, if◌then◌else◌, List, Option, None, Some, option_map, option_and_then, Result, Ok, Err, ok_or}
 use Rattle.qm_kinds.specs.declared.input.Input.{Input}
 use Rattle.qm_kinds.specs.declared.input.Input.TheVariants.{Ask, Show, TakeManager}
@@ -14,7 +15,6 @@ use Rattle.qm_grammar.specs.Finding.{named_command}
 use Rattle.qm_grammar.specs.Parsed.{tokens_in, parts_in, command_in}
 use Rattle.qm_dcl.specs.declared.lists.Lists.{Lists}
 use Rattle.qm_dcl.specs.declared.settings.Settings.{Settings}
-use Rattle.qm_dcl.specs.Built.{is_built}
 use Rattle.qm_dcl.specs.Forms.{form_of, characteristic_of}
 use Rattle.qm_dcl.specs.Settings.{settings_of}
 use Rattle.qm_dcl.specs.Lists.{lists_of, nodes_of}
@@ -60,7 +60,7 @@ abbrev pub asked_with : List ℕ → Command → Lists → Option (List (List �
 asked_with user c lists nodes (Ok s) = ok_or (asked user c s lists nodes) not_built
 asked_with user c lists nodes (Err f) = Err f
 
--- what a text asks for that names a command which is built
+-- what a text asks for that names a command
 abbrev pub meant : List ℕ → ℕ → List ℕ → Command → Result Input Fault
 meant user now text c =
     asked_with user c (lists_of text (parts_in text)) (nodes_of text (parts_in text))
@@ -74,9 +74,8 @@ unnamed (Err f) = Err f
 -- what a text asks for that names a command, or names none
 abbrev pub command_named : List ℕ → ℕ → List ℕ → Option Command → Result Input Fault
 command_named user now text None = unnamed (command_in text)
-command_named user now text (Some c) = if is_built c then meant user now text c else Err not_built
+command_named user now text (Some c) = meant user now text c
 
--- What the text of a user asks for that is read at a moment, or the fault with the least place. A text that names a command which
--- isn't built isn't either, whatever else is wrong with it.
+-- what the text of a user asks for that is read at a moment, or the fault with the least place
 abbrev pub command_of : List ℕ → ℕ → List ℕ → Result Input Fault
 command_of user now text = command_named user now text (named_command text (tokens_in text))

@@ -1,5 +1,4 @@
 pub mod Values
-pub mod Built
 pub mod Forms
 pub mod Given
 pub mod Settings

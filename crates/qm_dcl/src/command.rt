@@ -4,7 +4,6 @@ ghost use Rattle.qm_grammar.specs.Parsed.{tokens_in, parts_in, command_in};
 ghost use Rattle.qm_dcl.specs.Command.{request_of, asked, judged, meant, unnamed, command_of};
 ghost use Rattle.qm_dcl.specs.Faults.{Explains};
 
-use crate::built::is_built;
 use crate::define::{characteristic_of, form_of};
 use crate::entry::entry_change_of;
 use crate::fault::DclFault;
@@ -101,7 +100,7 @@ fn told(fault: Fault) -> DclFault
     }
 }
 
-// What a text asks for that names a command which is built.
+// What a text asks for that names a command.
 fn meant(
     alloc: Global,
     text: &[u8],
@@ -165,7 +164,8 @@ fn unnamed(read: Result<Command, Fault>) -> Fault
 /// - `DELETE/QUEUE name`, and `ASSIGN/MERGE target source`;
 /// - `DEFINE/FORM name 0..65535` with `/STOCK=name`, `/LENGTH=0..255`, `/WIDTH=0..255`, `/MARGIN=(TOP=0..255, ..)` of `TOP`,
 ///   `BOTTOM`, `LEFT` and `RIGHT`, `/WRAP` and `/TRUNCATE`, and `DELETE/FORM name`;
-/// - `DEFINE/CHARACTERISTIC name 0..255`, and `DELETE/CHARACTERISTIC name`.
+/// - `DEFINE/CHARACTERISTIC name 0..255`, and `DELETE/CHARACTERISTIC name`;
+/// - `START/QUEUE/MANAGER` with `/ON=(node, ..)`, and `SHOW QUEUE/MANAGERS`.
 ///
 /// The name of a queue, a form, a characteristic, a stock or a device has 1 to 31 bytes, that of a node 1 to 6, that of a job
 /// 1 to 39; that of a form or a characteristic isn't digits alone, which stand for its number. A number is decimal digits, that
@@ -174,8 +174,7 @@ fn unnamed(read: Result<Command, Fault>) -> Fault
 /// empty list, for what isn't given, but a form has all its settings, and a job too; what the rules refuse is read, as a limit
 /// of 0.
 ///
-/// Errors: `At` with the fault of the least place: `NotBuilt` at byte 0 where a command is named that isn't built, whatever else is
-/// wrong; `Value` at the first byte of a name, a number, a pattern, a word, a time or a file that can't be read; and those of the
+/// Errors: `At` with the fault of the least place: `NotBuilt` at byte 0 where a form of a command isn't built; `Value` at the first byte of a name, a number, a pattern, a word, a time or a file that can't be read; and those of the
 /// grammar.
 /// `NoMemory`, where memory for the tokens, the parts and the lists ran out.
 pub fn read_command(alloc: Global, text: &[u8], user: Name, now: Moment) -> Result<Input, DclFault>
@@ -186,8 +185,7 @@ pub fn read_command(alloc: Global, text: &[u8], user: Name, now: Moment) -> Resu
         return Err(DclFault::NoMemory);
     };
     match named_command(text, &parsed.tokens) {
-        Some(command) if is_built(command) => meant(alloc, text, user, now, command, &parsed),
-        Some(_) => Err(told(NOT_BUILT)),
+        Some(command) => meant(alloc, text, user, now, command, &parsed),
         None => Err(told(unnamed(parsed.command))),
     }
 }

@@ -3,7 +3,6 @@
 //! the values of these mean. It takes time in the length of the text, and memory for its tokens and parts, and for lists.
 #![tactic(auto)]
 
-mod built;
 mod command;
 mod define;
 mod entry;

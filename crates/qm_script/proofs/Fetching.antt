@@ -28,6 +28,7 @@ Else asked = Fetches asked → ⊥
 each_else : OfEach Else
 each_else = record {
   shows = λ query h. h;
+  takes_manager = λ on h. h;
   submits = λ job few h. h;
   sets_entry = λ number change few h. h;
   deletes_entry = λ number h. h;
