@@ -49,6 +49,7 @@ listing_can false query is = is
 each_can : OfEach Can
 each_can = record {
   shows = λ query. listing_can query.single query refl;
+  takes_manager = λ on. tt;
   submits = λ job few. (refl, few);
   sets_entry = λ number change few. (refl, short_given change.characteristics few);
   deletes_entry = λ number. (refl, tt);

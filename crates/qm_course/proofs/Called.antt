@@ -8,7 +8,6 @@ use Rattle.qm_symb.specs.Device as symb
 use Rattle.qm_history.specs.declared.call.Answer.{Answer}
 use Rattle.qm_history.specs.declared.call.Answer.TheVariants as answer
 use Rattle.qm_history.specs.declared.call.Call.{Call}
-use Rattle.qm_history.specs.declared.call.Call.TheVariants as call
 use Rattle.qm_history.specs.declared.call.Takeover.{Takeover}
 use Rattle.qm_history.specs.Calls.{input_of}
 use Rattle.qm_history.specs.Course.{NodeState, Reading, Fetching, Working, Leaving, Over, Stage, behind_fetch, behind_line, next_at, own_stage, stage_behind, stage_for}

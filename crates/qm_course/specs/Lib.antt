@@ -1,5 +1,7 @@
 pub mod Answered
 pub mod Asking
+pub mod Ends
+pub mod Fresh
 pub mod Nodes
 pub mod Parts
 pub mod Runs

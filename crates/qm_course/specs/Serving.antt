@@ -6,6 +6,7 @@ use Rattle.std.specs.Prelude.{option_to_list, Option, None, Some}
 use Rattle.qm_faults.specs.Faults.{Tells}
 use Rattle.qm_record.specs.Spelling.{HasSpelling}
 use Rattle.qm_history.specs.declared.call.Answer.{Answer}
+use Rattle.qm_history.specs.declared.call.Answer.TheVariants as answer
 use Rattle.qm_history.specs.declared.call.Call.{Call}
 use Rattle.qm_history.specs.declared.turn.Turn.{Turn}
 use Rattle.qm_history.specs.declared.world.World.{World}
@@ -23,6 +24,8 @@ pub record Meaning (S : Type 0) : Type 1 where
   pub nodes : S → List (List ℕ)
   -- how many calls of its disks failed
   pub failed : S → ℕ
+  -- its disks tell what they hold
+  pub tells : Type 0
   -- a call can be served
   pub serves : S → Type 0
   -- it stands for this world
@@ -65,6 +68,7 @@ module _ {S : Type 0} (m : Meaning S) where
     pub few : length (m.turns new) ≤ turns_kept
     pub nodes : m.nodes new ≡ m.nodes old
     pub faults : Tells (m.failed old) (m.failed new) (is_journal told ≡ true)
+    pub undamaged : m.tells → (file place : ℕ) → told ≡ answer.Damaged file place → ⊥
     pub heard : CanBeHeard told
     pub serves : m.serves new
     pub at : (w : World) → m.stands w old → ServesAt w asked old new turn told

@@ -4,12 +4,16 @@
 #![tactic(auto)]
 
 mod asking;
+mod fresh;
+mod laws;
 mod node;
 mod script;
 mod seat;
 mod serve;
 mod turn;
 
+pub use fresh::{own_lines, seats_of};
+pub use laws::lines_are_of_their_cluster;
 pub use script::serve_script;
 pub use seat::{Seat, Station};
 pub use serve::Serve;

@@ -3,6 +3,7 @@ ghost use Rattle.std.specs.Prelude.{◌≡◌, [], Some, IfErr, OnOk};
 ghost use Rattle.qm_history.specs.Course.{NoTurn, Reading, next_at};
 ghost use Rattle.qm_history.specs.declared.turn.Why.TheVariants as why;
 ghost use Rattle.qm_node.specs.Node.{IsTurn};
+ghost use Rattle.qm_course.specs.Ends.{IsUndamaged, TellsWrite};
 ghost use Rattle.qm_course.specs.Nodes.{CanGoOn, ReadsOn};
 ghost use Rattle.qm_course.specs.Parts.{IsFetch, IsLineOf, IsReport, RunsOut, ServesLine, StopsInBoth};
 ghost use Rattle.qm_course.specs.Runs.{IsReading};
@@ -37,6 +38,8 @@ pub(crate) fn run_steps<S: Serve, O: Sink, C: Clock, Y: Symbiont>(
     ensures can { OnOk result (CanGoOn S.meaning node server.new seat.new) }
     ensures reads { OnOk result (ReadsOn seat.old seat.new) }
     ensures waits { OnOk result (IsNoStep (next_at seat.new.live seat.new.node.state seat.new.node.state.stage)) }
+    ensures sink { TellsWrite (O.faults sink.old) (O.faults sink.new) result }
+    ensures undamaged { S.meaning.tells → IfErr result IsUndamaged }
 {
     'steps: while let Some(next) = seat.next_step() {
         match make_turn(alloc, server, node, seat, &next, station, sink) {
@@ -66,6 +69,8 @@ pub(crate) fn serve_line<'a, S: Serve, O: Sink, C: Clock, Y: Symbiont>(
     ensures stops { IfErr result (λ end. StopsInBoth S.meaning Y.meaning node (IsLineOf line.now.number) IsReport seat.old
         (outside server.old (O.taken sink.old) (C.told station.old.clock) station.old.symbiont)
         (outside server.new (O.taken sink.new) (C.told station.new.clock) station.new.symbiont) end) }
+    ensures sink { TellsWrite (O.faults sink.old) (O.faults sink.new) result }
+    ensures undamaged { S.meaning.tells → IfErr result IsUndamaged }
 {
     match make_turn(alloc, server, node, seat, &Next::Line(line), station, sink) {
         Ok(()) => run_steps(alloc, server, node, seat, station, sink),
@@ -93,6 +98,8 @@ pub(crate) fn run_out<S: Serve, O: Sink, C: Clock, Y: Symbiont>(
     ensures can { OnOk result (CanGoOn S.meaning node server.new seat.new) }
     ensures name { OnOk result (seat.new.name ≡ seat.old.name) }
     ensures over { OnOk result (next_at seat.new.live seat.new.node.state seat.new.node.state.stage ≡ NoTurn) }
+    ensures sink { TellsWrite (O.faults sink.old) (O.faults sink.new) result }
+    ensures undamaged { S.meaning.tells → IfErr result IsUndamaged }
 {
     'turns: while let Some(next) = seat.next() {
         match make_turn(alloc, server, node, seat, &next, station, sink) {
@@ -121,6 +128,8 @@ pub(crate) fn work_on<S: Serve, O: Sink, C: Clock, Y: Symbiont>(
     ensures stops { IfErr result (λ end. StopsInBoth S.meaning Y.meaning node IsFetch IsOwnWhy seat.old
         (outside server.old (O.taken sink.old) (C.told station.old.clock) station.old.symbiont)
         (outside server.new (O.taken sink.new) (C.told station.new.clock) station.new.symbiont) end) }
+    ensures sink { TellsWrite (O.faults sink.old) (O.faults sink.new) result }
+    ensures undamaged { S.meaning.tells → IfErr result IsUndamaged }
 {
     let Some(next) = seat.next() else {
         return Ok(());

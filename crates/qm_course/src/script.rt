@@ -2,6 +2,7 @@
 ghost use Rattle.std.specs.Prelude.{◌≡◌, ◌<◌, ◌≤◌, ℕ, [], Some, Contains, length, slice_get, IfErr, OnOk};
 ghost use Rattle.qm_history.specs.Chest.{turns_kept};
 ghost use Rattle.qm_script.specs.ClusterLines.{user_lines_view};
+ghost use Rattle.qm_course.specs.Ends.{IsUndamaged, TellsWrite};
 ghost use Rattle.qm_course.specs.Runs.{AllStop, AreFresh, AreOfNodes, AreReading, IsCluster, RunsNodes, ServesLines, Serving};
 ghost use Rattle.qm_course.specs.Runs.{Stopping, names_of, numbers_of, site_of, so_far};
 
@@ -47,6 +48,8 @@ pub(crate) fn serve_lines<'a, S: Serve, O: Sink, C: Clock, Y: Symbiont>(
         (site_of C.told server.old (O.taken sink.old) seats.old stations.old) (site_of C.told server.new (O.taken sink.new) seats.new stations.new)) }
     ensures stops { IfErr result (λ end. AllStop S.meaning Y.meaning (so_far (numbers_of (user_lines_view lines.now)) 0)
         (site_of C.told server.old (O.taken sink.old) seats.old stations.old) (site_of C.told server.new (O.taken sink.new) seats.new stations.new) end) }
+    ensures sink { TellsWrite (O.faults sink.old) (O.faults sink.new) result }
+    ensures undamaged { S.meaning.tells → IfErr result IsUndamaged }
 {
     'lines: for line in lines {
         let place = place_of(seats, &line.node);
@@ -82,6 +85,8 @@ pub(crate) fn run_nodes<S: Serve, O: Sink, C: Clock, Y: Symbiont>(
         (site_of C.told server.old (O.taken sink.old) seats.old stations.old) (site_of C.told server.new (O.taken sink.new) seats.new stations.new)) }
     ensures stops { IfErr result (λ end. (last : ℕ) → AllStop S.meaning Y.meaning (so_far [] last)
         (site_of C.told server.old (O.taken sink.old) seats.old stations.old) (site_of C.told server.new (O.taken sink.new) seats.new stations.new) end) }
+    ensures sink { TellsWrite (O.faults sink.old) (O.faults sink.new) result }
+    ensures undamaged { S.meaning.tells → IfErr result IsUndamaged }
 {
     'nodes: for place in 0..seats.len() {
         match work_on(
@@ -104,7 +109,8 @@ pub(crate) fn run_nodes<S: Serve, O: Sink, C: Clock, Y: Symbiont>(
 ///
 /// What was done is on the disks before its answer is handed to the sink, and that before the next turn is made. It stops where
 /// the sink fails (`Write`), as many turns are kept as can be (`HistoryFull`), a file isn't sound (`Damaged`), or memory runs out
-/// (`NoMemory`). A disk that fails doesn't stop it.
+/// (`NoMemory`). A disk that fails doesn't stop it. The sink's count of failed calls rises by one at `Write` alone, and no file
+/// is told as damaged where the disks tell what they hold.
 pub fn serve_script<'a, S: Serve, O: Sink, C: Clock, Y: Symbiont>(
     alloc: Global,
     server: &mut S,
@@ -122,6 +128,8 @@ pub fn serve_script<'a, S: Serve, O: Sink, C: Clock, Y: Symbiont>(
         (site_of C.told server.old (O.taken sink.old) seats.old stations.old) (site_of C.told server.new (O.taken sink.new) seats.new stations.new)) }
     ensures stops { IfErr result (λ end. Stopping S.meaning Y.meaning (user_lines_view lines.now)
         (site_of C.told server.old (O.taken sink.old) seats.old stations.old) (site_of C.told server.new (O.taken sink.new) seats.new stations.new) end) }
+    ensures sink { TellsWrite (O.faults sink.old) (O.faults sink.new) result }
+    ensures undamaged { S.meaning.tells → IfErr result IsUndamaged }
 {
     match serve_lines(alloc, server, lines, seats, stations, sink) {
         Ok(()) => run_nodes(alloc, server, seats, stations, sink),

@@ -8,6 +8,7 @@ ghost use Rattle.qm_history.specs.Text.{answer_text};
 ghost use Rattle.qm_node.specs.Node.{CanBeMade, ComesNext, IsMadeFor, IsTurn};
 ghost use Rattle.qm_course.specs.Answered.{IsAnsweredBy, IsAnsweredUpTo, MovesOn, stop_of};
 ghost use Rattle.qm_course.specs.Asking.{IsAskable};
+ghost use Rattle.qm_course.specs.Ends.{IsUndamaged, TellsWrite};
 ghost use Rattle.qm_course.specs.Seats.{outside, standing_of};
 ghost use Rattle.qm_course.specs.Turning.{Goes, StopsOnce, TakesFront, why_next};
 
@@ -61,6 +62,7 @@ fn print_answer<O: Sink>(
     ensures all { OnOk result (Appends (O.taken sink.old) (O.taken sink.new) (answer_text name.now why answer.now)) }
     ensures front { IfErr result (λ end. TakesFront (O.taken sink.old) (O.taken sink.new) (answer_text name.now why answer.now)) }
     ensures ends { IfErr result (λ end. (end ≡ TurnEnd.Write) ⊎ (end ≡ TurnEnd.NoMemory)) }
+    ensures sink { TellsWrite (O.faults sink.old) (O.faults sink.new) result }
 {
     let Ok(text) = show_answer(alloc, name, why, answer) else {
         return Err(TurnEnd::NoMemory);
@@ -93,6 +95,8 @@ fn serve_call<'a, S: Serve, O: Sink, Y: Symbiont>(
         server.old server.new (O.taken sink.old) (O.taken sink.new)) }
     ensures stopped { IfErr result (λ end. IsAnsweredUpTo S.meaning node asked.moment next.now asked.call seat.old
         server.old server.new (O.taken sink.old) (O.taken sink.new) end) }
+    ensures sink { TellsWrite (O.faults sink.old) (O.faults sink.new) result }
+    ensures undamaged { S.meaning.tells → IfErr result IsUndamaged }
 {
     let Asked { moment, call } = asked;
     let name = seat.name();
@@ -136,6 +140,8 @@ pub(crate) fn make_turn<'a, S: Serve, O: Sink, C: Clock, Y: Symbiont>(
         (outside server.old (O.taken sink.old) (C.told station.old.clock) station.old.symbiont)
         (outside server.new (O.taken sink.new) (C.told station.new.clock) station.new.symbiont) end) }
     ensures moves { OnOk result (MovesOn next.now seat.old seat.new) }
+    ensures sink { TellsWrite (O.faults sink.old) (O.faults sink.new) result }
+    ensures undamaged { S.meaning.tells → IfErr result IsUndamaged }
 {
     match seat.call(next, station) {
         Ok(asked) => serve_call(

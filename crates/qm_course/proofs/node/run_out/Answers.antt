@@ -2,6 +2,7 @@ use Rattle.std.proofs.Common.{◌≡◌, refl, ◌∙◌}
 use Rattle.qm_history.specs.declared.turn.Why.{Why}
 use Rattle.qm_course.specs.Seats.{outside, standing_of}
 use Rattle.qm_course.specs.Turning.{IsOwnWhy, why_next}
+use Rattle.qm_course.proofs.Ends.{stop_on}
 use Rattle.qm_course.proofs.Going.{can_on, few_own, goes_may, none_left, own_why, stops_may, turns_fall}
 use Rattle.qm_course.proofs.Joining.{goes_none, then_goes, then_stops}
 use Rattle.qm_course.proofs.node.run_out.Goals as goal
@@ -13,6 +14,7 @@ turns-init g c = record {
   can = c.requires.can;
   no_line = c.requires.no_line;
   name = refl;
+  sink = refl;
 }
 
 pub turns-preserved : goal.turns-preserved
@@ -30,6 +32,7 @@ turns-preserved g c =
       can = can_on m y (λ (w : Why). w ≡ why_next comes) c.args.node comes c.turns.seat c.make_turn.new.seat old new c.in-Ok.ensures.goes c.in-Ok.ensures.moves c.turns.invariant.can;
       no_line = none_left comes c.turns.seat c.make_turn.new.seat c.turns.invariant.no_line c.in-Ok.ensures.moves;
       name = c.in-Ok.ensures.moves.name ∙ c.turns.invariant.name;
+      sink = c.in-Ok.ensures.sink ∙ c.turns.invariant.sink;
     }
 
 pub turns-smaller : goal.turns-smaller
@@ -67,3 +70,7 @@ returns-in-Err-clause-stops g c =
     then_stops m y IsOwnWhy c.args.node (standing_of c.args.seat.now) (standing_of c.turns.seat) start old c.turns.invariant.goes new c.in-Err.end
     (stops_may m y (λ (w : Why). w ≡ why_next comes) IsOwnWhy (own_why comes c.turns.seat.live c.turns.seat.node.state c.turns.invariant.no_line c.in-Some.ensures.next) c.args.node (standing_of c.turns.seat) old new c.in-Err.end
     c.in-Err.ensures.stops.0)
+
+pub returns-in-Err-clause-sink : goal.returns-in-Err-clause-sink
+returns-in-Err-clause-sink g c =
+    stop_on c.in-Err.end (g.O.Sink.faults c.args.sink.now) (g.O.Sink.faults c.turns.sink) (g.O.Sink.faults c.make_turn.new.sink) c.turns.invariant.sink c.in-Err.ensures.sink

@@ -14,6 +14,7 @@ invariant-turns g l = record {
   can : CanGoOn g.S.Serve.meaning l.fn.node l.server l.seat;
   no_line : l.seat.node.state.lines ≡ [];
   name : l.seat.name ≡ l.fn.seat.name;
+  sink : g.O.Sink.faults l.sink ≡ g.O.Sink.faults l.fn.sink;
 }
 
 abbrev pub decreases-turns : goal.decreases-turns

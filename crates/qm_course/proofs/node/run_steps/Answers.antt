@@ -1,8 +1,9 @@
-use Rattle.std.proofs.Common.{◌≡◌, refl}
+use Rattle.std.proofs.Common.{◌≡◌, ◌∙◌, refl}
 use Rattle.qm_history.specs.declared.turn.Why.{Why}
 use Rattle.qm_history.specs.declared.turn.Why.TheVariants as why
 use Rattle.qm_course.specs.Seats.{outside, standing_of}
 use Rattle.qm_course.specs.Turning.{why_next}
+use Rattle.qm_course.proofs.Ends.{stop_on}
 use Rattle.qm_course.proofs.Going.{can_on, few_own, goes_may, reads_on, stops_may, turns_fall, why_is}
 use Rattle.qm_course.proofs.Joining.{goes_none, then_goes, then_stops}
 use Rattle.qm_course.proofs.node.run_steps.Goals as goal
@@ -13,6 +14,7 @@ steps-init g c = record {
       (outside c.args.server.now (g.O.Sink.taken c.args.sink.now) (g.C.Clock.told c.args.station.now.clock) c.args.station.now.symbiont) c.requires.can.serves c.requires.can.few;
   can = c.requires.can;
   reads = record { name = refl; lines = refl; reads = λ r. r };
+  sink = refl;
 }
 
 pub steps-preserved : goal.steps-preserved
@@ -29,6 +31,7 @@ steps-preserved g c =
           (standing_of c.make_turn.new.seat) old new c.in-Ok.ensures.goes);
       can = can_on m y (λ (w : Why). w ≡ why_next comes) c.args.node comes c.steps.seat c.make_turn.new.seat old new c.in-Ok.ensures.goes c.in-Ok.ensures.moves c.steps.invariant.can;
       reads = reads_on comes c.args.seat.now c.steps.seat c.make_turn.new.seat c.in-Some.ensures.step.why c.steps.invariant.reads c.in-Ok.ensures.moves;
+      sink = c.in-Ok.ensures.sink ∙ c.steps.invariant.sink;
     }
 
 pub steps-smaller : goal.steps-smaller
@@ -66,3 +69,7 @@ returns-in-Err-clause-stops g c =
     then_stops m y (λ (w : Why). w ≡ why.Report) c.args.node (standing_of c.args.seat.now) (standing_of c.steps.seat) start old c.steps.invariant.goes new c.in-Err.end
     (stops_may m y (λ (w : Why). w ≡ why_next comes) (λ (w : Why). w ≡ why.Report) (why_is comes why.Report c.in-Some.ensures.step.why) c.args.node (standing_of c.steps.seat) old new c.in-Err.end
     c.in-Err.ensures.stops.0)
+
+pub returns-in-Err-clause-sink : goal.returns-in-Err-clause-sink
+returns-in-Err-clause-sink g c =
+    stop_on c.in-Err.end (g.O.Sink.faults c.args.sink.now) (g.O.Sink.faults c.steps.sink) (g.O.Sink.faults c.make_turn.new.sink) c.steps.invariant.sink c.in-Err.ensures.sink

@@ -14,6 +14,7 @@ invariant-steps g l = record {
       (outside l.server (g.O.Sink.taken l.sink) (g.C.Clock.told l.station.clock) l.station.symbiont);
   can : CanGoOn g.S.Serve.meaning l.fn.node l.server l.seat;
   reads : ReadsOn l.fn.seat l.seat;
+  sink : g.O.Sink.faults l.sink ≡ g.O.Sink.faults l.fn.sink;
 }
 
 abbrev pub decreases-steps : goal.decreases-steps

@@ -3,6 +3,7 @@ use Rattle.qm_history.specs.declared.turn.Why.{Why}
 use Rattle.qm_node.specs.declared.course.Next.TheVariants as next
 use Rattle.qm_course.specs.Seats.{outside}
 use Rattle.qm_course.specs.Turning.{why_next}
+use Rattle.qm_course.proofs.Ends.{write_on}
 use Rattle.qm_course.proofs.Going.{can_on, few_own, one_turn}
 use Rattle.qm_course.proofs.Turned.{if_err, on_ok4}
 use Rattle.qm_course.proofs.node.serve_line.Goals as goal
@@ -69,3 +70,7 @@ returns-in-Ok-clause-stops g c =
 
 pub returns-in-Err-clause-stops : goal.returns-in-Err-clause-stops
 returns-in-Err-clause-stops g c = inl c.in-Err.ensures.stops
+
+pub returns-in-Ok-clause-sink : goal.returns-in-Ok-clause-sink
+returns-in-Ok-clause-sink g c =
+    write_on c.run_steps.result (g.O.Sink.faults c.args.sink.now) (g.O.Sink.faults c.make_turn.new.sink) (g.O.Sink.faults c.run_steps.new.sink) c.in-Ok.ensures.sink c.run_steps.ensures.sink

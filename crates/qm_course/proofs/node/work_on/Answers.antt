@@ -3,6 +3,7 @@ use Rattle.qm_history.specs.declared.turn.Why.{Why}
 use Rattle.qm_course.specs.Parts.{IsFetch}
 use Rattle.qm_course.specs.Seats.{outside, standing_of}
 use Rattle.qm_course.specs.Turning.{why_next}
+use Rattle.qm_course.proofs.Ends.{write_on}
 use Rattle.qm_course.proofs.Going.{can_on, few_own, fetch_next, fetch_why, goes_may, none_left, one_turn, stops_may}
 use Rattle.qm_course.proofs.Turned.{if_err, on_ok4}
 use Rattle.qm_course.proofs.node.work_on.Goals as goal
@@ -76,3 +77,7 @@ returns-in-Err-clause-stops g c =
     let new = outside c.make_turn.new.server (g.O.Sink.taken c.make_turn.new.sink) (g.C.Clock.told c.make_turn.new.station.clock) c.make_turn.new.station.symbiont in
     let fetch = fetch_why c.in-Some.next (fetch_next c.args.seat.now c.in-Some.next c.requires.reading c.in-Some.ensures.next) in
     inl (stops_may g.S.Serve.meaning g.Y.Symbiont.meaning (λ (w : Why). w ≡ why_next c.in-Some.next) IsFetch fetch c.args.node (standing_of c.args.seat.now) old new c.in-Err.end c.in-Err.ensures.stops.0, c.in-Err.ensures.stops.1)
+
+pub returns-in-Ok-clause-sink : goal.returns-in-Ok-clause-sink
+returns-in-Ok-clause-sink g c =
+    write_on c.run_out.result (g.O.Sink.faults c.args.sink.now) (g.O.Sink.faults c.make_turn.new.sink) (g.O.Sink.faults c.run_out.new.sink) c.in-Ok.ensures.sink c.run_out.ensures.sink

@@ -3,6 +3,7 @@ use Rattle.std.specs.Prelude.{slice_set}
 use Rattle.std.proofs.lemmas.List.{length-set}
 use Rattle.std.proofs.lemmas.Option.{slice_get-get_or}
 use Rattle.qm_course.specs.Runs.{IsCluster, site_of, so_far}
+use Rattle.qm_course.proofs.Ends.{stop_on}
 use Rattle.qm_course.proofs.Outing.{all_none, out_cluster, out_on, out_stops_on, out_waits, reading_next, through_next}
 use Rattle.qm_course.proofs.Sitting.{names_same}
 use Rattle.qm_course.proofs.script.run_nodes.Goals as goal
@@ -18,6 +19,7 @@ nodes-init g c = record {
   through = λ node seat below is. absurd (omega (arith, below));
   reading = λ node seat above is. c.requires.reading node seat is;
   names = refl;
+  sink = refl;
 }
 
 pub work_on-requires-clause-can : goal.work_on-requires-clause-can
@@ -69,4 +71,9 @@ nodes-preserved g c =
       through = through_next c.nodes.place c.nodes.seats here c.work_on.new.seat at c.nodes.invariant.through c.in-Ok.ensures.runs.over;
       reading = reading_next c.nodes.place c.nodes.seats c.work_on.new.seat c.nodes.invariant.reading;
       names = names_same c.nodes.seats c.nodes.place here c.work_on.new.seat at c.in-Ok.ensures.runs.name ∙ c.nodes.invariant.names;
+      sink = c.in-Ok.ensures.sink ∙ c.nodes.invariant.sink;
     }
+
+pub returns-in-Err-clause-sink : goal.returns-in-Err-clause-sink
+returns-in-Err-clause-sink g c =
+    stop_on c.in-Err.end (g.O.Sink.faults c.args.sink.now) (g.O.Sink.faults c.nodes.sink) (g.O.Sink.faults c.work_on.new.sink) c.nodes.invariant.sink c.in-Err.ensures.sink

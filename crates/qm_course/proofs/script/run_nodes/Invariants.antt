@@ -11,4 +11,5 @@ invariant-nodes g l = record {
   through : AreThrough l.place l.seats;
   reading : AreReadingFrom l.place l.seats;
   names : names_of l.seats ≡ names_of l.fn.seats;
+  sink : g.O.Sink.faults l.sink ≡ g.O.Sink.faults l.fn.sink;
 }

@@ -7,6 +7,7 @@ use Rattle.qm_history.specs.Course.{next_at}
 use Rattle.qm_history.specs.Script.{UserLine, lines_of}
 use Rattle.qm_script.specs.ClusterLines.{user_line_view, user_lines_view}
 use Rattle.qm_course.specs.Runs.{AllGo, AreOfNodes, AreReading, IsCluster, names_of, numbers_of, side_of, site_of, so_far}
+use Rattle.qm_course.proofs.Ends.{stop_on}
 use Rattle.qm_course.proofs.Lifting.{some_same}
 use Rattle.qm_course.proofs.Outing.{all_none}
 use Rattle.qm_course.proofs.Sitting.{all_reading_wait, cluster_on, line_next, line_on, line_stops_on, lines_from, name_at, names_same, served_reading, turn_of}
@@ -21,6 +22,7 @@ lines-init g c = record {
   of_nodes = c.requires.of_nodes;
   reading = c.requires.reading;
   names = refl;
+  sink = refl;
 }
 
 pub place_of-place-requires : goal.place_of-place-requires
@@ -102,6 +104,7 @@ lines-preserved g c =
           place here there station c.serve_line.new.station at side (user_line_view line) rest named c.lines.invariant.cluster.distinct
           (subst (λ (ls : List UserLine). AreReading ls c.lines.seats) from c.lines.invariant.reading) c.in-Ok.ensures.serves;
       names = names ∙ c.lines.invariant.names;
+      sink = c.in-Ok.ensures.sink ∙ c.lines.invariant.sink;
     }
 
 pub returns-clause-serves : goal.returns-clause-serves
@@ -117,3 +120,7 @@ returns-clause-serves g c =
       names = c.lines.invariant.names;
       reading = subst (λ (ls : List UserLine). AreReading ls c.lines.seats) none c.lines.invariant.reading;
     }
+
+pub returns-in-Err-clause-sink : goal.returns-in-Err-clause-sink
+returns-in-Err-clause-sink g c =
+    stop_on c.in-Err.end (g.O.Sink.faults c.args.sink.now) (g.O.Sink.faults c.lines.sink) (g.O.Sink.faults c.serve_line.new.sink) c.lines.invariant.sink c.in-Err.ensures.sink

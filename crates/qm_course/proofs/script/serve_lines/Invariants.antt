@@ -13,4 +13,5 @@ invariant-lines g l = record {
   of_nodes : AreOfNodes l.seats (user_lines_view (drop l.line-index l.fn.lines));
   reading : AreReading (user_lines_view (drop l.line-index l.fn.lines)) l.seats;
   names : names_of l.seats ≡ names_of l.fn.seats;
+  sink : g.O.Sink.faults l.sink ≡ g.O.Sink.faults l.fn.sink;
 }

@@ -1,6 +1,7 @@
 use Rattle.std.proofs.Common.{[]}
 use Rattle.qm_script.specs.ClusterLines.{user_lines_view}
 use Rattle.qm_course.specs.Runs.{numbers_of, site_of, so_far}
+use Rattle.qm_course.proofs.Ends.{write_on}
 use Rattle.qm_course.proofs.Final.{fresh_reading, script_served, script_stopped}
 use Rattle.qm_course.proofs.Lifting.{all_stop_then, all_then}
 use Rattle.qm_course.proofs.Turned.{if_err, on_ok}
@@ -42,3 +43,7 @@ returns-in-Err-clause-stops g c =
     (site_of g.C.Clock.told c.args.server.now (g.O.Sink.taken c.args.sink.now) c.args.seats.now c.args.stations.now)
     (site_of g.C.Clock.told c.serve_lines.new.server (g.O.Sink.taken c.serve_lines.new.sink) c.serve_lines.new.seats c.serve_lines.new.stations)
     c.in-Err.end c.requires.fresh c.in-Err.ensures.stops
+
+pub returns-in-Ok-clause-sink : goal.returns-in-Ok-clause-sink
+returns-in-Ok-clause-sink g c =
+    write_on c.run_nodes.result (g.O.Sink.faults c.args.sink.now) (g.O.Sink.faults c.serve_lines.new.sink) (g.O.Sink.faults c.run_nodes.new.sink) c.in-Ok.ensures.sink c.run_nodes.ensures.sink

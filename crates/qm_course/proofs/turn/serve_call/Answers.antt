@@ -3,6 +3,7 @@ use Rattle.qm_history.specs.declared.turn.Why.{Why}
 use Rattle.qm_history.specs.Calls.{why_of}
 use Rattle.qm_history.specs.Text.{answer_text}
 use Rattle.qm_course.specs.Turning.{TakesFront}
+use Rattle.qm_course.proofs.Ends.{none_written, printing_undamaged, sound_end}
 use Rattle.qm_course.proofs.Fronts.{front_of_all, none_of}
 use Rattle.qm_course.proofs.turn.serve_call.Goals as goal
 
@@ -31,3 +32,13 @@ returns-in-Err-take_in-clause-stopped g c = record {
     inr refl,
   );
 }
+
+pub returns-in-Some-clause-sink : goal.returns-in-Some-clause-sink
+returns-in-Some-clause-sink g c = none_written (g.O.Sink.faults c.args.sink.now) c.serve-answer.result c.in-Some.end (sym c.stop_of.ensures ∙ c.in-Some.is)
+
+pub returns-in-Some-clause-undamaged : goal.returns-in-Some-clause-undamaged
+returns-in-Some-clause-undamaged g c = λ tells.
+    sound_end c.serve-answer.result c.in-Some.end (sym c.stop_of.ensures ∙ c.in-Some.is) (c.serve-answer.ensures.undamaged tells)
+
+pub returns-in-Err-clause-undamaged : goal.returns-in-Err-clause-undamaged
+returns-in-Err-clause-undamaged g c = λ tells. printing_undamaged c.in-Err.end c.in-Err.ensures.ends
