@@ -3,3 +3,4 @@ pub mod Following
 pub mod Judging
 pub mod Decided
 pub mod Taken
+pub mod Spare

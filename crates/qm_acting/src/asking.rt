@@ -1,11 +1,12 @@
 // How a request is done: decided, written down, and only then made and answered.
-ghost use Rattle.std.specs.Prelude.{◌<◌, length, IsErrOf};
+ghost use Rattle.std.specs.Prelude.{◌<◌, length, IsErrOf, IsTrue};
 ghost use Rattle.qm_database.specs.Database.{spare_of};
 ghost use Rattle.qm_disk.specs.Disk.{TellsFaults};
 ghost use Rattle.qm_restore.specs.QueueFile.{IsSiteFile};
 ghost use Rattle.qm_state.specs.Preparing.{IsPrepared};
 ghost use Rattle.qm_acting.specs.Asking.{text_of, Answers, CanBeAsked, LeavesDevice, Writes};
 ghost use Rattle.qm_acting.specs.Deciding.{standing_with, Records, LeavesFull};
+ghost use Rattle.qm_acting.specs.Spare.{KeepsSpare};
 
 use crate::decision::{Decision, decide};
 use crate::fault::{AskFault, RecordFault};
@@ -36,6 +37,7 @@ impl<D: Disk> Manager<D> {
         // A crash at any moment of the call leaves the records before it, or these and the new one.
         ensures device { LeavesDevice D.meaning (standing_of self.old).recorded (text_of moment node request.now)
             (disk_of self.old) (disk_of self.new) result }
+        ensures spare { IsTrue D.meaning.tells → KeepsSpare D.meaning (disk_of self.old) (disk_of self.new) }
     {
         site_files_are_consistent();
         let decision = match decide(self.alloc, &mut self.image, moment, node, request) {

@@ -33,7 +33,11 @@ pub(crate) fn decide<'a>(
     ensures refused { Refuses result (applied (system_of image.old) moment node request.now) }
     ensures decides { IfOk result (Decides (system_of image.old) moment node request.now image.new) }
 {
-    let prepared = image.prepare(moment, node, request)?;
+    // A `?` would copy the prepared change more than once.
+    let prepared = match image.prepare(moment, node, request) {
+        Ok(prepared) => prepared,
+        Err(refused) => return Err(refused),
+    };
     let body = write_request(alloc, moment, node, request)?;
     Ok(Decision { prepared, body })
 }

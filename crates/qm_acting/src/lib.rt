@@ -7,6 +7,7 @@
 mod asking;
 mod decision;
 mod fault;
+mod files;
 mod laws;
 mod manager;
 mod reading;
@@ -15,6 +16,7 @@ mod restored;
 mod taking;
 
 pub use fault::{AskFault, TakeFault};
+pub use files::Files;
 pub use laws::{own_requests_are_accepted, site_files_go_on, sites_can_be_read};
 pub use manager::Manager;
 pub use reading::restore;

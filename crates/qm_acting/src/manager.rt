@@ -1,17 +1,16 @@
 // The manager at work, and what it shows.
-ghost use Rattle.std.specs.Prelude.{◌≡◌, ◌<◌, length, Ok, IfOk};
+ghost use Rattle.std.specs.Prelude.{◌≡◌, ◌<◌, length, None, Ok, IfOk};
 ghost use Rattle.qm_database.specs.Database.{disk_of as closed_disk};
 ghost use Rattle.qm_model.specs.Acting.{acting};
 ghost use Rattle.qm_model.specs.Applied.{are_numbers_spent};
 ghost use Rattle.qm_model.specs.Duties.{duties};
-ghost use Rattle.qm_model.specs.Listing.{IsOfOneEntry, rows_of};
+ghost use Rattle.qm_model.specs.Rows.{view};
 ghost use Rattle.qm_model.specs.Standing.{node_at};
 ghost use Rattle.qm_state.specs.Refusing.{Refuses};
 
 use qm_database::{Closed, Open};
 use qm_disk::Disk;
 use qm_kinds::{Duty, Moment, Name, Node, Query, Row};
-use qm_model::one_entry_is_listed;
 use qm_restore::site_files_are_consistent;
 use qm_state::{Image, Refused};
 use std::alloc::{AllocError, Global};
@@ -76,13 +75,12 @@ impl<D: Disk> Manager<D> {
         self.image.are_run_numbers_spent()
     }
 
-    /// The rows that a query asks for. It is refused where the entry isn't there.
+    /// The rows that a query asks for, but none of the queue manager itself. It is refused where the entry that is asked for isn't
+    /// there, where no queue is named whose entries are asked for, and where rows are asked for one by one and none is left.
     pub fn view(&self, query: &Query) -> Result<Vec<Row>, Refused>
-        requires { IsOfOneEntry query.now }
-        ensures rows { IfOk result (λ rows. rows_of (standing_of self.now).system query.now ≡ Ok rows.items) }
-        ensures refused { Refuses result (rows_of (standing_of self.now).system query.now) }
+        ensures rows { IfOk result (λ rows. view (standing_of self.now).system None query.now ≡ Ok rows.items) }
+        ensures refused { Refuses result (view (standing_of self.now).system None query.now) }
     {
-        one_entry_is_listed();
         self.image.view(query)
     }
 

@@ -8,6 +8,7 @@ ghost use Rattle.qm_disk.specs.Disk.{KeepsOthers, LeavesOnly, TellsFaults};
 ghost use Rattle.qm_model.specs.Applied.{applied};
 ghost use Rattle.qm_acting.specs.Asking.{text_of, CanBeAsked};
 ghost use Rattle.qm_acting.specs.Deciding.{Decides};
+ghost use Rattle.qm_acting.specs.Spare.{KeepsSpare};
 ghost use Rattle.qm_acting.specs.Taking.{taking_fault, recording_fault, Opens, OpenFails, disk_behind, TakesOver, TakeLeaves, TakeFails, taken_disk};
 
 use crate::decision::{Decision, decide};
@@ -58,6 +59,7 @@ impl<D: Disk> Restored<D> {
         ensures any_moment { IsTrue D.meaning.tells → LeavesOnly D.meaning (restored_disk self) (disk_behind result)
             (HoldsEither (D.meaning.may_leave (restored_disk self)) MASTER_FILE (restored_standing self).recorded (in_next_epoch (restored_standing self).recorded tried node)) }
         ensures others { KeepsOthers D.meaning MASTER_FILE (restored_disk self) (disk_behind result) }
+        ensures spare { IsTrue D.meaning.tells → KeepsSpare D.meaning (restored_disk self) (disk_behind result) }
         ensures faults { TellsFaults D.meaning (restored_disk self) (disk_behind result) (OpenFails result WriteFault.Disk) }
     {
         let Restored {
@@ -120,6 +122,7 @@ impl<D: Disk> Restored<D> {
         // A crash at any moment leaves what was read; the same in the next epoch; or that and the record.
         ensures any_moment { IsTrue D.meaning.tells → TakeLeaves D.meaning (restored_standing self).recorded
             (in_next_epoch (restored_standing self).recorded tried node) (text_of moment node request.now) (restored_disk self) result }
+        ensures spare { IsTrue D.meaning.tells → KeepsSpare D.meaning (restored_disk self) (taken_disk result) }
         ensures faults { TellsFaults D.meaning (restored_disk self) (taken_disk result) (TakeFails result) }
     {
         let mut restored = self;

@@ -1,7 +1,10 @@
 use Rattle.std.proofs.Common.{refl, sym, ap, subst}
+use Rattle.qm_database.specs.Database.{open_disk}
 use Rattle.qm_database.specs.Recorded.{Recorded}
 use Rattle.qm_restore.specs.QueueFile.{IsSiteFile}
 use Rattle.qm_state.specs.Image.{system_of}
+use Rattle.qm_acting.specs.Standing.{restored_disk, restored_standing}
+use Rattle.qm_acting.proofs.Spare.{opening_keeps}
 use Rattle.qm_acting.proofs.restored.Restored.«open».Goals as goal
 
 pub returns-in-Ok-clause-answer : goal.returns-in-Ok-clause-answer
@@ -24,3 +27,13 @@ returns-in-Ok-clause-any_moment g c = λ told. c.in-Ok.ensures.any_moment told (
 
 pub returns-in-Err-clause-any_moment : goal.returns-in-Err-clause-any_moment
 returns-in-Err-clause-any_moment g c = λ told. c.in-Err.ensures.any_moment told (c.requires.early told)
+
+pub returns-in-Ok-clause-spare : goal.returns-in-Ok-clause-spare
+returns-in-Ok-clause-spare g c = λ told.
+    opening_keeps g.D.Disk.meaning g.met.D.Disk.counts_now (λ disk f le. g.met.D.Disk.reads_a_crash_state disk f told le) (restored_standing c.args.self).recorded c.args.tried c.args.node
+    (restored_disk c.args.self) (open_disk c.in-Ok.store) (c.requires.restored.at_rest told).holds (c.in-Ok.ensures.any_moment told (c.requires.early told)) c.in-Ok.ensures.others
+
+pub returns-in-Err-clause-spare : goal.returns-in-Err-clause-spare
+returns-in-Err-clause-spare g c = λ told.
+    opening_keeps g.D.Disk.meaning g.met.D.Disk.counts_now (λ disk f le. g.met.D.Disk.reads_a_crash_state disk f told le) (restored_standing c.args.self).recorded c.args.tried c.args.node
+    (restored_disk c.args.self) _ (c.requires.restored.at_rest told).holds (c.in-Err.ensures.any_moment told (c.requires.early told)) c.in-Err.ensures.others

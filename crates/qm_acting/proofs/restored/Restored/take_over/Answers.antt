@@ -6,6 +6,8 @@ use Rattle.qm_faults.specs.Faults.{Tells}
 use Rattle.qm_acting.specs.Asking.{text_of}
 use Rattle.qm_acting.specs.Standing.{Standing, standing_of, disk_of, restored_standing, restored_disk}
 use Rattle.qm_acting.specs.Taking.{in_next, IsDiskFault, FailLeaves, TakesNot}
+use Rattle.qm_acting.specs.Spare.{KeepsSpare}
+use Rattle.qm_acting.proofs.Spare.{append_keeps, keeps_on}
 use Rattle.qm_acting.proofs.Taken.{epoch_faults, epoch_moments, moments_before, site_in_next, does_in_next, taken_moments, record_moments, record_told, record_faults, faults_behind, done_is}
 use Rattle.qm_acting.proofs.restored.Restored.take_over.Goals as goal
 
@@ -88,3 +90,24 @@ returns-in-Err-record-clause-faults g c =
     (record_faults (m.faults (restored_disk c.args.self)) (m.faults (disk_of c.record.new.self)) c.in-Err-record.fault c.record_fault.result c.record_fault.ensures
     (faults_behind _ (m.faults (restored_disk c.args.self)) (m.faults (disk_of c.in-Ok-open.manager)) (m.faults (disk_of c.record.new.self))
     (c.in-Ok-open.ensures.faults.quiet (λ no. no) ∙ ap m.faults c.decide.ensures.disk) c.in-Err-record.ensures.faults))
+
+pub returns-in-Err-clause-spare : goal.returns-in-Err-clause-spare
+returns-in-Err-clause-spare g c = λ told.
+    subst (λ d. KeepsSpare g.D.Disk.meaning d (closed_disk c.in-Err.closed)) c.decide.ensures.disk (c.in-Err.ensures.spare told)
+
+pub returns-in-Ok-record-clause-spare : goal.returns-in-Ok-record-clause-spare
+returns-in-Ok-record-clause-spare g c = λ told.
+    let m = g.D.Disk.meaning in
+    let mid = disk_of c.in-Ok-open.manager in
+    keeps_on m (restored_disk c.args.self) mid (disk_of c.record.new.self)
+    (subst (λ d. KeepsSpare m d mid) c.decide.ensures.disk (c.in-Ok-open.ensures.spare told))
+    (append_keeps m (standing_of c.in-Ok-open.manager).recorded mid (disk_of c.record.new.self) (c.in-Ok-open.ensures.answer.ready.at_rest told).holds c.in-Ok-record.ensures.writes.others)
+
+pub returns-in-Err-record-clause-spare : goal.returns-in-Err-record-clause-spare
+returns-in-Err-record-clause-spare g c = λ told.
+    let m = g.D.Disk.meaning in
+    let mid = disk_of c.in-Ok-open.manager in
+    subst (λ d. KeepsSpare m (restored_disk c.args.self) d) (sym c.close-in-Err-record.ensures)
+    (keeps_on m (restored_disk c.args.self) mid (disk_of c.record.new.self)
+    (subst (λ d. KeepsSpare m d mid) c.decide.ensures.disk (c.in-Ok-open.ensures.spare told))
+    (append_keeps m (standing_of c.in-Ok-open.manager).recorded mid (disk_of c.record.new.self) (c.in-Ok-open.ensures.answer.ready.at_rest told).holds c.in-Err-record.ensures.writes.others))
