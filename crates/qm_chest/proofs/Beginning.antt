@@ -12,12 +12,12 @@ use Rattle.qm_master.specs.Judging.{IsLawful}
 use Rattle.qm_master.proofs.Masters.{says_lawful}
 use Rattle.qm_model.specs.Folding.{system_of}
 use Rattle.qm_record.specs.Spelling.{HasSpelling, record_text}
-use Rattle.qm_database.specs.Database.{disk_of as closed_disk}
 use Rattle.qm_database.specs.Recorded.{Recorded, Holds, IsAtRest}
-use Rattle.qm_database.specs.declared.closed.Closed.{Closed}
 use Rattle.qm_database.proofs.Contents.{held_records}
 use Rattle.qm_database.proofs.Moving.{left_at_rest}
 use Rattle.qm_restore.specs.QueueFile.{IsSiteFile}
+use Rattle.qm_acting.specs.Files.{files_disk, AreSound}
+use Rattle.qm_acting.specs.declared.files.Files.{Files}
 use Rattle.qm_history.specs.Start.{Starts, first_world}
 use Rattle.qm_history.specs.World.{IsSound, system_in}
 use Rattle.qm_history.specs.declared.world.World.{World}
@@ -103,8 +103,8 @@ all_hold m P r disk at_rest is = record {
 }
 
 module _ (one : (files : CrashState) (r : Recorded) (s : System) (w : World) → Holds files r → IsSiteFile r.bodies s → Starts IsLog HasSpelling record_text files w → BeginsWorld r s w)
-    {D : Type 0} (m : Meaning D) (checked : Checked D) (is : IsChecked m checked) (chest : Chest D) (closed : Closed D) (book : Book) (state_is : chest.state ≡ record { book = book; desk = Down closed None })
-    (turns : chest.turns.items ≡ []) (same : closed_disk closed ≡ checked_disk checked) (nodes : List Node) (are : nodes ≡ (checked_standing checked).system.nodes)
+    {D : Type 0} (m : Meaning D) (checked : Checked D) (is : IsChecked m checked) (chest : Chest D) (files : Files D) (sound : AreSound m files) (book : Book) (state_is : chest.state ≡ record { book = book; desk = Down files None })
+    (turns : chest.turns.items ≡ []) (same : files_disk files ≡ checked_disk checked) (nodes : List Node) (are : nodes ≡ (checked_standing checked).system.nodes)
     (kept : IsFirstBook nodes (checked_standing checked).recorded.says.epoch book) (early : IsTrue m.tells → (checked_standing checked).recorded.says.epoch < 2 ^ 61)
   where
     abbrev r : Recorded
@@ -119,9 +119,9 @@ module _ (one : (files : CrashState) (r : Recorded) (s : System) (w : World) →
         let lawful : IsLawful r.says = says_lawful r.master r.says at_rest.holds.is_master in
         let first : World = first_world w.log r.says.epoch in
         let none : w.manager ≡ None = ap (λ (v : World). v.manager) begins.first in
-        let down : IsDown m r.says.cap w closed None =
+        let down : IsDown m r.says.cap w files None =
         record { none = none; holds = subst (AllHold m (MayHold r.says.cap w None)) (sym same) (all_hold m (MayHold r.says.cap w None) r (checked_disk checked) at_rest (may_begin r s w is.restored.file begins is.reach)) } in
-        let of_state : IsStateAt m r.says.cap w (record { book = book; desk = Down closed None }) =
+        let of_state : IsStateAt m r.says.cap w (record { book = book; desk = Down files None }) =
         record { book = book_of r s w begins nodes are book kept; desk = down; small = lawful.greatest } in
         let low : w.greatest ≤ 2 ^ 61 = omega (arith, ap (λ (v : World). v.greatest) begins.first, early tells) in
         record { state = subst (IsStateAt m r.says.cap w) (sym state_is) of_state; sound = begins.sound; early = omega (arith, low) }
@@ -132,7 +132,7 @@ module _ (one : (files : CrashState) (r : Recorded) (s : System) (w : World) →
     steady_begun : IsSteady m (length chest.turns.items) chest.state
     steady_begun =
         let low = is.epoch in
-        let of_state : IsSteady m (length chest.turns.items) (record { book = book; desk = Down closed None }) = record { desk = tt; epochs = omega (arith, kept.greatest_is, low) } in
+        let of_state : IsSteady m (length chest.turns.items) (record { book = book; desk = Down files None }) = record { desk = sound; epochs = omega (arith, kept.greatest_is, low) } in
         subst (IsSteady m (length chest.turns.items)) (sym state_is) of_state
 
     pub begun : SiteFilesAreAccepted → Begins m checked chest

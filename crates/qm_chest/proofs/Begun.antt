@@ -1,13 +1,17 @@
 -- How a takeover begins: from a manager that is up, or while none is; and how its parts leave what a call leaves.
 use Rattle.std.proofs.Common.{◌≡◌, ℕ, ◌+◌, ◌-◌, ◌^◌, ◌<◌, Bool, true, false, not, List, [], ◌∷◌, length, refl, sym, ◌∙◌, ap, subst, arith, Option, None, Some}
-use Rattle.std.specs.Prelude.{◌||◌, is_none, min, option_to_list, slice_get, IsSome}
+use Rattle.std.specs.Prelude.{◌||◌, is_none, min, option_to_list, slice_get, IsSome, IsTrue}
 use Rattle.qm_disk.specs.Disk.{CrashState, Meaning, IsLeft, TellsFaults}
 use Rattle.qm_kinds.specs.declared.input.Input.{Input}
 use Rattle.qm_kinds.specs.declared.input.Input.TheVariants as input
 use Rattle.qm_kinds.specs.declared.system.System.{System}
 use Rattle.qm_database.specs.Database.{disk_of as closed_disk}
 use Rattle.qm_database.specs.declared.closed.Closed.{Closed}
+use Rattle.qm_acting.specs.Spare.{KeepsSpare}
+use Rattle.qm_acting.proofs.Spare.{keeps_on, keeps_same}
 use Rattle.qm_acting.specs.Standing.{standing_of, disk_of}
+use Rattle.qm_acting.specs.Files.{files_disk}
+use Rattle.qm_acting.specs.declared.files.Files.{Files}
 use Rattle.qm_acting.specs.declared.manager.Manager.{Manager}
 use Rattle.qm_history.specs.declared.call.Answer.TheVariants as answer
 use Rattle.qm_history.specs.declared.call.Call.{Call}
@@ -26,7 +30,7 @@ use Rattle.qm_chest.specs.declared.desk.Desk.TheVariants.{Up, Down}
 use Rattle.qm_chest.specs.declared.place.Place.{Place}
 use Rattle.qm_chest.specs.declared.serving.Served.{Served}
 use Rattle.qm_chest.specs.declared.taken.Taken.{Taken}
-use Rattle.qm_chest.specs.At.{CanBeAskedFor, IsStateAt}
+use Rattle.qm_chest.specs.At.{CanBeAskedFor, IsDeskOf, IsStateAt}
 use Rattle.qm_chest.specs.Desk.{desk_disk, is_due}
 use Rattle.qm_chest.specs.Holding.{MayHold, AllHold}
 use Rattle.qm_chest.specs.Taking.{AreEarly, IsTaking, LeavesFrom, NeedsManager, TakesFrom, TakesOnFiles}
@@ -34,7 +38,7 @@ use Rattle.qm_chest.specs.Whole.{AsksToTake, IsServedAs, Leaves, StandsEarly, bo
 use Rattle.qm_chest.proofs.Going.{up_holds}
 use Rattle.qm_chest.proofs.Holding.{SiteFilesAreAccepted}
 use Rattle.qm_chest.proofs.Lists.{named_none, named_up, unnamed_up}
-use Rattle.qm_chest.proofs.Names.{name_there, node_within, outside_of}
+use Rattle.qm_chest.proofs.Names.{name_there, node_within, one_name, outside_of}
 use Rattle.qm_chest.proofs.Whole.{desk_still, one_served}
 
 -- ---- whatever the disks tell
@@ -63,20 +67,37 @@ leaves_of m old was disk new served same h = record {
   names = h.names;
   rises = let size = one_more served.first h.first in let le = h.rises in omega (arith, size, le);
   faults = subst (λ (d : _). TellsFaults m d (desk_disk served.desk) (is_journal served.answer ≡ true)) same h.faults;
+  spare = λ tells. subst (λ (d : _). KeepsSpare m d (desk_disk served.desk)) same (h.spare tells);
   down = h.down;
   told = h.told;
   duties = h.duties;
 }
 
+-- a node that may not take the role from a manager that is up leaves all as it is
+pub unnamed_leaves : {D : Type 0} (m : Meaning D) (book : Book) (manager : Manager D) (at node : ℕ) (name : List ℕ) → IsDeskOf m book.names.items (Up manager at)
+    → LeavesFrom m book (disk_of manager) (book.greatest + 1) book (record { desk = Up manager at; first = Some (event.NoManager node); second = None; answer = answer.NoManager None name })
+unnamed_leaves m book manager at node name desk = record {
+  desk = desk;
+  names = refl;
+  rises = omega arith;
+  first = refl;
+  faults = record { fault = λ told. cc; quiet = λ none. refl };
+  spare = λ tells. keeps_same m (disk_of manager);
+  down = λ told. cc;
+  told = (λ full. cc, λ hides. refl);
+  duties = tt;
+}
+
 -- calls in which none failed come before
-pub leaves_behind : {D : Type 0} (m : Meaning D) (old : Book) (before disk : D) (greatest : ℕ) (new : Book) (served : Served D) → m.faults disk ≡ m.faults before → LeavesFrom m old disk greatest new served
+pub leaves_behind : {D : Type 0} (m : Meaning D) (old : Book) (before disk : D) (greatest : ℕ) (new : Book) (served : Served D) → m.faults disk ≡ m.faults before → (IsTrue m.tells → KeepsSpare m before disk) → LeavesFrom m old disk greatest new served
     → LeavesFrom m old before greatest new served
-leaves_behind m old before disk greatest new served same h = record {
+leaves_behind m old before disk greatest new served same kept h = record {
   desk = h.desk;
   names = h.names;
   rises = h.rises;
   first = h.first;
   faults = record { fault = λ told. h.faults.fault told ∙ ap counted same; quiet = λ not. h.faults.quiet not ∙ same };
+  spare = λ tells. keeps_on m before disk (desk_disk served.desk) (kept tells) (h.spare tells);
   down = h.down;
   told = h.told;
   duties = h.duties;
@@ -85,12 +106,13 @@ leaves_behind m old before disk greatest new served same h = record {
 -- what follows a takeover that stands
 pub leaves_taken : {D : Type 0} (m : Meaning D) (old mid new : Book) (disk : D) (node : ℕ) (taken : Taken D) (served : Served D) → TakesFrom m old disk node mid taken
     → LeavesFrom m mid (disk_of taken.manager) mid.greatest new served → LeavesFrom m old disk (old.greatest + 1) new served
-leaves_taken m old mid new disk node taken served takes h = leaves_behind m old disk (disk_of taken.manager) (old.greatest + 1) new served takes.quiet (record {
+leaves_taken m old mid new disk node taken served takes h = leaves_behind m old disk (disk_of taken.manager) (old.greatest + 1) new served takes.quiet takes.spare (record {
   desk = h.desk;
   names = h.names ∙ takes.names;
   rises = let a = h.rises in let b = takes.rises in omega (arith, a, b);
   first = h.first;
   faults = h.faults;
+  spare = h.spare;
   down = h.down;
   told = h.told;
   duties = h.duties;
@@ -126,7 +148,7 @@ module _ (accepted : SiteFilesAreAccepted) {D : Type 0} (m : Meaning D) (only_no
         let within : node < length (system_in w).nodes = node_within (system_in w) book.names.items node state.book.names there in
         let there_ = name_there node (system_in w).nodes book.names.items state.book.names there in
         let same : Some name ≡ Some there_.0 = sym found ∙ there_.1 in
-        let one : name ≡ there_.0 = cc in
+        let one : name ≡ there_.0 = one_name name there_.0 same in
         let refused : not (is_none w.manager || is_named (system_in w) (nodes_on (input_of asked)) node) ≡ true =
         unnamed_up (is_none w.manager) (is_named (system_in w) (nodes_on (input_of asked)) node) (managed w.manager (record { node = at; epoch = w.greatest }) state.desk.role)
         (ap (λ (i : Input). is_named (system_in w) (nodes_on i) node) asks.0 ∙ sym in_world ∙ unnamed) in
@@ -163,12 +185,12 @@ taken_up_serves m cap w asked book manager at node now what closed after served 
 
 -- ---- no manager is up
 
-pub held_down : {D : Type 0} (m : Meaning D) (book : Book) (closed : Closed D) (place : Option Place) → StandsEarly m (record { book = book; desk = Down closed place }) → AreEarly m book (closed_disk closed) place
-held_down m book closed place stands = record { cap = stands.cap; w = stands.w; holds = stands.at.desk.holds; greatest = stands.at.book.greatest; early = stands.early }
+pub held_down : {D : Type 0} (m : Meaning D) (book : Book) (files : Files D) (place : Option Place) → StandsEarly m (record { book = book; desk = Down files place }) → AreEarly m book (files_disk files) place
+held_down m book files place stands = record { cap = stands.cap; w = stands.w; holds = stands.at.desk.holds; greatest = stands.at.book.greatest; early = stands.early }
 
-pub taking_down : {D : Type 0} (m : Meaning D) (cap : ℕ) (w : World) (asked : Call) (book : Book) (closed : Closed D) (place : Option Place) (node : ℕ) (what : Input)
-    → IsStateAt m cap w (record { book = book; desk = Down closed place }) → w.greatest + 1 < 2 ^ 62 → AsksToTake node what w asked → IsTaking book node what cap w asked
-taking_down m cap w asked book closed place node what state early asks = record {
+pub taking_down : {D : Type 0} (m : Meaning D) (cap : ℕ) (w : World) (asked : Call) (book : Book) (files : Files D) (place : Option Place) (node : ℕ) (what : Input)
+    → IsStateAt m cap w (record { book = book; desk = Down files place }) → w.greatest + 1 < 2 ^ 62 → AsksToTake node what w asked → IsTaking book node what cap w asked
+taking_down m cap w asked book files place node what state early asks = record {
   asks = asks;
   book = state.book;
   small = state.small;

@@ -19,6 +19,7 @@ use Rattle.qm_database.specs.declared.files.TheConstants.{MASTER_CAP}
 use Rattle.qm_acting.specs.Asking.{Lacks as LacksThere}
 use Rattle.qm_acting.specs.Standing.{Standing}
 use Rattle.qm_acting.specs.Taking.{HoldsEpoch, in_next}
+use Rattle.qm_acting.specs.declared.files.Files.TheVariants as site_files
 use Rattle.qm_history.specs.declared.call.Answer.TheVariants as answer
 use Rattle.qm_history.specs.declared.call.Call.{Call}
 use Rattle.qm_history.specs.declared.call.Takeover.{Takeover}
@@ -110,7 +111,7 @@ module _ (accepted : SiteFilesAreAccepted) {D : Type 0} (m : Meaning D) (only_no
       still_there : (events : List Event) (failed : Bool) → Part m None w now (input_of asked) failed events mid mid → Part m None w now (input_of asked) failed events mid (closed_disk closed)
       still_there events failed part = subst (λ (d : D). Part m None w now (input_of asked) failed events mid d) (sym same) part
 
-      still_down : IsDown m cap (failed_world tried) closed None
+      still_down : IsDown m cap (failed_world tried) (site_files.Closed closed) None
       still_down = record {
         none = refl;
         holds = subst (λ (d : D). AllHold m (MayHold cap (failed_world tried) None) d) (sym same)
@@ -120,9 +121,9 @@ module _ (accepted : SiteFilesAreAccepted) {D : Type 0} (m : Meaning D) (only_no
       still_part : Part m None w now (input_of asked) false (event.TakeDoubt node tried kept ∷ []) mid mid
       still_part = trying.still_part accepted m only_now counts_now reads cap w kept old mid st read node now tried tried_is (input_of asked)
 
-      pub short_served : IsServedAs m cap w node now asked old (record { book = book; desk = Down closed None }) (event.TakeDoubt node tried kept ∷ []) (answer.NoMemory (told_of_failed tried kept))
+      pub short_served : IsServedAs m cap w node now asked old (record { book = book; desk = Down (site_files.Closed closed) None }) (event.TakeDoubt node tried kept ∷ []) (answer.NoMemory (told_of_failed tried kept))
       short_served =
-          failures.put_short accepted m cap w asked kept old mid st read book node now what taking there can nodes (event.TakeDoubt node tried kept) [] false book (Down closed None)
+          failures.put_short accepted m cap w asked kept old mid st read book node now what taking there can nodes (event.TakeDoubt node tried kept) [] false book (Down (site_files.Closed closed) None)
           (still_there (event.TakeDoubt node tried kept ∷ []) false still_part) (λ said. refl) refl (book_failed tried book (record { names = refl; live = refl; held = refl; greatest_is = refl })) still_down
           (omega (arith, tried_is)) (told_of_failed tried kept) (sym (took_is w node tried kept [])) refl
           (refl, λ later. absurd (omega (arith, later, tried_is)))
@@ -145,10 +146,10 @@ module _ (accepted : SiteFilesAreAccepted) {D : Type 0} (m : Meaning D) (only_no
             (subst (λ (b : Bool). LacksBehind record_text (Some (not b)) (failed_world tried) (room_of r) node now (input_of asked) (event.Full node need most)) (sym (same_number tried w.greatest tried_is))
             (wanted, most_is, omega (arith, over, most_is, wanted))))
 
-        pub master_full_served : IsServedAs m cap w node now asked old (record { book = book; desk = Down closed None })
+        pub master_full_served : IsServedAs m cap w node now asked old (record { book = book; desk = Down (site_files.Closed closed) None })
             (event.TakeDoubt node tried kept ∷ event.Full node need most ∷ []) (answer.Full (told_of_failed tried kept) need most)
         master_full_served =
-            failures.put accepted m cap w asked kept old mid st read book node now what taking there can nodes (event.TakeDoubt node tried kept) (event.Full node need most ∷ []) false book (Down closed None)
+            failures.put accepted m cap w asked kept old mid st read book node now what taking there can nodes (event.TakeDoubt node tried kept) (event.Full node need most ∷ []) false book (Down (site_files.Closed closed) None)
             (still_there (event.TakeDoubt node tried kept ∷ event.Full node need most ∷ []) false full_part) (λ said. refl) refl
             (book_failed tried book (record { names = refl; live = refl; held = refl; greatest_is = refl })) still_down (omega (arith, tried_is))
             (answer.Full (told_of_failed tried kept) need most) refl (ap (λ (o : Option Takeover). answer.Full o need most) (sym (took_is w node tried kept (event.Full node need most ∷ []))))
@@ -161,9 +162,9 @@ module _ (accepted : SiteFilesAreAccepted) {D : Type 0} (m : Meaning D) (only_no
       rises = omega (arith, epoch_is)
 
       pub epoch_served : (live : Bool) → live ≡ unwrap_or (slice_get book.live.items node) false
-          → IsServedAs m cap w node now asked old (record { book = after; desk = Down closed None }) (event.TakeDoubt node epoch kept ∷ []) (answer.Journal (told_of_failed epoch kept) live)
+          → IsServedAs m cap w node now asked old (record { book = after; desk = Down (site_files.Closed closed) None }) (event.TakeDoubt node epoch kept ∷ []) (answer.Journal (told_of_failed epoch kept) live)
       epoch_served live is =
-          failures.put accepted m cap w asked kept old mid st read book node now what taking there can nodes (event.TakeDoubt node epoch kept) [] true after (Down closed None)
+          failures.put accepted m cap w asked kept old mid st read book node now what taking there can nodes (event.TakeDoubt node epoch kept) [] true after (Down (site_files.Closed closed) None)
           (trying.epoch_part accepted m only_now counts_now reads cap w kept old mid st read node now tried tried_is (input_of asked) (closed_disk closed) true run has (λ no. cc))
           (λ said. cc) refl (book_failed epoch after with_)
           (record { none = refl; holds = trying.all_epoch accepted m only_now counts_now reads cap w kept old mid st read node now tried tried_is (input_of asked) (closed_disk closed) run }) rises
@@ -174,7 +175,7 @@ module _ (accepted : SiteFilesAreAccepted) {D : Type 0} (m : Meaning D) (only_no
       -- ---- the epoch is there
 
       module _ (rest : IsAtRest m next (closed_disk closed)) where
-        down : IsDown m cap (failed_world epoch) closed None
+        down : IsDown m cap (failed_world epoch) (site_files.Closed closed) None
         down = record { none = refl; holds = trying.all_next accepted m only_now counts_now reads cap w kept old mid st read node now tried tried_is (input_of asked) (closed_disk closed) rest }
 
         first_part : Part m None w now (input_of asked) false (event.TakeDoubt node epoch kept ∷ []) mid (closed_disk closed)
@@ -191,9 +192,9 @@ module _ (accepted : SiteFilesAreAccepted) {D : Type 0} (m : Meaning D) (only_no
 
         -- the node isn't named
         pub unnamed_served : (name : List ℕ) → slice_get book.names.items node ≡ Some name → is_named s (nodes_on what) node ≡ false
-            → IsServedAs m cap w node now asked old (record { book = after; desk = Down closed None }) (event.TakeDoubt node epoch kept ∷ event.NoManager node ∷ []) (answer.NoManager (told_of_failed epoch kept) name)
+            → IsServedAs m cap w node now asked old (record { book = after; desk = Down (site_files.Closed closed) None }) (event.TakeDoubt node epoch kept ∷ event.NoManager node ∷ []) (answer.NoManager (told_of_failed epoch kept) name)
         unnamed_served name found unnamed =
-            failures.put accepted m cap w asked kept old mid st read book node now what taking there can nodes (event.TakeDoubt node epoch kept) (event.NoManager node ∷ []) false after (Down closed None)
+            failures.put accepted m cap w asked kept old mid st read book node now what taking there can nodes (event.TakeDoubt node epoch kept) (event.NoManager node ∷ []) false after (Down (site_files.Closed closed) None)
             (then_part (event.NoManager node) (refl, refl) tt (λ room. refl) tt) (λ said. refl) refl (book_failed epoch after with_) down rises
             (answer.NoManager (told_of_failed epoch kept) name) refl
             ((λ i. answer.NoManager (sym (took_is w node epoch kept (event.NoManager node ∷ [])) i) (failures.name_is accepted m cap w asked kept old mid st read book node now what taking there can nodes name found i)))
@@ -202,7 +203,7 @@ module _ (accepted : SiteFilesAreAccepted) {D : Type 0} (m : Meaning D) (only_no
         -- its record has no room
         pub full_served : (moment : ℕ) (need most : ℕ) → moment ≡ acting now s → is_named s (nodes_on what) node ≡ true
             → LacksThere (in_next st tried node) moment node (request.Took epoch (gone_in w s) (up_with w node s) (may_after s (nodes_on what))) need most
-            → IsServedAs m cap w node now asked old (record { book = after; desk = Down closed None }) (event.TakeDoubt node epoch kept ∷ event.Full node need most ∷ []) (answer.Full (told_of_failed epoch kept) need most)
+            → IsServedAs m cap w node now asked old (record { book = after; desk = Down (site_files.Closed closed) None }) (event.TakeDoubt node epoch kept ∷ event.Full node need most ∷ []) (answer.Full (told_of_failed epoch kept) need most)
         full_served moment need most moment_is named lacks =
             let rec : Record = request_record moment node (request.Took epoch (gone_in w s) (up_with w node s) (may_after s (nodes_on what))) in
             let fits = read.may.fits in
@@ -211,7 +212,7 @@ module _ (accepted : SiteFilesAreAccepted) {D : Type 0} (m : Meaning D) (only_no
             let whole : need ≡ record_need record_text (room_of next) rec = omega (arith, lacks.need_is, short, fits, small) in
             let is_rec : rec ≡ tried_takeover (failed_world epoch) node now (nodes_on (input_of asked)) =
             (λ i. request_record (moment_is i) node (request.Took epoch (gone_in w s) (up_with w node s) (may_after s (nodes_on (sym taking.asks.0 i))))) in
-            failures.put accepted m cap w asked kept old mid st read book node now what taking there can nodes (event.TakeDoubt node epoch kept) (event.Full node need most ∷ []) false after (Down closed None)
+            failures.put accepted m cap w asked kept old mid st read book node now what taking there can nodes (event.TakeDoubt node epoch kept) (event.Full node need most ∷ []) false after (Down (site_files.Closed closed) None)
             (then_part (event.Full node need most) (refl, refl) tt (λ room. refl)
             (subst (λ (b : Bool). LacksBehind record_text (Some (not b)) (failed_world epoch) (room_of next) node now (input_of asked) (event.Full node need most)) (sym (other_number epoch w.greatest (λ same. omega (arith, same, epoch_is))))
             (lacks_takeover (failed_world epoch) (room_of next) node now (input_of asked) (event.Full node need most) (failures.plain m cap w asked book node now what taking there can)

@@ -39,7 +39,7 @@ use Rattle.qm_chest.specs.Taking.{IsReadOf, IsTaking, told_of_failed}
 use Rattle.qm_chest.specs.Turns.{made_turn}
 use Rattle.qm_chest.specs.Whole.{IsServedAs}
 use Rattle.qm_chest.proofs.Holding.{SiteFilesAreAccepted, holds_some}
-use Rattle.qm_chest.proofs.Names.{name_there, node_within, outside_of}
+use Rattle.qm_chest.proofs.Names.{name_there, node_within, one_name, outside_of}
 use Rattle.qm_chest.proofs.Reading.{held_before}
 use Rattle.qm_chest.proofs.Trying.{read_first}
 use Rattle.qm_chest.proofs.Turning.{adds, cut_short, tells_room}
@@ -169,7 +169,7 @@ module _ (accepted : SiteFilesAreAccepted) {D : Type 0} (m : Meaning D) (cap : �
     name_is name is =
         let found = name_there node s.nodes book.names.items cluster_is there in
         let same : Some name ≡ Some found.0 = sym is ∙ found.1 in
-        let one : name ≡ found.0 = cc in
+        let one : name ≡ found.0 = one_name name found.0 same in
         one ∙ found.2
 
     between : HoldSome (m.seen mid)

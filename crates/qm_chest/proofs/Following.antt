@@ -46,7 +46,7 @@ use Rattle.qm_chest.proofs.Failures as failures
 use Rattle.qm_chest.proofs.Holding.{SiteFilesAreAccepted, holds_some}
 use Rattle.qm_chest.proofs.Joining.{joined}
 use Rattle.qm_chest.proofs.Kept.{NodesKeepTheirNames, book_step}
-use Rattle.qm_chest.proofs.Names.{name_there}
+use Rattle.qm_chest.proofs.Names.{name_there, one_name}
 use Rattle.qm_chest.proofs.Relived.{up_there}
 use Rattle.qm_chest.proofs.Whole.{desk_still}
 
@@ -127,7 +127,7 @@ module _ (accepted : SiteFilesAreAccepted) {D : Type 0} (m : Meaning D) (only_no
     managed on on_is name found =
         let named = name_there node (system_in w).nodes before.names.items taking.book.names there in
         let same : Some name ≡ Some named.0 = sym found ∙ named.1 in
-        let one : name ≡ named.0 = cc in
+        let one : name ≡ named.0 = one_name name named.0 same in
         let name_is : name ≡ node_at node (system_in w).nodes = one ∙ named.2 in
         failures.put_plain m cap w asked before node now what taking there can took [] false book old (Up taken.manager node) is.part (λ said. refl) refl is.book is.up (omega (arith, epoch_is))
         (answer.Done (Some (told_of taken)) taken.moment (plain (act.Managing name taken.epoch))) refl
@@ -194,7 +194,7 @@ module _ (accepted : SiteFilesAreAccepted) {D : Type 0} (m : Meaning D) (only_no
         let off : is_live v node ≡ false = not_live (are_numbers_spent (system_in v)) (is_live v node) (refusal_there None found) in
         let there_ = name_there node (system_in v).nodes book.names.items is.book.names (subst (λ (l : List (List ℕ)). node < length l) (sym same) there) in
         let both_ : Some name ≡ Some there_.0 = sym named ∙ there_.1 in
-        let one : name ≡ there_.0 = cc in
+        let one : name ≡ there_.0 = one_name name there_.0 both_ in
         then_served e (answer.Done (Some (told_of taken)) taken.moment (plain (act.NodeStarted name))) after (Up taken.manager node) (record { tells = refl; next = refl; image = refl; greatest = refl })
         (desk_still accepted m cap v only_now (Up taken.manager node) is.up now (input_of asked) e off (λ room. refl) (λ room. tt)) refl refl
         (ap (λ (n : List ℕ). answer.Done (Some (told_of taken)) taken.moment (plain (act.NodeStarted n))) (one ∙ there_.2))

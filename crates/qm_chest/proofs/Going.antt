@@ -9,11 +9,11 @@ use Rattle.qm_kinds.specs.declared.input.Input.TheVariants as input
 use Rattle.qm_kinds.specs.declared.reply.Act.TheVariants as act
 use Rattle.qm_model.specs.Acting.{acting}
 use Rattle.qm_model.specs.Standing.{node_at}
-use Rattle.qm_database.specs.Database.{disk_of as closed_disk}
 use Rattle.qm_database.specs.Recorded.{Recorded}
 use Rattle.qm_database.proofs.Moving.{left_at_rest}
-use Rattle.qm_database.specs.declared.closed.Closed.{Closed}
 use Rattle.qm_acting.specs.Standing.{standing_of, disk_of}
+use Rattle.qm_acting.specs.Files.{files_disk}
+use Rattle.qm_acting.specs.declared.files.Files.{Files}
 use Rattle.qm_acting.specs.declared.manager.Manager.{Manager}
 use Rattle.qm_history.specs.declared.call.Answer.TheVariants as answer
 use Rattle.qm_history.specs.declared.call.Call.{Call}
@@ -84,12 +84,12 @@ none_is_no_other node o is = ap (λ (x : Option Role). option_map_or (λ (role :
 
 module _ (accepted : SiteFilesAreAccepted) {D : Type 0} (m : Meaning D) (only_now : (disk : D) (crashed : CrashState) → m.left_since disk (m.moment disk) crashed → IsLeft (m.may_leave disk) crashed)
     (cap : ℕ) (w : World) (node now : ℕ) (there : node < length (system_in w).nodes) (live : is_live w node ≡ true) (state : State D) (at : IsStateAt m cap w state)
-    (closed : Closed D) (place : Option Place) (same : closed_disk closed ≡ state_disk state) (holds : AllHold m (MayHold cap w place) (closed_disk closed)) (alone : unless_of node w.manager ≡ None)
+    (files : Files D) (place : Option Place) (same : files_disk files ≡ state_disk state) (holds : AllHold m (MayHold cap w place) (files_disk files)) (alone : unless_of node w.manager ≡ None)
     (no_other : has_other_manager w node ≡ false) (book : Book) (names : book.names.items ≡ state.book.names.items) (lives : book.live.items ≡ slice_set state.book.live.items node false)
     (held : book.held.items ≡ state.book.held.items) (greatest : book.greatest ≡ state.book.greatest) (name : List ℕ) (named : name ≡ node_at node (system_in w).nodes)
   where
     abbrev new : State D
-    new = record { book = book; desk = Down closed place }
+    new = record { book = book; desk = Down files place }
 
     at_without : IsStateAt m cap (without w node) new
     at_without = record {
@@ -99,7 +99,7 @@ module _ (accepted : SiteFilesAreAccepted) {D : Type 0} (m : Meaning D) (only_no
         held = held ∙ at.book.held;
         greatest = greatest ∙ at.book.greatest;
       };
-      desk = record { none = alone; holds = all_stay m cap w node place (closed_disk closed) holds };
+      desk = record { none = alone; holds = all_stay m cap w node place (files_disk files) holds };
       small = at.small;
     }
 

@@ -1,6 +1,6 @@
 -- What a step leaves: of what is kept of the nodes, and whatever the disks tell.
 use Rattle.std.proofs.Common.{◌≡◌, ◌≢◌, ℕ, ◌<◌, Bool, true, false, List, length, map, refl, sym, ◌∙◌, ap, subst, arith, Option, None, Some, Ok}
-use Rattle.std.specs.Prelude.{IsSome}
+use Rattle.std.specs.Prelude.{IsSome, IsTrue}
 use Rattle.qm_disk.specs.Disk.{Meaning, TellsFaults}
 use Rattle.qm_kinds.specs.declared.request.Request.{Request}
 use Rattle.qm_kinds.specs.declared.system.System.{System}
@@ -8,6 +8,7 @@ use Rattle.qm_model.specs.Applied.{applied}
 use Rattle.qm_model.specs.Log.{request_record}
 use Rattle.qm_model.specs.Outcome.{Accepted}
 use Rattle.qm_record.specs.Spelling.{HasSpelling}
+use Rattle.qm_acting.specs.Spare.{KeepsSpare}
 use Rattle.qm_history.specs.declared.call.Answer.{Answer}
 use Rattle.qm_history.specs.declared.call.Answer.TheVariants as answer
 use Rattle.qm_history.specs.declared.call.Takeover.{Takeover}
@@ -64,7 +65,7 @@ book_step names w (event.CompactDoubt node) book step comes kept = cc
 -- a manager that can be asked, of the same nodes, on the same one
 pub desk_of : {D : Type 0} (m : Meaning D) (names : List (List ℕ)) (at : ℕ) (desk : Desk D) → at < length names → IsReadyDesk m desk → IsOfNodes names at desk → IsDeskOf m names desk
 desk_of m names at (Up manager node) below ready of = (ready, of.0, subst (λ (n : ℕ). n < length names) (sym of.1) below)
-desk_of m names at (Down closed place) below ready of = tt
+desk_of m names at (Down files place) below ready of = ready
 
 not_full : (told : Answer) → is_plain told ≡ true → told ≢ answer.HistoryFull
 not_full told plain is = let no : is_plain answer.HistoryFull ≡ true = subst (λ (a : Answer). is_plain a ≡ true) is plain in cc
@@ -92,7 +93,7 @@ going_some leaves (Some e) is = refl
 
 module _ {D : Type 0} (m : Meaning D) (old new : Book) (desk : Desk D) (came : Came D) (names : new.names.items ≡ old.names.items) (greatest : new.greatest ≡ old.greatest)
     (of : IsDeskOf m old.names.items came.desk) (faults : TellsFaults m (desk_disk desk) (desk_disk came.desk) (is_journal came.answer ≡ true))
-    (down : is_journal came.answer ≡ true → IsWithout came.desk) (told : IsToldStep None came.event came.answer)
+    (spare : IsTrue m.tells → KeepsSpare m (desk_disk desk) (desk_disk came.desk)) (down : is_journal came.answer ≡ true → IsWithout came.desk) (told : IsToldStep None came.event came.answer)
   where
     of_new : IsDeskOf m new.names.items came.desk
     of_new = subst (λ (l : List (List ℕ)). IsDeskOf m l came.desk) (sym names) of
@@ -104,6 +105,7 @@ module _ {D : Type 0} (m : Meaning D) (old new : Book) (desk : Desk D) (came : C
       names = names;
       rises = omega (arith, greatest);
       faults = faults;
+      spare = spare;
       down = down;
       told = told_alone came.event came.answer told;
       duties = shows_duties None came.event came.answer told;
@@ -116,6 +118,7 @@ module _ {D : Type 0} (m : Meaning D) (old new : Book) (desk : Desk D) (came : C
       names = names;
       rises = omega (arith, greatest);
       faults = faults;
+      spare = spare;
       down = down;
       told = told_behind first came.event came.answer some told;
       duties = shows_duties None came.event came.answer told;

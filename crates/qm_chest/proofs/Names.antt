@@ -1,5 +1,5 @@
 -- The names of the nodes, by their places.
-use Rattle.std.proofs.Common.{◌≡◌, ℕ, zero, suc, ◌<◌, List, [], ◌∷◌, length, map, refl, ap, subst, arith, Some}
+use Rattle.std.proofs.Common.{◌≡◌, ℕ, zero, suc, ◌<◌, List, [], ◌∷◌, length, map, refl, ap, subst, arith, Option, Some}
 use Rattle.std.specs.Prelude.{slice_get}
 use Rattle.qm_kinds.specs.declared.system.Node.{Node}
 use Rattle.qm_kinds.specs.declared.input.Input.{Input}
@@ -32,6 +32,10 @@ pub name_there : (place : ℕ) (nodes : List Node) (names : List (List ℕ)) →
 name_there place nodes names is there =
     let within : place < length nodes = omega (arith, there, ap length is, same_length nodes) in
     (node_at place nodes, subst (λ (l : List (List ℕ)). slice_get l place ≡ Some (node_at place nodes)) is (name_of place nodes within), refl)
+
+-- two names that stand in one place are one
+pub one_name : (x y : List ℕ) → ◌≡◌ {A = Option (List ℕ)} (Some x) (Some y) → x ≡ y
+one_name x y is = cc
 
 -- a place within the names of the cluster is one of its nodes
 pub node_within : (s : System) (names : List (List ℕ)) (place : ℕ) → cluster s ≡ names → place < length names → place < length s.nodes

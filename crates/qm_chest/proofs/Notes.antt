@@ -46,15 +46,15 @@ found_tells (Some d) (Some place) before log r found = refl
 module _ {D : Type 0} (m : Meaning D) (cap : ℕ) (w : World) where
   role_told : (desk : Desk D) → IsDeskAt m cap w desk → role_at desk ≡ w.manager
   role_told (Up manager node) up = ap (λ (epoch : ℕ). Some (record { node = node; epoch = epoch })) up.epoch ∙ sym up.role
-  role_told (Down closed place) down = sym down.none
+  role_told (Down files place) down = sym down.none
 
   image_told : (desk : Desk D) → IsDeskAt m cap w desk → image_at desk ≡ image_in w
   image_told (Up manager node) up = ap Some up.system ∙ sym (ap (option_map (λ (role : Role). system_in w)) up.role)
-  image_told (Down closed place) down = sym (ap (option_map (λ (role : Role). system_in w)) down.none)
+  image_told (Down files place) down = sym (ap (option_map (λ (role : Role). system_in w)) down.none)
 
   doubt_told : (desk : Desk D) → IsDeskAt m cap w desk → doubts_at desk ≡ is_some w.doubt
   doubt_told (Up manager node) up = sym (ap is_some up.sure)
-  doubt_told (Down closed place) down =
+  doubt_told (Down files place) down =
       let reads = down.holds.reads in found_tells w.doubt place w.log reads.is.log reads.recorded reads.is.found
 
   pub world_told : (chest : Chest D) (failed : ℕ) → IsStateAt m cap w chest.state → TellsWorld w (chest_told chest failed)
@@ -74,9 +74,9 @@ module _ {D : Type 0} (m : Meaning D) (cap : ℕ) (w : World) where
     desk_world (Up manager node) up =
         holds_world accepted cap w None (m.seen (desk_disk (Up manager node))) (standing_of manager).recorded up.at_rest.holds up.may
         (epoch_of_role w (standing_of manager).recorded.says.epoch w.manager (record { node = node; epoch = w.greatest }) up.role up.epoch)
-    desk_world (Down closed place) down =
+    desk_world (Down files place) down =
         let some = down.holds.reads in
-        holds_world accepted cap w place (m.seen (desk_disk (Down closed place))) some.recorded some.holds some.is (epoch_of_none w some.recorded.says.epoch w.manager down.none some.is.epoch)
+        holds_world accepted cap w place (m.seen (desk_disk (Down files place))) some.recorded some.holds some.is (epoch_of_none w some.recorded.says.epoch w.manager down.none some.is.epoch)
 
     pub desk_keeps : (desk : Desk D) → IsDeskAt m cap w desk → Keeps IsLog HasSpelling record_text m w (desk_disk desk)
     desk_keeps desk at = record { reads = desk_world desk at; crash = λ crashed left. desk_crash accepted m cap w desk at crashed left }

@@ -10,6 +10,8 @@ use Rattle.qm_database.specs.Opening.{in_next_epoch, next_need}
 use Rattle.qm_database.specs.Recorded.{Recorded, HoldsEither, IsAtRest}
 use Rattle.qm_database.specs.declared.closed.Closed.{Closed}
 use Rattle.qm_database.specs.declared.files.TheConstants.{MASTER_CAP}
+use Rattle.qm_acting.specs.Spare.{KeepsSpare}
+use Rattle.qm_acting.proofs.Spare.{keeps_at}
 use Rattle.qm_acting.specs.Standing.{Standing, IsReady, standing_of, disk_of}
 use Rattle.qm_acting.specs.Taking.{HoldsEpoch, in_next}
 use Rattle.qm_acting.specs.declared.manager.Manager.{Manager}
@@ -46,11 +48,11 @@ fault_told m before after P is tells = record { fault = λ told. tells.fault is;
 
 -- a takeover that failed leaves no manager
 pub failed_leaves : {D : Type 0} (m : Meaning D) (book after : Book) (disk : D) (greatest : ℕ) (closed : Closed D) (place : Option Place) (node tried : ℕ) (kept : Option Bool) (second : Option Event) (told : Answer) (s : Served D)
-    → after.names.items ≡ book.names.items → after.greatest ≤ greatest → TellsFaults m disk (closed_disk closed) (is_journal told ≡ true)
+    → after.names.items ≡ book.names.items → after.greatest ≤ greatest → TellsFaults m disk (closed_disk closed) (is_journal told ≡ true) → (IsTrue m.tells → KeepsSpare m disk (closed_disk closed))
     → IsToldBy (both (Some (event.TakeDoubt node tried kept)) second) told → ShowsDuties told → s ≡ failed closed place node tried kept second told → LeavesFrom m book disk greatest after s
-failed_leaves m book after disk greatest closed place node tried kept second told s names rises faults says duties is =
+failed_leaves m book after disk greatest closed place node tried kept second told s names rises faults spare says duties is =
     subst (λ (x : Served _). LeavesFrom m book disk greatest after x) (sym is)
-    (record { desk = tt; names = names; rises = rises; first = refl; faults = faults; down = λ journal. tt; told = says; duties = duties })
+    (record { desk = tt; names = names; rises = rises; first = refl; faults = faults; spare = spare; down = λ journal. tt; told = says; duties = duties })
 
 -- ---- what was opened
 
@@ -84,9 +86,9 @@ pub full_leaves : {D : Type 0} (m : Meaning D) (book : Book) (disk : D) (closed 
     → LeavesFrom m book disk (book.greatest + 1) book s
 full_leaves m book disk closed node kept need most s same le full short =
     ⊎_elim (λ below. failed_leaves m book book disk (book.greatest + 1) closed None node book.greatest kept (Some (event.Full node need most)) (answer.Full (told_of_failed book.greatest kept) need most) s
-    refl (omega arith) (same_faults m disk (closed_disk closed) same) ((λ is. cc), (λ h. refl)) tt (full below))
+    refl (omega arith) (same_faults m disk (closed_disk closed) same) (λ tells. keeps_at m disk (closed_disk closed) same) ((λ is. cc), (λ h. refl)) tt (full below))
     (λ at. failed_leaves m book book disk (book.greatest + 1) closed None node book.greatest kept None (answer.NoMemory (told_of_failed book.greatest kept)) s
-    refl (omega arith) (same_faults m disk (closed_disk closed) same) ((λ is. cc), (λ h. cc)) tt (short at))
+    refl (omega arith) (same_faults m disk (closed_disk closed) same) (λ tells. keeps_at m disk (closed_disk closed) same) ((λ is. cc), (λ h. cc)) tt (short at))
     (below_or_at need (2 ^ 64 - 1) le)
 
 module _ (accepted : SiteFilesAreAccepted) {D : Type 0} (m : Meaning D) (only_now : (disk : D) (crashed : CrashState) → m.left_since disk (m.moment disk) crashed → IsLeft (m.may_leave disk) crashed)

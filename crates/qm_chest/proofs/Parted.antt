@@ -1,12 +1,14 @@
 -- What a call does behind its takeover, by the parts into which the takeover was taken.
 use Rattle.std.proofs.Common.{◌≡◌, ◌≢◌, ℕ, ◌<◌, true, false, List, [], ◌∷◌, length, refl, sym, ◌∙◌, ap, subst, arith, Option, None, Some}
-use Rattle.std.specs.Prelude.{slice_get, slice_set, unwrap_or}
+use Rattle.std.specs.Prelude.{slice_get, slice_set, unwrap_or, IsTrue}
 use Rattle.qm_disk.specs.Disk.{CrashState, Meaning, IsLeft, TellsFaults}
 use Rattle.qm_kinds.specs.declared.input.Input.{Input}
 use Rattle.qm_kinds.specs.declared.input.Input.TheVariants as input
 use Rattle.qm_kinds.specs.declared.refusal.Refusal.{Refusal}
 use Rattle.qm_kinds.specs.declared.reply.Act.TheVariants as act
 use Rattle.qm_model.specs.Acting.{acting}
+use Rattle.qm_acting.specs.Spare.{KeepsSpare}
+use Rattle.qm_acting.proofs.Spare.{keeps_at}
 use Rattle.qm_acting.specs.Standing.{disk_of, standing_of}
 use Rattle.qm_acting.specs.declared.manager.Manager.{Manager}
 use Rattle.qm_history.specs.declared.call.Answer.{Answer}
@@ -54,6 +56,7 @@ up_leaves m book after disk manager node first second told s desk names greatest
       rises = omega (arith, greatest);
       first = refl;
       faults = record { fault = λ journal. let both_ : false ≡ true = sym quiet ∙ journal in cc; quiet = λ not. ap m.faults same };
+      spare = λ tells. keeps_at m disk (disk_of manager) same;
       down = λ journal. let both_ : false ≡ true = sym quiet ∙ journal in cc;
       told = says;
       duties = duties;
@@ -62,14 +65,15 @@ up_leaves m book after disk manager node first second told s desk names greatest
 -- a step of that manager
 pub step_leaves : {D : Type 0} (m : Meaning D) (book : Book) (disk : D) (first : Event) (took : Option Takeover) (came : Came D) (s : Served D) → IsDeskOf m book.names.items came.desk
     → (is_journal came.answer ≡ true → IsWithout came.desk) → IsToldStep took came.event came.answer → TellsFaults m disk (desk_disk came.desk) (is_journal came.answer ≡ true)
-    → s ≡ record { desk = came.desk; first = Some first; second = came.event; answer = came.answer } → LeavesFrom m book disk book.greatest book s
-step_leaves m book disk first took came s desk down step faults is =
+    → (IsTrue m.tells → KeepsSpare m disk (desk_disk came.desk)) → s ≡ record { desk = came.desk; first = Some first; second = came.event; answer = came.answer } → LeavesFrom m book disk book.greatest book s
+step_leaves m book disk first took came s desk down step faults spare is =
     subst (λ (x : Served _). LeavesFrom m book disk book.greatest book x) (sym is) (record {
       desk = desk;
       names = refl;
       rises = omega arith;
       first = refl;
       faults = faults;
+      spare = spare;
       down = down;
       told = told_behind first took came.event came.answer step;
       duties = shows_duties took came.event came.answer step;
@@ -110,10 +114,12 @@ module _ {D : Type 0} (m : Meaning D) (book : Book) (taken : Taken D) (node : �
         ((λ same. cc), (λ h. refl)) tt (is ∙ ap (λ (x : Came D). record { desk = x.desk; first = Some q.2; second = x.event; answer = x.answer }) came_is)
 
     pub own_leaves : (came : Came D) → IsDeskOf m book.names.items came.desk → (is_journal came.answer ≡ true → IsWithout came.desk) → IsToldStep (Some q.3) came.event came.answer
-        → TellsFaults m (disk_of q.0) (desk_disk came.desk) (is_journal came.answer ≡ true) → s ≡ record { desk = came.desk; first = Some q.2; second = came.event; answer = came.answer }
+        → TellsFaults m (disk_of q.0) (desk_disk came.desk) (is_journal came.answer ≡ true)
+        → (IsTrue m.tells → KeepsSpare m (disk_of q.0) (desk_disk came.desk)) → s ≡ record { desk = came.desk; first = Some q.2; second = came.event; answer = came.answer }
         → LeavesFrom m book (disk_of taken.manager) book.greatest book s
-    own_leaves came there down step faults is =
-        step_leaves m book (disk_of taken.manager) q.2 (Some q.3) came s there down step (subst (λ (d : D). TellsFaults m d (desk_disk came.desk) (is_journal came.answer ≡ true)) same_disk faults) is
+    own_leaves came there down step faults spare is =
+        step_leaves m book (disk_of taken.manager) q.2 (Some q.3) came s there down step (subst (λ (d : D). TellsFaults m d (desk_disk came.desk) (is_journal came.answer ≡ true)) same_disk faults)
+        (λ tells. subst (λ (d : D). KeepsSpare m d (desk_disk came.desk)) same_disk (spare tells)) is
 
 module _ (accepted : SiteFilesAreAccepted) (names : NodesKeepTheirNames) {D : Type 0} (m : Meaning D)
     (only_now : (disk : D) (crashed : CrashState) → m.left_since disk (m.moment disk) crashed → IsLeft (m.may_leave disk) crashed) (book : Book) (taken : Taken D) (node now : ℕ) (what : Input)

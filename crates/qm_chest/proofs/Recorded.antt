@@ -30,6 +30,7 @@ use Rattle.qm_restore.specs.QueueFile.{IsSiteFile}
 use Rattle.qm_acting.specs.Asking.{text_of}
 use Rattle.qm_acting.specs.Standing.{Standing, standing_of, disk_of}
 use Rattle.qm_acting.specs.Taking.{HoldsTaken}
+use Rattle.qm_acting.specs.declared.files.Files.TheVariants as site_files
 use Rattle.qm_acting.specs.declared.manager.Manager.{Manager}
 use Rattle.qm_history.specs.declared.call.Answer.TheVariants as answer
 use Rattle.qm_history.specs.declared.call.Call.{Call}
@@ -237,10 +238,10 @@ module _ (accepted : SiteFilesAreAccepted) (goes_on : SiteFilesGoOn) (names : No
           }
 
       pub doubt_served : (live : Bool) → live ≡ unwrap_or (slice_get book.live.items node) false
-          → IsServedAs m cap w node now asked old (record { book = after; desk = Down closed (Some place) })
+          → IsServedAs m cap w node now asked old (record { book = after; desk = Down (site_files.Closed closed) (Some place) })
           (event.TakeDoubt node epoch kept ∷ event.Doubt node moment asks ∷ []) (answer.Journal (told_of_failed epoch kept) live)
       doubt_served live is =
-          failures.put accepted m cap w asked kept old mid st read book node now what taking there can nodes (event.TakeDoubt node epoch kept) (event.Doubt node moment asks ∷ []) true after (Down closed (Some place))
+          failures.put accepted m cap w asked kept old mid st read book node now what taking there can nodes (event.TakeDoubt node epoch kept) (event.Doubt node moment asks ∷ []) true after (Down (site_files.Closed closed) (Some place))
           doubt_part (λ said. cc) refl
           (record {
             names = failures.cluster_is accepted m cap w asked kept old mid st read book node now what taking there can nodes ∙ sym with_.names;

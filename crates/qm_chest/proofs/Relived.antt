@@ -58,7 +58,7 @@ module _ {D : Type 0} (m : Meaning D) (cap : ℕ) (w : World) (live : List Bool)
     may = may_back None _ up.may;
     epoch = up.epoch;
   }
-  desk_back (Down closed place) down = record { none = down.none; holds = all_back place _ down.holds }
+  desk_back (Down files place) down = record { none = down.none; holds = all_back place _ down.holds }
 
   pub short_back : (took : Option Takeover) (old : D) (came : Came D) → IsShort m cap (relive w live) took old came → IsShort m cap w took old came
   short_back took old came short = record { same = short.same; desk = desk_back came.desk short.desk; told = short.told }

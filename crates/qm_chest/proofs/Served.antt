@@ -1,5 +1,5 @@
 -- A call that is served: where it leaves the chest as it was, and where a turn more is kept.
-use Rattle.std.proofs.Common.{◌≡◌, ◌≢◌, ℕ, ◌+◌, ◌^◌, ◌<◌, ◌≤◌, Bool, true, false, IsTrue, List, [], ◌∷◌, ◌++◌, length, inr, ⊎_elim, refl, sym, ◌∙◌, ap, subst, arith, Option, None, Some}
+use Rattle.std.proofs.Common.{◌≡◌, ℕ, ◌+◌, ◌^◌, ◌<◌, ◌≤◌, true, false, IsTrue, List, [], ◌∷◌, ◌++◌, length, inr, ⊎_elim, refl, sym, ◌∙◌, ap, subst, arith, Option, None, Some}
 use Rattle.std.specs.Prelude.{option_to_list}
 use Rattle.std.proofs.lemmas.List.{append-nil, length-append}
 use Rattle.qm_disk.specs.Disk.{CrashState, Meaning, IsLeft, TellsFaults}
@@ -14,7 +14,7 @@ use Rattle.qm_history.specs.declared.turn.Turn.{Turn}
 use Rattle.qm_history.specs.declared.world.World.{World}
 use Rattle.qm_history.specs.Answering.{MayAnswer}
 use Rattle.qm_history.specs.Calls.{input_of, why_of}
-use Rattle.qm_history.specs.Chest.{Adds, AddsNone, IsMadeFor, LeavesTurn, MayLeaveNone, TellsRoom, turns_kept}
+use Rattle.qm_history.specs.Chest.{Adds, AddsNone, IsMadeFor, LeavesTurn, MayLeaveNone, turns_kept}
 use Rattle.qm_history.specs.Contents.{HoldWorld}
 use Rattle.qm_history.specs.Faults.{is_journal}
 use Rattle.qm_history.specs.Step.{CanAllCome, after_events}
@@ -23,7 +23,7 @@ use Rattle.qm_chest.specs.declared.chest.Chest.{Chest}
 use Rattle.qm_chest.specs.declared.chest.State.{State}
 use Rattle.qm_chest.specs.declared.wanted.Outcome.{Outcome}
 use Rattle.qm_chest.specs.declared.wanted.Wanted.{Wanted}
-use Rattle.qm_chest.specs.At.{CanBeAskedFor, IsAt, IsDeskOf, IsServing, IsStateAt, IsSteady, IsWithout, LeavesOne, Serves, TellsDisk, behind, chest_disk, chest_names, state_disk}
+use Rattle.qm_chest.specs.At.{CanBeAskedFor, IsAt, IsServing, IsStateAt, IsSteady, LeavesOne, Serves, TellsDisk, behind, chest_disk, chest_names, state_disk}
 use Rattle.qm_chest.specs.Duties.{ShowsDuties}
 use Rattle.qm_chest.specs.Serving.{CanServe, Serving, maker_of, turn_made, wanted_by}
 use Rattle.qm_chest.specs.Whole.{IsServedAs, IsToldBy, both, turn_left}

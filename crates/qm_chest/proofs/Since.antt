@@ -50,10 +50,10 @@ module _ (accepted : SiteFilesAreAccepted) {D : Type 0} (m : Meaning D) (cap : �
       let r = (standing_of manager).recorded in
       let found = accepted r.bodies _ up.may.site in
       record { says = r.says; records = found.0; holds = held_records (m.seen (desk_disk (Up manager node))) r found.0 up.at_rest.holds found.1 found.2; capped = up.may.cap_is }
-  desk_capped (Down closed place) down =
+  desk_capped (Down files place) down =
       let some = down.holds.reads in
       let found = accepted some.recorded.bodies _ some.is.site in
-      record { says = some.recorded.says; records = found.0; holds = held_records (m.seen (desk_disk (Down closed place))) some.recorded found.0 some.holds found.1 found.2; capped = some.is.cap_is }
+      record { says = some.recorded.says; records = found.0; holds = held_records (m.seen (desk_disk (Down files place))) some.recorded found.0 some.holds found.1 found.2; capped = some.is.cap_is }
 
 -- files have one cap
 cap_once : (files : CrashState) (says said : MasterState) (records others : List Record) (h : HoldRecords IsLog HasSpelling record_text files says records)
@@ -280,7 +280,7 @@ module _ (accepted : SiteFilesAreAccepted) (full : FilesAreFull) {D : Type 0} (m
         where
           none_up : (desk : Desk D) → IsWithout desk → IsNone (role_at desk)
           none_up (Up manager node) without = absurd without
-          none_up (Down closed place) without = refl
+          none_up (Down files place) without = refl
 
 -- ---- no call so far
 

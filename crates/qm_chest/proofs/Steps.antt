@@ -26,6 +26,7 @@ use Rattle.qm_master.specs.declared.state.TheConstants.{GREATEST_QUEUE_CAP}
 use Rattle.qm_restore.specs.QueueFile.{IsSiteFile}
 use Rattle.qm_acting.specs.Asking.{Does, IsInDoubt, Lacks, text_of}
 use Rattle.qm_acting.specs.Standing.{Standing, standing_of, disk_of}
+use Rattle.qm_acting.specs.declared.files.Files.TheVariants as site_files
 use Rattle.qm_acting.specs.declared.manager.Manager.{Manager}
 use Rattle.qm_history.specs.declared.call.Answer.TheVariants as answer
 use Rattle.qm_history.specs.declared.call.Takeover.{Takeover}
@@ -138,7 +139,7 @@ module _ (accepted : SiteFilesAreAccepted) (goes_on : SiteFilesGoOn) {D : Type 0
         pub doubt_step : (closed : Closed D) → CanBeInDoubt HasSpelling w node moment request
             → LeavesOnly m disk (closed_disk closed) (HoldsEither (m.may_leave disk) r.says.live r (with_body r (record_text rec)))
             → Part m None w reading asked true (event.Doubt node moment request ∷ []) disk (closed_disk closed)
-            × IsDown m cap (after_event w (event.Doubt node moment request)) closed (Some (record { file = r.says.live; before = length r.bodies }))
+            × IsDown m cap (after_event w (event.Doubt node moment request)) (site_files.Closed closed) (Some (record { file = r.says.live; before = length r.bodies }))
         doubt_step closed can run = (
           doubt_part accepted m cap w node moment request r up.sure up.may (grown follows) within reading asked own disk (closed_disk closed) up.at_rest.holds small managed follows run room can,
           record {
@@ -198,7 +199,7 @@ module _ (accepted : SiteFilesAreAccepted) (goes_on : SiteFilesGoOn) {D : Type 0
         doubt_there : (live : Bool) (live_is : is_live w node ≡ live) → IsToManager request → (closed : Closed D) → IsInDoubt (standing_of manager) at_moment node request
             → LeavesOnly m disk (closed_disk closed) (HoldsEither (m.may_leave disk) r.says.live r (with_body r (text_of at_moment node request)))
             → ComesTo m cap w node reading acted asked request took disk
-            (record { desk = Down closed (Some (record { file = r.says.live; before = length r.bodies })); event = Some (event.Doubt node at_moment request); answer = answer.Journal took live })
+            (record { desk = Down (site_files.Closed closed) (Some (record { file = r.says.live; before = length r.bodies })); event = Some (event.Doubt node at_moment request); answer = answer.Journal took live })
             (Some (event.Doubt node at_moment request))
         doubt_there live live_is plain closed doubt run =
             let follows = in_world (λ (s : System). CanFollow HasSpelling s at_moment node request) doubt.follows in
@@ -210,17 +211,17 @@ module _ (accepted : SiteFilesAreAccepted) (goes_on : SiteFilesGoOn) {D : Type 0
         pub doubt_comes : (live : Bool) (live_is : is_live w node ≡ live) → IsToManager request → (closed : Closed D) (file before : ℕ) → file ≡ r.says.live → before ≡ length r.bodies → IsInDoubt (standing_of manager) mo node request
             → LeavesOnly m disk (closed_disk closed) (HoldsEither (m.may_leave disk) r.says.live r (with_body r (text_of mo node request)))
             → ComesTo m cap w node reading acted asked request took disk
-            (record { desk = Down closed (Some (record { file = file; before = before })); event = Some (event.Doubt node mo request); answer = answer.Journal took live })
+            (record { desk = Down (site_files.Closed closed) (Some (record { file = file; before = before })); event = Some (event.Doubt node mo request); answer = answer.Journal took live })
             (Some (event.Doubt node mo request))
         doubt_comes live live_is plain closed file before file_is before_is doubt run =
             subst (λ (f : ℕ). ComesTo m cap w node reading acted asked request took disk
-            (record { desk = Down closed (Some (record { file = f; before = before })); event = Some (event.Doubt node mo request); answer = answer.Journal took live }) (Some (event.Doubt node mo request))) (sym file_is)
+            (record { desk = Down (site_files.Closed closed) (Some (record { file = f; before = before })); event = Some (event.Doubt node mo request); answer = answer.Journal took live }) (Some (event.Doubt node mo request))) (sym file_is)
             (subst (λ (n : ℕ). ComesTo m cap w node reading acted asked request took disk
-            (record { desk = Down closed (Some (record { file = r.says.live; before = n })); event = Some (event.Doubt node mo request); answer = answer.Journal took live }) (Some (event.Doubt node mo request))) (sym before_is)
+            (record { desk = Down (site_files.Closed closed) (Some (record { file = r.says.live; before = n })); event = Some (event.Doubt node mo request); answer = answer.Journal took live }) (Some (event.Doubt node mo request))) (sym before_is)
             (subst (λ (x : ℕ). IsInDoubt (standing_of manager) x node request
             → LeavesOnly m disk (closed_disk closed) (HoldsEither (m.may_leave disk) r.says.live r (with_body r (text_of x node request)))
             → ComesTo m cap w node reading acted asked request took disk
-            (record { desk = Down closed (Some (record { file = r.says.live; before = length r.bodies })); event = Some (event.Doubt node x request); answer = answer.Journal took live })
+            (record { desk = Down (site_files.Closed closed) (Some (record { file = r.says.live; before = length r.bodies })); event = Some (event.Doubt node x request); answer = answer.Journal took live })
             (Some (event.Doubt node x request)))
             (sym at_is) (λ doubt run. doubt_there live live_is plain closed doubt run) doubt run))
 

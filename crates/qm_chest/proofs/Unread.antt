@@ -1,6 +1,6 @@
 -- Files that couldn't be read before a takeover, or may not be: what the call leaves.
 use Rattle.std.proofs.Common.{◌≡◌, inl, ℕ, ◌+◌, ◌^◌, ◌<◌, ◌≤◌, Bool, true, false, List, [], ◌∷◌, length, refl, sym, ◌∙◌, ap, subst, arith, Option, None}
-use Rattle.std.specs.Prelude.{slice_get, unwrap_or}
+use Rattle.std.specs.Prelude.{slice_get, unwrap_or, IsTrue}
 use Rattle.qm_disk.specs.Disk.{Meaning, IsLeft, OnlyLooks, TellsFaults}
 use Rattle.qm_disk.proofs.Moments.{weaker}
 use Rattle.qm_glog.specs.Records.{IsLog}
@@ -14,6 +14,8 @@ use Rattle.qm_database.specs.Recorded.{Recorded, Holds, epoch_behind}
 use Rattle.qm_database.specs.declared.closed.Closed.{Closed}
 use Rattle.qm_database.proofs.Contents.{one_content}
 use Rattle.qm_database.proofs.Moving.{live_within}
+use Rattle.qm_acting.specs.Spare.{KeepsSpare}
+use Rattle.qm_acting.specs.declared.files.Files.TheVariants as site_files
 use Rattle.qm_history.specs.declared.call.Answer.TheVariants as answer
 use Rattle.qm_history.specs.declared.call.Call.{Call}
 use Rattle.qm_history.specs.declared.event.Event.{Event}
@@ -62,10 +64,10 @@ unread_duties live (opening.Damaged file place) = tt
 unread_duties live opening.NoMemory = tt
 
 pub unread_leaves : {D : Type 0} (m : Meaning D) (book : Book) (disk : D) (closed : Closed D) (place : Option Place) (node : ℕ) (live : Bool) (fault : OpenFault) (s : Served D)
-    → TellsFaults m disk (closed_disk closed) (fault ≡ opening.Disk) → s ≡ failed closed place node book.greatest None None (unread_answer live fault) → LeavesFrom m book disk (book.greatest + 1) book s
-unread_leaves m book disk closed place node live fault s tells is =
+    → TellsFaults m disk (closed_disk closed) (fault ≡ opening.Disk) → (IsTrue m.tells → KeepsSpare m disk (closed_disk closed)) → s ≡ failed closed place node book.greatest None None (unread_answer live fault) → LeavesFrom m book disk (book.greatest + 1) book s
+unread_leaves m book disk closed place node live fault s tells spare is =
     failed_leaves m book book disk (book.greatest + 1) closed place node book.greatest None None (unread_answer live fault) s refl (omega arith) (unread_faults m disk (closed_disk closed) live fault tells)
-    (unread_told node book.greatest live fault) (unread_duties live fault) is
+    spare (unread_told node book.greatest live fault) (unread_duties live fault) is
 
 -- a disk that didn't fail, at a file that isn't taken
 pub damaged_faults : {D : Type 0} (m : Meaning D) (before after : D) (file place : ℕ) → m.faults after ≡ m.faults before → TellsFaults m before after (opening.Damaged file place ≡ opening.Disk)
@@ -101,7 +103,7 @@ module _ (accepted : SiteFilesAreAccepted) {D : Type 0} (m : Meaning D) (cap : �
         let low = may.epoch in
         record { log = may.log; found = may.found; site = may.site; cap_is = may.cap_is; fits = may.fits; epoch = omega (arith, low, tried_is); recorded = may.recorded }
 
-    down : IsDown m cap v closed place
+    down : IsDown m cap v (site_files.Closed closed) place
     down = record {
       none = refl;
       holds = record {
@@ -132,12 +134,12 @@ module _ (accepted : SiteFilesAreAccepted) {D : Type 0} (m : Meaning D) (cap : �
         → IsServedAs m cap w node now asked old (record { book = book; desk = s.desk }) (both s.first s.second) s.answer
     unread_served opening.Disk live s live_is undamaged formatted is =
         served_as m cap w node now asked old book s (failed closed place node book.greatest None None (answer.Journal None live)) is
-        (failures.put_plain m cap w asked book node now what taking there can e [] true book old (Down closed place) part (λ said. cc) refl book_still down rises (answer.Journal None live) refl
+        (failures.put_plain m cap w asked book node now what taking there can e [] true book old (Down (site_files.Closed closed) place) part (λ said. cc) refl book_still down rises (answer.Journal None live) refl
         (ap (λ (b : Bool). answer.Journal None b) (live_is ∙ ap (λ (l : List Bool). unwrap_or (slice_get l node) false) taking.book.live))
         (failures.served m cap w asked book node now what taking there can (e ∷ []) (refl, λ later. absurd (omega (arith, later, tried_is)))))
     unread_served opening.NoMemory live s live_is undamaged formatted is =
         served_as m cap w node now asked old book s (failed closed place node book.greatest None None (answer.NoMemory None)) is
-        (failures.put_alone m cap w asked book node now what taking there can e [] true book old (Down closed place) part (λ said. cc) refl book_still down rises None refl refl
+        (failures.put_alone m cap w asked book node now what taking there can e [] true book old (Down (site_files.Closed closed) place) part (λ said. cc) refl book_still down rises None refl refl
         (failures.alone m cap w asked book node now what taking there can (e ∷ []) (refl, λ later. absurd (omega (arith, later, tried_is)))))
     unread_served (opening.Damaged file at) live s live_is undamaged formatted is = absurd (undamaged file at refl)
     unread_served (opening.Unformatted byte) live s live_is undamaged formatted is = absurd (formatted byte refl)

@@ -9,9 +9,10 @@ use Rattle.qm_kinds.specs.declared.refusal.Refusal.{Refusal}
 use Rattle.qm_kinds.specs.declared.refusal.Refusal.TheVariants as refused
 use Rattle.qm_kinds.specs.declared.refusal.ParseKind.{ParseKind}
 use Rattle.qm_acting.specs.Standing.{disk_of}
+use Rattle.qm_acting.specs.Files.{files_disk, AreSound}
+use Rattle.qm_acting.proofs.Spare.{keeps_at, keeps_same}
+use Rattle.qm_acting.specs.declared.files.Files.{Files}
 use Rattle.qm_acting.specs.declared.manager.Manager.{Manager}
-use Rattle.qm_database.specs.Database.{disk_of as closed_disk}
-use Rattle.qm_database.specs.declared.closed.Closed.{Closed}
 use Rattle.qm_history.specs.declared.call.Answer.TheVariants as answer
 use Rattle.qm_history.specs.declared.call.Call.{Call}
 use Rattle.qm_history.specs.declared.event.Event.{Event}
@@ -37,7 +38,7 @@ use Rattle.qm_chest.specs.Whole.{AsksAlone, IsServedAs, IsToldBy, Leaves, both, 
 use Rattle.qm_chest.proofs.Going.{gone, none_is_no_other, no_role, own_is_no_other, own_role, up_holds}
 use Rattle.qm_chest.proofs.Holding.{SiteFilesAreAccepted}
 use Rattle.qm_chest.proofs.Kept.{NodesKeepTheirNames, book_step}
-use Rattle.qm_chest.proofs.Names.{name_there, node_within}
+use Rattle.qm_chest.proofs.Names.{name_there, node_within, one_name}
 use Rattle.qm_chest.proofs.Whole.{node_down, not_read, short_served, step_served, step_simple}
 
 -- ---- which way
@@ -45,7 +46,7 @@ use Rattle.qm_chest.proofs.Whole.{node_down, not_read, short_served, step_served
 module _ {D : Type 0} (m : Meaning D) (cap : ℕ) (w : World) where
   without_is : (desk : Desk D) → IsDeskAt m cap w desk → is_without desk ≡ is_none w.manager
   without_is (Up manager at) up = sym (ap is_none up.role)
-  without_is (Down closed place) down = sym (ap is_none down.none)
+  without_is (Down files place) down = sym (ap is_none down.none)
 
   -- a takeover comes first where the world says so
   pub due_is : (desk : Desk D) → IsDeskAt m cap w desk → (what : Input) → is_due desk what ≡ takes_over w what
@@ -93,6 +94,7 @@ module _ {D : Type 0} (m : Meaning D) (book : Book) (desk : Desk D) (of : IsDesk
     names = refl;
     rises = omega arith;
     faults = record { fault = λ told. cc; quiet = λ none. refl };
+    spare = λ tells. keeps_same m (desk_disk desk);
     down = λ told. cc;
     told = (λ full. cc, λ hides. refl);
     duties = tt;
@@ -118,20 +120,18 @@ module _ (accepted : SiteFilesAreAccepted) {D : Type 0} (m : Meaning D) (only_no
 
 -- ---- a node that goes alone
 
-some_same : (x y : List ℕ) → ◌≡◌ {A = Option (List ℕ)} (Some x) (Some y) → x ≡ y
-some_same x y is = cc
-
 live_of : (b : Bool) → (not b && true) ≡ false → b ≡ true
 live_of true h = refl
 live_of false h = cc
 
 module _ {D : Type 0} (m : Meaning D) (old new : Book) (desk : Desk D) (names : new.names.items ≡ old.names.items) (greatest : new.greatest ≡ old.greatest) where
-  pub alone_goes : (closed : Closed D) (place : Option Place) (node now : ℕ) (leaves : Bool) (name : List ℕ) → closed_disk closed ≡ desk_disk desk → Leaves m old desk new (goes_alone (Down closed place) node now leaves name)
-  alone_goes closed place node now leaves name same = record {
-    desk = tt;
+  pub alone_goes : (files : Files D) (place : Option Place) (node now : ℕ) (leaves : Bool) (name : List ℕ) → AreSound m files → files_disk files ≡ desk_disk desk → Leaves m old desk new (goes_alone (Down files place) node now leaves name)
+  alone_goes files place node now leaves name sound same = record {
+    desk = sound;
     names = names;
     rises = omega (arith, greatest);
     faults = record { fault = λ told. cc; quiet = λ none. ap m.faults same };
+    spare = λ tells. keeps_at m (desk_disk desk) (files_disk files) same;
     down = λ told. cc;
     told = told_by leaves;
     duties = tt;
@@ -144,7 +144,7 @@ module _ {D : Type 0} (m : Meaning D) (old new : Book) (desk : Desk D) (names : 
 module _ (accepted : SiteFilesAreAccepted) {D : Type 0} (m : Meaning D) (only_now : (disk : D) (crashed : CrashState) → m.left_since disk (m.moment disk) crashed → IsLeft (m.may_leave disk) crashed)
     (cap : ℕ) (w : World) (book after : Book) (desk : Desk D) (state : IsStateAt m cap w (record { book = book; desk = desk })) (node now : ℕ) (there : node < length book.names.items)
     (same : after.names.items ≡ book.names.items) (lives : after.live.items ≡ slice_set book.live.items node false) (held : after.held.items ≡ book.held.items) (greatest : after.greatest ≡ book.greatest)
-    (leaves : Bool) (asked : Call) (asks : AsksAlone node input.StopNode leaves w asked) (closed : Closed D) (disk_is : closed_disk closed ≡ desk_disk desk)
+    (leaves : Bool) (asked : Call) (asks : AsksAlone node input.StopNode leaves w asked) (files : Files D) (disk_is : files_disk files ≡ desk_disk desk)
     (name : List ℕ) (named : slice_get book.names.items node ≡ Some name)
   where
     node_within_w : node < length (system_in w).nodes
@@ -157,21 +157,21 @@ module _ (accepted : SiteFilesAreAccepted) {D : Type 0} (m : Meaning D) (only_no
     name_is =
         let found = name_there node (system_in w).nodes book.names.items state.book.names there in
         let one : ◌≡◌ {A = Option (List ℕ)} (Some name) (Some found.0) = sym named ∙ found.1 in
-        some_same name found.0 one ∙ found.2
+        one_name name found.0 one ∙ found.2
 
     abbrev Goes : Option Place → Type 0
-    Goes place = IsServedAs m cap w node now asked (desk_disk desk) (record { book = after; desk = Down closed place }) (both (Some (goes_by node leaves)) None) (answer.Done None now (plain (act.NodeStopped name)))
+    Goes place = IsServedAs m cap w node now asked (desk_disk desk) (record { book = after; desk = Down files place }) (both (Some (goes_by node leaves)) None) (answer.Done None now (plain (act.NodeStopped name)))
 
     -- the manager's own node
     pub gone_up : (manager : Manager D) (at : ℕ) → IsUp m cap w manager at → disk_of manager ≡ desk_disk desk → at ≡ node → Goes None
     gone_up manager at up disk_of_is own =
         let role : w.manager ≡ Some (record { node = node; epoch = w.greatest }) = subst (λ (n : ℕ). w.manager ≡ Some (record { node = n; epoch = w.greatest })) own up.role in
-        gone accepted m only_now cap w node now node_within_w live (record { book = book; desk = desk }) state closed None disk_is
+        gone accepted m only_now cap w node now node_within_w live (record { book = book; desk = desk }) state files None disk_is
         (subst (AllHold m (MayHold cap w None)) (disk_of_is ∙ sym disk_is) (up_holds m cap w manager at up))
         (own_role node w.greatest w.manager role) (own_is_no_other node w.greatest w.manager role) after same lives held greatest name name_is leaves asked asks.0 asks.1
 
     -- no manager is up
-    pub gone_down : (place : Option Place) → IsDown m cap w closed place → Goes place
+    pub gone_down : (place : Option Place) → IsDown m cap w files place → Goes place
     gone_down place down =
-        gone accepted m only_now cap w node now node_within_w live (record { book = book; desk = desk }) state closed place disk_is down.holds
+        gone accepted m only_now cap w node now node_within_w live (record { book = book; desk = desk }) state files place disk_is down.holds
         (no_role node w.manager down.none) (none_is_no_other node w.manager down.none) after same lives held greatest name name_is leaves asked asks.0 asks.1

@@ -55,13 +55,13 @@ use Rattle.qm_database.proofs.Moving.{left_at_rest}
 module _ (accepted : SiteFilesAreAccepted) {D : Type 0} (m : Meaning D) (cap : ℕ) (w : World) where
   pub desk_reads : (desk : Desk D) → IsDeskAt m cap w desk → (r : Recorded) × Holds (m.seen (desk_disk desk)) r
   desk_reads (Up manager node) up = ((standing_of manager).recorded, up.at_rest.holds)
-  desk_reads (Down closed place) down = (down.holds.reads.recorded, down.holds.reads.holds)
+  desk_reads (Down files place) down = (down.holds.reads.recorded, down.holds.reads.holds)
 
   pub desk_crash : (desk : Desk D) → IsDeskAt m cap w desk → (crashed : CrashState) → IsLeft (m.may_leave (desk_disk desk)) crashed → HoldWorld IsLog HasSpelling record_text crashed w
   desk_crash (Up manager node) up crashed left =
       holds_world accepted cap w None crashed (standing_of manager).recorded (left_at_rest m (standing_of manager).recorded (desk_disk (Up manager node)) up.at_rest crashed left) up.may
       (epoch_of_role w (standing_of manager).recorded.says.epoch w.manager (record { node = node; epoch = w.greatest }) up.role up.epoch)
-  desk_crash (Down closed place) down crashed left =
+  desk_crash (Down files place) down crashed left =
       let some = down.holds.crash crashed left in
       holds_world accepted cap w place crashed some.recorded some.holds some.is (epoch_of_none w some.recorded.says.epoch w.manager down.none some.is.epoch)
 

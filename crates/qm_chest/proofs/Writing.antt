@@ -17,6 +17,7 @@ use Rattle.qm_database.specs.Recorded.{Recorded, IsAtRest, epoch_behind, with_bo
 use Rattle.qm_database.specs.declared.closed.Closed.{Closed}
 use Rattle.qm_database.specs.declared.files.TheConstants.{MASTER_CAP}
 use Rattle.qm_acting.specs.Asking.{IsInDoubt, Lacks, need_with, text_of}
+use Rattle.qm_acting.specs.Spare.{KeepsSpare}
 use Rattle.qm_acting.specs.Standing.{Standing, standing_of, disk_of}
 use Rattle.qm_acting.specs.Taking.{HoldsEpoch, HoldsTaken, Takes, in_next}
 use Rattle.qm_acting.specs.declared.manager.Manager.{Manager}
@@ -159,8 +160,8 @@ module _ (accepted : SiteFilesAreAccepted) (goes_on : SiteFilesGoOn) (names : No
 -- whatever the disks tell, a manager of the same nodes is up behind it
 pub took_leaves : NodesKeepTheirNames → {D : Type 0} (m : Meaning D) (book after : Book) (disk : D) (node moment : ℕ) (asks : Request) (st : Standing) (manager : Manager D) (reply : Reply) (taken : Taken D)
     → cluster st.system ≡ book.names.items → node < length book.names.items → Takes m book.greatest moment node asks st manager reply → after.names.items ≡ book.names.items → after.greatest ≤ book.greatest + 1
-    → IsQuiet m disk (disk_of manager) → taken.manager ≡ manager → TakesFrom m book disk node after taken
-took_leaves names m book after disk node moment asks st manager reply taken nodes there takes after_names rises quiet is = record {
+    → IsQuiet m disk (disk_of manager) → (IsTrue m.tells → KeepsSpare m disk (disk_of manager)) → taken.manager ≡ manager → TakesFrom m book disk node after taken
+took_leaves names m book after disk node moment asks st manager reply taken nodes there takes after_names rises quiet spare is = record {
   desk = subst (λ (x : Manager _). IsDeskOf m after.names.items (Up x node)) (sym is) (
     takes.ready,
     names st.system moment node asks (record { system = (standing_of manager).system; reply = reply }) takes.does.accepted ∙ nodes ∙ sym after_names,
@@ -169,4 +170,5 @@ took_leaves names m book after disk node moment asks st manager reply taken node
   names = after_names;
   rises = rises;
   quiet = subst (λ (x : Manager _). IsQuiet m disk (disk_of x)) (sym is) quiet;
+  spare = λ tells. subst (λ (x : Manager _). KeepsSpare m disk (disk_of x)) (sym is) (spare tells);
 }

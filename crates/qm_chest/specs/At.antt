@@ -1,22 +1,20 @@
 -- The chest at a world, and what a call does to it.
 -- OpenVMS System Manager's Manual, Managing the Queue Manager and Queue Database, on the queue manager process and its files.
 -- This site's own: turns, epochs, and the record in doubt.
-use Rattle.std.specs.Prelude.{◌≡◌, ◌⊎◌, ℕ, ◌+◌, ◌^◌, ◌<◌, ◌≤◌, false, IsTrue, IsOk, List, ◌++◌, length, map, option_to_list, Option, None, Some}
+use Rattle.std.specs.Prelude.{◌≡◌, ℕ, ◌+◌, ◌^◌, ◌<◌, ◌≤◌, false, IsTrue, IsOk, List, ◌++◌, length, map, option_to_list, Option, None, Some}
 use Rattle.qm_disk.specs.Disk.{Meaning}
 use Rattle.qm_glog.specs.Records.{IsLog}
 use Rattle.qm_kinds.specs.declared.input.Input.{Input}
 use Rattle.qm_kinds.specs.declared.input.Input.TheVariants as input
-use Rattle.qm_kinds.specs.declared.query.Listing.TheVariants.{Manager, Cancel}
-use Rattle.qm_kinds.specs.declared.query.Query.{Query}
 use Rattle.qm_kinds.specs.declared.moment.TheConstants.{LAST_MOMENT}
 use Rattle.qm_kinds.specs.declared.request.Request.{Request}
 use Rattle.qm_kinds.specs.declared.system.System.{System}
 use Rattle.qm_master.specs.declared.state.TheConstants.{GREATEST_QUEUE_CAP}
 use Rattle.qm_model.specs.Applied.{applied}
 use Rattle.qm_model.specs.Lawful.{IsLawful}
-use Rattle.qm_model.specs.Listing.{IsOfOneEntry}
 use Rattle.qm_model.specs.Log.{request_record}
 use Rattle.qm_record.specs.Spelling.{HasSpelling, record_text}
+use Rattle.qm_acting.specs.Files.{AreSound}
 use Rattle.qm_acting.specs.Standing.{standing_of, IsReady}
 use Rattle.qm_history.specs.declared.call.Answer.{Answer}
 use Rattle.qm_history.specs.declared.call.Call.{Call}
@@ -62,10 +60,10 @@ chest_names chest = chest.state.book.names.items
 
 -- ---- whatever the disks tell
 
--- a manager can be asked, of the nodes that are kept, of which one is its node
+-- a manager can be asked, of the nodes that are kept, of which one is its node; files that were read are as they were read
 abbrev pub IsDeskOf : {D : Type 0} → Meaning D → List (List ℕ) → Desk D → Type 0
 IsDeskOf m names (Up manager node) = IsReady m manager × (map (λ n. n.name) (standing_of manager).system.nodes ≡ names) × (node < length names)
-IsDeskOf m names (Down closed place) = Unit {0}
+IsDeskOf m names (Down files place) = AreSound m files
 
 -- So many turns are kept, of which each may have tried an epoch.
 pub record IsSteady {D : Type 0} (m : Meaning D) (turns : ℕ) (state : State D) : Type 0 where
@@ -85,14 +83,10 @@ pub record CanBeRecorded (node : ℕ) (asked : Request) : Type 0 where
   pub names : (s : System) → node < length s.nodes → IsLawful s node asked
   pub spelled : (s : System) (moment : ℕ) → moment ≤ LAST_MOMENT → IsOk (applied s moment node asked) → HasSpelling (request_record moment node asked)
 
--- a listing of the queue manager, of one entry, or of nothing
-abbrev pub IsListed : Query → Type 0
-IsListed q = (q.listing ≡ Manager) ⊎ ((q.listing ≡ Cancel) ⊎ IsOfOneEntry q)
-
 -- A node's call can ask for this. No compaction is made so far.
 abbrev pub CanBeAskedFor : ℕ → Input → Type 0
 CanBeAskedFor node (input.Ask asked) = CanBeRecorded node asked
-CanBeAskedFor node (input.Show query) = IsListed query
+CanBeAskedFor node (input.Show query) = Unit {0}
 CanBeAskedFor node (input.Fetch known) = Unit {0}
 CanBeAskedFor node input.Compact = ⊥
 CanBeAskedFor node (input.TakeManager on) = Unit {0}
@@ -131,4 +125,4 @@ pub record Serves {D : Type 0} (m : Meaning D) (cap : ℕ) (w : World) (node now
 -- no manager is up
 abbrev pub IsWithout : {D : Type 0} → Desk D → Type 0
 IsWithout (Up manager node) = ⊥
-IsWithout (Down closed place) = Unit {0}
+IsWithout (Down files place) = Unit {0}

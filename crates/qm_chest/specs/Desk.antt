@@ -1,13 +1,13 @@
--- What the chest works with in a world: a manager at work while one is up, and else closed files.
+-- What the chest works with in a world: a manager at work while one is up, and else the files.
 use Rattle.std.specs.Prelude.{◌≡◌, ℕ, Bool, true, false, Option, None, Some}
 use Rattle.qm_disk.specs.Disk.{Meaning}
 use Rattle.qm_kinds.specs.declared.input.Input.{Input}
 use Rattle.qm_kinds.specs.declared.input.Input.TheVariants as input
+use Rattle.qm_acting.specs.Files.{files_disk, AreSound}
 use Rattle.qm_acting.specs.Standing.{standing_of, disk_of, IsReady}
+use Rattle.qm_acting.specs.declared.files.Files.{Files}
 use Rattle.qm_acting.specs.declared.manager.Manager.{Manager}
-use Rattle.qm_database.specs.Database.{disk_of as closed_disk}
 use Rattle.qm_database.specs.Recorded.{IsAtRest}
-use Rattle.qm_database.specs.declared.closed.Closed.{Closed}
 use Rattle.qm_history.specs.declared.world.World.{World}
 use Rattle.qm_history.specs.World.{system_in}
 use Rattle.qm_chest.specs.Holding.{MayHold, AllHold}
@@ -18,12 +18,12 @@ use Rattle.qm_chest.specs.declared.place.Place.{Place}
 -- the device
 abbrev pub desk_disk : {D : Type 0} → Desk D → D
 desk_disk (Up manager node) = disk_of manager
-desk_disk (Down closed place) = closed_disk closed
+desk_disk (Down files place) = files_disk files
 
--- a manager at work can be asked
+-- a manager at work can be asked, and files that were read are as they were read
 abbrev pub IsReadyDesk : {D : Type 0} → Meaning D → Desk D → Type 0
 IsReadyDesk m (Up manager node) = IsReady m manager
-IsReadyDesk m (Down closed place) = Unit {0}
+IsReadyDesk m (Down files place) = AreSound m files
 
 -- In this world a manager is up on this node: its image is the world's system, and its files hold the world's log, in the epoch that
 -- is the greatest.
@@ -36,18 +36,18 @@ pub record IsUp {D : Type 0} (m : Meaning D) (cap : ℕ) (w : World) (manager : 
   pub epoch : (standing_of manager).recorded.says.epoch ≡ w.greatest
 
 -- no manager is up, and the files hold a log of the world
-pub record IsDown {D : Type 0} (m : Meaning D) (cap : ℕ) (w : World) (closed : Closed D) (place : Option Place) : Type 0 where
+pub record IsDown {D : Type 0} (m : Meaning D) (cap : ℕ) (w : World) (files : Files D) (place : Option Place) : Type 0 where
   pub none : w.manager ≡ None
-  pub holds : AllHold m (MayHold cap w place) (closed_disk closed)
+  pub holds : AllHold m (MayHold cap w place) (files_disk files)
 
 abbrev pub IsDeskAt : {D : Type 0} → Meaning D → ℕ → World → Desk D → Type 0
 IsDeskAt m cap w (Up manager node) = IsUp m cap w manager node
-IsDeskAt m cap w (Down closed place) = IsDown m cap w closed place
+IsDeskAt m cap w (Down files place) = IsDown m cap w files place
 
 -- no manager is up
 abbrev pub is_without : {D : Type 0} → Desk D → Bool
 is_without (Up manager node) = false
-is_without (Down closed place) = true
+is_without (Down files place) = true
 
 -- a takeover comes first: at START/QUEUE/MANAGER, and while no manager is up at each call that needs one
 abbrev pub is_due : {D : Type 0} → Desk D → Input → Bool

@@ -26,17 +26,17 @@ use Rattle.qm_chest.specs.declared.desk.Desk.TheVariants.{Up, Down}
 -- the manager that is up
 abbrev pub role_at : {D : Type 0} → Desk D → Option Role
 role_at (Up manager node) = Some (record { node = node; epoch = (standing_of manager).recorded.says.epoch })
-role_at (Down closed place) = None
+role_at (Down files place) = None
 
 -- its image
 abbrev pub image_at : {D : Type 0} → Desk D → Option System
 image_at (Up manager node) = Some (standing_of manager).system
-image_at (Down closed place) = None
+image_at (Down files place) = None
 
 -- whether a record is in doubt
 abbrev pub doubts_at : {D : Type 0} → Desk D → Bool
 doubts_at (Up manager node) = false
-doubts_at (Down closed place) = is_some place
+doubts_at (Down files place) = is_some place
 
 -- the chest as histories speak of it, where so many calls were told that a disk failed
 abbrev pub chest_told : {D : Type 0} → Chest D → ℕ → ChestTold D

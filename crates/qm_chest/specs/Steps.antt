@@ -139,7 +139,7 @@ IsToldStep took (Some e) told = (is_step e ≡ true) × (is_plain told ≡ true)
 -- a manager that is still up is of these nodes, and on this one
 abbrev pub IsOfNodes : {D : Type 0} → List (List ℕ) → ℕ → Desk D → Type 0
 IsOfNodes names at (Up manager node) = (cluster (standing_of manager).system ≡ names) × (node ≡ at)
-IsOfNodes names at (Down closed place) = Unit {0}
+IsOfNodes names at (Down files place) = Unit {0}
 
 -- a request, a listing or a fetch
 abbrev pub IsOwnStep : Input → Type 0

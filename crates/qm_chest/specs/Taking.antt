@@ -19,7 +19,9 @@ use Rattle.qm_database.specs.declared.closed.Closed.{Closed}
 use Rattle.qm_glog.specs.declared.fault.OpenFault.{OpenFault}
 use Rattle.qm_glog.specs.declared.fault.OpenFault.TheVariants as opening
 use Rattle.qm_acting.specs.Reading.{IsTold}
+use Rattle.qm_acting.specs.Spare.{KeepsSpare}
 use Rattle.qm_acting.specs.Standing.{Standing, disk_of, restored_standing, restored_disk, IsRestored}
+use Rattle.qm_acting.specs.declared.files.Files.TheVariants as site_files
 use Rattle.qm_acting.specs.declared.restored.Restored.{Restored}
 use Rattle.qm_history.specs.declared.call.Answer.{Answer}
 use Rattle.qm_history.specs.declared.call.Answer.TheVariants as answer
@@ -102,7 +104,7 @@ told_of_failed tried (Some kept) = Some (record { epoch = tried; kept = Some kep
 -- what the whole call then is: the epoch that may be recorded, and what followed
 abbrev pub failed : {D : Type 0} → Closed D → Option Place → ℕ → ℕ → Option Bool → Option Event → Answer → Served D
 failed closed place node tried kept second told =
-    record { desk = Down closed place; first = Some (event.TakeDoubt node tried kept); second = second; answer = told }
+    record { desk = Down (site_files.Closed closed) place; first = Some (event.TakeDoubt node tried kept); second = second; answer = told }
 
 -- what is answered where the files can't be read
 abbrev pub unread_answer : Bool → OpenFault → Answer
@@ -183,13 +185,14 @@ pub record CanTake {D : Type 0} (m : Meaning D) (book : Book) (read : Restored D
   pub early : IsTrue m.tells → epoch_behind (restored_standing read).recorded book.greatest < 2 ^ 62
 
 -- A call began on this disk, with this as the greatest epoch that it may have tried: a manager that is up is of the same nodes, a fault
--- is told just where one was counted, and then no manager is up.
+-- is told just where one was counted, and then no manager is up; the queue file that isn't live stays.
 pub record LeavesFrom {D : Type 0} (m : Meaning D) (old : Book) (disk : D) (greatest : ℕ) (new : Book) (served : Served D) : Type 0 where
   pub desk : IsDeskOf m new.names.items served.desk
   pub names : new.names.items ≡ old.names.items
   pub rises : new.greatest ≤ greatest
   pub first : IsSome served.first
   pub faults : TellsFaults m disk (desk_disk served.desk) (is_journal served.answer ≡ true)
+  pub spare : IsTrue m.tells → KeepsSpare m disk (desk_disk served.desk)
   pub down : is_journal served.answer ≡ true → IsWithout served.desk
   pub told : IsToldBy (both served.first served.second) served.answer
   pub duties : ShowsDuties served.answer
@@ -200,6 +203,7 @@ pub record TakesFrom {D : Type 0} (m : Meaning D) (old : Book) (disk : D) (node 
   pub names : new.names.items ≡ old.names.items
   pub rises : new.greatest ≤ old.greatest + 1
   pub quiet : IsQuiet m disk (disk_of taken.manager)
+  pub spare : IsTrue m.tells → KeepsSpare m disk (disk_of taken.manager)
 
 abbrev pub LeavesTaken : {D : Type 0} → Meaning D → Book → D → ℕ → Book → Result (Taken D) (Served D) → Type 0
 LeavesTaken m old disk node new (Ok taken) = TakesFrom m old disk node new taken

@@ -1,8 +1,9 @@
 -- What a whole call leaves, by its events.
-use Rattle.std.specs.Prelude.{◌≡◌, ◌≢◌, ℕ, Bool, true, false, ◌+◌, ◌^◌, ◌<◌, ◌≤◌, List, [], ◌∷◌, length, option_to_list, Option, None, Some}
+use Rattle.std.specs.Prelude.{◌≡◌, ◌≢◌, ℕ, Bool, true, false, ◌+◌, ◌^◌, ◌<◌, ◌≤◌, List, [], ◌∷◌, length, option_to_list, Option, None, Some, IsTrue}
 use Rattle.qm_disk.specs.Disk.{Meaning, TellsFaults}
 use Rattle.qm_kinds.specs.declared.input.Input.{Input}
 use Rattle.qm_kinds.specs.declared.reply.Act.TheVariants as act
+use Rattle.qm_acting.specs.Spare.{KeepsSpare}
 use Rattle.qm_glog.specs.Records.{IsLog}
 use Rattle.qm_record.specs.Spelling.{HasSpelling, record_text}
 use Rattle.qm_history.specs.declared.call.Answer.{Answer}
@@ -99,12 +100,13 @@ IsToldBy [] told = told ≡ answer.NoMemory None
 IsToldBy (e ∷ events) told = (told ≢ answer.HistoryFull) × (hides_events told ≡ false → is_journal told ≡ tells_disk_fault (e ∷ events))
 
 -- The nodes are called as before, at most one epoch more was tried, with an event, a fault is told just where one was counted, and then no
--- manager is up.
+-- manager is up; the queue file that isn't live stays.
 pub record Leaves {D : Type 0} (m : Meaning D) (old : Book) (was : Desk D) (new : Book) (served : Served D) : Type 0 where
   pub desk : IsDeskOf m new.names.items served.desk
   pub names : new.names.items ≡ old.names.items
   pub rises : new.greatest ≤ old.greatest + length (option_to_list served.first)
   pub faults : TellsFaults m (desk_disk was) (desk_disk served.desk) (is_journal served.answer ≡ true)
+  pub spare : IsTrue m.tells → KeepsSpare m (desk_disk was) (desk_disk served.desk)
   pub down : is_journal served.answer ≡ true → IsWithout served.desk
   pub told : IsToldBy (both served.first served.second) served.answer
   pub duties : ShowsDuties served.answer

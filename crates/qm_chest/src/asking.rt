@@ -5,6 +5,7 @@ ghost use Rattle.qm_model.specs.Acting.{acting};
 ghost use Rattle.qm_history.specs.Faults.{is_journal};
 ghost use Rattle.qm_history.specs.Accepted.{cluster};
 ghost use Rattle.qm_acting.specs.Asking.{CanBeAsked};
+ghost use Rattle.qm_acting.specs.Spare.{KeepsSpare};
 ghost use Rattle.qm_acting.specs.Standing.{standing_of, disk_of, IsReady};
 ghost use Rattle.qm_chest.specs.At.{IsWithout};
 ghost use Rattle.qm_chest.specs.Desk.{desk_disk, IsReadyDesk};
@@ -14,7 +15,8 @@ use crate::answering::{done, full, refused, short};
 use crate::desk::Desk;
 use crate::place::Place;
 use crate::serving::Served;
-use qm_acting::{AskFault, Manager, site_files_go_on};
+use core::mem::drop;
+use qm_acting::{AskFault, Files, Manager, site_files_go_on};
 use qm_disk::Disk;
 use qm_history::{Answer, Event, Takeover};
 use qm_kinds::{Input, Moment, Refusal, Request};
@@ -102,6 +104,7 @@ pub(crate) fn ask<D: Disk>(
     ensures down { is_journal result.answer ≡ true → IsWithout result.desk }
     ensures told { IsToldStep took result.event result.answer }
     ensures faults { TellsFaults D.meaning (disk_of manager) (desk_disk result.desk) (is_journal result.answer ≡ true) }
+    ensures spare { IsTrue D.meaning.tells → KeepsSpare D.meaning (disk_of manager) (desk_disk result.desk) }
     ensures comes { IsTrue D.meaning.tells → Comes D.meaning manager at live node now request took result }
 {
     site_files_go_on();
@@ -119,7 +122,10 @@ pub(crate) fn ask<D: Disk>(
             refusal,
             took,
         ),
-        Err(AskFault::Full { need, cap }) => full(manager, at, node, need, cap, took),
+        Err(AskFault::Full { need, cap }) => {
+            drop(request);
+            full(manager, at, node, need, cap, took)
+        }
         Err(AskFault::Disk) => {
             let place = Place {
                 file: manager.live(),
@@ -127,7 +133,7 @@ pub(crate) fn ask<D: Disk>(
             };
             Came {
                 desk: Desk::Down {
-                    closed: manager.close(),
+                    files: Files::Closed(manager.close()),
                     place: Some(place),
                 },
                 event: Some(Event::Doubt {
@@ -138,7 +144,10 @@ pub(crate) fn ask<D: Disk>(
                 answer: Answer::Journal { took, live },
             }
         }
-        Err(AskFault::NoMemory) => short(manager, at, took),
+        Err(AskFault::NoMemory) => {
+            drop(request);
+            short(manager, at, took)
+        }
     }
 }
 

@@ -15,6 +15,7 @@ use crate::book::Book;
 use crate::desk::Desk;
 use crate::serving::Served;
 use crate::taken::Taken;
+use core::mem::drop;
 use qm_acting::Manager;
 use qm_disk::Disk;
 use qm_history::{Answer, Event, Takeover};
@@ -41,7 +42,10 @@ impl Book {
         nodes_keep_their_names();
         let (manager, moment, event, told) = taken.parts(node);
         match input {
-            Input::TakeManager { .. } => self.managing(manager, node, moment, event, told),
+            Input::TakeManager { .. } => {
+                drop(input);
+                self.managing(manager, node, moment, event, told)
+            }
             Input::StartNode => match self.start_refusal(&manager, node) {
                 Some(refusal) => {
                     let acting = manager.acting(now);

@@ -2,6 +2,7 @@
 ghost use Rattle.std.specs.Prelude.{◌≡◌, ◌<◌, ◌^◌, ℕ, IsTrue, IfOk, IfErr, true, length};
 ghost use Rattle.qm_disk.specs.Disk.{TellsFaults};
 ghost use Rattle.qm_database.specs.Database.{disk_of as closed_disk};
+ghost use Rattle.qm_acting.specs.Spare.{KeepsSpare};
 ghost use Rattle.qm_history.specs.Calls.{input_of};
 ghost use Rattle.qm_history.specs.Faults.{is_journal};
 ghost use Rattle.qm_history.specs.declared.world.World.{World};
@@ -16,7 +17,8 @@ use crate::desk::Desk;
 use crate::laws::sites_begin_one_world;
 use crate::stepping::{keep, room_for};
 use crate::wanted::{Outcome, Wanted};
-use core::mem::replace_with;
+use core::mem::{drop, replace_with};
+use qm_acting::Files;
 use qm_database::Closed;
 use qm_disk::Disk;
 use qm_history::{Answer, Call, QueueFile, Turn, worlds_stay_sound};
@@ -39,7 +41,7 @@ impl<D: Disk> Chest<D> {
             return Err((restored.close(), AllocError));
         };
         let desk = Desk::Down {
-            closed: restored.close(),
+            files: Files::Read(restored),
             place: None,
         };
         Ok(Chest {
@@ -74,13 +76,16 @@ impl<D: Disk> Chest<D> {
         // That a disk failed is told just where one did, and then no manager is up.
         ensures faults { TellsFaults D.meaning (chest_disk self.old) (chest_disk self.new) (is_journal result ≡ true) }
         ensures down { is_journal result ≡ true → IsWithout self.new.state.desk }
+
+        // The queue file that isn't live stays as it was.
+        ensures spare { IsTrue D.meaning.tells → KeepsSpare D.meaning (chest_disk self.old) (chest_disk self.new) }
     {
         site_files_are_accepted();
         worlds_stay_sound::<QueueFile>();
         let wanted = Wanted::by(node, now, call);
         match room_for(self.alloc, &mut self.turns) {
             Err(told) => {
-                wanted.let_go();
+                drop(wanted);
                 told
             }
             Ok(room) => {

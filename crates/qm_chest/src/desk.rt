@@ -1,10 +1,10 @@
-// What the chest works with: a manager, or closed files.
+// What the chest works with: a manager, or the files.
 ghost use Rattle.std.specs.Prelude.{◌≡◌};
 ghost use Rattle.qm_chest.specs.Desk.{is_due, is_without};
 ghost use Rattle.qm_database.specs.Database.{disk_of as closed_disk};
 
 use crate::place::Place;
-use qm_acting::Manager;
+use qm_acting::{Files, Manager};
 use qm_database::Closed;
 use qm_disk::Disk;
 use qm_kinds::Input;
@@ -17,7 +17,7 @@ pub enum Desk<D> {
         node: u8,
     },
     Down {
-        closed: Closed<D>,
+        files: Files<D>,
         place: Option<Place>,
     },
 }
@@ -45,13 +45,13 @@ impl<D> Desk<D> {
 impl<D: Disk> Desk<D> {
     ghost use Rattle.qm_chest.specs.Desk.{desk_disk};
 
-    /// The files, which a manager lets go of.
+    /// The files, which a manager lets go of, and whoever read them.
     pub(crate) fn close(self) -> Closed<D>
         ensures { closed_disk result ≡ desk_disk self }
     {
         match self {
             Desk::Up { manager, .. } => manager.close(),
-            Desk::Down { closed, .. } => closed,
+            Desk::Down { files, .. } => files.close(),
         }
     }
 }

@@ -8,6 +8,7 @@ use crate::book::Book;
 use crate::desk::Desk;
 use crate::place::Place;
 use crate::serving::Served;
+use qm_acting::Files;
 use qm_database::{Closed, LoadFault};
 use qm_history::{Answer, Event, Takeover};
 use qm_kinds::Seq;
@@ -25,7 +26,10 @@ fn failed<D>(
     ensures { result ≡ failed closed place node tried kept second answer }
 {
     Served {
-        desk: Desk::Down { closed, place },
+        desk: Desk::Down {
+            files: Files::Closed(closed),
+            place,
+        },
         first: Some(Event::TakeDoubt { node, tried, kept }),
         second,
         answer,

@@ -14,8 +14,7 @@ use crate::desk::Desk;
 use crate::own::acts_in_time;
 use crate::place::Place;
 use crate::serving::Served;
-use qm_acting::{Manager, own_requests_are_accepted};
-use qm_database::Closed;
+use qm_acting::{Files, Manager, own_requests_are_accepted};
 use qm_disk::Disk;
 use qm_history::{Answer, Event};
 use qm_kinds::{Act, Moment, Name, Reply, Request, Seq};
@@ -42,7 +41,8 @@ impl Book {
     {
         site_files_are_accepted();
         if at == node {
-            return self.gone_alone(manager.close(), None, node, now, leaves);
+            let files = Files::Closed(manager.close());
+            return self.gone_alone(files, None, node, now, leaves);
         }
         self.lost(manager, at, node, now, leaves)
     }
@@ -104,7 +104,7 @@ impl Book {
     /// A node goes, and nothing is recorded: no manager is up any more.
     pub(crate) fn gone_alone<D>(
         &mut self,
-        closed: Closed<D>,
+        files: Files<D>,
         place: Option<Place>,
         node: u8,
         now: Moment,
@@ -112,7 +112,7 @@ impl Book {
     ) -> Served<D>
         requires { node < length self.old.names.items }
         ensures served { (name : List ℕ) → slice_get self.old.names.items node ≡ Some name
-            → result ≡ goes_alone (desk.Down closed place) node now leaves name }
+            → result ≡ goes_alone (desk.Down files place) node now leaves name }
         ensures live { self.new.live.items ≡ slice_set self.old.live.items node false }
         ensures others { (self.new.names.items ≡ self.old.names.items) × (self.new.held.items ≡ self.old.held.items)
             × (self.new.greatest ≡ self.old.greatest) }
@@ -122,7 +122,7 @@ impl Book {
             node: self.name(node),
         };
         Served {
-            desk: Desk::Down { closed, place },
+            desk: Desk::Down { files, place },
             first: Some(gone(node, leaves)),
             second: None,
             answer: Answer::Done {

@@ -1,7 +1,10 @@
 //! The value on which the nodes of a cluster make their turns: one call of a node is one turn. While a manager is up it has the
-//! manager at work, and while none is, the closed files and where a record in doubt would stand. It stands for a world of
+//! manager at work, and while none is, the files and where a record in doubt would stand. It stands for a world of
 //! `qm_history`; a call leads to the world behind its turn. `check` reads a site's files, `Chest::new` begins on them, `serve`
 //! serves a call and keeps its turn, and `end` gives back the files and the turns.
+//!
+//! Where requests and events aren't handed on they are let go by a call of `drop`: at the end of a function the check would spell
+//! each drop of an enum out, field by field.
 #![tactic(auto)]
 
 mod answering;

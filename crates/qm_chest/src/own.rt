@@ -9,6 +9,7 @@ ghost use Rattle.qm_history.specs.Accepted.{cluster};
 ghost use Rattle.qm_history.specs.Faults.{is_journal};
 ghost use Rattle.qm_history.specs.Turn.{Beside};
 ghost use Rattle.qm_acting.specs.Asking.{CanBeAsked};
+ghost use Rattle.qm_acting.specs.Spare.{KeepsSpare};
 ghost use Rattle.qm_acting.specs.Standing.{standing_of, disk_of, IsReady};
 ghost use Rattle.qm_chest.specs.declared.desk.Desk.TheVariants as desk;
 ghost use Rattle.qm_chest.specs.At.{CanBeAskedFor, CanBeRecorded, IsDeskOf, IsWithout};
@@ -45,6 +46,7 @@ impl Book {
         ensures down { is_journal result.answer ≡ true → IsWithout result.desk }
         ensures told { IsToldStep took result.event result.answer }
         ensures faults { TellsFaults D.meaning (disk_of manager) (desk_disk result.desk) (is_journal result.answer ≡ true) }
+        ensures spare { IsTrue D.meaning.tells → KeepsSpare D.meaning (disk_of manager) (desk_disk result.desk) }
         ensures comes { IsTrue D.meaning.tells → (acted : ℕ) (beside : Beside)
             → OwnComes D.meaning self.now manager at node now acted input beside took result }
     {
@@ -74,6 +76,7 @@ impl Book {
         ensures down { is_journal result.answer ≡ true → IsWithout result.desk }
         ensures told { IsToldStep took result.event result.answer }
         ensures faults { TellsFaults D.meaning (disk_of manager) (desk_disk result.desk) (is_journal result.answer ≡ true) }
+        ensures spare { IsTrue D.meaning.tells → KeepsSpare D.meaning (disk_of manager) (desk_disk result.desk) }
         ensures comes { IsTrue D.meaning.tells → (acted : ℕ) (beside : Beside)
             → OwnComes D.meaning self.now manager at node now acted (input.Ask request) beside took result }
     {
@@ -106,6 +109,7 @@ impl Book {
         ensures down { is_journal result.answer ≡ true → IsWithout result.desk }
         ensures told { IsToldStep took result.event result.answer }
         ensures faults { TellsFaults D.meaning (disk_of manager) (desk_disk result.desk) (is_journal result.answer ≡ true) }
+        ensures spare { IsTrue D.meaning.tells → KeepsSpare D.meaning (disk_of manager) (desk_disk result.desk) }
         ensures comes { IsTrue D.meaning.tells → (acted : ℕ) (beside : Beside)
             → OwnComes D.meaning self.now manager at node now acted (input.Ask request.Tick) beside took result }
     {

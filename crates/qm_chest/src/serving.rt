@@ -4,6 +4,7 @@ ghost use Rattle.qm_kinds.specs.declared.input.Input.TheVariants as input;
 ghost use Rattle.qm_kinds.specs.declared.refusal.Refusal.TheVariants as refused;
 ghost use Rattle.qm_history.specs.declared.call.Answer.TheVariants as answer;
 ghost use Rattle.qm_history.specs.declared.event.Event.TheVariants as event;
+ghost use Rattle.qm_acting.specs.Files.{AreSound};
 ghost use Rattle.qm_chest.specs.declared.desk.Desk.TheVariants as desk;
 ghost use Rattle.qm_chest.specs.At.{CanBeAskedFor, IsDeskOf};
 ghost use Rattle.qm_chest.specs.Desk.{is_due};
@@ -13,8 +14,7 @@ use crate::asking::same;
 use crate::book::Book;
 use crate::desk::Desk;
 use crate::place::Place;
-use qm_acting::Manager;
-use qm_database::Closed;
+use qm_acting::{Files, Manager};
 use qm_disk::Disk;
 use qm_history::{Answer, Event};
 use qm_kinds::{Input, Moment, ParseKind, Refusal};
@@ -132,8 +132,8 @@ impl Book {
     {
         match desk {
             Desk::Up { manager, node: at } => self.managed(manager, at, node, now, input, leaves),
-            Desk::Down { closed, place } => {
-                self.unmanaged(closed, place, node, now, input, leaves)
+            Desk::Down { files, place } => {
+                self.unmanaged(files, place, node, now, input, leaves)
             }
         }
     }
@@ -171,7 +171,7 @@ impl Book {
     // A call that needs no manager, while none is up.
     fn unmanaged<D: Disk>(
         &mut self,
-        closed: Closed<D>,
+        files: Files<D>,
         place: Option<Place>,
         node: u8,
         now: Moment,
@@ -179,17 +179,18 @@ impl Book {
         leaves: bool,
     ) -> Served<D>
         requires there { node < length self.old.names.items }
-        requires due { is_due (desk.Down closed place) input ≡ false }
-        ensures leaves { Leaves D.meaning self.old (desk.Down closed place) self.new result }
-        ensures serves { IsTrue D.meaning.tells → ServesWhere D.meaning self.old (desk.Down closed place) node now
+        requires sound { AreSound D.meaning files }
+        requires due { is_due (desk.Down files place) input ≡ false }
+        ensures leaves { Leaves D.meaning self.old (desk.Down files place) self.new result }
+        ensures serves { IsTrue D.meaning.tells → ServesWhere D.meaning self.old (desk.Down files place) node now
             (AsksAlone node input leaves) self.new result }
     {
         site_files_are_accepted();
         match input {
             Input::Fault { place: byte, kind } => {
-                unread(Desk::Down { closed, place }, node, now, byte, kind)
+                unread(Desk::Down { files, place }, node, now, byte, kind)
             }
-            Input::StopNode => self.gone_alone(closed, place, node, now, leaves),
+            Input::StopNode => self.gone_alone(files, place, node, now, leaves),
             _ => unreachable!(),
         }
     }

@@ -7,7 +7,6 @@ ghost use Rattle.qm_history.specs.Turn.{Beside};
 ghost use Rattle.qm_acting.specs.Standing.{standing_of, IsReady};
 ghost use Rattle.qm_chest.specs.declared.desk.Desk.TheVariants as desk;
 ghost use Rattle.qm_chest.specs.declared.book.Book.{Book as AnyBook};
-ghost use Rattle.qm_chest.specs.At.{IsListed};
 ghost use Rattle.qm_chest.specs.Steps.{IsToldStep, OwnComes, rows_of};
 
 use crate::answering::{refused, short, shown};
@@ -18,6 +17,7 @@ use qm_disk::Disk;
 use qm_history::{Answer, Takeover};
 use qm_kinds::{Input, Listing, Moment, Query, Row, Seq};
 use qm_restore::{site_files_are_accepted, site_files_are_consistent};
+use qm_scan::the_manager_shows_in_its_listing;
 use qm_state::Refused;
 use std::alloc::AllocError;
 
@@ -72,7 +72,6 @@ impl Book {
         requires ready { IsReady D.meaning manager }
         requires names { map (λ n. n.name) (standing_of manager).system.nodes ≡ self.now.names.items }
         requires there { at < length self.now.names.items }
-        requires listed { IsListed query }
         ensures up { result.desk ≡ desk.Up manager at }
         ensures quiet { is_journal result.answer ≡ false }
         ensures told { IsToldStep took result.event result.answer }
@@ -107,7 +106,7 @@ impl Book {
         }
     }
 
-    // The row of the manager, none where listings are ended, or those of the image.
+    // The row of the manager, or those of the image, which knows of no manager.
     fn rows<D: Disk>(
         &self,
         manager: &Manager<D>,
@@ -115,12 +114,12 @@ impl Book {
         query: &Query,
     ) -> Result<Vec<Row>, Refused>
         requires there { at < length self.now.names.items }
-        requires listed { IsListed query.now }
         ensures rows { (name : List ℕ) → slice_get self.now.names.items at ≡ Some name
             → IfOk result (λ rows. rows_of manager.now name query.now ≡ Ok rows.items) }
         ensures refused { (name : List ℕ) → slice_get self.now.names.items at ≡ Some name
             → Refuses result (rows_of manager.now name query.now) }
     {
+        the_manager_shows_in_its_listing();
         match query.listing {
             Listing::Manager => {
                 let mut rows = Vec::new(self.alloc);
@@ -131,7 +130,6 @@ impl Book {
                 })?;
                 Ok(rows)
             }
-            Listing::Cancel => Ok(Vec::new(self.alloc)),
             _ => manager.view(query),
         }
     }

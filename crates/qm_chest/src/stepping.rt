@@ -7,6 +7,7 @@ ghost use Rattle.qm_chest.specs.Whole.{both};
 use crate::chest::{State, TURNS_KEPT};
 use crate::serving::Served;
 use crate::wanted::{Maker, Outcome, Wanted};
+use core::mem::drop;
 use qm_disk::Disk;
 use qm_history::{Answer, Event, Turn};
 use qm_kinds::Seq;
@@ -76,6 +77,7 @@ pub(crate) fn keep(
     ensures { turns.new.items ≡ turns.old.items ++ option_to_list (turn_made maker (both first second)) }
 {
     let Some(first) = first else {
+        drop(second);
         return;
     };
     let mut events = room;

@@ -1,7 +1,7 @@
 // How a node takes the role of queue manager over before its call is served.
 ghost use Rattle.std.specs.Prelude.{◌≡◌, ◌<◌, ◌+◌, ◌^◌, ℕ, IsTrue, Err, true, false, length};
-ghost use Rattle.qm_database.specs.Database.{disk_of as closed_disk};
 ghost use Rattle.qm_kinds.specs.declared.input.Input.{Input as AnyInput};
+ghost use Rattle.qm_acting.specs.Files.{files_disk, AreSound};
 ghost use Rattle.qm_acting.specs.Standing.{restored_standing, restored_disk, disk_of};
 ghost use Rattle.qm_history.specs.Takeover.{is_named, nodes_on};
 ghost use Rattle.qm_chest.specs.declared.desk.Desk.TheVariants as desk;
@@ -16,11 +16,12 @@ use crate::nodes::is_named;
 use crate::place::Place;
 use crate::serving::Served;
 use crate::taken::{Taken, taken_by};
+use core::mem::drop;
 use qm_acting::{
-    Manager, Restored, TakeFault, own_requests_are_accepted, restore, site_files_go_on,
+    Files, Manager, Restored, TakeFault, own_requests_are_accepted, site_files_go_on,
     sites_can_be_read,
 };
-use qm_database::{Closed, LoadFault, WriteFault};
+use qm_database::{LoadFault, WriteFault};
 use qm_disk::Disk;
 use qm_history::{Answer, Event};
 use qm_kinds::{Act, Input, Moment};
@@ -57,7 +58,7 @@ impl Book {
     {
         match desk {
             Desk::Up { manager, node: at } => self.taken_from(manager, at, node, now, input),
-            Desk::Down { closed, place } => self.taken_up(closed, place, node, now, input),
+            Desk::Down { files, place } => self.taken_up(files, place, node, now, input),
         }
     }
 
@@ -81,8 +82,10 @@ impl Book {
     {
         site_files_are_accepted();
         if is_named(manager.nodes(), manager.may(), &input, node) {
-            return self.taken_up(manager.close(), None, node, now, input);
+            let files = Files::Closed(manager.close());
+            return self.taken_up(files, None, node, now, input);
         }
+        drop(input);
         Served {
             desk: Desk::Up { manager, node: at },
             first: Some(Event::NoManager { node }),
@@ -94,10 +97,10 @@ impl Book {
         }
     }
 
-    // The files are read, and the role is taken over on what they hold.
+    // The files are read, unless they were before, and the role is taken over on what they hold.
     fn taken_up<D: Disk>(
         &mut self,
-        closed: Closed<D>,
+        files: Files<D>,
         place: Option<Place>,
         node: u8,
         now: Moment,
@@ -107,16 +110,20 @@ impl Book {
         requires can { CanBeAskedFor node input }
         requires needs { NeedsManager input }
         requires epochs { self.old.greatest < 2 ^ 63 }
-        requires early { IsTrue D.meaning.tells → AreEarly D.meaning self.old (closed_disk closed) place }
-        ensures leaves { LeavesFrom D.meaning self.old (closed_disk closed) (self.old.greatest + 1) self.new result }
-        ensures serves { IsTrue D.meaning.tells → TakesOnFiles D.meaning self.old (closed_disk closed) place node now input self.new result }
+        requires sound { AreSound D.meaning files }
+        requires early { IsTrue D.meaning.tells → AreEarly D.meaning self.old (files_disk files) place }
+        ensures leaves { LeavesFrom D.meaning self.old (files_disk files) (self.old.greatest + 1) self.new result }
+        ensures serves { IsTrue D.meaning.tells → TakesOnFiles D.meaning self.old (files_disk files) place node now input self.new result }
     {
         site_files_are_accepted();
         sites_can_be_read();
         nodes_keep_their_names();
-        let restored = match restore(self.alloc, closed) {
+        let restored = match files.read(self.alloc) {
             Ok(restored) => restored,
-            Err((closed, fault)) => return self.unread(closed, place, node, fault),
+            Err((closed, fault)) => {
+                drop(input);
+                return self.unread(closed, place, node, fault);
+            }
         };
         let kept = found(&restored, place);
         if !self.are_nodes(restored.nodes()) {
@@ -124,11 +131,15 @@ impl Book {
                 file: restored.live(),
                 place: 0,
             };
+            drop(input);
             return self.unread(restored.close(), place, node, fault);
         }
         match self.take(restored, kept, node, now, &input) {
             Ok(taken) => self.behind(taken, node, now, input),
-            Err(served) => served,
+            Err(served) => {
+                drop(input);
+                served
+            }
         }
     }
 
@@ -219,13 +230,16 @@ impl Book {
             }
             Err((closed, fault)) => match fault {
                 TakeFault::MasterFull { need, cap } => {
+                    drop(request);
                     Err(self.master_full(closed, node, kept, need, cap))
                 }
                 TakeFault::Epoch => {
+                    drop(request);
                     self.greatest += 1;
                     Err(self.journal(closed, None, node, epoch, kept, None))
                 }
                 TakeFault::Full { need, cap } => {
+                    drop(request);
                     self.greatest += 1;
                     Err(self.full(closed, node, epoch, kept, need, cap))
                 }
@@ -238,7 +252,10 @@ impl Book {
                     };
                     Err(self.journal(closed, Some(place), node, epoch, kept, Some(doubt)))
                 }
-                TakeFault::NoMemory => Err(self.short(closed, node, kept)),
+                TakeFault::NoMemory => {
+                    drop(request);
+                    Err(self.short(closed, node, kept))
+                }
             },
         }
     }

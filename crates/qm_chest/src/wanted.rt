@@ -65,7 +65,4 @@ impl Wanted {
             leaves,
         }
     }
-
-    /// A call that isn't served.
-    pub(crate) fn let_go(self) {}
 }

@@ -44,7 +44,7 @@ returns-in-None-clause-follows g c = λ tells.
 pub returns-in_default : goal.returns-in_default
 returns-in_default g c = record {
   leaves = parted.own_leaves g.D.Disk.meaning c.args.self.now c.args.taken c.args.node c.requires.desk c.parts-manager.result c.parts-manager.ensures c.behind-in_default.result c.own.result c.own.ensures.desk c.own.ensures.down
-      c.own.ensures.told c.own.ensures.faults c.behind-in_default.ensures;
+      c.own.ensures.told c.own.ensures.faults c.own.ensures.spare c.behind-in_default.ensures;
   follows = λ tells. parted.own_follows c.site_files_are_accepted.ensures c.nodes_keep_their_names.ensures.names g.D.Disk.meaning g.met.D.Disk.only_now c.args.self.now c.args.taken c.args.node c.args.now c.args.input c.requires.desk.2
       c.requires.can c.parts-manager.result c.parts-manager.ensures c.behind-in_default.result c.own.result c.own.ensures.told
       (c.own.ensures.comes tells c.args.taken.moment ATakeover) c.behind-in_default.ensures;

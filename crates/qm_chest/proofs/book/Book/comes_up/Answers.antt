@@ -24,7 +24,7 @@ returns-then-not-is_recorded-clause-leaves g c =
     let of = desk_of m c.args.self.now.names.items c.args.at came.desk c.requires.desk.2 c.ask-came.ensures.ready
     (subst (λ (l : List (List ℕ)). IsOfNodes l c.args.at came.desk) c.requires.desk.1 c.ask-came.ensures.nodes) in
     leaves_as c.alone.result _ c.alone.ensures
-    (alone_leaves m c.args.self.now c.args.self.now (Up c.args.manager c.args.at) came refl refl of c.ask-came.ensures.faults c.ask-came.ensures.down c.ask-came.ensures.told)
+    (alone_leaves m c.args.self.now c.args.self.now (Up c.args.manager c.args.at) came refl refl of c.ask-came.ensures.faults c.ask-came.ensures.spare c.ask-came.ensures.down c.ask-came.ensures.told)
 
 pub returns-then-not-is_recorded-clause-serves : goal.returns-then-not-is_recorded-clause-serves
 returns-then-not-is_recorded-clause-serves g c = λ tells cap w asked state early is.
@@ -41,7 +41,7 @@ returns-clause-leaves g c =
     let of = desk_of m c.args.self.now.names.items c.args.at came.desk c.requires.desk.2 c.ask-came.ensures.ready
     (subst (λ (l : List (List ℕ)). IsOfNodes l c.args.at came.desk) c.requires.desk.1 c.ask-came.ensures.nodes) in
     leaves_as c.behind.result _ c.behind.ensures
-    (behind_leaves m c.args.self.now _ (Up c.args.manager c.args.at) came refl refl of c.ask-came.ensures.faults c.ask-came.ensures.down c.ask-came.ensures.told (event.Started c.args.node)
+    (behind_leaves m c.args.self.now _ (Up c.args.manager c.args.at) came refl refl of c.ask-came.ensures.faults c.ask-came.ensures.spare c.ask-came.ensures.down c.ask-came.ensures.told (event.Started c.args.node)
     (recorded_some came.event (sym c.is_recorded.ensures ∙ c.if-not-is_recorded.false)))
 
 pub returns-clause-serves : goal.returns-clause-serves

@@ -1,13 +1,15 @@
 use Rattle.std.proofs.Common.{◌≡◌, ◌∙◌, false, refl, subst}
 use Rattle.qm_history.specs.Turn.{Nothing, is_down}
 use Rattle.qm_kinds.specs.declared.input.Input.{Input}
+use Rattle.qm_kinds.specs.declared.input.Input.TheVariants as input
+use Rattle.qm_kinds.specs.declared.refusal.Refusal.TheVariants.{ParseFault}
 use Rattle.qm_history.specs.World.{system_in}
 use Rattle.qm_chest.specs.declared.desk.Desk.TheVariants.{Up}
 use Rattle.qm_chest.specs.Whole.{AsksAlone}
 use Rattle.qm_chest.proofs.Kept.{alone_leaves, leaves_as}
 use Rattle.qm_chest.proofs.Names.{node_within, outside_of}
 use Rattle.qm_chest.proofs.Whole.{served_as}
-use Rattle.qm_chest.proofs.Ways.{own_serves, unread_serves}
+use Rattle.qm_chest.proofs.Ways.{own_serves, refused_leaves, unread_serves}
 use Rattle.qm_chest.proofs.book.Book.managed.Goals as goal
 
 pub returns-in-StartNode-clause-serves : goal.returns-in-StartNode-clause-serves
@@ -18,6 +20,11 @@ pub returns-in-StopNode-clause-serves : goal.returns-in-StopNode-clause-serves
 returns-in-StopNode-clause-serves g c = λ tells cap w asked state early asks.
     c.gone.ensures.serves tells cap w asked state early (subst (λ (i : Input). AsksAlone c.args.node i c.args.leaves w asked) c.in-StopNode.is asks)
 
+pub returns-in-Fault-clause-leaves : goal.returns-in-Fault-clause-leaves
+returns-in-Fault-clause-leaves g c =
+    leaves_as c.unread.result _ c.unread.ensures
+    (refused_leaves g.D.Disk.meaning c.args.self.now (Up c.args.manager c.args.at) c.requires.desk c.args.node c.args.now (input.Fault c.in-Fault.place c.in-Fault.kind) (ParseFault c.in-Fault.place c.in-Fault.kind))
+
 pub returns-in-Fault-clause-serves : goal.returns-in-Fault-clause-serves
 returns-in-Fault-clause-serves g c = λ tells cap w asked state early asks.
     served_as c.unread.result _ c.unread.ensures
@@ -27,7 +34,7 @@ returns-in-Fault-clause-serves g c = λ tells cap w asked state early asks.
 pub returns-in_default : goal.returns-in_default
 returns-in_default g c = record {
   leaves = leaves_as c.alone.result _ c.alone.ensures
-      (alone_leaves g.D.Disk.meaning c.args.self.now c.args.self.now (Up c.args.manager c.args.at) c.own.result refl refl c.own.ensures.desk c.own.ensures.faults c.own.ensures.down c.own.ensures.told);
+      (alone_leaves g.D.Disk.meaning c.args.self.now c.args.self.now (Up c.args.manager c.args.at) c.own.result refl refl c.own.ensures.desk c.own.ensures.faults c.own.ensures.spare c.own.ensures.down c.own.ensures.told);
   serves = λ tells cap w asked state early asks.
       let there = node_within (system_in w) c.args.self.now.names.items c.args.node state.book.names c.requires.there in
       served_as c.alone.result _ c.alone.ensures

@@ -113,4 +113,4 @@ returns-in-Ok-take_over-clause-leaves g c =
     let st = restored_standing c.args.restored in
     let took = c.in-Ok.ensures in
     writing.took_leaves c.nodes_keep_their_names.ensures.names m c.args.self.now _ (restored_disk c.args.restored) c.args.node c.acting-moment.result c.in-Ok.request st c.in-Ok-take_over.manager c.in-Ok-take_over.reply c.taken_by.result
-    can.nodes can.there c.in-Ok-take_over.ensures.answer refl (omega arith) (c.in-Ok-take_over.ensures.faults.quiet (λ no. no)) (ap (λ (t : _). t.manager) (c.taken_by.ensures _ _ _ _ took))
+    can.nodes can.there c.in-Ok-take_over.ensures.answer refl (omega arith) (c.in-Ok-take_over.ensures.faults.quiet (λ no. no)) c.in-Ok-take_over.ensures.spare (ap (λ (t : _). t.manager) (c.taken_by.ensures _ _ _ _ took))

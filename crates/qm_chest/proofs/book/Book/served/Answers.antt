@@ -1,8 +1,14 @@
 use Rattle.std.proofs.Common.{◌∙◌, true, false, sym}
+use Rattle.qm_kinds.specs.declared.refusal.Refusal.TheVariants.{NodeDown}
+use Rattle.qm_chest.proofs.Kept.{leaves_as}
 use Rattle.qm_chest.proofs.Names.{outside_of}
 use Rattle.qm_chest.proofs.Whole.{served_as}
-use Rattle.qm_chest.proofs.Ways.{down_serves, down_there, due_is}
+use Rattle.qm_chest.proofs.Ways.{down_serves, down_there, due_is, refused_leaves}
 use Rattle.qm_chest.proofs.book.Book.served.Goals as goal
+
+pub returns-then-is_down-clause-leaves : goal.returns-then-is_down-clause-leaves
+returns-then-is_down-clause-leaves g c =
+    leaves_as c.refused.result _ c.refused.ensures (refused_leaves g.D.Disk.meaning c.args.self.now c.args.desk c.requires.desk c.args.node c.args.now c.args.input NodeDown)
 
 pub returns-then-is_down-clause-serves : goal.returns-then-is_down-clause-serves
 returns-then-is_down-clause-serves g c = λ tells cap w asked state early asks.

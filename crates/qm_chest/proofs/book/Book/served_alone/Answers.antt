@@ -1,7 +1,11 @@
 use Rattle.std.proofs.Common.{sym, subst}
 use Rattle.qm_chest.specs.declared.desk.Desk.{Desk}
+use Rattle.qm_chest.specs.At.{IsDeskOf}
 use Rattle.qm_chest.specs.Whole.{AsksAlone, ServesWhere}
 use Rattle.qm_chest.proofs.book.Book.served_alone.Goals as goal
+
+pub unmanaged-requires-clause-sound : goal.unmanaged-requires-clause-sound
+unmanaged-requires-clause-sound g c = subst (λ (d : Desk g.row.D.Denot). IsDeskOf g.D.Disk.meaning c.args.self.now.names.items d) c.in-Down.is c.requires.desk
 
 pub returns-in-Up-clause-serves : goal.returns-in-Up-clause-serves
 returns-in-Up-clause-serves g c = λ tells.

@@ -1,5 +1,5 @@
 use Rattle.std.proofs.Common.{sym, ap, subst}
-use Rattle.qm_database.specs.Database.{disk_of as closed_disk}
+use Rattle.qm_acting.specs.Files.{files_disk}
 use Rattle.qm_acting.specs.Standing.{disk_of}
 use Rattle.qm_chest.specs.declared.desk.Desk.{Desk}
 use Rattle.qm_chest.specs.At.{IsDeskOf, IsStateAt}
@@ -17,12 +17,15 @@ taken_from-requires-clause-needs g c = needs_of c.args.desk c.args.input c.requi
 pub taken_from-requires-clause-stands : goal.taken_from-requires-clause-stands
 taken_from-requires-clause-stands g c = λ tells. subst (λ (d : Desk _). StandsEarly g.D.Disk.meaning (record { book = c.args.self.now; desk = d })) c.in-Up.is (c.requires.stands tells)
 
+pub taken_up-requires-clause-sound : goal.taken_up-requires-clause-sound
+taken_up-requires-clause-sound g c = subst (λ (d : Desk _). IsDeskOf g.D.Disk.meaning c.args.self.now.names.items d) c.in-Down.is c.requires.desk
+
 pub taken_up-requires-clause-needs : goal.taken_up-requires-clause-needs
 taken_up-requires-clause-needs g c = needs_of c.args.desk c.args.input c.requires.due
 
 pub taken_up-requires-clause-early : goal.taken_up-requires-clause-early
 taken_up-requires-clause-early g c = λ tells.
-    held_down g.D.Disk.meaning c.args.self.now c.in-Down.closed c.in-Down.place
+    held_down g.D.Disk.meaning c.args.self.now c.in-Down.files c.in-Down.place
     (subst (λ (d : Desk _). StandsEarly g.D.Disk.meaning (record { book = c.args.self.now; desk = d })) c.in-Down.is (c.requires.stands tells))
 
 pub returns-in-Up-clause-leaves : goal.returns-in-Up-clause-leaves
@@ -35,11 +38,11 @@ returns-in-Up-clause-serves g c = λ tells.
 
 pub returns-in-Down-clause-leaves : goal.returns-in-Down-clause-leaves
 returns-in-Down-clause-leaves g c =
-    leaves_of g.D.Disk.meaning c.args.self.now c.args.desk (closed_disk c.in-Down.closed) c.taken_up.new.self c.taken_up.result (ap desk_disk (sym c.in-Down.is)) c.taken_up.ensures.leaves
+    leaves_of g.D.Disk.meaning c.args.self.now c.args.desk (files_disk c.in-Down.files) c.taken_up.new.self c.taken_up.result (ap desk_disk (sym c.in-Down.is)) c.taken_up.ensures.leaves
 
 pub returns-in-Down-clause-serves : goal.returns-in-Down-clause-serves
 returns-in-Down-clause-serves g c = λ tells cap w asked state early asks.
     let here = subst (λ (d : Desk _). IsStateAt g.D.Disk.meaning cap w (record { book = c.args.self.now; desk = d })) c.in-Down.is state in
     subst (λ (d : Desk _). IsServedAs g.D.Disk.meaning cap w c.args.node c.args.now asked (desk_disk d) (record { book = c.taken_up.new.self; desk = c.taken_up.result.desk }) (both c.taken_up.result.first c.taken_up.result.second) c.taken_up.result.answer)
     (sym c.in-Down.is)
-    (c.taken_up.ensures.serves tells cap w asked (taking_down g.D.Disk.meaning cap w asked c.args.self.now c.in-Down.closed c.in-Down.place c.args.node c.args.input here early asks) here.desk.holds)
+    (c.taken_up.ensures.serves tells cap w asked (taking_down g.D.Disk.meaning cap w asked c.args.self.now c.in-Down.files c.in-Down.place c.args.node c.args.input here early asks) here.desk.holds)

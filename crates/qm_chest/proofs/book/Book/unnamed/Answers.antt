@@ -7,6 +7,7 @@ use Rattle.qm_history.specs.declared.call.Answer.TheVariants as answer
 use Rattle.qm_history.specs.declared.event.Event.TheVariants as event
 use Rattle.qm_history.specs.Takeover.{is_named, nodes_on}
 use Rattle.qm_kinds.specs.declared.system.System.{System}
+use Rattle.qm_acting.proofs.Spare.{keeps_to}
 use Rattle.qm_acting.specs.Standing.{disk_of, restored_disk, restored_standing}
 use Rattle.qm_chest.specs.Taking.{failed, told_of_failed}
 use Rattle.qm_chest.proofs.Failed as failing
@@ -21,7 +22,8 @@ returns-in-Ok-clause-leaves g c =
     let name = name_there c.args.node (restored_standing c.args.restored).system.nodes c.args.self.now.names.items can.nodes can.there in
     failed_leaves m c.args.self.now _ (restored_disk c.args.restored) _ c.close.result None c.args.node c.next_epoch-epoch.result c.args.kept (Some (event.NoManager c.args.node))
     (answer.NoManager (told_of_failed c.next_epoch-epoch.result c.args.kept) name.0) c.refused.result refl (omega arith)
-    (quiet_faults m (restored_disk c.args.restored) (closed_disk c.close.result) (ap m.faults c.close.ensures ∙ c.in-Ok.ensures.faults.quiet (λ no. no))) ((λ is. cc), (λ h. refl)) tt
+    (quiet_faults m (restored_disk c.args.restored) (closed_disk c.close.result) (ap m.faults c.close.ensures ∙ c.in-Ok.ensures.faults.quiet (λ no. no)))
+    (λ tells. keeps_to m (restored_disk c.args.restored) (disk_of c.in-Ok.manager) (closed_disk c.close.result) (c.in-Ok.ensures.spare tells) c.close.ensures) ((λ is. cc), (λ h. refl)) tt
     (c.refused.ensures name.0 name.1)
 
 pub returns-in-Ok-clause-serves : goal.returns-in-Ok-clause-serves

@@ -1,8 +1,7 @@
-use Rattle.std.proofs.Common.{◌≡◌, ◌++◌, List, refl, sym, ◌∙◌, ap, subst}
-use Rattle.std.specs.Prelude.{option_to_list}
-use Rattle.qm_history.specs.declared.turn.Turn.{Turn}
+use Rattle.std.proofs.Common.{refl, sym, subst}
+use Rattle.qm_acting.proofs.Spare.{keeps_same}
 use Rattle.qm_chest.specs.At.{chest_disk}
-use Rattle.qm_chest.specs.Serving.{CanServe, Serving, turn_made}
+use Rattle.qm_chest.specs.Serving.{CanServe, Serving}
 use Rattle.qm_chest.specs.Whole.{both}
 use Rattle.qm_chest.specs.declared.wanted.Wanted.{Wanted}
 use Rattle.qm_chest.proofs.Served.{can_serve, kept_so, none_down, none_failed, none_left, none_served, none_shows, one_left, served_at, serving_behind, serving_still}
@@ -31,6 +30,9 @@ returns-in-Err-clause-faults g c =
 
 pub returns-in-Err-clause-down : goal.returns-in-Err-clause-down
 returns-in-Err-clause-down g c = none_down c.args.self.now.turns.items c.in-Err.told c.in-Err.ensures.why _
+
+pub returns-in-Err-clause-spare : goal.returns-in-Err-clause-spare
+returns-in-Err-clause-spare g c = λ tells. keeps_same g.D.Disk.meaning (chest_disk c.args.self.now)
 
 -- ---- a turn is left
 
@@ -65,3 +67,6 @@ returns-in-Ok-clause-serving g c =
     let kept = kept_so old.turns.items c.room_for.new.turns.items c.keep.new.turns.items c.by-wanted.result c.args.node c.args.now c.args.call (both out.first out.second)
     c.by-wanted.ensures c.in-Ok.ensures.turns c.keep.ensures in
     serving_behind g.D.Disk.meaning c.args.node c.args.now c.args.call old _ out served kept c.worlds_stay_sound.ensures.events c.in-Ok.ensures.few c.requires.serving
+
+pub returns-in-Ok-clause-spare : goal.returns-in-Ok-clause-spare
+returns-in-Ok-clause-spare g c = c.replace_with-first.ensures.leaves.spare
