@@ -1,0 +1,92 @@
+// A site at work, and how it is opened.
+ghost use Rattle.std.specs.Prelude.{◌≡◌, ◌<◌, ◌^◌, IfErr, IfOk, IsTrue, OnOk};
+ghost use Rattle.qm_acting.specs.Reading.{IsRestoreFault};
+ghost use Rattle.qm_chest.specs.Checking.{Begins, IsChecked, checked_disk, checked_standing};
+ghost use Rattle.qm_course.specs.Serving.{Serves};
+ghost use Rattle.qm_database.specs.Loading.{FailsBy};
+ghost use Rattle.qm_disk.specs.Disk.{OnlyLooks, TellsFaults};
+ghost use Rattle.qm_glog.specs.declared.fault.OpenFault.TheVariants as fault;
+ghost use Rattle.qm_service.specs.Opening.{IsOpened, disk_opened};
+ghost use Rattle.qm_service.specs.Value.{meaning_of, service_disk, service_names};
+
+use crate::fitting::look_at_call;
+use qm_chest::{Checked, Chest, check, chests_begin_without_notes, sites_begin_one_world};
+use qm_course::Serve;
+use qm_database::LoadFault;
+use qm_disk::Disk;
+use qm_history::{Answer, Call};
+use qm_kinds::{Moment, Name};
+use qm_node::duties_can_be_learned;
+use qm_restore::site_files_are_consistent;
+use std::alloc::Global;
+
+// No number of turns reaches the last epoch from a recorded one below this.
+const EARLY_EPOCHS: u64 = 1 << 61;
+
+/// A site at work.
+#[derive(Drop)]
+pub struct Service<D> {
+    pub(crate) chest: Chest<D>,
+}
+
+impl<D: Disk> Service<D> {
+    /// Reads the files of a site, each behind a sync, and begins on them. Nothing is changed. `Unformatted` comes where the master
+    /// doesn't begin with a record, `Damaged` with the place of the first record that is cut short or can't stand there, and
+    /// `NoMemory` also where a recorded epoch is so late that turns could reach the last one. An `Err` hands the device back.
+    pub fn open(alloc: Global, disk: D) -> Result<Service<D>, (D, LoadFault)>
+        ensures opened { IfOk result (IsOpened D.meaning disk) }
+        ensures fault { IsTrue D.meaning.tells → IfErr result (λ failed. IsRestoreFault (D.meaning.seen disk) failed.1) }
+        ensures looks { OnlyLooks D.meaning disk (disk_opened result) }
+        ensures faults { TellsFaults D.meaning disk (disk_opened result) (FailsBy result fault.Disk) }
+    {
+        site_files_are_consistent();
+        sites_begin_one_world();
+        chests_begin_without_notes::<D>();
+        match check(alloc, disk) {
+            Ok(checked) => Service::begin(alloc, checked),
+            Err(failed) => Err(failed),
+        }
+    }
+
+    // Begins on files that were read.
+    fn begin(alloc: Global, checked: Checked<D>) -> Result<Service<D>, (D, LoadFault)>
+        requires { IsChecked D.meaning checked }
+        ensures begins { IfOk result (λ service. Begins D.meaning checked service.chest) }
+        ensures early { OnOk result ((checked_standing checked).recorded.says.epoch < 2 ^ 61) }
+        ensures back { IfErr result (λ failed. (failed.0 ≡ checked_disk checked) × (failed.1 ≡ fault.NoMemory)) }
+    {
+        if checked.epoch() >= EARLY_EPOCHS {
+            return Err((checked.give_back(), LoadFault::NoMemory));
+        }
+        match Chest::new(alloc, checked) {
+            Ok(chest) => Ok(Service { chest }),
+            Err((closed, _)) => Err((closed.give_back(), LoadFault::NoMemory)),
+        }
+    }
+
+    /// The names of the nodes, in the cluster's order.
+    pub fn names(&self) -> &[Name]
+        ensures { result.now ≡ service_names self.now }
+    {
+        self.chest.names()
+    }
+
+    /// Lets go of what was read.
+    pub fn give_back(self) -> D
+        ensures { result ≡ service_disk self }
+    {
+        let Service { chest } = self;
+        let (closed, _) = chest.end();
+        closed.give_back()
+    }
+}
+
+impl<D: Disk> Serve for Service<D> {
+    ghost meaning = { meaning_of D.meaning };
+
+    fn serve(&mut self, node: u8, now: Moment, call: Call) -> Answer {
+        duties_can_be_learned();
+        look_at_call(node, &call);
+        self.chest.serve(node, now, call)
+    }
+}
