@@ -1,12 +1,8 @@
-pub mod Transcript
 pub mod Ends
 pub mod Task
-pub mod Moves
-pub mod Ahead
-pub mod Handing
-pub mod Course
-pub mod Heard
-pub mod Position
-pub mod Serving
+pub mod Making
+pub mod Reading
+pub mod Causes
 pub mod Running
+pub mod Doing
 pub mod Surviving

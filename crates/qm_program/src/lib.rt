@@ -1,23 +1,19 @@
 //! The top call: what the program does between its words and its status, over any source of bytes, any sink and any disk
-//! with the queue file. What it writes is the transcript of the script that it reads, over the site that the file keeps.
+//! with the files of a site. What it writes is the transcript of the turns of the site's nodes, by the script that it reads.
 #![tactic(auto)]
 
-mod carrying;
-mod course;
-mod heard;
 mod laws;
-mod lines;
+mod making;
 mod outcome;
-mod position;
-mod serve;
+mod running;
 mod task;
 mod top_call;
 
 pub use laws::{
-    a_crash_leaves_the_site_after_some_moves, a_queue_file_has_a_cap,
-    a_run_that_ends_well_has_served_its_script, a_run_that_stops_has_made_its_first_moves,
-    moments_have_a_last_one, moves_come_to_an_end, moves_hand_over_their_blocks, names_have_limits,
-    steps_print_their_text, the_queue_file_has_a_number,
+    a_crash_leaves_a_moment_of_the_run, blocks_come_in_stretches, moments_have_a_last_one,
+    names_have_limits, programs_go_on_behind_runs, programs_go_on_with_what_was_acknowledged,
 };
+pub use making::new_sites_begin_one_world;
 pub use outcome::{End, Outcome};
+pub use qm_course::Station;
 pub use top_call::qman;

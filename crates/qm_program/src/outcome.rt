@@ -1,17 +1,20 @@
-ghost use Rattle.std.specs.Prelude.{◌≡◌, Some};
-ghost use Rattle.qm_program.specs.Ends.{status_of, end_text, end_of, end_of_opening, end_of_making};
+// How the program ends, and what it hands back.
+ghost use Rattle.std.specs.Prelude.{◌≡◌, [], Some};
+ghost use Rattle.qm_program.specs.Ends.{status_of, end_text, end_of_opening, end_of_making};
 
-use crate::serve::ServeEnd;
+use qm_database::LoadFault;
 use qm_disk::Disk;
+use qm_glog::MakeFault;
+use qm_history::Turn;
 use qm_kinds::ScriptKind;
-use qm_manager::{MakeFault, OpenFault};
+use std::alloc::Global;
 use std::fmt;
 
 /// How the program ended.
 #[derive(Clone, Copy, Debug, PartialEq, Eq)]
 pub enum End {
-    /// The script was read to its end, every line was answered, and each run that could step was carried out; or the files
-    /// were made.
+    /// The script was read to its end, every line was answered, each run that could step was carried out, and no disk failed;
+    /// or the files were made.
     Ok,
     /// The words aren't those of the program.
     Usage,
@@ -19,16 +22,18 @@ pub enum End {
     Script { line: u32, kind: ScriptKind },
     /// The source failed.
     Read,
-    /// The sink failed. It took the transcript up to a line, and a front of what that line was answered.
+    /// The sink failed. It took a front of the transcript.
     Write,
-    /// The disk failed. The sink took the transcript up to the line at which it did, and the line that says so; nothing where
-    /// the queue file couldn't be made or opened.
+    /// The disk failed. The script was served all the same, and the sink took the transcript, which says where it did; or the
+    /// files couldn't be read or made, and it took nothing.
     Journal,
-    /// The queue file begins with this byte, which isn't 1. An empty one counts as a byte 0.
+    /// The master begins with this byte, which isn't 1. An empty one counts as a byte 0.
     Unformatted { byte: u8 },
-    /// At this place, in bytes from 0, the file is no queue file.
+    /// At this place, in bytes from 0, the master (0) or the live queue file (1 or 2) isn't one.
     Damaged { file: u8, place: u64 },
-    /// There was no memory. The sink took the transcript up to a line, or nothing.
+    /// No more turns can be kept. The sink took the transcript of those that are.
+    HistoryFull,
+    /// There was no memory. The sink took a front of the transcript, or nothing.
     NoMemory,
 }
 
@@ -46,20 +51,21 @@ impl End {
             End::Journal => 6,
             End::Unformatted { .. } => 7,
             End::Damaged { .. } => 8,
+            End::HistoryFull => 9,
             End::NoMemory => 10,
         }
     }
 }
 
-impl From<OpenFault> for End {
+impl From<LoadFault> for End {
     ghost from_gives = { λ fault end. end ≡ end_of_opening fault };
 
-    fn from(fault: OpenFault) -> End {
+    fn from(fault: LoadFault) -> End {
         match fault {
-            OpenFault::Disk => End::Journal,
-            OpenFault::Unformatted { byte } => End::Unformatted { byte },
-            OpenFault::Damaged { file, place } => End::Damaged { file, place },
-            OpenFault::NoMemory => End::NoMemory,
+            LoadFault::Disk => End::Journal,
+            LoadFault::Unformatted { byte } => End::Unformatted { byte },
+            LoadFault::Damaged { file, place } => End::Damaged { file, place },
+            LoadFault::NoMemory => End::NoMemory,
         }
     }
 }
@@ -71,18 +77,6 @@ impl From<MakeFault> for End {
         match fault {
             MakeFault::Disk => End::Journal,
             MakeFault::NoMemory => End::NoMemory,
-        }
-    }
-}
-
-impl From<ServeEnd> for End {
-    ghost from_gives = { λ fault end. end ≡ end_of fault };
-
-    fn from(fault: ServeEnd) -> End {
-        match fault {
-            ServeEnd::Journal => End::Journal,
-            ServeEnd::Write => End::Write,
-            ServeEnd::NoMemory => End::NoMemory,
         }
     }
 }
@@ -101,30 +95,44 @@ impl fmt::Display for End {
             End::Journal => f.write_str("journal failed"),
             End::Unformatted { byte } => write!(f, "unformatted, byte {byte}"),
             End::Damaged { file, place } => write!(f, "damaged, file {file}, byte {place}"),
+            End::HistoryFull => f.write_str("history full"),
             End::NoMemory => f.write_str("no memory"),
         }
     }
 }
 
-/// How the program ended, its status, and the disk with the queue file.
+/// How the program ended, its status, the disk with the files, and the turns that the nodes made, in their order.
 #[derive(Drop)]
 pub struct Outcome<D: Disk> {
     pub status: u8,
     pub end: End,
     pub disk: D,
+    pub turns: Vec<Turn>,
 }
 
 impl<D: Disk> Outcome<D> {
-    /// The outcome with this end.
-    pub fn of(end: End, disk: D) -> Outcome<D>
+    /// The outcome with this end, before any turn. It takes no memory.
+    pub(crate) fn of(alloc: Global, end: End, disk: D) -> Outcome<D>
         ensures end { result.end ≡ end }
         ensures status { result.status ≡ status_of end }
         ensures disk { result.disk ≡ disk }
+        ensures turns { result.turns.items ≡ [] }
+    {
+        Outcome::with(end, disk, Vec::new(alloc))
+    }
+
+    /// The outcome with this end, behind these turns.
+    pub(crate) fn with(end: End, disk: D, turns: Vec<Turn>) -> Outcome<D>
+        ensures end { result.end ≡ end }
+        ensures status { result.status ≡ status_of end }
+        ensures disk { result.disk ≡ disk }
+        ensures turns { result.turns.items ≡ turns.items }
     {
         Outcome {
             status: end.status(),
             end,
             disk,
+            turns,
         }
     }
 }

@@ -1,27 +1,58 @@
 // What the program's words ask for.
-ghost use Rattle.std.specs.Prelude.{◌≡◌, ◌≤◌, length, map, IfSome};
+ghost use Rattle.std.specs.Prelude.{◌≡◌, map, IfOk, IfSome};
 ghost use Rattle.std.specs.String.{string_bytes};
-ghost use Rattle.qm_program.specs.Task.{task_of};
+ghost use Rattle.qm_program.specs.Task.{NamesSite, init_of, task_of};
 
-use qm_kinds::Name;
-use qm_script::read_node_name;
+use qm_kinds::{Name, Seq};
+use qm_script::{caps_have_limits, named_nodes_make_a_site, read_cap, read_nodes};
+use std::alloc::{AllocError, Global};
+
+/// The most bytes of a new site's queue file where the words don't say it, 128 MiB.
+pub const USUAL_CAP: u64 = 134_217_728;
 
 /// What the program is asked to do.
-#[derive(Clone, Copy, Debug)]
+#[derive(Drop)]
 pub(crate) enum Task {
     /// To serve a script.
     Run,
-    /// To make the queue file of a new site of this node.
-    Init(Name),
+    /// To make a new site of these nodes, whose queue files may have so many bytes.
+    Init { nodes: Seq<Name>, cap: u64 },
 }
 
-/// What the words ask for: `run`, or `init` and a node's name of at most six bytes. Other words ask for nothing.
-pub(crate) fn read_task(words: &[String]) -> Option<Task>
-    ensures { result ≡ task_of (map string_bytes words.now) }
+// A new site of the nodes that the word names, if there is a cap.
+fn read_init(alloc: Global, word: &[u8], cap: Option<u64>) -> Result<Option<Task>, AllocError>
+    ensures { IfOk result (λ task. task ≡ init_of word.now cap) }
 {
+    let Some(cap) = cap else {
+        return Ok(None);
+    };
+    match read_nodes(alloc, word)? {
+        Some(nodes) => Ok(Some(Task::Init {
+            nodes: Seq::of(nodes),
+            cap,
+        })),
+        None => Ok(None),
+    }
+}
+
+/// What the words ask for: `run`; or `init`, the names of one to eight nodes with commas between them, each of at most six bytes
+/// and each once, and behind them the most bytes of a queue file, 4,096 to 268,435,456, or nothing. Other words ask for
+/// nothing. Memory may run out where the words are two or three.
+pub(crate) fn read_task(alloc: Global, words: &[String]) -> Result<Option<Task>, AllocError>
+    ensures task { IfOk result (λ task. task ≡ task_of (map string_bytes words.now)) }
+    // What is asked for can be made.
+    ensures site { IfOk result (λ task. IfSome task NamesSite) }
+{
+    named_nodes_make_a_site();
+    caps_have_limits();
     match words {
-        [word] if word.as_str() == "run" => Some(Task::Run),
-        [word, node] if word.as_str() == "init" => read_node_name(node.as_bytes()).map(Task::Init),
-        _ => None,
+        [word] if word.as_str() == "run" => Ok(Some(Task::Run)),
+        [word, nodes] if word.as_str() == "init" => {
+            read_init(alloc, nodes.as_bytes(), Some(USUAL_CAP))
+        }
+        [word, nodes, cap] if word.as_str() == "init" => {
+            read_init(alloc, nodes.as_bytes(), read_cap(cap.as_bytes()))
+        }
+        _ => Ok(None),
     }
 }

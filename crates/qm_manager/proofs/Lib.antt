@@ -1,9 +1,0 @@
-pub mod Rows
-pub mod Beginning
-pub mod Leading
-pub mod Going
-pub mod Asked
-pub mod OneSite
-pub mod Faults
-pub mod Consistent
-pub mod Sites

@@ -1,0 +1,190 @@
+-- What the end of a run says of it.
+use Rattle.std.proofs.Common.{◌≡◌, ◌+◌, ◌<◌, inl, inr, ⊎_elim, ℕ, nat_lt, true, List, [], length, Option, None, Some, Result, Ok, Err, IsOk, IsTrue, IfSome, refl, sym, ◌∙◌, subst, arith}
+use Rattle.std.proofs.lemmas.Bool.Decides.{nat_tests}
+use Rattle.std.specs.Io.KnownBytes.{IsAtEnd}
+use Rattle.qm_acting.specs.Reading.{IsRestoreFault}
+use Rattle.qm_chest.specs.Noting.{StartsEarly}
+use Rattle.qm_course.specs.Runs.{Side}
+use Rattle.qm_course.specs.Taken.{RoseBy}
+use Rattle.qm_disk.specs.Disk.{Meaning, OnlyLooks, TellsFaults}
+use Rattle.qm_glog.specs.declared.fault.OpenFault.{OpenFault}
+use Rattle.qm_glog.specs.declared.fault.OpenFault.TheVariants as opening
+use Rattle.qm_history.specs.Ends.{ServingEnd}
+use Rattle.qm_history.specs.Ends as serving
+use Rattle.qm_history.specs.Faults.{faults_told}
+use Rattle.qm_history.specs.Lines.{LineFault, script_bytes, script_lines}
+use Rattle.qm_history.specs.Script.{UserLine}
+use Rattle.qm_history.specs.declared.turn.Turn.{Turn}
+use Rattle.qm_history.specs.declared.world.World.{World}
+use Rattle.qm_io.specs.Bytes.{LosesAtMost}
+use Rattle.qm_kinds.specs.declared.script.ScriptKind.TheVariants.{Long}
+use Rattle.qm_script.specs.ClusterLines.{ReadsLines}
+use Rattle.qm_script.specs.declared.lines.LinesEnd.{LinesEnd}
+use Rattle.qm_script.specs.declared.lines.LinesEnd.TheVariants as lines
+use Rattle.qm_script.specs.declared.script.TheConstants.{SCRIPT_BYTES}
+use Rattle.qm_service.specs.Ends.{CountsSink}
+use Rattle.qm_service.specs.Opening.{IsOpened}
+use Rattle.qm_service.specs.Serving.{Serves, outside}
+use Rattle.qm_service.specs.Value.{service_disk, service_names}
+use Rattle.qm_service.specs.declared.service.Service.{Service}
+use Rattle.qm_symb.specs.Device as symb
+use Rattle.qm_program.specs.Causes.{HasCause}
+use Rattle.qm_program.specs.Ends.{EndsUnopened, EndsUnserved, IsBehindText, end_of_lines, end_of_serving}
+use Rattle.qm_program.specs.Reading.{AreKnown, HoldCluster, IsFaulty, IsFirstFault, IsRead, IsScript, Reads}
+use Rattle.qm_program.specs.Running.{RunsTo, ServesScript, TouchesNothing}
+use Rattle.qm_program.specs.declared.outcome.End.{End}
+use Rattle.qm_program.specs.declared.outcome.End.TheVariants as ends
+use Rattle.qm_program.proofs.Counting.{counts_of, none_rose, same_counts, some_rose, told_at_full, told_at_write}
+
+-- ---- what was read
+
+-- what was read is what the source had left
+pub read_text : (left : Option (List ℕ)) (items text : List ℕ) → IfSome left (λ bytes. items ≡ bytes) → text ≡ items → IsRead left text
+read_text None items text whole is = tt
+read_text (Some bytes) items text whole is = sym (is ∙ whole)
+
+-- what is so of the text is so of what the source had left
+of_text : (left : Option (List ℕ)) (text : List ℕ) (P : List ℕ → Type 0) → IsRead left text → P text → IfSome left P
+of_text None text P read so = tt
+of_text (Some bytes) text P read so = subst P (sym read) so
+
+is_script_by : (names : Option (List (List ℕ))) (left : Option (List ℕ)) (text : List ℕ) (s : Result (List UserLine) LineFault) → IsRead left text → script_lines names text ≡ s → IsOk s
+    → IsScript names left
+is_script_by names left text (Ok lines) read is ok = record { text = text; lines = lines; read = read; script = is; so = tt }
+is_script_by names left text (Err fault) read is ok = cc
+
+is_script : (names : Option (List (List ℕ))) (left : Option (List ℕ)) (text : List ℕ) → IsRead left text → IsOk (script_lines names text) → IsScript names left
+is_script names left text read ok = is_script_by names left text (script_lines names text) read refl ok
+
+module _ {D Y : Type 0} (m : Meaning D) (y : symb.Meaning Y) (left : Option (List ℕ)) (text : List ℕ) (read : IsRead left text) where
+  -- ---- lines that weren't served
+
+  module _ (source sink : ℕ) (old new : D) (taken : Option (List ℕ)) (sides : List (Side Y)) (looks : OnlyLooks m old new) where
+    touched : TouchesNothing m y [] (outside old taken sides) (outside new taken sides)
+    touched = record { disk = looks; taken = refl; sides = refl; none = refl }
+
+    -- it ends so, and leaves this
+    abbrev Ends : End → Type 0
+    Ends end =
+        IsBehindText end
+        × HasCause m.tells (m.seen old) left [] (counts_of source sink (m.faults old)) (counts_of source sink (m.faults new)) end
+        × RunsTo m y left [] (outside old taken sides) (outside new taken sides) end
+
+    faulty : (names : Option (List (List ℕ))) → AreKnown m.tells (m.seen old) (m.faults old) (m.faults new) names → (fault : LineFault) → script_lines names text ≡ Err fault
+        → IsFaulty m.tells (m.seen old) (m.faults old) (m.faults new) left fault
+    faulty names known fault is = inr (names, of_text left text (λ bytes. script_lines names bytes ≡ Err fault) read is, known)
+
+    ends_faulty : (names : Option (List (List ℕ))) → AreKnown m.tells (m.seen old) (m.faults old) (m.faults new) names → (fault : LineFault) → script_lines names text ≡ Err fault
+        → Ends (ends.Script fault.line fault.kind)
+    ends_faulty names known fault is = (tt, (refl, refl, faulty names known fault is), inr touched)
+
+    ends_short : (names : Option (List (List ℕ))) → AreKnown m.tells (m.seen old) (m.faults old) (m.faults new) names → IsOk (script_lines names text) → Ends ends.NoMemory
+    ends_short names known ok = (tt, (refl, refl), inr (inl (touched, inr (names, known, is_script names left text read ok))))
+
+    unserved : (names : Option (List (List ℕ))) → AreKnown m.tells (m.seen old) (m.faults old) (m.faults new) names → (other end : End) → (IsOk (script_lines names text) → Ends other)
+        → EndsUnserved names text other end → Ends end
+    unserved names known other end goes ends_so = elim ends_so [
+      | inl ok ↦ ⊎_elim (λ is. subst Ends (sym is) (goes ok.0)) (λ is. subst Ends (sym is) (ends_short names known ok.0)) ok.1
+      | inr wrong ↦ subst Ends (sym wrong.2) (ends_faulty names known wrong.0 wrong.1)
+    ]
+
+    -- the files couldn't be opened
+    pub unopened : (fault : OpenFault) → (IsTrue m.tells → IsRestoreFault (m.seen old) fault) → TellsFaults m old new (fault ≡ opening.Disk) → (end : End) → EndsUnopened text fault end → Ends end
+    unopened opening.NoMemory told counts end is =
+        subst Ends (sym is) (tt, (refl, refl), inr (inl (touched, inl (counts.quiet (λ is. cc), told))))
+    unopened opening.Disk told counts end is =
+        unserved None (inr (counts.fault refl)) ends.Journal end
+        (λ ok. (tt, (refl, refl, counts.fault refl), inl (touched, is_script None left text read ok))) is
+    unopened (opening.Unformatted byte) told counts end is =
+        let quiet = counts.quiet (λ is. cc) in
+        unserved None (inl (quiet, λ tells. inl (byte, told tells))) (ends.Unformatted byte) end
+        (λ ok. (tt, (same_counts source sink (m.faults old) sink (m.faults new) refl quiet, told), (touched, is_script None left text read ok))) is
+    unopened (opening.Damaged file place) told counts end is =
+        let quiet = counts.quiet (λ is. cc) in
+        unserved None (inl (quiet, λ tells. inr (file, place, told tells))) (ends.Damaged file place) end
+        (λ ok. (tt, (refl, refl, inl (refl, quiet, told)), inl (touched, is_script None left text read ok))) is
+
+  -- ---- over a site that was opened
+
+  module _ (source sink later : ℕ) (disk : D) (service : Service D) (opened : IsOpened m disk service) where
+    holds : IsTrue m.tells → HoldCluster (m.seen disk) (service_names service)
+    holds tells = holds_in (opened.begins tells)
+      where
+        holds_in : (w : World) × StartsEarly (m.seen disk) w → HoldCluster (m.seen disk) (service_names service)
+        holds_in begins = record { world = begins.0; starts = begins.1; names_are = opened.names tells }
+
+    -- no lines were read
+    pub unread : {X : Type 0} (view : X → List UserLine) (taken : Option (List ℕ)) (sides : List (Side Y)) (end : LinesEnd) → ReadsLines view (script_lines (Some (service_names service)) text) (Err end)
+        → Ends source sink disk (service_disk service) taken sides opened.looks (end_of_lines end)
+    unread view taken sides (lines.Fault line kind) is =
+        ends_faulty source sink disk (service_disk service) taken sides opened.looks (Some (service_names service)) (opened.quiet, holds) (record { line = line; kind = kind }) is
+    unread view taken sides lines.NoMemory is =
+        ends_short source sink disk (service_disk service) taken sides opened.looks (Some (service_names service)) (opened.quiet, holds) is
+
+    module _ (script : List UserLine) (is : script_lines (Some (service_names service)) text ≡ Ok script) (taken now : Option (List ℕ)) (was are : List (Side Y)) (new : D) (turns : List Turn) where
+      abbrev Served : ServingEnd → Type 0
+      Served end = Serves m y disk (service_names service) script (outside (service_disk service) taken was) (outside new now are) turns end
+
+      served_so : (end : ServingEnd) → Served end → ServesScript m y left turns (outside disk taken was) (outside new now are) end
+      served_so end serves = record {
+        names = service_names service;
+        cluster = holds;
+        opened = service_disk service;
+        looks = opened.looks;
+        quiet = opened.quiet;
+        served = record { text = text; lines = script; read = read; script = is; so = serves };
+      }
+
+      pub served_runs : (end : ServingEnd) → Served end → RunsTo m y left turns (outside disk taken was) (outside new now are) (end_of_serving end)
+      served_runs serving.Served serves = served_so serving.Served serves
+      served_runs serving.DiskFailed serves = inr (served_so serving.DiskFailed serves)
+      served_runs serving.SinkFailed serves = served_so serving.SinkFailed serves
+      served_runs serving.HistoryFull serves = served_so serving.HistoryFull serves
+      served_runs (serving.Damaged file place) serves = inr (served_so (serving.Damaged file place) serves)
+      served_runs serving.NoMemory serves = inr (inr (served_so serving.NoMemory serves))
+
+      since_opening : RoseBy (faults_told turns) (m.faults (service_disk service)) (m.faults new) → RoseBy (faults_told turns) (m.faults disk) (m.faults new)
+      since_opening rose = subst (λ (n : ℕ). RoseBy (faults_told turns) n (m.faults new)) opened.quiet rose
+
+      pub served_cause : (end : ServingEnd) → CountsSink end sink later → Served end
+          → HasCause m.tells (m.seen disk) left turns (counts_of source sink (m.faults disk)) (counts_of source later (m.faults new)) (end_of_serving end)
+      served_cause serving.Served counts serves =
+          same_counts source sink (m.faults disk) later (m.faults new) counts (none_rose turns (m.faults disk) (m.faults new) serves.ends (since_opening serves.failed))
+      served_cause serving.DiskFailed counts serves = (refl, counts, some_rose turns (m.faults disk) (m.faults new) serves.ends (since_opening serves.failed))
+      served_cause serving.SinkFailed counts serves = (refl, counts, since_opening (told_at_write turns _ _ serves.failed))
+      served_cause serving.HistoryFull counts serves = (refl, counts, since_opening (told_at_full turns _ _ serves.failed), serves.ends)
+      served_cause (serving.Damaged file place) counts serves = (refl, counts, inr serves.undamaged)
+      served_cause serving.NoMemory counts serves = (refl, counts)
+
+-- the whole text was read
+pub served_behind : (end : ServingEnd) → IsBehindText (end_of_serving end)
+served_behind serving.Served = tt
+served_behind serving.DiskFailed = tt
+served_behind serving.SinkFailed = tt
+served_behind serving.HistoryFull = tt
+served_behind (serving.Damaged file place) = tt
+served_behind serving.NoMemory = tt
+
+pub reads_whole : (left rest : Option (List ℕ)) (end : End) → IsBehindText end → LosesAtMost (SCRIPT_BYTES + 1) left rest → IsAtEnd rest → Reads left rest end
+reads_whole left rest ends.Ok behind lost at_end = at_end
+reads_whole left rest ends.Usage behind lost at_end = absurd behind
+reads_whole left rest ends.Read behind lost at_end = absurd behind
+reads_whole left rest (ends.Script line kind) behind lost at_end = (lost, λ not. at_end)
+reads_whole left rest ends.Write behind lost at_end = at_end
+reads_whole left rest ends.Journal behind lost at_end = at_end
+reads_whole left rest (ends.Unformatted byte) behind lost at_end = at_end
+reads_whole left rest (ends.Damaged file place) behind lost at_end = at_end
+reads_whole left rest ends.HistoryFull behind lost at_end = at_end
+reads_whole left rest ends.NoMemory behind lost at_end = inr at_end
+
+-- a text that is too long
+too_long_by : (n : ℕ) → n ≡ script_bytes → (names : Option (List (List ℕ))) (bytes : List ℕ) → n < length bytes → script_lines names bytes ≡ Err (record { line = 0; kind = Long })
+too_long_by n is names bytes long = rw is_less refl
+  where
+    is_less : nat_lt script_bytes (length bytes) ≡ true
+    is_less = grind (arith, nat_tests)
+
+pub too_long : SCRIPT_BYTES ≡ script_bytes → (left : Option (List ℕ)) → IfSome left (λ bytes. SCRIPT_BYTES < length bytes)
+    → (names : Option (List (List ℕ))) → IsFirstFault names left (record { line = 0; kind = Long })
+too_long limit None long names = tt
+too_long limit (Some bytes) long names = too_long_by SCRIPT_BYTES limit names bytes long

@@ -1,6 +1,0 @@
-pub mod FirstByte
-pub mod Rows
-pub mod FewRows
-pub mod Contents
-pub mod Moments
-pub mod Appending

@@ -1,4 +1,0 @@
-pub mod Store
-pub mod Appending
-pub mod Opened
-pub mod Rows
