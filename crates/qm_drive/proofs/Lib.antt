@@ -1,13 +1,9 @@
 pub mod Joins
 pub mod Owning
 pub mod Standing
-pub mod Calls
 pub mod Made
-pub mod Going
-pub mod Steps
 pub mod Lives
 pub mod Hearing
 pub mod Onward
-pub mod Lasts
 pub mod Underway
 pub mod Leaving

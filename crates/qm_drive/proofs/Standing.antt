@@ -12,7 +12,8 @@ use Rattle.qm_history.specs.Chest.{Note, turns_noted}
 use Rattle.qm_history.specs.Legal.{IsLegal, IsLegalTurn, after_turn, after_turns}
 use Rattle.qm_history.proofs.AnswerLemmas.{answers_legal}
 use Rattle.qm_drive.specs.declared.noted.Noted.{Noted}
-use Rattle.qm_drive.specs.Serving.{LeavesOne, MayBeTold, noted, turn_left}
+use Rattle.qm_course.specs.Serving.{IsAnswered}
+use Rattle.qm_drive.specs.Serving.{LeavesOne, noted, turn_left}
 use Rattle.qm_drive.specs.Sharing.{StandsFor, note_of, note_view, turns_of}
 
 pub legal_behind : (w : World) (turns : List Turn) (t : Turn) → IsLegal HasSpelling w turns → IsLegalTurn HasSpelling (after_turns w turns) t → IsLegal HasSpelling w (turns ++ t ∷ [])
@@ -28,14 +29,14 @@ turns_of_append notes n =
     ap turns_noted (map-append note_view notes (n ∷ [])) ∙ filter_map-append (λ (m : Note). m.turn) (map note_view notes) (note_view n ∷ [])
     ∙ ap (λ l. turns_of notes ++ l) (one_noted n n.turn refl)
 
-legal_with : (w : World) (turns : List Turn) (asked : Call) (turn : Option Turn) (told : Answer) → IsLegal HasSpelling w turns → MayBeTold (after_turns w turns) asked turn told
+legal_with : (w : World) (turns : List Turn) (asked : Call) (turn : Option Turn) (told : Answer) → IsLegal HasSpelling w turns → IsAnswered (after_turns w turns) asked turn told
     → IsLegal HasSpelling w (turns ++ option_to_list turn)
 legal_with w turns asked None told legal may = subst (IsLegal HasSpelling w) (sym (append-nil turns)) legal
 legal_with w turns asked (Some t) told legal may = legal_behind w turns t legal (answers_legal HasSpelling (after_turns w turns) asked t told may)
 
-module _ {S : Type 0} (tells : Bool) (first : World) (kept : S → List Turn) (stands : S → List Note → Type 0) (node now : ℕ) (asked : Call) (old new : S) (told : Answer)
-    (one : LeavesOne node now asked (kept old) (kept new) told)
-    (may : IsTrue tells → MayBeTold (after_turns first (kept old)) asked (turn_left (kept old) (kept new)) told)
+module _ {S : Type 0} (tells : Bool) (first : World) (kept : S → List Turn) (stands : S → List Note → Type 0) (most node now : ℕ) (asked : Call) (old new : S) (told : Answer)
+    (one : LeavesOne most node now asked (kept old) (kept new) told)
+    (may : IsTrue tells → IsAnswered (after_turns first (kept old)) asked (turn_left (kept old) (kept new)) told)
     (still : (notes : List Note) → stands old notes → stands new (notes ++ noted asked (kept old) (kept new) told ∷ []))
   where
     pub stands_on : (notes : List Noted) → StandsFor tells first kept stands old notes → StandsFor tells first kept stands new (notes ++ note_of asked (kept old) (kept new) told ∷ [])
@@ -45,7 +46,7 @@ module _ {S : Type 0} (tells : Bool) (first : World) (kept : S → List Turn) (s
           turns = one.turns ∙ ap (λ l. l ++ option_to_list note.turn) h.turns ∙ sym turns;
           legal =
               λ sure. subst (IsLegal HasSpelling first) (sym turns)
-              (legal_with first (turns_of notes) asked note.turn told (h.legal sure) (subst (λ l. MayBeTold (after_turns first l) asked note.turn told) h.turns (may sure)));
+              (legal_with first (turns_of notes) asked note.turn told (h.legal sure) (subst (λ l. IsAnswered (after_turns first l) asked note.turn told) h.turns (may sure)));
           itself =
               subst (λ l. stands new l) (sym (map-append note_view notes (note ∷ []))) (still (map note_view notes) h.itself);
         }

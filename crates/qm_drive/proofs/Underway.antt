@@ -1,5 +1,5 @@
 -- A node on its way through its course, from its beginning to its end.
-use Rattle.std.proofs.Common.{◌≡◌, ℕ, ◌+◌, ◌≤◌, inl, inr, Bool, true, List, [], ◌∷◌, ◌++◌, length, refl, sym, ◌∙◌, ap, subst, arith, append_assoc, Option, None, Some, Err}
+use Rattle.std.proofs.Common.{◌≡◌, ◌⊎◌, ℕ, ◌+◌, ◌≤◌, inl, inr, Bool, true, List, [], ◌∷◌, ◌++◌, length, refl, sym, ◌∙◌, ap, subst, arith, append_assoc, Option, None, Some, Err}
 use Rattle.std.specs.Prelude.{IfSome, IsTrue, option_to_list}
 use Rattle.std.specs.List.{AllByRecursion}
 use Rattle.std.specs.Io.KnownBytes.{Appends}
@@ -14,8 +14,10 @@ use Rattle.qm_history.specs.declared.turn.Turn.{Turn}
 use Rattle.qm_history.specs.declared.world.World.{World}
 use Rattle.qm_history.specs.Answering.{MayAnswer}
 use Rattle.qm_history.specs.Calls.{why_of}
-use Rattle.qm_history.specs.Chest.{IsMadeFor, LeavesTurn, turns_kept}
-use Rattle.qm_history.specs.Course.{Whole, Begun, MadeStep, GoesOn, IsCourse, answered, at_first, failed_steps, next_at}
+use Rattle.qm_history.specs.Chest.{IsMadeFor}
+use Rattle.qm_history.specs.declared.call.Call.TheVariants as call
+use Rattle.qm_model.specs.Kept.{KeptRun}
+use Rattle.qm_history.specs.Course.{NodeState, Whole, Begun, MadeStep, GoesOn, IsCourse, answered, at_first, failed_steps, next_at}
 use Rattle.qm_history.specs.Ends.{Ended, TurnsSpent, BeginsWith, HasPrinted}
 use Rattle.qm_history.specs.Legal.{IsLegal, after_turns}
 use Rattle.qm_history.specs.Reaching.{Reaches}
@@ -24,7 +26,17 @@ use Rattle.qm_history.specs.Text.{answer_text}
 use Rattle.qm_history.specs.Visits.{Visit, visits_of}
 use Rattle.qm_history.specs.World.{IsSound, is_live}
 use Rattle.qm_history.proofs.ReachingLemmas.{one_visit}
-use Rattle.qm_script.specs.Served.{read_served}
+use Rattle.qm_course.specs.Asking.{built_call, read_built}
+use Rattle.qm_course.specs.Serving.{IsAnswered}
+use Rattle.qm_course.specs.Taken.{AreTaken, Rises}
+use Rattle.qm_course.proofs.Breaking.{BrokenOff, LastOne, broken_next, last_one, nothing_broken}
+use Rattle.qm_course.proofs.Counting.{appends_none, appends_on, rose_on}
+use Rattle.qm_course.proofs.Going.{nothing_next}
+use Rattle.qm_course.proofs.Joining.{rises_on, taken_on}
+use Rattle.qm_course.proofs.Reached.{goes_on, reached_is}
+use Rattle.qm_course.proofs.Stepping.{none_taken}
+use Rattle.qm_history.specs.Turn.{IsTurnOf, IsCutShort}
+use Rattle.qm_node.specs.declared.course.Asked.{Asked}
 use Rattle.qm_node.specs.declared.course.Next.{Next}
 use Rattle.qm_node.specs.Node.{IsTurn}
 use Rattle.qm_turn.specs.History.{notes_by}
@@ -32,20 +44,13 @@ use Rattle.qm_turn.specs.Turns.{Known}
 use Rattle.qm_drive.specs.declared.ending.DriveEnd.{DriveEnd}
 use Rattle.qm_drive.specs.declared.ending.DriveEnd.TheVariants as end
 use Rattle.qm_drive.specs.declared.noted.Noted.{Noted}
-use Rattle.qm_drive.specs.Allowed.{CanAskAll}
-use Rattle.qm_drive.specs.Driving.{AreMade, AreTaken, HasCome, HasDriven, HasMade, IsDriven, IsHeard, IsLastOf, counted_times, node_end, readings, text_told}
+use Rattle.qm_drive.specs.Driving.{HasCome, HasDriven, HasMade, IsDriven, IsHeard, IsLastOf, node_end, readings, text_told}
 use Rattle.qm_drive.specs.Passes.{turns_in, AreOwn}
-use Rattle.qm_drive.specs.Serving.{MayBeTold}
+use Rattle.qm_drive.specs.Serving.{LeavesTurn}
 use Rattle.qm_drive.specs.Turning.{EndsAsked, EndsAt, EndsBy, EndsUnasked, HeldSeat, IsTurnMade, MakesTurn, ending_of}
-use Rattle.qm_drive.proofs.Hearing.{last_call, none_ends, says, serves_or_ends}
-use Rattle.qm_drive.proofs.Lasts.{BreaksOff, at_end, breaks_nowhere, breaks_off, course_so_far, course_with, ends_there}
-use Rattle.qm_drive.proofs.Onward.{appends_on, come_on, made_on, mine_seen, own_found, readings_more, readings_none, seen_turns, visits_found}
+use Rattle.qm_drive.proofs.Hearing.{last_call, none_ends, says, whole_or_cut}
+use Rattle.qm_drive.proofs.Onward.{come_on, made_on, mine_seen, own_found, readings_more, readings_none, seen_turns, visits_found}
 use Rattle.qm_drive.proofs.Owning.{all_front}
-use Rattle.qm_drive.proofs.Steps.{all_rise, made_more, taken_whole}
-
-appends_none : (a : Option (List ℕ)) → Appends a a []
-appends_none None = tt
-appends_none (Some x) = sym (append-nil x)
 
 -- the text so far is the whole, or a beginning of it, as the end says
 printed_all : (stopped : DriveEnd) (text : List ℕ) → HasPrinted (node_end (Err stopped)) text text
@@ -58,13 +63,30 @@ printed_begun end.HistoryFull text printed other h = absurd (other refl)
 printed_begun (end.Damaged file place) text printed other h = h
 printed_begun end.NoMemory text printed other h = h
 
-not_full : (turns : List Turn) (t : Turn) (told : Answer) → LeavesTurn turns (Some t) told → ending_of told ≡ Some end.HistoryFull → ⊥
-not_full turns t answer.HistoryFull leaves h = leaves refl
-not_full turns t told leaves h = cc
+not_full : (most : ℕ) (turns : List Turn) (t : Turn) (told : Answer) → LeavesTurn most turns (Some t) told → ending_of told ≡ Some end.HistoryFull → ⊥
+not_full most turns t answer.HistoryFull leaves h = leaves refl
+not_full most turns t told leaves h = cc
+
+-- what was reached, and what goes on from there, is a course that was begun
+abbrev course_begun : (first : World) (node : ℕ) (lines : List UserLine) (turns all : List Turn) (others : List Visit) (steps more : List MadeStep) (n : NodeState) (live : Bool) (broken : Option KeptRun) (faults : ℕ)
+    → failed_steps (steps ++ more) ≤ faults → Reaches HasSpelling read_built (at_first lines) [] (is_live first node) (visits_of node first turns) steps n live
+    → GoesOn HasSpelling read_built Begun broken n (visits_of node first turns) live others more → visits_of node first all ≡ visits_of node first turns ++ others
+    → IsCourse HasSpelling read_built Begun first all node lines faults
+course_begun first node lines turns all others steps more n live broken faults few reached next is = record {
+  steps = steps ++ more;
+  broken = broken;
+  turns_are =
+      subst (λ vs. GoesOn HasSpelling read_built Begun broken (at_first lines) [] (is_live first node) vs (steps ++ more)) (sym is)
+      (goes_on Begun broken others more n live (visits_of node first turns) [] (at_first lines) (is_live first node) steps reached next);
+  few_faults = few;
+}
+
+few_so_far : (steps : List MadeStep) (more : ℕ) → failed_steps (steps ++ []) ≤ failed_steps steps + more
+few_so_far steps more = let same : failed_steps (steps ++ []) ≡ failed_steps steps = ap failed_steps (append-nil steps) in omega (arith, same)
 
 -- a course that was only begun, as the end of the node's turns says
 module _ {Y : Type 0} (y : Meaning Y) (first : World) (node : ℕ) (name : List ℕ) (lines : List UserLine) (turns : List Turn) (was now : Y) (start text : List ℕ) (faults : ℕ)
-    (rose : y.faults now ≡ counted_times faults (y.faults was)) (course : IsCourse HasSpelling read_served Begun first turns node lines faults) (taken : AreTaken y course.steps course.broken was now)
+    (rose : Rises y faults was now) (course : IsCourse HasSpelling read_built Begun first turns node lines faults) (taken : AreTaken y course.steps course.broken was now)
     (printed : List ℕ) (appended : text ≡ start ++ printed)
   where
     driven_by : (stopped : DriveEnd) → HasPrinted (node_end (Err stopped)) (text_told name (visits_of node first turns)) printed → IsDriven y first node name lines (node_end (Err stopped)) turns was now start text
@@ -72,10 +94,10 @@ module _ {Y : Type 0} (y : Meaning Y) (first : World) (node : ℕ) (name : List 
     driven_by (end.Damaged file place) is = record { faults = faults; rose = rose; course = course; taken = taken; printed = printed; appended = appended; text = is }
     driven_by end.NoMemory is = record { faults = faults; rose = rose; course = course; taken = taken; printed = printed; appended = appended; text = is }
 
-module _ {Y : Type 0} (y : Meaning Y) (tells : Bool) (first : World) (node : ℕ) (name : List ℕ) (can_ask : ℕ → Call → Type 0) (lines : List UserLine) (was : Y) (start : List ℕ) (old : Known Noted) (told : Option (List ℕ)) where
+module _ {Y : Type 0} (y : Meaning Y) (tells : Bool) (first : World) (most : ℕ) (node : ℕ) (name : List ℕ) (lines : List UserLine) (was : Y) (start : List ℕ) (old : Known Noted) (told : Option (List ℕ)) where
   -- what holds between two turns of the node
   pub record IsUnderWay (seat : HeldSeat) (now : Y) (new : Known Noted) (then : Option (List ℕ)) (text : List ℕ) : Type 0 where
-    pub made : HasMade can_ask node old told seat new then
+    pub made : HasMade most node old told seat new then
     pub came : IsTrue tells → AreOwn node new.seen → HasCome y first node name lines was start (turns_in new.seen) seat now text
 
   abbrev begins : HeldSeat
@@ -86,13 +108,14 @@ module _ {Y : Type 0} (y : Meaning Y) (tells : Bool) (first : World) (node : ℕ
     live = sym live;
     steps = [];
     reached = (refl, refl, sym live);
-    made = refl;
+    rose = refl;
+    taken = none_taken y was;
     count = refl;
     text = sym (append-nil start);
   }
 
-  pub under_way : old.number ≡ node → old.seen ≡ [] → old.mine ≡ [] → CanAskAll can_ask node lines → (IsTrue tells → is_live first node ≡ true) → IsUnderWay begins was old told start
-  under_way number none none_mine can live = record {
+  pub under_way : old.number ≡ node → old.seen ≡ [] → old.mine ≡ [] → (IsTrue tells → is_live first node ≡ true) → IsUnderWay begins was old told start
+  under_way number none none_mine live = record {
     made = record {
       heard = subst (AllByRecursion (IsHeard node)) (sym none_mine) tt;
       all_mine = ap (notes_by node) none ∙ sym none_mine;
@@ -103,7 +126,6 @@ module _ {Y : Type 0} (y : Meaning Y) (tells : Bool) (first : World) (node : ℕ
       few = omega arith;
       clock = subst (Appends told told) (sym (ap readings none_mine)) (appends_none told);
       none_made = refl;
-      can = can;
     };
     came = λ sure own. subst (λ l. HasCome y first node name lines was start (turns_in l) begins was start) (sym none) (come_first (live sure));
   }
@@ -112,21 +134,21 @@ module _ {Y : Type 0} (y : Meaning Y) (tells : Bool) (first : World) (node : ℕ
       (seat : HeldSeat) (now : Y) (before : Known Noted) (then : Option (List ℕ)) (text : List ℕ) (u : IsUnderWay seat now before then text)
     where
       pub onward : (next : Next) (seat' : HeldSeat) (now' : Y) (then' : Option (List ℕ)) (after : Known Noted) (text' : List ℕ) → IsTurn (next_at seat.live seat.node.state seat.node.state.stage) (Some next)
-          → MakesTurn y tells first node name next seat seat' now now' then then' before after text text' → IsUnderWay seat' now' after then' text'
+          → MakesTurn y tells first most node name next seat seat' now now' then then' before after text text' → IsUnderWay seat' now' after then' text'
       onward next seat' now' then' after text' is m = record {
-        made = made_on y tells first node name can_ask lines was start old told next seat seat' now now' then then' before after text text' is m u.made;
+        made = made_on y tells first most node name lines was start old told next seat seat' now now' then then' before after text text' is m u.made;
         came =
             λ sure own. (
-            let found = own_found tells first node m.asked.asked.moment m.asked.asked.call m.asked.told_by_it before after u.made.number.1 u.made.all_mine m.asked.turn own in
+            let found = own_found tells first most node m.asked.asked.moment m.asked.asked.call m.asked.told_by_it before after u.made.number.1 u.made.all_mine m.asked.turn own in
             let own_before : AreOwn node before.seen =
             all_front (λ (e : ℕ × Noted). IfSome e.1.turn (λ (t : Turn). t.node ≡ node → e.0 ≡ node)) before.seen m.asked.turn.between found in
-            come_on y tells first node name can_ask lines was start old told next seat seat' now now' then then' before after text text' is m u.made sound_on (sound sure) sure own (u.came sure own_before)
+            come_on y tells first most node name lines was start old told next seat seat' now now' then then' before after text text' is m u.made sound_on (sound sure) sure own (u.came sure own_before)
             );
       }
 
       -- ---- the end of the course
 
-      pub driven_whole : HasDriven node Ended old before told then
+      pub driven_whole : HasDriven most node Ended old before told then
       driven_whole = record {
         front = before.mine;
         last = [];
@@ -149,11 +171,16 @@ module _ {Y : Type 0} (y : Meaning Y) (tells : Bool) (first : World) (node : ℕ
       is_driven_whole none sure own =
           let c : HasCome y first node name lines was start (turns_in before.seen) seat now text = u.came sure own in record {
             faults = failed_steps c.steps;
-            rose = all_rise y c.steps was now c.made;
-            course =
-                course_so_far first node lines Whole (turns_in before.seen) c.steps seat.node.state seat.live None (failed_steps c.steps) (omega arith) c.reached
-                (at_end (next_at seat.live seat.node.state seat.node.state.stage) none) tt;
-            taken = taken_whole y c.steps was now c.made;
+            rose = c.rose;
+            course = record {
+              steps = c.steps;
+              broken = None;
+              turns_are =
+                  reached_is Whole (visits_of node first (turns_in before.seen)) [] (at_first lines) (is_live first node) c.steps seat.node.state seat.live c.reached
+                  (nothing_next (next_at seat.live seat.node.state seat.node.state.stage) none);
+              few_faults = omega arith;
+            };
+            taken = c.taken;
             printed = text_told name (visits_of node first (turns_in before.seen));
             appended = c.text;
             text = refl;
@@ -161,11 +188,11 @@ module _ {Y : Type 0} (y : Meaning Y) (tells : Bool) (first : World) (node : ℕ
 
       -- ---- an end without a call
 
-      module _ (stopped : DriveEnd) (now' : Y) (then' : Option (List ℕ)) (after : Known Noted) (text' : List ℕ) (e : EndsUnasked y tells first node name stopped now now' then then' before after text text') where
-        driven_unasked : HasDriven node (node_end (Err stopped)) old after told then'
+      module _ (stopped : DriveEnd) (now' : Y) (then' : Option (List ℕ)) (after : Known Noted) (text' : List ℕ) (e : EndsUnasked y tells first most node name stopped now now' then then' before after text text') where
+        driven_unasked : HasDriven most node (node_end (Err stopped)) old after told then'
         driven_unasked =
-            subst (λ p. HasDriven node (node_end (Err stopped)) old p told then') (sym e.pass)
-            (subst (λ s. HasDriven node (node_end (Err s)) old before told then') (sym e.memory)
+            subst (λ p. HasDriven most node (node_end (Err stopped)) old p told then') (sym e.pass)
+            (subst (λ s. HasDriven most node (node_end (Err s)) old before told then') (sym e.memory)
             (record {
               front = before.mine;
               last = [];
@@ -177,7 +204,7 @@ module _ {Y : Type 0} (y : Meaning Y) (tells : Bool) (first : World) (node : ℕ
               took = u.made.took;
               place = u.made.place;
               more = e.clock.0 ∷ [];
-              clock = appends_on told then then' (readings before.mine) (e.clock.0 ∷ []) u.made.clock e.clock.1;
+              clock = appends_on (readings before.mine) (e.clock.0 ∷ []) told then then' u.made.clock e.clock.1;
               few = omega arith;
               none_more = λ bad. cc;
               spent = λ bad. cc;
@@ -191,13 +218,14 @@ module _ {Y : Type 0} (y : Meaning Y) (tells : Bool) (first : World) (node : ℕ
             begun : AreOwn node before.seen → IsDriven y first node name lines (node_end (Err end.NoMemory)) (turns_in before.seen) was now' start text'
             begun own_before =
                 let c : HasCome y first node name lines was start (turns_in before.seen) seat now text = u.came sure own_before in
-                let off : BreaksOff y seat.node.state was now now' c.steps c.made (next_at seat.live seat.node.state seat.node.state.stage) =
-                breaks_nowhere y seat.node.state was now now' c.steps c.made (next_at seat.live seat.node.state seat.node.state.stage) e.quiet in record {
-                  faults = failed_steps c.steps + off.more;
-                  rose = off.rose;
+                let off : BrokenOff y seat.node.state seat.live (record { moment = 0; call = call.Leave }) seat.node now now' =
+                nothing_broken y seat.node.state seat.live (record { moment = 0; call = call.Leave }) seat.node now now' e.quiet in record {
+                  faults = failed_steps c.steps + off.faults;
+                  rose = rose_on (failed_steps c.steps) off.faults (y.faults was) (y.faults now) (y.faults now') c.rose off.rose;
                   course =
-                      course_so_far first node lines Begun (turns_in before.seen) c.steps seat.node.state seat.live off.broken (failed_steps c.steps + off.more) (omega arith) c.reached tt off.is;
-                  taken = off.taken;
+                      course_begun first node lines (turns_in before.seen) (turns_in before.seen) [] c.steps [] seat.node.state seat.live off.broken (failed_steps c.steps + off.faults)
+                      (few_so_far c.steps off.faults) c.reached (off.leads (visits_of node first (turns_in before.seen))) (sym (append-nil (visits_of node first (turns_in before.seen))));
+                  taken = taken_on y c.steps [] off.broken was now now' c.taken off.taken;
                   printed = text_told name (visits_of node first (turns_in before.seen));
                   appended = e.printed_none ∙ c.text;
                   text = printed_all end.NoMemory (text_told name (visits_of node first (turns_in before.seen)));
@@ -206,32 +234,35 @@ module _ {Y : Type 0} (y : Meaning Y) (tells : Bool) (first : World) (node : ℕ
       -- ---- an end with a call
 
       module _ (stopped : DriveEnd) (next : Next) (now' : Y) (then' : Option (List ℕ)) (after : Known Noted) (text' : List ℕ) (is : IsTurn (next_at seat.live seat.node.state seat.node.state.stage) (Some next))
-          (e : EndsAsked y tells first node name stopped next seat now now' then then' before after text text')
+          (e : EndsAsked y tells first most node name stopped next seat now now' then then' before after text text')
         where
-          abbrev turn : IsTurnMade tells first node e.asked.asked.moment e.asked.asked.call e.asked.told_by_it before after
+          abbrev turn : IsTurnMade tells first most node e.asked.asked.moment e.asked.asked.call e.asked.told_by_it before after
           turn = e.asked.turn
 
           abbrev here : List Turn
           here = turns_in (before.seen ++ turn.between)
 
-          there : turns_in after.seen ≡ here ++ option_to_list turn.note.turn
-          there = seen_turns tells first node e.asked.asked.moment e.asked.asked.call e.asked.told_by_it before after u.made.number.1 u.made.all_mine turn
+          abbrev plain : Asked
+          plain = record { moment = e.asked.asked.moment; call = e.asked.call.plain }
 
-          last : IsLastOf node (node_end (Err stopped)) (turn.note ∷ []) × (node_end (Err stopped) ≡ TurnsSpent → (turn.note.turn ≡ None) × (length here ≡ turns_kept))
-          last = last_call node e.asked.asked.moment e.asked.asked.call here turn.note name text text' e.asked.told_by_it stopped e.ends turn.made turn.leaves
+          there : turns_in after.seen ≡ here ++ option_to_list turn.note.turn
+          there = seen_turns tells first most node e.asked.asked.moment e.asked.asked.call e.asked.told_by_it before after u.made.number.1 u.made.all_mine turn
+
+          last : IsLastOf node (node_end (Err stopped)) (turn.note ∷ []) × (node_end (Err stopped) ≡ TurnsSpent → (turn.note.turn ≡ None) × (length here ≡ most))
+          last = last_call most node e.asked.asked.moment e.asked.asked.call here turn.note name text text' e.asked.told_by_it stopped e.ends turn.made turn.leaves
 
           told_one : (o : Option Turn) → turn.note.turn ≡ o → IsMadeFor node e.asked.asked.moment e.asked.asked.call o
               → (more : List ℕ) × Appends told then' (readings after.mine ++ more) × (length more ≤ 1)
           told_one None none made = (
             e.asked.asked.moment ∷ [],
             subst (λ l. Appends told then' (l ++ e.asked.asked.moment ∷ [])) (sym (ap readings turn.mine ∙ readings_none before.mine turn.note none))
-                (appends_on told then then' (readings before.mine) (e.asked.asked.moment ∷ []) u.made.clock e.asked.clock),
+                (appends_on (readings before.mine) (e.asked.asked.moment ∷ []) told then then' u.made.clock e.asked.clock),
             omega arith,
           )
           told_one (Some t) some made = (
             [],
             subst (Appends told then') (sym (append-nil (readings after.mine) ∙ ap readings turn.mine ∙ readings_more before.mine turn.note t some ∙ ap (λ k. readings before.mine ++ k ∷ []) made.1))
-                (appends_on told then then' (readings before.mine) (e.asked.asked.moment ∷ []) u.made.clock e.asked.clock),
+                (appends_on (readings before.mine) (e.asked.asked.moment ∷ []) told then then' u.made.clock e.asked.clock),
             omega arith,
           )
 
@@ -246,14 +277,14 @@ module _ {Y : Type 0} (y : Meaning Y) (tells : Bool) (first : World) (node : ℕ
               by_end (end.Damaged file place) bad = cc
               by_end end.NoMemory bad = cc
 
-          driven_asked : HasDriven node (node_end (Err stopped)) old after told then'
+          driven_asked : HasDriven most node (node_end (Err stopped)) old after told then'
           driven_asked = record {
             front = before.mine;
             last = turn.note ∷ [];
             mine = turn.mine;
             heard = u.made.heard;
             ends = last.0;
-            all_mine = mine_seen tells first node e.asked.asked.moment e.asked.asked.call e.asked.told_by_it before after u.made.number.1 u.made.all_mine turn;
+            all_mine = mine_seen tells first most node e.asked.asked.moment e.asked.asked.call e.asked.told_by_it before after u.made.number.1 u.made.all_mine turn;
             number = turn.number ∙ u.made.number.0;
             took = turn.took ∙ u.made.took;
             place = turn.place ∙ u.made.place;
@@ -266,11 +297,11 @@ module _ {Y : Type 0} (y : Meaning Y) (tells : Bool) (first : World) (node : ℕ
 
           module _ (sure : IsTrue tells) (own : AreOwn node after.seen) where
             same_visits : visits_of node first here ≡ visits_of node first (turns_in before.seen)
-            same_visits = visits_found tells first node e.asked.asked.moment e.asked.asked.call e.asked.told_by_it before after u.made.number.1 u.made.all_mine turn own
+            same_visits = visits_found tells first most node e.asked.asked.moment e.asked.asked.call e.asked.told_by_it before after u.made.number.1 u.made.all_mine turn own
 
             c : HasCome y first node name lines was start (turns_in before.seen) seat now text
             c =
-                let found = own_found tells first node e.asked.asked.moment e.asked.asked.call e.asked.told_by_it before after u.made.number.1 u.made.all_mine turn own in
+                let found = own_found tells first most node e.asked.asked.moment e.asked.asked.call e.asked.told_by_it before after u.made.number.1 u.made.all_mine turn own in
                 u.came sure (all_front (λ (x : ℕ × Noted). IfSome x.1.turn (λ (t : Turn). t.node ≡ node → x.0 ≡ node)) before.seen turn.between found)
 
             abbrev Driven : List Turn → Type 0
@@ -279,16 +310,18 @@ module _ {Y : Type 0} (y : Meaning Y) (tells : Bool) (first : World) (node : ℕ
             -- the call left no turn
             text_same : turn.note.turn ≡ None → EndsBy name stopped e.asked.asked.call e.asked.told_by_it text text' → text' ≡ text
             text_same none (inl h) = h.1
-            text_same none (inr h) = absurd (none_ends here e.asked.told_by_it (subst (λ o. LeavesTurn here o e.asked.told_by_it) none turn.leaves) h.0)
+            text_same none (inr h) = absurd (none_ends most here e.asked.told_by_it (subst (λ o. LeavesTurn most here o e.asked.told_by_it) none turn.leaves) h.0)
 
             driven_none : turn.note.turn ≡ None → Driven here
             driven_none none =
-                let off : BreaksOff y seat.node.state was now now' c.steps c.made (next_at seat.live seat.node.state seat.node.state.stage) =
-                breaks_off y seat.node.state was now now' c.steps c.made e.asked.asked e.asked.made seat.live next is e.asked.call in
-                driven_by y first node name lines here was now' start text' (failed_steps c.steps + off.more) off.rose
-                (course_so_far first node lines Begun here c.steps seat.node.state seat.live off.broken (failed_steps c.steps + off.more) (omega arith)
-                (subst (λ vs. Reaches HasSpelling read_served (at_first lines) [] (is_live first node) vs c.steps seat.node.state seat.live) (sym same_visits) c.reached) tt off.is)
-                off.taken (text_told name (visits_of node first here))
+                let off : BrokenOff y seat.node.state seat.live plain e.asked.made now now' =
+                broken_next y seat.node.state seat.live plain e.asked.made now now' next (next_at seat.live seat.node.state seat.node.state.stage) refl is e.asked.call.by in
+                driven_by y first node name lines here was now' start text' (failed_steps c.steps + off.faults)
+                (rose_on (failed_steps c.steps) off.faults (y.faults was) (y.faults now) (y.faults now') c.rose off.rose)
+                (course_begun first node lines here here [] c.steps [] seat.node.state seat.live off.broken (failed_steps c.steps + off.faults) (few_so_far c.steps off.faults)
+                (subst (λ vs. Reaches HasSpelling read_built (at_first lines) [] (is_live first node) vs c.steps seat.node.state seat.live) (sym same_visits) c.reached)
+                (off.leads (visits_of node first here)) (sym (append-nil (visits_of node first here))))
+                (taken_on y c.steps [] off.broken was now now' c.taken off.taken) (text_told name (visits_of node first here))
                 (text_same none e.ends ∙ c.text ∙ ap (λ vs. start ++ text_told name vs) (sym same_visits)) stopped (printed_all stopped (text_told name (visits_of node first here)))
 
             -- the call left a turn
@@ -303,14 +336,17 @@ module _ {Y : Type 0} (y : Meaning Y) (tells : Bool) (first : World) (node : ℕ
               made = subst (IsMadeFor node e.asked.asked.moment e.asked.asked.call) some turn.made
 
               may : MayAnswer HasSpelling w e.asked.asked.call t e.asked.told_by_it
-              may = subst (λ o. MayBeTold w e.asked.asked.call o e.asked.told_by_it) some (turn.answered sure)
+              may = subst (λ o. IsAnswered w e.asked.asked.call o e.asked.told_by_it) some (turn.answered sure)
 
-              moves : (more : List MadeStep) × AreMade y more now now' × GoesOn HasSpelling read_served Begun None seat.node.state (visits_of node first here) seat.live (v ∷ []) more
+              served : IsTurnOf HasSpelling w (built_call e.asked.call.plain) t ⊎ IsCutShort HasSpelling w (built_call e.asked.call.plain) t
+              served = subst (λ (x : Call). IsTurnOf HasSpelling w x t ⊎ IsCutShort HasSpelling w x t) e.asked.call.asked_is (whole_or_cut w e.asked.asked.call t e.asked.told_by_it may)
+
+              moves : LastOne y seat.node.state seat.live plain e.asked.made now now' v served made.1
               moves =
-                  ends_there y seat.node.state (visits_of node first here) v e.asked.asked e.asked.made now now' made.1 (serves_or_ends w e.asked.asked.call t e.asked.told_by_it may) seat.live next is e.asked.call
+                  last_one y seat.node.state seat.live plain e.asked.made now now' v served made.1 next (next_at seat.live seat.node.state seat.node.state.stage) refl is e.asked.call.by
 
               one_more : visits_of node first (here ++ t ∷ []) ≡ visits_of node first here ++ v ∷ []
-              one_more = one_visit HasSpelling read_served node first here t made.0
+              one_more = one_visit HasSpelling read_built node first here t made.0
 
               abbrev said : List ℕ
               said = answer_text name t.why (answered v)
@@ -323,11 +359,11 @@ module _ {Y : Type 0} (y : Meaning Y) (tells : Bool) (first : World) (node : ℕ
               so_far : text ≡ start ++ text_told name (visits_of node first here)
               so_far = c.text ∙ ap (λ vs. start ++ text_told name vs) (sym same_visits)
 
-              other_end : (told : Answer) → LeavesTurn here (Some t) told → (ending_of told ≡ Some stopped) → stopped ≡ end.HistoryFull → ⊥
-              other_end told leaves h full = not_full here t told leaves (h ∙ ap Some full)
+              other_end : (told : Answer) → LeavesTurn most here (Some t) told → (ending_of told ≡ Some stopped) → stopped ≡ end.HistoryFull → ⊥
+              other_end told leaves h full = not_full most here t told leaves (h ∙ ap Some full)
 
-              leaves : LeavesTurn here (Some t) e.asked.told_by_it
-              leaves = subst (λ o. LeavesTurn here o e.asked.told_by_it) some turn.leaves
+              leaves : LeavesTurn most here (Some t) e.asked.told_by_it
+              leaves = subst (λ o. LeavesTurn most here o e.asked.told_by_it) some turn.leaves
 
               -- what was printed of it
               abbrev PrintedSome : Type 0
@@ -358,12 +394,12 @@ module _ {Y : Type 0} (y : Meaning Y) (tells : Bool) (first : World) (node : ℕ
 
               driven_some : Driven (here ++ t ∷ [])
               driven_some =
-                  let all : AreMade y (c.steps ++ moves.0) was now' = made_more y c.steps moves.0 was now now' c.made moves.1 in
                   let shown : PrintedSome = printed_some e.ends in
-                  driven_by y first node name lines (here ++ t ∷ []) was now' start text' (failed_steps (c.steps ++ moves.0)) (all_rise y (c.steps ++ moves.0) was now' all)
-                  (course_with first node lines here (here ++ t ∷ []) c.steps moves.0 seat.node.state seat.live v (failed_steps (c.steps ++ moves.0)) (omega arith)
-                  (subst (λ vs. Reaches HasSpelling read_served (at_first lines) [] (is_live first node) vs c.steps seat.node.state seat.live) (sym same_visits) c.reached) moves.2 one_more)
-                  (taken_whole y (c.steps ++ moves.0) was now' all) shown.0 shown.1 stopped shown.2
+                  driven_by y first node name lines (here ++ t ∷ []) was now' start text' (failed_steps (c.steps ++ moves.steps)) (rises_on y c.steps moves.steps was now now' c.rose moves.rose)
+                  (course_begun first node lines here (here ++ t ∷ []) (v ∷ []) c.steps moves.steps seat.node.state seat.live None (failed_steps (c.steps ++ moves.steps)) (omega arith)
+                  (subst (λ vs. Reaches HasSpelling read_built (at_first lines) [] (is_live first node) vs c.steps seat.node.state seat.live) (sym same_visits) c.reached)
+                  (moves.leads (visits_of node first here)) one_more)
+                  (taken_on y c.steps moves.steps None was now now' c.taken moves.taken) shown.0 shown.1 stopped shown.2
 
             by_turn : (o : Option Turn) → turn.note.turn ≡ o → Driven (turns_in after.seen)
             by_turn None none = subst Driven (sym (there ∙ ap (λ o. here ++ option_to_list o) none ∙ append-nil here)) (driven_none none)
@@ -375,11 +411,11 @@ module _ {Y : Type 0} (y : Meaning Y) (tells : Bool) (first : World) (node : ℕ
       -- ---- either end
 
       module _ (stopped : DriveEnd) (next : Next) (now' : Y) (then' : Option (List ℕ)) (after : Known Noted) (text' : List ℕ) (is : IsTurn (next_at seat.live seat.node.state seat.node.state.stage) (Some next)) where
-        pub driven_at : EndsAt y tells first node name stopped next seat now now' then then' before after text text' → HasDriven node (node_end (Err stopped)) old after told then'
+        pub driven_at : EndsAt y tells first most node name stopped next seat now now' then then' before after text text' → HasDriven most node (node_end (Err stopped)) old after told then'
         driven_at (inl e) = driven_asked stopped next now' then' after text' is e
         driven_at (inr e) = driven_unasked stopped now' then' after text' e
 
-        pub is_driven_at : EndsAt y tells first node name stopped next seat now now' then then' before after text text' → IsTrue tells → AreOwn node after.seen
+        pub is_driven_at : EndsAt y tells first most node name stopped next seat now now' then then' before after text text' → IsTrue tells → AreOwn node after.seen
             → IsDriven y first node name lines (node_end (Err stopped)) (turns_in after.seen) was now' start text'
         is_driven_at (inl e) sure own = is_driven_asked stopped next now' then' after text' is e sure own
         is_driven_at (inr e) sure own = is_driven_unasked stopped now' then' after text' e sure own

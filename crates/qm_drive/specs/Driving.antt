@@ -1,20 +1,14 @@
 -- What a node has done by its own thread, in the turns that its pass has seen, and how that ends.
 -- OpenVMS System Manager's Manual, Setting Up and Maintaining Queues, on symbionts; OpenVMS System Services Reference Manual,
 -- $GETTIM. This site's own: turns, and that a node goes on until nothing is left to do.
-use Rattle.std.specs.Prelude.{◌≡◌, ◌⊎◌, ◌≤◌, ℕ, zero, suc, false, IsTrue, List, [], ◌∷◌, ◌++◌, length, map, flat_map, Option, None, Some, Result, Ok, Err}
+use Rattle.std.specs.Prelude.{◌≡◌, ◌⊎◌, ◌≤◌, ℕ, false, List, [], ◌∷◌, ◌++◌, length, map, flat_map, Option, None, Some, Result, Ok, Err}
 use Rattle.std.specs.List.{AllByRecursion}
 use Rattle.std.specs.Io.KnownBytes.{Appends}
-use Rattle.qm_faults.specs.Faults.{counted}
-use Rattle.qm_model.specs.Kept.{KeptRun, report_told}
 use Rattle.qm_record.specs.Spelling.{HasSpelling}
-use Rattle.qm_symb.specs.Device.{Meaning, handed_by}
-use Rattle.qm_symb.specs.declared.handed.HandOver.{HandOver}
-use Rattle.qm_history.specs.declared.call.Call.{Call}
+use Rattle.qm_symb.specs.Device.{Meaning}
 use Rattle.qm_history.specs.declared.turn.Turn.{Turn}
 use Rattle.qm_history.specs.declared.world.World.{World}
-use Rattle.qm_history.specs.Blocks.{AreHanded, all_steps}
-use Rattle.qm_history.specs.Chest.{turns_kept}
-use Rattle.qm_history.specs.Course.{IsCourse, MadeStep, answered, at_first}
+use Rattle.qm_history.specs.Course.{IsCourse, MadeStep, answered, at_first, failed_steps}
 use Rattle.qm_history.specs.Ends.{NodeEnd, Ended, BrokenOff, TurnsSpent, FileDamaged, MemoryShort, HasPrinted, extent_of}
 use Rattle.qm_history.specs.Legal.{after_turns}
 use Rattle.qm_history.specs.Reaching.{Reaches}
@@ -22,14 +16,13 @@ use Rattle.qm_history.specs.Script.{UserLine}
 use Rattle.qm_history.specs.Text.{answer_text}
 use Rattle.qm_history.specs.Visits.{Visit, visits_of}
 use Rattle.qm_history.specs.World.{is_live}
-use Rattle.qm_node.specs.Steps.{Comes}
-use Rattle.qm_script.specs.Served.{read_served}
+use Rattle.qm_course.specs.Asking.{read_built}
+use Rattle.qm_course.specs.Taken.{AreTaken, Rises}
 use Rattle.qm_turn.specs.History.{notes_by}
 use Rattle.qm_turn.specs.Turns.{Known}
 use Rattle.qm_drive.specs.declared.ending.DriveEnd.{DriveEnd}
 use Rattle.qm_drive.specs.declared.ending.DriveEnd.TheVariants as end
 use Rattle.qm_drive.specs.declared.noted.Noted.{Noted}
-use Rattle.qm_drive.specs.Allowed.{CanAskAll}
 use Rattle.qm_drive.specs.Passes.{turns_in, IsOfNode}
 use Rattle.qm_drive.specs.Sharing.{turns_of}
 use Rattle.qm_drive.specs.Turning.{HeldSeat}
@@ -55,31 +48,6 @@ IsLastOf node TurnsSpent last = (n : Noted) × (last ≡ n ∷ []) × (n.turn �
 IsLastOf node (FileDamaged file place) last = (n : Noted) × (t : Turn) × (last ≡ n ∷ []) × (n.turn ≡ Some t) × (t.node ≡ node)
 IsLastOf node MemoryShort last = (last ≡ []) ⊎ ((n : Noted) × (last ≡ n ∷ []) × IsOfNode node n)
 
--- ---- what a symbiont did
-
--- a count of faults behind so many more
-abbrev pub counted_times : ℕ → ℕ → ℕ
-counted_times zero faults = faults
-counted_times (suc more) faults = counted_times more (counted faults)
-
--- the blocks of steps, each handed by its run to its queue's device, in their order
-abbrev pub handed_to : List MadeStep → List (List (List ℕ)) → List HandOver
-handed_to [] handed = []
-handed_to (m ∷ steps) [] = []
-handed_to (m ∷ steps) (blocks ∷ handed) = handed_by m.run.work.run m.run.work.device blocks ++ handed_to steps handed
-
-module _ {Y : Type 0} (y : Meaning Y) where
-  -- the symbiont made these steps, one behind another
-  abbrev pub AreMade : List MadeStep → Y → Y → Type 0
-  AreMade [] was now = now ≡ was
-  AreMade (m ∷ steps) was now = (next : Y) × Comes y m.run m.end (report_told m.run m.end) was next × AreMade steps next now
-
-  -- The devices took the blocks of these steps, and of one more where the course broke off within it, and nothing else.
-  pub record AreTaken (steps : List MadeStep) (broken : Option KeptRun) (was now : Y) : Type 0 where
-    pub handed : List (List (List ℕ))
-    pub are_handed : AreHanded (all_steps steps broken) handed
-    pub taken : IsTrue y.tells → y.taken now ≡ y.taken was ++ handed_to (all_steps steps broken) handed
-
 -- ---- what it did
 
 -- the text of the answers that a node of this name got in its turns
@@ -93,7 +61,7 @@ readings notes = map (λ (t : Turn). t.moment) (turns_of notes)
 -- What a pass then knows whose node made its turns: each left a turn of that node, but for the last one, as the end says; they are
 -- all that its number has in what was seen; the clock told a moment for each, and at most one more; and no more turns can be kept
 -- just where the end says so.
-pub record HasDriven (node : ℕ) (stopped : NodeEnd) (old new : Known Noted) (told then : Option (List ℕ)) : Type 0 where
+pub record HasDriven (most node : ℕ) (stopped : NodeEnd) (old new : Known Noted) (told then : Option (List ℕ)) : Type 0 where
   pub front : List Noted
   pub last : List Noted
   pub mine : new.mine ≡ front ++ last
@@ -107,7 +75,7 @@ pub record HasDriven (node : ℕ) (stopped : NodeEnd) (old new : Known Noted) (t
   pub clock : Appends told then (readings new.mine ++ more)
   pub few : length more ≤ 1
   pub none_more : stopped ≡ Ended → more ≡ []
-  pub spent : stopped ≡ TurnsSpent → length (turns_in new.seen) ≡ turns_kept
+  pub spent : stopped ≡ TurnsSpent → length (turns_in new.seen) ≡ most
 
 module _ {Y : Type 0} (y : Meaning Y) (first : World) (node : ℕ) (name : List ℕ) (lines : List UserLine) where
   -- In these turns the node's own are a course of its lines, as far as the end says, in whose steps its device failed as often as
@@ -115,8 +83,8 @@ module _ {Y : Type 0} (y : Meaning Y) (first : World) (node : ℕ) (name : List 
   -- end says.
   pub record IsDriven (stopped : NodeEnd) (turns : List Turn) (was now : Y) (before after : List ℕ) : Type 0 where
     pub faults : ℕ
-    pub rose : y.faults now ≡ counted_times faults (y.faults was)
-    pub course : IsCourse HasSpelling read_served (extent_of stopped) first turns node lines faults
+    pub rose : Rises y faults was now
+    pub course : IsCourse HasSpelling read_built (extent_of stopped) first turns node lines faults
     pub taken : AreTaken y course.steps course.broken was now
     pub printed : List ℕ
     pub appended : after ≡ before ++ printed
@@ -129,20 +97,20 @@ module _ {Y : Type 0} (y : Meaning Y) (first : World) (node : ℕ) (name : List 
   pub record HasCome (turns : List Turn) (seat : HeldSeat) (now : Y) (after : List ℕ) : Type 0 where
     pub live : seat.live ≡ is_live (after_turns first turns) node
     pub steps : List MadeStep
-    pub reached : Reaches HasSpelling read_served (at_first lines) [] (is_live first node) (visits_of node first turns) steps seat.node.state seat.live
-    pub made : AreMade y steps was now
+    pub reached : Reaches HasSpelling read_built (at_first lines) [] (is_live first node) (visits_of node first turns) steps seat.node.state seat.live
+    pub rose : Rises y (failed_steps steps) was now
+    pub taken : AreTaken y steps None was now
     pub count : length (visits_of node first turns) ≡ seat.count
     pub text : after ≡ before ++ text_told name (visits_of node first turns)
 
 -- what a pass knows between two turns of its node: each of the node's calls left a turn, and was told it
-pub record HasMade (can_ask : ℕ → Call → Type 0) (node : ℕ) (old : Known Noted) (told : Option (List ℕ)) (seat : HeldSeat) (new : Known Noted) (then : Option (List ℕ)) : Type 0 where
+pub record HasMade (most node : ℕ) (old : Known Noted) (told : Option (List ℕ)) (seat : HeldSeat) (new : Known Noted) (then : Option (List ℕ)) : Type 0 where
   pub heard : AllByRecursion (IsHeard node) new.mine
   pub all_mine : notes_by node new.seen ≡ new.mine
   pub number : (new.number ≡ old.number) × (new.number ≡ node)
   pub took : new.took ≡ old.took
   pub place : new.place ≡ old.place
   pub count : length new.mine ≡ seat.count
-  pub few : seat.count ≤ turns_kept
+  pub few : seat.count ≤ most
   pub clock : Appends told then (readings new.mine)
   pub none_made : seat.node.made ≡ None
-  pub can : CanAskAll can_ask node seat.node.state.lines

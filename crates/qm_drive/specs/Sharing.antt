@@ -8,8 +8,9 @@ use Rattle.qm_history.specs.declared.world.World.{World}
 use Rattle.qm_history.specs.Chest.{Note, is_unread, turns_noted}
 use Rattle.qm_history.specs.Legal.{IsLegal, after_turns}
 use Rattle.qm_node.specs.Node.{CanBeHeard}
+use Rattle.qm_course.specs.Serving.{IsAnswered}
 use Rattle.qm_drive.specs.declared.noted.Noted.{Noted}
-use Rattle.qm_drive.specs.Serving.{LeavesOne, MayBeTold, turn_left}
+use Rattle.qm_drive.specs.Serving.{LeavesOne, turn_left}
 
 -- a note, as histories have it
 abbrev pub note_view : Noted → Note
@@ -38,7 +39,7 @@ pub record CallOfNode : Type 0 where
 
 -- What a call does: it leaves one turn more, or none for a reason; where the disks tell, it is told what that turn says, in the
 -- world behind the turns that it found; and duties that it is shown can be learned.
-pub record Asks (tells : Bool) (first : World) (asked : CallOfNode) (old new : List Turn) (told : Answer) : Type 0 where
-  pub one : LeavesOne asked.node asked.now asked.call old new told
-  pub answered : IsTrue tells → MayBeTold (after_turns first old) asked.call (turn_left old new) told
+pub record Asks (tells : Bool) (first : World) (most : ℕ) (asked : CallOfNode) (old new : List Turn) (told : Answer) : Type 0 where
+  pub one : LeavesOne most asked.node asked.now asked.call old new told
+  pub answered : IsTrue tells → IsAnswered (after_turns first old) asked.call (turn_left old new) told
   pub heard : CanBeHeard told

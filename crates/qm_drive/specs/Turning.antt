@@ -9,20 +9,23 @@ use Rattle.qm_history.specs.declared.call.Answer.TheVariants as answer
 use Rattle.qm_history.specs.declared.call.Call.{Call}
 use Rattle.qm_history.specs.declared.world.World.{World}
 use Rattle.qm_history.specs.Calls.{why_of}
-use Rattle.qm_history.specs.Chest.{IsMadeFor as IsOf, LeavesTurn, is_unread, turns_kept}
+use Rattle.qm_history.specs.Course.{NodeState}
+use Rattle.qm_history.specs.Chest.{IsMadeFor as IsOf, is_unread}
 use Rattle.qm_history.specs.Legal.{IsLegal, after_turns}
 use Rattle.qm_history.specs.Text.{answer_text}
 use Rattle.qm_living.specs.Living.{bearing_of, live_behind}
 use Rattle.qm_node.specs.declared.course.Asked.{Asked}
 use Rattle.qm_node.specs.declared.course.Next.{Next}
 use Rattle.qm_node.specs.Node.{CanBeHeard, CanBeMade, ComesNext, HeldNode, Hears, IsCallOf, IsMadeFor}
+use Rattle.qm_course.specs.Asking.{built_call}
+use Rattle.qm_course.specs.Serving.{IsAnswered}
 use Rattle.qm_turn.specs.History.{notes_by}
 use Rattle.qm_turn.specs.Turns.{Known}
 use Rattle.qm_drive.specs.declared.ending.DriveEnd.{DriveEnd}
 use Rattle.qm_drive.specs.declared.ending.DriveEnd.TheVariants as end
 use Rattle.qm_drive.specs.declared.noted.Noted.{Noted}
 use Rattle.qm_drive.specs.Passes.{turns_in}
-use Rattle.qm_drive.specs.Serving.{MayBeTold}
+use Rattle.qm_drive.specs.Serving.{LeavesTurn}
 
 -- where a node is between two turns: its state, whether it is live, and how many turns it has made
 pub record HeldSeat : Type 0 where
@@ -46,7 +49,7 @@ ending_of (answer.NoManager took name) = None
 
 -- The pass had its turn with the call of this node, at this reading: it has then seen the turns up to that, which found the others.
 -- Where the disks tell, all of them are legal from the first world on, and the call was told what its turn says.
-pub record IsTurnMade (tells : Bool) (first : World) (node now : ℕ) (asked : Call) (told : Answer) (old new : Known Noted) : Type 0 where
+pub record IsTurnMade (tells : Bool) (first : World) (most node now : ℕ) (asked : Call) (told : Answer) (old new : Known Noted) : Type 0 where
   pub between : List (ℕ × Noted)
   pub note : Noted
   pub seen : new.seen ≡ (old.seen ++ between) ++ (old.number, note) ∷ []
@@ -58,11 +61,17 @@ pub record IsTurnMade (tells : Bool) (first : World) (node now : ℕ) (asked : C
   pub asks : note.asked ≡ asked
   pub unread : note.unread ≡ is_unread note.turn told
   pub made : IsOf node now asked note.turn
-  pub leaves : LeavesTurn (turns_in (old.seen ++ between)) note.turn told
-  pub few : length (turns_in (old.seen ++ between) ++ option_to_list note.turn) ≤ turns_kept
+  pub leaves : LeavesTurn most (turns_in (old.seen ++ between)) note.turn told
+  pub few : length (turns_in (old.seen ++ between) ++ option_to_list note.turn) ≤ most
   pub legal : IsTrue tells → IsLegal HasSpelling first (turns_in (old.seen ++ between))
-  pub answered : IsTrue tells → MayBeTold (after_turns first (turns_in (old.seen ++ between))) asked note.turn told
+  pub answered : IsTrue tells → IsAnswered (after_turns first (turns_in (old.seen ++ between))) asked note.turn told
   pub heard : CanBeHeard told
+
+-- The call of what comes next was made, as far as that is built.
+pub record IsCalled {Y : Type 0} (y : Meaning Y) (next : Next) (n : NodeState) (asked : Asked) (made : HeldNode) (was now : Y) : Type 0 where
+  pub plain : Call
+  pub asked_is : asked.call ≡ built_call plain
+  pub by : IsCallOf y next n (record { moment = asked.moment; call = plain }) made was now
 
 -- the call of what comes next was made, and its answer can be taken in
 pub record MayHear (next : Next) (old new : HeldSeat) : Type 0 where
@@ -88,15 +97,15 @@ EndsBy name stopped asked told text printed =
     ((ending_of told ≡ Some stopped) × (printed ≡ text))
     ⊎ ((ending_of told ≡ None) × (stopped ≡ end.NoMemory) × ((printed ≡ text) ⊎ Prints name asked told text printed))
 
-module _ {Y : Type 0} (y : Meaning Y) (tells : Bool) (first : World) (node : ℕ) (name : List ℕ) where
+module _ {Y : Type 0} (y : Meaning Y) (tells : Bool) (first : World) (most : ℕ) (node : ℕ) (name : List ℕ) where
   -- what comes next was asked for, with one reading of the clock, and had its turn
   pub record IsAskedFor (next : Next) (old : HeldSeat) (was now : Y) (told then : Option (List ℕ)) (before after : Known Noted) : Type 0 where
     pub asked : Asked
     pub made : HeldNode
     pub told_by_it : Answer
-    pub call : IsCallOf y next old.node.state asked made was now
+    pub call : IsCalled y next old.node.state asked made was now
     pub clock : Appends told then (asked.moment ∷ [])
-    pub turn : IsTurnMade tells first node asked.moment asked.call told_by_it before after
+    pub turn : IsTurnMade tells first most node asked.moment asked.call told_by_it before after
 
   -- and its answer was printed and taken in
   pub record MakesTurn (next : Next) (old new : HeldSeat) (was now : Y) (told then : Option (List ℕ)) (before after : Known Noted) (text printed : List ℕ) : Type 0 where

@@ -1,6 +1,7 @@
 // A node's whole course, by its own thread.
-ghost use Rattle.std.specs.Prelude.{◌≡◌, true, [], IsTrue};
+ghost use Rattle.std.specs.Prelude.{◌≡◌, ◌≤◌, true, [], IsTrue};
 ghost use Rattle.qm_record.specs.Spelling.{HasSpelling};
+ghost use Rattle.qm_history.specs.Chest.{turns_kept};
 ghost use Rattle.qm_history.specs.World.{IsSound, is_live};
 ghost use Rattle.qm_script.specs.ClusterLines.{user_lines_view};
 ghost use Rattle.qm_drive.specs.Allowed.{CanAskAll};
@@ -22,7 +23,7 @@ use qm_turn::{PassOf, Turnstile};
 use std::alloc::Global;
 use std::sync::Wait;
 
-// The most calls of a node: each but the last leaves a turn that is kept, and 1,000,000 turns are.
+// The most calls of a node: each but the last leaves a turn that is kept, and at most 1,000,000 turns are.
 const MOST_CALLS: u32 = 1_000_001;
 
 /// Makes the turns of a node, each when the turnstile comes to it: its lines in their order, the steps of its runs behind a STEP
@@ -49,10 +50,11 @@ pub fn drive<'a, S: Serve, R: Wait, C: Clock, Y: Symbiont, G: Gate>(
     requires here { pass.old.place ≡ turnstile.now.place }
     requires number { pass.old.number ≡ node }
     requires new { (pass.old.seen ≡ []) × (pass.old.mine ≡ []) }
-    requires asks { CanAskAll S.can_ask node (user_lines_view lines.now) }
+    requires asks { CanAskAll S.can_ask node }
+    requires most { S.most ≤ turns_kept }
     requires sound { IsTrue S.tells → IsSound HasSpelling S.first × (is_live S.first node ≡ true) }
 
-    ensures knows { HasDriven node (node_end result) pass.old pass.new (C.told station.old.clock) (C.told station.new.clock) }
+    ensures knows { HasDriven S.most node (node_end result) pass.old pass.new (C.told station.old.clock) (C.told station.new.clock) }
     ensures drives { IsTrue S.tells → AreOwn node pass.new.seen →
         IsDriven Y.meaning S.first node name.now (user_lines_view lines.now) (node_end result) (turns_in pass.new.seen)
         station.old.symbiont station.new.symbiont text.old.items text.new.items }

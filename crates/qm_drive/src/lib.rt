@@ -2,6 +2,7 @@
 //! its runs and its leave. The queue manager is whatever keeps the contract of `Serve`.
 #![tactic(auto)]
 
+mod asked;
 mod asking;
 mod course;
 mod ending;

@@ -6,7 +6,8 @@ ghost use Rattle.qm_history.specs.declared.world.World.{World};
 ghost use Rattle.qm_history.specs.Chest.{Note};
 ghost use Rattle.qm_history.specs.Legal.{after_turns};
 ghost use Rattle.qm_node.specs.Node.{CanBeHeard};
-ghost use Rattle.qm_drive.specs.Serving.{LeavesOne, MayBeTold, noted, turn_left};
+ghost use Rattle.qm_course.specs.Serving.{IsAnswered};
+ghost use Rattle.qm_drive.specs.Serving.{LeavesOne, noted, turn_left};
 
 use qm_history::{Answer, Call};
 use qm_kinds::Moment;
@@ -24,6 +25,9 @@ pub trait Serve {
     /// The turns that it keeps, the first one first.
     ghost kept: { Self → List Turn };
 
+    /// How many turns it keeps at most.
+    ghost most: { ℕ };
+
     /// It may be what calls with these notes left.
     ghost stands: { Self → List Note → Type 0 };
 
@@ -35,8 +39,8 @@ pub trait Serve {
     fn serve(&mut self, node: u8, now: Moment, call: Call) -> Answer
         requires stands { (notes : List Note) × stands self.old notes }
         requires asked { can_ask node call }
-        ensures one { LeavesOne node now call (kept self.old) (kept self.new) result }
-        ensures told { IsTrue tells → MayBeTold (after_turns first (kept self.old)) call (turn_left (kept self.old) (kept self.new)) result }
+        ensures one { LeavesOne most node now call (kept self.old) (kept self.new) result }
+        ensures told { IsTrue tells → IsAnswered (after_turns first (kept self.old)) call (turn_left (kept self.old) (kept self.new)) result }
         ensures heard { CanBeHeard result }
         ensures stands { (notes : List Note) → stands self.old notes → stands self.new (notes ++ noted call (kept self.old) (kept self.new) result ∷ []) };
 }

@@ -1,13 +1,14 @@
 // One turn of a node at the turnstile.
-ghost use Rattle.std.specs.Prelude.{◌≡◌, ◌<◌, ◌-◌, ◌^◌, ℕ, length, Some, None, IfErr, IfOk, OnErr, OnOk};
+ghost use Rattle.std.specs.Prelude.{◌≡◌, ◌<◌, ◌-◌, ◌^◌, length, Some, None, IfErr, IfOk, OnErr, OnOk};
 ghost use Rattle.qm_history.specs.declared.call.Call.{Call as AnyCall};
 ghost use Rattle.qm_history.specs.Calls.{why_of};
 ghost use Rattle.qm_history.specs.Course.{next_at};
 ghost use Rattle.qm_living.specs.Living.{bearing_of};
-ghost use Rattle.qm_node.specs.Node.{CanBeHeard, CanBeMade, ComesNext, IsCallOf, IsMadeFor, IsTurn, TellsOne};
+ghost use Rattle.qm_node.specs.Node.{CanBeHeard, CanBeMade, ComesNext, IsMadeFor, IsTurn, TellsOne};
 ghost use Rattle.qm_drive.specs.Allowed.{CanAskAll};
-ghost use Rattle.qm_drive.specs.Turning.{EndsAt, EndsBy, IsTurnMade, MakesTurn, MayHear, Prints, TakesIn, ending_of};
+ghost use Rattle.qm_drive.specs.Turning.{EndsAt, EndsBy, IsCalled, IsTurnMade, MakesTurn, MayHear, Prints, TakesIn, ending_of};
 
+use crate::asked::{built_asked, why_of};
 use crate::asking::Asking;
 use crate::ending::DriveEnd;
 use crate::seat::{Seat, ending_of};
@@ -25,18 +26,6 @@ use qm_turn::{PassOf, TurnsSpent, Turnstile};
 use std::alloc::{AllocError, Global};
 use std::sync::Wait;
 
-/// Why the turn of a call is made.
-fn why_of(call: &Call) -> Why
-    ensures { result ≡ why_of call.now }
-{
-    match call {
-        Call::Line { line, .. } => Why::Line(*line),
-        Call::Fetch { .. } => Why::Fetch,
-        Call::Report { .. } => Why::Report,
-        Call::Leave => Why::Leave,
-    }
-}
-
 /// Waits for the node's turn, and makes its call in it.
 fn ask<S: Serve, R: Wait>(
     rt: &R,
@@ -49,7 +38,7 @@ fn ask<S: Serve, R: Wait>(
     requires here { pass.old.place ≡ turnstile.now.place }
     requires room { length pass.old.mine < 2 ^ 32 - 1 }
     requires asked { S.can_ask node call }
-    ensures { IsTurnMade S.tells S.first node now call result pass.old pass.new }
+    ensures { IsTurnMade S.tells S.first S.most node now call result pass.old pass.new }
 {
     match turnstile.turn(rt, pass, Asking::<S>::new(node, now, call)) {
         Ok(answer) => answer,
@@ -106,7 +95,7 @@ fn hear<'a, Y: Symbiont>(
     }
 }
 
-// Makes the call of what comes next. Where a run is to make a step, the node comes by its gate before that.
+// Makes the call of what comes next, as far as that is built. Where a run is to make a step, the node comes by its gate before that.
 fn make_call<'a, S: Serve, C: Clock, Y: Symbiont, G: Gate>(
     node: u8,
     seat: &mut Seat<'a, Y>,
@@ -116,8 +105,8 @@ fn make_call<'a, S: Serve, C: Clock, Y: Symbiont, G: Gate>(
     requires next { IsTurn (next_at seat.old.live seat.old.node.state seat.old.node.state.stage) (Some next.now) }
     requires can { CanBeMade seat.old.node.state next.now }
     requires told { seat.old.node.made ≡ None }
-    requires asks { CanAskAll S.can_ask node seat.old.node.state.lines }
-    ensures call { IfOk result (λ asked. IsCallOf Y.meaning next.now seat.old.node.state asked seat.new.node station.old.symbiont station.new.symbiont) }
+    requires asks { CanAskAll S.can_ask node }
+    ensures call { IfOk result (λ asked. IsCalled Y.meaning next.now seat.old.node.state asked seat.new.node station.old.symbiont station.new.symbiont) }
     ensures asks { IfOk result (λ asked. S.can_ask node asked.call) }
     ensures clock { TellsOne (C.told station.old.clock) (C.told station.new.clock) result }
     ensures seat { OnOk result (MayHear next.now seat.old seat.new) }
@@ -126,8 +115,13 @@ fn make_call<'a, S: Serve, C: Clock, Y: Symbiont, G: Gate>(
     if let Next::Step(_) = next {
         station.gate.at(Point::InStep);
     }
-    seat.state
+    match seat
+        .state
         .call(next, &mut station.clock, &mut station.symbiont)
+    {
+        Ok(asked) => Ok(built_asked(asked)),
+        Err(error) => Err(error),
+    }
 }
 
 /// Makes the turn that comes next in a node: the call of it is made, with one reading of the clock, and for a run with a step of
@@ -150,10 +144,10 @@ pub(crate) fn make_turn<'a, S: Serve, R: Wait, C: Clock, Y: Symbiont, G: Gate>(
     requires can { CanBeMade seat.old.node.state next.now }
     requires told { seat.old.node.made ≡ None }
     requires few { seat.old.count < 2 ^ 32 }
-    requires asks { CanAskAll S.can_ask node seat.old.node.state.lines }
-    ensures made { OnOk result (MakesTurn Y.meaning S.tells S.first node name.now next.now seat.old seat.new
+    requires asks { CanAskAll S.can_ask node }
+    ensures made { OnOk result (MakesTurn Y.meaning S.tells S.first S.most node name.now next.now seat.old seat.new
         station.old.symbiont station.new.symbiont (C.told station.old.clock) (C.told station.new.clock) pass.old pass.new text.old.items text.new.items) }
-    ensures ends { IfErr result (λ end. EndsAt Y.meaning S.tells S.first node name.now end next.now seat.old
+    ensures ends { IfErr result (λ end. EndsAt Y.meaning S.tells S.first S.most node name.now end next.now seat.old
         station.old.symbiont station.new.symbiont (C.told station.old.clock) (C.told station.new.clock) pass.old pass.new text.old.items text.new.items) }
 {
     let Ok(Asked { moment, call }) = make_call::<S, C, Y, G>(node, seat, next, station) else {

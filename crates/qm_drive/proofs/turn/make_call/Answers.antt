@@ -1,14 +1,15 @@
-use Rattle.std.proofs.Common.{Some, subst, sym}
-use Rattle.qm_history.specs.Course.{next_at}
-use Rattle.qm_node.specs.Node.{IsTurn}
-use Rattle.qm_drive.specs.Allowed.{CanAskAll}
-use Rattle.qm_drive.specs.Turning.{HeldSeat}
-use Rattle.qm_drive.proofs.Calls.{can_be_asked}
+use Rattle.std.proofs.Common.{subst, sym}
+use Rattle.std.specs.Prelude.{IfOk}
+use Rattle.qm_node.specs.declared.course.Asked.{Asked}
+use Rattle.qm_course.proofs.Called.{call_askable}
 use Rattle.qm_drive.proofs.turn.make_call.Goals as goal
+use Rattle.qm_drive.proofs.turn.make_call.Goals.{in-Ok, in-Err}
 
 pub returns-clause-asks : goal.returns-clause-asks
-returns-clause-asks g c =
-    can_be_asked g.S.Serve.can_ask c.args.node g.Y.Symbiont.meaning c.seat.inside.state.state c.call.new.self c.match-next.station.symbiont c.call.new.symbiont c.seat.inside.live c.args.next.now c.call.result
-    (subst (λ (s : HeldSeat). CanAskAll g.S.Serve.can_ask c.args.node s.node.state.lines) (sym c.seat.view_is) c.requires.asks)
-    (subst (λ (s : HeldSeat). IsTurn (next_at s.live s.node.state s.node.state.stage) (Some c.args.next.now)) (sym c.seat.view_is) c.requires.next)
-    c.call.ensures.call
+returns-clause-asks g c = elim c.match-call.branch [
+  | in-Ok w ↦
+      subst (λ r. IfOk r (λ (asked : Asked). g.S.Serve.can_ask c.args.node asked.call)) (sym w.result-is)
+      (subst (λ (asked : Asked). g.S.Serve.can_ask c.args.node asked.call) (sym w.built_asked.ensures)
+      (c.requires.asks _ (call_askable g.Y.Symbiont.meaning _ w.in-Ok.asked _ _ _ c.args.next.now w.in-Ok.ensures.call)))
+  | in-Err w ↦ subst (λ r. IfOk r (λ (asked : Asked). g.S.Serve.can_ask c.args.node asked.call)) (sym w.result-is) tt
+]
