@@ -1,0 +1,11 @@
+//! A site at work that its nodes share in turns, each by a thread of its own: its service, in a wrapper whose type names with what
+//! it began. So it can say what it stands for between two turns.
+#![tactic(auto)]
+
+mod begins;
+mod laws;
+mod site;
+
+pub use begins::Begins;
+pub use laws::{nodes_begin_live, opened_sites_stand_for_no_notes};
+pub use site::Site;
