@@ -1,5 +1,5 @@
 // Cases that are a script and what it prints.
-use crate::run::{Ran, Site, empty_site, outside_of, run, words_of};
+use crate::run::{MemoryStation, Ran, Site, empty_site, outside_of, run, words_of};
 use qm_disk::MemoryDisk;
 use qm_kinds::Moment;
 use qm_program::End;
@@ -12,11 +12,15 @@ type MemorySite = Site<MemoryDisk>;
 // What the clock of a case tells that has no moments of its own.
 const STANDING: &[u8] = b"1-JAN-2030 10:00:00.00";
 
-/// A new site of the node A.
-pub(crate) fn new_site(alloc: Global) -> Result<MemorySite, AllocError> {
-    let outside = outside_of(alloc, Vec::new(alloc), Vec::new(alloc))?;
-    let words = words_of(alloc, "\"init\" \"A\"")?;
-    let Ran { site, .. } = run(alloc, &words, outside, empty_site(alloc))?;
+// The node of a case that names none.
+const NODE: &str = "A";
+
+// A new site of nodes, with commas between their names.
+fn new_site(alloc: Global, nodes: &str) -> Result<MemorySite, AllocError> {
+    let outside = outside_of(alloc, Vec::new(alloc), Vec::new(alloc));
+    let mut words = words_of(alloc, "\"init\"")?;
+    words.push(String::from_str(alloc, nodes)?)?;
+    let Ran { site, .. } = run(alloc, &words, outside, empty_site(alloc)?)?;
     Ok(site)
 }
 
@@ -55,15 +59,27 @@ fn moments_of(rt: &HostRuntime, name: &str) -> io::Result<Vec<Moment>> {
     }
 }
 
-// What a device of the site was handed.
+// What a device of the site was handed, node by node.
 fn output_of(alloc: Global, site: &MemorySite, device: &str) -> Result<Vec<u8>, AllocError> {
     let mut output = Vec::new(alloc);
-    for handed in site.symbiont.device().held() {
+    for station in &site.stations {
+        push_taken(&mut output, station, device)?;
+    }
+    Ok(output)
+}
+
+// Adds what a device of a node was handed.
+fn push_taken(
+    output: &mut Vec<u8>,
+    station: &MemoryStation,
+    device: &str,
+) -> Result<(), AllocError> {
+    for handed in station.symbiont.device().held() {
         if handed.device.as_str() == device {
             output.extend_from_slice(handed.block.as_slice())?;
         }
     }
-    Ok(output)
+    Ok(())
 }
 
 // Whether a device of the site was handed what the case says.
@@ -80,7 +96,7 @@ fn prints(rt: &HostRuntime, name: &str, site: MemorySite) -> io::Result<(bool, M
     if moments.is_empty() {
         return Err(io::ErrorKind::InvalidData.into());
     }
-    let outside = outside_of(rt.alloc(), script, moments)?;
+    let outside = outside_of(rt.alloc(), script, moments);
     let words = words_of(rt.alloc(), "\"run\"")?;
     let Ran { end, printed, site } = run(rt.alloc(), &words, outside, site)?;
     Ok((end == End::Ok && printed == transcript, site))
@@ -98,14 +114,16 @@ fn passes(rt: &HostRuntime, case: &str, site: MemorySite) -> io::Result<(bool, M
     }
 }
 
-/// Serves the case that a word names: over a new site, or behind a `+` over the one that the case before it left.
+/// Serves the case that a word names: over a new site of the nodes in front of a `:`, or of the node A; or behind a `+` over the
+/// site that the case before it left.
 pub(crate) fn serve_case(
     rt: &HostRuntime,
     word: &str,
     before: MemorySite,
 ) -> io::Result<(bool, MemorySite)> {
-    match word.strip_prefix("+") {
-        Some(case) => passes(rt, case, before),
-        None => passes(rt, word, new_site(rt.alloc())?),
+    if let Some(case) = word.strip_prefix("+") {
+        return passes(rt, case, before);
     }
+    let (nodes, case) = word.split_once(":").unwrap_or((NODE, word));
+    passes(rt, case, new_site(rt.alloc(), nodes)?)
 }

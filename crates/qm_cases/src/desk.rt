@@ -1,26 +1,23 @@
-// What a plan has in work: a queue file, scripts, what fails, and what the last runs told and left.
+// What a plan has in work: files, scripts, what fails, and what the last runs told and left.
+use crate::files::{Files, Spoil};
 use crate::records::Names;
-use crate::run::{Outside, Ran, Site, clock_of, empty_site, run, words_of};
-use qm_batch::Standard;
+use crate::run::{Outside, Ran, Site, empty_disk, new_stations, run, words_of};
 use qm_disk::{Disk, MemoryDisk};
 use qm_io::{MemorySink, MemorySource};
 use qm_kinds::Moment;
 use qm_plans::push_line;
 use qm_program::End;
-use qm_symb::MemoryDevice;
 use std::alloc::{AllocError, Global};
 use std::mem;
-
-/// What the other files of a disk hold. No run changes them.
-const MASTER: &[u8] = &[1, 2, 3];
-
-const OTHER: &[u8] = &[7];
 
 // The words that ask for a run.
 const RUN: &str = "\"run\"";
 
+// No run of a plan makes so many calls on its disk that has them fail one by one.
+const CALLS: u64 = 512;
+
 /// The numbers of the calls that fail, counted from 1: reads of the script, writes of the transcript, calls on the disk, and
-/// blocks that are handed over.
+/// blocks that a node hands over.
 #[derive(Drop)]
 pub(crate) struct Failing {
     pub(crate) reads: Vec<u64>,
@@ -29,14 +26,23 @@ pub(crate) struct Failing {
     pub(crate) devices: Vec<u64>,
 }
 
+/// Which calls on a disk fail: one alone, or each one from that on.
+#[derive(Clone, Copy)]
+pub(crate) enum Failures {
+    Once,
+    FromThereOn,
+}
+
 /// What a plan has in work.
 #[derive(Drop)]
 pub(crate) struct Desk {
     pub(crate) alloc: Global,
     pub(crate) names: Names,
-    /// What the queue file holds when the next run begins, and what it held as the last one did.
-    pub(crate) file: Vec<u8>,
-    pub(crate) before: Vec<u8>,
+    /// What the files hold when the next run begins, and what they held as the last one did.
+    pub(crate) files: Files,
+    pub(crate) before: Files,
+    /// The file that is spoken of.
+    pub(crate) chosen: usize,
     /// The disk as the last run handed it back that was stopped.
     pub(crate) stopped: MemoryDisk,
     pub(crate) script: Vec<u8>,
@@ -46,7 +52,7 @@ pub(crate) struct Desk {
     pub(crate) moments: Vec<Moment>,
     /// How many lines are told of what is printed, from the last one on.
     pub(crate) last: usize,
-    /// What the devices took in the last run.
+    /// What the devices took in the last run, node by node.
     pub(crate) handed: Vec<u8>,
 }
 
@@ -56,9 +62,10 @@ impl Desk {
         Desk {
             alloc,
             names: Names::new(alloc),
-            file: Vec::new(alloc),
-            before: Vec::new(alloc),
-            stopped: empty_site(alloc).disk,
+            files: Files::new(alloc),
+            before: Files::new(alloc),
+            chosen: 1,
+            stopped: empty_disk(alloc),
             script: Vec::new(alloc),
             look: Vec::new(alloc),
             failing: Failing {
@@ -73,119 +80,144 @@ impl Desk {
         }
     }
 
-    /// What a run reads that is asked this, prints on, and is told the moment by.
-    pub(crate) fn outside(&self, script: Vec<u8>) -> Result<Outside, AllocError> {
+    /// What a run reads that is asked this, prints on, and is told the moments by.
+    pub(crate) fn outside(&self, script: &[u8]) -> Result<Outside, AllocError> {
         let alloc = self.alloc;
-        let source = MemorySource::new(script, self.failing.reads.to_vec(alloc)?);
-        let sink = MemorySink::new(alloc, self.failing.writes.to_vec(alloc)?);
-        let clock = clock_of(alloc, self.moments.to_vec(alloc)?)?;
         Ok(Outside {
-            source,
-            sink,
-            clock,
+            source: MemorySource::new(script.to_vec(alloc)?, self.failing.reads.to_vec(alloc)?),
+            sink: MemorySink::new(alloc, self.failing.writes.to_vec(alloc)?),
+            moments: self.moments.to_vec(alloc)?,
         })
     }
 
-    /// What carries out runs, over devices that took nothing.
-    pub(crate) fn symbiont(&self) -> Result<Standard<MemoryDevice>, AllocError> {
-        let devices = self.failing.devices.to_vec(self.alloc)?;
-        Ok(Standard::new(self.alloc, MemoryDevice::new(self.alloc, devices)))
+    /// A disk, with devices that took nothing.
+    pub(crate) fn site<D: Disk + Drop>(&self, disk: D) -> Result<Site<D>, AllocError> {
+        Ok(Site {
+            disk,
+            stations: new_stations(self.alloc, &self.failing.devices)?,
+        })
     }
 
-    // A disk with this queue file.
-    fn disk(&self, file: &[u8], failing: &[u64]) -> Result<MemoryDisk, AllocError> {
-        Ok(MemoryDisk::new(
-            self.alloc,
-            MASTER.to_vec(self.alloc)?,
-            file.to_vec(self.alloc)?,
-            OTHER.to_vec(self.alloc)?,
-            failing.to_vec(self.alloc)?,
-        ))
-    }
-
-    /// Runs the program over a queue file, where these calls of the disk fail.
-    pub(crate) fn run_over(
+    // Runs the program over files, where these calls of the disk fail.
+    fn run_over(
         &self,
         words: &[String],
         script: &[u8],
-        file: &[u8],
+        files: &Files,
         failing: &[u64],
     ) -> Result<Ran<MemoryDisk>, AllocError> {
-        let outside = self.outside(script.to_vec(self.alloc)?)?;
-        let site = Site {
-            disk: self.disk(file, failing)?,
-            symbiont: self.symbiont()?,
-        };
+        let outside = self.outside(script)?;
+        let site = self.site(files.disk(self.alloc, failing)?)?;
         run(self.alloc, words, outside, site)
     }
 
-    /// Runs the program over the queue file, tells of the run, and keeps the file that it left. Gives its disk.
+    // Keeps what the devices took.
+    fn keep_handed(&mut self, site: &Site<MemoryDisk>) -> Result<(), AllocError> {
+        self.handed.clear();
+        for station in &site.stations {
+            for taken in station.symbiont.device().held() {
+                self.handed.extend_from_slice(taken.block.as_slice())?;
+            }
+        }
+        Ok(())
+    }
+
+    /// Runs the program over the files, tells of the run, and keeps the files that it left. Gives its disk.
     pub(crate) fn run(
         &mut self,
         told: &mut Vec<u8>,
         words: &[String],
     ) -> Result<MemoryDisk, AllocError> {
-        let ran = self.run_over(words, &self.script, &self.file, &self.failing.calls)?;
+        let ran = self.run_over(words, &self.script, &self.files, &self.failing.calls)?;
         push_told(self.alloc, told, &ran, self.last)?;
         self.last = usize::MAX;
         let Ran { site, .. } = ran;
-        self.handed.clear();
-        for taken in site.symbiont.device().held() {
-            self.handed.extend_from_slice(taken.block.as_slice())?;
-        }
-        let left = site.disk.held(1).to_vec(self.alloc)?;
-        self.before = mem::replace(&mut self.file, left);
-        if site.disk.held(0) != MASTER || site.disk.held(2) != OTHER {
-            told.extend_from_slice(b"another file changed\n")?;
+        self.keep_handed(&site)?;
+        let left = Files::of(self.alloc, &site.disk)?;
+        self.before = mem::replace(&mut self.files, left);
+        if self.before.get(2) != self.files.get(2) {
+            told.extend_from_slice(b"queue file 2 changed\n")?;
         }
         let Site { disk, .. } = site;
         Ok(disk)
     }
 
-    /// The queue file as a crash of this kind leaves it within the run that was stopped last.
+    /// Runs the program over the files once for each of its calls on the disk, which fails, or from which on each one does, and
+    /// at last once where none fails. Tells of each run, and then of what is found behind it, where that isn't what was told
+    /// before; the files stay as they are.
+    pub(crate) fn run_failing(
+        &self,
+        told: &mut Vec<u8>,
+        words: &[String],
+        failures: Failures,
+    ) -> Result<(), AllocError> {
+        let mut before = vec![in self.alloc; b'?']?;
+        let mut found_before = vec![in self.alloc; b'?']?;
+        for number in 1..CALLS {
+            let failing = numbers_from(self.alloc, number, failures)?;
+            let ran = self.run_over(words, &self.script, &self.files, &failing)?;
+            let mut now = Vec::new(self.alloc);
+            push_told(self.alloc, &mut now, &ran, usize::MAX)?;
+            let mut found = Vec::new(self.alloc);
+            self.look_behind(&mut found, &ran.site.disk)?;
+            if now != before || found != found_before {
+                push_line(told, "--")?;
+            }
+            push_news(told, &mut before, now)?;
+            push_news(told, &mut found_before, found)?;
+            if ran.end == End::Ok {
+                return Ok(());
+            }
+        }
+        push_line(told, "no end")
+    }
+
+    /// The files as a crash of this kind leaves them within the run that was stopped last.
     pub(crate) fn crash(&mut self, kind: usize) -> Result<(), AllocError> {
         let pick = match kind {
             1 => 1,
             2 => 2,
             _ => 0,
         };
-        self.file = self.stopped.after_crash(pick)?.held(1).to_vec(self.alloc)?;
+        self.files = Files::of(self.alloc, &self.stopped.after_crash(pick)?)?;
         Ok(())
     }
 
-    // Asks what is there over a queue file, and tells it behind a head, unless that is what was told before.
+    // Asks what is there over files, and tells it behind a head, unless that is what was told before.
     fn look_over(
         &self,
         told: &mut Vec<u8>,
         head: &str,
-        file: &[u8],
+        files: &Files,
         before: &mut Vec<u8>,
     ) -> Result<(), AllocError> {
         let words = words_of(self.alloc, RUN)?;
-        let ran = self.run_over(&words, &self.look, file, &[])?;
+        let ran = self.run_over(&words, &self.look, files, &[])?;
         let mut found = Vec::new(self.alloc);
         push_told(self.alloc, &mut found, &ran, usize::MAX)?;
         if found.as_slice() != before.as_slice() {
             told.extend_from_slice(head.as_bytes())?;
-            told.extend_from_slice(&found)?;
-            *before = found;
         }
-        Ok(())
+        push_news(told, before, found)
     }
 
-    /// Asks what is there behind a crash of each kind of the run that was stopped last, and without a crash.
-    pub(crate) fn look_behind(&self, told: &mut Vec<u8>) -> Result<(), AllocError> {
+    /// Asks what is there behind a crash of each kind of this disk, and without a crash.
+    pub(crate) fn look_behind(
+        &self,
+        told: &mut Vec<u8>,
+        disk: &MemoryDisk,
+    ) -> Result<(), AllocError> {
         let mut before = vec![in self.alloc; b'?']?;
         for pick in 0..3u8 {
-            let disk = self.stopped.after_crash(pick)?;
+            let left = Files::of(self.alloc, &disk.after_crash(pick)?)?;
             let head = format!(in self.alloc; "crash {pick}:\n")?;
-            self.look_over(told, head.as_str(), disk.held(1), &mut before)?;
+            self.look_over(told, head.as_str(), &left, &mut before)?;
         }
-        let left = self.stopped.held(1).to_vec(self.alloc)?;
+        let left = Files::of(self.alloc, disk)?;
         self.look_over(told, "no crash:\n", &left, &mut before)
     }
 
-    /// Asks what is there over the queue file, spoiled at each of these places.
+    /// Asks what is there over the files, the chosen one spoiled at each of these places.
     pub(crate) fn look_at_spoiled(
         &self,
         told: &mut Vec<u8>,
@@ -195,33 +227,34 @@ impl Desk {
     ) -> Result<(), AllocError> {
         let mut before = vec![in self.alloc; b'?']?;
         for place in first..=last {
-            let file = spoiled(self.alloc, &self.file, spoil, place)?;
+            let files = self.files.spoiled(self.alloc, self.chosen, spoil, place)?;
             let head = format!(in self.alloc; "{place}:\n")?;
-            self.look_over(told, head.as_str(), &file, &mut before)?;
+            self.look_over(told, head.as_str(), &files, &mut before)?;
         }
         Ok(())
     }
 }
 
-/// How a file is spoiled at a place: cut there, or the byte raised by one.
-#[derive(Clone, Copy)]
-pub(crate) enum Spoil {
-    Cut,
-    Raised,
+// The numbers of the calls that fail, from one on.
+fn numbers_from(alloc: Global, number: u64, failures: Failures) -> Result<Vec<u64>, AllocError> {
+    let last = match failures {
+        Failures::Once => number,
+        Failures::FromThereOn => CALLS,
+    };
+    let mut numbers = Vec::new(alloc);
+    for failing in number..=last {
+        numbers.push(failing)?;
+    }
+    Ok(numbers)
 }
 
-// A file that is spoiled at a place.
-fn spoiled(alloc: Global, file: &[u8], spoil: Spoil, place: usize) -> Result<Vec<u8>, AllocError> {
-    let mut file = file.to_vec(alloc)?;
-    match spoil {
-        Spoil::Cut => file.truncate(place),
-        Spoil::Raised => {
-            if let Some(byte) = file.get_mut(place) {
-                *byte = byte.wrapping_add(1);
-            }
-        }
+// Tells something, unless that is what was told before, and keeps it.
+fn push_news(told: &mut Vec<u8>, before: &mut Vec<u8>, now: Vec<u8>) -> Result<(), AllocError> {
+    if now.as_slice() != before.as_slice() {
+        told.extend_from_slice(&now)?;
+        *before = now;
     }
-    Ok(file)
+    Ok(())
 }
 
 // The last lines of a text.

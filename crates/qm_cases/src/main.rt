@@ -1,21 +1,24 @@
 //! The worked cases that are data. Each is two files of the folder: a script, `NAME.qman`, and what it prints,
 //! `NAME.transcript`; and a third, `NAME.clock`, where its clock tells more than 1-JAN-2030 10:00:00.00: the moments that it
-//! tells, one a line as they are printed, of which it tells the last one for ever. Each is served over a disk in memory that
-//! holds a new site of the node A, and over devices in memory; a case whose name has a `+` before it goes on over the site
-//! that the one before it left, and its devices. Where a `=` and a device stand behind the name, `NAME.out` is what the
-//! device was handed, by this case and those that it goes on from. A name with a `@` before it is that of a plan, `NAME.plan`:
-//! files of the disk byte by byte, calls that fail, and what later runs find.
+//! tells, one a line as they are printed, of which it tells the last one for ever; each node's clock tells these. Each is served
+//! over a disk in memory that holds a new site of the node A, or of the nodes that stand in front of the name and a `:`, and
+//! over devices in memory; a case whose name has a `+` before it goes on over the site that the one before it left, and its
+//! devices. Where a `=` and a device stand behind the name, `NAME.out` is what the device was handed, by this case and those
+//! that it goes on from. A name with a `@` before it is that of a plan, `NAME.plan`: files of the disk byte by byte, calls that
+//! fail, and what later runs find.
 #![tactic(auto)]
 
 mod cases;
 mod desk;
+mod files;
 mod real;
 mod records;
 mod run;
 mod verbs;
 
-use cases::{new_site, serve_case};
+use cases::serve_case;
 use desk::Desk;
+use run::empty_site;
 use std::process::ExitCode;
 use std::{env, fs, io};
 
@@ -30,7 +33,7 @@ fn plan_holds(rt: &HostRuntime, desk: &mut Desk, name: &str) -> io::Result<bool>
 fn serve_cases(rt: &HostRuntime) -> io::Result<(u32, u32)> {
     let mut passed = 0u32;
     let mut failed = 0u32;
-    let mut site = new_site(rt.alloc())?;
+    let mut site = empty_site(rt.alloc())?;
     let mut desk = Desk::new(rt.alloc());
     for word in env::args(rt)?.skip(1) {
         let passes = if let Some(name) = word.as_str().strip_prefix("@") {

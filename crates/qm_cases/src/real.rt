@@ -26,27 +26,25 @@ pub(crate) fn new_folder(rt: &HostRuntime) -> io::Result<()> {
     fs::create_dir(rt, FOLDER)
 }
 
-/// Runs the program over the files of the folder, tells of the run, and keeps the queue file that it left. Other files were
-/// asked for nothing, and so none was made.
+/// Runs the program over the files of the folder, tells of the run, and keeps the master and the first queue file that it left. The
+/// second queue file was asked for nothing, and so wasn't made.
 pub(crate) fn run_over_files(
     rt: &HostRuntime,
     desk: &mut Desk,
     told: &mut Vec<u8>,
     words: &[String],
 ) -> io::Result<()> {
-    let outside = desk.outside(desk.script.to_vec(rt.alloc())?)?;
-    let site = Site {
-        disk: files(rt)?,
-        symbiont: desk.symbiont()?,
-    };
+    let outside = desk.outside(&desk.script)?;
+    let site = desk.site(files(rt)?)?;
     let ran = run(rt.alloc(), words, outside, site)?;
     push_told(rt.alloc(), told, &ran, usize::MAX)?;
     let Ran { site, .. } = ran;
     let Site { disk, .. } = site;
     disk.close();
-    desk.file = fs::read(rt, "files/one")?;
-    if fs::exists(rt, "files/master")? || fs::exists(rt, "files/two")? {
-        told.extend_from_slice(b"another file was made\n")?;
+    *desk.files.get_mut(0) = fs::read(rt, "files/master")?;
+    *desk.files.get_mut(1) = fs::read(rt, "files/one")?;
+    if fs::exists(rt, "files/two")? {
+        told.extend_from_slice(b"queue file 2 was made\n")?;
     }
     Ok(())
 }

@@ -1,4 +1,4 @@
-// Bytes that have names, and queue files of the records that they are.
+// Bytes that have names, and logs of the records that they are.
 use qm_plans::{number_and_rest, push_bytes, push_times};
 use std::alloc::{AllocError, Global};
 
@@ -67,15 +67,15 @@ impl Names {
         Ok(())
     }
 
-    /// The queue file of the records of these names.
-    pub(crate) fn queue_file(&self, names: &str) -> Result<Vec<u8>, AllocError> {
+    /// The log of the records of these names.
+    pub(crate) fn log(&self, names: &str) -> Result<Vec<u8>, AllocError> {
         let mut file = Vec::new(self.alloc);
         self.push_records(&mut file, names)?;
         file.push(0)?;
         Ok(file)
     }
 
-    /// Adds to a queue file so many times the records of the names behind the number.
+    /// Adds to a log so many times the records of the names behind the number.
     pub(crate) fn go_on(&self, file: &mut Vec<u8>, text: &str) -> Result<(), AllocError> {
         let (times, names) = number_and_rest(text);
         file.pop();
@@ -85,4 +85,16 @@ impl Names {
         file.push(0)?;
         Ok(())
     }
+}
+
+/// Adds to the log of a master so many epochs of the first node, from 1 on.
+pub(crate) fn push_epochs(log: &mut Vec<u8>, count: usize) -> Result<(), AllocError> {
+    log.pop();
+    for epoch in 1..=count as u64 {
+        log.extend_from_slice(b"\x01\x0b\x00\x00\x00\x01A")?;
+        log.extend_from_slice(&epoch.to_le_bytes())?;
+        log.push(0)?;
+    }
+    log.push(0)?;
+    Ok(())
 }

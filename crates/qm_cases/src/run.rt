@@ -2,24 +2,27 @@
 use qm_batch::Standard;
 use qm_disk::{Disk, MemoryDisk};
 use qm_io::{MemoryClock, MemorySink, MemorySource};
-use qm_kinds::Moment;
-use qm_program::{End, Outcome, qman};
+use qm_kinds::{Moment, NODES_LIMIT};
+use qm_program::{End, Outcome, Station, qman};
 use qm_symb::MemoryDevice;
 use std::alloc::{AllocError, Global};
 
-/// The disk of a site, and what carries out its runs.
+/// What a node has of its own: its clock, and what carries out its runs.
+pub(crate) type MemoryStation = Station<MemoryClock, Standard<MemoryDevice>>;
+
+/// The disk of a site, and what each node has of its own, as many as a site can have.
 #[derive(Drop)]
 pub(crate) struct Site<D: Disk + Drop> {
     pub(crate) disk: D,
-    pub(crate) symbiont: Standard<MemoryDevice>,
+    pub(crate) stations: Vec<MemoryStation>,
 }
 
-/// What a run reads, prints on, and is told the moment by.
+/// What a run reads and prints on, and the moments that the clock of each node tells it.
 #[derive(Drop)]
 pub(crate) struct Outside {
     pub(crate) source: MemorySource,
     pub(crate) sink: MemorySink,
-    pub(crate) clock: MemoryClock,
+    pub(crate) moments: Vec<Moment>,
 }
 
 /// How the program ended, what it printed, and the site that it left.
@@ -30,64 +33,86 @@ pub(crate) struct Ran<D: Disk + Drop> {
     pub(crate) site: Site<D>,
 }
 
-/// The program with these words.
+/// The program with these words. The clocks begin anew.
 pub(crate) fn run<D: Disk + Drop>(
     alloc: Global,
     words: &[String],
     mut outside: Outside,
     site: Site<D>,
 ) -> Result<Ran<D>, AllocError> {
-    let Site { disk, mut symbiont } = site;
+    let Site { disk, mut stations } = site;
+    for station in &mut stations {
+        station.clock = clock_of(alloc, &outside.moments)?;
+    }
+    if stations.len() < NODES_LIMIT {
+        return Err(AllocError);
+    }
     let Outcome { end, disk, .. } = qman(
         alloc,
         words,
         &mut outside.source,
         &mut outside.sink,
         disk,
-        &mut outside.clock,
-        &mut symbiont,
+        &mut stations,
     );
     Ok(Ran {
         end,
         printed: outside.sink.held().to_vec(alloc)?,
-        site: Site { disk, symbiont },
+        site: Site { disk, stations },
     })
 }
 
-/// A text to be read, and a clock that tells these moments; the base of the system time where there is none. Nothing fails.
-pub(crate) fn outside_of(
-    alloc: Global,
-    text: Vec<u8>,
-    moments: Vec<Moment>,
-) -> Result<Outside, AllocError> {
-    Ok(Outside {
+/// A text to be read, and clocks that tell these moments; the base of the system time where there is none. Nothing fails.
+pub(crate) fn outside_of(alloc: Global, text: Vec<u8>, moments: Vec<Moment>) -> Outside {
+    Outside {
         source: MemorySource::new(text, Vec::new(alloc)),
         sink: MemorySink::new(alloc, Vec::new(alloc)),
-        clock: clock_of(alloc, moments)?,
-    })
+        moments,
+    }
 }
 
-/// A clock that tells these moments; the base of the system time where there is none.
-pub(crate) fn clock_of(alloc: Global, moments: Vec<Moment>) -> Result<MemoryClock, AllocError> {
+// A clock that tells these moments; the base of the system time where there is none.
+fn clock_of(alloc: Global, moments: &[Moment]) -> Result<MemoryClock, AllocError> {
     Ok(MemoryClock::new(if moments.is_empty() {
         vec![in alloc; Moment::BASE]?
     } else {
-        moments
+        moments.to_vec(alloc)?
     }))
 }
 
-/// A disk without a byte, and devices that took nothing.
-pub(crate) fn empty_site(alloc: Global) -> Site<MemoryDisk> {
-    Site {
-        disk: MemoryDisk::new(
-            alloc,
-            Vec::new(alloc),
-            Vec::new(alloc),
-            Vec::new(alloc),
-            Vec::new(alloc),
-        ),
-        symbiont: Standard::new(alloc, MemoryDevice::new(alloc, Vec::new(alloc))),
+/// What the nodes of a site have of their own: devices that took nothing, of which each node's fail at the calls of these numbers.
+pub(crate) fn new_stations(
+    alloc: Global,
+    failing: &[u64],
+) -> Result<Vec<MemoryStation>, AllocError> {
+    let mut stations = Vec::new(alloc);
+    for _ in 0..NODES_LIMIT {
+        let device = MemoryDevice::new(alloc, failing.to_vec(alloc)?);
+        stations.push(Station {
+            clock: clock_of(alloc, &[])?,
+            symbiont: Standard::new(alloc, device),
+        })?;
     }
+    Ok(stations)
+}
+
+/// A disk without a byte, and devices that took nothing.
+pub(crate) fn empty_site(alloc: Global) -> Result<Site<MemoryDisk>, AllocError> {
+    Ok(Site {
+        disk: empty_disk(alloc),
+        stations: new_stations(alloc, &[])?,
+    })
+}
+
+/// A disk without a byte.
+pub(crate) fn empty_disk(alloc: Global) -> MemoryDisk {
+    MemoryDisk::new(
+        alloc,
+        Vec::new(alloc),
+        Vec::new(alloc),
+        Vec::new(alloc),
+        Vec::new(alloc),
+    )
 }
 
 /// The words of a text that stand between quotes.

@@ -1,9 +1,11 @@
 // The verbs of plans.
 //
-// The queue file: `name` gives a name to bytes, `lengthen N NAME` puts N letters behind them; `records` makes the file of the
-// records of these names, `more N` adds records to it N times; `file` says its bytes, `behind` adds some, `cut` leaves so many;
-// `crash` is what a crash of that kind left of it within the run that was stopped last. `holds` tells whether it is the file of
-// these records, `unchanged` whether the last run left it as it was.
+// Files: `name` gives a name to bytes, `lengthen N NAME` puts N letters behind them. `site` makes the files of a new site: the master
+// of the record FOUND, queue file 1 of HEAD, FORM and QUEUE, and queue file 2 a byte that no run changes. `of N` chooses the file
+// that the next verbs speak of, the master with 0, and with 1, as `site` does, queue file 1: `records` makes it of the records of
+// these names, `more N` adds records to it N times, and `epochs N` the epochs 1 to N; `file` says its bytes, `behind` adds some, `cut`
+// leaves so many; `holds` tells whether it is the file of these records. `crash` is what a crash of that kind left of all within the run that was stopped last;
+// `unchanged` tells whether the last run left all as they were.
 //
 // What is asked: `script` says its bytes, `text` adds some, `line`, `lines N`, `numbered N` (with a number for `#`) and `letters N`
 // too; `look` is the script of those runs that look; `clock` says the moments that are told. `reads`, `writes`, `calls` and
@@ -11,11 +13,16 @@
 //
 // Runs: `run` and `stop` run the program with the words in quotes, and tell what it prints (with `last N` before it the last N
 // lines) and its end, if that isn't a good one; `over-files` does so over real files, in a new `folder`. Behind `stop`, `looks`
-// tells what is found after a crash of each kind and without one; `cuts` and `raises` tell what is found of the file when it is cut
-// at each place, or has the byte there raised, and only where something else is found than at the place before. `handed` tells what
-// the devices took in the last run, `other-ends` a good end, and that of a run without memory.
-use crate::desk::{Desk, Spoil, push_end};
+// tells what is found after a crash of each kind and without one. `once` runs the program over the same files for each of its calls
+// on the disk, which fails, and at last with none that does; `from-there-on` has all calls fail from that one on; both tell of each
+// run, and what `looks` finds behind it, where that isn't what was told before. `cuts` and `raises` tell what is found of the file
+// when it is cut at each place, or has the byte there raised, and only where something else is found than at the place before.
+// `handed` tells what the devices took in the last run, `other-ends` a good end, and those of a run without memory and of one that
+// keeps no more turns.
+use crate::desk::{Desk, Failures, push_end};
+use crate::files::Spoil;
 use crate::real::{new_folder, run_over_files};
+use crate::records::push_epochs;
 use crate::run::words_of;
 use qm_kinds::Moment;
 use qm_plans::{number_and_rest, numbers, push_bytes, push_line, push_times};
@@ -50,8 +57,40 @@ fn push_lines(alloc: Global, script: &mut Vec<u8>, text: &str) -> Result<(), All
     push_times(script, times, line.as_bytes())
 }
 
-// What says of the queue file what it holds.
-fn act_on_file(
+// The files of a new site.
+fn make_site(desk: &mut Desk) -> Result<(), AllocError> {
+    *desk.files.get_mut(0) = desk.names.log("FOUND")?;
+    *desk.files.get_mut(1) = desk.names.log("HEAD FORM QUEUE")?;
+    *desk.files.get_mut(2) = vec![in desk.alloc; 7]?;
+    desk.chosen = 1;
+    Ok(())
+}
+
+// Tells whether something is so.
+fn push_answer(told: &mut Vec<u8>, is: bool) -> Result<(), AllocError> {
+    push_line(told, if is { "yes" } else { "no" })
+}
+
+// What says of a file what it holds.
+fn act_on_file(desk: &mut Desk, verb: &str, text: &str) -> Result<bool, AllocError> {
+    let file = desk.files.get_mut(desk.chosen);
+    match verb {
+        "records" => *file = desk.names.log(text)?,
+        "more" => desk.names.go_on(file, text)?,
+        "epochs" => push_epochs(file, number_and_rest(text).0)?,
+        "file" => {
+            file.clear();
+            push_bytes(file, text)?;
+        }
+        "behind" => push_bytes(file, text)?,
+        "cut" => file.truncate(number_and_rest(text).0),
+        _ => return Ok(false),
+    }
+    Ok(true)
+}
+
+// What says of the files what they hold, or asks.
+fn act_on_files(
     desk: &mut Desk,
     told: &mut Vec<u8>,
     verb: &str,
@@ -60,23 +99,14 @@ fn act_on_file(
     match verb {
         "name" => desk.names.define(text)?,
         "lengthen" => desk.names.lengthen(text)?,
-        "records" => desk.file = desk.names.queue_file(text)?,
-        "more" => desk.names.go_on(&mut desk.file, text)?,
-        "file" => {
-            desk.file.clear();
-            push_bytes(&mut desk.file, text)?;
-        }
-        "behind" => push_bytes(&mut desk.file, text)?,
-        "cut" => desk.file.truncate(number_and_rest(text).0),
+        "site" => make_site(desk)?,
+        "of" => desk.chosen = number_and_rest(text).0,
         "crash" => desk.crash(number_and_rest(text).0)?,
         "holds" => {
-            let holds = desk.names.queue_file(text)? == desk.file;
-            push_line(told, if holds { "yes" } else { "no" })?;
+            let log = desk.names.log(text)?;
+            push_answer(told, desk.files.get(desk.chosen) == log.as_slice())?;
         }
-        "unchanged" => {
-            let holds = desk.before == desk.file;
-            push_line(told, if holds { "yes" } else { "no" })?;
-        }
+        "unchanged" => push_answer(told, desk.before.are(&desk.files))?,
         _ => return Ok(false),
     }
     Ok(true)
@@ -123,7 +153,11 @@ fn run_by(
             let _ = desk.run(told, &words_of(desk.alloc, text)?)?;
         }
         "stop" => desk.stopped = desk.run(told, &words_of(desk.alloc, text)?)?,
-        "looks" => desk.look_behind(told)?,
+        "looks" => desk.look_behind(told, &desk.stopped)?,
+        "once" => desk.run_failing(told, &words_of(desk.alloc, text)?, Failures::Once)?,
+        "from-there-on" => {
+            desk.run_failing(told, &words_of(desk.alloc, text)?, Failures::FromThereOn)?;
+        }
         "cuts" | "raises" => {
             let (first, last) = number_and_rest(text);
             let spoil = if verb == "cuts" {
@@ -140,6 +174,7 @@ fn run_by(
         "other-ends" => {
             push_end(desk.alloc, told, End::Ok)?;
             push_end(desk.alloc, told, End::NoMemory)?;
+            push_end(desk.alloc, told, End::HistoryFull)?;
         }
         "folder" => new_folder(rt)?,
         "over-files" => run_over_files(rt, desk, told, &words_of(desk.alloc, text)?)?,
@@ -157,7 +192,10 @@ impl qm_plans::Desk for Desk {
         verb: &str,
         text: &str,
     ) -> io::Result<()> {
-        if act_on_file(self, told, verb, text)? || act_on_outside(self, verb, text)? {
+        if act_on_file(self, verb, text)?
+            || act_on_files(self, told, verb, text)?
+            || act_on_outside(self, verb, text)?
+        {
             return Ok(());
         }
         run_by(rt, self, told, verb, text)

@@ -5,14 +5,6 @@ use qm_glog::{GREATEST_CAP, OpenFault};
 use std::alloc::{AllocError, Global};
 use std::test::Fail;
 
-// How many records a queue file has, or why it can't be opened.
-fn opened(alloc: Global, disk: MemoryDisk) -> Result<usize, OpenFault> {
-    match qm_store::open(alloc, disk) {
-        Ok(store) => Ok(store.count()),
-        Err((_, fault)) => Err(fault),
-    }
-}
-
 // How many records a log has, or why it can't be opened.
 fn logged(alloc: Global, mut disk: MemoryDisk) -> Result<usize, OpenFault> {
     match qm_glog::open(alloc, &mut disk, 1, GREATEST_CAP) {
@@ -27,35 +19,25 @@ const DAMAGED: Result<usize, OpenFault> = Err(OpenFault::Damaged { file: 1, plac
 
 const DAMAGED_AT_6: Result<usize, OpenFault> = Err(OpenFault::Damaged { file: 1, place: 6 });
 
-// The bytes of a file, and what is told of it as a log, and as a queue file.
-type Case = (
-    &'static [u8],
-    Result<usize, OpenFault>,
-    Result<usize, OpenFault>,
-);
+// The bytes of a file, and what is told of it as a log.
+type Case = (&'static [u8], Result<usize, OpenFault>);
 
 const FILES: [Case; 7] = [
-    (b"", UNFORMATTED, UNFORMATTED),
-    (b"\x00", Ok(0), UNFORMATTED),
-    (
-        b"\x07\x01\x02\x03",
-        Ok(0),
-        Err(OpenFault::Unformatted { byte: 7 }),
-    ),
-    (b"\x01", DAMAGED, DAMAGED),
-    (b"\x01\x02\x00\x00\x00\x09", DAMAGED, DAMAGED),
-    (b"\x01\x01\x00\x00\x00\x09", DAMAGED_AT_6, DAMAGED_AT_6),
-    (b"\x01\x01\x00\x00\x00\x09\xff", Ok(1), Ok(1)),
+    (b"", UNFORMATTED),
+    (b"\x00", Ok(0)),
+    (b"\x07\x01\x02\x03", Ok(0)),
+    (b"\x01", DAMAGED),
+    (b"\x01\x02\x00\x00\x00\x09", DAMAGED),
+    (b"\x01\x01\x00\x00\x00\x09", DAMAGED_AT_6),
+    (b"\x01\x01\x00\x00\x00\x09\xff", Ok(1)),
 ];
 
 #[test]
 fn files_are_judged_at_their_gates(rt: HostRuntime) -> Result<(), Fail> {
     let alloc = rt.alloc();
-    for (bytes, of_log, of_store) in FILES {
+    for (bytes, found) in FILES {
         let log = logged(alloc, disk_of(alloc, bytes, &[])?);
-        assert_eq!(rt; log, of_log, "the log {bytes:?}");
-        let store = opened(alloc, disk_of(alloc, bytes, &[])?);
-        assert_eq!(rt; store, of_store, "the queue file {bytes:?}");
+        assert_eq!(rt; log, found, "the log {bytes:?}");
     }
     Ok(())
 }

@@ -1,4 +1,4 @@
-//! Worked cases of the outside, the device, the log and the store, as tests: what each crash leaves, also behind a call that
+//! Worked cases of the outside, the device and the log, as tests: what each crash leaves, also behind a call that
 //! failed; files that are judged at their gates; a stop within an append; each call of the device failing; what is asked of
 //! real files, of readers, of writers and of clocks.
 #![tactic(auto)]

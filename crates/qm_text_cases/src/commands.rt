@@ -4,7 +4,7 @@ ghost use Rattle.qm_record.specs.Spelling.{AreListsShort, IsShortChange, IsShort
 
 use qm_dcl::{DclFault, read_command};
 use qm_kinds::{
-    EntryChange, Input, JobRetain, Moment, Name, Query, QueueChange, Request, system_user,
+    EntryChange, Input, JobRetain, Moment, Name, Query, QueueChange, Request, Seq, system_user,
 };
 use qm_plans::{push_line, push_times};
 use qm_record::write_request;
@@ -109,11 +109,25 @@ fn tell_query(alloc: Global, told: &mut Vec<u8>, query: &Query) -> Result<(), Al
     push_line(told, "")
 }
 
-// Tells what is asked for: the record of a request, or the rows that are to be shown.
+// Tells on which nodes the queue manager may run from now on, where the command says so; an empty list stands for all.
+fn tell_nodes(told: &mut Vec<u8>, on: Option<Seq<Name>>) -> Result<(), AllocError> {
+    told.extend_from_slice(b"manager")?;
+    if let Some(nodes) = on {
+        told.extend_from_slice(b" on")?;
+        for node in nodes.as_slice() {
+            told.push(b' ')?;
+            told.extend_from_slice(node.as_bytes())?;
+        }
+    }
+    push_line(told, "")
+}
+
+// Tells what is asked for: the record of a request, the rows that are to be shown, or the nodes of a queue manager.
 fn tell_input(alloc: Global, told: &mut Vec<u8>, input: Input) -> Result<(), AllocError> {
     match input {
         Input::Ask(request) => push_request(alloc, told, 0, &request),
         Input::Show(query) => tell_query(alloc, told, &query),
+        Input::TakeManager { on } => tell_nodes(told, on),
         _other => push_line(told, "another input"),
     }
 }
