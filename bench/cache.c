@@ -9,10 +9,13 @@
  *   kept.N     another name of the file, so that N isn't given to another one
  *   name.NAME  the number of the file that this name has on the disk
  *   names      the names that were made, given and taken away since the last sync of the folder: lines "NAME N", N 0 for none
+ *   failed     a line for each sync that failed
  *
  * A file that was there before counts as on the disk when it is opened first. A sync that succeeds carries the ranges,
- * or the names, over. The sync with number $FAIL_SYNC of this process, counted from 1, fails with EIO, and what it would
+ * or the names, over. The syncs whose numbers $FAIL_SYNC lists, with commas between, fail with EIO, and what they would
  * have carried over counts as clean from then on: the cache shows it, and no later sync carries it over. So Linux has it.
+ * In front of the sync with number $STOP_SYNC the process stops, as by SIGSTOP. The syncs of this process on the folder and on
+ * files that are followed are counted, from 1.
  *
  * What a loss of power leaves is the names, each with its bytes: of what wasn't synced nothing.
  */
@@ -21,6 +24,7 @@
 #include <errno.h>
 #include <fcntl.h>
 #include <limits.h>
+#include <signal.h>
 #include <stdarg.h>
 #include <stdio.h>
 #include <stdlib.h>
@@ -30,15 +34,31 @@
 
 #define REAL(type, name, ...) ((type (*)(__VA_ARGS__))dlsym(RTLD_NEXT, name))
 
-static const char *shadow;
-static long failing, syncs;
+static const char *shadow, *failing;
+static long stopping, syncs;
 
 __attribute__((constructor)) static void begin(void)
 {
-	const char *number = getenv("FAIL_SYNC");
+	const char *number = getenv("STOP_SYNC");
 
 	shadow = getenv("SHADOW");
-	failing = number ? atol(number) : 0;
+	failing = getenv("FAIL_SYNC");
+	stopping = number ? atol(number) : 0;
+}
+
+/* Whether the sync that comes is one of those that fail. */
+static int fails_now(void)
+{
+	const char *at = failing;
+
+	while (at != NULL && *at != '\0') {
+		if (atol(at) == syncs)
+			return 1;
+		at = strchr(at, ',');
+		if (at != NULL)
+			at++;
+	}
+	return 0;
 }
 
 static void broken(const char *what)
@@ -296,7 +316,11 @@ static int sync_any(const char *which, int file)
 
 	if (!is_folder && !is_followed(file, &number))
 		return REAL(int, which, int)(file);
-	if (++syncs == failing) {
+	if (++syncs == stopping)
+		raise(SIGSTOP);
+	if (fails_now()) {
+		path_of(path, "failed", "");
+		append_line(path, "failed\n");
 		if (is_folder)
 			path_of(path, "names", "");
 		else
