@@ -1,0 +1,137 @@
+// Nodes on threads of their own.
+ghost use Rattle.std.specs.Prelude.{◌≡◌, [], IfOk};
+
+use crate::recorder::Recorder;
+use qm_batch::Standard;
+use qm_drive::{DriveEnd, Gate, Point, Shared, Station, drive};
+use qm_io::MemoryClock;
+use qm_kinds::{Moment, system_user};
+use qm_script::UserLine;
+use qm_symb::MemoryDevice;
+use qm_turn::{PassOf, Turnstile};
+use std::alloc::{AllocError, Global};
+use std::sync::Wait;
+use std::sync::atomic::AtomicUsize;
+use std::sync::atomic::Ordering::SeqCst;
+use std::thread;
+
+// How often a node looks for the other.
+const LOOKS: u32 = 1_000_000;
+
+/// Where two nodes tell that they came.
+#[derive(Drop)]
+pub(crate) struct Doors {
+    pub(crate) first: AtomicUsize,
+    pub(crate) second: AtomicUsize,
+}
+
+/// Holds a node at a step until the other has come to one.
+#[derive(Drop)]
+pub(crate) struct Meeting<'a> {
+    doors: &'a Doors,
+    is_first: bool,
+    /// Whether the other node came.
+    pub(crate) met: bool,
+}
+
+impl<'a> Meeting<'a> {
+    /// The first node, or the second.
+    pub(crate) fn new(doors: &'a Doors, is_first: bool) -> Meeting<'a> {
+        Meeting {
+            doors,
+            is_first,
+            met: false,
+        }
+    }
+
+    // Tells that this node came.
+    fn come(&self) {
+        if self.is_first {
+            self.doors.first.store(1, SeqCst);
+        } else {
+            self.doors.second.store(1, SeqCst);
+        }
+    }
+
+    // Whether the other one came.
+    fn has_other(&self) -> bool {
+        if self.is_first {
+            self.doors.second.load(SeqCst) == 1
+        } else {
+            self.doors.first.load(SeqCst) == 1
+        }
+    }
+}
+
+impl<'a> Gate for Meeting<'a> {
+    fn at(&mut self, point: Point) {
+        if point != Point::InStep {
+            return;
+        }
+        self.come();
+        for _ in 0..LOOKS {
+            if self.has_other() {
+                self.met = true;
+                return;
+            }
+            thread::yield_now();
+        }
+    }
+}
+
+/// A node that has made its turns.
+#[derive(Drop)]
+pub(crate) struct Driven<G> {
+    pub(crate) pass: PassOf<Shared<Recorder>>,
+    pub(crate) end: Result<(), DriveEnd>,
+    pub(crate) gate: G,
+}
+
+// What a node has of its own.
+fn station<G: Drop>(
+    alloc: Global,
+    gate: G,
+) -> Result<Station<MemoryClock, Standard<MemoryDevice>, G>, AllocError> {
+    let mut moments = Vec::with_capacity(alloc, 1)?;
+    moments.push(Moment::BASE)?;
+    Ok(Station {
+        clock: MemoryClock::new(moments),
+        symbiont: Standard::new(alloc, MemoryDevice::new(alloc, Vec::new(alloc))),
+        gate,
+    })
+}
+
+/// Lets a node make its turns.
+pub(crate) fn drive_node<'a, R: Wait, G: Gate + Drop>(
+    rt: &R,
+    alloc: Global,
+    turnstile: &Turnstile<Shared<Recorder>>,
+    mut pass: PassOf<Shared<Recorder>>,
+    node: u8,
+    lines: &'a [UserLine<'a>],
+    gate: G,
+) -> Result<Driven<G>, AllocError>
+    requires here { pass.place ≡ turnstile.now.place }
+    requires number { pass.number ≡ node }
+    requires new { (pass.seen ≡ []) × (pass.mine ≡ []) × (pass.took ≡ []) }
+    ensures { IfOk result (λ d. (d.pass.place ≡ turnstile.now.place) × (d.pass.number ≡ node) × (d.pass.took ≡ [])) }
+{
+    let mut station = station(alloc, gate)?;
+    let mut text = Vec::new(alloc);
+    let end = drive(
+        rt,
+        alloc,
+        turnstile,
+        &mut pass,
+        node,
+        &system_user(),
+        lines,
+        &mut station,
+        &mut text,
+    );
+    Ok(Driven {
+        pass,
+        end,
+        gate: station.gate,
+    })
+}

@@ -1,0 +1,166 @@
+// A value in memory that records what it was asked.
+ghost use Rattle.std.specs.Prelude.{◌≡◌, ◌≢◌, IfOk, IsTrue};
+ghost use Rattle.qm_history.specs.Calls.{why_of};
+ghost use Rattle.qm_history.specs.declared.call.Answer.TheVariants as answer;
+ghost use Rattle.qm_node.specs.Duties.{AreLearnable};
+ghost use Rattle.qm_node.specs.Node.{CanBeHeard};
+ghost use Rattle.qm_symb.specs.Symbiont.{IsWithinLimits};
+
+use qm_drive::Serve;
+use qm_history::{Answer, Call, Turn, Why};
+use qm_kinds::{Duty, JobKind, Mark, Moment, Seq, Shape, Work, system_user};
+use qm_symb::TEXT_BYTES;
+use std::alloc::{AllocError, Global};
+
+// How many turns it keeps at most.
+const TURNS: usize = 49;
+
+/// What it was asked: a turn for each call but those that were told that no more are kept.
+#[derive(Drop)]
+pub(crate) struct Recorder {
+    pub(crate) alloc: Global,
+    /// Whether a node whose first call is a fetch gets a batch job.
+    pub(crate) jobs: bool,
+    pub(crate) calls: u32,
+    pub(crate) asked: Vec<Turn>,
+}
+
+/// Why a call is made.
+fn why_of(call: &Call) -> Why
+    ensures { result ≡ why_of call.now }
+{
+    match call {
+        Call::Line { line, .. } => Why::Line(*line),
+        Call::Fetch { .. } => Why::Fetch,
+        Call::Report { .. } => Why::Report,
+        Call::Leave => Why::Leave,
+    }
+}
+
+/// Whether a symbiont can carry it out.
+fn is_within_limits(work: &Work) -> bool
+    ensures { IsTrue result → IsWithinLimits work.now }
+{
+    let shape = work.shape;
+    shape.top as u32 + (shape.bottom as u32) < shape.length as u32
+        && shape.left as u32 + (shape.right as u32) < shape.width as u32
+        && work.text.len() <= TEXT_BYTES
+}
+
+// A batch job of one line, which runs as this run.
+fn work_of(alloc: Global, run: u64) -> Result<Work, AllocError> {
+    let shape = Shape {
+        length: 1,
+        width: 1,
+        top: 0,
+        bottom: 0,
+        left: 0,
+        right: 0,
+        wrap: true,
+    };
+    Ok(Work {
+        run,
+        entry: 1,
+        kind: JobKind::Batch,
+        name: system_user(),
+        user: system_user(),
+        device: system_user(),
+        text: Seq::of(b"$ EXIT 1".to_vec(alloc)?),
+        shape,
+        copies: 1,
+        flag: false,
+        again: false,
+        mark: Mark::new(b"").unwrap(),
+    })
+}
+
+// The run of a job.
+fn duties_of(alloc: Global, run: u64) -> Result<Vec<Duty>, AllocError>
+    ensures { IfOk result (λ duties. AreLearnable duties.items) }
+{
+    let mut duties = Vec::with_capacity(alloc, 1)?;
+    let work = work_of(alloc, run)?;
+    if is_within_limits(&work) {
+        duties.push(Duty {
+            run,
+            aborting: false,
+            paused: false,
+            work: Some(work),
+        })?;
+    }
+    Ok(duties)
+}
+
+// A fetch shows the node's job, if it is to get one; any other call shows no rows.
+fn answer_to(alloc: Global, job: bool, node: u8, moment: Moment, call: &Call) -> Answer
+    ensures heard { CanBeHeard result }
+    ensures kept { result ≢ answer.HistoryFull }
+{
+    let took = None;
+    let Call::Fetch { .. } = call else {
+        return Answer::Shown {
+            took,
+            moment,
+            rows: Seq::new(alloc),
+        };
+    };
+    if !job {
+        return Answer::Duties {
+            took,
+            moment,
+            duties: Seq::new(alloc),
+        };
+    }
+    match duties_of(alloc, node as u64 + 1) {
+        Ok(duties) => Answer::Duties {
+            took,
+            moment,
+            duties: Seq::of(duties),
+        },
+        Err(AllocError) => Answer::NoMemory { took },
+    }
+}
+
+// Whether the node made none of these turns.
+fn is_new(asked: &[Turn], node: u8) -> bool {
+    for turn in asked {
+        if turn.node == node {
+            return false;
+        }
+    }
+    true
+}
+
+impl Serve for Recorder {
+    ghost use Rattle.std.specs.Prelude.{◌≤◌, [], false, length, None};
+
+    ghost first = { record { log = []; doubt = None; manager = None; greatest = 0; live = []; held = [] } };
+
+    ghost tells = { false };
+
+    ghost kept = { λ recorder. recorder.asked.items };
+
+    ghost most = { 49 };
+
+    ghost stands = { λ recorder notes. length recorder.asked.items ≤ 49 };
+
+    ghost can_ask = { λ node asked. Unit {0} };
+
+    fn serve(&mut self, node: u8, now: Moment, call: Call) -> Answer {
+        self.calls = self.calls.saturating_add(1);
+        if self.asked.len() == TURNS {
+            return Answer::HistoryFull;
+        }
+        let job = self.jobs && is_new(&self.asked, node);
+        let turn = Turn {
+            node,
+            why: why_of(&call),
+            moment: now,
+            events: Seq::new(self.alloc),
+        };
+        match self.asked.push(turn) {
+            Ok(()) => answer_to(self.alloc, job, node, now, &call),
+            Err(_) => Answer::NoMemory { took: None },
+        }
+    }
+}
