@@ -1,4 +1,5 @@
 pub mod Acts
+pub mod Logs
 pub mod Spelled
 pub mod Rows
 pub mod Worlds

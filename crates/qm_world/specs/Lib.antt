@@ -1,4 +1,5 @@
 pub mod Copying
 pub mod Following
 pub mod Nodes
+pub mod Texts
 pub mod Walking

@@ -59,6 +59,7 @@ fn step(walker: &mut Walker, event: &Event) -> Result<(), Stop>
 pub fn walk(alloc: Global, start: &World, steps: &[Event]) -> Result<World, WalkEnd>
     requires { IsSound HasSpelling start.now }
     ensures world { IfOk result (LeadTo start.now steps.now) }
+    ensures sound { IfOk result (IsSound HasSpelling) }
     ensures end { IfErr result (IsEndOf start.now steps.now) }
 {
     worlds_stay_sound::<QueueFile>();
