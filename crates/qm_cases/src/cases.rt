@@ -1,5 +1,7 @@
 // Cases that are a script and what it prints.
+use crate::files::Files;
 use crate::run::{MemoryStation, Ran, Site, empty_site, outside_of, run, words_of};
+use crate::walks::lead_on;
 use qm_disk::MemoryDisk;
 use qm_kinds::Moment;
 use qm_program::End;
@@ -88,7 +90,7 @@ fn is_output(rt: &HostRuntime, name: &str, device: &str, site: &MemorySite) -> i
     Ok(output_of(rt.alloc(), site, device)? == output)
 }
 
-// Serves a case over a site, and tells whether it printed its transcript.
+// Serves a case over a site, and tells whether it printed its transcript, and its turns lead to what it left.
 fn prints(rt: &HostRuntime, name: &str, site: MemorySite) -> io::Result<(bool, MemorySite)> {
     let script = file_of(rt, name, "qman")?;
     let transcript = file_of(rt, name, "transcript")?;
@@ -98,8 +100,16 @@ fn prints(rt: &HostRuntime, name: &str, site: MemorySite) -> io::Result<(bool, M
     }
     let outside = outside_of(rt.alloc(), script, moments);
     let words = words_of(rt.alloc(), "\"run\"")?;
-    let Ran { end, printed, site } = run(rt.alloc(), &words, outside, site)?;
-    Ok((end == End::Ok && printed == transcript, site))
+    let before = Files::of(rt.alloc(), &site.disk)?;
+    let Ran {
+        end,
+        printed,
+        turns,
+        site,
+    } = run(rt.alloc(), &words, outside, site)?;
+    let behind = Files::of(rt.alloc(), &site.disk)?;
+    let leads = lead_on(rt.alloc(), &before, turns, &behind)?;
+    Ok((end == End::Ok && printed == transcript && leads, site))
 }
 
 // Serves the case of this name, and looks at a device where one is named behind it.

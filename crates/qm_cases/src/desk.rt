@@ -2,7 +2,9 @@
 use crate::files::{Files, Spoil};
 use crate::records::Names;
 use crate::run::{Outside, Ran, Site, empty_disk, new_stations, run, words_of};
+use crate::walks::lead_on;
 use qm_disk::{Disk, MemoryDisk};
+use qm_history::Turn;
 use qm_io::{MemorySink, MemorySource};
 use qm_kinds::Moment;
 use qm_plans::push_line;
@@ -98,9 +100,11 @@ impl Desk {
         })
     }
 
-    // Runs the program over files, where these calls of the disk fail.
+    // Runs the program over files, where these calls of the disk fail, and tells of the run.
     fn run_over(
         &self,
+        told: &mut Vec<u8>,
+        last: usize,
         words: &[String],
         script: &[u8],
         files: &Files,
@@ -108,7 +112,12 @@ impl Desk {
     ) -> Result<Ran<MemoryDisk>, AllocError> {
         let outside = self.outside(script)?;
         let site = self.site(files.disk(self.alloc, failing)?)?;
-        run(self.alloc, words, outside, site)
+        let mut ran = run(self.alloc, words, outside, site)?;
+        push_told(self.alloc, told, &ran, last)?;
+        let turns = mem::replace(&mut ran.turns, Vec::new(self.alloc));
+        let behind = Files::of(self.alloc, &ran.site.disk)?;
+        push_walk(self.alloc, told, words, files, turns, &behind)?;
+        Ok(ran)
     }
 
     // Keeps what the devices took.
@@ -128,8 +137,14 @@ impl Desk {
         told: &mut Vec<u8>,
         words: &[String],
     ) -> Result<MemoryDisk, AllocError> {
-        let ran = self.run_over(words, &self.script, &self.files, &self.failing.calls)?;
-        push_told(self.alloc, told, &ran, self.last)?;
+        let ran = self.run_over(
+            told,
+            self.last,
+            words,
+            &self.script,
+            &self.files,
+            &self.failing.calls,
+        )?;
         self.last = usize::MAX;
         let Ran { site, .. } = ran;
         self.keep_handed(&site)?;
@@ -155,9 +170,15 @@ impl Desk {
         let mut found_before = vec![in self.alloc; b'?']?;
         for number in 1..CALLS {
             let failing = numbers_from(self.alloc, number, failures)?;
-            let ran = self.run_over(words, &self.script, &self.files, &failing)?;
             let mut now = Vec::new(self.alloc);
-            push_told(self.alloc, &mut now, &ran, usize::MAX)?;
+            let ran = self.run_over(
+                &mut now,
+                usize::MAX,
+                words,
+                &self.script,
+                &self.files,
+                &failing,
+            )?;
             let mut found = Vec::new(self.alloc);
             self.look_behind(&mut found, &ran.site.disk)?;
             if now != before || found != found_before {
@@ -192,9 +213,8 @@ impl Desk {
         before: &mut Vec<u8>,
     ) -> Result<(), AllocError> {
         let words = words_of(self.alloc, RUN)?;
-        let ran = self.run_over(&words, &self.look, files, &[])?;
         let mut found = Vec::new(self.alloc);
-        push_told(self.alloc, &mut found, &ran, usize::MAX)?;
+        let _ = self.run_over(&mut found, usize::MAX, &words, &self.look, files, &[])?;
         if found.as_slice() != before.as_slice() {
             told.extend_from_slice(head.as_bytes())?;
         }
@@ -282,6 +302,22 @@ pub(crate) fn push_told<D: Disk + Drop>(
     told.extend_from_slice(last_lines(&ran.printed, last))?;
     if ran.end != End::Ok {
         push_end(alloc, told, ran.end)?;
+    }
+    Ok(())
+}
+
+/// Tells where turns of a run don't lead from the files that it found to those that it left.
+pub(crate) fn push_walk(
+    alloc: Global,
+    told: &mut Vec<u8>,
+    words: &[String],
+    before: &Files,
+    turns: Vec<Turn>,
+    behind: &Files,
+) -> Result<(), AllocError> {
+    let is_run = words.first().is_some_and(|word| word.as_str() == "run");
+    if is_run && !lead_on(alloc, before, turns, behind)? {
+        push_line(told, "the turns lead elsewhere")?;
     }
     Ok(())
 }

@@ -5,7 +5,7 @@
 //! over devices in memory; a case whose name has a `+` before it goes on over the site that the one before it left, and its
 //! devices. Where a `=` and a device stand behind the name, `NAME.out` is what the device was handed, by this case and those
 //! that it goes on from. A name with a `@` before it is that of a plan, `NAME.plan`: files of the disk byte by byte, calls that
-//! fail, and what later runs find.
+//! fail, and what later runs find. The turns of each run are walked along, from the files that it found to those that it left.
 #![tactic(auto)]
 
 mod cases;
@@ -15,6 +15,7 @@ mod real;
 mod records;
 mod run;
 mod verbs;
+mod walks;
 
 use cases::serve_case;
 use desk::Desk;

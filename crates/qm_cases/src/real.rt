@@ -1,9 +1,10 @@
 // Runs of the program over real files.
-use crate::desk::{Desk, push_told};
+use crate::desk::{Desk, push_told, push_walk};
+use crate::files::Files;
 use crate::run::{Ran, Site, run};
 use qm_files::FileDisk;
 use std::alloc::AllocError;
-use std::{fs, io};
+use std::{fs, io, mem};
 
 // The folder of the files, which is made for a run of `init`.
 const FOLDER: &str = "files";
@@ -34,15 +35,18 @@ pub(crate) fn run_over_files(
     told: &mut Vec<u8>,
     words: &[String],
 ) -> io::Result<()> {
+    let alloc = rt.alloc();
     let outside = desk.outside(&desk.script)?;
     let site = desk.site(files(rt)?)?;
-    let ran = run(rt.alloc(), words, outside, site)?;
-    push_told(rt.alloc(), told, &ran, usize::MAX)?;
-    let Ran { site, .. } = ran;
+    let ran = run(alloc, words, outside, site)?;
+    push_told(alloc, told, &ran, usize::MAX)?;
+    let Ran { site, turns, .. } = ran;
     let Site { disk, .. } = site;
     disk.close();
+    let before = mem::replace(&mut desk.files, Files::new(alloc));
     *desk.files.get_mut(0) = fs::read(rt, "files/master")?;
     *desk.files.get_mut(1) = fs::read(rt, "files/one")?;
+    push_walk(alloc, told, words, &before, turns, &desk.files)?;
     if fs::exists(rt, "files/two")? {
         told.extend_from_slice(b"queue file 2 was made\n")?;
     }

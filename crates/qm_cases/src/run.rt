@@ -1,6 +1,7 @@
 // Runs of the program over an outside in memory.
 use qm_batch::Standard;
 use qm_disk::{Disk, MemoryDisk};
+use qm_history::Turn;
 use qm_io::{MemoryClock, MemorySink, MemorySource};
 use qm_kinds::{Moment, NODES_LIMIT};
 use qm_program::{End, Outcome, Station, qman};
@@ -25,11 +26,12 @@ pub(crate) struct Outside {
     pub(crate) moments: Vec<Moment>,
 }
 
-/// How the program ended, what it printed, and the site that it left.
+/// How the program ended, what it printed, its turns, and the site that it left.
 #[derive(Drop)]
 pub(crate) struct Ran<D: Disk + Drop> {
     pub(crate) end: End,
     pub(crate) printed: Vec<u8>,
+    pub(crate) turns: Vec<Turn>,
     pub(crate) site: Site<D>,
 }
 
@@ -47,7 +49,12 @@ pub(crate) fn run<D: Disk + Drop>(
     if stations.len() < NODES_LIMIT {
         return Err(AllocError);
     }
-    let Outcome { end, disk, .. } = qman(
+    let Outcome {
+        end,
+        disk,
+        turns,
+        ..
+    } = qman(
         alloc,
         words,
         &mut outside.source,
@@ -58,6 +65,7 @@ pub(crate) fn run<D: Disk + Drop>(
     Ok(Ran {
         end,
         printed: outside.sink.held().to_vec(alloc)?,
+        turns,
         site: Site { disk, stations },
     })
 }
