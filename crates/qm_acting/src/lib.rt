@@ -13,6 +13,7 @@ mod manager;
 mod reading;
 mod replies;
 mod restored;
+mod restored_view;
 mod taking;
 
 pub use fault::{AskFault, TakeFault};

@@ -1,0 +1,22 @@
+// What files that were read show.
+ghost use Rattle.std.specs.Prelude.{◌≡◌, None, Ok, IfOk};
+ghost use Rattle.qm_model.specs.Rows.{view};
+ghost use Rattle.qm_state.specs.Refusing.{Refuses};
+
+use crate::restored::Restored;
+use qm_disk::Disk;
+use qm_kinds::{Query, Row};
+use qm_state::Refused;
+
+impl<D: Disk> Restored<D> {
+    ghost use Rattle.qm_acting.specs.Standing.{restored_standing};
+
+    /// The rows that a query asks for, but none of the queue manager: no node is. It is refused where the entry that is asked for
+    /// isn't there, where no queue is named whose entries are asked for, and where rows are asked for one by one and none is left.
+    pub fn view(&self, query: &Query) -> Result<Vec<Row>, Refused>
+        ensures rows { IfOk result (λ rows. view (restored_standing self.now).system None query.now ≡ Ok rows.items) }
+        ensures refused { Refuses result (view (restored_standing self.now).system None query.now) }
+    {
+        self.image.view(query)
+    }
+}
