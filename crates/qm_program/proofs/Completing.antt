@@ -51,10 +51,10 @@ module _ (undamaged : Undamaged) (formatted : Formatted) (one_content : OneConte
       let same = one_content files site.recorded bad.recorded site.holds bad.holds in
       lawful bad.recorded.bodies site.system bad.index (subst (λ (r : Recorded). IsSiteFile r.bodies site.system) same site.site) bad.first
 
-  not_damaged : (file place : ℕ) → IsRestoreFault files (opening.Damaged file place) → ⊥
+  pub not_damaged : (file place : ℕ) → IsRestoreFault files (opening.Damaged file place) → ⊥
   not_damaged file place bad = ⊎_elim (undamaged files site.recorded file place site.holds) (not_unlawful file place) bad
 
-  not_unformatted : (byte : ℕ) → IsRestoreFault files (opening.Unformatted byte) → ⊥
+  pub not_unformatted : (byte : ℕ) → IsRestoreFault files (opening.Unformatted byte) → ⊥
   not_unformatted byte bad = formatted files site.recorded byte site.holds bad
 
   is_site : AreNoSite files → ⊥

@@ -2,5 +2,6 @@ pub mod Asking
 pub mod Completing
 pub mod Counting
 pub mod Leaving
+pub mod Listing
 pub mod NewSite
 pub mod Surviving

@@ -2,6 +2,7 @@ pub mod Ends
 pub mod Task
 pub mod Making
 pub mod Reading
+pub mod Showing
 pub mod Causes
 pub mod Running
 pub mod Doing

@@ -10,6 +10,9 @@ ghost use Rattle.qm_history.specs.Legal.{after_turns};
 ghost use Rattle.qm_history.specs.World.{system_in};
 ghost use Rattle.qm_history.specs.declared.turn.Turn.{Turn};
 ghost use Rattle.qm_history.specs.declared.world.World.{World};
+ghost use Rattle.qm_chest.specs.Noting.{StartsEarly};
+ghost use Rattle.qm_history.specs.Ends.{show_text};
+ghost use Rattle.qm_listing.specs.Listing.{IsListingOf};
 ghost use Rattle.qm_kinds.specs.declared.limits.TheConstants.{NODES_LIMIT};
 ghost use Rattle.qm_kinds.specs.declared.moment.TheConstants.{LAST_MOMENT};
 ghost use Rattle.qm_kinds.specs.declared.name.TheConstants.{NODE_NAME_BYTES, SHORT_NAME_BYTES};
@@ -22,6 +25,7 @@ ghost use Rattle.qm_program.specs.Running.{RunsTo};
 ghost use Rattle.qm_program.specs.Surviving.{GoesOnFrom, TakesInStretches};
 ghost use Rattle.qm_program.specs.declared.outcome.End.{End};
 
+use qm_chest::sites_begin_one_world;
 use qm_database::{held_files_load, one_content};
 use qm_disk::Disk;
 use qm_history::{
@@ -71,6 +75,14 @@ pub fn blocks_come_in_stretches<D: Disk, Y: Symbiont>()
         → slice_get old.sides node ≡ Some was → slice_get new.sides node ≡ Some now → TakesInStretches Y.meaning was.symbiont now.symbiont }
 {
     steps_come_in_stretches::<QueueFile>();
+}
+
+/// The listing of a disk's site is that of the system of each world with which a run may begin on its files.
+pub fn listings_are_of_the_world_of_a_run<D: Disk>()
+    ensures { (disk : D) (text : List ℕ) (w : World) → IsListingOf D.meaning disk text → IsTrue D.meaning.tells → StartsEarly (D.meaning.seen disk) w
+        → text ≡ show_text (system_in w) }
+{
+    sites_begin_one_world();
 }
 
 /// Over a script and files that are sound a run ends well, or for want of memory, or as many turns are kept as can be, where nothing

@@ -15,6 +15,8 @@ pub const USUAL_CAP: u64 = 134_217_728;
 pub(crate) enum Task {
     /// To serve a script.
     Run,
+    /// To list the queues and entries of a site.
+    Show,
     /// To make a new site of these nodes, whose queue files may have so many bytes.
     Init { nodes: Seq<Name>, cap: u64 },
 }
@@ -35,7 +37,7 @@ fn read_init(alloc: Global, word: &[u8], cap: Option<u64>) -> Result<Option<Task
     }
 }
 
-/// What the words ask for: `run`; or `init`, the names of one to eight nodes with commas between them, each of at most six bytes
+/// What the words ask for: `run`; `show`; or `init`, the names of one to eight nodes with commas between them, each of at most six bytes
 /// and each once, and behind them the most bytes of a queue file, 4,096 to 268,435,456, or nothing. Other words ask for
 /// nothing. Memory may run out where the words are two or three.
 pub(crate) fn read_task(alloc: Global, words: &[String]) -> Result<Option<Task>, AllocError>
@@ -47,6 +49,7 @@ pub(crate) fn read_task(alloc: Global, words: &[String]) -> Result<Option<Task>,
     caps_have_limits();
     match words {
         [word] if word.as_str() == "run" => Ok(Some(Task::Run)),
+        [word] if word.as_str() == "show" => Ok(Some(Task::Show)),
         [word, nodes] if word.as_str() == "init" => {
             read_init(alloc, nodes.as_bytes(), Some(USUAL_CAP))
         }

@@ -7,13 +7,15 @@ ghost use Rattle.qm_kinds.specs.declared.limits.TheConstants.{NODES_LIMIT};
 ghost use Rattle.qm_program.specs.Causes.{HasCause};
 ghost use Rattle.qm_program.specs.Doing.{Does, HasSoundScript, IsWithoutFault, SpareStays};
 ghost use Rattle.qm_program.specs.Ends.{status_of};
+ghost use Rattle.qm_program.specs.Reading.{AreSite};
 ghost use Rattle.qm_program.specs.Task.{task_of};
-ghost use Rattle.qm_program.specs.declared.task.Task.TheVariants.{Run};
+ghost use Rattle.qm_program.specs.declared.task.Task.TheVariants.{Run, Show};
 
 use crate::laws::sound_scripts_are_served;
 use crate::making::make;
 use crate::outcome::{End, Outcome};
 use crate::running::run;
+use crate::showing::show;
 use crate::task::{Task, read_task};
 use qm_course::Station;
 use qm_disk::Disk;
@@ -33,7 +35,10 @@ use std::alloc::{AllocError, Global};
 /// by a record that no crash can take away, before its answer is written, and that before the next turn is made. A call at which
 /// the disk fails is told so (`%QMAN-F-JOURNAL`); the next one takes over, and the run goes on. The turns are handed out.
 ///
-/// The ends are tried in this order: `Usage` (other words; nothing is read), `Read` (the source failed), `Script` (what was
+/// With the word `show` the files are read, which changes nothing, and the listing of all queues and entries is written, as SHOW
+/// QUEUE/ALL_JOBS gives it, without prefixes. No node becomes manager, and no epoch is begun.
+///
+/// The ends of a run are tried in this order: `Usage` (other words; nothing is read), `Read` (the source failed), `Script` (what was
 /// read is no script of the files' cluster, or of any, where these aren't a site's or can't be read), `Journal`, `Unformatted` and
 /// `Damaged` as the files tell, which are only looked at so far; and while lines are served `Write` (the sink failed), `Damaged`, `HistoryFull` (as many
 /// turns are kept as can be) and `NoMemory` as they arise. `Journal` comes behind a script that was served whole, where the disk failed
@@ -78,10 +83,16 @@ pub fn qman<S: Source, O: Sink, D: Disk, C: Clock, Y: Symbiont>(
         → IsWithoutFault (S.faults source.old) (S.faults source.new) → IsWithoutFault (O.faults sink.old) (O.faults sink.new)
         → IsWithoutFault (D.meaning.faults disk) (D.meaning.faults result.disk)
         → (result.end ≡ End.Ok) ⊎ ((result.end ≡ End.NoMemory) ⊎ ((result.end ≡ End.HistoryFull) × (length result.turns.items ≡ turns_kept))) }
+
+    // Over files that are sound their site is listed, unless the disk or the sink fails, or memory runs out.
+    ensures listed { task_of (map string_bytes words.now) ≡ Some Show → IsTrue D.meaning.tells → AreSite (D.meaning.seen disk)
+        → IsWithoutFault (O.faults sink.old) (O.faults sink.new) → IsWithoutFault (D.meaning.faults disk) (D.meaning.faults result.disk)
+        → (result.end ≡ End.Ok) ⊎ (result.end ≡ End.NoMemory) }
 {
     sound_scripts_are_served();
     match read_task(alloc, words) {
         Ok(Some(Task::Run)) => run(alloc, source, sink, disk, stations),
+        Ok(Some(Task::Show)) => show(alloc, sink, disk),
         Ok(Some(Task::Init { nodes, cap })) => make(alloc, nodes.as_slice(), cap, sink, disk),
         Ok(None) => Outcome::of(alloc, End::Usage, disk),
         Err(AllocError) => Outcome::of(alloc, End::NoMemory, disk),

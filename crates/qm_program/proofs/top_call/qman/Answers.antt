@@ -15,3 +15,7 @@ returns-in-Err-clause-does g c =
 pub returns-in-Err-clause-others : goal.returns-in-Err-clause-others
 returns-in-Err-clause-others g c tells =
     rw c.of-in-Err.ensures.disk (spare_untouched g.D.Disk.meaning g.met.D.Disk.only_now (task_of (map string_bytes c.args.words.now)) c.args.disk)
+
+pub returns-in-Ok-Some-Show-clause-cause : goal.returns-in-Ok-Some-Show-clause-cause
+returns-in-Ok-Some-Show-clause-cause g c =
+    rw c.show.ensures.turns (c.show.ensures.cause (g.S.Source.remaining c.args.source.now) (g.S.Source.faults c.args.source.now))
