@@ -112,14 +112,38 @@ fn prints(rt: &HostRuntime, name: &str, site: MemorySite) -> io::Result<(bool, M
     Ok((end == End::Ok && printed == transcript && leads, site))
 }
 
-// Serves the case of this name, and looks at a device where one is named behind it.
+// Whether `show` lists a site as the case says, where it says it.
+fn lists(rt: &HostRuntime, name: &str, site: MemorySite) -> io::Result<(bool, MemorySite)> {
+    let listing = match file_of(rt, name, "listing") {
+        Ok(listing) => listing,
+        Err(error) if error.kind() == io::ErrorKind::NotFound => return Ok((true, site)),
+        Err(error) => return Err(error),
+    };
+    let alloc = rt.alloc();
+    let outside = outside_of(alloc, Vec::new(alloc), Vec::new(alloc));
+    let words = words_of(alloc, "\"show\"")?;
+    let Ran {
+        end,
+        printed,
+        site,
+        ..
+    } = run(alloc, &words, outside, site)?;
+    Ok((end == End::Ok && printed == listing, site))
+}
+
+// Serves the case of this name, lists the site behind it, and looks at a device where one is named behind it.
 fn passes(rt: &HostRuntime, case: &str, site: MemorySite) -> io::Result<(bool, MemorySite)> {
     match case.split_once("=") {
-        None => prints(rt, case, site),
+        None => {
+            let (prints, left) = prints(rt, case, site)?;
+            let (lists, left) = lists(rt, case, left)?;
+            Ok((prints && lists, left))
+        }
         Some((name, device)) => {
             let (prints, left) = prints(rt, name, site)?;
             let is_output = is_output(rt, name, device, &left)?;
-            Ok((prints && is_output, left))
+            let (lists, left) = lists(rt, name, left)?;
+            Ok((prints && is_output && lists, left))
         }
     }
 }

@@ -4,8 +4,9 @@
 //! over a disk in memory that holds a new site of the node A, or of the nodes that stand in front of the name and a `:`, and
 //! over devices in memory; a case whose name has a `+` before it goes on over the site that the one before it left, and its
 //! devices. Where a `=` and a device stand behind the name, `NAME.out` is what the device was handed, by this case and those
-//! that it goes on from. A name with a `@` before it is that of a plan, `NAME.plan`: files of the disk byte by byte, calls that
-//! fail, and what later runs find. The turns of each run are walked along, from the files that it found to those that it left.
+//! that it goes on from; where there is a `NAME.listing`, it is what `show` prints behind the case. A name with a `@` before it
+//! is that of a plan, `NAME.plan`: files of the disk byte by byte, calls that fail, and what later runs find. The turns of each
+//! run are walked along, from the files that it found to those that it left.
 #![tactic(auto)]
 
 mod cases;
