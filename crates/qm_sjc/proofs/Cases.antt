@@ -63,7 +63,7 @@ taken : called 16 (item 23 (1 ∷ 0 ∷ 0 ∷ 0 ∷ []) ∷ item 9 [] ∷ []) �
 })))
 taken = refl
 
-listed : called 41 [] ≡ Ok (Show (query_of Queues true []))
+listed : called 41 [] ≡ Ok (Show (query_of Queues []))
 listed = refl
 
 -- a number that is no function's, nothing to set, a lacking item, an item of another function, a value that is too long
