@@ -35,6 +35,9 @@ less a b h = grind (arith, nat_tests)
 not_none : (n : ℕ) → 0 < n → (n == 0) ≡ false
 not_none n h = grind (arith, nat_tests)
 
+not_four : (n : ℕ) → 4 < n → (n == 4) ≡ false
+not_four n h = grind (arith, nat_tests)
+
 one_more : (most place : ℕ) (rest : List ℕ) → (length rest == 0) ≡ false → is_cut rest ≡ false → is_end rest ≡ false
     → items_from (suc most) place rest ≡ one_item (item_here rest) (items_from most (place + 4 + count_here rest) (behind_item rest))
 one_more most place rest some whole goes = rw (some, whole, goes) refl
@@ -143,7 +146,12 @@ at_cut (suc left) place rest cut enough =
 at_more : (left place byte : ℕ) (more : List ℕ) → length (list_end ++ byte ∷ more) ≤ left
     → items_from left place (list_end ++ byte ∷ more) ≡ Err (record { place = place + 4; kind = parse.After })
 at_more zero place byte more enough = absurd (omega (arith, enough))
-at_more (suc left) place byte more enough = refl
+at_more (suc left) place byte more enough =
+    let rest = list_end ++ byte ∷ more in
+    let none : count_here rest ≡ 0 = none_behind in
+    let whole : is_cut rest ≡ false = not_less (length rest) (4 + count_here rest) (omega (arith, none)) in
+    let end : is_end rest ≡ true = refl in
+    rw (not_none (length rest) (omega arith), whole, end, not_four (length rest) (omega arith)) refl
 
 -- ---- the whole
 
@@ -160,7 +168,7 @@ list_read items each =
 stands_read : (Rest : List ℕ → Type 0) (bytes : List ℕ) (place : ℕ) (f : Fault) (s : StandsAt bytes place Rest)
     → ((left : ℕ) → length s.rest ≤ left → items_from left place s.rest ≡ Err f) → items_read bytes ≡ Err f
 stands_read Rest bytes place f s end =
-    let here : 0 + length (text s.items) ≡ place = sym s.place_is in
+    let here : 0 + length (text s.items) ≡ place = omega (arith, s.place_is) in
     read_behind s.items s.rest bytes (Err f) s.each s.whole (λ left enough. ap (λ (p : ℕ). items_from left p s.rest) here ∙ end left enough)
     ∙ with_err s.items f
 
