@@ -1,5 +1,5 @@
 -- What calls ask for, on worked lists of items.
-use Rattle.std.proofs.Common.{◌≡◌, ℕ, List, [], ◌∷◌, true, false, None, Some, Result, Ok, Err, codes, refl}
+use Rattle.std.proofs.Common.{◌≡◌, ℕ, List, [], ◌∷◌, false, None, Some, Result, Ok, Err, codes, refl}
 use Rattle.qm_kinds.specs.declared.entry.JobKind.TheVariants.{Batch}
 use Rattle.qm_kinds.specs.declared.entry.JobRetain.TheVariants.{Default}
 use Rattle.qm_kinds.specs.declared.input.Input.{Input}

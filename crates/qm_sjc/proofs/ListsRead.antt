@@ -3,12 +3,10 @@ use Rattle.std.proofs.Common.{◌≡◌, ℕ, zero, suc, ◌+◌, ◌^◌, ◌<�
 use Rattle.std.specs.Prelude.{nat_lt}
 use Rattle.std.specs.Int.{w16, from_le_bytes}
 use Rattle.std.specs.List.{AllByRecursion}
-use Rattle.std.specs.Str.{bytes_eq}
 use Rattle.std.proofs.lemmas.Bool.Decides.{nat_tests}
 use Rattle.std.proofs.lemmas.List.{take_at, drop_at}
 use Rattle.std.proofs.lemmas.List.Elements.{recursion_from_All}
 use Rattle.std.proofs.lemmas.Slice.Eq.{bytes_eq-Decides}
-use Rattle.qm_kinds.specs.declared.input.Input.{Input}
 use Rattle.qm_kinds.specs.declared.input.Input.TheVariants as input
 use Rattle.qm_kinds.specs.declared.refusal.ParseKind.TheVariants as parse
 use Rattle.qm_item.specs.declared.fault.ItemFault.{ItemFault}
@@ -19,7 +17,7 @@ use Rattle.qm_item.specs.Text.{item_text, text, list_end, list_text, CanStand}
 use Rattle.qm_item.proofs.Texts.{length-item_text, count_at, code_at, behind_head, none_behind}
 use Rattle.qm_sjc.specs.declared.fault.Fault.{Fault}
 use Rattle.qm_sjc.specs.Calls.{call_of}
-use Rattle.qm_sjc.specs.Meant.{behind_item, count_here, ended, is_cut, is_end, item_here, items_from, items_mean, items_read, list_fault, one_item, or_fault}
+use Rattle.qm_sjc.specs.Meant.{behind_item, count_here, is_cut, is_end, item_here, items_from, items_mean, items_read, list_fault, one_item, or_fault}
 
 abbrev Read : Type 0
 Read = Result (List Item) Fault
@@ -150,8 +148,7 @@ at_more (suc left) place byte more enough =
     let rest = list_end ++ byte ∷ more in
     let none : count_here rest ≡ 0 = none_behind in
     let whole : is_cut rest ≡ false = not_less (length rest) (4 + count_here rest) (omega (arith, none)) in
-    let end : is_end rest ≡ true = refl in
-    rw (not_none (length rest) (omega arith), whole, end, not_four (length rest) (omega arith)) refl
+    rw (not_none (length rest) (omega arith), whole, not_four (length rest) (omega arith)) refl
 
 -- ---- the whole
 
