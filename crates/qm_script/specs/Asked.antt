@@ -17,7 +17,11 @@ line_with l reading s known = text_asked items_mean l.line.sort l.user reading l
 abbrev pub line_asked : UserLine → ℕ → List Visit → List ℕ → Input
 line_asked = read items_mean
 
--- an act can add these bytes to a file: 1 to 65,536
+-- an act adds so many bytes to a file
+abbrev pub is_count : ℕ → Bool
+is_count n = nat_le 1 n && nat_le n 65536
+
+-- an act can add these bytes to a file
 abbrev pub can_be_added : Option (List ℕ) → Bool
 can_be_added None = false
-can_be_added (Some bytes) = nat_le 1 (length bytes) && nat_le (length bytes) 65536
+can_be_added (Some bytes) = is_count (length bytes)

@@ -62,7 +62,7 @@ fn step_act(alloc: Global, known: &[u64], steps: Option<u32>) -> Result<Input, A
 }
 
 // Bytes that are added to a file, in hexadecimal.
-#[tactic(auto, using(crate::proofs::Hexadecimal::adding_takes))]
+#[tactic(auto, using(crate::proofs::HexText::adding_takes))]
 fn bytes_for(alloc: Global, file: FileName, digits: &[u8]) -> Result<Input, AllocError>
     requires { can_be_added (hex_bytes digits.now) ≡ true }
     ensures input { IfOk result (λ input. input ≡ bytes_by (Some file) (hex_bytes digits.now)) }
@@ -75,7 +75,7 @@ fn bytes_for(alloc: Global, file: FileName, digits: &[u8]) -> Result<Input, Allo
 }
 
 // A file's name, a blank, and 1 to 65,536 bytes in hexadecimal.
-#[tactic(auto, using(crate::proofs::Hexadecimal::not_added))]
+#[tactic(auto, using(crate::proofs::HexText::not_added))]
 fn bytes_act(alloc: Global, text: &[u8]) -> Result<Input, AllocError>
     ensures input { IfOk result (λ input. input ≡ bytes_act (cut_at_blank text.now)) }
     ensures no_memory { OnErr result (TakesMemory (bytes_act (cut_at_blank text.now))) }

@@ -1,5 +1,5 @@
 -- The lines of a turn, each behind what stands before it.
-use Rattle.std.proofs.Common.{◌≡◌, ℕ, Bool, List, [], ◌∷◌, ◌++◌, flat_map, refl, sym, ◌∙◌, ap, append_assoc, codes, decimal}
+use Rattle.std.proofs.Common.{◌≡◌, ℕ, Bool, List, [], ◌∷◌, ◌++◌, flat_map, refl, sym, ◌∙◌, append_assoc}
 use Rattle.std.proofs.lemmas.Grind.{flat_map-append}
 use Rattle.qm_model.specs.Transcript.{turn_text}
 use Rattle.qm_show.specs.declared.answer.Prefix.{Prefix}

@@ -10,7 +10,7 @@ use Rattle.hex.specs.declared.error.FromHexError.{FromHexError}
 use Rattle.hex.specs.declared.error.FromHexError.TheVariants.{OutOfMemory}
 use Rattle.qm_kinds.specs.declared.file.FileName.{FileName}
 use Rattle.qm_history.specs.Acts.{bytes_by, hex_byte, hex_bytes, hex_digit, malformed}
-use Rattle.qm_script.specs.Asked.{can_be_added}
+use Rattle.qm_script.specs.Asked.{can_be_added, is_count}
 use Rattle.qm_script.specs.Wanting.{TakesMemory}
 
 -- ---- what is read of a text
@@ -124,28 +124,31 @@ spelled [] = (refl, refl)
 spelled (digit ∷ []) = refl
 spelled (high ∷ low ∷ rest) = pair_spelled high low rest (hex_digit high) (hex_digit low) (hex_bytes rest) refl refl (spelled rest)
 
-not_spelled : (even one few all : Bool) → (even && all) ≡ false → false ≡ (even && one && few && all)
-not_spelled true true true all is = sym is
-not_spelled true true false all is = refl
-not_spelled true false few all is = refl
-not_spelled false one few all is = refl
+pub odd_adds_nothing : (text : List ℕ) → length text % 2 ≡ 1 → false ≡ can_be_added (hex_bytes text)
+odd_adds_nothing text odd = rw (odd_none text odd) refl
 
-all_spelled : (one few : Bool) → (one && few) ≡ (true && one && few && true)
-all_spelled true true = refl
-all_spelled true false = refl
-all_spelled false few = refl
+even_is : (n : ℕ) → n % 2 ≢ 1 → n % 2 ≡ 0
+even_is n h = omega (arith, h)
 
-added_by : (text : List ℕ) (o : Option (List ℕ)) → Spelled text o
-    → can_be_added o ≡ ((length text % 2 == 0) && nat_le 1 (length text / 2) && nat_le (length text / 2) 65536 && list_all is_hex text)
-added_by text None is = not_spelled (length text % 2 == 0) (nat_le 1 (length text / 2)) (nat_le (length text / 2) 65536) (list_all is_hex text) is
-added_by text (Some bytes) is =
-    let even : length text % 2 ≡ 0 = omega (arith, is.1) in
+digits_with : (text : List ℕ) (o : Option (List ℕ)) → length text % 2 ≡ 0 → Spelled text o → is_count (length text / 2) ≡ true → list_all is_hex text ≡ can_be_added o
+digits_with text None even is fits =
+    let none : (true && list_all is_hex text) ≡ false = subst (λ (b : Bool). (b && list_all is_hex text) ≡ false) (ap (λ (n : ℕ). n == 0) even) is in none
+digits_with text (Some bytes) even is fits =
     let half : length text / 2 ≡ length bytes = omega (arith, is.1) in
-    rw (even, half, is.0) (all_spelled (nat_le 1 (length bytes)) (nat_le (length bytes) 65536))
+    is.0 ∙ sym (sym (ap is_count half) ∙ fits)
 
-pub added_is : (text : List ℕ)
-    → can_be_added (hex_bytes text) ≡ ((length text % 2 == 0) && nat_le 1 (length text / 2) && nat_le (length text / 2) 65536 && list_all is_hex text)
-added_is text = added_by text (hex_bytes text) (spelled text)
+-- where so many bytes can be added, the text spells some just where all are digits
+pub digits_add : (text : List ℕ) → length text % 2 ≢ 1 → is_count (length text / 2) ≡ true → list_all is_hex text ≡ can_be_added (hex_bytes text)
+digits_add text even fits = digits_with text (hex_bytes text) (even_is (length text) even) (spelled text) fits
+
+others_with : (text : List ℕ) (o : Option (List ℕ)) → Spelled text o → is_count (length text / 2) ≡ false → false ≡ can_be_added o
+others_with text None is few = refl
+others_with text (Some bytes) is few =
+    let half : length text / 2 ≡ length bytes = omega (arith, is.1) in
+    sym (sym (ap is_count half) ∙ few)
+
+pub others_add_nothing : (text : List ℕ) → is_count (length text / 2) ≡ false → false ≡ can_be_added (hex_bytes text)
+others_add_nothing text few = others_with text (hex_bytes text) (spelled text) few
 
 -- ---- acts
 
