@@ -1,5 +1,5 @@
 -- What nodes ask for can be asked for.
-use Rattle.std.proofs.Common.{◌≡◌, ◌<◌, ◌^◌, ℕ, length, Bool, true, false, cond, ◌==◌, List, [], codes, Option, None, Some, Result, Ok, Err, refl, IfOk}
+use Rattle.std.proofs.Common.{◌<◌, ◌^◌, ℕ, length, Bool, true, false, cond, ◌==◌, List, codes, Option, None, Some, Result, Ok, Err, refl, IfOk}
 use Rattle.std.specs.Prelude.{nat_le, ◌&&◌}
 use Rattle.std.specs.Str.{bytes_eq}
 use Rattle.qm_kinds.specs.Files.{file_name_of}

@@ -1,5 +1,5 @@
 -- What is printed of a turn, by the call that it served and its answer.
-use Rattle.std.proofs.Common.{◌≡◌, ℕ, Bool, List, ◌++◌, sym, ◌∙◌, ap}
+use Rattle.std.proofs.Common.{◌≡◌, ℕ, List, ◌++◌, sym, ◌∙◌, ap}
 use Rattle.qm_record.specs.Spelling.{HasSpelling}
 use Rattle.qm_sjc.specs.Printed.{items_line}
 use Rattle.qm_history.specs.declared.call.Answer.{Answer}

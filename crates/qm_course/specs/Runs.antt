@@ -1,7 +1,7 @@
 -- What serving a script of several nodes on one thread leaves.
 -- OpenVMS System Manager's Manual, Setting Up and Maintaining Queues, and Managing the Queue Manager and Queue Database.
 -- This site's own: lines in their order, and then the nodes in the cluster's.
-use Rattle.std.specs.Prelude.{◌≡◌, ◌≢◌, ◌+◌, ◌<◌, ◌≤◌, ℕ, Bool, List, [], ◌∷◌, ◌++◌, length, map, slice_get, Option, None, Some, Contains}
+use Rattle.std.specs.Prelude.{◌≡◌, ◌≢◌, ◌<◌, ◌≤◌, ℕ, Bool, List, [], ◌∷◌, ◌++◌, length, map, slice_get, Option, None, Some, Contains}
 use Rattle.std.specs.List.{AllByRecursion}
 use Rattle.std.specs.Io.KnownBytes.{Appends}
 use Rattle.qm_kinds.specs.declared.limits.TheConstants.{NODES_LIMIT}

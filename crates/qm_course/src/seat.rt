@@ -105,10 +105,7 @@ impl<'a, Y: Symbiont> Seat<'a, Y> {
         ensures no_memory { OnErr result (self.new ≡ self.old) }
         ensures nothing_handed { OnErr result (station.new.symbiont ≡ station.old.symbiont) }
     {
-        match self
-            .state
-            .call(next, &self.begun, &mut station.clock, &mut station.symbiont)
-        {
+        match self.state.call(next, &self.begun, &mut station.clock, &mut station.symbiont) {
             Ok(asked) => Ok(built_asked(asked)),
             Err(error) => Err(error),
         }

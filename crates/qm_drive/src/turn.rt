@@ -114,10 +114,7 @@ fn make_call<'a, S: Serve, C: Clock, Y: Symbiont, G: Gate>(
     if let Next::Step(_) = next {
         station.gate.at(Point::InStep);
     }
-    match seat
-        .state
-        .call(next, &seat.begun, &mut station.clock, &mut station.symbiont)
-    {
+    match seat.state.call(next, &seat.begun, &mut station.clock, &mut station.symbiont) {
         Ok(asked) => Ok(built_asked(asked)),
         Err(error) => Err(error),
     }
