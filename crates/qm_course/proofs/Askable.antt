@@ -1,12 +1,11 @@
 -- What nodes ask for can be asked for.
-use Rattle.std.proofs.Common.{◌≡◌, ◌<◌, ◌^◌, ℕ, length, Bool, true, false, cond, ◌==◌, List, [], codes, Option, None, Some, Result, Ok, Err, refl, IfOk}
+use Rattle.std.proofs.Common.{◌<◌, ◌^◌, ℕ, length, Bool, true, false, cond, ◌==◌, List, codes, Option, None, Some, Result, Ok, Err, refl, IfOk}
 use Rattle.std.specs.Prelude.{nat_le, ◌&&◌}
 use Rattle.std.specs.Str.{bytes_eq}
 use Rattle.qm_kinds.specs.Files.{file_name_of}
 use Rattle.qm_kinds.specs.declared.file.FileName.{FileName}
 use Rattle.qm_kinds.specs.declared.input.Input.{Input}
 use Rattle.qm_kinds.specs.declared.input.Input.TheVariants as input
-use Rattle.qm_kinds.specs.declared.query.Query.{Query}
 use Rattle.qm_kinds.specs.declared.queue.QueueChange.{QueueChange}
 use Rattle.qm_kinds.specs.declared.refusal.ParseKind.TheVariants as parse
 use Rattle.qm_kinds.specs.declared.request.NameOrNumber.{NameOrNumber}
@@ -22,12 +21,16 @@ use Rattle.qm_model.specs.Texts.{cut_at_blank}
 use Rattle.qm_dcl.specs.Command.{command_of}
 use Rattle.qm_dcl.specs.Lines.{or_fault}
 use Rattle.qm_dcl.proofs.EachAsked.{OfEach, HasFewIfGiven, of_asked}
-use Rattle.qm_history.specs.Acts.{act_asked, act_with, bytes_act, bytes_by, hex_bytes, malformed}
+use Rattle.qm_sjc.proofs.EachAsked.{OfEach as OfEachItems, of_items}
+use Rattle.qm_history.specs.Acts.{act_with, bytes_act, bytes_by, hex_bytes, malformed}
 use Rattle.qm_history.specs.Acts as acts
 use Rattle.qm_history.specs.Calls.{request_of_report}
+use Rattle.qm_history.specs.Reading.{function_of, items_by, items_from, text_asked, with_scans}
+use Rattle.qm_history.specs.Scans.{Scans}
 use Rattle.qm_history.specs.Script.{LineSort, Command, Items, Act, UserLine}
-use Rattle.qm_script.specs.Served.{act_word, is_served_word, not_served, text_served}
-use Rattle.qm_course.specs.Asking.{IsAskable, built, built_listing, read_built}
+use Rattle.qm_script.specs.Asked.{line_with}
+use Rattle.qm_sjc.specs.Meant.{items_mean}
+use Rattle.qm_course.specs.Asking.{IsAskable, built}
 
 -- it can be asked for, as far as it is built
 abbrev Can : Input → Type 0
@@ -42,13 +45,9 @@ short_given (Some xs) few = few
 short_change : (change : QueueChange) → HasFewIfGiven change.characteristics → IsShortChange change
 short_change change few = short_given change.characteristics few
 
-listing_can : (single : Bool) (query : Query) → query.single ≡ single → IsAskable (built_listing single query)
-listing_can true query is = tt
-listing_can false query is = is
-
 each_can : OfEach Can
 each_can = record {
-  shows = λ query. listing_can query.single query refl;
+  shows = λ query. tt;
   takes_manager = λ on. tt;
   submits = λ job few. (refl, few);
   sets_entry = λ number change few. (refl, short_given change.characteristics few);
@@ -187,17 +186,58 @@ acts_can known text None =
     word_can (bytes_eq text (codes "TICK")) (bytes_eq text (codes "COMPACT")) (bytes_eq text (codes "STOP")) (bytes_eq text (codes "START"))
 acts_can known text (Some parts) = with_can (bytes_eq parts.0 (codes "STEP")) (is_act_word parts.0) (bytes_eq parts.0 (codes "BYTES")) known text parts
 
-act_can : (served : Bool) (known text : List ℕ) → Can (cond served (act_asked known text) not_served)
-act_can true known text = acts_can known text (cut_at_blank text)
-act_can false known text = tt
+-- ---- item lists
 
-text_can : (sort : LineSort) (user : List ℕ) (reading : ℕ) (text known : List ℕ) → Can (text_served sort user reading text known)
-text_can Command user reading text known = command_can (command_of user reading text) (of_asked each_can user reading text)
-text_can Items user reading text known = tt
-text_can Act user reading text known = act_can (is_served_word (act_word text)) known text
+each_item : OfEachItems Can
+each_item = record {
+  shows = λ query. tt;
+  faults = λ place kind. tt;
+  appends = λ file bytes. (refl, tt);
+  fills = λ file lines. (refl, tt);
+  drops = λ file. (refl, tt);
+  defines_form = λ form built. (built, tt);
+  deletes_form = λ name. (refl, tt);
+  defines_characteristic = λ c built. (built, tt);
+  deletes_characteristic = λ name. (refl, tt);
+  initializes = λ new built few characteristics. (built, record { targets = few; change = short_change new.change characteristics });
+  sets = λ name change few. (refl, short_change change few);
+  starts = λ name change few. (refl, short_change change few);
+  stops = λ name how. (refl, tt);
+  aborts = λ name entry requeue. (refl, tt);
+  deletes_queue = λ name. (refl, tt);
+  merges = λ to from. (refl, tt);
+  submits = λ job few. (refl, few);
+  sets_entry = λ number change few. (refl, short_given change.characteristics few);
+  deletes_entry = λ number. (refl, tt);
+}
 
-pub line_askable : (l : UserLine) (reading : ℕ) (known : List ℕ) → IsAskable (read_built l reading [] known)
-line_askable l reading known = text_can l.line.sort l.user reading l.line.text known
+-- whatever listings the node has begun
+scanned_can : (begun : Scans) (asked : Input) → Can asked → Can (with_scans begun asked)
+scanned_can begun (input.Show query) can = tt
+scanned_can begun (input.Ask r) can = can
+scanned_can begun (input.Fetch known) can = can
+scanned_can begun input.Compact can = can
+scanned_can begun (input.TakeManager on) can = can
+scanned_can begun input.StartNode can = can
+scanned_can begun input.StopNode can = can
+scanned_can begun (input.Fault place kind) can = can
+
+items_by_can : (user : List ℕ) (begun : Scans) (function : Option ℕ) (bytes : Option (List ℕ)) → Can (items_by items_mean user begun function bytes)
+items_by_can user begun None bytes = tt
+items_by_can user begun (Some function) None = tt
+items_by_can user begun (Some function) (Some bytes) = scanned_can begun (items_mean function bytes user) (of_items each_item user function bytes)
+
+items_from_can : (user : List ℕ) (begun : Scans) (parts : Option (List ℕ × List ℕ)) → Can (items_from items_mean user begun parts)
+items_from_can user begun None = tt
+items_from_can user begun (Some parts) = items_by_can user begun (function_of parts.0) (hex_bytes parts.1)
+
+text_can : (sort : LineSort) (user : List ℕ) (reading : ℕ) (text : List ℕ) (begun : Scans) (known : List ℕ) → Can (text_asked items_mean sort user reading text begun known)
+text_can Command user reading text begun known = command_can (command_of user reading text) (of_asked each_can user reading text)
+text_can Items user reading text begun known = items_from_can user begun (cut_at_blank text)
+text_can Act user reading text begun known = acts_can known text (cut_at_blank text)
+
+pub line_askable : (begun : Scans) (l : UserLine) (reading : ℕ) (known : List ℕ) → IsAskable (built (line_with l reading begun known))
+line_askable begun l reading known = text_can l.line.sort l.user reading l.line.text begun known
 
 pub report_askable : (run : ℕ) (told : Report) → IsAskable (input.Ask (request_of_report run told))
 report_askable run (report.Mark value next) = (refl, tt)

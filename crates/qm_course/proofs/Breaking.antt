@@ -11,6 +11,7 @@ use Rattle.qm_history.specs.declared.call.Call.{Call}
 use Rattle.qm_history.specs.declared.call.Call.TheVariants as call
 use Rattle.qm_history.specs.Blocks.{blocks_next}
 use Rattle.qm_history.specs.Course.{Begun, Follows, GoesOn, MadeStep, NextTurn, ALine, AStep, AFetch, ALeave, NodeState, ServesOrEnds, call_of_line, failed_steps, is_live_behind, next_at, next_run}
+use Rattle.qm_history.specs.Scans.{Scans, scans_of}
 use Rattle.qm_history.specs.Script.{UserLine}
 use Rattle.qm_history.specs.Turn.{IsTurnOf, IsCutShort}
 use Rattle.qm_history.specs.Visits.{Visit}
@@ -19,19 +20,21 @@ use Rattle.qm_node.specs.Steps.{Comes}
 use Rattle.qm_node.specs.declared.course.Asked.{Asked}
 use Rattle.qm_node.specs.declared.course.Next.{Next}
 use Rattle.qm_node.specs.declared.course.Next.TheVariants as next
-use Rattle.qm_course.specs.Asking.{built_call, read_built}
+use Rattle.qm_script.specs.Asked.{line_with}
+use Rattle.qm_script.specs.ClusterLines.{user_line_view}
+use Rattle.qm_course.specs.Asking.{built, built_call, read_built}
 use Rattle.qm_course.specs.Taken.{AreTaken, Rises}
 use Rattle.qm_course.proofs.Stepping.{none_taken, step_first, step_rises, step_taken}
 
 -- ---- a turn that is the last one
 
-module _ {Y : Type 0} (y : Meaning Y) (n : NodeState) (live : Bool) (a : Asked) (called : HeldNode) (was now : Y) (v : Visit)
+module _ {Y : Type 0} (y : Meaning Y) (n : NodeState) (live : Bool) (begun : Scans) (a : Asked) (called : HeldNode) (was now : Y) (v : Visit)
     (served : IsTurnOf HasSpelling v.before (built_call a.call) v.turn ⊎ IsCutShort HasSpelling v.before (built_call a.call) v.turn) (moment : v.turn.moment ≡ a.moment)
   where
     -- the course goes so far, with these steps
     pub record LastOne : Type 0 where
       pub steps : List MadeStep
-      pub leads : (earlier : List Visit) → GoesOn HasSpelling read_built Begun None n earlier live (v ∷ []) steps
+      pub leads : (earlier : List Visit) → scans_of earlier ≡ begun → GoesOn HasSpelling read_built Begun None n earlier live (v ∷ []) steps
       pub rose : Rises y (failed_steps steps) was now
       pub taken : AreTaken y steps None was now
 
@@ -50,12 +53,13 @@ module _ {Y : Type 0} (y : Meaning Y) (n : NodeState) (live : Bool) (a : Asked) 
     run_found : (run : ℕ) (k : KeptRun) → slice_get n.kept.round 0 ≡ Some run → next_kept n.kept ≡ Some k → run_kept run n.kept.runs ≡ Some k
     run_found run k first is = sym (ap (λ (o : Option ℕ). option_and_then (λ (r : ℕ). run_kept r n.kept.runs) o) first) ∙ is
 
-    pub last_one : (comes : Next) (nt : NextTurn) → next_at live n n.stage ≡ nt → IsTurn nt (Some comes) → IsCallOf y comes n a called was now → LastOne
+    pub last_one : (comes : Next) (nt : NextTurn) → next_at live n n.stage ≡ nt → IsTurn nt (Some comes) → IsCallOf y begun comes n a called was now → LastOne
     last_one (next.Line line) (ALine l lines) is turn called_by = record {
       steps = [];
-      leads = λ earlier. leads_by [] earlier (ALine l lines) is (
+      leads = λ earlier listings. leads_by [] earlier (ALine l lines) is (
         ends (call_of_line HasSpelling read_built n earlier l v.turn)
             (ap built_call called_by.0
+            ∙ ap (λ (s : Scans). call.Line line.now.number (built (line_with (user_line_view line.now) a.moment s (known n.kept)))) (sym listings)
             ∙ ap (λ (x : UserLine). call.Line x.line.number (read_built x a.moment earlier (known n.kept))) (sym turn)
             ∙ ap (λ (m : ℕ). call.Line l.line.number (read_built l m earlier (known n.kept))) (sym moment)) served,
         (tt, refl, tt),
@@ -69,7 +73,7 @@ module _ {Y : Type 0} (y : Meaning Y) (n : NodeState) (live : Bool) (a : Asked) 
         let step = called_by.2.2 in
         record {
           steps = record { run = k; end = step.end } ∷ [];
-          leads = λ earlier. leads_by (record { run = k; end = step.end } ∷ []) earlier (AStep run others) is (
+          leads = λ earlier listings. leads_by (record { run = k; end = step.end } ∷ []) earlier (AStep run others) is (
             (run_found run k first.0 called_by.2.1, step.can_end),
             ends (call.Report run (report_told k step.end))
                 (ap built_call called_by.1 ∙ ap (λ (r : ℕ). call.Report r called_by.0) (sym turn) ∙ ap (λ (r : Report). call.Report run r) step.told_is) served,
@@ -80,13 +84,13 @@ module _ {Y : Type 0} (y : Meaning Y) (n : NodeState) (live : Bool) (a : Asked) 
         }
     last_one next.Fetch AFetch is turn called_by = record {
       steps = [];
-      leads = λ earlier. leads_by [] earlier AFetch is (ends (call.Fetch (known n.kept)) (ap built_call called_by.0) served, (tt, refl, tt));
+      leads = λ earlier listings. leads_by [] earlier AFetch is (ends (call.Fetch (known n.kept)) (ap built_call called_by.0) served, (tt, refl, tt));
       rose = ap y.faults called_by.2;
       taken = subst (λ (o : Y). AreTaken y [] None was o) (sym called_by.2) (none_taken y was);
     }
     last_one next.Leave ALeave is turn called_by = record {
       steps = [];
-      leads = λ earlier. leads_by [] earlier ALeave is (ends call.Leave (ap built_call called_by.0) served, (tt, refl, tt));
+      leads = λ earlier listings. leads_by [] earlier ALeave is (ends call.Leave (ap built_call called_by.0) served, (tt, refl, tt));
       rose = ap y.faults called_by.2;
       taken = subst (λ (o : Y). AreTaken y [] None was o) (sym called_by.2) (none_taken y was);
     }
@@ -152,9 +156,9 @@ module _ {Y : Type 0} (y : Meaning Y) (n : NodeState) (live : Bool) (a : Asked) 
   }
   broken_step run others k CutShort told is found can comes = nothing_broken comes
 
-  pub broken_next : (comes : Next) (nt : NextTurn) → next_at live n n.stage ≡ nt → IsTurn nt (Some comes) → IsCallOf y comes n a called was now → BrokenOff
-  broken_next (next.Line line) (ALine l lines) is turn by = nothing_broken by.2
-  broken_next (next.Step number) (AStep run others) is turn by = broken_step run others by.2.0 by.2.2.end by.0 is by.2.1 by.2.2.can_end by.2.2.comes
-  broken_next next.Fetch AFetch is turn by = nothing_broken by.2
-  broken_next next.Leave ALeave is turn by = nothing_broken by.2
-  broken_next comes nt is turn by = absurd turn
+  pub broken_next : (begun : Scans) (comes : Next) (nt : NextTurn) → next_at live n n.stage ≡ nt → IsTurn nt (Some comes) → IsCallOf y begun comes n a called was now → BrokenOff
+  broken_next begun (next.Line line) (ALine l lines) is turn by = nothing_broken by.2
+  broken_next begun (next.Step number) (AStep run others) is turn by = broken_step run others by.2.0 by.2.2.end by.0 is by.2.1 by.2.2.can_end by.2.2.comes
+  broken_next begun next.Fetch AFetch is turn by = nothing_broken by.2
+  broken_next begun next.Leave ALeave is turn by = nothing_broken by.2
+  broken_next begun comes nt is turn by = absurd turn

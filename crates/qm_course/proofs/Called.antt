@@ -11,6 +11,7 @@ use Rattle.qm_history.specs.declared.call.Call.{Call}
 use Rattle.qm_history.specs.declared.call.Takeover.{Takeover}
 use Rattle.qm_history.specs.Calls.{input_of}
 use Rattle.qm_history.specs.Course.{NodeState, Reading, Fetching, Working, Leaving, Over, Stage, behind_fetch, behind_line, next_at, own_stage, stage_behind, stage_for}
+use Rattle.qm_history.specs.Scans.{Scans}
 use Rattle.qm_history.specs.Script.{UserLine, steps_asked}
 use Rattle.qm_model.specs.Kept.{known}
 use Rattle.qm_script.specs.ClusterLines.{user_line_view}
@@ -23,31 +24,31 @@ use Rattle.qm_course.specs.Asking.{IsAskable, built_call}
 use Rattle.qm_course.specs.Seats.{HeldSeat}
 use Rattle.qm_course.proofs.Askable.{line_askable, report_askable}
 
-module _ {Y : Type 0} (y : symb.Meaning Y) (n : NodeState) (a : Asked) (called : HeldNode) (was now : Y) where
-  pub call_askable : (comes : Next) → IsCallOf y comes n a called was now → IsAskable (input_of (built_call a.call))
+module _ {Y : Type 0} (y : symb.Meaning Y) (begun : Scans) (n : NodeState) (a : Asked) (called : HeldNode) (was now : Y) where
+  pub call_askable : (comes : Next) → IsCallOf y begun comes n a called was now → IsAskable (input_of (built_call a.call))
   call_askable (next.Line line) by =
-      subst (λ (c : Call). IsAskable (input_of (built_call c))) (sym by.0) (line_askable (user_line_view line.now) a.moment (known n.kept))
+      subst (λ (c : Call). IsAskable (input_of (built_call c))) (sym by.0) (line_askable begun (user_line_view line.now) a.moment (known n.kept))
   call_askable (next.Step run) by = subst (λ (c : Call). IsAskable (input_of (built_call c))) (sym by.1) (report_askable run by.0)
   call_askable next.Fetch by = subst (λ (c : Call). IsAskable (input_of (built_call c))) (sym by.0) tt
   call_askable next.Leave by = subst (λ (c : Call). IsAskable (input_of (built_call c))) (sym by.0) tt
 
   -- the call changes nothing of where the node is
-  pub called_state : (comes : Next) → IsCallOf y comes n a called was now → called.state ≡ n
+  pub called_state : (comes : Next) → IsCallOf y begun comes n a called was now → called.state ≡ n
   called_state (next.Line line) by = ap (λ (h : HeldNode). h.state) by.1
   called_state (next.Step run) by = ap (λ (h : HeldNode). h.state) by.3
   called_state next.Fetch by = ap (λ (h : HeldNode). h.state) by.1
   called_state next.Leave by = ap (λ (h : HeldNode). h.state) by.1
 
-  pub called_made : (comes : Next) → IsCallOf y comes n a called was now → IsMadeFor comes called.made
+  pub called_made : (comes : Next) → IsCallOf y begun comes n a called was now → IsMadeFor comes called.made
   called_made (next.Line line) by = ap (λ (h : HeldNode). h.made) by.1
   called_made (next.Step run) by = subst (λ (o : Option Report). IsSome o) (sym (ap (λ (h : HeldNode). h.made) by.3)) refl
   called_made next.Fetch by = ap (λ (h : HeldNode). h.made) by.1
   called_made next.Leave by = ap (λ (h : HeldNode). h.made) by.1
 
-  pub called_can : (comes : Next) → IsCallOf y comes n a called was now → CanBeMade n comes → CanBeMade called.state comes
+  pub called_can : (comes : Next) → IsCallOf y begun comes n a called was now → CanBeMade n comes → CanBeMade called.state comes
   called_can comes by can = subst (λ (s : NodeState). CanBeMade s comes) (sym (called_state comes by)) can
 
-  pub called_next : (comes : Next) (live : Bool) → IsCallOf y comes n a called was now → IsTurn (next_at live n n.stage) (Some comes) → ComesNext called.state comes
+  pub called_next : (comes : Next) (live : Bool) → IsCallOf y begun comes n a called was now → IsTurn (next_at live n n.stage) (Some comes) → ComesNext called.state comes
   called_next comes live by is = record { live = live; is = subst (λ (s : NodeState). IsTurn (next_at live s s.stage) (Some comes)) (sym (called_state comes by)) is }
 
 -- ---- what the node keeps behind an answer
@@ -181,9 +182,9 @@ over_leaves count live n called there told next.Fetch same turn h over =
 over_leaves count live n called there told next.Leave same turn h over = refl
 
 pub moves_on : {Y : Type 0} (y : symb.Meaning Y) (comes : Next) (here between there : HeldSeat) (a : Asked) (was now : Y) (asked : Call) (told : Answer)
-    → IsCallOf y comes here.node.state a between.node was now → between ≡ record here { node = between.node } → TakesIn comes asked told between there → MovesOn comes here there
+    → IsCallOf y here.begun comes here.node.state a between.node was now → between ≡ record here { node = between.node } → TakesIn comes asked told between there → MovesOn comes here there
 moves_on y comes here between there a was now asked told by same takes =
-    let state = called_state y here.node.state a between.node was now comes by in
+    let state = called_state y here.begun here.node.state a between.node was now comes by in
     record {
       name = takes.name ∙ ap (λ (s : HeldSeat). s.name) same;
       ready = heard_made between.count between.node there.node told comes takes.heard;

@@ -4,7 +4,6 @@ use Rattle.std.specs.Prelude.{slice_get, option_to_list}
 use Rattle.std.specs.Io.KnownBytes.{Appends}
 use Rattle.std.proofs.lemmas.List.{append-nil}
 use Rattle.qm_faults.specs.Faults.{Tells}
-use Rattle.qm_kinds.specs.declared.query.Row.{Row}
 use Rattle.qm_record.specs.Spelling.{HasSpelling}
 use Rattle.qm_symb.specs.Device as symb
 use Rattle.qm_history.specs.declared.call.Answer.{Answer}
@@ -14,18 +13,18 @@ use Rattle.qm_history.specs.declared.call.Call.TheVariants as call
 use Rattle.qm_history.specs.declared.turn.Turn.{Turn}
 use Rattle.qm_history.specs.declared.world.World.{World}
 use Rattle.qm_history.specs.Answering.{MayAnswer}
-use Rattle.qm_history.specs.Calls.{input_of, why_of}
 use Rattle.qm_history.specs.Chest.{IsMadeFor, LeavesTurn}
 use Rattle.qm_history.specs.Course.{failed_steps, next_at}
 use Rattle.qm_history.specs.Faults.{faults_told, is_journal, tells_disk_fault}
-use Rattle.qm_history.specs.Text.{answer_text, text}
+use Rattle.qm_history.specs.Text.{text}
 use Rattle.qm_history.specs.Turn.{IsTurnOf, IsCutShort}
 use Rattle.qm_history.specs.Visits.{Visit}
+use Rattle.qm_sjc.specs.Printed.{items_line}
 use Rattle.qm_node.specs.Node.{HeldNode, IsCallOf, IsTurn}
 use Rattle.qm_node.specs.declared.course.Asked.{Asked}
 use Rattle.qm_node.specs.declared.course.Next.{Next}
-use Rattle.qm_course.specs.Answered.{EndsBy, IsAnsweredUpTo, stop_of}
-use Rattle.qm_course.specs.Asking.{IsAskable, built_call}
+use Rattle.qm_course.specs.Answered.{EndsBy, IsAnsweredUpTo, printed_of, stop_of}
+use Rattle.qm_course.specs.Asking.{built_call}
 use Rattle.qm_course.specs.Seats.{HeldSeat, standing_of}
 use Rattle.qm_course.specs.Serving.{Meaning, Serves, ServesAt, TellsDisk}
 use Rattle.qm_course.specs.Standing.{Outside}
@@ -152,8 +151,8 @@ module _ {S Y : Type 0} (m : Meaning S) (y : symb.Meaning Y) (node : ℕ) (comes
             last = inl refl;
             steps = [];
             broken = off.broken;
-            goes_on = λ earlier len. off.leads earlier;
-            printed = λ items_line. none_printed stopped taken;
+            goes_on = λ earlier behind. off.leads earlier;
+            printed = none_printed stopped taken;
             told = record { told = moment ∷ []; appended = clock; are = (moment ∷ [], refl, lit≤ tt) };
             faults = off.faults;
             rose = off.rose;
@@ -166,8 +165,8 @@ module _ {S Y : Type 0} (m : Meaning S) (y : symb.Meaning Y) (node : ℕ) (comes
       )
 
   module _ (called : HeldNode) (a : Asked) (was now : Y) (old new : S) (taken then before after : Option (List ℕ))
-      (is_next : IsTurn (next_at here.live here.node.state here.node.state.stage) (Some comes)) (by : IsCallOf y comes here.node.state a called was now)
-      (clock : Appends before after (a.moment ∷ [])) (name : slice_get (m.nodes old) node ≡ Some here.name) (can : IsAskable (input_of (built_call a.call)))
+      (is_next : IsTurn (next_at here.live here.node.state here.node.state.stage) (Some comes)) (by : IsCallOf y here.begun comes here.node.state a called was now)
+      (clock : Appends before after (a.moment ∷ [])) (name : slice_get (m.nodes old) node ≡ Some here.name)
     where
       abbrev asked : Call
       asked = built_call a.call
@@ -181,7 +180,7 @@ module _ {S Y : Type 0} (m : Meaning S) (y : symb.Meaning Y) (node : ℕ) (comes
       -- the call left no turn
       without_turn : (told : Answer) (sv : Serves m node a.moment asked old new told) → sv.turn ≡ None → stop_of told ≡ Some stopped → then ≡ taken → Stopped from to
       without_turn told sv is stop same =
-          let off = broken_next y here.node.state here.live a called was now comes (next_at here.live here.node.state here.node.state.stage) refl is_next by in (
+          let off = broken_next y here.node.state here.live a called was now here.begun comes (next_at here.live here.node.state here.node.state.stage) refl is_next by in (
             record {
               turns = [];
               kept = sv.turns ∙ ap (λ (o : Option Turn). m.turns old ++ option_to_list o) is;
@@ -196,8 +195,8 @@ module _ {S Y : Type 0} (m : Meaning S) (y : symb.Meaning Y) (node : ℕ) (comes
                 last = inr (asked, told, subst (λ (o : Option Turn). m.does w old new asked o told) is (sv.at w stands).does);
                 steps = [];
                 broken = off.broken;
-                goes_on = λ earlier len. off.leads earlier;
-                printed = λ items_line. subst (λ (x : Option (List ℕ)). TakesUpTo stopped taken x []) (sym same) (none_printed stopped taken);
+                goes_on = λ earlier behind. off.leads earlier;
+                printed = subst (λ (x : Option (List ℕ)). TakesUpTo stopped taken x []) (sym same) (none_printed stopped taken);
                 told = record { told = a.moment ∷ []; appended = clock; are = (a.moment ∷ [], refl, lit≤ tt) };
                 faults = off.faults;
                 rose = off.rose;
@@ -212,17 +211,17 @@ module _ {S Y : Type 0} (m : Meaning S) (y : symb.Meaning Y) (node : ℕ) (comes
       -- what is so where it left this turn, whatever it was answered
       module _ (t : Turn) (told : Answer) (sv : Serves m node a.moment asked old new told) (is : sv.turn ≡ Some t) (made : IsMadeFor node a.moment asked (Some t)) where
         stops_at : (w : World) → ServesAt m w asked old new (Some t) told → IsTurnOf HasSpelling w asked t ⊎ IsCutShort HasSpelling w asked t
-            → ((items_line : Row → List ℕ) → TakesUpTo stopped taken then (text items_line w (t ∷ []))) → StopsAt m y w node (standing_of here) (t ∷ []) from to stopped
+            → TakesUpTo stopped taken then (text items_line w (t ∷ [])) → StopsAt m y w node (standing_of here) (t ∷ []) from to stopped
         stops_at w s served printed =
             let v : Visit = record { before = w; turn = t } in
-            let one = last_one y here.node.state here.live a called was now v served made.1 comes (next_at here.live here.node.state here.node.state.stage) refl is_next by in
+            let one = last_one y here.node.state here.live here.begun a called was now v served made.1 comes (next_at here.live here.node.state here.node.state.stage) refl is_next by in
             record {
               next = new;
               made = (asked, told, new, s.answers, s.does, refl);
               last = inl refl;
               steps = one.steps;
               broken = None;
-              goes_on = λ earlier len. one.leads earlier;
+              goes_on = λ earlier behind. one.leads earlier behind.begun;
               printed = printed;
               told = record { told = a.moment ∷ []; appended = clock; are = ([], ap (λ (x : ℕ). x ∷ []) (sym made.1), lit≤ tt) };
               faults = failed_steps one.steps;
@@ -233,13 +232,13 @@ module _ {S Y : Type 0} (m : Meaning S) (y : symb.Meaning Y) (node : ℕ) (comes
             }
 
         with_turn : IsFullAt stopped (m.turns new) → IsToldTo stopped (t ∷ []) (m.failed old) (m.failed new)
-            → ((w : World) → ServesAt m w asked old new (Some t) told → (IsTurnOf HasSpelling w asked t ⊎ IsCutShort HasSpelling w asked t) × ((items_line : Row → List ℕ) → TakesUpTo stopped taken then (text items_line w (t ∷ []))))
+            → ((w : World) → ServesAt m w asked old new (Some t) told → (IsTurnOf HasSpelling w asked t ⊎ IsCutShort HasSpelling w asked t) × TakesUpTo stopped taken then (text items_line w (t ∷ [])))
             → Stopped from to
         with_turn full failed at = (
           record {
             turns = t ∷ [];
             kept = sv.turns ∙ ap (λ (o : Option Turn). m.turns old ++ option_to_list o) is;
-            of_node = ((made.0, made.2 ∙ why_comes y comes here.node a called was now by), tt);
+            of_node = ((made.0, made.2 ∙ why_comes y here.begun comes here.node a called was now by), tt);
             full = full;
             nodes = sv.nodes;
             failed = failed;
@@ -263,10 +262,10 @@ module _ {S Y : Type 0} (m : Meaning S) (y : symb.Meaning Y) (node : ℕ) (comes
               rose = none_failed told (m.failed old) (m.failed new) (not_journal told stopped stop) sv.faults;
               hidden = hidden.0 (faults_told (t ∷ [])) (few_told t (tells_disk_fault t.events) refl);
             })
-            (λ w s. (served_or_cut w asked t told stopped stop s.answers, λ items_line. subst (λ (x : Option (List ℕ)). TakesUpTo stopped taken x (text items_line w (t ∷ []))) (sym same) (hidden.1 taken (text items_line w (t ∷ [])))))
+            (λ w s. (served_or_cut w asked t told stopped stop s.answers, subst (λ (x : Option (List ℕ)). TakesUpTo stopped taken x (text items_line w (t ∷ []))) (sym same) (hidden.1 taken (text items_line w (t ∷ [])))))
 
         -- or it was answered
-        told_more : stop_of told ≡ None → TakesFront taken then (answer_text here.name (why_of asked) told) → (stopped ≡ end.Write) ⊎ (stopped ≡ end.NoMemory) → Stopped from to
+        told_more : stop_of told ≡ None → TakesFront taken then (printed_of here.name asked told) → (stopped ≡ end.Write) ⊎ (stopped ≡ end.NoMemory) → Stopped from to
         told_more on front which =
             with_turn (full_taken stopped (m.turns new) which)
             (record {
@@ -278,12 +277,12 @@ module _ {S Y : Type 0} (m : Meaning S) (y : symb.Meaning Y) (node : ℕ) (comes
             })
             (λ w s. let served = says w asked t told on s.answers in (
               inl served.0,
-              λ items_line. subst (λ (l : List ℕ). TakesUpTo stopped taken then l)
-                  (sym (answer_printed m node comes here a old t told made name can w served.0 served.1 s.names items_line)) (front_taken stopped taken then _ which front),
+              subst (λ (l : List ℕ). TakesUpTo stopped taken then l)
+                  (sym (answer_printed m node comes here a old t told made name w served.0 served.1 s.names)) (front_taken stopped taken then _ which front),
             ))
 
       ends_by : (turn : Option Turn) (told : Answer) (sv : Serves m node a.moment asked old new told) → sv.turn ≡ turn
-          → EndsBy m node a.moment comes asked stopped told (answer_text here.name (why_of asked) told) taken then → Stopped from to
+          → EndsBy m node a.moment comes asked stopped told (printed_of here.name asked told) taken then → Stopped from to
       ends_by None told sv is (inl (stop, same)) = without_turn told sv is stop same
       ends_by None told sv is (inr (on, front, which)) = absurd (none_left (m.turns old) told on (subst (λ (o : Option Turn). LeavesTurn (m.turns old) o told) is sv.leaves))
       ends_by (Some t) told sv is (inl (stop, same)) =

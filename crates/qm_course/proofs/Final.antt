@@ -18,6 +18,7 @@ use Rattle.qm_course.specs.Asking.{read_built}
 use Rattle.qm_course.specs.Runs.{AllDown, AllGo, AllStop, AreFresh, AreReading, AreThrough, IsNodeOf, NodeGoes, NodeStops, Serving, Side, Site, Stopping, names_of, numbers_of, so_far}
 use Rattle.qm_course.specs.Seats.{HeldSeat, standing_of}
 use Rattle.qm_course.specs.Serving.{AreMade, Meaning}
+use Rattle.qm_course.specs.Standing.{IsBehind}
 use Rattle.qm_course.specs.declared.turn.TurnEnd.{TurnEnd}
 use Rattle.qm_course.proofs.Lifting.{some_there}
 use Rattle.qm_course.proofs.Reached.{reached_is}
@@ -59,12 +60,12 @@ module _ {S Y : Type 0} (m : Meaning S) (y : symb.Meaning Y) where
 
   -- ---- the whole script
 
-  node_whole : (w : World) (turns : List Turn) (node : ℕ) (lines : List UserLine) (here there : HeldSeat) (was now : Side Y) → here.node.state ≡ at_first lines → here.count ≡ 0 → here.live ≡ is_live w node
+  node_whole : (w : World) (turns : List Turn) (node : ℕ) (lines : List UserLine) (here there : HeldSeat) (was now : Side Y) → here.node.state ≡ at_first lines → IsBehind [] (standing_of here) → here.live ≡ is_live w node
       → next_at there.live there.node.state there.node.state.stage ≡ NoTurn → NodeGoes m y w node (standing_of here) (standing_of there) turns was now → IsNodeOf m y Whole w turns node lines was now
   node_whole w turns node lines here there was now first none live over g =
       let reached : Reaches HasSpelling read_built (at_first lines) [] (is_live w node) (visits_of node w turns) g.steps there.node.state there.live =
       subst (λ (n : NodeState). Reaches HasSpelling read_built n [] (is_live w node) (visits_of node w turns) g.steps there.node.state there.live) first
-      (subst (λ (b : Bool). Reaches HasSpelling read_built here.node.state [] b (visits_of node w turns) g.steps there.node.state there.live) live (g.reaches [] (sym none))) in
+      (subst (λ (b : Bool). Reaches HasSpelling read_built here.node.state [] b (visits_of node w turns) g.steps there.node.state there.live) live (g.reaches [] none)) in
       record {
         faults = failed_steps g.steps;
         course = record {
@@ -106,7 +107,7 @@ module _ {S Y : Type 0} (m : Meaning S) (y : symb.Meaning Y) where
 
   -- ---- up to an end
 
-  node_begun : (w : World) (turns : List Turn) (node : ℕ) (lines : List UserLine) (here : HeldSeat) (was now : Side Y) → here.node.state ≡ at_first lines → here.count ≡ 0 → here.live ≡ is_live w node
+  node_begun : (w : World) (turns : List Turn) (node : ℕ) (lines : List UserLine) (here : HeldSeat) (was now : Side Y) → here.node.state ≡ at_first lines → IsBehind [] (standing_of here) → here.live ≡ is_live w node
       → NodeStops m y w node (standing_of here) turns was now → IsNodeOf m y Begun w turns node lines was now
   node_begun w turns node lines here was now first none live g = record {
     faults = g.faults;
@@ -115,14 +116,14 @@ module _ {S Y : Type 0} (m : Meaning S) (y : symb.Meaning Y) where
       broken = g.broken;
       turns_are =
           subst (λ (n : NodeState). GoesOn HasSpelling read_built Begun g.broken n [] (is_live w node) (visits_of node w turns) g.steps) first
-          (subst (λ (b : Bool). GoesOn HasSpelling read_built Begun g.broken here.node.state [] b (visits_of node w turns) g.steps) live (g.goes_on [] (sym none)));
+          (subst (λ (b : Bool). GoesOn HasSpelling read_built Begun g.broken here.node.state [] b (visits_of node w turns) g.steps) live (g.goes_on [] none));
       few_faults = g.few_faults;
     };
     rose = g.rose;
     told = g.told;
     taken = g.taken;
     waits = λ isnt.
-        let waiting = g.waits isnt [] (sym none) in (
+        let waiting = g.waits isnt [] none in (
           waiting.0,
           waiting.1,
           subst (λ (n : NodeState). Reaches HasSpelling read_built n [] (is_live w node) (visits_of node w turns) g.steps waiting.0 waiting.1) first

@@ -26,13 +26,15 @@ use Rattle.qm_history.specs.Visits.{Visit, visits}
 use Rattle.qm_history.specs.World.{is_live}
 use Rattle.qm_history.proofs.EventLemmas.{turns_append}
 use Rattle.qm_history.proofs.HistoryLemmas.{text_append, visits_append}
+use Rattle.qm_sjc.specs.Printed.{items_line}
 use Rattle.qm_course.specs.Asking.{read_built}
 use Rattle.qm_course.specs.Serving.{AreMade, LeavesNone, Meaning}
-use Rattle.qm_course.specs.Standing.{Outside, Standing}
+use Rattle.qm_course.specs.Standing.{IsBehind, Outside, Standing}
 use Rattle.qm_course.specs.Taken.{AreTaken, AreTold, RoseBy, Rises, handed_to}
 use Rattle.qm_course.specs.Turning.{AreOf, Goes, GoesAt, IsToldTo, Stops, StopsAt, TakesFront, TakesUpTo}
 use Rattle.qm_course.specs.declared.turn.TurnEnd.{TurnEnd}
 use Rattle.qm_course.specs.declared.turn.TurnEnd.TheVariants as end
+use Rattle.qm_course.proofs.Behind.{behind_none, behind_on}
 use Rattle.qm_course.proofs.Counting.{appends_none, appends_on, rose_on}
 use Rattle.qm_course.proofs.Reached.{goes_on, reaches_on}
 use Rattle.qm_course.proofs.Stepping.{none_taken}
@@ -180,12 +182,13 @@ module _ {S Y : Type 0} (m : Meaning S) (y : symb.Meaning Y) where
       made = refl;
       stands = stands;
       steps = [];
-      reaches = λ earlier len. (refl, refl, refl);
+      reaches = λ earlier behind. (refl, refl, refl);
+      behind = λ earlier behind. behind_none earlier here behind;
       live = live;
       others = λ other differs. refl;
       down = λ was_down. was_down;
       overs = λ over. tt;
-      printed = λ items_line. appends_none old.taken;
+      printed = appends_none old.taken;
       told = record { told = []; appended = appends_none old.told; are = refl };
       rose = refl;
       taken = none_taken y old.symbiont;
@@ -196,26 +199,25 @@ module _ {S Y : Type 0} (m : Meaning S) (y : symb.Meaning Y) where
     pub after_is : (w : World) (b : List Turn) → after_turns w (first.turns ++ b) ≡ after_turns (after_turns w first.turns) b
     after_is w b = turns_append w first.turns b
 
-    pub len_on : (w : World) (earlier : List Visit) → length earlier ≡ here.count → length (earlier ++ visits w first.turns) ≡ mid.count
-    len_on w earlier len = length_append earlier (visits w first.turns) ∙ ap (λ (k : ℕ). k + length (visits w first.turns)) len ∙ ap (λ (k : ℕ). here.count + k) (visits_length w first.turns) ∙ sym first.count
-
     goes_at_on : (there : Standing) (new : Outside S Y) (b : List Turn) (w : World) → GoesAt m y w node here mid first.turns old between → GoesAt m y (after_turns w first.turns) node mid there b between new
         → GoesAt m y w node here there (first.turns ++ b) old new
     goes_at_on there new b w one two = record {
       made = made_on w first.turns b old.value between.value new.value one.made two.made;
       stands = subst (λ (v : World). m.stands v new.value) (sym (after_is w b)) two.stands;
       steps = one.steps ++ two.steps;
-      reaches = λ earlier len. subst (λ (vs : List Visit). Reaches HasSpelling read_built here.state earlier here.live vs (one.steps ++ two.steps) there.state there.live) (sym (visits_append w first.turns b))
+      reaches = λ earlier behind. subst (λ (vs : List Visit). Reaches HasSpelling read_built here.state earlier here.live vs (one.steps ++ two.steps) there.state there.live) (sym (visits_append w first.turns b))
           (reaches_on (visits (after_turns w first.turns) b) two.steps mid.state there.state mid.live there.live (visits w first.turns) earlier here.state here.live one.steps
-          (one.reaches earlier len) (two.reaches (earlier ++ visits w first.turns) (len_on w earlier len)));
+          (one.reaches earlier behind) (two.reaches (earlier ++ visits w first.turns) (one.behind earlier behind)));
+      behind = λ earlier behind. subst (λ (vs : List Visit). IsBehind (earlier ++ vs) there) (sym (visits_append w first.turns b))
+          (behind_on earlier (visits w first.turns) (visits (after_turns w first.turns) b) there (two.behind (earlier ++ visits w first.turns) (one.behind earlier behind)));
       live = two.live ∙ ap (λ (v : World). is_live v node) (sym (after_is w b));
       others = λ other differs. ap (λ (v : World). is_live v other) (after_is w b) ∙ two.others other differs ∙ one.others other differs;
       down = λ was_down. two.down (one.down was_down);
       overs = λ over. subst (λ (vs : List Visit). AllByRecursion (λ (v : Visit). AreOver node v.before.live) vs) (sym (visits_append w first.turns b))
           (all_append (λ (v : Visit). AreOver node v.before.live) (visits w first.turns) (visits (after_turns w first.turns) b) (one.overs over)
           (two.overs (over_stays node w (after_turns w first.turns) (λ other differs. one.others other differs) over)));
-      printed = λ items_line. subst (λ (l : List ℕ). Appends old.taken new.taken l) (sym (text_append items_line w first.turns b))
-          (appends_on (text items_line w first.turns) (text items_line (after_turns w first.turns) b) old.taken between.taken new.taken (one.printed items_line) (two.printed items_line));
+      printed = subst (λ (l : List ℕ). Appends old.taken new.taken l) (sym (text_append items_line w first.turns b))
+          (appends_on (text items_line w first.turns) (text items_line (after_turns w first.turns) b) old.taken between.taken new.taken one.printed two.printed);
       told = subst (λ (vs : List Visit). AreTold Whole vs old.told new.told) (sym (visits_append w first.turns b))
           (told_on (visits w first.turns) (visits (after_turns w first.turns) b) old.told between.told new.told one.told two.told);
       rose = rises_on y one.steps two.steps old.symbiont between.symbiont new.symbiont one.rose two.rose;
@@ -245,11 +247,11 @@ module _ {S Y : Type 0} (m : Meaning S) (y : symb.Meaning Y) where
       last = subst (λ (v : World). LeavesNone m v two.next new.value) (sym (after_is w b)) two.last;
       steps = one.steps ++ two.steps;
       broken = two.broken;
-      goes_on = λ earlier len. subst (λ (vs : List Visit). GoesOn HasSpelling read_built Begun two.broken here.state earlier here.live vs (one.steps ++ two.steps)) (sym (visits_append w first.turns b))
+      goes_on = λ earlier behind. subst (λ (vs : List Visit). GoesOn HasSpelling read_built Begun two.broken here.state earlier here.live vs (one.steps ++ two.steps)) (sym (visits_append w first.turns b))
           (goes_on Begun two.broken (visits (after_turns w first.turns) b) two.steps mid.state mid.live (visits w first.turns) earlier here.state here.live one.steps
-          (one.reaches earlier len) (two.goes_on (earlier ++ visits w first.turns) (len_on w earlier len)));
-      printed = λ items_line. subst (λ (l : List ℕ). TakesUpTo stopped old.taken new.taken l) (sym (text_append items_line w first.turns b))
-          (up_to_on stopped (text items_line w first.turns) (text items_line (after_turns w first.turns) b) old.taken between.taken new.taken (one.printed items_line) (two.printed items_line));
+          (one.reaches earlier behind) (two.goes_on (earlier ++ visits w first.turns) (one.behind earlier behind)));
+      printed = subst (λ (l : List ℕ). TakesUpTo stopped old.taken new.taken l) (sym (text_append items_line w first.turns b))
+          (up_to_on stopped (text items_line w first.turns) (text items_line (after_turns w first.turns) b) old.taken between.taken new.taken one.printed two.printed);
       told = subst (λ (vs : List Visit). AreTold Begun vs old.told new.told) (sym (visits_append w first.turns b))
           (told_to (visits w first.turns) (visits (after_turns w first.turns) b) old.told between.told new.told one.told two.told);
       faults = failed_steps one.steps + two.faults;

@@ -1,4 +1,5 @@
 pub mod Askable
+pub mod Behind
 pub mod Breaking
 pub mod Called
 pub mod Counting
@@ -13,7 +14,7 @@ pub mod Making
 pub mod Named
 pub mod Ordering
 pub mod Outing
-pub mod Plain
+pub mod Printing
 pub mod Reached
 pub mod Seated
 pub mod Sharing

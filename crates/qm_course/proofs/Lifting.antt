@@ -15,6 +15,7 @@ use Rattle.qm_history.specs.Text.{text}
 use Rattle.qm_history.specs.World.{is_live}
 use Rattle.qm_history.proofs.EventLemmas.{turns_append}
 use Rattle.qm_history.proofs.HistoryLemmas.{text_append}
+use Rattle.qm_sjc.specs.Printed.{items_line}
 use Rattle.qm_course.specs.Runs.{AllDown, AllGo, AllStop, AllWait, AreLive, NodeGoes, NodeStops, Side, Site, served_after}
 use Rattle.qm_course.specs.Seats.{HeldSeat, standing_of}
 use Rattle.qm_course.specs.Serving.{LeavesNone, Meaning}
@@ -103,7 +104,7 @@ module _ {S Y : Type 0} (m : Meaning S) (y : symb.Meaning Y) (May : Why → Type
             (subst (λ (s : Side Y). NodeGoes m y w k (standing_of here) (standing_of there) g.turns s now) (sym (some_same (slice_get sides k) (side_at old) was side_k before_k))
             (subst (λ (s : Side Y). NodeGoes m y w k (standing_of here) (standing_of there) g.turns (side_at old) s)
             (sym (some_same (slice_get sides_then k) (side_at new) now (get_set_same sides k (side_at old) (side_at new) side_k) after_k))
-            (own_goes m y May w k (standing_of here) (standing_of there) g.turns old new g.of_node g.count a)))))
+            (own_goes m y May w k (standing_of here) (standing_of there) g.turns old new g.of_node a)))))
         node_by node here' there' was now (inr differs) from to before after =
             let to_same = some_same (slice_get seats node) here' there' from (sym (get_set_other seats k node there differs) ∙ to) in
             let after_same = some_same (slice_get sides node) was now before (sym (get_set_other sides k node (side_at new) differs) ∙ after) in
@@ -198,8 +199,8 @@ module _ {S Y : Type 0} (m : Meaning S) (y : symb.Meaning Y) (before between : S
           made = made_on m y w first.turns second.turns old.value mid.value new.value one.made two.made;
           stands = subst (λ (v : World). m.stands v new.value) (sym (turns_append w first.turns second.turns)) two.stands;
           order = order_append w before first.turns second.turns one.order (subst (λ (s : Served). AreInOrder (after_turns w first.turns) s second.turns) (sym first.so_far) two.order);
-          printed = λ items_line. subst (λ (l : List ℕ). Appends old.taken new.taken l) (sym (text_append items_line w first.turns second.turns))
-              (appends_on (text items_line w first.turns) (text items_line (after_turns w first.turns) second.turns) old.taken mid.taken new.taken (one.printed items_line) (two.printed items_line));
+          printed = subst (λ (l : List ℕ). Appends old.taken new.taken l) (sym (text_append items_line w first.turns second.turns))
+              (appends_on (text items_line w first.turns) (text items_line (after_turns w first.turns) second.turns) old.taken mid.taken new.taken one.printed two.printed);
           live = λ node seat is. two.live node seat is ∙ ap (λ (v : World). is_live v node) (sym (turns_append w first.turns second.turns));
           down = two.down;
           nodes = λ node here there was now from to before after.
@@ -226,8 +227,8 @@ module _ {S Y : Type 0} (m : Meaning S) (y : symb.Meaning Y) (before between : S
           made = made_on m y w first.turns second.turns old.value mid.value two.next one.made two.made;
           last = subst (λ (v : World). LeavesNone m v two.next new.value) (sym (turns_append w first.turns second.turns)) two.last;
           order = order_append w before first.turns second.turns one.order (subst (λ (s : Served). AreInOrder (after_turns w first.turns) s second.turns) (sym first.so_far) two.order);
-          printed = λ items_line. subst (λ (l : List ℕ). TakesUpTo stopped old.taken new.taken l) (sym (text_append items_line w first.turns second.turns))
-              (up_to_on stopped (text items_line w first.turns) (text items_line (after_turns w first.turns) second.turns) old.taken mid.taken new.taken (one.printed items_line) (two.printed items_line));
+          printed = subst (λ (l : List ℕ). TakesUpTo stopped old.taken new.taken l) (sym (text_append items_line w first.turns second.turns))
+              (up_to_on stopped (text items_line w first.turns) (text items_line (after_turns w first.turns) second.turns) old.taken mid.taken new.taken one.printed two.printed);
           nodes = λ node here was now from before after.
               let seat = some_there old.seats mid.seats node here from first.seats in
               let side = some_there old.sides mid.sides node was before first.sides in

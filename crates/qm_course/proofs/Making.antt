@@ -6,7 +6,6 @@ use Rattle.std.specs.Io.KnownBytes.{Appends}
 use Rattle.std.proofs.lemmas.List.{append-nil}
 use Rattle.std.proofs.lemmas.Option.{slice_get-map}
 use Rattle.qm_faults.specs.Faults.{Tells}
-use Rattle.qm_kinds.specs.declared.query.Row.{Row}
 use Rattle.qm_kinds.specs.declared.system.Node.{Node}
 use Rattle.qm_model.specs.Standing.{node_at}
 use Rattle.qm_record.specs.Spelling.{HasSpelling}
@@ -16,36 +15,39 @@ use Rattle.qm_history.specs.declared.call.Answer.TheVariants as answer
 use Rattle.qm_history.specs.declared.call.Call.{Call}
 use Rattle.qm_history.specs.declared.call.Call.TheVariants as call
 use Rattle.qm_history.specs.declared.turn.Turn.{Turn}
-use Rattle.qm_history.specs.declared.turn.Why.{Why}
 use Rattle.qm_history.specs.declared.world.World.{World}
 use Rattle.qm_history.specs.Answering.{MayAnswer}
 use Rattle.qm_history.specs.Answers.{answer_of}
-use Rattle.qm_history.specs.Calls.{input_of, why_of}
+use Rattle.qm_history.specs.Calls.{why_of}
 use Rattle.qm_history.specs.Chest.{IsMadeFor, LeavesTurn, hides_events}
 use Rattle.qm_history.specs.Course.{Over, next_at}
 use Rattle.qm_history.specs.Faults.{faults_told, is_journal, tells_disk_fault}
 use Rattle.qm_history.specs.Legal.{after_turn}
 use Rattle.qm_history.specs.Reaching.{Reaches}
-use Rattle.qm_history.specs.Text.{answer_text, text, visit_text}
+use Rattle.qm_history.specs.Scans.{Scans}
+use Rattle.qm_history.specs.Text.{behind as lines_behind, prefix_of, text, turn_lines, visit_text}
 use Rattle.qm_history.specs.Turn.{IsTurnOf}
 use Rattle.qm_history.specs.Visits.{Visit}
 use Rattle.qm_history.specs.World.{is_live, system_in}
-use Rattle.qm_history.proofs.TextLemmas.{visit_told}
 use Rattle.qm_living.specs.Living.{bearing_of, live_behind}
 use Rattle.qm_living.proofs.Lives.{answer_tells, others_whole, who_left}
+use Rattle.qm_scans.specs.Behind.{behind_answer, step_of}
+use Rattle.qm_scans.proofs.Tells.{turn_tells}
+use Rattle.qm_sjc.specs.Printed.{items_line}
 use Rattle.qm_node.specs.Node.{HeldNode, Hears, IsCallOf, IsTurn}
 use Rattle.qm_node.specs.declared.course.Asked.{Asked}
 use Rattle.qm_node.specs.declared.course.Next.{Next}
 use Rattle.qm_node.specs.declared.course.Next.TheVariants as next
-use Rattle.qm_course.specs.Answered.{IsAnsweredBy, TakesIn, stop_of}
-use Rattle.qm_course.specs.Asking.{IsAskable, built_call, read_built}
+use Rattle.qm_course.specs.Answered.{IsAnsweredBy, TakesIn, printed_of, stop_of}
+use Rattle.qm_course.specs.Asking.{built_call, read_built}
 use Rattle.qm_course.specs.Seats.{HeldSeat, standing_of}
 use Rattle.qm_course.specs.Serving.{Meaning, Serves, ServesAt, TellsDisk}
 use Rattle.qm_course.specs.Standing.{Outside}
 use Rattle.qm_course.specs.Taken.{RoseBy}
 use Rattle.qm_course.specs.Turning.{Goes, GoesAt, why_next}
 use Rattle.qm_course.proofs.Called.{called_state, over_leaves}
-use Rattle.qm_course.proofs.Plain.{turn_plain}
+use Rattle.qm_course.proofs.Behind.{behind_one}
+use Rattle.qm_course.proofs.Printing.{lines_printed}
 use Rattle.qm_course.proofs.Stepping.{made_next}
 
 -- an answer behind which serving goes on is what the events say
@@ -104,35 +106,33 @@ failed_once t told old new same h =
     subst (λ (n : ℕ). RoseBy n old new) (sym (told_once t (tells_disk_fault t.events) refl)) (once (tells_disk_fault t.events) old new (subst (λ (b : Bool). Tells old new (b ≡ true)) same h))
 
 -- why the call of what comes next is made
-pub why_comes : {Y : Type 0} (y : symb.Meaning Y) (comes : Next) (n : HeldNode) (a : Asked) (called : HeldNode) (was now : Y) → IsCallOf y comes n.state a called was now → why_of (built_call a.call) ≡ why_next comes
-why_comes y (next.Line line) n a called was now h = ap (λ (c : Call). why_of (built_call c)) h.0
-why_comes y (next.Step run) n a called was now h = ap (λ (c : Call). why_of (built_call c)) h.1
-why_comes y next.Fetch n a called was now h = ap (λ (c : Call). why_of (built_call c)) h.0
-why_comes y next.Leave n a called was now h = ap (λ (c : Call). why_of (built_call c)) h.0
+pub why_comes : {Y : Type 0} (y : symb.Meaning Y) (begun : Scans) (comes : Next) (n : HeldNode) (a : Asked) (called : HeldNode) (was now : Y) → IsCallOf y begun comes n.state a called was now → why_of (built_call a.call) ≡ why_next comes
+why_comes y begun (next.Line line) n a called was now h = ap (λ (c : Call). why_of (built_call c)) h.0
+why_comes y begun (next.Step run) n a called was now h = ap (λ (c : Call). why_of (built_call c)) h.1
+why_comes y begun next.Fetch n a called was now h = ap (λ (c : Call). why_of (built_call c)) h.0
+why_comes y begun next.Leave n a called was now h = ap (λ (c : Call). why_of (built_call c)) h.0
 
 -- ---- what is printed of a turn
 
 module _ {S : Type 0} (m : Meaning S) (node : ℕ) (comes : Next) (here : HeldSeat) (a : Asked) (old : S) (t : Turn) (told : Answer) (made : IsMadeFor node a.moment (built_call a.call) (Some t))
-    (name : slice_get (m.nodes old) node ≡ Some here.name) (can : IsAskable (input_of (built_call a.call)))
+    (name : slice_get (m.nodes old) node ≡ Some here.name)
   where
     name_is : (w : World) → map (λ (n : Node). n.name) (system_in w).nodes ≡ m.nodes old → node_at t.node (system_in w).nodes ≡ here.name
     name_is w are = ap (λ (k : ℕ). node_at k (system_in w).nodes) made.0 ∙ name_there (system_in w).nodes (m.nodes old) node here.name are name
 
-    pub answer_printed : (w : World) → IsTurnOf HasSpelling w (built_call a.call) t → told ≡ answer_of w t → map (λ (n : Node). n.name) (system_in w).nodes ≡ m.nodes old → (items_line : Row → List ℕ)
-        → text items_line w (t ∷ []) ≡ answer_text here.name (why_of (built_call a.call)) told
-    answer_printed w turn is are items_line =
+    pub answer_printed : (w : World) → IsTurnOf HasSpelling w (built_call a.call) t → told ≡ answer_of w t → map (λ (n : Node). n.name) (system_in w).nodes ≡ m.nodes old
+        → text items_line w (t ∷ []) ≡ printed_of here.name (built_call a.call) told
+    answer_printed w turn is are =
         append-nil (visit_text items_line (record { before = w; turn = t }))
-        ∙ visit_told items_line (record { before = w; turn = t }) (turn_plain w (built_call a.call) t can turn)
-        ∙ ap (λ (n : List ℕ). answer_text n t.why (answer_of w t)) (name_is w are)
-        ∙ ap (λ (b : Why). answer_text here.name b (answer_of w t)) made.2
-        ∙ ap (λ (r : Answer). answer_text here.name (why_of (built_call a.call)) r) (sym is)
+        ∙ ap (λ (n : List ℕ). lines_behind (prefix_of n t.why) (turn_lines items_line w t)) (name_is w are)
+        ∙ lines_printed w (built_call a.call) t turn here.name told made.2 is
 
 -- ---- a turn that was answered
 
 module _ {S Y : Type 0} (m : Meaning S) (y : symb.Meaning Y) (node : ℕ) (comes : Next) (here there : HeldSeat) (called : HeldNode) (a : Asked) (was now : Y) (old new : S)
     (taken then before after : Option (List ℕ))
-    (is_next : IsTurn (next_at here.live here.node.state here.node.state.stage) (Some comes)) (by : IsCallOf y comes here.node.state a called was now)
-    (clock : Appends before after (a.moment ∷ [])) (name : slice_get (m.nodes old) node ≡ Some here.name) (can : IsAskable (input_of (built_call a.call)))
+    (is_next : IsTurn (next_at here.live here.node.state here.node.state.stage) (Some comes)) (by : IsCallOf y here.begun comes here.node.state a called was now)
+    (clock : Appends before after (a.moment ∷ [])) (name : slice_get (m.nodes old) node ≡ Some here.name)
   where
     abbrev asked : Call
     asked = built_call a.call
@@ -153,44 +153,46 @@ module _ {S Y : Type 0} (m : Meaning S) (y : symb.Meaning Y) (node : ℕ) (comes
           ∙ ap (is_live (after_turn w t)) made.0
 
       asked_leave : comes ≡ next.Leave → asked ≡ call.Leave
-      asked_leave is = ap built_call (subst (λ (x : Next). IsCallOf y x here.node.state a called was now) is by).0
+      asked_leave is = ap built_call (subst (λ (x : Next). IsCallOf y here.begun x here.node.state a called was now) is by).0
 
       down_is : (w : World) → IsTurnOf HasSpelling w asked t → there.live ≡ is_live (after_turn w t) node → there.node.state.stage ≡ Over → there.live ≡ false
       down_is w turn live over =
           live ∙ ap (is_live (after_turn w t)) (sym made.0)
           ∙ who_left HasSpelling w t (subst (λ (c : Call). IsTurnOf HasSpelling w c t)
-          (asked_leave (over_leaves here.count here.live here.node.state called there.node told comes (called_state y here.node.state a called was now comes by) is_next takes.heard over)) turn)
+          (asked_leave (over_leaves here.count here.live here.node.state called there.node told comes (called_state y here.begun here.node.state a called was now comes by) is_next takes.heard over)) turn)
 
-      goes_at : (w : World) → ServesAt m w asked old new (Some t) told → Appends taken then (answer_text here.name (why_of asked) told) → here.live ≡ is_live w node
+      goes_at : (w : World) → ServesAt m w asked old new (Some t) told → Appends taken then (printed_of here.name asked told) → here.live ≡ is_live w node
           → GoesAt m y w node (standing_of here) (standing_of there) (t ∷ []) from to
       goes_at w s printed live =
           let served = says w asked t told goes_on s.answers in
           let v : Visit = record { before = w; turn = t } in
-          let turn = made_next y here.node.state here.live here.count a called there.node was now v told served.0 made.1 served.1 comes
+          let turn = made_next y here.node.state here.live here.count here.begun a called there.node was now v told served.0 made.1 served.1 comes
           (next_at here.live here.node.state here.node.state.stage) refl is_next by takes.heard in
           record {
             made = (asked, told, new, s.answers, s.does, refl);
             stands = s.stands;
             steps = turn.steps;
-            reaches = λ earlier len. subst (λ (b : Bool). Reaches HasSpelling read_built here.node.state earlier here.live (v ∷ []) turn.steps there.node.state b)
-                (ap (is_live (after_turn w t)) made.0 ∙ sym (live_is w s served.0 served.1 live)) (turn.leads earlier len);
+            reaches = λ earlier before_it. subst (λ (b : Bool). Reaches HasSpelling read_built here.node.state earlier here.live (v ∷ []) turn.steps there.node.state b)
+                (ap (is_live (after_turn w t)) made.0 ∙ sym (live_is w s served.0 served.1 live)) (turn.leads earlier before_it);
+            behind = λ earlier before_it. behind_one earlier v (standing_of here) (standing_of there) before_it takes.count
+                (takes.begun ∙ ap (behind_answer here.begun (step_of asked)) served.1 ∙ sym ((turn_tells HasSpelling w asked t served.0).scans here.begun));
             live = live_is w s served.0 served.1 live;
             others = λ other differs. others_whole HasSpelling w asked t other s.sound (λ same. differs (same ∙ made.0)) served.0;
             down = λ was_down. down_is w served.0 (live_is w s served.0 served.1 live);
             overs = λ over. (over, tt);
-            printed = λ items_line. subst (λ (l : List ℕ). Appends taken then l) (sym (answer_printed m node comes here a old t told made name can w served.0 served.1 s.names items_line)) printed;
+            printed = subst (λ (l : List ℕ). Appends taken then l) (sym (answer_printed m node comes here a old t told made name w served.0 served.1 s.names)) printed;
             told = record { told = a.moment ∷ []; appended = clock; are = ap (λ (x : ℕ). x ∷ []) (sym made.1) };
             rose = turn.rose;
             taken = turn.taken;
           }
 
-      goes_by : (sv : Serves m node a.moment asked old new told) → sv.turn ≡ Some t → Appends taken then (answer_text here.name (why_of asked) told)
+      goes_by : (sv : Serves m node a.moment asked old new told) → sv.turn ≡ Some t → Appends taken then (printed_of here.name asked told)
           → Goes m y (λ why. why ≡ why_next comes) node (standing_of here) (standing_of there) from to
       goes_by sv is printed =
           record {
             turns = t ∷ [];
             kept = sv.turns ∙ ap (λ (o : Option Turn). m.turns old ++ option_to_list o) is;
-            of_node = ((made.0, made.2 ∙ why_comes y comes here.node a called was now by), tt);
+            of_node = ((made.0, made.2 ∙ why_comes y here.begun comes here.node a called was now by), tt);
             few = sv.few;
             count = takes.count;
             nodes = sv.nodes;
@@ -200,7 +202,7 @@ module _ {S Y : Type 0} (m : Meaning S) (y : symb.Meaning Y) (node : ℕ) (comes
           }
 
     goes_at_turn : (turn : Option Turn) (told : Answer) (sv : Serves m node a.moment asked old new told) → sv.turn ≡ turn → stop_of told ≡ None → TakesIn comes asked told (record here { node = called }) there
-        → Appends taken then (answer_text here.name (why_of asked) told) → Goes m y (λ why. why ≡ why_next comes) node (standing_of here) (standing_of there) from to
+        → Appends taken then (printed_of here.name asked told) → Goes m y (λ why. why ≡ why_next comes) node (standing_of here) (standing_of there) from to
     goes_at_turn None told sv is goes_on takes printed = absurd (none_left (m.turns old) told goes_on (subst (λ (o : Option Turn). LeavesTurn (m.turns old) o told) is sv.leaves))
     goes_at_turn (Some t) told sv is goes_on takes printed = goes_by t told goes_on (subst (λ (o : Option Turn). IsMadeFor node a.moment asked o) is sv.made) takes sv is printed
 

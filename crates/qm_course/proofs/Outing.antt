@@ -18,6 +18,7 @@ use Rattle.qm_course.specs.Standing.{Outside}
 use Rattle.qm_course.specs.Turning.{IsOwnWhy}
 use Rattle.qm_course.specs.declared.seat.Station.{Station}
 use Rattle.qm_course.specs.declared.turn.TurnEnd.{TurnEnd}
+use Rattle.qm_course.proofs.Behind.{behind_none}
 use Rattle.qm_course.proofs.Counting.{appends_none}
 use Rattle.qm_course.proofs.Going.{goes_may, stops_may}
 use Rattle.qm_course.proofs.Sitting.{cluster_set, map_get, map_set, reading_waits}
@@ -168,7 +169,7 @@ all_none m y before site serves few = record {
     made = refl;
     stands = stands;
     order = tt;
-    printed = λ items_line. appends_none site.taken;
+    printed = appends_none site.taken;
     live = live;
     down = down;
     nodes = λ node here there was now from to before after.
@@ -176,9 +177,9 @@ all_none m y before site serves few = record {
         (subst (λ s. NodeGoes m y w node (standing_of here) (standing_of here) [] was s) (some_same (slice_get site.sides node) now was after before)
         (record {
           steps = [];
-          reaches = λ earlier len. (refl, refl, refl);
+          reaches = λ earlier behind. (refl, refl, refl);
+          behind = λ earlier behind. behind_none earlier (standing_of here) behind;
           live = λ live. live;
-          count = omega arith;
           down = λ was_down. was_down;
           told = record { told = []; appended = appends_none was.told; are = refl };
           rose = refl;

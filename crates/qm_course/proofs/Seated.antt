@@ -11,14 +11,16 @@ use Rattle.qm_kinds.specs.declared.limits.TheConstants.{NODES_LIMIT}
 use Rattle.qm_history.specs.declared.world.World.{World}
 use Rattle.qm_history.specs.Chest.{turns_kept}
 use Rattle.qm_history.specs.Course.{at_first}
+use Rattle.qm_history.specs.Scans.{no_scans}
 use Rattle.qm_history.specs.Script.{UserLine, lines_of}
 use Rattle.qm_history.specs.World.{is_live}
 use Rattle.qm_script.specs.ClusterLines.{user_line_view, user_lines_view}
 use Rattle.qm_script.specs.declared.lines.UserLine.{UserLine as CodeLine}
 use Rattle.qm_course.specs.Fresh.{AreSeated, each_lines, own_view}
 use Rattle.qm_course.specs.Runs.{AreLive, IsCluster, names_of}
-use Rattle.qm_course.specs.Seats.{HeldSeat}
+use Rattle.qm_course.specs.Seats.{HeldSeat, standing_of}
 use Rattle.qm_course.specs.Serving.{Meaning}
+use Rattle.qm_course.specs.Standing.{IsBehind}
 use Rattle.qm_course.proofs.Lifting.{some_same}
 use Rattle.qm_course.proofs.Sitting.{name_at}
 
@@ -78,7 +80,7 @@ own_at own script names k one name is mine named =
 -- ---- seats in front of them
 
 abbrev pub fresh_seat : List ℕ → List UserLine → HeldSeat
-fresh_seat name lines = record { name = name; node = record { state = at_first lines; made = None }; live = true; count = 0 }
+fresh_seat name lines = record { name = name; node = record { state = at_first lines; made = None }; live = true; count = 0; begun = no_scans }
 
 abbrev pub front_seat : List UserLine → List ℕ → HeldSeat
 front_seat script name = fresh_seat name (lines_of name script)
@@ -110,7 +112,7 @@ front_seated script names = record {
   named = front_names script names;
   fresh = λ node seat is.
       let e = (front_at script names node seat is).1 in
-      (subst (λ (s : HeldSeat). s.node.state ≡ at_first (lines_of s.name script)) (sym e) refl, ap (λ (s : HeldSeat). s.count) e);
+      (subst (λ (s : HeldSeat). s.node.state ≡ at_first (lines_of s.name script)) (sym e) refl, subst (λ (s : HeldSeat). IsBehind [] (standing_of s)) (sym e) (record { count = refl; begun = refl }));
   live = λ node seat is. ap (λ (s : HeldSeat). s.live) (front_at script names node seat is).1;
   ready = λ node seat is. ap (λ (s : HeldSeat). s.node.made) (front_at script names node seat is).1;
 }
@@ -143,7 +145,7 @@ module _ (script : List UserLine) (names : List (List ℕ)) (seats : List HeldSe
       serves = serves;
       there = ap (λ (ns : List (List ℕ)). slice_get ns node) (nodes ∙ sym seated.named) ∙ name_at seats node seat is;
       ready = seated.ready node seat is;
-      own = subst (λ (n : ℕ). n ≤ length (m.turns value)) (sym (seated.fresh node seat is).1) (omega arith);
+      own = subst (λ (n : ℕ). n ≤ length (m.turns value)) (seated.fresh node seat is).1.count (omega arith);
       few = few;
     };
     distinct = subst (λ (ns : List (List ℕ)). (i j : ℕ) (name : List ℕ) → slice_get ns i ≡ Some name → slice_get ns j ≡ Some name → i ≡ j) (sym seated.named) distinct;

@@ -1,5 +1,5 @@
 -- Turns of one node among those of others.
-use Rattle.std.proofs.Common.{◌≡◌, ◌≢◌, ◌+◌, ℕ, Bool, true, false, cond, List, [], ◌∷◌, ◌++◌, length, refl, sym, ◌∙◌, ap, subst, None, Some, add-zero, add_assoc, arith}
+use Rattle.std.proofs.Common.{◌≡◌, ◌≢◌, ◌+◌, ℕ, Bool, true, false, cond, List, [], ◌∷◌, ◌++◌, refl, sym, ◌∙◌, ap, subst, None, Some, arith}
 use Rattle.std.specs.Prelude.{◌==◌}
 use Rattle.std.proofs.lemmas.Bool.Decides.{nat_tests}
 use Rattle.qm_record.specs.Spelling.{HasSpelling}
@@ -18,12 +18,13 @@ use Rattle.qm_history.proofs.HistoryLemmas.{visits_of_append}
 use Rattle.qm_course.specs.Asking.{read_built}
 use Rattle.qm_course.specs.Runs.{NodeGoes, NodeStops, Side}
 use Rattle.qm_course.specs.Serving.{Meaning}
-use Rattle.qm_course.specs.Standing.{Outside, Standing}
+use Rattle.qm_course.specs.Standing.{IsBehind, Outside, Standing}
 use Rattle.qm_course.specs.Taken.{AreTold}
 use Rattle.qm_course.specs.Turning.{AreOf, GoesAt, StopsAt}
 use Rattle.qm_course.specs.declared.turn.TurnEnd.{TurnEnd}
+use Rattle.qm_course.proofs.Behind.{behind_none, behind_on}
 use Rattle.qm_course.proofs.Counting.{appends_none, rose_on}
-use Rattle.qm_course.proofs.Joining.{failed_append, few_on, length_append, rises_on, taken_on, told_on, told_to, visits_length}
+use Rattle.qm_course.proofs.Joining.{failed_append, few_on, rises_on, taken_on, told_on, told_to}
 use Rattle.qm_course.proofs.Reached.{goes_on, reaches_on}
 use Rattle.qm_course.proofs.Stepping.{none_taken}
 
@@ -61,24 +62,20 @@ last_append (t ∷ u ∷ a) b node is = last_append (u ∷ a) b node is
 
 -- ---- what a node does
 
-pub len_then : (w : World) (node : ℕ) (here mid : Standing) (a : List Turn) (earlier : List Visit) → length earlier ≡ here.count → mid.count ≡ here.count + length (visits_of node w a)
-    → length (earlier ++ visits_of node w a) ≡ mid.count
-len_then w node here mid a earlier len count = length_append earlier (visits_of node w a) ∙ ap (λ (k : ℕ). k + length (visits_of node w a)) len ∙ sym count
-
 abbrev pub side : {S Y : Type 0} → Outside S Y → Side Y
 side o = record { told = o.told; symbiont = o.symbiont }
 
 module _ {S Y : Type 0} (m : Meaning S) (y : symb.Meaning Y) where
   -- its own turns
-  pub own_goes : (May : Why → Type 0) (w : World) (node : ℕ) (here there : Standing) (turns : List Turn) (old new : Outside S Y) → AreOf node May turns → there.count ≡ here.count + length turns
+  pub own_goes : (May : Why → Type 0) (w : World) (node : ℕ) (here there : Standing) (turns : List Turn) (old new : Outside S Y) → AreOf node May turns
       → GoesAt m y w node here there turns old new → NodeGoes m y w node here there turns (side old) (side new)
-  own_goes May w node here there turns old new of count g =
+  own_goes May w node here there turns old new of g =
       let vs = all_of w node May turns of in
       record {
         steps = g.steps;
-        reaches = λ earlier len. subst (λ (l : List Visit). Reaches HasSpelling read_built here.state earlier here.live l g.steps there.state there.live) (sym vs) (g.reaches earlier len);
+        reaches = λ earlier behind. subst (λ (l : List Visit). Reaches HasSpelling read_built here.state earlier here.live l g.steps there.state there.live) (sym vs) (g.reaches earlier behind);
+        behind = λ earlier behind. subst (λ (l : List Visit). IsBehind (earlier ++ l) there) (sym vs) (g.behind earlier behind);
         live = λ live. g.live;
-        count = count ∙ ap (λ (k : ℕ). here.count + k) (sym (visits_length w turns) ∙ ap length (sym vs));
         down = g.down;
         told = subst (λ (l : List Visit). AreTold Whole l old.told new.told) (sym vs) g.told;
         rose = g.rose;
@@ -92,9 +89,9 @@ module _ {S Y : Type 0} (m : Meaning S) (y : symb.Meaning Y) where
       let vs = none_of_them w node other May turns of differs in
       record {
         steps = [];
-        reaches = λ earlier len. subst (λ (l : List Visit). Reaches HasSpelling read_built here.state earlier here.live l [] here.state here.live) (sym vs) (refl, refl, refl);
+        reaches = λ earlier behind. subst (λ (l : List Visit). Reaches HasSpelling read_built here.state earlier here.live l [] here.state here.live) (sym vs) (refl, refl, refl);
+        behind = λ earlier behind. subst (λ (l : List Visit). IsBehind (earlier ++ l) here) (sym vs) (behind_none earlier here behind);
         live = λ live. live ∙ sym stays;
-        count = sym (add-zero here.count) ∙ ap (λ (l : List Visit). here.count + length l) (sym vs);
         down = λ was_down. was_down;
         told = subst (λ (l : List Visit). AreTold Whole l was.told was.told) (sym vs) (record { told = []; appended = appends_none was.told; are = refl });
         rose = refl;
@@ -108,13 +105,12 @@ module _ {S Y : Type 0} (m : Meaning S) (y : symb.Meaning Y) where
       let vs = visits_of_append node w a b in
       record {
         steps = one.steps ++ two.steps;
-        reaches = λ earlier len. subst (λ (l : List Visit). Reaches HasSpelling read_built here.state earlier here.live l (one.steps ++ two.steps) there.state there.live) (sym vs)
+        reaches = λ earlier behind. subst (λ (l : List Visit). Reaches HasSpelling read_built here.state earlier here.live l (one.steps ++ two.steps) there.state there.live) (sym vs)
             (reaches_on (visits_of node (after_turns w a) b) two.steps mid.state there.state mid.live there.live (visits_of node w a) earlier here.state here.live one.steps
-            (one.reaches earlier len) (two.reaches (earlier ++ visits_of node w a) (len_then w node here mid a earlier len one.count)));
+            (one.reaches earlier behind) (two.reaches (earlier ++ visits_of node w a) (one.behind earlier behind)));
+        behind = λ earlier behind. subst (λ (l : List Visit). IsBehind (earlier ++ l) there) (sym vs)
+            (behind_on earlier (visits_of node w a) (visits_of node (after_turns w a) b) there (two.behind (earlier ++ visits_of node w a) (one.behind earlier behind)));
         live = λ live. two.live (one.live live) ∙ ap (λ (v : World). is_live v node) (sym (turns_append w a b));
-        count = two.count ∙ ap (λ (k : ℕ). k + length (visits_of node (after_turns w a) b)) one.count
-            ∙ add_assoc here.count (length (visits_of node w a)) (length (visits_of node (after_turns w a) b))
-            ∙ ap (λ (k : ℕ). here.count + k) (sym (length_append (visits_of node w a) (visits_of node (after_turns w a) b)) ∙ ap length (sym vs));
         down = λ was_down. two.down (one.down was_down);
         told = subst (λ (l : List Visit). AreTold Whole l was.told now.told) (sym vs)
             (told_on (visits_of node w a) (visits_of node (after_turns w a) b) was.told between.told now.told one.told two.told);
@@ -130,31 +126,31 @@ module _ {S Y : Type 0} (m : Meaning S) (y : symb.Meaning Y) where
       record {
         steps = one.steps ++ two.steps;
         broken = two.broken;
-        goes_on = λ earlier len. subst (λ (l : List Visit). GoesOn HasSpelling read_built Begun two.broken here.state earlier here.live l (one.steps ++ two.steps)) (sym vs)
+        goes_on = λ earlier behind. subst (λ (l : List Visit). GoesOn HasSpelling read_built Begun two.broken here.state earlier here.live l (one.steps ++ two.steps)) (sym vs)
             (goes_on Begun two.broken (visits_of node (after_turns w a) b) two.steps mid.state mid.live (visits_of node w a) earlier here.state here.live one.steps
-            (one.reaches earlier len) (two.goes_on (earlier ++ visits_of node w a) (len_then w node here mid a earlier len one.count)));
+            (one.reaches earlier behind) (two.goes_on (earlier ++ visits_of node w a) (one.behind earlier behind)));
         told = subst (λ (l : List Visit). AreTold Begun l was.told now.told) (sym vs)
             (told_to (visits_of node w a) (visits_of node (after_turns w a) b) was.told between.told now.told one.told two.told);
         faults = failed_steps one.steps + two.faults;
         rose = rose_on (failed_steps one.steps) two.faults (y.faults was.symbiont) (y.faults between.symbiont) (y.faults now.symbiont) one.rose two.rose;
         few_faults = few_on (failed_steps one.steps) (failed_steps two.steps) two.faults (failed_steps (one.steps ++ two.steps)) (failed_append one.steps two.steps) two.few_faults;
         taken = taken_on y one.steps two.steps two.broken was.symbiont between.symbiont now.symbiont one.taken two.taken;
-        waits = λ isnt earlier len.
-            let waiting = two.waits (λ is. isnt (last_append a b node is)) (earlier ++ visits_of node w a) (len_then w node here mid a earlier len one.count) in (
+        waits = λ isnt earlier behind.
+            let waiting = two.waits (λ is. isnt (last_append a b node is)) (earlier ++ visits_of node w a) (one.behind earlier behind) in (
               waiting.0,
               waiting.1,
               subst (λ (l : List Visit). Reaches HasSpelling read_built here.state earlier here.live l (one.steps ++ two.steps) waiting.0 waiting.1) (sym vs)
                   (reaches_on (visits_of node (after_turns w a) b) two.steps mid.state waiting.0 mid.live waiting.1 (visits_of node w a) earlier here.state here.live one.steps
-                  (one.reaches earlier len) waiting.2),
+                  (one.reaches earlier behind) waiting.2),
               waiting.3,
             );
       }
 
   own_waits : (May : Why → Type 0) (w : World) (node : ℕ) (here : Standing) (turns : List Turn) (old new : Outside S Y) (stopped : TurnEnd) → AreOf node May turns
-      → IsWaiting here.state.stage (next_at here.live here.state here.state.stage) → (g : StopsAt m y w node here turns old new stopped) → last_node turns ≢ Some node → (earlier : List Visit) → length earlier ≡ here.count
+      → IsWaiting here.state.stage (next_at here.live here.state here.state.stage) → (g : StopsAt m y w node here turns old new stopped) → last_node turns ≢ Some node → (earlier : List Visit) → IsBehind earlier here
       → (then : NodeState) × (then_live : Bool) × Reaches HasSpelling read_built here.state earlier here.live (visits_of node w turns) g.steps then then_live × IsWaiting then.stage (next_at then_live then then.stage)
-  own_waits May w node here [] old new stopped of waits g isnt earlier len = (here.state, here.live, ((g.goes_on earlier len).1, refl, refl), waits)
-  own_waits May w node here (t ∷ turns) old new stopped of waits g isnt earlier len = absurd (isnt (last_of node May t turns of))
+  own_waits May w node here [] old new stopped of waits g isnt earlier behind = (here.state, here.live, ((g.goes_on earlier behind).1, refl, refl), waits)
+  own_waits May w node here (t ∷ turns) old new stopped of waits g isnt earlier behind = absurd (isnt (last_of node May t turns of))
 
   -- a node that stopped, whose turn was the last one, or that waits
   pub own_stops : (May : Why → Type 0) (w : World) (node : ℕ) (here : Standing) (turns : List Turn) (old new : Outside S Y) (stopped : TurnEnd) → AreOf node May turns
@@ -164,7 +160,7 @@ module _ {S Y : Type 0} (m : Meaning S) (y : symb.Meaning Y) where
       record {
         steps = g.steps;
         broken = g.broken;
-        goes_on = λ earlier len. subst (λ (l : List Visit). GoesOn HasSpelling read_built Begun g.broken here.state earlier here.live l g.steps) (sym vs) (g.goes_on earlier len);
+        goes_on = λ earlier behind. subst (λ (l : List Visit). GoesOn HasSpelling read_built Begun g.broken here.state earlier here.live l g.steps) (sym vs) (g.goes_on earlier behind);
         told = subst (λ (l : List Visit). AreTold Begun l old.told new.told) (sym vs) g.told;
         faults = g.faults;
         rose = g.rose;
@@ -180,13 +176,13 @@ module _ {S Y : Type 0} (m : Meaning S) (y : symb.Meaning Y) where
       record {
         steps = [];
         broken = None;
-        goes_on = λ earlier len. subst (λ (l : List Visit). GoesOn HasSpelling read_built Begun None here.state earlier here.live l []) (sym vs) (tt, refl, tt);
+        goes_on = λ earlier behind. subst (λ (l : List Visit). GoesOn HasSpelling read_built Begun None here.state earlier here.live l []) (sym vs) (tt, refl, tt);
         told = subst (λ (l : List Visit). AreTold Begun l was.told was.told) (sym vs) (record { told = []; appended = appends_none was.told; are = ([], refl, omega arith) });
         faults = 0;
         rose = refl;
         few_faults = omega arith;
         taken = none_taken y was.symbiont;
-        waits = λ isnt earlier len. (
+        waits = λ isnt earlier behind. (
           here.state,
           here.live,
           subst (λ (l : List Visit). Reaches HasSpelling read_built here.state earlier here.live l [] here.state here.live) (sym vs) (refl, refl, refl),

@@ -13,6 +13,7 @@ use Rattle.qm_history.specs.declared.call.Call.TheVariants as call
 use Rattle.qm_history.specs.Blocks.{blocks_next}
 use Rattle.qm_history.specs.Course.{Whole, Follows, MadeStep, NextTurn, ALine, AStep, AFetch, ALeave, NodeState, Over, Reading, Fetching, Working, Leaving, Stage, answered, behind_fetch, behind_line, behind_step, call_of_line, failed_steps, is_live_behind, next_at, next_line, next_reading, next_working, own_stage}
 use Rattle.qm_history.specs.Reaching.{Reaches}
+use Rattle.qm_history.specs.Scans.{Scans}
 use Rattle.qm_history.specs.Script.{UserLine, steps_asked}
 use Rattle.qm_history.specs.Turn.{IsTurnOf}
 use Rattle.qm_history.specs.Visits.{Visit}
@@ -22,7 +23,9 @@ use Rattle.qm_node.specs.Steps.{Comes}
 use Rattle.qm_node.specs.declared.course.Asked.{Asked}
 use Rattle.qm_node.specs.declared.course.Next.{Next}
 use Rattle.qm_node.specs.declared.course.Next.TheVariants as next
-use Rattle.qm_course.specs.Asking.{built_call, read_built}
+use Rattle.qm_script.specs.Asked.{line_with}
+use Rattle.qm_course.specs.Asking.{built, built_call, read_built}
+use Rattle.qm_course.specs.Standing.{IsBehind, Standing}
 use Rattle.qm_course.specs.Taken.{AreTaken, Rises}
 
 -- ---- what comes next, and what is left behind it
@@ -105,16 +108,19 @@ module _ {Y : Type 0} (y : Meaning Y) where
 
 -- ---- the turn that comes next
 
-module _ {Y : Type 0} (y : Meaning Y) (n : NodeState) (live : Bool) (count : ℕ) (a : Asked) (called there : HeldNode) (was now : Y) (v : Visit) (told : Answer)
+module _ {Y : Type 0} (y : Meaning Y) (n : NodeState) (live : Bool) (count : ℕ) (begun : Scans) (a : Asked) (called there : HeldNode) (was now : Y) (v : Visit) (told : Answer)
     (served : IsTurnOf HasSpelling v.before (built_call a.call) v.turn) (moment : v.turn.moment ≡ a.moment) (told_is : told ≡ answered v)
   where
+    abbrev here : Standing
+    here = record { state = n; live = live; count = count; begun = begun }
+
     abbrev Leads : List MadeStep → List Visit → Type 0
     Leads steps earlier = Reaches HasSpelling read_built n earlier live (v ∷ []) steps there.state (is_live_behind v)
 
     -- the turn follows, with these steps, and the node is there
     pub record Made : Type 0 where
       pub steps : List MadeStep
-      pub leads : (earlier : List Visit) → length earlier ≡ count → Leads steps earlier
+      pub leads : (earlier : List Visit) → IsBehind earlier here → Leads steps earlier
       pub rose : Rises y (failed_steps steps) was now
       pub taken : AreTaken y steps None was now
       pub made : there.made ≡ None
@@ -176,15 +182,16 @@ module _ {Y : Type 0} (y : Meaning Y) (n : NodeState) (live : Bool) (count : ℕ
     run_found : (run : ℕ) (k : KeptRun) → slice_get n.kept.round 0 ≡ Some run → next_kept n.kept ≡ Some k → run_kept run n.kept.runs ≡ Some k
     run_found run k first is = sym (ap (λ (o : Option ℕ). option_and_then (λ (r : ℕ). run_kept r n.kept.runs) o) first) ∙ is
 
-    pub made_next : (comes : Next) (nt : NextTurn) → next_at live n n.stage ≡ nt → IsTurn nt (Some comes) → IsCallOf y comes n a called was now → Hears count comes called told there → Made
+    pub made_next : (comes : Next) (nt : NextTurn) → next_at live n n.stage ≡ nt → IsTurn nt (Some comes) → IsCallOf y begun comes n a called was now → Hears count comes called told there → Made
     made_next (next.Line line) (ALine l lines) is turn called_by heard = record {
       steps = [];
-      leads = λ earlier len. leads_by [] earlier (ALine l lines) is (
+      leads = λ earlier behind. leads_by [] earlier (ALine l lines) is (
         serves (call_of_line HasSpelling read_built n earlier l v.turn)
             (ap built_call called_by.0
+            ∙ ap (λ (s : Scans). call.Line line.now.number (built (line_with (user_line_view line.now) a.moment s (known n.kept)))) (sym behind.begun)
             ∙ ap (λ (x : UserLine). call.Line x.line.number (read_built x a.moment earlier (known n.kept))) (sym turn)
             ∙ ap (λ (m : ℕ). call.Line l.line.number (read_built l m earlier (known n.kept))) (sym moment)),
-        (refl, line_behind_it (next.Line line) l lines earlier (user_line_view line.now) turn (line_rest live n n.stage l lines is) called_by.1 len heard, refl),
+        (refl, line_behind_it (next.Line line) l lines earlier (user_line_view line.now) turn (line_rest live n n.stage l lines is) called_by.1 behind.count heard, refl),
       );
       rose = ap y.faults called_by.2;
       taken = subst (λ (o : Y). AreTaken y [] None was o) (sym called_by.2) (none_taken y was);
@@ -196,7 +203,7 @@ module _ {Y : Type 0} (y : Meaning Y) (n : NodeState) (live : Bool) (count : ℕ
         let step = called_by.2.2 in
         record {
           steps = record { run = k; end = step.end } ∷ [];
-          leads = λ earlier len. leads_by (record { run = k; end = step.end } ∷ []) earlier (AStep run others) is (
+          leads = λ earlier behind. leads_by (record { run = k; end = step.end } ∷ []) earlier (AStep run others) is (
             (run_found run k first.0 called_by.2.1, step.can_end),
             serves (call.Report run (report_told k step.end))
                 (ap built_call called_by.1 ∙ ap (λ (r : ℕ). call.Report r called_by.0) (sym turn) ∙ ap (λ (r : Report). call.Report run r) step.told_is),
@@ -208,14 +215,14 @@ module _ {Y : Type 0} (y : Meaning Y) (n : NodeState) (live : Bool) (count : ℕ
         }
     made_next next.Fetch AFetch is turn called_by heard = record {
       steps = [];
-      leads = λ earlier len. leads_by [] earlier AFetch is (serves (call.Fetch (known n.kept)) (ap built_call called_by.0), (refl, fetch_behind_it earlier called_by.1 len heard, refl));
+      leads = λ earlier behind. leads_by [] earlier AFetch is (serves (call.Fetch (known n.kept)) (ap built_call called_by.0), (refl, fetch_behind_it earlier called_by.1 behind.count heard, refl));
       rose = ap y.faults called_by.2;
       taken = subst (λ (o : Y). AreTaken y [] None was o) (sym called_by.2) (none_taken y was);
       made = ap (λ (h : HeldNode). h.made) heard;
     }
     made_next next.Leave ALeave is turn called_by heard = record {
       steps = [];
-      leads = λ earlier len. leads_by [] earlier ALeave is (serves call.Leave (ap built_call called_by.0), (refl, leave_behind_it called_by.1 heard, refl));
+      leads = λ earlier behind. leads_by [] earlier ALeave is (serves call.Leave (ap built_call called_by.0), (refl, leave_behind_it called_by.1 heard, refl));
       rose = ap y.faults called_by.2;
       taken = subst (λ (o : Y). AreTaken y [] None was o) (sym called_by.2) (none_taken y was);
       made = ap (λ (h : HeldNode). h.made) heard;

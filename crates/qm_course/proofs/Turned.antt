@@ -32,19 +32,19 @@ module _ {Y : Type 0} (y : symb.Meaning Y) (comes : Next) (here between : HeldSe
   plain = record { moment = asked.moment; call = called.plain }
 
   plain_askable : IsAskable (input_of (built_call called.plain))
-  plain_askable = call_askable y here.node.state plain between.node was now comes called.by
+  plain_askable = call_askable y here.begun here.node.state plain between.node was now comes called.by
 
   pub turned_askable : IsAskable (input_of asked.call)
   turned_askable = subst (λ (c : Call). IsAskable (input_of c)) (sym called.asked_is) plain_askable
 
   pub turned_next : IsTurn (next_at here.live here.node.state here.node.state.stage) (Some comes) → ComesNext between.node.state comes
-  turned_next is = called_next y here.node.state plain between.node was now comes here.live called.by is
+  turned_next is = called_next y here.begun here.node.state plain between.node was now comes here.live called.by is
 
   pub turned_can : CanBeMade here.node.state comes → CanBeMade between.node.state comes
-  turned_can can = called_can y here.node.state plain between.node was now comes called.by can
+  turned_can can = called_can y here.begun here.node.state plain between.node was now comes called.by can
 
   pub turned_made : IsMadeFor comes between.node.made
-  turned_made = called_made y here.node.state plain between.node was now comes called.by
+  turned_made = called_made y here.begun here.node.state plain between.node was now comes called.by
 
   pub turned_name : (names : List (List ℕ)) (node : ℕ) → slice_get names node ≡ Some here.name → slice_get names node ≡ Some between.name
   turned_name names node is = is ∙ ap (λ (s : HeldSeat). Some s.name) (sym called.same)
@@ -59,14 +59,14 @@ module _ {Y : Type 0} (y : symb.Meaning Y) (comes : Next) (here between : HeldSe
       pub turned_goes : (there : HeldSeat) → IsAnsweredBy m node asked.moment comes asked.call between there old new taken then
           → Goes m y (λ why. why ≡ why_next comes) node (standing_of here) (standing_of there) (outside old taken before was) (outside new then after now)
       turned_goes there answered =
-          turn_goes m y node comes here there between.node plain was now old new taken then before after is_next called.by clock name plain_askable
+          turn_goes m y node comes here there between.node plain was now old new taken then before after is_next called.by clock name
           (subst (λ (c : Call). IsAnsweredBy m node asked.moment comes c (record here { node = between.node }) there old new taken then) called.asked_is
           (subst (λ (s : HeldSeat). IsAnsweredBy m node asked.moment comes asked.call s there old new taken then) called.same answered))
 
       pub turned_stops : (stopped : TurnEnd) → IsAnsweredUpTo m node asked.moment comes asked.call between old new taken then stopped
           → StopsOnce m y (λ why. why ≡ why_next comes) node (standing_of here) (outside old taken before was) (outside new then after now) stopped
       turned_stops stopped answered =
-          turn_stops m y node comes here stopped between.node plain was now old new taken then before after is_next called.by clock name plain_askable
+          turn_stops m y node comes here stopped between.node plain was now old new taken then before after is_next called.by clock name
           (subst (λ (c : Call). IsAnsweredUpTo m node asked.moment comes c (record here { node = between.node }) old new taken then stopped) called.asked_is
           (subst (λ (s : HeldSeat). IsAnsweredUpTo m node asked.moment comes asked.call s old new taken then stopped) called.same answered))
 

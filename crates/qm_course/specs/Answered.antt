@@ -4,20 +4,21 @@ use Rattle.std.specs.Io.KnownBytes.{Appends}
 use Rattle.qm_history.specs.declared.call.Answer.{Answer}
 use Rattle.qm_history.specs.declared.call.Answer.TheVariants as answer
 use Rattle.qm_history.specs.declared.call.Call.{Call}
-use Rattle.qm_history.specs.Calls.{why_of}
 use Rattle.qm_history.specs.Course.{Reading}
 use Rattle.qm_history.specs.Script.{UserLine}
-use Rattle.qm_history.specs.Text.{answer_text}
 use Rattle.qm_node.specs.Node.{Hears, IsCallOf}
 use Rattle.qm_node.specs.declared.course.Asked.{Asked}
 use Rattle.qm_node.specs.declared.course.Next.{Next}
 use Rattle.qm_node.specs.declared.course.Next.TheVariants as next
+use Rattle.qm_scans.specs.Behind.{behind_answer, is_single, step_of}
+use Rattle.qm_show.specs.Turns.{told_text}
 use Rattle.qm_symb.specs.Device as symb
-use Rattle.qm_course.specs.Asking.{built_call}
+use Rattle.qm_course.specs.Asking.{built_call, gist_of}
 use Rattle.qm_living.specs.Living.{bearing_of, live_behind}
 use Rattle.qm_course.specs.Seats.{HeldSeat}
 use Rattle.qm_course.specs.Serving.{Meaning, Serves}
 use Rattle.qm_course.specs.Turning.{TakesFront}
+use Rattle.qm_course.specs.declared.asking.Gist.{Gist}
 use Rattle.qm_course.specs.declared.turn.TurnEnd.{TurnEnd}
 use Rattle.qm_course.specs.declared.turn.TurnEnd.TheVariants as end
 
@@ -58,11 +59,18 @@ stop_of (answer.Journal took live) = None
 stop_of (answer.Fenced held current) = None
 stop_of (answer.NoManager took name) = None
 
+-- what is printed at a node of this name of a call that was answered so
+abbrev pub printed_by : List ℕ → Gist → Answer → List ℕ
+printed_by name gist told = told_text name gist.why (is_single gist.step) told
+
+abbrev pub printed_of : List ℕ → Call → Answer → List ℕ
+printed_of name asked told = printed_by name (gist_of asked) told
+
 -- The call of what comes next was made, as far as that is built, and nothing else of the node changed.
 pub record IsCalled {Y : Type 0} (y : symb.Meaning Y) (next : Next) (old new : HeldSeat) (asked : Asked) (was now : Y) : Type 0 where
   pub plain : Call
   pub asked_is : asked.call ≡ built_call plain
-  pub by : IsCallOf y next old.node.state (record { moment = asked.moment; call = plain }) new.node was now
+  pub by : IsCallOf y old.begun next old.node.state (record { moment = asked.moment; call = plain }) new.node was now
   pub same : new ≡ record old { node = new.node }
 
 -- the node behind the answer of what came next
@@ -71,6 +79,7 @@ pub record TakesIn (next : Next) (asked : Call) (told : Answer) (old new : HeldS
   pub heard : Hears old.count next old.node told new.node
   pub live : new.live ≡ live_behind old.live (bearing_of asked) told
   pub count : new.count ≡ old.count + 1
+  pub begun : new.begun ≡ behind_answer old.begun (step_of asked) told
 
 module _ {S : Type 0} (m : Meaning S) (node now : ℕ) (next : Next) (asked : Call) where
   -- The call was served and answered, the sink took what is printed of it, and the node took the answer in.
@@ -78,7 +87,7 @@ module _ {S : Type 0} (m : Meaning S) (node now : ℕ) (next : Next) (asked : Ca
     pub told : Answer
     pub serves : Serves m node now asked old new told
     pub goes_on : stop_of told ≡ None
-    pub printed : Appends taken then (answer_text here.name (why_of asked) told)
+    pub printed : Appends taken then (printed_of here.name asked told)
     pub takes_in : TakesIn next asked told here there
 
   -- the call was told the end; or it was answered, and the sink took first bytes of that, or all
@@ -91,4 +100,4 @@ module _ {S : Type 0} (m : Meaning S) (node now : ℕ) (next : Next) (asked : Ca
   pub record IsAnsweredUpTo (here : HeldSeat) (old new : S) (taken then : Option (List ℕ)) (stopped : TurnEnd) : Type 0 where
     pub told : Answer
     pub serves : Serves m node now asked old new told
-    pub ends : EndsBy stopped told (answer_text here.name (why_of asked) told) taken then
+    pub ends : EndsBy stopped told (printed_of here.name asked told) taken then

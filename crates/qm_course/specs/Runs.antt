@@ -1,11 +1,10 @@
 -- What serving a script of several nodes on one thread leaves.
 -- OpenVMS System Manager's Manual, Setting Up and Maintaining Queues, and Managing the Queue Manager and Queue Database.
 -- This site's own: lines in their order, and then the nodes in the cluster's.
-use Rattle.std.specs.Prelude.{◌≡◌, ◌≢◌, ◌+◌, ◌<◌, ◌≤◌, ℕ, Bool, List, [], ◌∷◌, ◌++◌, length, map, slice_get, Option, None, Some, Contains}
+use Rattle.std.specs.Prelude.{◌≡◌, ◌≢◌, ◌<◌, ◌≤◌, ℕ, Bool, List, [], ◌∷◌, ◌++◌, length, map, slice_get, Option, None, Some, Contains}
 use Rattle.std.specs.List.{AllByRecursion}
 use Rattle.std.specs.Io.KnownBytes.{Appends}
 use Rattle.qm_kinds.specs.declared.limits.TheConstants.{NODES_LIMIT}
-use Rattle.qm_kinds.specs.declared.query.Row.{Row}
 use Rattle.qm_model.specs.Kept.{KeptRun}
 use Rattle.qm_record.specs.Spelling.{HasSpelling}
 use Rattle.qm_symb.specs.Device as symb
@@ -21,11 +20,12 @@ use Rattle.qm_history.specs.Script.{UserLine, lines_of}
 use Rattle.qm_history.specs.Text.{text}
 use Rattle.qm_history.specs.Visits.{Visit, visits_of}
 use Rattle.qm_history.specs.World.{is_live}
+use Rattle.qm_sjc.specs.Printed.{items_line}
 use Rattle.qm_course.specs.Asking.{read_built}
 use Rattle.qm_course.specs.Nodes.{CanGoOn}
 use Rattle.qm_course.specs.Seats.{HeldSeat, standing_of}
 use Rattle.qm_course.specs.Serving.{Meaning, AreMade, LeavesNone}
-use Rattle.qm_course.specs.Standing.{Standing}
+use Rattle.qm_course.specs.Standing.{IsBehind, Standing}
 use Rattle.qm_course.specs.Taken.{AreTaken, AreTold, Rises, RoseBy}
 use Rattle.qm_course.specs.Turning.{IsDownOver, IsFullAt, IsToldTo, TakesUpTo}
 use Rattle.qm_course.specs.declared.seat.Station.{Station}
@@ -100,10 +100,10 @@ pub record IsCluster {S : Type 0} (m : Meaning S) (value : S) (seats : List Held
 abbrev pub AreOfNodes : List HeldSeat → List UserLine → Type 0
 AreOfNodes seats script = AllByRecursion (λ (l : UserLine). Contains (names_of seats) l.line.node) script
 
--- each node stands in front of its lines of the script, with no run
+-- each node stands in front of its lines of the script, with no run, and has made no turn
 abbrev pub AreFresh : List UserLine → List HeldSeat → Type 0
 AreFresh script seats =
-    (node : ℕ) (seat : HeldSeat) → slice_get seats node ≡ Some seat → (seat.node.state ≡ at_first (lines_of seat.name script)) × (seat.count ≡ 0)
+    (node : ℕ) (seat : HeldSeat) → slice_get seats node ≡ Some seat → (seat.node.state ≡ at_first (lines_of seat.name script)) × IsBehind [] (standing_of seat)
 
 -- each node is live as it stands
 abbrev pub AreLive : World → List HeldSeat → Type 0
@@ -124,10 +124,10 @@ module _ {S Y : Type 0} (m : Meaning S) (y : symb.Meaning Y) where
   pub record NodeGoes (w : World) (node : ℕ) (here there : Standing) (turns : List Turn) (was now : Side Y) : Type 0 where
     pub steps : List MadeStep
     pub reaches :
-        (earlier : List Visit) → length earlier ≡ here.count
+        (earlier : List Visit) → IsBehind earlier here
         → Reaches HasSpelling read_built here.state earlier here.live (visits_of node w turns) steps there.state there.live
+    pub behind : (earlier : List Visit) → IsBehind earlier here → IsBehind (earlier ++ visits_of node w turns) there
     pub live : here.live ≡ is_live w node → there.live ≡ is_live (after_turns w turns) node
-    pub count : there.count ≡ here.count + length (visits_of node w turns)
     pub down : IsDownOver here → IsDownOver there
     pub told : AreTold Whole (visits_of node w turns) was.told now.told
     pub rose : Rises y (failed_steps steps) was.symbiont now.symbiont
@@ -140,7 +140,7 @@ module _ {S Y : Type 0} (m : Meaning S) (y : symb.Meaning Y) where
     pub made : AreMade m w old.value turns new.value
     pub stands : m.stands (after_turns w turns) new.value
     pub order : AreInOrder w before turns
-    pub printed : (items_line : Row → List ℕ) → Appends old.taken new.taken (text items_line w turns)
+    pub printed : Appends old.taken new.taken (text items_line w turns)
     pub live : AreLive (after_turns w turns) new.seats
     pub down : AllDown new.seats
     pub nodes :
@@ -165,7 +165,7 @@ module _ {S Y : Type 0} (m : Meaning S) (y : symb.Meaning Y) where
     pub steps : List MadeStep
     pub broken : Option KeptRun
     pub goes_on :
-        (earlier : List Visit) → length earlier ≡ here.count
+        (earlier : List Visit) → IsBehind earlier here
         → GoesOn HasSpelling read_built Begun broken here.state earlier here.live (visits_of node w turns) steps
     pub told : AreTold Begun (visits_of node w turns) was.told now.told
     pub faults : ℕ
@@ -173,7 +173,7 @@ module _ {S Y : Type 0} (m : Meaning S) (y : symb.Meaning Y) where
     pub few_faults : failed_steps steps ≤ faults
     pub taken : AreTaken y steps broken was.symbiont now.symbiont
     pub waits :
-        last_node turns ≢ Some node → (earlier : List Visit) → length earlier ≡ here.count
+        last_node turns ≢ Some node → (earlier : List Visit) → IsBehind earlier here
         → (then : NodeState) × (then_live : Bool) × Reaches HasSpelling read_built here.state earlier here.live (visits_of node w turns) steps then then_live
         × IsWaiting then.stage (next_at then_live then then.stage)
 
@@ -182,7 +182,7 @@ module _ {S Y : Type 0} (m : Meaning S) (y : symb.Meaning Y) where
     pub made : AreMade m w old.value turns next
     pub last : LeavesNone m (after_turns w turns) next new.value
     pub order : AreInOrder w before turns
-    pub printed : (items_line : Row → List ℕ) → TakesUpTo stopped old.taken new.taken (text items_line w turns)
+    pub printed : TakesUpTo stopped old.taken new.taken (text items_line w turns)
     pub nodes :
         (node : ℕ) (here : HeldSeat) (was now : Side Y) → slice_get old.seats node ≡ Some here → slice_get old.sides node ≡ Some was
         → slice_get new.sides node ≡ Some now → NodeStops w node (standing_of here) turns was now
@@ -236,7 +236,7 @@ module _ {S Y : Type 0} (m : Meaning S) (y : symb.Meaning Y) where
     pub run : IsRun Whole w script names turns old.sides new.sides
     pub made : AreMade m w old.value turns new.value
     pub stands : m.stands (after_turns w turns) new.value
-    pub printed : (items_line : Row → List ℕ) → Appends old.taken new.taken (text items_line w turns)
+    pub printed : Appends old.taken new.taken (text items_line w turns)
 
   -- it was served up to an end
   pub record StopsScript (w : World) (script : List UserLine) (names : List (List ℕ)) (turns : List Turn) (old new : Site S Y) (end : TurnEnd) : Type 0 where
@@ -244,7 +244,7 @@ module _ {S Y : Type 0} (m : Meaning S) (y : symb.Meaning Y) where
     pub next : S
     pub made : AreMade m w old.value turns next
     pub last : LeavesNone m (after_turns w turns) next new.value
-    pub printed : (items_line : Row → List ℕ) → TakesUpTo end old.taken new.taken (text items_line w turns)
+    pub printed : TakesUpTo end old.taken new.taken (text items_line w turns)
 
   -- What serving a script leaves whatever the disks tell, and in each world for which the value stood, in which each node is live as
   -- it stands.

@@ -1,12 +1,20 @@
 -- Where a node stands between two turns.
-use Rattle.std.specs.Prelude.{ℕ, Bool, Option, List}
+use Rattle.std.specs.Prelude.{◌≡◌, ℕ, Bool, Option, List, length}
 use Rattle.qm_history.specs.Course.{NodeState}
+use Rattle.qm_history.specs.Scans.{Scans, scans_of}
+use Rattle.qm_history.specs.Visits.{Visit}
 
--- its state, whether it is live, and how many turns it has made
+-- its state, whether it is live, how many turns it has made, and the listings that it has begun in them
 pub record Standing : Type 0 where
   pub state : NodeState
   pub live : Bool
   pub count : ℕ
+  pub begun : Scans
+
+-- these are the turns that it has made
+pub record IsBehind (earlier : List Visit) (here : Standing) : Type 0 where
+  pub count : length earlier ≡ here.count
+  pub begun : scans_of earlier ≡ here.begun
 
 -- what turns of one node touch: the value on which they are made, the sink, and the node's clock and symbiont
 pub record Outside (S Y : Type 0) : Type 0 where

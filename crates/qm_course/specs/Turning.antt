@@ -3,7 +3,6 @@
 use Rattle.std.specs.Prelude.{◌≡◌, ◌≢◌, ◌+◌, ◌≤◌, ℕ, false, List, ◌++◌, length, Option, None, Some}
 use Rattle.std.specs.List.{AllByRecursion}
 use Rattle.std.specs.Io.KnownBytes.{Appends}
-use Rattle.qm_kinds.specs.declared.query.Row.{Row}
 use Rattle.qm_model.specs.Kept.{KeptRun}
 use Rattle.qm_record.specs.Spelling.{HasSpelling}
 use Rattle.qm_symb.specs.Device as symb
@@ -20,12 +19,13 @@ use Rattle.qm_history.specs.Reaching.{Reaches}
 use Rattle.qm_history.specs.Text.{text}
 use Rattle.qm_history.specs.Visits.{Visit, visits}
 use Rattle.qm_history.specs.World.{is_live}
+use Rattle.qm_sjc.specs.Printed.{items_line}
 use Rattle.qm_node.specs.Node.{CanBeMade, IsTurn}
 use Rattle.qm_node.specs.declared.course.Next.{Next}
 use Rattle.qm_node.specs.declared.course.Next.TheVariants as next
 use Rattle.qm_course.specs.Asking.{read_built}
 use Rattle.qm_course.specs.Serving.{Meaning, AreMade, LeavesNone}
-use Rattle.qm_course.specs.Standing.{Standing, Outside}
+use Rattle.qm_course.specs.Standing.{IsBehind, Standing, Outside}
 use Rattle.qm_course.specs.Taken.{AreTaken, AreTold, Rises, RoseBy}
 use Rattle.qm_course.specs.declared.turn.TurnEnd.{TurnEnd}
 use Rattle.qm_course.specs.declared.turn.TurnEnd.TheVariants as end
@@ -109,13 +109,14 @@ module _ {S Y : Type 0} (m : Meaning S) (y : symb.Meaning Y) where
     pub stands : m.stands (after_turns w turns) new.value
     pub steps : List MadeStep
     pub reaches :
-        (earlier : List Visit) → length earlier ≡ here.count
+        (earlier : List Visit) → IsBehind earlier here
         → Reaches HasSpelling read_built here.state earlier here.live (visits w turns) steps there.state there.live
+    pub behind : (earlier : List Visit) → IsBehind earlier here → IsBehind (earlier ++ visits w turns) there
     pub live : there.live ≡ is_live (after_turns w turns) node
     pub others : (other : ℕ) → other ≢ node → is_live (after_turns w turns) other ≡ is_live w other
     pub down : IsDownOver here → IsDownOver there
     pub overs : AreOver node w.live → AllByRecursion (λ (v : Visit). AreOver node v.before.live) (visits w turns)
-    pub printed : (items_line : Row → List ℕ) → Appends old.taken new.taken (text items_line w turns)
+    pub printed : Appends old.taken new.taken (text items_line w turns)
     pub told : AreTold Whole (visits w turns) old.told new.told
     pub rose : Rises y (failed_steps steps) old.symbiont new.symbiont
     pub taken : AreTaken y steps None old.symbiont new.symbiont
@@ -141,9 +142,9 @@ module _ {S Y : Type 0} (m : Meaning S) (y : symb.Meaning Y) where
     pub steps : List MadeStep
     pub broken : Option KeptRun
     pub goes_on :
-        (earlier : List Visit) → length earlier ≡ here.count
+        (earlier : List Visit) → IsBehind earlier here
         → GoesOn HasSpelling read_built Begun broken here.state earlier here.live (visits w turns) steps
-    pub printed : (items_line : Row → List ℕ) → TakesUpTo end old.taken new.taken (text items_line w turns)
+    pub printed : TakesUpTo end old.taken new.taken (text items_line w turns)
     pub told : AreTold Begun (visits w turns) old.told new.told
     pub faults : ℕ
     pub rose : Rises y faults old.symbiont new.symbiont

@@ -1,31 +1,32 @@
-// What is asked for, as far as it is built.
+// What is asked for, as far as it is built, and what is still to be known of it once it is answered.
 ghost use Rattle.std.specs.Prelude.{◌≡◌};
 ghost use Rattle.qm_history.specs.Calls.{why_of};
-ghost use Rattle.qm_script.specs.Served.{not_served};
-ghost use Rattle.qm_course.specs.Asking.{built, built_call, built_listing};
+ghost use Rattle.qm_course.specs.Asking.{built, built_call, gist_of, not_built};
 
 use qm_history::{Call, Why};
-use qm_kinds::{Input, ParseKind, Query};
+use qm_kinds::{Input, ParseKind};
+use qm_living::{Bearing, bearing_of};
 use qm_node::Asked;
+use qm_scans::{ScanStep, step_of};
+
+/// What is still to be known of a call once it is answered: the call itself is handed over.
+#[derive(Clone, Copy)]
+pub struct Gist {
+    /// Why its turn is made.
+    pub why: Why,
+    /// What it is to the node that makes it.
+    pub bearing: Bearing,
+    /// What it does to the listings that the node has begun.
+    pub step: ScanStep,
+}
 
 // That this isn't built.
-fn not_served() -> Input
-    ensures { result ≡ not_served }
+fn not_built() -> Input
+    ensures { result ≡ not_built }
 {
     Input::Fault {
         place: 0,
         kind: ParseKind::NotBuilt,
-    }
-}
-
-// A listing; one that is told row by row isn't built.
-fn built_listing(query: Query) -> Input
-    ensures { result ≡ built_listing query.single query }
-{
-    if query.single {
-        not_served()
-    } else {
-        Input::Show(query)
     }
 }
 
@@ -34,8 +35,7 @@ fn built(input: Input) -> Input
     ensures { result ≡ built input }
 {
     match input {
-        Input::Compact => not_served(),
-        Input::Show(query) => built_listing(query),
+        Input::Compact => not_built(),
         other => other,
     }
 }
@@ -53,8 +53,8 @@ fn built_call(call: Call) -> Call
     }
 }
 
-/// A call that asks for what is built, at its moment.
-pub(crate) fn built_asked(asked: Asked) -> Asked
+/// A call that asks for what is built, at its moment: all but a compaction is.
+pub fn built_asked(asked: Asked) -> Asked
     ensures { result ≡ record { moment = asked.moment; call = built_call asked.call } }
 {
     let Asked { moment, call } = asked;
@@ -64,8 +64,8 @@ pub(crate) fn built_asked(asked: Asked) -> Asked
     }
 }
 
-/// Why the turn of a call is made.
-pub(crate) fn why_of(call: &Call) -> Why
+// Why the turn of a call is made.
+fn why_of(call: &Call) -> Why
     ensures { result ≡ why_of call.now }
 {
     match call {
@@ -73,5 +73,16 @@ pub(crate) fn why_of(call: &Call) -> Why
         Call::Fetch { .. } => Why::Fetch,
         Call::Report { .. } => Why::Report,
         Call::Leave => Why::Leave,
+    }
+}
+
+/// What is still to be known of a call once it is answered.
+pub fn gist_of(call: &Call) -> Gist
+    ensures { result ≡ gist_of call.now }
+{
+    Gist {
+        why: why_of(call),
+        bearing: bearing_of(call),
+        step: step_of(call),
     }
 }

@@ -12,6 +12,7 @@ mod seat;
 mod serve;
 mod turn;
 
+pub use asking::{Gist, built_asked, gist_of};
 pub use fresh::{own_lines, seats_of};
 pub use laws::lines_are_of_their_cluster;
 pub use script::serve_script;

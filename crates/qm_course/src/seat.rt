@@ -3,18 +3,20 @@ ghost use Rattle.std.specs.Prelude.{◌≡◌, ◌≤◌, true, None, IfOk, IfSo
 ghost use Rattle.qm_history.specs.Chest.{turns_kept};
 ghost use Rattle.qm_history.specs.Course.{at_first, next_at};
 ghost use Rattle.qm_history.specs.declared.call.Call.{Call as AnyCall};
+ghost use Rattle.qm_history.specs.Scans.{no_scans};
 ghost use Rattle.qm_node.specs.Node.{CanBeHeard, CanBeMade, ComesNext, IsMadeFor, IsTurn, TellsOne};
 ghost use Rattle.qm_script.specs.ClusterLines.{user_lines_view};
 ghost use Rattle.qm_course.specs.Answered.{IsCalled, TakesIn};
+ghost use Rattle.qm_course.specs.Asking.{gist_of};
 ghost use Rattle.qm_course.specs.Turning.{IsNoStep, IsStepNext};
-ghost use Rattle.qm_living.specs.Living.{bearing_of};
 
-use crate::asking::built_asked;
+use crate::asking::{Gist, built_asked};
 use qm_history::Answer;
 use qm_io::Clock;
 use qm_kinds::Name;
-use qm_living::{Bearing, live_behind};
+use qm_living::live_behind;
 use qm_node::{Asked, Next, NodeState};
+use qm_scans::Scans;
 use qm_script::UserLine;
 use qm_symb::Symbiont;
 use std::alloc::{AllocError, Global};
@@ -36,6 +38,8 @@ pub struct Seat<'a, Y: Symbiont> {
     pub(crate) live: bool,
     /// How many turns it has made.
     pub(crate) turns: u64,
+    /// The listings that it has begun in them.
+    pub(crate) begun: Scans,
 }
 
 impl<'a, Y: Symbiont> Model for Seat<'a, Y> {
@@ -43,19 +47,20 @@ impl<'a, Y: Symbiont> Model for Seat<'a, Y> {
 
     ghost Value = { HeldSeat };
 
-    ghost view = { λ s. record { name = s.name; node = s.state; live = s.live; count = s.turns } };
+    ghost view = { λ s. record { name = s.name; node = s.state; live = s.live; count = s.turns; begun = s.begun } };
 }
 
 impl<'a, Y: Symbiont> Seat<'a, Y> {
     /// A live node of this name in front of these lines.
     pub fn new(alloc: Global, name: Name, lines: &'a [UserLine<'a>]) -> Seat<'a, Y>
-        ensures { result ≡ record { name = name; node = record { state = at_first (user_lines_view lines.now); made = None }; live = true; count = 0 } }
+        ensures { result ≡ record { name = name; node = record { state = at_first (user_lines_view lines.now); made = None }; live = true; count = 0; begun = no_scans } }
     {
         Seat {
             name,
             state: NodeState::new(alloc, lines),
             live: true,
             turns: 0,
+            begun: Scans::new(),
         }
     }
 
@@ -100,10 +105,7 @@ impl<'a, Y: Symbiont> Seat<'a, Y> {
         ensures no_memory { OnErr result (self.new ≡ self.old) }
         ensures nothing_handed { OnErr result (station.new.symbiont ≡ station.old.symbiont) }
     {
-        match self
-            .state
-            .call(next, &mut station.clock, &mut station.symbiont)
-        {
+        match self.state.call(next, &self.begun, &mut station.clock, &mut station.symbiont) {
             Ok(asked) => Ok(built_asked(asked)),
             Err(error) => Err(error),
         }
@@ -113,7 +115,7 @@ impl<'a, Y: Symbiont> Seat<'a, Y> {
     pub(crate) fn take_in(
         &mut self,
         next: &Next<'a>,
-        bearing: Bearing,
+        gist: &Gist,
         answer: Answer,
         symbiont: &Y,
     ) -> Result<(), AllocError>
@@ -122,9 +124,10 @@ impl<'a, Y: Symbiont> Seat<'a, Y> {
         requires made { IsMadeFor next.now self.old.node.made }
         requires duties { CanBeHeard answer }
         requires few { self.old.count ≤ turns_kept }
-        ensures { (asked : AnyCall) → bearing ≡ bearing_of asked → OnOk result (TakesIn next.now asked answer self.old self.new) }
+        ensures { (asked : AnyCall) → gist.now ≡ gist_of asked → OnOk result (TakesIn next.now asked answer self.old self.new) }
     {
-        let live = live_behind(self.live, bearing, &answer);
+        let live = live_behind(self.live, gist.bearing, &answer);
+        self.begun.hear(&gist.step, &answer);
         self.state.hear(next, self.turns, answer, symbiont)?;
         self.live = live;
         self.turns += 1;

@@ -4,22 +4,21 @@ ghost use Rattle.std.specs.Io.KnownBytes.{Appends};
 ghost use Rattle.qm_history.specs.Calls.{input_of};
 ghost use Rattle.qm_history.specs.Chest.{turns_kept};
 ghost use Rattle.qm_history.specs.Course.{next_at};
-ghost use Rattle.qm_history.specs.Text.{answer_text};
 ghost use Rattle.qm_node.specs.Node.{CanBeMade, ComesNext, IsMadeFor, IsTurn};
-ghost use Rattle.qm_course.specs.Answered.{IsAnsweredBy, IsAnsweredUpTo, MovesOn, stop_of};
+ghost use Rattle.qm_course.specs.Answered.{IsAnsweredBy, IsAnsweredUpTo, MovesOn, printed_by, stop_of};
 ghost use Rattle.qm_course.specs.Asking.{IsAskable};
 ghost use Rattle.qm_course.specs.Ends.{IsUndamaged, TellsWrite};
 ghost use Rattle.qm_course.specs.Seats.{outside, standing_of};
 ghost use Rattle.qm_course.specs.Turning.{Goes, StopsOnce, TakesFront, why_next};
 
-use crate::asking::why_of;
+use crate::asking::{Gist, gist_of};
 use crate::seat::{Seat, Station};
 use crate::serve::Serve;
-use qm_history::{Answer, Why};
+use qm_history::Answer;
 use qm_io::{Clock, Sink, write_whole};
 use qm_kinds::Name;
-use qm_living::bearing_of;
 use qm_node::{Asked, Next};
+use qm_scans::is_single;
 use qm_show::show_answer;
 use qm_symb::Symbiont;
 use std::alloc::{AllocError, Global};
@@ -56,15 +55,15 @@ fn print_answer<O: Sink>(
     alloc: Global,
     sink: &mut O,
     name: &Name,
-    why: Why,
+    gist: &Gist,
     answer: &Answer,
 ) -> Result<(), TurnEnd>
-    ensures all { OnOk result (Appends (O.taken sink.old) (O.taken sink.new) (answer_text name.now why answer.now)) }
-    ensures front { IfErr result (λ end. TakesFront (O.taken sink.old) (O.taken sink.new) (answer_text name.now why answer.now)) }
+    ensures all { OnOk result (Appends (O.taken sink.old) (O.taken sink.new) (printed_by name.now gist.now answer.now)) }
+    ensures front { IfErr result (λ end. TakesFront (O.taken sink.old) (O.taken sink.new) (printed_by name.now gist.now answer.now)) }
     ensures ends { IfErr result (λ end. (end ≡ TurnEnd.Write) ⊎ (end ≡ TurnEnd.NoMemory)) }
     ensures sink { TellsWrite (O.faults sink.old) (O.faults sink.new) result }
 {
-    let Ok(text) = show_answer(alloc, name, why, answer) else {
+    let Ok(text) = show_answer(alloc, name, gist.why, is_single(&gist.step), answer) else {
         return Err(TurnEnd::NoMemory);
     };
     match write_whole(sink, &text) {
@@ -100,17 +99,16 @@ fn serve_call<'a, S: Serve, O: Sink, Y: Symbiont>(
 {
     let Asked { moment, call } = asked;
     let name = seat.name();
-    let why = why_of(&call);
-    let bearing = bearing_of(&call);
+    let gist = gist_of(&call);
     let answer = server.serve(node, moment, call);
     if let Some(end) = stop_of(&answer) {
         return Err(end);
     }
-    match print_answer(alloc, sink, &name, why, &answer) {
+    match print_answer(alloc, sink, &name, &gist, &answer) {
         Ok(()) => {}
         Err(end) => return Err(end),
     }
-    match seat.take_in(next, bearing, answer, symbiont) {
+    match seat.take_in(next, &gist, answer, symbiont) {
         Ok(()) => Ok(()),
         Err(AllocError) => Err(TurnEnd::NoMemory),
     }

@@ -6,6 +6,7 @@ use Rattle.qm_symb.specs.Device.{Meaning}
 use Rattle.qm_history.specs.declared.call.Answer.{Answer}
 use Rattle.qm_history.specs.declared.world.World.{World}
 use Rattle.qm_living.specs.Living.{bearing_of, live_behind}
+use Rattle.qm_scans.specs.Behind.{behind_answer, step_of}
 use Rattle.qm_node.specs.declared.course.Asked.{Asked}
 use Rattle.qm_node.specs.declared.course.Next.{Next}
 use Rattle.qm_node.specs.Node.{Hears}
@@ -16,14 +17,15 @@ use Rattle.qm_drive.specs.Turning.{EndsAt, EndsBy, HeldSeat, IsCalled, IsTurnMad
 
 module _ {Y : Type 0} (y : Meaning Y) (tells : Bool) (first : World) (most : ℕ) (node : ℕ) (name : List ℕ) (next : Next) (old mid new : HeldSeat) (was now : Y) (told then : Option (List ℕ))
     (before after : Known Noted) (text printed : List ℕ) (asked : Asked) (a : Answer)
-    (call : IsCalled y next old.node.state asked mid.node was now) (clock : Appends told then (asked.moment ∷ [])) (turn : IsTurnMade tells first most node asked.moment asked.call a before after)
-    (mid_is : (mid.live ≡ old.live) × (mid.count ≡ old.count))
+    (call : IsCalled y old.begun next old.node.state asked mid.node was now) (clock : Appends told then (asked.moment ∷ [])) (turn : IsTurnMade tells first most node asked.moment asked.call a before after)
+    (mid_is : (mid.live ≡ old.live) × (mid.count ≡ old.count) × (mid.begun ≡ old.begun))
   where
     from_old : TakesIn next mid.node asked.call a mid new → TakesIn next mid.node asked.call a old new
     from_old h = record {
       heard = subst (λ n. Hears n next mid.node a new.node) mid_is.1 h.heard;
       live = h.live ∙ ap (λ l. live_behind l (bearing_of asked.call) a) mid_is.0;
       count = subst (λ n. new.count ≡ n + 1) mid_is.1 h.count;
+      begun = h.begun ∙ ap (λ s. behind_answer s (step_of asked.call) a) mid_is.2;
     }
 
     pub made : (r : Result (Unit {0}) DriveEnd) → OnOk r (ending_of a ≡ None) → OnOk r (Prints name asked.call a text printed) → OnOk r (TakesIn next mid.node asked.call a mid new)

@@ -14,22 +14,27 @@ use Rattle.qm_history.specs.declared.world.World.{World}
 use Rattle.qm_history.specs.Answering.{MayAnswer}
 use Rattle.qm_history.specs.Answers.{answer_of}
 use Rattle.qm_history.specs.Calls.{why_of}
-use Rattle.qm_history.specs.Course.{answered, at_first, is_live_behind, next_at}
+use Rattle.qm_history.specs.Course.{at_first, is_live_behind, next_at}
 use Rattle.qm_history.specs.Legal.{IsLegal, after_turn, after_turns}
 use Rattle.qm_history.specs.Reaching.{Reaches}
 use Rattle.qm_history.specs.Script.{UserLine}
-use Rattle.qm_history.specs.Text.{answer_text}
 use Rattle.qm_history.specs.Turn.{IsTurnOf}
 use Rattle.qm_history.specs.Visits.{Visit, visits_of}
 use Rattle.qm_history.specs.World.{IsSound, is_live}
 use Rattle.qm_history.proofs.ReachingLemmas.{course_reaches_on, one_visit}
 use Rattle.qm_living.specs.Living.{bearing_of, live_behind}
 use Rattle.qm_living.proofs.Lives.{answer_tells}
+use Rattle.qm_scans.specs.Behind.{behind_answer, step_of}
+use Rattle.qm_scans.proofs.Tells.{turn_tells}
+use Rattle.qm_course.specs.Answered.{printed_of}
 use Rattle.qm_course.specs.Asking.{built_call, read_built}
 use Rattle.qm_course.specs.Serving.{IsAnswered}
+use Rattle.qm_course.specs.Standing.{IsBehind}
+use Rattle.qm_course.proofs.Behind.{behind_one}
 use Rattle.qm_course.proofs.Counting.{appends_on}
 use Rattle.qm_course.proofs.Joining.{rises_on, taken_on}
 use Rattle.qm_course.proofs.Making.{heard_ready}
+use Rattle.qm_course.proofs.Printing.{lines_printed}
 use Rattle.qm_course.proofs.Stepping.{Made, made_next}
 use Rattle.qm_node.specs.declared.course.Asked.{Asked}
 use Rattle.qm_node.specs.declared.course.Next.{Next}
@@ -38,10 +43,10 @@ use Rattle.qm_turn.specs.History.{notes_by}
 use Rattle.qm_turn.specs.Turns.{Known}
 use Rattle.qm_turn.proofs.Histories.{notes_by-append, notes_by_same}
 use Rattle.qm_drive.specs.declared.noted.Noted.{Noted}
-use Rattle.qm_drive.specs.Driving.{HasCome, HasMade, IsHeard, readings, text_told}
+use Rattle.qm_drive.specs.Driving.{HasCome, HasMade, IsHeard, readings, text_told, visit_told}
 use Rattle.qm_drive.specs.Passes.{turns_in, AreOwn}
 use Rattle.qm_drive.specs.Sharing.{turns_of}
-use Rattle.qm_drive.specs.Turning.{HeldSeat, IsTurnMade, MakesTurn}
+use Rattle.qm_drive.specs.Turning.{HeldSeat, IsTurnMade, MakesTurn, standing_of}
 use Rattle.qm_drive.proofs.Hearing.{fewer, heard_turn, says}
 use Rattle.qm_drive.proofs.Lives.{after_both, legal_back, legal_front, lives_on}
 use Rattle.qm_drive.proofs.Owning.{all_front, all_back, turns_in_append, visits_begin}
@@ -185,9 +190,6 @@ module _ {Y : Type 0} (y : Meaning Y) (tells : Bool) (first : World) (most : ℕ
         same_visits : visits_of node first here ≡ visits_of node first (turns_in before.seen)
         same_visits = visits_found tells first most node m.asked.asked.moment m.asked.asked.call m.asked.told_by_it before after h.number.1 h.all_mine turn own
 
-        size : seat.count ≡ length (visits_of node first here)
-        size = sym c.count ∙ ap length (sym same_visits)
-
         live : is_live w node ≡ seat.live
         live = live_found tells first most node m.asked.asked.moment m.asked.asked.call m.asked.told_by_it before after h.number.1 h.all_mine turn sound_on sound sure own ∙ sym c.live
 
@@ -205,9 +207,9 @@ module _ {Y : Type 0} (y : Meaning Y) (tells : Bool) (first : World) (most : ℕ
         served_plain : IsTurnOf HasSpelling w (built_call m.asked.call.plain) left.0
         served_plain = subst (λ (c : Call). IsTurnOf HasSpelling w c left.0) m.asked.call.asked_is served.0
 
-        moves : Made y seat.node.state seat.live seat.count plain m.asked.made seat'.node now now' v m.asked.told_by_it served_plain left.3 served.1
+        moves : Made y seat.node.state seat.live seat.count seat.begun plain m.asked.made seat'.node now now' v m.asked.told_by_it served_plain left.3 served.1
         moves =
-            made_next y seat.node.state seat.live seat.count plain m.asked.made seat'.node now now' v m.asked.told_by_it served_plain left.3 served.1 next
+            made_next y seat.node.state seat.live seat.count seat.begun plain m.asked.made seat'.node now now' v m.asked.told_by_it served_plain left.3 served.1 next
             (next_at seat.live seat.node.state seat.node.state.stage) refl is m.asked.call.by m.takes_in.heard
 
         there : turns_in after.seen ≡ here ++ left.0 ∷ []
@@ -216,11 +218,11 @@ module _ {Y : Type 0} (y : Meaning Y) (tells : Bool) (first : World) (most : ℕ
         one_more : visits_of node first (here ++ left.0 ∷ []) ≡ visits_of node first (turns_in before.seen) ++ v ∷ []
         one_more = one_visit HasSpelling read_built node first here left.0 left.2 ∙ ap (λ vs. vs ++ v ∷ []) same_visits
 
-        told_more : text_told name (visits_of node first (turns_in before.seen) ++ v ∷ []) ≡ text_told name (visits_of node first (turns_in before.seen)) ++ answer_text name (why_of m.asked.asked.call) m.asked.told_by_it
+        told_more : text_told name (visits_of node first (turns_in before.seen) ++ v ∷ []) ≡ text_told name (visits_of node first (turns_in before.seen)) ++ printed_of name m.asked.asked.call m.asked.told_by_it
         told_more =
-            flat_map-append (λ (x : Visit). answer_text name x.turn.why (answered x)) (visits_of node first (turns_in before.seen)) (v ∷ [])
+            flat_map-append (visit_told name) (visits_of node first (turns_in before.seen)) (v ∷ [])
             ∙ ap (λ l. text_told name (visits_of node first (turns_in before.seen)) ++ l)
-            (append-nil (answer_text name left.0.why (answered v)) ∙ ap (λ x. answer_text name x (answered v)) left.4 ∙ ap (answer_text name (why_of m.asked.asked.call)) (sym served.1))
+            (append-nil (visit_told name v) ∙ lines_printed w m.asked.asked.call left.0 served.0 name m.asked.told_by_it left.4 served.1)
 
         came : HasCome y first node name lines was start (here ++ left.0 ∷ []) seat' now' text'
         came = record {
@@ -229,14 +231,17 @@ module _ {Y : Type 0} (y : Meaning Y) (tells : Bool) (first : World) (most : ℕ
           reached =
               subst (λ b. Reaches HasSpelling read_built (at_first lines) [] (is_live first node) (visits_of node first (here ++ left.0 ∷ [])) (c.steps ++ moves.steps) seat'.node.state b) (sym then_live)
               (course_reaches_on HasSpelling read_built first here left.0 node lines c.steps moves.steps seat.node.state seat'.node.state seat.live (is_live_behind v) left.2
-              (subst (λ vs. Reaches HasSpelling read_built (at_first lines) [] (is_live first node) vs c.steps seat.node.state seat.live) (sym same_visits) c.reached) (moves.leads (visits_of node first here) (sym size)));
+              (subst (λ vs. Reaches HasSpelling read_built (at_first lines) [] (is_live first node) vs c.steps seat.node.state seat.live) (sym same_visits) c.reached) (moves.leads (visits_of node first here)
+              (subst (λ vs. IsBehind vs (standing_of seat)) (sym same_visits) c.behind)));
           rose = rises_on y c.steps moves.steps was now now' c.rose moves.rose;
           taken = taken_on y c.steps moves.steps None was now now' c.taken moves.taken;
-          count =
-              let sum = length-append (visits_of node first (turns_in before.seen)) (v ∷ []) in ap length one_more ∙ sum ∙ ap (λ k. k + 1) c.count ∙ sym m.takes_in.count;
+          behind =
+              subst (λ vs. IsBehind vs (standing_of seat')) (sym one_more)
+              (behind_one (visits_of node first (turns_in before.seen)) v (standing_of seat) (standing_of seat') c.behind m.takes_in.count
+              (m.takes_in.begun ∙ ap (behind_answer seat.begun (step_of m.asked.asked.call)) served.1 ∙ sym ((turn_tells HasSpelling w m.asked.asked.call left.0 served.0).scans seat.begun)));
           text =
-              m.prints ∙ ap (λ l. l ++ answer_text name (why_of m.asked.asked.call) m.asked.told_by_it) c.text
-              ∙ append_assoc start (text_told name (visits_of node first (turns_in before.seen))) (answer_text name (why_of m.asked.asked.call) m.asked.told_by_it)
+              m.prints ∙ ap (λ l. l ++ printed_of name m.asked.asked.call m.asked.told_by_it) c.text
+              ∙ append_assoc start (text_told name (visits_of node first (turns_in before.seen))) (printed_of name m.asked.asked.call m.asked.told_by_it)
               ∙ ap (λ l. start ++ l) (sym told_more ∙ ap (text_told name) (sym one_more));
         }
 

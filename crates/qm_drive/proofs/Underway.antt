@@ -13,19 +13,19 @@ use Rattle.qm_history.specs.declared.call.Call.{Call}
 use Rattle.qm_history.specs.declared.turn.Turn.{Turn}
 use Rattle.qm_history.specs.declared.world.World.{World}
 use Rattle.qm_history.specs.Answering.{MayAnswer}
-use Rattle.qm_history.specs.Calls.{why_of}
 use Rattle.qm_history.specs.Chest.{IsMadeFor}
 use Rattle.qm_history.specs.declared.call.Call.TheVariants as call
 use Rattle.qm_model.specs.Kept.{KeptRun}
-use Rattle.qm_history.specs.Course.{NodeState, Whole, Begun, MadeStep, GoesOn, IsCourse, answered, at_first, failed_steps, next_at}
+use Rattle.qm_history.specs.Course.{NodeState, Whole, Begun, MadeStep, GoesOn, IsCourse, at_first, failed_steps, next_at}
 use Rattle.qm_history.specs.Ends.{Ended, TurnsSpent, BeginsWith, HasPrinted}
 use Rattle.qm_history.specs.Legal.{IsLegal, after_turns}
 use Rattle.qm_history.specs.Reaching.{Reaches}
+use Rattle.qm_history.specs.Scans.{no_scans, scans_of}
 use Rattle.qm_history.specs.Script.{UserLine}
-use Rattle.qm_history.specs.Text.{answer_text}
 use Rattle.qm_history.specs.Visits.{Visit, visits_of}
 use Rattle.qm_history.specs.World.{IsSound, is_live}
 use Rattle.qm_history.proofs.ReachingLemmas.{one_visit}
+use Rattle.qm_course.specs.Answered.{printed_of}
 use Rattle.qm_course.specs.Asking.{built_call, read_built}
 use Rattle.qm_course.specs.Serving.{IsAnswered}
 use Rattle.qm_course.specs.Taken.{AreTaken, Rises}
@@ -33,6 +33,7 @@ use Rattle.qm_course.proofs.Breaking.{BrokenOff, LastOne, broken_next, last_one,
 use Rattle.qm_course.proofs.Counting.{appends_none, appends_on, rose_on}
 use Rattle.qm_course.proofs.Going.{nothing_next}
 use Rattle.qm_course.proofs.Joining.{rises_on, taken_on}
+use Rattle.qm_course.proofs.Printing.{lines_printed}
 use Rattle.qm_course.proofs.Reached.{goes_on, reached_is}
 use Rattle.qm_course.proofs.Stepping.{none_taken}
 use Rattle.qm_history.specs.Turn.{IsTurnOf, IsCutShort}
@@ -44,7 +45,7 @@ use Rattle.qm_turn.specs.Turns.{Known}
 use Rattle.qm_drive.specs.declared.ending.DriveEnd.{DriveEnd}
 use Rattle.qm_drive.specs.declared.ending.DriveEnd.TheVariants as end
 use Rattle.qm_drive.specs.declared.noted.Noted.{Noted}
-use Rattle.qm_drive.specs.Driving.{HasCome, HasDriven, HasMade, IsDriven, IsHeard, IsLastOf, node_end, readings, text_told}
+use Rattle.qm_drive.specs.Driving.{HasCome, HasDriven, HasMade, IsDriven, IsHeard, IsLastOf, node_end, readings, text_told, visit_told}
 use Rattle.qm_drive.specs.Passes.{turns_in, AreOwn}
 use Rattle.qm_drive.specs.Serving.{LeavesTurn}
 use Rattle.qm_drive.specs.Turning.{EndsAsked, EndsAt, EndsBy, EndsUnasked, HeldSeat, IsTurnMade, MakesTurn, ending_of}
@@ -101,7 +102,7 @@ module _ {Y : Type 0} (y : Meaning Y) (tells : Bool) (first : World) (most : ℕ
     pub came : IsTrue tells → AreOwn node new.seen → HasCome y first node name lines was start (turns_in new.seen) seat now text
 
   abbrev begins : HeldSeat
-  begins = record { node = record { state = at_first lines; made = None }; live = true; count = 0 }
+  begins = record { node = record { state = at_first lines; made = None }; live = true; count = 0; begun = no_scans }
 
   come_first : is_live first node ≡ true → HasCome y first node name lines was start [] begins was start
   come_first live = record {
@@ -110,7 +111,7 @@ module _ {Y : Type 0} (y : Meaning Y) (tells : Bool) (first : World) (most : ℕ
     reached = (refl, refl, sym live);
     rose = refl;
     taken = none_taken y was;
-    count = refl;
+    behind = record { count = refl; begun = refl };
     text = sym (append-nil start);
   }
 
@@ -315,7 +316,7 @@ module _ {Y : Type 0} (y : Meaning Y) (tells : Bool) (first : World) (most : ℕ
             driven_none : turn.note.turn ≡ None → Driven here
             driven_none none =
                 let off : BrokenOff y seat.node.state seat.live plain e.asked.made now now' =
-                broken_next y seat.node.state seat.live plain e.asked.made now now' next (next_at seat.live seat.node.state seat.node.state.stage) refl is e.asked.call.by in
+                broken_next y seat.node.state seat.live plain e.asked.made now now' seat.begun next (next_at seat.live seat.node.state seat.node.state.stage) refl is e.asked.call.by in
                 driven_by y first node name lines here was now' start text' (failed_steps c.steps + off.faults)
                 (rose_on (failed_steps c.steps) off.faults (y.faults was) (y.faults now) (y.faults now') c.rose off.rose)
                 (course_begun first node lines here here [] c.steps [] seat.node.state seat.live off.broken (failed_steps c.steps + off.faults) (few_so_far c.steps off.faults)
@@ -341,19 +342,19 @@ module _ {Y : Type 0} (y : Meaning Y) (tells : Bool) (first : World) (most : ℕ
               served : IsTurnOf HasSpelling w (built_call e.asked.call.plain) t ⊎ IsCutShort HasSpelling w (built_call e.asked.call.plain) t
               served = subst (λ (x : Call). IsTurnOf HasSpelling w x t ⊎ IsCutShort HasSpelling w x t) e.asked.call.asked_is (whole_or_cut w e.asked.asked.call t e.asked.told_by_it may)
 
-              moves : LastOne y seat.node.state seat.live plain e.asked.made now now' v served made.1
+              moves : LastOne y seat.node.state seat.live seat.begun plain e.asked.made now now' v served made.1
               moves =
-                  last_one y seat.node.state seat.live plain e.asked.made now now' v served made.1 next (next_at seat.live seat.node.state seat.node.state.stage) refl is e.asked.call.by
+                  last_one y seat.node.state seat.live seat.begun plain e.asked.made now now' v served made.1 next (next_at seat.live seat.node.state seat.node.state.stage) refl is e.asked.call.by
 
               one_more : visits_of node first (here ++ t ∷ []) ≡ visits_of node first here ++ v ∷ []
               one_more = one_visit HasSpelling read_built node first here t made.0
 
               abbrev said : List ℕ
-              said = answer_text name t.why (answered v)
+              said = visit_told name v
 
               told_more : text_told name (visits_of node first (here ++ t ∷ [])) ≡ text_told name (visits_of node first here) ++ said
               told_more =
-                  ap (text_told name) one_more ∙ flat_map-append (λ (x : Visit). answer_text name x.turn.why (answered x)) (visits_of node first here) (v ∷ [])
+                  ap (text_told name) one_more ∙ flat_map-append (visit_told name) (visits_of node first here) (v ∷ [])
                   ∙ ap (λ l. text_told name (visits_of node first here) ++ l) (append-nil said)
 
               so_far : text ≡ start ++ text_told name (visits_of node first here)
@@ -384,10 +385,10 @@ module _ {Y : Type 0} (y : Meaning Y) (tells : Bool) (first : World) (most : ℕ
                 printed_begun stopped (text_told name (visits_of node first (here ++ t ∷ []))) (text_told name (visits_of node first here)) (short_end short) (said, told_more),
               )
               printed_some (inr (goes, short, inr prints)) =
-                  let is_said : answer_text name (why_of e.asked.asked.call) e.asked.told_by_it ≡ said =
-                  ap (λ x. answer_text name x e.asked.told_by_it) (sym made.2) ∙ ap (answer_text name t.why) (says w e.asked.asked.call t e.asked.told_by_it goes may).1 in (
+                  let whole = says w e.asked.asked.call t e.asked.told_by_it goes may in
+                  let is_said : printed_of name e.asked.asked.call e.asked.told_by_it ≡ said = sym (lines_printed w e.asked.asked.call t whole.0 name e.asked.told_by_it made.2 whole.1) in (
                     text_told name (visits_of node first (here ++ t ∷ [])),
-                    prints ∙ ap (λ l. l ++ answer_text name (why_of e.asked.asked.call) e.asked.told_by_it) so_far ∙ ap (λ l. (start ++ text_told name (visits_of node first here)) ++ l) is_said
+                    prints ∙ ap (λ l. l ++ printed_of name e.asked.asked.call e.asked.told_by_it) so_far ∙ ap (λ l. (start ++ text_told name (visits_of node first here)) ++ l) is_said
                         ∙ append_assoc start (text_told name (visits_of node first here)) said ∙ ap (λ l. start ++ l) (sym told_more),
                     printed_all stopped (text_told name (visits_of node first (here ++ t ∷ []))),
                   )
@@ -398,7 +399,7 @@ module _ {Y : Type 0} (y : Meaning Y) (tells : Bool) (first : World) (most : ℕ
                   driven_by y first node name lines (here ++ t ∷ []) was now' start text' (failed_steps (c.steps ++ moves.steps)) (rises_on y c.steps moves.steps was now now' c.rose moves.rose)
                   (course_begun first node lines here (here ++ t ∷ []) (v ∷ []) c.steps moves.steps seat.node.state seat.live None (failed_steps (c.steps ++ moves.steps)) (omega arith)
                   (subst (λ vs. Reaches HasSpelling read_built (at_first lines) [] (is_live first node) vs c.steps seat.node.state seat.live) (sym same_visits) c.reached)
-                  (moves.leads (visits_of node first here)) one_more)
+                  (moves.leads (visits_of node first here) (ap scans_of same_visits ∙ c.behind.begun)) one_more)
                   (taken_on y c.steps moves.steps None was now now' c.taken moves.taken) shown.0 shown.1 stopped shown.2
 
             by_turn : (o : Option Turn) → turn.note.turn ≡ o → Driven (turns_in after.seen)

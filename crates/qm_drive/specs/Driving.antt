@@ -8,15 +8,17 @@ use Rattle.qm_record.specs.Spelling.{HasSpelling}
 use Rattle.qm_symb.specs.Device.{Meaning}
 use Rattle.qm_history.specs.declared.turn.Turn.{Turn}
 use Rattle.qm_history.specs.declared.world.World.{World}
-use Rattle.qm_history.specs.Course.{IsCourse, MadeStep, answered, at_first, failed_steps}
+use Rattle.qm_history.specs.Course.{IsCourse, MadeStep, at_first, failed_steps}
 use Rattle.qm_history.specs.Ends.{NodeEnd, Ended, BrokenOff, TurnsSpent, FileDamaged, MemoryShort, HasPrinted, extent_of}
 use Rattle.qm_history.specs.Legal.{after_turns}
 use Rattle.qm_history.specs.Reaching.{Reaches}
 use Rattle.qm_history.specs.Script.{UserLine}
-use Rattle.qm_history.specs.Text.{answer_text}
+use Rattle.qm_history.specs.Text.{behind, prefix_of, turn_lines}
 use Rattle.qm_history.specs.Visits.{Visit, visits_of}
 use Rattle.qm_history.specs.World.{is_live}
+use Rattle.qm_sjc.specs.Printed.{items_line}
 use Rattle.qm_course.specs.Asking.{read_built}
+use Rattle.qm_course.specs.Standing.{IsBehind}
 use Rattle.qm_course.specs.Taken.{AreTaken, Rises}
 use Rattle.qm_turn.specs.History.{notes_by}
 use Rattle.qm_turn.specs.Turns.{Known}
@@ -25,7 +27,7 @@ use Rattle.qm_drive.specs.declared.ending.DriveEnd.TheVariants as end
 use Rattle.qm_drive.specs.declared.noted.Noted.{Noted}
 use Rattle.qm_drive.specs.Passes.{turns_in, IsOfNode}
 use Rattle.qm_drive.specs.Sharing.{turns_of}
-use Rattle.qm_drive.specs.Turning.{HeldSeat}
+use Rattle.qm_drive.specs.Turning.{HeldSeat, standing_of}
 
 -- ---- how it ends
 
@@ -51,8 +53,11 @@ IsLastOf node MemoryShort last = (last ≡ []) ⊎ ((n : Noted) × (last ≡ n �
 -- ---- what it did
 
 -- the text of the answers that a node of this name got in its turns
+abbrev pub visit_told : List ℕ → Visit → List ℕ
+visit_told name v = behind (prefix_of name v.turn.why) (turn_lines items_line v.before v.turn)
+
 abbrev pub text_told : List ℕ → List Visit → List ℕ
-text_told name visits = flat_map (λ (v : Visit). answer_text name v.turn.why (answered v)) visits
+text_told name visits = flat_map (visit_told name) visits
 
 -- the readings of the turns that are noted
 abbrev pub readings : List Noted → List ℕ
@@ -100,7 +105,7 @@ module _ {Y : Type 0} (y : Meaning Y) (first : World) (node : ℕ) (name : List 
     pub reached : Reaches HasSpelling read_built (at_first lines) [] (is_live first node) (visits_of node first turns) steps seat.node.state seat.live
     pub rose : Rises y (failed_steps steps) was now
     pub taken : AreTaken y steps None was now
-    pub count : length (visits_of node first turns) ≡ seat.count
+    pub behind : IsBehind (visits_of node first turns) (standing_of seat)
     pub text : after ≡ before ++ text_told name (visits_of node first turns)
 
 -- what a pass knows between two turns of its node: each of the node's calls left a turn, and was told it

@@ -8,17 +8,19 @@ use Rattle.qm_history.specs.declared.call.Answer.{Answer}
 use Rattle.qm_history.specs.declared.call.Answer.TheVariants as answer
 use Rattle.qm_history.specs.declared.call.Call.{Call}
 use Rattle.qm_history.specs.declared.world.World.{World}
-use Rattle.qm_history.specs.Calls.{why_of}
 use Rattle.qm_history.specs.Course.{NodeState}
 use Rattle.qm_history.specs.Chest.{IsMadeFor as IsOf, is_unread}
 use Rattle.qm_history.specs.Legal.{IsLegal, after_turns}
-use Rattle.qm_history.specs.Text.{answer_text}
+use Rattle.qm_history.specs.Scans.{Scans}
 use Rattle.qm_living.specs.Living.{bearing_of, live_behind}
 use Rattle.qm_node.specs.declared.course.Asked.{Asked}
 use Rattle.qm_node.specs.declared.course.Next.{Next}
 use Rattle.qm_node.specs.Node.{CanBeHeard, CanBeMade, ComesNext, HeldNode, Hears, IsCallOf, IsMadeFor}
+use Rattle.qm_scans.specs.Behind.{behind_answer, step_of}
+use Rattle.qm_course.specs.Answered.{printed_of}
 use Rattle.qm_course.specs.Asking.{built_call}
 use Rattle.qm_course.specs.Serving.{IsAnswered}
+use Rattle.qm_course.specs.Standing.{Standing}
 use Rattle.qm_turn.specs.History.{notes_by}
 use Rattle.qm_turn.specs.Turns.{Known}
 use Rattle.qm_drive.specs.declared.ending.DriveEnd.{DriveEnd}
@@ -27,11 +29,15 @@ use Rattle.qm_drive.specs.declared.noted.Noted.{Noted}
 use Rattle.qm_drive.specs.Passes.{turns_in}
 use Rattle.qm_drive.specs.Serving.{LeavesTurn}
 
--- where a node is between two turns: its state, whether it is live, and how many turns it has made
+-- where a node is between two turns: its state, whether it is live, how many turns it has made, and the listings that it has begun
 pub record HeldSeat : Type 0 where
   pub node : HeldNode
   pub live : Bool
   pub count : ℕ
+  pub begun : Scans
+
+abbrev pub standing_of : HeldSeat → Standing
+standing_of seat = record { state = seat.node.state; live = seat.live; count = seat.count; begun = seat.begun }
 
 -- the answer ends the turns of the node, if it does
 abbrev pub ending_of : Answer → Option DriveEnd
@@ -67,11 +73,11 @@ pub record IsTurnMade (tells : Bool) (first : World) (most node now : ℕ) (aske
   pub answered : IsTrue tells → IsAnswered (after_turns first (turns_in (old.seen ++ between))) asked note.turn told
   pub heard : CanBeHeard told
 
--- The call of what comes next was made, as far as that is built.
-pub record IsCalled {Y : Type 0} (y : Meaning Y) (next : Next) (n : NodeState) (asked : Asked) (made : HeldNode) (was now : Y) : Type 0 where
+-- The call of what comes next was made, as far as that is built, where the node has begun these listings.
+pub record IsCalled {Y : Type 0} (y : Meaning Y) (begun : Scans) (next : Next) (n : NodeState) (asked : Asked) (made : HeldNode) (was now : Y) : Type 0 where
   pub plain : Call
   pub asked_is : asked.call ≡ built_call plain
-  pub by : IsCallOf y next n (record { moment = asked.moment; call = plain }) made was now
+  pub by : IsCallOf y begun next n (record { moment = asked.moment; call = plain }) made was now
 
 -- the call of what comes next was made, and its answer can be taken in
 pub record MayHear (next : Next) (old new : HeldSeat) : Type 0 where
@@ -80,16 +86,18 @@ pub record MayHear (next : Next) (old new : HeldSeat) : Type 0 where
   pub made : IsMadeFor next new.node.made
   pub live : new.live ≡ old.live
   pub count : new.count ≡ old.count
+  pub begun : new.begun ≡ old.begun
 
 -- the node takes the answer in
 pub record TakesIn (next : Next) (made : HeldNode) (asked : Call) (told : Answer) (old new : HeldSeat) : Type 0 where
   pub heard : Hears old.count next made told new.node
   pub live : new.live ≡ live_behind old.live (bearing_of asked) told
   pub count : new.count ≡ old.count + 1
+  pub begun : new.begun ≡ behind_answer old.begun (step_of asked) told
 
 -- the text of an answer is appended
 abbrev pub Prints : List ℕ → Call → Answer → List ℕ → List ℕ → Type 0
-Prints name asked told old new = new ≡ old ++ answer_text name (why_of asked) told
+Prints name asked told old new = new ≡ old ++ printed_of name asked told
 
 -- the answer ends the node's turns, and nothing is printed of it; or memory is short behind it
 abbrev pub EndsBy : List ℕ → DriveEnd → Call → Answer → List ℕ → List ℕ → Type 0
@@ -103,7 +111,7 @@ module _ {Y : Type 0} (y : Meaning Y) (tells : Bool) (first : World) (most : ℕ
     pub asked : Asked
     pub made : HeldNode
     pub told_by_it : Answer
-    pub call : IsCalled y next old.node.state asked made was now
+    pub call : IsCalled y old.begun next old.node.state asked made was now
     pub clock : Appends told then (asked.moment ∷ [])
     pub turn : IsTurnMade tells first most node asked.moment asked.call told_by_it before after
 

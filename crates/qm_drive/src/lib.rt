@@ -2,7 +2,6 @@
 //! its runs and its leave. The queue manager is whatever keeps the contract of `Serve`.
 #![tactic(auto)]
 
-mod asked;
 mod asking;
 mod course;
 mod ending;

@@ -2,15 +2,18 @@
 ghost use Rattle.std.specs.Prelude.{◌≡◌, ◌<◌, ◌^◌, None, IfSome, OnOk, true};
 ghost use Rattle.qm_history.specs.declared.call.Call.{Call as AnyCall};
 ghost use Rattle.qm_history.specs.Course.{at_first, next_at};
-ghost use Rattle.qm_living.specs.Living.{bearing_of};
+ghost use Rattle.qm_history.specs.Scans.{no_scans};
+ghost use Rattle.qm_course.specs.Asking.{gist_of};
 ghost use Rattle.qm_node.specs.Node.{CanBeHeard, CanBeMade, ComesNext, IsMadeFor, IsTurn};
 ghost use Rattle.qm_script.specs.ClusterLines.{user_lines_view};
 ghost use Rattle.qm_drive.specs.Turning.{TakesIn, ending_of};
 
 use crate::ending::DriveEnd;
+use qm_course::Gist;
 use qm_history::Answer;
-use qm_living::{Bearing, live_behind};
+use qm_living::live_behind;
 use qm_node::{Next, NodeState};
+use qm_scans::Scans;
 use qm_script::UserLine;
 use qm_symb::Symbiont;
 use std::alloc::{AllocError, Global};
@@ -23,6 +26,8 @@ pub(crate) struct Seat<'a, Y: Symbiont> {
     pub(crate) live: bool,
     /// How many turns it has made.
     pub(crate) turns: u64,
+    /// The listings that it has begun in them.
+    pub(crate) begun: Scans,
 }
 
 impl<'a, Y: Symbiont> Model for Seat<'a, Y> {
@@ -30,7 +35,7 @@ impl<'a, Y: Symbiont> Model for Seat<'a, Y> {
 
     ghost Value = { HeldSeat };
 
-    ghost view = { λ s. record { node = s.state; live = s.live; count = s.turns } };
+    ghost view = { λ s. record { node = s.state; live = s.live; count = s.turns; begun = s.begun } };
 }
 
 /// The end that an answer makes of the turns of a node, if it makes one.
@@ -51,12 +56,13 @@ pub(crate) fn ending_of(answer: &Answer) -> Option<DriveEnd>
 impl<'a, Y: Symbiont> Seat<'a, Y> {
     /// A live node in front of these lines.
     pub(crate) fn new(alloc: Global, lines: &'a [UserLine<'a>]) -> Seat<'a, Y>
-        ensures { result ≡ record { node = record { state = at_first (user_lines_view lines.now); made = None }; live = true; count = 0 } }
+        ensures { result ≡ record { node = record { state = at_first (user_lines_view lines.now); made = None }; live = true; count = 0; begun = no_scans } }
     {
         Seat {
             state: NodeState::new(alloc, lines),
             live: true,
             turns: 0,
+            begun: Scans::new(),
         }
     }
 
@@ -68,11 +74,11 @@ impl<'a, Y: Symbiont> Seat<'a, Y> {
         self.state.next(self.live)
     }
 
-    /// Takes the answer in that the call of what came next got. At want of memory nothing changes.
+    /// Takes the answer in that the call of what came next got.
     pub(crate) fn take_in(
         &mut self,
         next: &Next<'a>,
-        bearing: Bearing,
+        gist: &Gist,
         answer: Answer,
         symbiont: &Y,
     ) -> Result<(), AllocError>
@@ -81,9 +87,10 @@ impl<'a, Y: Symbiont> Seat<'a, Y> {
         requires made { IsMadeFor next.now self.old.node.made }
         requires duties { CanBeHeard answer }
         requires few { self.old.count < 2 ^ 32 }
-        ensures { (asked : AnyCall) → bearing ≡ bearing_of asked → OnOk result (TakesIn next.now self.old.node asked answer self.old self.new) }
+        ensures { (asked : AnyCall) → gist.now ≡ gist_of asked → OnOk result (TakesIn next.now self.old.node asked answer self.old self.new) }
     {
-        let live = live_behind(self.live, bearing, &answer);
+        let live = live_behind(self.live, gist.bearing, &answer);
+        self.begun.hear(&gist.step, &answer);
         self.state.hear(next, self.turns, answer, symbiont)?;
         self.live = live;
         self.turns += 1;

@@ -1,25 +1,25 @@
 // One turn of a node at the turnstile.
-ghost use Rattle.std.specs.Prelude.{◌≡◌, ◌<◌, ◌-◌, ◌^◌, length, Some, None, IfErr, IfOk, OnErr, OnOk};
+ghost use Rattle.std.specs.Prelude.{◌≡◌, ◌<◌, ◌-◌, ◌^◌, ◌++◌, length, Some, None, IfErr, IfOk, OnErr, OnOk};
 ghost use Rattle.qm_history.specs.declared.call.Call.{Call as AnyCall};
-ghost use Rattle.qm_history.specs.Calls.{why_of};
 ghost use Rattle.qm_history.specs.Course.{next_at};
-ghost use Rattle.qm_living.specs.Living.{bearing_of};
+ghost use Rattle.qm_course.specs.Answered.{printed_by};
+ghost use Rattle.qm_course.specs.Asking.{gist_of};
 ghost use Rattle.qm_node.specs.Node.{CanBeHeard, CanBeMade, ComesNext, IsMadeFor, IsTurn, TellsOne};
 ghost use Rattle.qm_drive.specs.Allowed.{CanAskAll};
 ghost use Rattle.qm_drive.specs.Turning.{EndsAt, EndsBy, IsCalled, IsTurnMade, MakesTurn, MayHear, Prints, TakesIn, ending_of};
 
-use crate::asked::{built_asked, why_of};
 use crate::asking::Asking;
 use crate::ending::DriveEnd;
 use crate::seat::{Seat, ending_of};
 use crate::serve::Serve;
 use crate::shared::Shared;
 use crate::station::{Gate, Point, Station};
-use qm_history::{Answer, Call, Why};
+use qm_course::{Gist, built_asked, gist_of};
+use qm_history::{Answer, Call};
 use qm_io::Clock;
 use qm_kinds::{Moment, Name};
-use qm_living::{Bearing, bearing_of};
 use qm_node::{Asked, Next};
+use qm_scans::is_single;
 use qm_show::show_answer;
 use qm_symb::Symbiont;
 use qm_turn::{PassOf, TurnsSpent, Turnstile};
@@ -50,14 +50,14 @@ fn ask<S: Serve, R: Wait>(
 fn print_answer(
     alloc: Global,
     name: &Name,
-    why: Why,
+    gist: &Gist,
     answer: &Answer,
     text: &mut Vec<u8>,
 ) -> Result<(), AllocError>
-    ensures printed { (asked : AnyCall) → why ≡ why_of asked → OnOk result (Prints name.now asked answer.now text.old.items text.new.items) }
+    ensures printed { OnOk result (text.new.items ≡ text.old.items ++ printed_by name.now gist.now answer.now) }
     ensures no_memory { OnErr result (text.new.items ≡ text.old.items) }
 {
-    let shown = show_answer(alloc, name, why, answer)?;
+    let shown = show_answer(alloc, name, gist.why, is_single(&gist.step), answer)?;
     text.extend_from_slice(&shown)
 }
 
@@ -67,8 +67,7 @@ fn hear<'a, Y: Symbiont>(
     name: &Name,
     seat: &mut Seat<'a, Y>,
     next: &Next<'a>,
-    why: Why,
-    bearing: Bearing,
+    gist: &Gist,
     answer: Answer,
     symbiont: &Y,
     text: &mut Vec<u8>,
@@ -79,17 +78,17 @@ fn hear<'a, Y: Symbiont>(
     requires duties { CanBeHeard answer }
     requires few { seat.old.count < 2 ^ 32 }
     ensures goes_on { OnOk result (ending_of answer ≡ None) }
-    ensures printed { (asked : AnyCall) → why ≡ why_of asked → OnOk result (Prints name.now asked answer text.old.items text.new.items) }
-    ensures takes_in { (asked : AnyCall) → bearing ≡ bearing_of asked → OnOk result (TakesIn next.now seat.old.node asked answer seat.old seat.new) }
-    ensures ends { (asked : AnyCall) → why ≡ why_of asked → IfErr result (λ end. EndsBy name.now end asked answer text.old.items text.new.items) }
+    ensures printed { (asked : AnyCall) → gist.now ≡ gist_of asked → OnOk result (Prints name.now asked answer text.old.items text.new.items) }
+    ensures takes_in { (asked : AnyCall) → gist.now ≡ gist_of asked → OnOk result (TakesIn next.now seat.old.node asked answer seat.old seat.new) }
+    ensures ends { (asked : AnyCall) → gist.now ≡ gist_of asked → IfErr result (λ end. EndsBy name.now end asked answer text.old.items text.new.items) }
 {
     if let Some(end) = ending_of(&answer) {
         return Err(end);
     }
-    let Ok(()) = print_answer(alloc, name, why, &answer, text) else {
+    let Ok(()) = print_answer(alloc, name, gist, &answer, text) else {
         return Err(DriveEnd::NoMemory);
     };
-    match seat.take_in(next, bearing, answer, symbiont) {
+    match seat.take_in(next, gist, answer, symbiont) {
         Ok(()) => Ok(()),
         Err(AllocError) => Err(DriveEnd::NoMemory),
     }
@@ -106,7 +105,7 @@ fn make_call<'a, S: Serve, C: Clock, Y: Symbiont, G: Gate>(
     requires can { CanBeMade seat.old.node.state next.now }
     requires told { seat.old.node.made ≡ None }
     requires asks { CanAskAll S.can_ask node }
-    ensures call { IfOk result (λ asked. IsCalled Y.meaning next.now seat.old.node.state asked seat.new.node station.old.symbiont station.new.symbiont) }
+    ensures call { IfOk result (λ asked. IsCalled Y.meaning seat.old.begun next.now seat.old.node.state asked seat.new.node station.old.symbiont station.new.symbiont) }
     ensures asks { IfOk result (λ asked. S.can_ask node asked.call) }
     ensures clock { TellsOne (C.told station.old.clock) (C.told station.new.clock) result }
     ensures seat { OnOk result (MayHear next.now seat.old seat.new) }
@@ -115,10 +114,7 @@ fn make_call<'a, S: Serve, C: Clock, Y: Symbiont, G: Gate>(
     if let Next::Step(_) = next {
         station.gate.at(Point::InStep);
     }
-    match seat
-        .state
-        .call(next, &mut station.clock, &mut station.symbiont)
-    {
+    match seat.state.call(next, &seat.begun, &mut station.clock, &mut station.symbiont) {
         Ok(asked) => Ok(built_asked(asked)),
         Err(error) => Err(error),
     }
@@ -153,8 +149,7 @@ pub(crate) fn make_turn<'a, S: Serve, R: Wait, C: Clock, Y: Symbiont, G: Gate>(
     let Ok(Asked { moment, call }) = make_call::<S, C, Y, G>(node, seat, next, station) else {
         return Err(DriveEnd::NoMemory);
     };
-    let why = why_of(&call);
-    let bearing = bearing_of(&call);
+    let gist = gist_of(&call);
     station.gate.at(Point::BeforeTurn);
     let answer = ask(rt, turnstile, pass, node, moment, call);
     station.gate.at(Point::AfterTurn);
@@ -163,8 +158,7 @@ pub(crate) fn make_turn<'a, S: Serve, R: Wait, C: Clock, Y: Symbiont, G: Gate>(
         name,
         seat,
         next,
-        why,
-        bearing,
+        &gist,
         answer,
         &station.symbiont,
         text,

@@ -38,19 +38,19 @@ all-push [] item each can = (can, tt)
 all-push (first ∷ items) item each can = (each.0, all-push items item each.1 can)
 
 -- what an item begins with tells its length and its code
-count_at : (item : Item) (rest : List ℕ) → CanStand item → from_le_bytes w16 (take 2 (item_text item ++ rest)) ≡ length item.value
+pub count_at : (item : Item) (rest : List ℕ) → CanStand item → from_le_bytes w16 (take 2 (item_text item ++ rest)) ≡ length item.value
 unfolding item_text
 count_at item rest can =
     let front : take 2 (item_text item ++ rest) ≡ to_le_bytes w16 (length item.value) = refl in
     ap (λ (l : List ℕ). from_le_bytes w16 l) front ∙ from_le_bytes-to_le_bytes_2 (length item.value) can.short
 
-code_at : (item : Item) (rest : List ℕ) → CanStand item → from_le_bytes w16 (take 2 (drop 2 (item_text item ++ rest))) ≡ item.code
+pub code_at : (item : Item) (rest : List ℕ) → CanStand item → from_le_bytes w16 (take 2 (drop 2 (item_text item ++ rest))) ≡ item.code
 unfolding item_text
 code_at item rest can =
     let front : take 2 (drop 2 (item_text item ++ rest)) ≡ to_le_bytes w16 item.code = refl in
     ap (λ (l : List ℕ). from_le_bytes w16 l) front ∙ from_le_bytes-to_le_bytes_2 item.code can.code
 
-behind_head : (item : Item) (rest : List ℕ) → drop 4 (item_text item ++ rest) ≡ item.value ++ rest
+pub behind_head : (item : Item) (rest : List ℕ) → drop 4 (item_text item ++ rest) ≡ item.value ++ rest
 unfolding item_text
 behind_head item rest = refl
 
@@ -79,7 +79,7 @@ cut_stops rest cut item more can same =
     let says : from_le_bytes w16 (take 2 rest) ≡ length item.value = ap (λ (l : List ℕ). from_le_bytes w16 (take 2 l)) same ∙ count_at item more can in
     absurd (omega (arith, cut.1, says, ap (λ (l : List ℕ). length l) same, length-append (item_text item) more, length-item_text item))
 
-none_behind : from_le_bytes w16 (0 ∷ 0 ∷ []) ≡ 0
+pub none_behind : from_le_bytes w16 (0 ∷ 0 ∷ []) ≡ 0
 none_behind = refl
 
 end_stops : (more : List ℕ) → IsStop (list_end ++ more)

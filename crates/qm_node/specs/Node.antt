@@ -13,9 +13,10 @@ use Rattle.qm_history.specs.declared.call.Answer.TheVariants as answer
 use Rattle.qm_history.specs.declared.call.Call.TheVariants as call
 use Rattle.qm_history.specs.Course.{NodeState, NextTurn, ALine, AStep, AFetch, ALeave, NoTurn, behind_fetch, behind_line, behind_step, next_at, own_stage}
 use Rattle.qm_history.specs.Course as course
+use Rattle.qm_history.specs.Scans.{Scans}
 use Rattle.qm_history.specs.Script.{steps_asked}
 use Rattle.qm_script.specs.ClusterLines.{user_line_view}
-use Rattle.qm_script.specs.Served.{read_served}
+use Rattle.qm_script.specs.Asked.{line_with}
 use Rattle.qm_symb.specs.Device.{Meaning}
 use Rattle.qm_node.specs.declared.course.Asked.{Asked}
 use Rattle.qm_node.specs.declared.course.Next.{Next}
@@ -95,12 +96,12 @@ abbrev pub TellsOne : {E : Type 0} → Option (List ℕ) → Option (List ℕ) �
 TellsOne old new (Ok asked) = Appends old new (asked.moment ∷ [])
 TellsOne old new (Err end) = (moment : ℕ) × Appends old new (moment ∷ [])
 
-module _ {D : Type 0} (m : Meaning D) where
-  -- This is the call of what comes next. A line is read at the call's moment; a report is of a step of the run that steps next,
-  -- which is made; nothing else changes.
+module _ {D : Type 0} (m : Meaning D) (begun : Scans) where
+  -- This is the call of what comes next, where the node has begun these listings. A line is read at the call's moment; a report is
+  -- of a step of the run that steps next, which is made; nothing else changes.
   abbrev pub IsCallOf : Next → NodeState → Asked → HeldNode → D → D → Type 0
   IsCallOf (Line line) n asked new before after =
-      (asked.call ≡ call.Line line.now.number (read_served (user_line_view line.now) asked.moment [] (known n.kept)))
+      (asked.call ≡ call.Line line.now.number (line_with (user_line_view line.now) asked.moment begun (known n.kept)))
       × (new ≡ record { state = n; made = None }) × (after ≡ before)
   IsCallOf (Step run) n asked new before after =
       (told : Report) × (asked.call ≡ call.Report run told) × NextSteps m n.kept told before after × (new ≡ record { state = n; made = Some told })

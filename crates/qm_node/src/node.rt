@@ -4,7 +4,7 @@ ghost use Rattle.qm_history.specs.Course.{at_first, behind_fetch, behind_line, g
 ghost use Rattle.qm_history.specs.Script.{steps_asked};
 ghost use Rattle.qm_model.specs.Kept.{known, next_kept};
 ghost use Rattle.qm_script.specs.ClusterLines.{user_line_view, user_lines_view};
-ghost use Rattle.qm_script.specs.Served.{read_served};
+ghost use Rattle.qm_script.specs.Asked.{line_with};
 ghost use Rattle.qm_node.specs.Node.{CanBeHeard, CanBeMade, ComesNext, Hears, HearsReport, IsCallOf, IsMadeFor, IsTurn, TellsOne, duties_in, ends_recording, is_spent, kept_fetched, kept_heard, stage_fetched, stage_view};
 
 use crate::course::{Asked, Next, Stage, next_reading, next_working};
@@ -12,6 +12,7 @@ use crate::runs::NodeRuns;
 use qm_history::{Answer, Call};
 use qm_io::Clock;
 use qm_kinds::{Act, Duty, Moment, Refusal, Seq};
+use qm_scans::Scans;
 use qm_script::{UserLine, read_line, steps_of};
 use qm_symb::Symbiont;
 use std::alloc::{AllocError, Global};
@@ -207,14 +208,19 @@ impl<'a, Y: Symbiont> NodeState<'a, Y> {
         }
     }
 
-    // The call of a line, which is read at a moment.
-    fn call_of_line(&self, line: &UserLine<'_>, now: Moment) -> Result<Call, AllocError>
-        ensures { IfOk result (λ call. call ≡ Call.Line line.now.number (read_served (user_line_view line.now) now [] (known self.now.state.kept))) }
+    // The call of a line, which is read at a moment, where the node has begun these listings.
+    fn call_of_line(
+        &self,
+        line: &UserLine<'_>,
+        now: Moment,
+        begun: &Scans,
+    ) -> Result<Call, AllocError>
+        ensures { IfOk result (λ call. call ≡ Call.Line line.now.number (line_with (user_line_view line.now) now begun.now (known self.now.state.kept))) }
     {
         let known = self.runs.known()?;
         Ok(Call::Line {
             line: line.number,
-            input: read_line(self.alloc, line, now, &known)?,
+            input: read_line(self.alloc, line, now, begun, &known)?,
         })
     }
 
@@ -228,17 +234,19 @@ impl<'a, Y: Symbiont> NodeState<'a, Y> {
     }
 
     /// Makes the call of what comes next, with one reading of the clock: before a line is read, and behind the step of a run,
-    /// which its symbiont makes. At want of memory nothing else changed: no block was handed over.
+    /// which its symbiont makes. A line by an item list goes on with the listings that the node has begun. At want of memory
+    /// nothing else changed: no block was handed over.
     pub fn call<C: Clock>(
         &mut self,
         next: &Next<'a>,
+        begun: &Scans,
         clock: &mut C,
         symbiont: &mut Y,
     ) -> Result<Asked, AllocError>
         requires told { self.old.made ≡ None }
         requires next { ComesNext self.old.state next.now }
         requires can { CanBeMade self.old.state next.now }
-        ensures call { IfOk result (λ asked. IsCallOf Y.meaning next.now self.old.state asked self.new symbiont.old symbiont.new) }
+        ensures call { IfOk result (λ asked. IsCallOf Y.meaning begun.now next.now self.old.state asked self.new symbiont.old symbiont.new) }
         ensures clock { TellsOne (C.told clock.old) (C.told clock.new) result }
         ensures no_memory { OnErr result (self.new ≡ self.old) }
         ensures nothing_handed { OnErr result (symbiont.new ≡ symbiont.old) }
@@ -246,7 +254,7 @@ impl<'a, Y: Symbiont> NodeState<'a, Y> {
         match next {
             Next::Line(line) => {
                 let moment = clock.tell();
-                let call = self.call_of_line(line, moment)?;
+                let call = self.call_of_line(line, moment, begun)?;
                 Ok(Asked { moment, call })
             }
             Next::Step(run) => {

@@ -1,9 +1,10 @@
--- For what an act asks for, memory is wanted where bytes are added to a file, and for nothing else. A command may want it for any text.
+-- For what memory may be wanted: of acts, for the bytes that are added to a file, and for the runs of which a node knows. A command
+-- and an item list may want it for any text.
 use Rattle.qm_kinds.specs.declared.input.Input.{Input}
-use Rattle.qm_kinds.specs.declared.input.Input.TheVariants.{Ask}
+use Rattle.qm_kinds.specs.declared.input.Input.TheVariants.{Ask, Fetch}
 use Rattle.qm_kinds.specs.declared.request.Request.{Request}
 use Rattle.qm_kinds.specs.declared.request.Request.TheVariants.{Append}
-use Rattle.qm_model.specs.Script.{Sort, Command, Site}
+use Rattle.qm_history.specs.Script.{LineSort, Command, Items, Act}
 
 -- the request adds bytes to a file
 abbrev pub AddsBytes : Request → Type 0
@@ -15,7 +16,14 @@ abbrev pub WantsMemory : Input → Type 0
 WantsMemory (Ask request) = AddsBytes request
 WantsMemory _ = ⊥
 
--- memory may be wanted for a line of this sort that asks for this
-abbrev pub MayWantMemory : Sort → Input → Type 0
-MayWantMemory Command input = Unit {0}
-MayWantMemory Site input = WantsMemory input
+-- memory is wanted for the bytes that a request adds to a file, and for the runs of which the node knows
+abbrev pub TakesMemory : Input → Type 0
+TakesMemory (Ask request) = AddsBytes request
+TakesMemory (Fetch known) = Unit {0}
+TakesMemory _ = ⊥
+
+-- memory may be wanted for a text of this sort that asks for this
+abbrev pub MayTakeMemory : LineSort → Input → Type 0
+MayTakeMemory Command input = Unit {0}
+MayTakeMemory Items input = Unit {0}
+MayTakeMemory Act input = TakesMemory input

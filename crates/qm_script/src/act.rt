@@ -204,8 +204,8 @@ fn ended(alloc: Global, line: &[u8]) -> Result<Vec<u8>, AllocError>
     Ok(bytes)
 }
 
-// The act is wrong from its first byte on.
-fn fault(kind: ParseKind) -> Input
+/// A text is wrong from its first byte on.
+pub(crate) fn fault(kind: ParseKind) -> Input
     ensures { result ≡ Input.Fault 0 kind }
 {
     Input::Fault { place: 0, kind }

@@ -1,52 +1,35 @@
 // What a line of a script of a cluster asks for.
-ghost use Rattle.std.specs.Prelude.{◌≡◌, ◌==◌, true, [], IfOk, OnErr};
+ghost use Rattle.std.specs.Prelude.{◌≡◌, ◌==◌, true, IfOk, OnErr, Some};
 ghost use Rattle.std.specs.List.{list_any};
 ghost use Rattle.qm_dcl.specs.Command.{command_of};
 ghost use Rattle.qm_dcl.specs.Lines.{or_fault};
-ghost use Rattle.qm_history.specs.Acts.{act_asked, step_act, word_act};
+ghost use Rattle.qm_model.specs.Script.{steps_in};
+ghost use Rattle.qm_model.specs.Texts.{cut_at_blank};
+ghost use Rattle.qm_history.specs.Acts.{act_asked, bytes_act, bytes_by, hex_bytes, step_act, word_act};
 ghost use Rattle.qm_history.specs.Script.{steps_asked};
+ghost use Rattle.qm_script.specs.Asked.{can_be_added, line_with};
 ghost use Rattle.qm_script.specs.ClusterLines.{line_sort_view, user_line_view, whole};
 ghost use Rattle.qm_script.specs.Extents.{joined};
-ghost use Rattle.qm_script.specs.Served.{MayTakeMemory, TakesMemory, act_served, act_word, is_served_word, read_served, text_served};
+ghost use Rattle.qm_script.specs.Wanting.{MayTakeMemory, TakesMemory};
 
-use crate::act::{STEP, TICK, is_act_word, read_act, step_number};
+use crate::act::{STEP, TICK, fault, is_act_word, read_act, step_number};
 use crate::extent::joined;
-use crate::input::steps_in;
+use crate::hexadecimal::{read_bytes, spells_some};
+use crate::items::items_asked;
 use crate::lines::{LineSort, UserLine};
 use crate::script::cut_at_blank;
 use qm_dcl::{DclFault, read_command};
-use qm_kinds::{Input, Moment, Name, ParseKind, Request, Seq};
+use qm_kinds::{FileName, Input, Moment, Name, ParseKind, Request, Seq};
+use qm_scans::Scans;
 use std::alloc::{AllocError, Global};
+
+const BYTES: &[u8] = b"BYTES";
 
 const COMPACT: &[u8] = b"COMPACT";
 
 const START: &[u8] = b"START";
 
 const STOP: &[u8] = b"STOP";
-
-// A text is wrong from its first byte on.
-fn fault(kind: ParseKind) -> Input
-    ensures { result ≡ Input.Fault 0 kind }
-{
-    Input::Fault { place: 0, kind }
-}
-
-// Whether acts of a word are served.
-fn is_served_word(word: &[u8]) -> bool
-    ensures { result ≡ is_served_word word.now }
-{
-    is_act_word(word) || word == COMPACT || word == STOP || word == START
-}
-
-// The word with which an act begins.
-fn act_word(text: &[u8]) -> &[u8]
-    ensures { result.now ≡ act_word text.now }
-{
-    match cut_at_blank(text) {
-        Some((word, _)) => word,
-        None => text,
-    }
-}
 
 // What a word alone asks for.
 fn word_act(text: &[u8]) -> Input
@@ -78,10 +61,40 @@ fn step_act(alloc: Global, known: &[u64], steps: Option<u32>) -> Result<Input, A
     }
 }
 
-// What an act asks for whose word is served.
-#[tactic(auto, using(crate::proofs::Serving::wants_takes, crate::proofs::Serving::no_bytes))]
+// Bytes that are added to a file, in hexadecimal.
+#[tactic(auto, using(crate::proofs::HexText::adding_takes))]
+fn bytes_for(alloc: Global, file: FileName, digits: &[u8]) -> Result<Input, AllocError>
+    requires { can_be_added (hex_bytes digits.now) ≡ true }
+    ensures input { IfOk result (λ input. input ≡ bytes_by (Some file) (hex_bytes digits.now)) }
+    ensures no_memory { OnErr result (TakesMemory (bytes_by (Some file) (hex_bytes digits.now))) }
+{
+    match read_bytes(alloc, digits)? {
+        Some(bytes) => Ok(Input::Ask(Request::Append { file, bytes })),
+        None => Ok(fault(ParseKind::Form)),
+    }
+}
+
+// A file's name, a blank, and 1 to 65,536 bytes in hexadecimal.
+#[tactic(auto, using(crate::proofs::HexText::not_added))]
+fn bytes_act(alloc: Global, text: &[u8]) -> Result<Input, AllocError>
+    ensures input { IfOk result (λ input. input ≡ bytes_act (cut_at_blank text.now)) }
+    ensures no_memory { OnErr result (TakesMemory (bytes_act (cut_at_blank text.now))) }
+{
+    let Some((file, digits)) = cut_at_blank(text) else {
+        return Ok(fault(ParseKind::Form));
+    };
+    let Some(file) = FileName::read(file) else {
+        return Ok(fault(ParseKind::Form));
+    };
+    if !spells_some(digits) {
+        return Ok(fault(ParseKind::Form));
+    }
+    bytes_for(alloc, file, digits)
+}
+
+// What an act asks for: a word, and behind a blank what it takes.
+#[tactic(auto, using(crate::proofs::Serving::wants_takes))]
 fn act_asked(alloc: Global, text: &[u8], known: &[u64]) -> Result<Input, AllocError>
-    requires { is_served_word (act_word text.now) ≡ true }
     ensures input { IfOk result (λ input. input ≡ act_asked known.now text.now) }
     ensures no_memory { OnErr result (TakesMemory (act_asked known.now text.now)) }
 {
@@ -89,19 +102,8 @@ fn act_asked(alloc: Global, text: &[u8], known: &[u64]) -> Result<Input, AllocEr
         None => Ok(word_act(text)),
         Some((word, rest)) if word == STEP => step_act(alloc, known, step_number(rest)),
         Some((word, _)) if is_act_word(word) => read_act(alloc, text),
+        Some((word, rest)) if word == BYTES => bytes_act(alloc, rest),
         Some(_) => Ok(fault(ParseKind::Form)),
-    }
-}
-
-// What an act asks for, as far as acts are served.
-fn read_served_act(alloc: Global, text: &[u8], known: &[u64]) -> Result<Input, AllocError>
-    ensures input { IfOk result (λ input. input ≡ act_served known.now text.now) }
-    ensures no_memory { OnErr result (TakesMemory (act_served known.now text.now)) }
-{
-    if is_served_word(act_word(text)) {
-        act_asked(alloc, text, known)
-    } else {
-        Ok(fault(ParseKind::NotBuilt))
     }
 }
 
@@ -136,23 +138,34 @@ fn read_whole(alloc: Global, text: &[u8], user: Name, now: Moment) -> Result<Inp
     }
 }
 
-/// What a line asks for, at a node that keeps these runs: a command behind a `$`, or an act at the site behind a `!`. The clock
-/// told this moment before; times of a command that are relative count from it. Calls by item lists, behind a `#`, aren't
-/// served, nor are acts of other words than `TICK`, `COMPACT`, `STOP`, `START`, `STEP`, `LINE`, `FILL`, `DROP`, `MARK` and
-/// `DONE`. Memory may run out, for an act only where it adds a line to a file or asks for the node's runs.
+/// What a line asks for at a node that has begun these listings and keeps these runs: a command behind a `$`, a call by an item list
+/// behind a `#`, or an act at the site behind a `!`. The clock told this moment before; times of a command that are relative count
+/// from it. A line that can't be read asks for nothing, and tells its fault. Memory may run out, for an act only where it adds bytes
+/// to a file or asks for the node's runs.
 pub fn read_line(
     alloc: Global,
     line: &UserLine<'_>,
     now: Moment,
+    scans: &Scans,
     known: &[u64],
 ) -> Result<Input, AllocError>
-    ensures input { IfOk result (λ input. input ≡ read_served (user_line_view line.now) now [] known.now) }
-    ensures no_memory { OnErr result (MayTakeMemory (line_sort_view line.now.sort) (read_served (user_line_view line.now) now [] known.now)) }
+    ensures input { IfOk result (λ input. input ≡ line_with (user_line_view line.now) now scans.now known.now) }
+    ensures no_memory { OnErr result (MayTakeMemory (line_sort_view line.now.sort) (line_with (user_line_view line.now) now scans.now known.now)) }
 {
     match line.sort {
         LineSort::Command => read_whole(alloc, line.text, line.user, now),
-        LineSort::Items => Ok(fault(ParseKind::NotBuilt)),
-        LineSort::Act => read_served_act(alloc, line.text, known),
+        LineSort::Items => items_asked(alloc, line.text, line.user, scans),
+        LineSort::Act => act_asked(alloc, line.text, known),
+    }
+}
+
+// How many steps the text of an act asks for, if it asks for steps.
+fn steps_in(text: &[u8]) -> Option<u32>
+    ensures { result ≡ steps_in text.now }
+{
+    match cut_at_blank(text) {
+        Some((word, rest)) if word == STEP => step_number(rest),
+        _ => None,
     }
 }
 

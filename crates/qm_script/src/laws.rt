@@ -1,8 +1,9 @@
 // What definitions of other crates cite, and what lines ask for.
-ghost use Rattle.std.specs.Prelude.{◌≡◌, ℕ, List, IsSome};
-ghost use Rattle.qm_kinds.specs.declared.input.Input.TheVariants.{Fetch};
-ghost use Rattle.qm_model.specs.Script.{Sort, steps_of_line};
-ghost use Rattle.qm_dcl.specs.Lines.{input_of};
+ghost use Rattle.std.specs.Prelude.{◌≡◌, ℕ, List};
+ghost use Rattle.qm_history.specs.Scans.{scans_of};
+ghost use Rattle.qm_history.specs.Script.{UserLine};
+ghost use Rattle.qm_history.specs.Visits.{Visit};
+ghost use Rattle.qm_script.specs.Asked.{line_asked, line_with};
 ghost use Rattle.qm_script.specs.declared.script.TheConstants.{SCRIPT_BYTES};
 
 /// A script has 16,777,216 bytes at most. Definitions cite the number by its name, so here it is said.
@@ -10,7 +11,7 @@ pub fn a_script_has_a_limit()
     ensures { SCRIPT_BYTES ≡ 16777216 }
 {}
 
-/// A line asks for the runs of its node only where it allows steps.
-pub fn runs_are_asked_for_with_steps()
-    ensures { (sort : Sort) (now : ℕ) (text known : List ℕ) → input_of sort now text ≡ Fetch known → IsSome (steps_of_line sort text) }
+/// Of a node's turns a line asks by the listings alone that they have begun.
+pub fn lines_ask_by_listings()
+    ensures { (l : UserLine) (reading : ℕ) (earlier : List Visit) (known : List ℕ) → line_asked l reading earlier known ≡ line_with l reading (scans_of earlier) known }
 {}

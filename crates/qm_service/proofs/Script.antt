@@ -27,6 +27,7 @@ use Rattle.qm_history.specs.Text.{text}
 use Rattle.qm_history.specs.World.{is_live}
 use Rattle.qm_kinds.specs.declared.limits.TheConstants.{NODES_LIMIT}
 use Rattle.qm_script.specs.declared.lines.UserLine.{UserLine as CodeLine}
+use Rattle.qm_sjc.specs.Printed.{items_line}
 use Rattle.qm_service.specs.Ends.{CountsDisk, EndsBy, IsUndamaged, TakesTo, end_of_stop, end_of_turns, extent_to, serving_end, some_disk_failed, stop_of}
 use Rattle.qm_service.specs.Opening.{IsFresh, IsOpened, MayBegin}
 use Rattle.qm_service.specs.Serving.{Outside, Serves, outside}
@@ -117,7 +118,7 @@ module _ {D Y : Type 0} (m : Meaning D) (y : symb.Meaning Y) (stands_on : Stands
         run =
             subst (λ (turns : List Turn). IsRun (meaning_of m) y Begun w script names turns sides sides) (sym opened.fresh.turns)
             (none_run (meaning_of m) y w script names sides);
-        printed = λ items_line. takes_none taken (text items_line w (service_turns service));
+        printed = takes_none taken (text items_line w (service_turns service));
         noted = none_noted m stands_on notes_on opened.cap w (service_disk service) service refl (opened.stands tells w may);
       };
     }
@@ -173,9 +174,9 @@ module _ {D Y : Type 0} (m : Meaning D) (y : symb.Meaning Y) (stands_on : Stands
                       subst (λ o. IsRun (meaning_of m) y (extent_to o) w script names turns_now old.sides new.sides) none
                       (subst (λ (ts : List Turn). IsRun (meaning_of m) y Whole w script names ts old.sides new.sides) (sym same)
                       (subst (λ (ns : List (List ℕ)). IsRun (meaning_of m) y Whole w script ns serving.turns old.sides new.sides) seated.named at.run));
-                  printed = λ items_line.
+                  printed =
                       subst (λ o. TakesTo o old.taken new.taken (text items_line w turns_now)) none
-                      (subst (λ (ts : List Turn). Appends old.taken new.taken (text items_line w ts)) (sym same) (at.printed items_line));
+                      (subst (λ (ts : List Turn). Appends old.taken new.taken (text items_line w ts)) (sym same) at.printed);
                   noted =
                       made_noted m stands_on notes_on opened.cap w (service_disk service) w old.value new.value serving.turns (ap service_disk value)
                       (since tells w may) at.made;
@@ -210,9 +211,9 @@ module _ {D Y : Type 0} (m : Meaning D) (y : symb.Meaning Y) (stands_on : Stands
                       subst (λ o. IsRun (meaning_of m) y (extent_to o) w script names turns_now old.sides new.sides) some
                       (subst (λ (ts : List Turn). IsRun (meaning_of m) y Begun w script names ts old.sides new.sides) (sym same)
                       (subst (λ (ns : List (List ℕ)). IsRun (meaning_of m) y Begun w script ns stopping.turns old.sides new.sides) seated.named at.run));
-                  printed = λ items_line.
+                  printed =
                       subst (λ o. TakesTo o old.taken new.taken (text items_line w turns_now)) some
-                      (subst (λ (ts : List Turn). TakesUpTo stopped old.taken new.taken (text items_line w ts)) (sym same) (at.printed items_line));
+                      (subst (λ (ts : List Turn). TakesUpTo stopped old.taken new.taken (text items_line w ts)) (sym same) at.printed);
                   noted =
                       stopped_noted m stands_on notes_on opened.cap w (service_disk service) w (after_turns w stopping.turns) old.value at.next new.value stopping.turns
                       (ap service_disk value) (since tells w may) at.made at.last;

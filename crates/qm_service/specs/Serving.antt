@@ -10,7 +10,7 @@ use Rattle.qm_history.specs.declared.world.World.{World}
 use Rattle.qm_history.specs.Ends.{ServingEnd}
 use Rattle.qm_history.specs.Script.{UserLine}
 use Rattle.qm_history.specs.Text.{text}
-use Rattle.qm_kinds.specs.declared.query.Row.{Row}
+use Rattle.qm_sjc.specs.Printed.{items_line}
 use Rattle.qm_service.specs.Ends.{CountsDisk, EndsBy, IsUndamaged, TakesTo, extent_to, stop_of}
 use Rattle.qm_service.specs.Noted.{HasNoted}
 use Rattle.qm_service.specs.Opening.{MayBegin}
@@ -31,7 +31,7 @@ module _ {D Y : Type 0} (m : Meaning D) (y : symb.Meaning Y) where
   -- calls are noted; all as far as the end says.
   pub record ServesIn (w : World) (names : List (List ℕ)) (script : List UserLine) (old new : Outside D Y) (turns : List Turn) (end : ServingEnd) : Type 0 where
     pub run : IsRun (meaning_of m) y (extent_to (stop_of end)) w script names turns old.sides new.sides
-    pub printed : (items_line : Row → List ℕ) → TakesTo (stop_of end) old.taken new.taken (text items_line w turns)
+    pub printed : TakesTo (stop_of end) old.taken new.taken (text items_line w turns)
     pub noted : HasNoted m w old.disk new.disk turns
 
   -- A script of these nodes was served, up to this end, on a site that was opened on this device. The turns tell how often disks failed,

@@ -1,13 +1,14 @@
 -- The lines of a turn, each behind what stands before it.
-use Rattle.std.proofs.Common.{◌≡◌, ℕ, List, [], ◌∷◌, ◌++◌, flat_map, refl, sym, ◌∙◌, ap, append_assoc, codes, decimal}
+use Rattle.std.proofs.Common.{◌≡◌, ℕ, Bool, List, [], ◌∷◌, ◌++◌, flat_map, refl, sym, ◌∙◌, append_assoc}
 use Rattle.std.proofs.lemmas.Grind.{flat_map-append}
 use Rattle.qm_model.specs.Transcript.{turn_text}
 use Rattle.qm_show.specs.declared.answer.Prefix.{Prefix}
 use Rattle.qm_history.specs.declared.call.Answer.{Answer}
 use Rattle.qm_history.specs.declared.turn.Why.{Why}
 use Rattle.qm_history.specs.declared.turn.Why.TheVariants as why
-use Rattle.qm_history.specs.Text.{answer_text, behind, first_line_of, line_behind, listed_lines, prefix_of, takeover_lines, told_takeover}
-use Rattle.qm_show.specs.Turns.{line_of, lines_behind}
+use Rattle.qm_history.specs.Text.{answer_lines, behind, first_line_of, line_behind, prefix_of, takeover_lines, told_takeover}
+use Rattle.qm_sjc.specs.Printed.{items_line}
+use Rattle.qm_show.specs.Turns.{line_of, lines_behind, told_text}
 
 line_is : (name : List ℕ) (because : Why) (text : List ℕ) → turn_text name (line_of because) text ≡ line_behind (prefix_of name because) text
 line_is name (why.Line line) text = simp append_assoc
@@ -20,9 +21,9 @@ lines_are name because [] = refl
 lines_are name because (line ∷ lines) = rw (line_is name because line, lines_are name because lines) refl
 
 -- a takeover, and what the call was answered
-pub whole_answer : (prefix : Prefix) (name : List ℕ) (because : Why) (a : Answer) → prefix.node ≡ name → prefix.line ≡ line_of because
-    → lines_behind prefix (takeover_lines (told_takeover a)) ++ lines_behind prefix (listed_lines (first_line_of because) a) ≡ answer_text name because a
-whole_answer prefix name because a node line =
+pub whole_answer : (prefix : Prefix) (name : List ℕ) (because : Why) (single : Bool) (a : Answer) → prefix.node ≡ name → prefix.line ≡ line_of because
+    → lines_behind prefix (takeover_lines (told_takeover a)) ++ lines_behind prefix (answer_lines items_line (first_line_of because) single a) ≡ told_text name because single a
+whole_answer prefix name because single a node line =
     rw (node, line)
-    (sym (flat_map-append (turn_text name (line_of because)) (takeover_lines (told_takeover a)) (listed_lines (first_line_of because) a))
-    ∙ lines_are name because (takeover_lines (told_takeover a) ++ listed_lines (first_line_of because) a))
+    (sym (flat_map-append (turn_text name (line_of because)) (takeover_lines (told_takeover a)) (answer_lines items_line (first_line_of because) single a))
+    ∙ lines_are name because (takeover_lines (told_takeover a) ++ answer_lines items_line (first_line_of because) single a))

@@ -1,9 +1,12 @@
--- What stands before the lines of a turn.
-use Rattle.std.specs.Prelude.{ℕ, List, flat_map, Option, None, Some}
+-- The lines of a turn, and what stands before them.
+use Rattle.std.specs.Prelude.{ℕ, Bool, List, ◌++◌, flat_map, Option, None, Some}
 use Rattle.qm_model.specs.Transcript.{turn_text}
 use Rattle.qm_show.specs.declared.answer.Prefix.{Prefix}
+use Rattle.qm_sjc.specs.Printed.{items_line}
+use Rattle.qm_history.specs.declared.call.Answer.{Answer}
 use Rattle.qm_history.specs.declared.turn.Why.{Why}
 use Rattle.qm_history.specs.declared.turn.Why.TheVariants as why
+use Rattle.qm_history.specs.Text.{answer_lines, behind, first_line_of, prefix_of, takeover_lines, told_takeover}
 
 -- the script's line for which a turn is made, if it is made for one
 abbrev pub line_of : Why → Option ℕ
@@ -15,3 +18,8 @@ line_of why.Leave = None
 -- lines, each behind the same
 abbrev pub lines_behind : Prefix → List (List ℕ) → List ℕ
 lines_behind prefix lines = flat_map (turn_text prefix.node prefix.line) lines
+
+-- what is printed of a turn: its takeover, and its answer, where the call asked for one row by an item list or didn't
+abbrev pub told_text : List ℕ → Why → Bool → Answer → List ℕ
+told_text name because single a =
+    behind (prefix_of name because) (takeover_lines (told_takeover a) ++ answer_lines items_line (first_line_of because) single a)

@@ -3,13 +3,15 @@ ghost use Rattle.std.specs.Prelude.{◌≡◌, ◌++◌, ◌∷◌, [], map, Som
 ghost use Rattle.std.specs.Option.{option_copied};
 ghost use Rattle.qm_model.specs.Words.{act_text, start_text};
 ghost use Rattle.qm_model.specs.Transcript.{runs_line};
-ghost use Rattle.qm_history.specs.Text.{answer_text, fenced_line, first_line_of, if_printed, kept_lines, listed_lines, no_manager_line, takeover_lines, told_takeover};
-ghost use Rattle.qm_show.specs.Turns.{line_of, lines_behind};
+ghost use Rattle.qm_sjc.specs.Printed.{items_line};
+ghost use Rattle.qm_history.specs.Text.{answer_lines, fenced_line, first_line_of, if_printed, kept_lines, no_manager_line, shown_lines, takeover_lines, told_takeover};
+ghost use Rattle.qm_show.specs.Turns.{line_of, lines_behind, told_text};
 
 use crate::answer::{FullText, Prefix, push_act, push_line, push_rows, push_starts};
 use crate::refusal::RefusalText;
 use qm_history::{Answer, Takeover, Why};
-use qm_kinds::{Act, Name, Reply};
+use qm_kinds::{Act, Name, Reply, Row};
+use qm_sjc::row_line;
 use std::alloc::{AllocError, Global};
 use std::fmt;
 
@@ -116,6 +118,38 @@ fn push_runs(out: &mut Vec<u8>, prefix: &Prefix, why: Why, count: usize) -> Resu
     }
 }
 
+// Appends the items of each row.
+fn push_items(
+    alloc: Global,
+    out: &mut Vec<u8>,
+    prefix: &Prefix,
+    rows: &[Row],
+) -> Result<(), AllocError>
+    ensures { OnOk result (out.new.items ≡ out.old.items ++ lines_behind prefix.now (map items_line rows.now)) }
+{
+    for row in rows {
+        let line = row_line(alloc, row)?;
+        push_line(out, prefix, line.as_str())?;
+    }
+    Ok(())
+}
+
+// Appends a listing, or the items of the row that a call asked for by an item list.
+fn push_shown(
+    alloc: Global,
+    out: &mut Vec<u8>,
+    prefix: &Prefix,
+    single: bool,
+    rows: &[Row],
+) -> Result<(), AllocError>
+    ensures { OnOk result (out.new.items ≡ out.old.items ++ lines_behind prefix.now (shown_lines items_line single rows.now)) }
+{
+    match rows {
+        [_, ..] if single => push_items(alloc, out, prefix, rows),
+        _ => push_rows(out, prefix, rows),
+    }
+}
+
 // Appends the line of a node that may not be queue manager.
 fn push_no_manager(out: &mut Vec<u8>, prefix: &Prefix, node: &Name) -> Result<(), AllocError>
     ensures { OnOk result (out.new.items ≡ out.old.items ++ lines_behind prefix.now (no_manager_line node.now ∷ [])) }
@@ -125,16 +159,18 @@ fn push_no_manager(out: &mut Vec<u8>, prefix: &Prefix, node: &Name) -> Result<()
 
 // Appends the lines of an answer, behind its takeover.
 fn push_answer(
+    alloc: Global,
     out: &mut Vec<u8>,
     prefix: &Prefix,
     why: Why,
+    single: bool,
     answer: &Answer,
 ) -> Result<(), AllocError>
-    ensures { OnOk result (out.new.items ≡ out.old.items ++ lines_behind prefix.now (listed_lines (first_line_of why) answer.now)) }
+    ensures { OnOk result (out.new.items ≡ out.old.items ++ lines_behind prefix.now (answer_lines items_line (first_line_of why) single answer.now)) }
 {
     match answer {
         Answer::Done { reply, .. } => push_reply(out, prefix, why, reply),
-        Answer::Shown { rows, .. } => push_rows(out, prefix, rows.as_slice()),
+        Answer::Shown { rows, .. } => push_shown(alloc, out, prefix, single, rows.as_slice()),
         Answer::Duties { duties, .. } => push_runs(out, prefix, why, duties.as_slice().len()),
         Answer::Refused { refusal, .. } => push_line(
             out,
@@ -165,20 +201,22 @@ fn push_answer(
 
 /// The lines of a turn of a node: of a takeover, what became of a record in doubt and the jobs that it started; and behind
 /// that what the call was answered. A turn made for a line of the script has its number, and one of the node's own has `-`.
-/// A node's own fetch, and its leave, tell of no more than jobs and faults. Damage, a full history and want of memory have no
-/// line. Memory may run out.
+/// A node's own fetch, and its leave, tell of no more than jobs and faults. Where the call asked for one row by an item list, its
+/// items are told in hexadecimal, and else how many rows there are, and each of them. Damage, a full history and want of memory have
+/// no line. Memory may run out.
 #[tactic(auto, using(crate::proofs::TurnLines::whole_answer))]
 pub fn show_answer(
     alloc: Global,
     node: &Name,
     why: Why,
+    single: bool,
     answer: &Answer,
 ) -> Result<Vec<u8>, AllocError>
-    ensures { IfOk result (λ text. text.items ≡ answer_text node.now why answer.now) }
+    ensures { IfOk result (λ text. text.items ≡ told_text node.now why single answer.now) }
 {
     let prefix = prefix_of(node, why);
     let mut text = Vec::new(alloc);
     push_takeover(&mut text, &prefix, told_takeover(answer))?;
-    push_answer(&mut text, &prefix, why, answer)?;
+    push_answer(alloc, &mut text, &prefix, why, single, answer)?;
     Ok(text)
 }

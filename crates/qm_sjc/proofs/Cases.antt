@@ -1,5 +1,5 @@
 -- What calls ask for, on worked lists of items.
-use Rattle.std.proofs.Common.{◌≡◌, ℕ, List, [], ◌∷◌, true, false, None, Some, Result, Ok, Err, codes, refl}
+use Rattle.std.proofs.Common.{◌≡◌, ℕ, List, [], ◌∷◌, false, None, Some, Result, Ok, Err, codes, refl}
 use Rattle.qm_kinds.specs.declared.entry.JobKind.TheVariants.{Batch}
 use Rattle.qm_kinds.specs.declared.entry.JobRetain.TheVariants.{Default}
 use Rattle.qm_kinds.specs.declared.input.Input.{Input}
@@ -63,7 +63,7 @@ taken : called 16 (item 23 (1 ∷ 0 ∷ 0 ∷ 0 ∷ []) ∷ item 9 [] ∷ []) �
 })))
 taken = refl
 
-listed : called 41 [] ≡ Ok (Show (query_of Queues true []))
+listed : called 41 [] ≡ Ok (Show (query_of Queues []))
 listed = refl
 
 -- a number that is no function's, nothing to set, a lacking item, an item of another function, a value that is too long

@@ -1,2 +1,4 @@
 pub mod Cases
 pub mod JudgingLemmas
+pub mod ListsRead
+pub mod EachAsked

@@ -178,8 +178,8 @@ set_entry items lists =
 -- ---- listings
 
 -- one row at a time of a listing, whatever its user and kind
-abbrev pub query_of : Listing → Bool → List Item → Query
-query_of list single items = record {
+abbrev pub query_of : Listing → List Item → Query
+query_of list items = record {
   listing = list;
   pattern = unwrap_or (read_in pattern_said SEARCH items) (42 ∷ []);
   number = None;
@@ -187,7 +187,7 @@ query_of list single items = record {
   kinds = record { batch = true; print = true; generic_batch = true; generic_print = true };
   queue = None;
   after = None;
-  single = single;
+  single = true;
 }
 
 -- ---- each function
@@ -215,11 +215,11 @@ request_of user _ items lists = None
 
 -- what a function asks for, where nothing that it needs is missing
 abbrev pub asked : List ℕ → Function → List Item → Lists → Option Input
-asked user function.DisplayQueue items lists = Some (Show (query_of listing.Queues true items))
-asked user function.DisplayJob items lists = Some (Show (query_of listing.Jobs true items))
-asked user function.DisplayEntry items lists = Some (Show (query_of listing.Entries true items))
-asked user function.DisplayForm items lists = Some (Show (query_of listing.Forms true items))
-asked user function.DisplayCharacteristic items lists = Some (Show (query_of listing.Characteristics true items))
-asked user function.DisplayManager items lists = Some (Show (query_of listing.Manager true items))
-asked user function.CancelOperation items lists = Some (Show (query_of listing.Cancel false items))
+asked user function.DisplayQueue items lists = Some (Show (query_of listing.Queues items))
+asked user function.DisplayJob items lists = Some (Show (query_of listing.Jobs items))
+asked user function.DisplayEntry items lists = Some (Show (query_of listing.Entries items))
+asked user function.DisplayForm items lists = Some (Show (query_of listing.Forms items))
+asked user function.DisplayCharacteristic items lists = Some (Show (query_of listing.Characteristics items))
+asked user function.DisplayManager items lists = Some (Show (query_of listing.Manager items))
+asked user function.CancelOperation items lists = Some (Show (query_of listing.Cancel items))
 asked user f items lists = option_map Ask (request_of user f items lists)

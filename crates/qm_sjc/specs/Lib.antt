@@ -6,3 +6,5 @@ pub mod Judging
 pub mod Asked
 pub mod Calls
 pub mod Rows
+pub mod Meant
+pub mod Printed

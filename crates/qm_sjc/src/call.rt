@@ -69,17 +69,17 @@ fn asked(
 ) -> Option<Input>
     ensures { result ≡ asked user function items.now lists }
 {
-    let (listing, single) = match function {
-        Function::DisplayQueue => (Listing::Queues, true),
-        Function::DisplayJob => (Listing::Jobs, true),
-        Function::DisplayEntry => (Listing::Entries, true),
-        Function::DisplayForm => (Listing::Forms, true),
-        Function::DisplayCharacteristic => (Listing::Characteristics, true),
-        Function::DisplayManager => (Listing::Manager, true),
-        Function::CancelOperation => (Listing::Cancel, false),
+    let listing = match function {
+        Function::DisplayQueue => Listing::Queues,
+        Function::DisplayJob => Listing::Jobs,
+        Function::DisplayEntry => Listing::Entries,
+        Function::DisplayForm => Listing::Forms,
+        Function::DisplayCharacteristic => Listing::Characteristics,
+        Function::DisplayManager => Listing::Manager,
+        Function::CancelOperation => Listing::Cancel,
         _ => return Some(Input::Ask(request_of(alloc, user, function, items, lists)?)),
     };
-    Some(Input::Show(query_of(listing, single, items)))
+    Some(Input::Show(query_of(listing, items)))
 }
 
 /// What a user asks for who calls the function of this number with these items, which are of a list.

@@ -1,5 +1,7 @@
-//! What a program asks the queue manager for by an item list. `read_call` gives what a function asks for with its items, with the
-//! defaults of commands, and else the first fault, exactly as `call_of` in `specs/Calls.antt` says.
+//! What a program asks the queue manager for by an item list, and is told. `read_call` gives what a function asks for with its items,
+//! with the defaults of commands, and else the first fault, exactly as `call_of` in `specs/Calls.antt` says; `read_item_list` the same
+//! of the bytes of a list, as `items_mean` of `specs/Meant.antt`; `row_line` the line of a row's items, as `items_line` of
+//! `specs/Printed.antt`.
 #![tactic(auto)]
 
 mod call;
@@ -10,7 +12,9 @@ mod function;
 mod jobs;
 mod judging;
 mod looking;
+mod meant;
 mod others;
+mod printed;
 mod queues;
 mod reading;
 mod rows;
@@ -18,4 +22,6 @@ mod value;
 
 pub use call::read_call;
 pub use fault::CallFault;
+pub use meant::{lists_are_read, read_item_list};
+pub use printed::row_line;
 pub use rows::row_items;

@@ -75,9 +75,9 @@ fn any_name() -> Pattern
     Pattern::read(b"*").unwrap()
 }
 
-/// The question for a listing, row by row or as a whole, whatever its user and kind.
-pub(crate) fn query_of(listing: Listing, single: bool, items: &[Item]) -> Query
-    ensures { result ≡ query_of listing single items.now }
+/// The question for a listing, row by row, whatever its user and kind.
+pub(crate) fn query_of(listing: Listing, items: &[Item]) -> Query
+    ensures { result ≡ query_of listing items.now }
 {
     Query {
         listing,
@@ -87,6 +87,6 @@ pub(crate) fn query_of(listing: Listing, single: bool, items: &[Item]) -> Query
         kinds: ALL_KINDS,
         queue: None,
         after: None,
-        single,
+        single: true,
     }
 }

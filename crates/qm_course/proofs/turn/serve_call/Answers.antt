@@ -1,7 +1,6 @@
 use Rattle.std.proofs.Common.{◌∙◌, sym, inr, refl, subst, List, ℕ}
-use Rattle.qm_history.specs.declared.turn.Why.{Why}
-use Rattle.qm_history.specs.Calls.{why_of}
-use Rattle.qm_history.specs.Text.{answer_text}
+use Rattle.qm_course.specs.declared.asking.Gist.{Gist}
+use Rattle.qm_course.specs.Answered.{printed_by, printed_of}
 use Rattle.qm_course.specs.Turning.{TakesFront}
 use Rattle.qm_course.proofs.Ends.{none_written, printing_undamaged, sound_end}
 use Rattle.qm_course.proofs.Fronts.{front_of_all, none_of}
@@ -13,8 +12,8 @@ returns-in-Err-clause-stopped g c = record {
   serves = c.serve-answer.ensures;
   ends = inr (
     sym c.stop_of.ensures ∙ none_of c.stop_of.result c.in_default.not-Some,
-    subst (λ (name : List ℕ). TakesFront (g.O.Sink.taken c.args.sink.now) (g.O.Sink.taken c.print_answer.new.sink) (answer_text name (why_of c.args.asked.call) c.serve-answer.result)) c.name-name.ensures
-        (subst (λ (w : Why). TakesFront (g.O.Sink.taken c.args.sink.now) (g.O.Sink.taken c.print_answer.new.sink) (answer_text c.name-name.result w c.serve-answer.result)) c.why_of-why.ensures
+    subst (λ (name : List ℕ). TakesFront (g.O.Sink.taken c.args.sink.now) (g.O.Sink.taken c.print_answer.new.sink) (printed_of name c.args.asked.call c.serve-answer.result)) c.name-name.ensures
+        (subst (λ (gist : Gist). TakesFront (g.O.Sink.taken c.args.sink.now) (g.O.Sink.taken c.print_answer.new.sink) (printed_by c.name-name.result gist c.serve-answer.result)) c.gist_of-gist.ensures
         c.in-Err.ensures.front),
     c.in-Err.ensures.ends,
   );
@@ -26,8 +25,8 @@ returns-in-Err-take_in-clause-stopped g c = record {
   serves = c.serve-answer.ensures;
   ends = inr (
     sym c.stop_of.ensures ∙ none_of c.stop_of.result c.in_default.not-Some,
-    subst (λ (name : List ℕ). TakesFront (g.O.Sink.taken c.args.sink.now) (g.O.Sink.taken c.print_answer.new.sink) (answer_text name (why_of c.args.asked.call) c.serve-answer.result)) c.name-name.ensures
-        (subst (λ (w : Why). TakesFront (g.O.Sink.taken c.args.sink.now) (g.O.Sink.taken c.print_answer.new.sink) (answer_text c.name-name.result w c.serve-answer.result)) c.why_of-why.ensures
+    subst (λ (name : List ℕ). TakesFront (g.O.Sink.taken c.args.sink.now) (g.O.Sink.taken c.print_answer.new.sink) (printed_of name c.args.asked.call c.serve-answer.result)) c.name-name.ensures
+        (subst (λ (gist : Gist). TakesFront (g.O.Sink.taken c.args.sink.now) (g.O.Sink.taken c.print_answer.new.sink) (printed_by c.name-name.result gist c.serve-answer.result)) c.gist_of-gist.ensures
         (front_of_all (g.O.Sink.taken c.args.sink.now) (g.O.Sink.taken c.print_answer.new.sink) _ c.in-Ok.ensures.all)),
     inr refl,
   );

@@ -10,6 +10,6 @@ returns-clause-asks g c = elim c.match-call.branch [
   | in-Ok w ↦
       subst (λ r. IfOk r (λ (asked : Asked). g.S.Serve.can_ask c.args.node asked.call)) (sym w.result-is)
       (subst (λ (asked : Asked). g.S.Serve.can_ask c.args.node asked.call) (sym w.built_asked.ensures)
-      (c.requires.asks _ (call_askable g.Y.Symbiont.meaning _ w.in-Ok.asked _ _ _ c.args.next.now w.in-Ok.ensures.call)))
+      (c.requires.asks _ (call_askable g.Y.Symbiont.meaning _ _ w.in-Ok.asked _ _ _ c.args.next.now w.in-Ok.ensures.call)))
   | in-Err w ↦ subst (λ r. IfOk r (λ (asked : Asked). g.S.Serve.can_ask c.args.node asked.call)) (sym w.result-is) tt
 ]

@@ -1,4 +1,4 @@
-use Rattle.std.proofs.Common.{◌≡◌, ◌+◌, ◌-◌, ◌++◌, ◌∷◌, [], ℕ, List, true, false, Option, None, Some, nat_eq, take, drop, length, position, refl, sym, ◌∙◌, ap, arith, length-append}
+use Rattle.std.proofs.Common.{◌≡◌, ◌+◌, ◌-◌, ◌++◌, ◌∷◌, [], ℕ, List, true, false, None, Some, nat_eq, take, drop, length, position, refl, sym, ◌∙◌, ap, arith, length-append}
 use Rattle.std.specs.List.{ends_with}
 use Rattle.qm_history.specs.Lines.{lines_from}
 use Rattle.qm_script.specs.Extents.{is_feed, joined, lines_with, parts_of}

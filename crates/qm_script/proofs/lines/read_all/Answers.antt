@@ -1,4 +1,4 @@
-use Rattle.std.proofs.Common.{◌≡◌, ◌+◌, ◌≤◌, ◌<◌, ◌++◌, ◌&&◌, Bool, Option, List, [], is_ok, arith, sym, ◌∙◌, ap, refl, subst, length, IfOk, Result}
+use Rattle.std.proofs.Common.{◌+◌, ◌≤◌, ◌<◌, ◌++◌, ◌&&◌, Bool, List, [], is_ok, arith, sym, ◌∙◌, ap, subst, length, IfOk, Result}
 use Rattle.std.specs.Option.{option_copied, option_map, option_to_list}
 use Rattle.qm_kinds.specs.declared.script.ScriptKind.{ScriptKind}
 use Rattle.qm_history.specs.Script.{UserLine}

@@ -1,4 +1,4 @@
-use Rattle.std.proofs.Common.{◌≡◌, ◌+◌, ℕ, Bool, List, Option, Some, None, if◌then◌else◌, sym, ◌∙◌, ap}
+use Rattle.std.proofs.Common.{◌+◌, ℕ, Bool, List, Some, None, if◌then◌else◌, ◌∙◌, ap}
 use Rattle.std.specs.List.{slice_split}
 use Rattle.qm_script.specs.Sites.{nodes_from, nodes_of}
 use Rattle.qm_script.proofs.Commas.{is_comma, last_refused, last_taken, node_refused, node_taken, picked}
