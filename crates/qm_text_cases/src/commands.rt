@@ -17,8 +17,8 @@ fn now() -> Moment {
     Moment::new(NOW).unwrap_or(Moment::BASE)
 }
 
-// The user that types.
-fn user() -> Name {
+/// The user that types.
+pub(crate) fn user() -> Name {
     Name::read(b"SMITH").unwrap_or(system_user())
 }
 
@@ -81,7 +81,7 @@ pub(crate) fn push_request(
     push_line(told, "")
 }
 
-// Tells which rows are asked for: one entry; or the listing, the pattern, the user, and the kinds of queue.
+// Tells which rows are asked for: one entry; or the listing, the pattern, the user, the kinds of queue, and whether it is one row.
 fn tell_query(alloc: Global, told: &mut Vec<u8>, query: &Query) -> Result<(), AllocError> {
     if let Some(number) = query.number {
         return push_line(told, format!(in alloc; "entry {number}")?.as_str());
@@ -95,11 +95,12 @@ fn tell_query(alloc: Global, told: &mut Vec<u8>, query: &Query) -> Result<(), Al
         None => told.extend_from_slice(b"all users")?,
     }
     let kinds = query.kinds;
-    let names: [(bool, &str); 4] = [
+    let names: [(bool, &str); 5] = [
         (kinds.batch, ", batch"),
         (kinds.print, ", print"),
         (kinds.generic_batch, ", generic batch"),
         (kinds.generic_print, ", generic print"),
+        (query.single, ", one row"),
     ];
     for (listed, name) in names {
         if listed {
@@ -122,8 +123,12 @@ fn tell_nodes(told: &mut Vec<u8>, on: Option<Seq<Name>>) -> Result<(), AllocErro
     push_line(told, "")
 }
 
-// Tells what is asked for: the record of a request, the rows that are to be shown, or the nodes of a queue manager.
-fn tell_input(alloc: Global, told: &mut Vec<u8>, input: Input) -> Result<(), AllocError> {
+/// Tells what is asked for: the record of a request, the rows that are to be shown, or the nodes of a queue manager.
+pub(crate) fn tell_input(
+    alloc: Global,
+    told: &mut Vec<u8>,
+    input: Input,
+) -> Result<(), AllocError> {
     match input {
         Input::Ask(request) => push_request(alloc, told, 0, &request),
         Input::Show(query) => tell_query(alloc, told, &query),
@@ -132,8 +137,8 @@ fn tell_input(alloc: Global, told: &mut Vec<u8>, input: Input) -> Result<(), All
     }
 }
 
-// Whether a text asks for something, and what is told of it, or of its fault.
-fn answer_to(alloc: Global, text: &[u8]) -> Result<(bool, Vec<u8>), AllocError> {
+/// Whether a text asks for something, and what is told of it, or of its fault.
+pub(crate) fn answer_to(alloc: Global, text: &[u8]) -> Result<(bool, Vec<u8>), AllocError> {
     let mut told = Vec::new(alloc);
     match read_command(alloc, text, user(), now()) {
         Ok(input) => {

@@ -1,9 +1,11 @@
 //! Cases of the readers and writers of text and bytes, as plans: commands and the records that they ask for, or what is wrong
-//! with them and where; fields and records, read and written again; tokens; moments as texts; what is printed of rows and answers.
+//! with them and where; calls by item lists, and the items of rows; fields and records, read and written again; tokens; moments as
+//! texts; what is printed of rows and answers.
 #![tactic(auto)]
 
 mod commands;
 mod fields;
+mod items;
 mod records;
 mod shown;
 mod times;
@@ -11,9 +13,10 @@ mod tokens;
 
 use commands::{tell_asked, tell_time_asked};
 use fields::{tell_copied, tell_name_at, tell_number_at, tell_stop};
+use items::tell_called;
 use qm_plans::{Desk, holds, number_and_rest, push_bytes, push_line};
 use records::tell_record;
-use shown::{tell_answers, tell_rows};
+use shown::{tell_answers, tell_row_items, tell_rows};
 use std::process::ExitCode;
 use std::{env, fs, io};
 use times::{tell_day, tell_time};
@@ -58,6 +61,10 @@ impl Desk for Taken {
             "name-in" | "moment-in" | "number-in" | "text-in" | "byte-in" => {
                 tell_stop(alloc, told, verb, &bytes)?
             }
+            "call" | "same" | "whether" | "altered" | "many" => {
+                tell_called(alloc, told, verb, text)?
+            }
+            "row-items" => tell_row_items(alloc, told)?,
             "rows" => tell_rows(alloc, told)?,
             "answers" => tell_answers(alloc, told)?,
             "" | "#" => {}

@@ -1,10 +1,13 @@
-// What is printed of rows, replies and refusals.
+// What is printed of rows, replies and refusals, and the items of rows.
+use qm_item::write_items;
 use qm_kinds::{
     Act, Characteristic, CharacteristicSet, Entry, EntryState, FileName, Form, JobKind, JobRetain,
     Listing, Mark, Moment, Name, ParseKind, Queue, QueueKind, QueueRetain, QueueState, Refusal,
     Reply, Row, Seq, Shape, Start, batch_queue,
 };
+use qm_plans::push_line;
 use qm_show::{Prefix, show_full, show_journal, show_refusal, show_reply, show_rows, show_runs};
+use qm_sjc::row_items;
 use std::alloc::{AllocError, Global};
 
 // The name that a text spells, and SYS$BATCH where it spells none.
@@ -31,11 +34,11 @@ fn queue(alloc: Global, queue: &[u8], kind: QueueKind, node: Option<Name>) -> Ro
     })
 }
 
-fn entry(number: u32, job: &[u8], size: u32, state: EntryState) -> Row {
+fn entry(number: u32, home: &[u8], job: &[u8], size: u32, state: EntryState) -> Row {
     Row::Entry(Entry {
         number,
         kind: JobKind::Print,
-        home: name(b"LPA"),
+        home: name(home),
         name: name(job),
         user: name(b"SMITH"),
         file: FileName {
@@ -100,7 +103,7 @@ fn print_rows(alloc: Global) -> Result<Vec<Row>, AllocError> {
     };
     let mut rows = Vec::new(alloc);
     rows.push(queue(alloc, b"PLUTO_LP", QueueKind::Print, Some(node)))?;
-    rows.push(entry(1, b"REPORT", 13, running))?;
+    rows.push(entry(1, b"LPA", b"REPORT", 13, running))?;
     Ok(rows)
 }
 
@@ -115,8 +118,8 @@ fn push_batch_rows(alloc: Global, rows: &mut Vec<Row>) -> Result<(), AllocError>
     };
     let node = name(b"PLUTO");
     rows.push(queue(alloc, b"SYS$BATCH", QueueKind::Batch, Some(node)))?;
-    rows.push(entry(4, b"A_LONG_NAME_OF_A_JOB", 1, retained))?;
-    rows.push(entry(1234567, b"F", 123456789, timed))?;
+    rows.push(entry(4, b"LPA", b"A_LONG_NAME_OF_A_JOB", 1, retained))?;
+    rows.push(entry(1234567, b"LPA", b"F", 123456789, timed))?;
     Ok(())
 }
 
@@ -132,11 +135,30 @@ fn push_other_rows(alloc: Global, rows: &mut Vec<Row>) -> Result<(), AllocError>
     Ok(())
 }
 
-/// Tells a listing of each kind of row.
-pub(crate) fn tell_rows(alloc: Global, told: &mut Vec<u8>) -> Result<(), AllocError> {
+// Rows of each kind.
+fn all_rows(alloc: Global) -> Result<Vec<Row>, AllocError> {
     let mut rows = print_rows(alloc)?;
     push_batch_rows(alloc, &mut rows)?;
     push_other_rows(alloc, &mut rows)?;
+    Ok(rows)
+}
+
+/// Tells the items of a queue, of an entry that waits there, and of each kind of row, as lists in hexadecimal.
+pub(crate) fn tell_row_items(alloc: Global, told: &mut Vec<u8>) -> Result<(), AllocError> {
+    let mut rows = all_rows(alloc)?;
+    rows.push(queue(alloc, b"HALL", QueueKind::Print, Some(name(b"PLUTO"))))?;
+    rows.push(entry(2, b"HALL", b"REPORT", 1, EntryState::Pending))?;
+    for row in &rows {
+        let items = row_items(alloc, row)?;
+        let bytes = write_items(alloc, &items)?;
+        push_line(told, hex::encode(alloc, &bytes)?.as_str())?;
+    }
+    Ok(())
+}
+
+/// Tells a listing of each kind of row.
+pub(crate) fn tell_rows(alloc: Global, told: &mut Vec<u8>) -> Result<(), AllocError> {
+    let rows = all_rows(alloc)?;
     let prefix = Prefix {
         node: name(b"PLUTO"),
         line: Some(16),

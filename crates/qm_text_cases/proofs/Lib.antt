@@ -1,0 +1,2 @@
+-- What the cases ask of the readers.
+pub mod Lists
