@@ -32,3 +32,4 @@ pub mod Unread
 pub mod Begun
 pub mod Parted
 pub mod Served
+pub mod InPlace

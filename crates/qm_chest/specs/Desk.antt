@@ -1,5 +1,5 @@
 -- What the chest works with in a world: a manager at work while one is up, and else the files.
-use Rattle.std.specs.Prelude.{◌≡◌, ℕ, Bool, true, false, Option, None, Some}
+use Rattle.std.specs.Prelude.{◌≡◌, ℕ, Bool, true, false, not, Option, None, Some}
 use Rattle.qm_disk.specs.Disk.{Meaning}
 use Rattle.qm_kinds.specs.declared.input.Input.{Input}
 use Rattle.qm_kinds.specs.declared.input.Input.TheVariants as input
@@ -59,3 +59,14 @@ is_due desk (input.Show query) = is_without desk
 is_due desk (input.Fetch known) = is_without desk
 is_due desk input.Compact = is_without desk
 is_due desk input.StartNode = is_without desk
+
+-- a call that asks for this is a step of the manager, which is up: a request, a listing or a fetch
+abbrev pub makes_step : {D : Type 0} → Desk D → Input → Bool
+makes_step desk (input.Ask asked) = not (is_without desk)
+makes_step desk (input.Show query) = not (is_without desk)
+makes_step desk (input.Fetch known) = not (is_without desk)
+makes_step desk input.Compact = false
+makes_step desk (input.TakeManager on) = false
+makes_step desk input.StartNode = false
+makes_step desk input.StopNode = false
+makes_step desk (input.Fault place kind) = false

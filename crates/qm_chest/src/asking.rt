@@ -9,14 +9,13 @@ ghost use Rattle.qm_acting.specs.Spare.{KeepsSpare};
 ghost use Rattle.qm_acting.specs.Standing.{standing_of, disk_of, IsReady};
 ghost use Rattle.qm_chest.specs.At.{IsWithout};
 ghost use Rattle.qm_chest.specs.Desk.{desk_disk, IsReadyDesk};
-ghost use Rattle.qm_chest.specs.Steps.{Comes, IsOfNodes, IsToldStep, IsToManager, goes_then, is_recorded};
+ghost use Rattle.qm_chest.specs.Steps.{Behind, Comes, IsOfNodes, IsToldStep, IsToManager, came_of, goes_then, is_in_doubt, is_recorded};
 
-use crate::answering::{done, full, refused, short};
+use crate::answering::{Step, done, full, refused, short};
 use crate::desk::Desk;
-use crate::place::Place;
 use crate::serving::Served;
 use core::mem::drop;
-use qm_acting::{AskFault, Files, Manager, site_files_go_on};
+use qm_acting::{AskFault, Manager, site_files_go_on};
 use qm_disk::Disk;
 use qm_history::{Answer, Event, Takeover};
 use qm_kinds::{Input, Moment, Refusal, Request};
@@ -85,9 +84,62 @@ impl<D> Came<D> {
 }
 
 /// Asks for a request of a node, whose clock told this before, of the manager, whose node is `at`. Its record is there at `Done`;
-/// where a disk failed it is in doubt, and no manager is up any more. `live` is whether the node serves its lines afterwards.
+/// where a disk failed it is in doubt, and the manager has to let go of the role. `live` is whether the node serves its lines
+/// afterwards.
+pub(crate) fn ask_step<D: Disk>(
+    manager: &mut Manager<D>,
+    at: u8,
+    live: bool,
+    node: u8,
+    now: Moment,
+    request: Request,
+    took: Option<Takeover>,
+) -> Step
+    requires ready { IsReady D.meaning manager.old }
+    requires can { CanBeAsked (standing_of manager.old).system (acting now (standing_of manager.old).system) node request }
+    requires to_manager { IsToManager request }
+
+    ensures ready { Behind (IsReadyDesk D.meaning) manager.new at (is_in_doubt result.event) }
+    ensures nodes { Behind (IsOfNodes (cluster (standing_of manager.old).system) at) manager.new at (is_in_doubt result.event) }
+    ensures down { is_journal result.answer ≡ true → Behind IsWithout manager.new at (is_in_doubt result.event) }
+    ensures told { IsToldStep took result.event result.answer }
+    ensures faults { TellsFaults D.meaning (disk_of manager.old) (disk_of manager.new) (is_journal result.answer ≡ true) }
+    ensures spare { IsTrue D.meaning.tells → KeepsSpare D.meaning (disk_of manager.old) (disk_of manager.new) }
+    ensures comes { IsTrue D.meaning.tells
+        → Behind (λ desk. Comes D.meaning manager.old at live node now request took (came_of result desk)) manager.new at
+        (is_in_doubt result.event) }
+{
+    site_files_go_on();
+    site_files_are_accepted();
+    nodes_keep_their_names();
+    let moment = manager.acting(now);
+    match manager.ask(moment, node, &request) {
+        Ok(replies) => done(node, moment, request, replies, took),
+        Err(AskFault::Refused(refusal)) => {
+            refused(node, moment, Input::Ask(request), refusal, took)
+        }
+        Err(AskFault::Full { need, cap }) => {
+            drop(request);
+            full(node, need, cap, took)
+        }
+        Err(AskFault::Disk) => Step {
+            event: Some(Event::Doubt {
+                node,
+                moment,
+                request,
+            }),
+            answer: Answer::Journal { took, live },
+        },
+        Err(AskFault::NoMemory) => {
+            drop(request);
+            short(took)
+        }
+    }
+}
+
+/// The same of a manager that is moved: where a disk failed no manager is up any more.
 pub(crate) fn ask<D: Disk>(
-    mut manager: Manager<D>,
+    manager: Manager<D>,
     at: u8,
     live: bool,
     node: u8,
@@ -107,48 +159,9 @@ pub(crate) fn ask<D: Disk>(
     ensures spare { IsTrue D.meaning.tells → KeepsSpare D.meaning (disk_of manager) (desk_disk result.desk) }
     ensures comes { IsTrue D.meaning.tells → Comes D.meaning manager at live node now request took result }
 {
-    site_files_go_on();
-    site_files_are_accepted();
-    nodes_keep_their_names();
-    let moment = manager.acting(now);
-    match manager.ask(moment, node, &request) {
-        Ok(replies) => done(manager, at, node, moment, request, replies, took),
-        Err(AskFault::Refused(refusal)) => refused(
-            manager,
-            at,
-            node,
-            moment,
-            Input::Ask(request),
-            refusal,
-            took,
-        ),
-        Err(AskFault::Full { need, cap }) => {
-            drop(request);
-            full(manager, at, node, need, cap, took)
-        }
-        Err(AskFault::Disk) => {
-            let place = Place {
-                file: manager.live(),
-                before: manager.count(),
-            };
-            Came {
-                desk: Desk::Down {
-                    files: Files::Closed(manager.close()),
-                    place: Some(place),
-                },
-                event: Some(Event::Doubt {
-                    node,
-                    moment,
-                    request,
-                }),
-                answer: Answer::Journal { took, live },
-            }
-        }
-        Err(AskFault::NoMemory) => {
-            drop(request);
-            short(manager, at, took)
-        }
-    }
+    let mut manager = manager;
+    let step = ask_step(&mut manager, at, live, node, now, request, took);
+    step.of(manager, at)
 }
 
 /// The same refusal once more.

@@ -50,7 +50,9 @@ impl Book {
                 Some(refusal) => {
                     let acting = manager.acting(now);
                     let start = Input::StartNode;
-                    refused(manager, node, node, acting, start, refusal, Some(told)).behind(event)
+                    refused(node, acting, start, refusal, Some(told))
+                        .up(manager, node)
+                        .behind(event)
                 }
                 None => self.up_behind(manager, node, moment, told).behind(event),
             },

@@ -17,7 +17,7 @@ use crate::desk::Desk;
 use crate::laws::sites_begin_one_world;
 use crate::stepping::{keep, room_for};
 use crate::wanted::{Outcome, Wanted};
-use core::mem::{drop, replace_with};
+use core::mem::drop;
 use qm_acting::Files;
 use qm_database::Closed;
 use qm_disk::Disk;
@@ -83,7 +83,8 @@ impl<D: Disk> Chest<D> {
         site_files_are_accepted();
         worlds_stay_sound::<QueueFile>();
         let wanted = Wanted::by(node, now, call);
-        match room_for(self.alloc, &mut self.turns) {
+        let most = self.state.most_events(&wanted);
+        match room_for(self.alloc, &mut self.turns, most) {
             Err(told) => {
                 drop(wanted);
                 told
@@ -94,7 +95,7 @@ impl<D: Disk> Chest<D> {
                     first,
                     second,
                     answer,
-                } = replace_with(&mut self.state, wanted, State::step);
+                } = self.state.serve(wanted);
                 keep(&mut self.turns, room, maker, first, second);
                 answer
             }

@@ -69,7 +69,7 @@ impl Book {
         nodes_keep_their_names();
         acts_in_time(&manager, now);
         let Ok(nodes) = self.one(node) else {
-            return short(manager, at, None).alone();
+            return short(None).up(manager, at).alone();
         };
         let came = ask(
             manager,

@@ -7,10 +7,9 @@ ghost use Rattle.qm_history.specs.Turn.{Beside};
 ghost use Rattle.qm_acting.specs.Standing.{standing_of, IsReady};
 ghost use Rattle.qm_chest.specs.declared.desk.Desk.TheVariants as desk;
 ghost use Rattle.qm_chest.specs.declared.book.Book.{Book as AnyBook};
-ghost use Rattle.qm_chest.specs.Steps.{IsToldStep, OwnComes, rows_of};
+ghost use Rattle.qm_chest.specs.Steps.{IsToldStep, OwnComes, came_of, is_in_doubt, rows_of};
 
-use crate::answering::{refused, short, shown};
-use crate::asking::Came;
+use crate::answering::{Step, refused, short, shown};
 use crate::book::Book;
 use qm_acting::Manager;
 use qm_disk::Disk;
@@ -23,28 +22,26 @@ use std::alloc::AllocError;
 
 /// The runs of a node.
 pub(crate) fn fetch<D: Disk>(
-    manager: Manager<D>,
+    manager: &Manager<D>,
     at: u8,
     node: u8,
     now: Moment,
     known: Seq<u64>,
     took: Option<Takeover>,
-) -> Came<D>
-    requires ready { IsReady D.meaning manager }
-    requires there { node < length (standing_of manager).system.nodes }
-    ensures up { result.desk ≡ desk.Up manager at }
+) -> Step
+    requires ready { IsReady D.meaning manager.now }
+    requires there { node < length (standing_of manager.now).system.nodes }
+    ensures up { is_in_doubt result.event ≡ false }
     ensures quiet { is_journal result.answer ≡ false }
     ensures told { IsToldStep took result.event result.answer }
     ensures comes { IsTrue D.meaning.tells → (book : AnyBook) (acted : ℕ) (beside : Beside)
-        → OwnComes D.meaning book manager at node now acted (input.Fetch known) beside took result }
+        → OwnComes D.meaning book manager.now at node now acted (input.Fetch known) beside took (came_of result (desk.Up manager.now at)) }
 {
     site_files_are_accepted();
     site_files_are_consistent();
     let moment = manager.acting(now);
     match manager.duties(node, known.as_slice()) {
         Ok(duties) => shown(
-            manager,
-            at,
             node,
             moment,
             Input::Fetch { known },
@@ -54,7 +51,7 @@ pub(crate) fn fetch<D: Disk>(
                 duties: Seq::of(duties),
             },
         ),
-        Err(AllocError) => short(manager, at, took),
+        Err(AllocError) => short(took),
     }
 }
 
@@ -62,28 +59,26 @@ impl Book {
     /// The rows of a listing.
     pub(crate) fn show<D: Disk>(
         &self,
-        manager: Manager<D>,
+        manager: &Manager<D>,
         at: u8,
         node: u8,
         now: Moment,
         query: Query,
         took: Option<Takeover>,
-    ) -> Came<D>
-        requires ready { IsReady D.meaning manager }
-        requires names { map (λ n. n.name) (standing_of manager).system.nodes ≡ self.now.names.items }
+    ) -> Step
+        requires ready { IsReady D.meaning manager.now }
+        requires names { map (λ n. n.name) (standing_of manager.now).system.nodes ≡ self.now.names.items }
         requires there { at < length self.now.names.items }
-        ensures up { result.desk ≡ desk.Up manager at }
+        ensures up { is_in_doubt result.event ≡ false }
         ensures quiet { is_journal result.answer ≡ false }
         ensures told { IsToldStep took result.event result.answer }
         ensures comes { IsTrue D.meaning.tells → (acted : ℕ) (beside : Beside)
-            → OwnComes D.meaning self.now manager at node now acted (input.Show query) beside took result }
+            → OwnComes D.meaning self.now manager.now at node now acted (input.Show query) beside took (came_of result (desk.Up manager.now at)) }
     {
         site_files_are_accepted();
         let moment = manager.acting(now);
-        match self.rows(&manager, at, &query) {
+        match self.rows(manager, at, &query) {
             Ok(rows) => shown(
-                manager,
-                at,
                 node,
                 moment,
                 Input::Show(query),
@@ -93,16 +88,8 @@ impl Book {
                     rows: Seq::of(rows),
                 },
             ),
-            Err(Refused::By(refusal)) => refused(
-                manager,
-                at,
-                node,
-                moment,
-                Input::Show(query),
-                refusal,
-                took,
-            ),
-            Err(Refused::NoMemory) => short(manager, at, took),
+            Err(Refused::By(refusal)) => refused(node, moment, Input::Show(query), refusal, took),
+            Err(Refused::NoMemory) => short(took),
         }
     }
 

@@ -54,7 +54,9 @@ impl Book {
         let moment = manager.acting(now);
         match self.start_refusal(&manager, node) {
             Some(refusal) => {
-                refused(manager, at, node, moment, Input::StartNode, refusal, None).alone()
+                refused(node, moment, Input::StartNode, refusal, None)
+                    .up(manager, at)
+                    .alone()
             }
             None => self.comes_up(manager, at, node, now),
         }

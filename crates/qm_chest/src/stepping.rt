@@ -1,21 +1,71 @@
 // What a call makes of what the chest works with, and how its turn is kept.
-ghost use Rattle.std.specs.Prelude.{◌≡◌, ◌<◌, ◌≤◌, ◌++◌, [], IfErr, IfOk, OnOk, length, option_to_list, vec_capacity, vec_len};
+ghost use Rattle.std.specs.Prelude.{◌≡◌, ◌<◌, ◌≤◌, ◌++◌, [], true, None, IfErr, IfOk, OnOk, length, option_to_list, vec_capacity, vec_len};
 ghost use Rattle.qm_history.specs.Chest.{MayLeaveNone, turns_kept};
-ghost use Rattle.qm_chest.specs.Serving.{CanServe, Serving, turn_made};
+ghost use Rattle.qm_chest.specs.Serving.{CanServe, Serving, is_step_alone, most_events, turn_made};
 ghost use Rattle.qm_chest.specs.Whole.{both};
 
+use crate::answering::Step;
 use crate::chest::{State, TURNS_KEPT};
 use crate::serving::Served;
 use crate::wanted::{Maker, Outcome, Wanted};
-use core::mem::drop;
+use core::mem::{drop, replace_with};
 use qm_disk::Disk;
 use qm_history::{Answer, Event, Turn};
 use qm_kinds::Seq;
+use qm_model::nodes_keep_their_names;
+use qm_restore::site_files_are_accepted;
 use std::alloc::{AllocError, Global};
 
 impl<D: Disk> State<D> {
-    // What a call makes of it.
-    pub(crate) fn step(self, wanted: Wanted) -> (State<D>, Outcome)
+    /// What a call makes of it. A manager stays in its place for a step of its own; for every other call it is moved.
+    pub(crate) fn serve(&mut self, wanted: Wanted) -> Outcome
+        requires { CanServe D.meaning wanted self.old }
+        ensures serving { Serving D.meaning wanted self.old self.new result }
+        ensures few { length (both result.first result.second) ≤ most_events wanted self.old }
+    {
+        if self.is_step(&wanted) {
+            self.step(wanted)
+        } else {
+            replace_with(self, wanted, State::moved)
+        }
+    }
+
+    // Whether a call is a step of the manager that is up, of a node that is live.
+    fn is_step(&self, wanted: &Wanted) -> bool
+        requires { wanted.now.maker.node < vec_len self.now.book.names }
+        ensures { result ≡ is_step_alone wanted.now self.now }
+    {
+        self.book.is_live(wanted.maker.node) && self.desk.makes_step(&wanted.input)
+    }
+
+    /// How many events the call can have at most.
+    pub(crate) fn most_events(&self, wanted: &Wanted) -> usize
+        requires { wanted.now.maker.node < vec_len self.now.book.names }
+        ensures { result ≡ most_events wanted.now self.now }
+    {
+        if self.is_step(wanted) { 1 } else { 2 }
+    }
+
+    // What such a step makes of it.
+    fn step(&mut self, wanted: Wanted) -> Outcome
+        requires can { CanServe D.meaning wanted self.old }
+        requires step { is_step_alone wanted self.old ≡ true }
+        ensures serving { Serving D.meaning wanted self.old self.new result }
+        ensures one { result.second ≡ None }
+    {
+        site_files_are_accepted();
+        nodes_keep_their_names();
+        let Wanted { maker, input, .. } = wanted;
+        let Step { event, answer } = self.desk.step(&self.book, maker, input);
+        Outcome {
+            first: event,
+            second: None,
+            answer,
+        }
+    }
+
+    // What a call makes of it, which moves it.
+    fn moved(self, wanted: Wanted) -> (State<D>, Outcome)
         requires { CanServe D.meaning wanted self }
         ensures { Serving D.meaning wanted self result.0 result.1 }
     {
@@ -42,13 +92,17 @@ impl<D: Disk> State<D> {
     }
 }
 
-/// Takes the memory for one turn more, and for its events; or tells why there can be none.
-pub(crate) fn room_for(alloc: Global, turns: &mut Vec<Turn>) -> Result<Vec<Event>, Answer>
+/// Takes the memory for one turn more, of so many events at most; or tells why there can be none.
+pub(crate) fn room_for(
+    alloc: Global,
+    turns: &mut Vec<Turn>,
+    most: usize,
+) -> Result<Vec<Event>, Answer>
     requires { vec_len turns.old ≤ turns_kept }
     ensures turns { turns.new.items ≡ turns.old.items }
     ensures few { OnOk result (length turns.old.items < turns_kept) }
     ensures place { OnOk result (vec_len turns.new < vec_capacity turns.new) }
-    ensures events { IfOk result (λ events. (events.items ≡ []) × (vec_capacity events ≡ 2)) }
+    ensures events { IfOk result (λ events. (events.items ≡ []) × (vec_capacity events ≡ most)) }
     ensures why { IfErr result (MayLeaveNone turns.old.items) }
 {
     if turns.len() == TURNS_KEPT {
@@ -57,7 +111,7 @@ pub(crate) fn room_for(alloc: Global, turns: &mut Vec<Turn>) -> Result<Vec<Event
     let Ok(()) = turns.reserve(1) else {
         return Err(Answer::NoMemory { took: None });
     };
-    match Vec::with_capacity(alloc, 2) {
+    match Vec::with_capacity(alloc, most) {
         Ok(events) => Ok(events),
         Err(AllocError) => Err(Answer::NoMemory { took: None }),
     }
@@ -73,7 +127,7 @@ pub(crate) fn keep(
 )
     requires place { vec_len turns.old < vec_capacity turns.old }
     requires empty { room.items ≡ [] }
-    requires room { vec_capacity room ≡ 2 }
+    requires room { length (both first second) ≤ vec_capacity room }
     ensures { turns.new.items ≡ turns.old.items ++ option_to_list (turn_made maker (both first second)) }
 {
     let Some(first) = first else {

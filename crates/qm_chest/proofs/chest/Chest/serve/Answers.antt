@@ -1,4 +1,4 @@
-use Rattle.std.proofs.Common.{refl, sym, subst}
+use Rattle.std.proofs.Common.{◌∙◌, ◌≤◌, ℕ, length, refl, sym, subst}
 use Rattle.qm_acting.proofs.Spare.{keeps_same}
 use Rattle.qm_chest.specs.At.{chest_disk}
 use Rattle.qm_chest.specs.Serving.{CanServe, Serving}
@@ -36,16 +36,21 @@ returns-in-Err-clause-spare g c = λ tells. keeps_same g.D.Disk.meaning (chest_d
 
 -- ---- a turn is left
 
-pub replace_with-first-requires : goal.replace_with-first-requires
-replace_with-first-requires g c =
+pub keep-requires-clause-room : goal.keep-requires-clause-room
+keep-requires-clause-room g c =
+    let out = c.serve-first.result in
+    subst (λ (n : ℕ). length (both out.first out.second) ≤ n) (sym (c.in-Ok.ensures.events.1 ∙ c.most_events-most.ensures)) c.serve-first.ensures.few
+
+pub serve-first-requires : goal.serve-first-requires
+serve-first-requires g c =
     subst (λ (wanted : Wanted). CanServe g.D.Disk.meaning wanted c.args.self.now.state) (sym c.by-wanted.ensures)
     (can_serve g.D.Disk.meaning c.args.node c.args.now c.args.call c.args.self.now c.requires.serving c.requires.there c.requires.can c.in-Ok.ensures.few)
 
 pub returns-in-Ok-clause-serves : goal.returns-in-Ok-clause-serves
 returns-in-Ok-clause-serves g c = λ tells cap w at.
     let old = c.args.self.now in
-    let out = c.replace_with-first.result in
-    let served = subst (λ (wanted : Wanted). Serving g.D.Disk.meaning wanted old.state c.replace_with-first.new.dest out) c.by-wanted.ensures c.replace_with-first.ensures in
+    let out = c.serve-first.result in
+    let served = subst (λ (wanted : Wanted). Serving g.D.Disk.meaning wanted old.state c.serve-first.new.self out) c.by-wanted.ensures c.serve-first.ensures.serving in
     let kept = kept_so old.turns.items c.room_for.new.turns.items c.keep.new.turns.items c.by-wanted.result c.args.node c.args.now c.args.call (both out.first out.second)
     c.by-wanted.ensures c.in-Ok.ensures.turns c.keep.ensures in
     served_at g.D.Disk.meaning c.args.node c.args.now c.args.call old _ out served kept c.worlds_stay_sound.ensures.events tells c.in-Ok.ensures.few cap w at
@@ -53,8 +58,8 @@ returns-in-Ok-clause-serves g c = λ tells cap w at.
 pub returns-in-Ok-clause-one : goal.returns-in-Ok-clause-one
 returns-in-Ok-clause-one g c =
     let old = c.args.self.now in
-    let out = c.replace_with-first.result in
-    let served = subst (λ (wanted : Wanted). Serving g.D.Disk.meaning wanted old.state c.replace_with-first.new.dest out) c.by-wanted.ensures c.replace_with-first.ensures in
+    let out = c.serve-first.result in
+    let served = subst (λ (wanted : Wanted). Serving g.D.Disk.meaning wanted old.state c.serve-first.new.self out) c.by-wanted.ensures c.serve-first.ensures.serving in
     let kept = kept_so old.turns.items c.room_for.new.turns.items c.keep.new.turns.items c.by-wanted.result c.args.node c.args.now c.args.call (both out.first out.second)
     c.by-wanted.ensures c.in-Ok.ensures.turns c.keep.ensures in
     one_left c.args.node c.args.now c.args.call old.turns.items c.keep.new.turns.items out served.leaves.told kept
@@ -62,11 +67,11 @@ returns-in-Ok-clause-one g c =
 pub returns-in-Ok-clause-serving : goal.returns-in-Ok-clause-serving
 returns-in-Ok-clause-serving g c =
     let old = c.args.self.now in
-    let out = c.replace_with-first.result in
-    let served = subst (λ (wanted : Wanted). Serving g.D.Disk.meaning wanted old.state c.replace_with-first.new.dest out) c.by-wanted.ensures c.replace_with-first.ensures in
+    let out = c.serve-first.result in
+    let served = subst (λ (wanted : Wanted). Serving g.D.Disk.meaning wanted old.state c.serve-first.new.self out) c.by-wanted.ensures c.serve-first.ensures.serving in
     let kept = kept_so old.turns.items c.room_for.new.turns.items c.keep.new.turns.items c.by-wanted.result c.args.node c.args.now c.args.call (both out.first out.second)
     c.by-wanted.ensures c.in-Ok.ensures.turns c.keep.ensures in
     serving_behind g.D.Disk.meaning c.args.node c.args.now c.args.call old _ out served kept c.worlds_stay_sound.ensures.events c.in-Ok.ensures.few c.requires.serving
 
 pub returns-in-Ok-clause-spare : goal.returns-in-Ok-clause-spare
-returns-in-Ok-clause-spare g c = c.replace_with-first.ensures.leaves.spare
+returns-in-Ok-clause-spare g c = c.serve-first.ensures.serving.leaves.spare
