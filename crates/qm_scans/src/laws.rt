@@ -21,7 +21,7 @@ pub fn answers_tell_of_scans<F: Format>()
 pub fn answers_tell_how_rows_are_printed<F: Format>()
     ensures { (items_line : Row → List ℕ) (v : Visit) (asked : Call) → IsTurnOf F.has_spelling v.before asked v.turn
         → turn_lines items_line v.before v.turn ≡ takeover_lines (told_takeover (answered v))
-            ++ answer_lines items_line (first_line_of v.turn.why) (is_single (step_of asked)) (answered v) }
+        ++ answer_lines items_line (first_line_of v.turn.why) (is_single (step_of asked)) (answered v) }
 {}
 
 /// A node has begun no listing before its first turn, and each turn moves what the ones before left.

@@ -6,8 +6,6 @@ mod laws;
 mod scans;
 mod step;
 
-pub use laws::{
-    answers_tell_how_rows_are_printed, answers_tell_of_scans, scans_follow_visits,
-};
+pub use laws::{answers_tell_how_rows_are_printed, answers_tell_of_scans, scans_follow_visits};
 pub use scans::Scans;
 pub use step::{ScanStep, is_single, step_of};

@@ -53,7 +53,7 @@ fn is_of_memory(fault: FromHexError) -> bool
 }
 
 /// The bytes that a text spells, if it is pairs of digits. It takes memory in proportion to the text.
-#[tactic(auto, using(crate::proofs::HexText::decoded_ok, crate::proofs::HexText::decoded_err))]
+#[tactic(auto, using(crate::proofs::HexText::decoded_ok))]
 pub(crate) fn read_bytes(alloc: Global, text: &[u8]) -> Result<Option<Seq<u8>>, AllocError>
     ensures { IfOk result (λ bytes. bytes ≡ hex_bytes text.now) }
 {

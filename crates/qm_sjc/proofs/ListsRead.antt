@@ -59,11 +59,11 @@ not_end item rest can = by_test (is_end (item_text item ++ rest)) refl
     by_test true is =
         let same : take 4 (item_text item ++ rest) ≡ list_end = (bytes_eq-Decides (take 4 (item_text item ++ rest)) list_end).0 is in
         let count : length item.value ≡ 0 =
-            sym (count_at item rest can) ∙ ap (λ (l : List ℕ). from_le_bytes w16 l) (sym (front_count item rest))
-            ∙ ap (λ (l : List ℕ). from_le_bytes w16 (take 2 l)) same ∙ none_behind in
+        sym (count_at item rest can) ∙ ap (λ (l : List ℕ). from_le_bytes w16 l) (sym (front_count item rest))
+        ∙ ap (λ (l : List ℕ). from_le_bytes w16 (take 2 l)) same ∙ none_behind in
         let code : item.code ≡ 0 =
-            sym (code_at item rest can) ∙ ap (λ (l : List ℕ). from_le_bytes w16 l) (sym (front_code item rest))
-            ∙ ap (λ (l : List ℕ). from_le_bytes w16 (take 2 (drop 2 l))) same ∙ none_behind in
+        sym (code_at item rest can) ∙ ap (λ (l : List ℕ). from_le_bytes w16 l) (sym (front_code item rest))
+        ∙ ap (λ (l : List ℕ). from_le_bytes w16 (take 2 (drop 2 l))) same ∙ none_behind in
         absurd (can.no_end count code)
     by_test false is = refl
 
@@ -73,8 +73,8 @@ item_of code value = record { code = code; value = value }
 item_is : (item : Item) (rest : List ℕ) → CanStand item → item_here (item_text item ++ rest) ≡ item
 item_is item rest can =
     let value : take (count_here (item_text item ++ rest)) (drop 4 (item_text item ++ rest)) ≡ item.value =
-        ap (λ (n : ℕ). take n (drop 4 (item_text item ++ rest))) (count_at item rest can)
-        ∙ ap (λ (l : List ℕ). take (length item.value) l) (behind_head item rest) ∙ take_at item.value rest (length item.value) refl in
+    ap (λ (n : ℕ). take n (drop 4 (item_text item ++ rest))) (count_at item rest can)
+    ∙ ap (λ (l : List ℕ). take (length item.value) l) (behind_head item rest) ∙ take_at item.value rest (length item.value) refl in
     ap (λ (n : ℕ). item_of n (take (count_here (item_text item ++ rest)) (drop 4 (item_text item ++ rest)))) (code_at item rest can)
     ∙ ap (λ (l : List ℕ). item_of item.code l) value
 
@@ -89,7 +89,7 @@ item_first most place item rest can =
     let whole = item_text item ++ rest in
     let counted : count_here whole ≡ length item.value = count_at item rest can in
     one_more most place whole (not_none (length whole) (omega (arith, length_here item rest)))
-        (not_less (length whole) (4 + count_here whole) (omega (arith, length_here item rest, counted))) (not_end item rest can)
+    (not_less (length whole) (4 + count_here whole) (omega (arith, length_here item rest, counted))) (not_end item rest can)
     ∙ ap (λ (i : Item). one_item i (items_from most (place + 4 + count_here whole) (behind_item whole))) (item_is item rest can)
     ∙ ap (λ (n : ℕ). one_item item (items_from most (place + 4 + n) (behind_item whole))) counted
     ∙ ap (λ (l : List ℕ). one_item item (items_from most (place + 4 + length item.value) l)) (behind_is item rest can)
@@ -124,7 +124,7 @@ walked (item ∷ items) rest (suc most) place r each few end =
     ap (λ (l : List ℕ). items_from (suc most) place l) (append_assoc (item_text item) (text items) rest)
     ∙ item_first most place item (text items ++ rest) each.0
     ∙ ap (one_item item) (walked items rest most (place + 4 + length item.value) r each.1 fewer
-        (λ left enough. ap (λ (p : ℕ). items_from left p rest) there ∙ end left enough))
+    (λ left enough. ap (λ (p : ℕ). items_from left p rest) there ∙ end left enough))
 
 -- ---- what stands behind the items
 
@@ -185,8 +185,8 @@ fault_read bytes (After place) told is says =
     subst (λ (o : Option Fault). Told bytes o) says
     (stands_read GoesOn bytes is.0 (record { place = place; kind = parse.After }) is.2
     (λ left enough. ap (λ (l : List ℕ). items_from left is.0 l) on.2
-        ∙ at_more left is.0 on.0 on.1 (subst (λ (l : List ℕ). length l ≤ left) on.2 enough)
-        ∙ ap (λ (p : ℕ). Err (record { place = p; kind = parse.After })) (sym is.1)))
+    ∙ at_more left is.0 on.0 on.1 (subst (λ (l : List ℕ). length l ≤ left) on.2 enough)
+    ∙ ap (λ (p : ℕ). Err (record { place = p; kind = parse.After })) (sym is.1)))
 fault_read bytes NoMemory told is says = cc
 
 pub fault_told : (function : ℕ) (bytes user : List ℕ) (fault : ItemFault) (told : Fault) → IsFault bytes fault → list_fault fault ≡ Some told

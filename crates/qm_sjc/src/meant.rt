@@ -46,12 +46,7 @@ fn no_list(function: u16, bytes: &[u8], user: Name, fault: ItemFault) -> Result<
 }
 
 // What the call of a function asks for, a fault of it included.
-fn call_meant(
-    alloc: Global,
-    function: u16,
-    items: &[Item],
-    user: Name,
-) -> Result<Input, AllocError>
+fn call_meant(alloc: Global, function: u16, items: &[Item], user: Name) -> Result<Input, AllocError>
     requires { length (text items.now) < 2 ^ 64 }
     ensures { IfOk result (λ input. input ≡ or_fault (call_of user function items.now)) }
 {
