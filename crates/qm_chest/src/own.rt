@@ -88,6 +88,7 @@ impl Book {
     }
 
     // A request. TICK is for the manager's epoch alone.
+    #[inline(never)]
     fn asked<D: Disk>(
         &self,
         manager: &mut Manager<D>,

@@ -21,6 +21,7 @@ use qm_state::Refused;
 use std::alloc::AllocError;
 
 /// The runs of a node.
+#[inline(never)]
 pub(crate) fn fetch<D: Disk>(
     manager: &Manager<D>,
     at: u8,
@@ -57,6 +58,7 @@ pub(crate) fn fetch<D: Disk>(
 
 impl Book {
     /// The rows of a listing.
+    #[inline(never)]
     pub(crate) fn show<D: Disk>(
         &self,
         manager: &Manager<D>,

@@ -47,6 +47,7 @@ impl<D: Disk> State<D> {
     }
 
     // What such a step makes of it.
+    #[inline(never)]
     fn step(&mut self, wanted: Wanted) -> Outcome
         requires can { CanServe D.meaning wanted self.old }
         requires step { is_step_alone wanted self.old ≡ true }
@@ -64,7 +65,8 @@ impl<D: Disk> State<D> {
         }
     }
 
-    // What a call makes of it, which moves it.
+    // What a call makes of it, which moves it. (Inlined, its locals would be cleared at each step.)
+    #[inline(never)]
     fn moved(self, wanted: Wanted) -> (State<D>, Outcome)
         requires { CanServe D.meaning wanted self }
         ensures { Serving D.meaning wanted self result.0 result.1 }
@@ -118,6 +120,7 @@ pub(crate) fn room_for(
 }
 
 /// Keeps the turn of these events, if there are any, in memory that was taken before.
+#[inline(never)]
 pub(crate) fn keep(
     turns: &mut Vec<Turn>,
     room: Vec<Event>,

@@ -14,6 +14,15 @@ pub struct Maker {
     pub(crate) moment: Moment,
 }
 
+impl Maker {
+    // A node makes a turn at this reading of its clock.
+    fn of(node: u8, why: Why, moment: Moment) -> Maker
+        ensures { result ≡ record { node = node; why = why; moment = moment } }
+    {
+        Maker { node, why, moment }
+    }
+}
+
 /// What a call asks for.
 #[derive(Drop)]
 pub struct Wanted {
@@ -48,21 +57,28 @@ impl Wanted {
     pub(crate) fn by(node: u8, now: Moment, call: Call) -> Wanted
         ensures { result ≡ wanted_by node now call }
     {
-        let (why, input, leaves) = match call {
-            Call::Line { line, input } => (Why::Line(line), input, false),
-            Call::Fetch { known } => (Why::Fetch, Input::Fetch { known }, false),
-            Call::Report { run, report } => (Why::Report, Input::Ask(reported(run, report)), false),
-            Call::Leave => (Why::Leave, Input::StopNode, true),
-        };
-        let maker = Maker {
-            node,
-            why,
-            moment: now,
-        };
-        Wanted {
-            maker,
-            input,
-            leaves,
+        // Each arm makes the whole, so that the input is moved once.
+        match call {
+            Call::Line { line, input } => Wanted {
+                maker: Maker::of(node, Why::Line(line), now),
+                input,
+                leaves: false,
+            },
+            Call::Fetch { known } => Wanted {
+                maker: Maker::of(node, Why::Fetch, now),
+                input: Input::Fetch { known },
+                leaves: false,
+            },
+            Call::Report { run, report } => Wanted {
+                maker: Maker::of(node, Why::Report, now),
+                input: Input::Ask(reported(run, report)),
+                leaves: false,
+            },
+            Call::Leave => Wanted {
+                maker: Maker::of(node, Why::Leave, now),
+                input: Input::StopNode,
+                leaves: true,
+            },
         }
     }
 }
