@@ -52,6 +52,12 @@ unless : (a b : Bool) → (a ≡ true → b ≡ true) → (not a || b) ≡ true
 unless true b h = h refl
 unless false b h = refl
 
+-- what doesn't begin isn't there whole
+unspelled : (whole begun alone : Bool) → (whole ≡ true → begun ≡ true) → begun ≡ false → (whole || (begun && alone)) ≡ false
+unspelled true begun alone both not_begun = sym (both refl) ∙ not_begun
+unspelled false true alone both not_begun = absurd cc
+unspelled false false alone both not_begun = refl
+
 -- ---- elements
 
 abbrev In : List (List ℕ) → List ℕ → Type 0
@@ -101,6 +107,10 @@ module _ (text : List ℕ) (token : Token) where
       and_of (is_word token.kind && nat_le (length (bytes_of text token)) (length name)) _
       (and_of (is_word token.kind) _ (both_first (is_word token.kind) _ h) (no_longer (length (bytes_of text token)) (length name) long))
       (equal_text raised (take (length (bytes_of text token)) name) (is ∙ sym (all_taken name (length (bytes_of text token)) long)))
+
+  -- a token that doesn't begin a name doesn't mean it
+  pub unbegun : (name : List ℕ) (alone : Bool) → begins text name token ≡ false → means text token name alone ≡ false
+  unbegun name alone not_begun = unspelled (is_spelled text name token) (begins text name token) alone (whole_begins name) not_begun
 
   abbrev spells : List ℕ → Bool
   spells name = is_spelled text name token

@@ -79,11 +79,18 @@ fn has_option(text: &[u8], verb: Verb, tokens: &[Token], option: Option<Word>) -
     }
 }
 
-// Whether the tokens behind the verb name this command.
-fn is_named(text: &[u8], verb: Verb, tokens: &[Token], row: &Row) -> bool
+// Whether the tokens behind the verb, of which this is the first parameter, name this command.
+fn is_named(
+    text: &[u8],
+    verb: Verb,
+    tokens: &[Token],
+    parameter: Option<Token>,
+    row: &Row,
+) -> bool
+    requires { parameter ≡ first_parameter tokens.now }
     ensures { result ≡ is_named text.now verb tokens.now row.now }
 {
-    has_object(text, verb, row.object, first_parameter(tokens))
+    has_object(text, verb, row.object, parameter)
         && has_option(text, verb, tokens, row.option)
         && has_option(text, verb, tokens, row.further)
 }
@@ -92,10 +99,11 @@ fn is_named(text: &[u8], verb: Verb, tokens: &[Token], row: &Row) -> bool
 pub(crate) fn row_of(text: &[u8], tokens: &[Token], verb: Verb) -> Option<Row>
     ensures { result ≡ row_of text.now tokens.now verb }
 {
+    let parameter = first_parameter(tokens);
     rows_of(verb)
         .iter()
         .copied()
-        .find(|row| is_named(text, verb, tokens, row))
+        .find(|row| is_named(text, verb, tokens, parameter, row))
 }
 
 /// The command that the tokens of a text name, whatever else is wrong with them: its verb, and its option, where it has one.

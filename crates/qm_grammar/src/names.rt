@@ -31,7 +31,8 @@ pub(crate) fn is_verb(text: &[u8], token: Token, verb: Verb) -> bool
     ensures { result ≡ is_verb text.now token verb }
 {
     let name = verb_spelling(verb);
-    is_spelled(text, name, token) || (begins(text, name, token) && is_verb_alone(text, token, name))
+    begins(text, name, token)
+        && (is_spelled(text, name, token) || is_verb_alone(text, token, name))
 }
 
 /// Whether some verb begins with a token.
@@ -67,8 +68,8 @@ pub(crate) fn is_object(text: &[u8], verb: Verb, token: Token, word: Word) -> bo
     ensures { result ≡ is_object text.now verb token word }
 {
     let name = spelling(word);
-    is_spelled(text, name, token)
-        || (begins(text, name, token) && is_object_alone(text, verb, token, name))
+    begins(text, name, token)
+        && (is_spelled(text, name, token) || is_object_alone(text, verb, token, name))
 }
 
 // Whether no other of these names leaves this one in doubt.
@@ -112,8 +113,8 @@ pub(crate) fn is_name(text: &[u8], verb: Verb, row: Option<Row>, token: Token, w
     ensures { result ≡ is_name text.now verb row token word }
 {
     let name = spelling(word);
-    let is_whole = is_spelled(text, name, token);
-    is_whole || (begins(text, name, token) && is_alone(text, verb, row, token, name))
+    begins(text, name, token)
+        && (is_spelled(text, name, token) || is_alone(text, verb, row, token, name))
 }
 
 // Whether one of these names begins with a token.

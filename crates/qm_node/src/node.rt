@@ -218,10 +218,14 @@ impl<'a, Y: Symbiont> NodeState<'a, Y> {
         ensures { IfOk result (λ call. call ≡ Call.Line line.now.number (line_with (user_line_view line.now) now begun.now (known self.now.state.kept))) }
     {
         let known = self.runs.known()?;
-        Ok(Call::Line {
-            line: line.number,
-            input: read_line(self.alloc, line, now, begun, &known)?,
-        })
+        // A `?` would move what was read once more.
+        match read_line(self.alloc, line, now, begun, &known) {
+            Ok(input) => Ok(Call::Line {
+                line: line.number,
+                input,
+            }),
+            Err(error) => Err(error),
+        }
     }
 
     // The call of a fetch.
@@ -254,8 +258,10 @@ impl<'a, Y: Symbiont> NodeState<'a, Y> {
         match next {
             Next::Line(line) => {
                 let moment = clock.tell();
-                let call = self.call_of_line(line, moment, begun)?;
-                Ok(Asked { moment, call })
+                match self.call_of_line(line, moment, begun) {
+                    Ok(call) => Ok(Asked { moment, call }),
+                    Err(error) => Err(error),
+                }
             }
             Next::Step(run) => {
                 let stepped = self.runs.step(symbiont);

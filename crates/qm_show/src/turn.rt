@@ -15,6 +15,9 @@ use qm_sjc::row_line;
 use std::alloc::{AllocError, Global};
 use std::fmt;
 
+// Room for the lines of most turns, in bytes, so that their text is moved nowhere as it grows.
+const MOST_TEXTS: usize = 256;
+
 // The node holds another epoch than the present manager's.
 #[derive(Clone, Copy)]
 struct FencedText {
@@ -215,7 +218,7 @@ pub fn show_answer(
     ensures { IfOk result (λ text. text.items ≡ told_text node.now why single answer.now) }
 {
     let prefix = prefix_of(node, why);
-    let mut text = Vec::new(alloc);
+    let mut text = Vec::with_capacity(alloc, MOST_TEXTS)?;
     push_takeover(&mut text, &prefix, told_takeover(answer))?;
     push_answer(alloc, &mut text, &prefix, why, single, answer)?;
     Ok(text)
