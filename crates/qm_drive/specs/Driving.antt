@@ -52,10 +52,11 @@ IsLastOf node MemoryShort last = (last ≡ []) ⊎ ((n : Noted) × (last ≡ n �
 
 -- ---- what it did
 
--- the text of the answers that a node of this name got in its turns
+-- the text of the answer that a node of this name got in a turn
 abbrev pub visit_told : List ℕ → Visit → List ℕ
 visit_told name v = behind (prefix_of name v.turn.why) (turn_lines items_line v.before v.turn)
 
+-- and in its turns
 abbrev pub text_told : List ℕ → List Visit → List ℕ
 text_told name visits = flat_map (visit_told name) visits
 

@@ -36,6 +36,7 @@ pub record HeldSeat : Type 0 where
   pub count : ℕ
   pub begun : Scans
 
+-- where it stands, as courses have it
 abbrev pub standing_of : HeldSeat → Standing
 standing_of seat = record { state = seat.node.state; live = seat.live; count = seat.count; begun = seat.begun }
 
