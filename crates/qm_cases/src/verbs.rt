@@ -123,7 +123,7 @@ fn act_on_outside(desk: &mut Desk, verb: &str, text: &str) -> Result<bool, Alloc
         "line" => push_line(&mut desk.script, text)?,
         "lines" => push_lines(alloc, &mut desk.script, text)?,
         "numbered" => push_numbered(alloc, &mut desk.script, text)?,
-        "letters" => push_times(&mut desk.script, number_and_rest(text).0, b"x")?,
+        "letters" => push_times(&mut desk.script, number_and_rest(text).0, b"a")?,
         "text" => push_bytes(&mut desk.script, text)?,
         "look" => {
             desk.look.clear();
