@@ -80,13 +80,7 @@ fn has_option(text: &[u8], verb: Verb, tokens: &[Token], option: Option<Word>) -
 }
 
 // Whether the tokens behind the verb, of which this is the first parameter, name this command.
-fn is_named(
-    text: &[u8],
-    verb: Verb,
-    tokens: &[Token],
-    parameter: Option<Token>,
-    row: &Row,
-) -> bool
+fn is_named(text: &[u8], verb: Verb, tokens: &[Token], parameter: Option<Token>, row: &Row) -> bool
     requires { parameter ≡ first_parameter tokens.now }
     ensures { result ≡ is_named text.now verb tokens.now row.now }
 {

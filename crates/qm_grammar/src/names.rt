@@ -31,8 +31,7 @@ pub(crate) fn is_verb(text: &[u8], token: Token, verb: Verb) -> bool
     ensures { result ≡ is_verb text.now token verb }
 {
     let name = verb_spelling(verb);
-    begins(text, name, token)
-        && (is_spelled(text, name, token) || is_verb_alone(text, token, name))
+    begins(text, name, token) && (is_spelled(text, name, token) || is_verb_alone(text, token, name))
 }
 
 /// Whether some verb begins with a token.
