@@ -4,10 +4,11 @@ ghost use Rattle.qm_acting.specs.declared.fault.AskFault.TheVariants.{NoMemory};
 
 use qm_kinds::Refusal;
 use std::alloc::AllocError;
+use std::fmt;
 use thiserror::Error;
 
 /// Why a request wasn't done.
-#[derive(Clone, Copy, Debug, PartialEq, Eq, Error)]
+#[derive(Clone, Copy, Error)]
 pub enum AskFault {
     /// The rules of the queue system refuse it. Nothing has changed.
     #[error("the request is refused")]
@@ -24,7 +25,7 @@ pub enum AskFault {
 }
 
 /// Why a node didn't take over.
-#[derive(Clone, Copy, Debug, PartialEq, Eq, Error)]
+#[derive(Clone, Copy, Debug, Error)]
 pub enum TakeFault {
     /// With the epoch the master would take so many bytes, which is more than its cap. Nothing has changed.
     #[error("the master is full: {need} bytes needed, {cap} allowed")]
@@ -46,7 +47,7 @@ pub enum TakeFault {
 }
 
 /// Why the record of an accepted request wasn't written.
-#[derive(Clone, Copy, Debug, PartialEq, Eq)]
+#[derive(Clone, Copy)]
 pub(crate) enum RecordFault {
     /// With it the live queue file would take so many bytes, which is more than its cap. Nothing has changed.
     Full { need: u64, cap: u64 },
@@ -59,5 +60,11 @@ impl From<AllocError> for AskFault {
 
     fn from(_: AllocError) -> AskFault {
         AskFault::NoMemory
+    }
+}
+
+impl fmt::Debug for AskFault {
+    fn fmt<W: fmt::Write>(&self, f: &mut fmt::Formatter<W>) -> fmt::Result {
+        fmt::Display::fmt(self, f)
     }
 }
