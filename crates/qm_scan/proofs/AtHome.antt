@@ -1,9 +1,10 @@
 -- Where no job runs in a queue, the entries that stand there have it as their home.
-use Rattle.std.proofs.Common.{◌≡◌, ◌∙◌, ℕ, ◌&&◌, ◌||◌, Bool, true, false, List, [], ◌∷◌, Option, Some, None, refl}
+use Rattle.std.proofs.Common.{◌≡◌, ℕ, ◌&&◌, Bool, true, false, List, [], ◌∷◌, Option, Some, None, refl}
 use Rattle.std.specs.List.{find, list_any}
 use Rattle.std.specs.Option.{option_map_or}
 use Rattle.std.specs.Prelude.{unwrap_or}
 use Rattle.std.specs.Str.{bytes_eq}
+use Rattle.std.proofs.lemmas.Bool.{or_parts}
 use Rattle.qm_kinds.specs.Wildcards.{matches}
 use Rattle.qm_kinds.specs.declared.entry.Entry.{Entry}
 use Rattle.qm_kinds.specs.declared.query.Query.{Query}
@@ -26,9 +27,6 @@ nothing false true false = refl
 nothing false false true = refl
 nothing false false false = refl
 
-both_false : (a b : Bool) → (a || b) ≡ false → (a ≡ false) × (b ≡ false)
-both_false false false is = (refl, refl)
-
 at_home : (runs : Option (List ℕ)) (home queue : List ℕ) (m u : Bool) → option_map_or (λ name. bytes_eq name queue) runs false ≡ false
     → (bytes_eq home queue && (m && u && bytes_eq (unwrap_or runs home) queue)) ≡ (m && u && bytes_eq (unwrap_or runs home) queue)
 at_home None home queue m u is = twice (bytes_eq home queue) m u
@@ -43,5 +41,5 @@ module _ (q : Query) (queue : List ℕ) (far : Entry → Bool) where
       → find (λ e. far e && is_listed_at_home q queue e) entries ≡ find (λ e. far e && is_entry_listed q (Some queue) e) entries
   first_is_at_home [] is = refl
   first_is_at_home (e ∷ es) is =
-      let two : (occupies queue e ≡ false) × (list_any (occupies queue) es ≡ false) = both_false (occupies queue e) (list_any (occupies queue) es) is in
+      let two : (occupies queue e ≡ false) × (list_any (occupies queue) es ≡ false) = or_parts (occupies queue e) (list_any (occupies queue) es) is in
       rw (same_one e two.0, first_is_at_home es two.1) refl

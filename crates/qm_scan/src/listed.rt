@@ -12,7 +12,7 @@ use qm_kinds::{Entry, EntryState, Kinds, Name, Pattern, Query, Queue, QueueKind}
 pub(crate) fn is_named(pattern: &Pattern, name: &Name) -> bool
     ensures { result ≡ matches pattern.now name.now }
 {
-    pattern.as_bytes() == b"*" || pattern.matches(name)
+    pattern.as_bytes() == b"*".as_slice() || pattern.matches(name)
 }
 
 // Whether queues of a kind are listed.

@@ -40,14 +40,19 @@ fn is_characteristic_behind(last: &Option<After>, characteristic: &Characteristi
     }
 }
 
+// The first of these queues that is listed.
+fn first_queue<'a>(query: &Query, queues: &'a [Queue]) -> Option<&'a Queue>
+    ensures { option_copied result ≡ find (is_queue_listed query.now) queues.now }
+{
+    queues.iter().find(|queue| is_queue_listed(query, queue))
+}
+
 // The first queue behind the last row that is listed.
 fn next_queue<'a>(query: &Query, queues: &'a [Queue]) -> Option<&'a Queue>
     requires { IsInOrder name_cmp (λ q. q.name) queues.now }
     ensures { option_copied result ≡ find (λ q. is_behind query.now.after (row.Queue q) && is_queue_listed query.now q) queues.now }
 {
-    queues_behind(&query.after, queues)
-        .iter()
-        .find(|queue| is_queue_listed(query, queue))
+    first_queue(query, queues_behind(&query.after, queues))
 }
 
 // The first form behind the last row whose name matches.
