@@ -3,3 +3,5 @@ pub mod Put
 pub mod Named
 pub mod Found
 pub mod Behind
+pub mod Anything
+pub mod AtHome

@@ -1,6 +1,7 @@
 -- What is listed, row by row.
 use Rattle.std.specs.Prelude.{◌≡◌, ℕ, ◌==◌, Bool, true, false, ◌&&◌, List, [], ◌∷◌, filter, map, slice_get, slice_index_or, Option, Some}
 use Rattle.std.specs.Option.{option_map_or}
+use Rattle.std.specs.Str.{bytes_eq}
 use Rattle.qm_kinds.specs.Wildcards.{matches}
 use Rattle.qm_kinds.specs.declared.entry.Entry.{Entry}
 use Rattle.qm_kinds.specs.declared.queue.Queue.{Queue}
@@ -17,6 +18,10 @@ is_queue_listed q queue = matches q.pattern queue.name && is_kind_listed q.kinds
 -- the entry is listed, among those of all queues or of one
 abbrev pub is_entry_listed : Query → Option (List ℕ) → Entry → Bool
 is_entry_listed q queue e = matches q.pattern e.name && is_of_user q.user e && option_map_or (λ name. stands_there name e) queue true
+
+-- the entry is listed among those of a queue, and has it as its home
+abbrev pub is_listed_at_home : Query → List ℕ → Entry → Bool
+is_listed_at_home q queue e = bytes_eq e.home queue && is_entry_listed q (Some queue) e
 
 -- the entry is listed below a queue
 abbrev pub is_below : Query → Queue → Entry → Bool

@@ -13,7 +13,7 @@ ghost use Rattle.qm_scan.specs.Listed.{AreBelow, is_entry_listed, is_queue_liste
 
 use crate::below::groups_below;
 use crate::lent::Lent;
-use crate::listed::{is_entry_listed, is_queue_listed};
+use crate::listed::{is_entry_listed, is_named, is_queue_listed};
 use qm_kinds::{Characteristic, Entry, Form, Listing, Name, Pattern, Query, Queue, Row, Seq};
 use qm_sched::Parts;
 use std::alloc::{AllocError, Global};
@@ -155,7 +155,7 @@ fn form_rows(alloc: Global, pattern: &Pattern, forms: &[Form]) -> Result<Vec<Row
 {
     let mut rows = Vec::with_capacity(alloc, forms.len())?;
     for form in forms {
-        if pattern.matches(&form.name) {
+        if is_named(pattern, &form.name) {
             rows.push(Row::Form(*form))?;
         }
     }
@@ -173,7 +173,7 @@ fn characteristic_rows(
 {
     let mut rows = Vec::with_capacity(alloc, characteristics.len())?;
     for characteristic in characteristics {
-        if pattern.matches(&characteristic.name) {
+        if is_named(pattern, &characteristic.name) {
             rows.push(Row::Characteristic(*characteristic))?;
         }
     }

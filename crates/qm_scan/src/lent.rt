@@ -47,12 +47,13 @@ impl<'a> Lent<'a> {
         Ok(())
     }
 
-    /// Puts a row of each entry behind the others.
+    /// Puts a row of each entry behind the others. Each entry is copied once, to where its row stands.
     pub(crate) fn push_rows(&self, rows: &mut Vec<Row>) -> Result<(), AllocError>
         ensures { OnOk result (rows.new.items ≡ rows.old.items ++ map (λ e. row.Entry e) self.now) }
     {
         for entry in &self.entries {
-            rows.push(Row::Entry(**entry))?;
+            rows.reserve(1)?;
+            rows.push_reserved(Row::Entry(**entry));
         }
         Ok(())
     }

@@ -8,6 +8,7 @@ mod laws;
 mod lent;
 mod listed;
 mod next;
+mod places;
 mod scan;
 
 pub use all::all_rows;

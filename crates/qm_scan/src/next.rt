@@ -1,34 +1,22 @@
 // The first row of a listing behind the one that was given last.
-ghost use Rattle.std.specs.Prelude.{◌≡◌, ◌&&◌, ◌≤◌, nat_lt, length, Bool, drop, filter, find, map, IfOk, IsSome, OnErr};
+ghost use Rattle.std.specs.Prelude.{◌≡◌, ◌&&◌, filter, find, map, IfOk, IsSome, None, OnErr, Some};
 ghost use Rattle.std.specs.Option.{option_copied};
-ghost use Rattle.std.specs.Ordering.{nat_cmp};
 ghost use Rattle.qm_entries.specs.Boxed.{contents};
-ghost use Rattle.qm_keyed.specs.Places.{IsPlace};
 ghost use Rattle.qm_kinds.specs.Wildcards.{matches};
-ghost use Rattle.qm_kinds.specs.declared.entry.Entry.{Entry as AnyEntry};
 ghost use Rattle.qm_kinds.specs.declared.query.Row.TheVariants as row;
 ghost use Rattle.qm_kinds.specs.declared.system.System.{System};
 ghost use Rattle.qm_model.specs.Consistent.{IsInOrder};
-ghost use Rattle.qm_model.specs.Rows.{is_past, next_row, single_rows};
+ghost use Rattle.qm_model.specs.Find.{name_cmp};
+ghost use Rattle.qm_model.specs.Rows.{next_row, single_rows};
 ghost use Rattle.qm_sched.specs.Tables.{with_tables};
-ghost use Rattle.qm_scan.specs.Listed.{is_behind, is_entry_listed, is_queue_listed};
+ghost use Rattle.qm_scan.specs.Listed.{is_behind, is_entry_listed, is_listed_at_home, is_queue_listed};
 
 use crate::all::copy_of;
-use crate::listed::{is_entry_listed, is_queue_listed};
+use crate::listed::{is_entry_listed, is_listed_at_home, is_named, is_queue_listed};
+use crate::places::{entries_behind, queues_behind};
 use qm_kinds::{After, Characteristic, Entry, Form, Listing, Name, Query, Queue, Row};
 use qm_sched::{Parts, see_entries};
 use std::alloc::{AllocError, Global};
-
-// Whether a queue stands behind the row that was given last, if one was.
-fn is_queue_behind(last: &Option<After>, queue: &Queue) -> bool
-    ensures { result ≡ is_behind last.now (row.Queue queue.now) }
-{
-    match last {
-        None => true,
-        Some(After::Name(name)) => *name < queue.name,
-        Some(After::Number(_)) => false,
-    }
-}
 
 // Whether a form of a number stands behind the row that was given last, if one was.
 fn is_form_behind(last: &Option<After>, form: &Form) -> bool
@@ -52,12 +40,19 @@ fn is_characteristic_behind(last: &Option<After>, characteristic: &Characteristi
     }
 }
 
+// The first of these queues that is listed.
+fn first_queue<'a>(query: &Query, queues: &'a [Queue]) -> Option<&'a Queue>
+    ensures { option_copied result ≡ find (is_queue_listed query.now) queues.now }
+{
+    queues.iter().find(|queue| is_queue_listed(query, queue))
+}
+
 // The first queue behind the last row that is listed.
 fn next_queue<'a>(query: &Query, queues: &'a [Queue]) -> Option<&'a Queue>
+    requires { IsInOrder name_cmp (λ q. q.name) queues.now }
     ensures { option_copied result ≡ find (λ q. is_behind query.now.after (row.Queue q) && is_queue_listed query.now q) queues.now }
 {
-    queues.iter().find(|queue| is_queue_behind(&query.after, queue)
-        && is_queue_listed(query, queue))
+    first_queue(query, queues_behind(&query.after, queues))
 }
 
 // The first form behind the last row whose name matches.
@@ -65,7 +60,7 @@ fn next_form<'a>(query: &Query, forms: &'a [Form]) -> Option<&'a Form>
     ensures { option_copied result ≡ find (λ f. is_behind query.now.after (row.Form f) && matches query.now.pattern f.name) forms.now }
 {
     forms.iter().find(|form| is_form_behind(&query.after, form)
-        && query.pattern.matches(&form.name))
+        && is_named(&query.pattern, &form.name))
 }
 
 // The first characteristic behind the last row whose name matches.
@@ -76,49 +71,7 @@ fn next_characteristic<'a>(
     ensures { option_copied result ≡ find (λ c. is_behind query.now.after (row.Characteristic c) && matches query.now.pattern c.name) defined.now }
 {
     defined.iter().find(|one| is_characteristic_behind(&query.after, one)
-        && query.pattern.matches(&one.name))
-}
-
-// Where the entry of a number stands, or where one would belong, by a logarithm of the entries.
-fn place_of(entries: &[Box<Entry>], number: u32) -> Result<usize, usize>
-    requires { IsInOrder nat_cmp (λ e. e.number) (contents entries.now) }
-    ensures { IsPlace nat_cmp (λ e. e.number) number (contents entries.now) result }
-{
-    entries.binary_search_by(|entry| entry.number.cmp(&number))
-}
-
-// Where the entries of greater numbers begin.
-fn place_behind(entries: &[Box<Entry>], number: u32) -> usize
-    requires { IsInOrder nat_cmp (λ e. e.number) (contents entries.now) }
-    ensures within { result ≤ length entries.now }
-    ensures behind { (p : AnyEntry → Bool) → find (λ e. nat_lt number e.number && p e) (contents entries.now) ≡ find p (drop result (contents entries.now)) }
-{
-    match place_of(entries, number) {
-        Ok(place) => place + 1,
-        Err(place) => place,
-    }
-}
-
-// The entries behind a row.
-fn entries_past<'a>(last: &After, entries: &'a [Box<Entry>]) -> &'a [Box<Entry>]
-    requires { IsInOrder nat_cmp (λ e. e.number) (contents entries.now) }
-    ensures { (p : AnyEntry → Bool) → find (λ e. is_past last.now (row.Entry e) && p e) (contents entries.now) ≡ find p (contents result.now) }
-{
-    match last {
-        After::Name(_) => &entries[entries.len()..],
-        After::Number(number) => &entries[place_behind(entries, *number)..],
-    }
-}
-
-// The entries behind the row that was given last, or all where none was.
-fn entries_behind<'a>(last: &Option<After>, entries: &'a [Box<Entry>]) -> &'a [Box<Entry>]
-    requires { IsInOrder nat_cmp (λ e. e.number) (contents entries.now) }
-    ensures { (p : AnyEntry → Bool) → find (λ e. is_behind last.now (row.Entry e) && p e) (contents entries.now) ≡ find p (contents result.now) }
-{
-    match last {
-        None => entries,
-        Some(last) => entries_past(last, entries),
-    }
+        && is_named(&query.pattern, &one.name))
 }
 
 // The first of these entries that is listed, of all queues or of one.
@@ -138,17 +91,57 @@ fn first_listed<'a>(
     None
 }
 
+// The first of these entries that is listed, of those that have this queue as their home.
+fn first_at_home<'a>(query: &Query, queue: &Name, entries: &'a [Box<Entry>]) -> Option<&'a Entry>
+    ensures { option_copied result ≡ find (is_listed_at_home query.now queue.now) (contents entries.now) }
+{
+    for boxed in entries {
+        let entry = boxed.as_ref();
+        if is_listed_at_home(query, queue, entry) {
+            return Some(entry);
+        }
+    }
+    None
+}
+
+// The first entry behind the last row that is listed, of all queues.
+fn next_of_all<'a>(query: &Query, parts: &'a Parts) -> Option<&'a Entry>
+    ensures { option_copied result ≡ find (λ e. is_behind query.now.after (row.Entry e) && is_entry_listed query.now None e) parts.now.entries }
+{
+    see_entries(parts);
+    first_listed(query, &None, entries_behind(&query.after, parts.entries()))
+}
+
+// The first entry behind the last row that is listed, of one queue. Where no job runs in the queue, those that stand there have it as
+// their home.
+fn next_in<'a>(query: &Query, queue: &Name, parts: &'a Parts) -> Option<&'a Entry>
+    ensures { option_copied result
+        ≡ find (λ e. is_behind query.now.after (row.Entry e) && is_entry_listed query.now (Some queue.now) e) parts.now.entries }
+{
+    see_entries(parts);
+    let entries = entries_behind(&query.after, parts.entries());
+    if parts.is_occupied(queue) {
+        first_listed(query, &Some(*queue), entries)
+    } else {
+        first_at_home(query, queue, entries)
+    }
+}
+
 // The first entry behind the last row that is listed, of all queues or of one.
 fn next_entry<'a>(query: &Query, queue: &Option<Name>, parts: &'a Parts) -> Option<&'a Entry>
     ensures { option_copied result
         ≡ find (λ e. is_behind query.now.after (row.Entry e) && is_entry_listed query.now queue.now e) parts.now.entries }
 {
-    see_entries(parts);
-    first_listed(query, queue, entries_behind(&query.after, parts.entries()))
+    match queue {
+        None => next_of_all(query, parts),
+        Some(queue) => next_in(query, queue, parts),
+    }
 }
 
 // The row of the next queue.
+#[inline(never)]
 fn next_queue_row(alloc: Global, query: &Query, queues: &[Queue]) -> Result<Option<Row>, AllocError>
+    requires { IsInOrder name_cmp (λ q. q.name) queues.now }
     ensures row { IfOk result (λ one. one ≡ next_row query.now.after (map (λ q. row.Queue q) (filter (is_queue_listed query.now) queues.now))) }
     ensures no_memory { OnErr result (IsSome (next_row query.now.after (map (λ q. row.Queue q) (filter (is_queue_listed query.now) queues.now)))) }
 {
@@ -159,6 +152,7 @@ fn next_queue_row(alloc: Global, query: &Query, queues: &[Queue]) -> Result<Opti
 }
 
 // The row of the next entry, of all queues or of one.
+#[inline(never)]
 fn next_entry_row(query: &Query, queue: &Option<Name>, parts: &Parts) -> Option<Row>
     ensures { result ≡ next_row query.now.after (map (λ e. row.Entry e) (filter (is_entry_listed query.now queue.now) parts.now.entries)) }
 {
@@ -169,6 +163,7 @@ fn next_entry_row(query: &Query, queue: &Option<Name>, parts: &Parts) -> Option<
 }
 
 // The row of the next form.
+#[inline(never)]
 fn next_form_row(query: &Query, forms: &[Form]) -> Option<Row>
     ensures { result ≡ next_row query.now.after (map (λ f. row.Form f) (filter (λ f. matches query.now.pattern f.name) forms.now)) }
 {
@@ -179,6 +174,7 @@ fn next_form_row(query: &Query, forms: &[Form]) -> Option<Row>
 }
 
 // The row of the next characteristic.
+#[inline(never)]
 fn next_characteristic_row(query: &Query, defined: &[Characteristic]) -> Option<Row>
     ensures { result ≡ next_row query.now.after (map (λ c. row.Characteristic c) (filter (λ c. matches query.now.pattern c.name) defined.now)) }
 {
@@ -192,8 +188,8 @@ fn next_characteristic_row(query: &Query, defined: &[Characteristic]) -> Option<
 /// entries, forms and characteristics the next by number. It is the first of all where none was given, and none where no other row
 /// matches now.
 ///
-/// An entry's place is found by a logarithm of the entries, and from there it walks to the first that is listed. Of queues, forms and
-/// characteristics it looks from the first on. A row of a queue takes memory.
+/// The place behind that row is found by a logarithm of the queues, or of the entries, and from there it walks to the first that is
+/// listed. Of forms and characteristics it looks from the first on. A row of a queue takes memory.
 pub fn next_row(alloc: Global, parts: &Parts, query: &Query) -> Result<Option<Row>, AllocError>
     ensures row { (s : System) → IfOk result (λ one. one ≡ next_row query.now.after (single_rows (with_tables s parts.now) query.now query.now.listing)) }
     ensures no_memory { (s : System) → OnErr result (IsSome (next_row query.now.after (single_rows (with_tables s parts.now) query.now query.now.listing))) }

@@ -4,7 +4,7 @@ use Rattle.std.specs.Cmp.{nat_cmp_total}
 use Rattle.qm_keyed.proofs.Mapped.{order_unmapped, place_mapped}
 use Rattle.qm_keyed.proofs.Searches.{place_from_clause}
 use Rattle.qm_scan.proofs.Boxed.{value_of, number_of}
-use Rattle.qm_scan.proofs.next.place_of.Goals as goal
+use Rattle.qm_scan.proofs.places.place_numbered.Goals as goal
 
 -- the closure compares numbers
 pub returns : goal.returns

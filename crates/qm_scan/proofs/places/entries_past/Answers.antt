@@ -8,7 +8,7 @@ use Rattle.qm_entries.specs.Boxed.{contents}
 use Rattle.qm_model.specs.Rows.{is_past}
 use Rattle.qm_scan.proofs.Boxed.{left_of}
 use Rattle.qm_scan.proofs.Found.{find_never, find_at_end}
-use Rattle.qm_scan.proofs.next.entries_past.Goals as goal
+use Rattle.qm_scan.proofs.places.entries_past.Goals as goal
 
 pub returns-in-Name : goal.returns-in-Name
 returns-in-Name c = λ p.
@@ -19,5 +19,5 @@ returns-in-Name c = λ p.
 pub returns-in-Number : goal.returns-in-Number
 returns-in-Number c = λ p.
     ap (λ (last : After). find (λ (e : Entry). is_past last (row.Entry e) && p e) (contents c.args.entries.now)) c.in-Number.is
-    ∙ c.place_behind.ensures.behind p
-    ∙ sym (ap (find p) (left_of c.args.entries.now c.place_behind.result c.place_behind.ensures.within))
+    ∙ c.place_behind_number.ensures.behind p
+    ∙ sym (ap (find p) (left_of c.args.entries.now c.place_behind_number.result c.place_behind_number.ensures.within))

@@ -1,9 +1,0 @@
-use Rattle.qm_entries.specs.Boxed.{contents}
-use Rattle.qm_scan.proofs.Behind.{behind_it, from_there}
-use Rattle.qm_scan.proofs.next.place_behind.Goals as goal
-
-pub returns-in-Ok-clause-behind : goal.returns-in-Ok-clause-behind
-returns-in-Ok-clause-behind c = λ p. behind_it (contents c.args.entries.now) c.args.number p c.in-Ok.place c.in-Ok.ensures
-
-pub returns-in-Err-clause-behind : goal.returns-in-Err-clause-behind
-returns-in-Err-clause-behind c = λ p. from_there (contents c.args.entries.now) c.args.number p c.in-Err.place c.in-Err.ensures

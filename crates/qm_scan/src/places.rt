@@ -1,0 +1,94 @@
+// Where the rows of a listing go on behind the one that was given last.
+ghost use Rattle.std.specs.Prelude.{◌≡◌, ◌&&◌, ◌≤◌, nat_lt, length, Bool, drop, find};
+ghost use Rattle.std.specs.Ordering.{is_lt, nat_cmp};
+ghost use Rattle.qm_entries.specs.Boxed.{contents};
+ghost use Rattle.qm_keyed.specs.Places.{IsPlace};
+ghost use Rattle.qm_kinds.specs.declared.entry.Entry.{Entry as AnyEntry};
+ghost use Rattle.qm_kinds.specs.declared.queue.Queue.{Queue as AnyQueue};
+ghost use Rattle.qm_kinds.specs.declared.query.Row.TheVariants as row;
+ghost use Rattle.qm_model.specs.Consistent.{IsInOrder};
+ghost use Rattle.qm_model.specs.Find.{name_cmp};
+ghost use Rattle.qm_model.specs.Rows.{is_past};
+ghost use Rattle.qm_scan.specs.Listed.{is_behind};
+
+use qm_keyed::place_of;
+use qm_kinds::{After, Entry, Name, Queue};
+
+// Where the queues of greater names begin, by a logarithm of the queues.
+fn place_behind_name(queues: &[Queue], name: &Name) -> usize
+    requires { IsInOrder name_cmp (λ q. q.name) queues.now }
+    ensures within { result ≤ length queues.now }
+    ensures behind { (p : AnyQueue → Bool) → find (λ q. is_lt (name_cmp name.now q.name) && p q) queues.now ≡ find p (drop result queues.now) }
+{
+    match place_of(queues, name) {
+        Ok(place) => place + 1,
+        Err(place) => place,
+    }
+}
+
+// The queues behind a row.
+fn queues_past<'a>(last: &After, queues: &'a [Queue]) -> &'a [Queue]
+    requires { IsInOrder name_cmp (λ q. q.name) queues.now }
+    ensures { (p : AnyQueue → Bool) → find (λ q. is_past last.now (row.Queue q) && p q) queues.now ≡ find p result.now }
+{
+    match last {
+        After::Name(name) => &queues[place_behind_name(queues, name)..],
+        After::Number(_) => &queues[queues.len()..],
+    }
+}
+
+/// The queues behind the row that was given last, or all where none was. They are found by a logarithm of the queues.
+pub(crate) fn queues_behind<'a>(last: &Option<After>, queues: &'a [Queue]) -> &'a [Queue]
+    requires { IsInOrder name_cmp (λ q. q.name) queues.now }
+    ensures { (p : AnyQueue → Bool) → find (λ q. is_behind last.now (row.Queue q) && p q) queues.now ≡ find p result.now }
+{
+    match last {
+        None => queues,
+        Some(last) => queues_past(last, queues),
+    }
+}
+
+// Where the entry of a number stands, or where one would belong, by a logarithm of the entries.
+fn place_numbered(entries: &[Box<Entry>], number: u32) -> Result<usize, usize>
+    requires { IsInOrder nat_cmp (λ e. e.number) (contents entries.now) }
+    ensures { IsPlace nat_cmp (λ e. e.number) number (contents entries.now) result }
+{
+    entries.binary_search_by(|entry| entry.number.cmp(&number))
+}
+
+// Where the entries of greater numbers begin.
+fn place_behind_number(entries: &[Box<Entry>], number: u32) -> usize
+    requires { IsInOrder nat_cmp (λ e. e.number) (contents entries.now) }
+    ensures within { result ≤ length entries.now }
+    ensures behind { (p : AnyEntry → Bool) → find (λ e. nat_lt number e.number && p e) (contents entries.now) ≡ find p (drop result (contents entries.now)) }
+{
+    match place_numbered(entries, number) {
+        Ok(place) => place + 1,
+        Err(place) => place,
+    }
+}
+
+// The entries behind a row.
+fn entries_past<'a>(last: &After, entries: &'a [Box<Entry>]) -> &'a [Box<Entry>]
+    requires { IsInOrder nat_cmp (λ e. e.number) (contents entries.now) }
+    ensures { (p : AnyEntry → Bool) → find (λ e. is_past last.now (row.Entry e) && p e) (contents entries.now) ≡ find p (contents result.now) }
+{
+    match last {
+        After::Name(_) => &entries[entries.len()..],
+        After::Number(number) => &entries[place_behind_number(entries, *number)..],
+    }
+}
+
+/// The entries behind the row that was given last, or all where none was. They are found by a logarithm of the entries.
+pub(crate) fn entries_behind<'a>(
+    last: &Option<After>,
+    entries: &'a [Box<Entry>],
+) -> &'a [Box<Entry>]
+    requires { IsInOrder nat_cmp (λ e. e.number) (contents entries.now) }
+    ensures { (p : AnyEntry → Bool) → find (λ e. is_behind last.now (row.Entry e) && p e) (contents entries.now) ≡ find p (contents result.now) }
+{
+    match last {
+        None => entries,
+        Some(last) => entries_past(last, entries),
+    }
+}
