@@ -1,0 +1,4 @@
+pub mod Listed
+mod Blanks
+mod Values
+mod Times

@@ -1,0 +1,8 @@
+use Rattle.std.proofs.Output.{has_written_of_eq}
+use Rattle.std.proofs.Common.{refl}
+use Rattle.qm_spelling.proofs.Listed.{references_from}
+use Rattle.qm_spelling.proofs.pieces.ReferencesTextDisplay.fmt.Goals as goal
+
+pub returns-in-len1-up-clause-writes : goal.returns-in-len1-up-clause-writes
+returns-in-len1-up-clause-writes g c plain ok =
+    has_written_of_eq _ _ _ _ _ (references_from _ _ _ refl c.in-len1-up.len_at_least c.first-item.is) (c.write-in-len1-up.ensures.writes plain ok)

@@ -1,0 +1,30 @@
+// Laws of spellings: what a value is spelled as says that value.
+ghost use Rattle.std.specs.Prelude.{◌≡◌, ◌≤◌, ◌<◌, ◌^◌, ℕ, List, Some, decimal};
+ghost use Rattle.qm_kinds.specs.Files.{name_of};
+ghost use Rattle.qm_kinds.specs.Text.{IsText, is_name_byte, is_pattern_byte};
+ghost use Rattle.qm_dcl.specs.Values.{moment_said, number_to, pattern_said, unquoted};
+ghost use Rattle.qm_spelling.specs.Pieces.{time_text};
+
+use qm_time::printed_moments_read_back;
+
+/// A number in decimal says that number, where it isn't above the most.
+pub fn numbers_read_back()
+    ensures { (most n : ℕ) → n ≤ most → n < 2 ^ 64 → number_to most (decimal n) ≡ Some n }
+{}
+
+/// A name says that name.
+pub fn names_read_back()
+    ensures { (name : List ℕ) → IsText is_name_byte name → name_of name ≡ Some name }
+{}
+
+/// A pattern says that pattern.
+pub fn patterns_read_back()
+    ensures { (pattern : List ℕ) → IsText is_pattern_byte pattern → pattern_said pattern ≡ Some pattern }
+{}
+
+/// A time in quotes says the moment that it is spelled of, whatever the present one is.
+pub fn times_read_back()
+    ensures { (moment now : ℕ) → moment ≤ 25690901759999 → moment_said now (unquoted (time_text moment)) ≡ Some moment }
+{
+    printed_moments_read_back();
+}

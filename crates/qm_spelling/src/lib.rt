@@ -1,0 +1,16 @@
+//! The writer of commands, beside their reader `qm_dcl`. `print_command` gives the one full spelling of an input, exactly as
+//! `spelling_of` in `specs/Commands.antt` says, or tells that no command asks for it.
+#![tactic(auto)]
+
+mod command;
+mod fault;
+mod forms;
+mod jobs;
+mod laws;
+mod listings;
+mod pieces;
+mod queues;
+
+pub use command::print_command;
+pub use fault::PrintFault;
+pub use laws::{names_read_back, numbers_read_back, patterns_read_back, times_read_back};
