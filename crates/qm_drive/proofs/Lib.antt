@@ -7,3 +7,4 @@ pub mod Hearing
 pub mod Onward
 pub mod Underway
 pub mod Leaving
+pub mod Undamaged

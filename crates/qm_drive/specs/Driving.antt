@@ -38,6 +38,12 @@ node_end (Err end.HistoryFull) = TurnsSpent
 node_end (Err (end.Damaged file place)) = FileDamaged file place
 node_end (Err end.NoMemory) = MemoryShort
 
+-- no file is told as one that isn't sound
+abbrev pub IsUndamaged : DriveEnd → Type 0
+IsUndamaged end.HistoryFull = Unit {0}
+IsUndamaged (end.Damaged file place) = ⊥
+IsUndamaged end.NoMemory = Unit {0}
+
 -- the call left a turn of this node, and was told all that the turn tells
 abbrev pub IsHeard : ℕ → Noted → Type 0
 IsHeard node n = (t : Turn) × (n.turn ≡ Some t) × (t.node ≡ node) × (n.unread ≡ false)

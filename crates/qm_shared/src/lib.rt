@@ -7,5 +7,8 @@ mod laws;
 mod site;
 
 pub use begins::Begins;
-pub use laws::{nodes_begin_live, opened_sites_stand_for_no_notes};
+pub use laws::{
+    nodes_begin_live, nodes_leave_what_is_noted, opened_sites_stand_for_no_notes,
+    openings_keep_worlds,
+};
 pub use site::Site;
