@@ -7,3 +7,5 @@ pub mod Hearing
 pub mod Onward
 pub mod Underway
 pub mod Leaving
+pub mod Undamaged
+pub mod Hiding

@@ -15,9 +15,9 @@ use Rattle.qm_drive.specs.declared.ending.DriveEnd.{DriveEnd}
 use Rattle.qm_drive.specs.declared.noted.Noted.{Noted}
 use Rattle.qm_drive.specs.Turning.{EndsAt, EndsBy, HeldSeat, IsCalled, IsTurnMade, MakesTurn, Prints, TakesIn, ending_of}
 
-module _ {Y : Type 0} (y : Meaning Y) (tells : Bool) (first : World) (most : ℕ) (node : ℕ) (name : List ℕ) (next : Next) (old mid new : HeldSeat) (was now : Y) (told then : Option (List ℕ))
+module _ {Y : Type 0} (y : Meaning Y) (tells : Bool) (may_begin : World → Type 0) (most : ℕ) (node : ℕ) (name : List ℕ) (next : Next) (old mid new : HeldSeat) (was now : Y) (told then : Option (List ℕ))
     (before after : Known Noted) (text printed : List ℕ) (asked : Asked) (a : Answer)
-    (call : IsCalled y old.begun next old.node.state asked mid.node was now) (clock : Appends told then (asked.moment ∷ [])) (turn : IsTurnMade tells first most node asked.moment asked.call a before after)
+    (call : IsCalled y old.begun next old.node.state asked mid.node was now) (clock : Appends told then (asked.moment ∷ [])) (turn : IsTurnMade tells may_begin most node asked.moment asked.call a before after)
     (mid_is : (mid.live ≡ old.live) × (mid.count ≡ old.count) × (mid.begun ≡ old.begun))
   where
     from_old : TakesIn next mid.node asked.call a mid new → TakesIn next mid.node asked.call a old new
@@ -29,7 +29,7 @@ module _ {Y : Type 0} (y : Meaning Y) (tells : Bool) (first : World) (most : ℕ
     }
 
     pub made : (r : Result (Unit {0}) DriveEnd) → OnOk r (ending_of a ≡ None) → OnOk r (Prints name asked.call a text printed) → OnOk r (TakesIn next mid.node asked.call a mid new)
-        → OnOk r (MakesTurn y tells first most node name next old new was now told then before after text printed)
+        → OnOk r (MakesTurn y tells may_begin most node name next old new was now told then before after text printed)
     made (Ok done) goes prints takes = record {
       asked = record { asked = asked; made = mid.node; told_by_it = a; call = call; clock = clock; turn = turn };
       goes_on = goes;
@@ -39,6 +39,6 @@ module _ {Y : Type 0} (y : Meaning Y) (tells : Bool) (first : World) (most : ℕ
     made (Err stopped) goes prints takes = tt
 
     pub ended : (r : Result (Unit {0}) DriveEnd) → IfErr r (λ stopped. EndsBy name stopped asked.call a text printed)
-        → IfErr r (λ stopped. EndsAt y tells first most node name stopped next old was now told then before after text printed)
+        → IfErr r (λ stopped. EndsAt y tells may_begin most node name stopped next old was now told then before after text printed)
     ended (Ok done) h = tt
     ended (Err stopped) h = inl (record { asked = record { asked = asked; made = mid.node; told_by_it = a; call = call; clock = clock; turn = turn }; ends = h })

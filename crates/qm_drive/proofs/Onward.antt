@@ -64,8 +64,8 @@ nothing_more xs (y ∷ ys) h = absurd (omega (arith, h, length-append xs (y ∷ 
 
 -- ---- what the pass knows behind a turn
 
-module _ (tells : Bool) (first : World) (most : ℕ) (node now : ℕ) (asked : Call) (told : Answer) (before after : Known Noted) (number : before.number ≡ node) (all_mine : notes_by node before.seen ≡ before.mine)
-    (turn : IsTurnMade tells first most node now asked told before after)
+module _ (tells : Bool) (may_begin : World → Type 0) (most : ℕ) (node now : ℕ) (asked : Call) (told : Answer) (before after : Known Noted) (number : before.number ≡ node) (all_mine : notes_by node before.seen ≡ before.mine)
+    (turn : IsTurnMade tells may_begin most node now asked told before after)
   where
     abbrev pub found : List Turn
     found = turns_in (before.seen ++ turn.between)
@@ -100,14 +100,14 @@ module _ (tells : Bool) (first : World) (most : ℕ) (node now : ℕ) (asked : C
     own_found own =
         all_front (λ (e : ℕ × Noted). IfSome e.1.turn (λ (t : Turn). t.node ≡ node → e.0 ≡ node)) (before.seen ++ turn.between) ((before.number, turn.note) ∷ []) (subst (AreOwn node) turn.seen own)
 
-    pub visits_found : AreOwn node after.seen → visits_of node first found ≡ visits_of node first (turns_in before.seen)
-    visits_found own = visits_begin node first before.seen turn.between (own_found own) none_between
+    pub visits_found : (first : World) → AreOwn node after.seen → visits_of node first found ≡ visits_of node first (turns_in before.seen)
+    visits_found first own = visits_begin node first before.seen turn.between (own_found own) none_between
 
-    pub live_found : ((w : World) (turns : List Turn) → IsSound HasSpelling w → IsLegal HasSpelling w turns → IsSound HasSpelling (after_turns w turns))
+    pub live_found : (first : World) → may_begin first → ((w : World) (turns : List Turn) → IsSound HasSpelling w → IsLegal HasSpelling w turns → IsSound HasSpelling (after_turns w turns))
         → IsSound HasSpelling first → IsTrue tells → AreOwn node after.seen → is_live (after_turns first found) node ≡ is_live (after_turns first (turns_in before.seen)) node
-    live_found sound_on sound sure own =
+    live_found first begins sound_on sound sure own =
         let parts : found ≡ turns_in before.seen ++ turns_in turn.between = turns_in_append before.seen turn.between in
-        let legal : IsLegal HasSpelling first (turns_in before.seen ++ turns_in turn.between) = subst (IsLegal HasSpelling first) parts (turn.legal sure) in
+        let legal : IsLegal HasSpelling first (turns_in before.seen ++ turns_in turn.between) = subst (IsLegal HasSpelling first) parts (turn.legal sure first begins) in
         let mid : World = after_turns first (turns_in before.seen) in
         ap (λ ts. is_live (after_turns first ts) node) parts
         ∙ ap (λ w. is_live w node) (after_both first (turns_in before.seen) (turns_in turn.between))
@@ -123,13 +123,13 @@ readings_more ns n t is =
 pub readings_none : (ns : List Noted) (n : Noted) → n.turn ≡ None → readings (ns ++ n ∷ []) ≡ readings ns
 readings_none ns n is = ap (map (λ (x : Turn). x.moment)) (turns_of_append ns n ∙ ap (λ o. turns_of ns ++ option_to_list o) is ∙ append-nil (turns_of ns))
 
-module _ {Y : Type 0} (y : Meaning Y) (tells : Bool) (first : World) (most : ℕ) (node : ℕ) (name : List ℕ) (lines : List UserLine) (was : Y) (start : List ℕ) (old : Known Noted) (told : Option (List ℕ))
+module _ {Y : Type 0} (y : Meaning Y) (tells : Bool) (may_begin : World → Type 0) (most : ℕ) (node : ℕ) (name : List ℕ) (lines : List UserLine) (was : Y) (start : List ℕ) (old : Known Noted) (told : Option (List ℕ))
     (next : Next) (seat seat' : HeldSeat) (now now' : Y) (then then' : Option (List ℕ)) (before after : Known Noted) (text text' : List ℕ)
     (is : IsTurn (next_at seat.live seat.node.state seat.node.state.stage) (Some next))
-    (m : MakesTurn y tells first most node name next seat seat' now now' then then' before after text text')
+    (m : MakesTurn y tells may_begin most node name next seat seat' now now' then then' before after text text')
     (h : HasMade most node old told seat before then)
   where
-    abbrev turn : IsTurnMade tells first most node m.asked.asked.moment m.asked.asked.call m.asked.told_by_it before after
+    abbrev turn : IsTurnMade tells may_begin most node m.asked.asked.moment m.asked.asked.call m.asked.told_by_it before after
     turn = m.asked.turn
 
     left : (t : Turn) × (turn.note.turn ≡ Some t) × (t.node ≡ node) × (t.moment ≡ m.asked.asked.moment) × (t.why ≡ why_of m.asked.asked.call) × (turn.note.unread ≡ false)
@@ -139,7 +139,7 @@ module _ {Y : Type 0} (y : Meaning Y) (tells : Bool) (first : World) (most : ℕ
     heard = subst (AllByRecursion (IsHeard node)) (sym turn.mine) (all_more (IsHeard node) before.mine turn.note h.heard (left.0, left.1, left.2, left.5))
 
     mine : notes_by node after.seen ≡ after.mine
-    mine = mine_seen tells first most node m.asked.asked.moment m.asked.asked.call m.asked.told_by_it before after h.number.1 h.all_mine turn
+    mine = mine_seen tells may_begin most node m.asked.asked.moment m.asked.asked.call m.asked.told_by_it before after h.number.1 h.all_mine turn
 
     counted : length after.mine ≡ seat'.count
     counted =
@@ -150,7 +150,7 @@ module _ {Y : Type 0} (y : Meaning Y) (tells : Bool) (first : World) (most : ℕ
     few =
         let own : length (notes_by node after.seen) ≤ length (turns_in after.seen) = fewer node after.seen (subst (AllByRecursion (IsHeard node)) (sym mine) heard) in
         let all : length (turns_in after.seen) ≤ most =
-        subst (λ ts. length ts ≤ most) (sym (seen_turns tells first most node m.asked.asked.moment m.asked.asked.call m.asked.told_by_it before after h.number.1 h.all_mine turn)) turn.few in
+        subst (λ ts. length ts ≤ most) (sym (seen_turns tells may_begin most node m.asked.asked.moment m.asked.asked.call m.asked.told_by_it before after h.number.1 h.all_mine turn)) turn.few in
         let same : length (notes_by node after.seen) ≡ seat'.count = ap length mine ∙ counted in
         omega (arith, own, all, same)
 
@@ -169,7 +169,7 @@ module _ {Y : Type 0} (y : Meaning Y) (tells : Bool) (first : World) (most : ℕ
       none_made = heard_ready seat.count next m.asked.made m.asked.told_by_it seat'.node m.takes_in.heard;
     }
 
-    module _ (sound_on : (w : World) (turns : List Turn) → IsSound HasSpelling w → IsLegal HasSpelling w turns → IsSound HasSpelling (after_turns w turns)) (sound : IsSound HasSpelling first)
+    module _ (sound_on : (w : World) (turns : List Turn) → IsSound HasSpelling w → IsLegal HasSpelling w turns → IsSound HasSpelling (after_turns w turns)) (first : World) (begins : may_begin first) (sound : IsSound HasSpelling first)
         (sure : IsTrue tells) (own : AreOwn node after.seen) (c : HasCome y first node name lines was start (turns_in before.seen) seat now text)
       where
         abbrev here : List Turn
@@ -182,20 +182,20 @@ module _ {Y : Type 0} (y : Meaning Y) (tells : Bool) (first : World) (most : ℕ
         v = record { before = w; turn = left.0 }
 
         may : MayAnswer HasSpelling w m.asked.asked.call left.0 m.asked.told_by_it
-        may = subst (λ o. IsAnswered w m.asked.asked.call o m.asked.told_by_it) left.1 (turn.answered sure)
+        may = subst (λ o. IsAnswered w m.asked.asked.call o m.asked.told_by_it) left.1 (turn.answered sure first begins)
 
         served : IsTurnOf HasSpelling w m.asked.asked.call left.0 × (m.asked.told_by_it ≡ answer_of w left.0)
         served = says w m.asked.asked.call left.0 m.asked.told_by_it m.goes_on may
 
         same_visits : visits_of node first here ≡ visits_of node first (turns_in before.seen)
-        same_visits = visits_found tells first most node m.asked.asked.moment m.asked.asked.call m.asked.told_by_it before after h.number.1 h.all_mine turn own
+        same_visits = visits_found tells may_begin most node m.asked.asked.moment m.asked.asked.call m.asked.told_by_it before after h.number.1 h.all_mine turn first own
 
         live : is_live w node ≡ seat.live
-        live = live_found tells first most node m.asked.asked.moment m.asked.asked.call m.asked.told_by_it before after h.number.1 h.all_mine turn sound_on sound sure own ∙ sym c.live
+        live = live_found tells may_begin most node m.asked.asked.moment m.asked.asked.call m.asked.told_by_it before after h.number.1 h.all_mine turn first begins sound_on sound sure own ∙ sym c.live
 
         then_live : seat'.live ≡ is_live_behind v
         then_live =
-            let sound_here : IsSound HasSpelling w = sound_on first here sound (turn.legal sure) in
+            let sound_here : IsSound HasSpelling w = sound_on first here sound (turn.legal sure first begins) in
             m.takes_in.live
             ∙ ap (λ l. live_behind l (bearing_of m.asked.asked.call) m.asked.told_by_it) (sym live ∙ ap (is_live w) (sym left.2))
             ∙ ap (live_behind (is_live w left.0.node) (bearing_of m.asked.asked.call)) served.1
@@ -213,7 +213,7 @@ module _ {Y : Type 0} (y : Meaning Y) (tells : Bool) (first : World) (most : ℕ
             (next_at seat.live seat.node.state seat.node.state.stage) refl is m.asked.call.by m.takes_in.heard
 
         there : turns_in after.seen ≡ here ++ left.0 ∷ []
-        there = seen_turns tells first most node m.asked.asked.moment m.asked.asked.call m.asked.told_by_it before after h.number.1 h.all_mine turn ∙ ap (λ o. here ++ option_to_list o) left.1
+        there = seen_turns tells may_begin most node m.asked.asked.moment m.asked.asked.call m.asked.told_by_it before after h.number.1 h.all_mine turn ∙ ap (λ o. here ++ option_to_list o) left.1
 
         one_more : visits_of node first (here ++ left.0 ∷ []) ≡ visits_of node first (turns_in before.seen) ++ v ∷ []
         one_more = one_visit HasSpelling read_built node first here left.0 left.2 ∙ ap (λ vs. vs ++ v ∷ []) same_visits

@@ -34,19 +34,19 @@ legal_with : (w : World) (turns : List Turn) (asked : Call) (turn : Option Turn)
 legal_with w turns asked None told legal may = subst (IsLegal HasSpelling w) (sym (append-nil turns)) legal
 legal_with w turns asked (Some t) told legal may = legal_behind w turns t legal (answers_legal HasSpelling (after_turns w turns) asked t told may)
 
-module _ {S : Type 0} (tells : Bool) (first : World) (kept : S → List Turn) (stands : S → List Note → Type 0) (most node now : ℕ) (asked : Call) (old new : S) (told : Answer)
+module _ {S : Type 0} (tells : Bool) (may_begin : World → Type 0) (kept : S → List Turn) (stands : S → List Note → Type 0) (most node now : ℕ) (asked : Call) (old new : S) (told : Answer)
     (one : LeavesOne most node now asked (kept old) (kept new) told)
-    (may : IsTrue tells → IsAnswered (after_turns first (kept old)) asked (turn_left (kept old) (kept new)) told)
+    (may : IsTrue tells → (w : World) → may_begin w → IsAnswered (after_turns w (kept old)) asked (turn_left (kept old) (kept new)) told)
     (still : (notes : List Note) → stands old notes → stands new (notes ++ noted asked (kept old) (kept new) told ∷ []))
   where
-    pub stands_on : (notes : List Noted) → StandsFor tells first kept stands old notes → StandsFor tells first kept stands new (notes ++ note_of asked (kept old) (kept new) told ∷ [])
+    pub stands_on : (notes : List Noted) → StandsFor tells may_begin kept stands old notes → StandsFor tells may_begin kept stands new (notes ++ note_of asked (kept old) (kept new) told ∷ [])
     stands_on notes h =
         let note : Noted = note_of asked (kept old) (kept new) told in
         let turns : turns_of (notes ++ note ∷ []) ≡ turns_of notes ++ option_to_list note.turn = turns_of_append notes note in record {
           turns = one.turns ∙ ap (λ l. l ++ option_to_list note.turn) h.turns ∙ sym turns;
           legal =
-              λ sure. subst (IsLegal HasSpelling first) (sym turns)
-              (legal_with first (turns_of notes) asked note.turn told (h.legal sure) (subst (λ l. IsAnswered (after_turns first l) asked note.turn told) h.turns (may sure)));
+              λ sure w begins. subst (IsLegal HasSpelling w) (sym turns)
+              (legal_with w (turns_of notes) asked note.turn told (h.legal sure w begins) (subst (λ l. IsAnswered (after_turns w l) asked note.turn told) h.turns (may sure w begins)));
           itself =
               subst (λ l. stands new l) (sym (map-append note_view notes (note ∷ []))) (still (map note_view notes) h.itself);
         }

@@ -95,17 +95,17 @@ module _ {Y : Type 0} (y : Meaning Y) (first : World) (node : ℕ) (name : List 
     driven_by (end.Damaged file place) is = record { faults = faults; rose = rose; course = course; taken = taken; printed = printed; appended = appended; text = is }
     driven_by end.NoMemory is = record { faults = faults; rose = rose; course = course; taken = taken; printed = printed; appended = appended; text = is }
 
-module _ {Y : Type 0} (y : Meaning Y) (tells : Bool) (first : World) (most : ℕ) (node : ℕ) (name : List ℕ) (lines : List UserLine) (was : Y) (start : List ℕ) (old : Known Noted) (told : Option (List ℕ)) where
+module _ {Y : Type 0} (y : Meaning Y) (tells : Bool) (may_begin : World → Type 0) (most : ℕ) (node : ℕ) (name : List ℕ) (lines : List UserLine) (was : Y) (start : List ℕ) (old : Known Noted) (told : Option (List ℕ)) where
   -- what holds between two turns of the node
   pub record IsUnderWay (seat : HeldSeat) (now : Y) (new : Known Noted) (then : Option (List ℕ)) (text : List ℕ) : Type 0 where
     pub made : HasMade most node old told seat new then
-    pub came : IsTrue tells → AreOwn node new.seen → HasCome y first node name lines was start (turns_in new.seen) seat now text
+    pub came : IsTrue tells → (first : World) → may_begin first → AreOwn node new.seen → HasCome y first node name lines was start (turns_in new.seen) seat now text
 
   abbrev begins : HeldSeat
   begins = record { node = record { state = at_first lines; made = None }; live = true; count = 0; begun = no_scans }
 
-  come_first : is_live first node ≡ true → HasCome y first node name lines was start [] begins was start
-  come_first live = record {
+  come_first : (first : World) → is_live first node ≡ true → HasCome y first node name lines was start [] begins was start
+  come_first first live = record {
     live = sym live;
     steps = [];
     reached = (refl, refl, sym live);
@@ -115,7 +115,7 @@ module _ {Y : Type 0} (y : Meaning Y) (tells : Bool) (first : World) (most : ℕ
     text = sym (append-nil start);
   }
 
-  pub under_way : old.number ≡ node → old.seen ≡ [] → old.mine ≡ [] → (IsTrue tells → is_live first node ≡ true) → IsUnderWay begins was old told start
+  pub under_way : old.number ≡ node → old.seen ≡ [] → old.mine ≡ [] → (IsTrue tells → (first : World) → may_begin first → is_live first node ≡ true) → IsUnderWay begins was old told start
   under_way number none none_mine live = record {
     made = record {
       heard = subst (AllByRecursion (IsHeard node)) (sym none_mine) tt;
@@ -128,22 +128,22 @@ module _ {Y : Type 0} (y : Meaning Y) (tells : Bool) (first : World) (most : ℕ
       clock = subst (Appends told told) (sym (ap readings none_mine)) (appends_none told);
       none_made = refl;
     };
-    came = λ sure own. subst (λ l. HasCome y first node name lines was start (turns_in l) begins was start) (sym none) (come_first (live sure));
+    came = λ sure first may own. subst (λ l. HasCome y first node name lines was start (turns_in l) begins was start) (sym none) (come_first first (live sure first may));
   }
 
-  module _ (sound_on : (w : World) (turns : List Turn) → IsSound HasSpelling w → IsLegal HasSpelling w turns → IsSound HasSpelling (after_turns w turns)) (sound : IsTrue tells → IsSound HasSpelling first)
+  module _ (sound_on : (w : World) (turns : List Turn) → IsSound HasSpelling w → IsLegal HasSpelling w turns → IsSound HasSpelling (after_turns w turns)) (sound : IsTrue tells → (first : World) → may_begin first → IsSound HasSpelling first)
       (seat : HeldSeat) (now : Y) (before : Known Noted) (then : Option (List ℕ)) (text : List ℕ) (u : IsUnderWay seat now before then text)
     where
       pub onward : (next : Next) (seat' : HeldSeat) (now' : Y) (then' : Option (List ℕ)) (after : Known Noted) (text' : List ℕ) → IsTurn (next_at seat.live seat.node.state seat.node.state.stage) (Some next)
-          → MakesTurn y tells first most node name next seat seat' now now' then then' before after text text' → IsUnderWay seat' now' after then' text'
+          → MakesTurn y tells may_begin most node name next seat seat' now now' then then' before after text text' → IsUnderWay seat' now' after then' text'
       onward next seat' now' then' after text' is m = record {
-        made = made_on y tells first most node name lines was start old told next seat seat' now now' then then' before after text text' is m u.made;
+        made = made_on y tells may_begin most node name lines was start old told next seat seat' now now' then then' before after text text' is m u.made;
         came =
-            λ sure own. (
-            let found = own_found tells first most node m.asked.asked.moment m.asked.asked.call m.asked.told_by_it before after u.made.number.1 u.made.all_mine m.asked.turn own in
+            λ sure first may own. (
+            let found = own_found tells may_begin most node m.asked.asked.moment m.asked.asked.call m.asked.told_by_it before after u.made.number.1 u.made.all_mine m.asked.turn own in
             let own_before : AreOwn node before.seen =
             all_front (λ (e : ℕ × Noted). IfSome e.1.turn (λ (t : Turn). t.node ≡ node → e.0 ≡ node)) before.seen m.asked.turn.between found in
-            come_on y tells first most node name lines was start old told next seat seat' now now' then then' before after text text' is m u.made sound_on (sound sure) sure own (u.came sure own_before)
+            come_on y tells may_begin most node name lines was start old told next seat seat' now now' then then' before after text text' is m u.made sound_on first may (sound sure first may) sure own (u.came sure first may own_before)
             );
       }
 
@@ -167,10 +167,10 @@ module _ {Y : Type 0} (y : Meaning Y) (tells : Bool) (first : World) (most : ℕ
         spent = λ bad. cc;
       }
 
-      pub is_driven_whole : IsTurn (next_at seat.live seat.node.state seat.node.state.stage) None → IsTrue tells → AreOwn node before.seen
+      pub is_driven_whole : IsTurn (next_at seat.live seat.node.state seat.node.state.stage) None → IsTrue tells → (first : World) → may_begin first → AreOwn node before.seen
           → IsDriven y first node name lines Ended (turns_in before.seen) was now start text
-      is_driven_whole none sure own =
-          let c : HasCome y first node name lines was start (turns_in before.seen) seat now text = u.came sure own in record {
+      is_driven_whole none sure first may own =
+          let c : HasCome y first node name lines was start (turns_in before.seen) seat now text = u.came sure first may own in record {
             faults = failed_steps c.steps;
             rose = c.rose;
             course = record {
@@ -189,7 +189,7 @@ module _ {Y : Type 0} (y : Meaning Y) (tells : Bool) (first : World) (most : ℕ
 
       -- ---- an end without a call
 
-      module _ (stopped : DriveEnd) (now' : Y) (then' : Option (List ℕ)) (after : Known Noted) (text' : List ℕ) (e : EndsUnasked y tells first most node name stopped now now' then then' before after text text') where
+      module _ (stopped : DriveEnd) (now' : Y) (then' : Option (List ℕ)) (after : Known Noted) (text' : List ℕ) (e : EndsUnasked y tells may_begin most node name stopped now now' then then' before after text text') where
         driven_unasked : HasDriven most node (node_end (Err stopped)) old after told then'
         driven_unasked =
             subst (λ p. HasDriven most node (node_end (Err stopped)) old p told then') (sym e.pass)
@@ -211,14 +211,14 @@ module _ {Y : Type 0} (y : Meaning Y) (tells : Bool) (first : World) (most : ℕ
               spent = λ bad. cc;
             }))
 
-        is_driven_unasked : IsTrue tells → AreOwn node after.seen → IsDriven y first node name lines (node_end (Err stopped)) (turns_in after.seen) was now' start text'
-        is_driven_unasked sure own =
+        is_driven_unasked : IsTrue tells → (first : World) → may_begin first → AreOwn node after.seen → IsDriven y first node name lines (node_end (Err stopped)) (turns_in after.seen) was now' start text'
+        is_driven_unasked sure first may own =
             subst (λ (p : Known Noted). IsDriven y first node name lines (node_end (Err stopped)) (turns_in p.seen) was now' start text') (sym e.pass)
             (subst (λ s. IsDriven y first node name lines (node_end (Err s)) (turns_in before.seen) was now' start text') (sym e.memory) (begun (subst (λ (p : Known Noted). AreOwn node p.seen) e.pass own)))
           where
             begun : AreOwn node before.seen → IsDriven y first node name lines (node_end (Err end.NoMemory)) (turns_in before.seen) was now' start text'
             begun own_before =
-                let c : HasCome y first node name lines was start (turns_in before.seen) seat now text = u.came sure own_before in
+                let c : HasCome y first node name lines was start (turns_in before.seen) seat now text = u.came sure first may own_before in
                 let off : BrokenOff y seat.node.state seat.live (record { moment = 0; call = call.Leave }) seat.node now now' =
                 nothing_broken y seat.node.state seat.live (record { moment = 0; call = call.Leave }) seat.node now now' e.quiet in record {
                   faults = failed_steps c.steps + off.faults;
@@ -235,9 +235,9 @@ module _ {Y : Type 0} (y : Meaning Y) (tells : Bool) (first : World) (most : ℕ
       -- ---- an end with a call
 
       module _ (stopped : DriveEnd) (next : Next) (now' : Y) (then' : Option (List ℕ)) (after : Known Noted) (text' : List ℕ) (is : IsTurn (next_at seat.live seat.node.state seat.node.state.stage) (Some next))
-          (e : EndsAsked y tells first most node name stopped next seat now now' then then' before after text text')
+          (e : EndsAsked y tells may_begin most node name stopped next seat now now' then then' before after text text')
         where
-          abbrev turn : IsTurnMade tells first most node e.asked.asked.moment e.asked.asked.call e.asked.told_by_it before after
+          abbrev turn : IsTurnMade tells may_begin most node e.asked.asked.moment e.asked.asked.call e.asked.told_by_it before after
           turn = e.asked.turn
 
           abbrev here : List Turn
@@ -247,10 +247,10 @@ module _ {Y : Type 0} (y : Meaning Y) (tells : Bool) (first : World) (most : ℕ
           plain = record { moment = e.asked.asked.moment; call = e.asked.call.plain }
 
           there : turns_in after.seen ≡ here ++ option_to_list turn.note.turn
-          there = seen_turns tells first most node e.asked.asked.moment e.asked.asked.call e.asked.told_by_it before after u.made.number.1 u.made.all_mine turn
+          there = seen_turns tells may_begin most node e.asked.asked.moment e.asked.asked.call e.asked.told_by_it before after u.made.number.1 u.made.all_mine turn
 
           last : IsLastOf node (node_end (Err stopped)) (turn.note ∷ []) × (node_end (Err stopped) ≡ TurnsSpent → (turn.note.turn ≡ None) × (length here ≡ most))
-          last = last_call most node e.asked.asked.moment e.asked.asked.call here turn.note name text text' e.asked.told_by_it stopped e.ends turn.made turn.leaves
+          last = last_call most node e.asked.asked.moment e.asked.asked.call here turn.note name text text' e.asked.told_by_it stopped e.ends turn.unread turn.made turn.leaves
 
           told_one : (o : Option Turn) → turn.note.turn ≡ o → IsMadeFor node e.asked.asked.moment e.asked.asked.call o
               → (more : List ℕ) × Appends told then' (readings after.mine ++ more) × (length more ≤ 1)
@@ -285,7 +285,7 @@ module _ {Y : Type 0} (y : Meaning Y) (tells : Bool) (first : World) (most : ℕ
             mine = turn.mine;
             heard = u.made.heard;
             ends = last.0;
-            all_mine = mine_seen tells first most node e.asked.asked.moment e.asked.asked.call e.asked.told_by_it before after u.made.number.1 u.made.all_mine turn;
+            all_mine = mine_seen tells may_begin most node e.asked.asked.moment e.asked.asked.call e.asked.told_by_it before after u.made.number.1 u.made.all_mine turn;
             number = turn.number ∙ u.made.number.0;
             took = turn.took ∙ u.made.took;
             place = turn.place ∙ u.made.place;
@@ -296,14 +296,14 @@ module _ {Y : Type 0} (y : Meaning Y) (tells : Bool) (first : World) (most : ℕ
             spent = λ full. ap length (there ∙ ap (λ o. here ++ option_to_list o) (last.1 full).0 ∙ append-nil here) ∙ (last.1 full).1;
           }
 
-          module _ (sure : IsTrue tells) (own : AreOwn node after.seen) where
+          module _ (sure : IsTrue tells) (first : World) (begun : may_begin first) (own : AreOwn node after.seen) where
             same_visits : visits_of node first here ≡ visits_of node first (turns_in before.seen)
-            same_visits = visits_found tells first most node e.asked.asked.moment e.asked.asked.call e.asked.told_by_it before after u.made.number.1 u.made.all_mine turn own
+            same_visits = visits_found tells may_begin most node e.asked.asked.moment e.asked.asked.call e.asked.told_by_it before after u.made.number.1 u.made.all_mine turn first own
 
             c : HasCome y first node name lines was start (turns_in before.seen) seat now text
             c =
-                let found = own_found tells first most node e.asked.asked.moment e.asked.asked.call e.asked.told_by_it before after u.made.number.1 u.made.all_mine turn own in
-                u.came sure (all_front (λ (x : ℕ × Noted). IfSome x.1.turn (λ (t : Turn). t.node ≡ node → x.0 ≡ node)) before.seen turn.between found)
+                let found = own_found tells may_begin most node e.asked.asked.moment e.asked.asked.call e.asked.told_by_it before after u.made.number.1 u.made.all_mine turn own in
+                u.came sure first begun (all_front (λ (x : ℕ × Noted). IfSome x.1.turn (λ (t : Turn). t.node ≡ node → x.0 ≡ node)) before.seen turn.between found)
 
             abbrev Driven : List Turn → Type 0
             Driven turns = IsDriven y first node name lines (node_end (Err stopped)) turns was now' start text'
@@ -337,7 +337,7 @@ module _ {Y : Type 0} (y : Meaning Y) (tells : Bool) (first : World) (most : ℕ
               made = subst (IsMadeFor node e.asked.asked.moment e.asked.asked.call) some turn.made
 
               may : MayAnswer HasSpelling w e.asked.asked.call t e.asked.told_by_it
-              may = subst (λ o. IsAnswered w e.asked.asked.call o e.asked.told_by_it) some (turn.answered sure)
+              may = subst (λ o. IsAnswered w e.asked.asked.call o e.asked.told_by_it) some (turn.answered sure first begun)
 
               served : IsTurnOf HasSpelling w (built_call e.asked.call.plain) t ⊎ IsCutShort HasSpelling w (built_call e.asked.call.plain) t
               served = subst (λ (x : Call). IsTurnOf HasSpelling w x t ⊎ IsCutShort HasSpelling w x t) e.asked.call.asked_is (whole_or_cut w e.asked.asked.call t e.asked.told_by_it may)
@@ -412,11 +412,11 @@ module _ {Y : Type 0} (y : Meaning Y) (tells : Bool) (first : World) (most : ℕ
       -- ---- either end
 
       module _ (stopped : DriveEnd) (next : Next) (now' : Y) (then' : Option (List ℕ)) (after : Known Noted) (text' : List ℕ) (is : IsTurn (next_at seat.live seat.node.state seat.node.state.stage) (Some next)) where
-        pub driven_at : EndsAt y tells first most node name stopped next seat now now' then then' before after text text' → HasDriven most node (node_end (Err stopped)) old after told then'
+        pub driven_at : EndsAt y tells may_begin most node name stopped next seat now now' then then' before after text text' → HasDriven most node (node_end (Err stopped)) old after told then'
         driven_at (inl e) = driven_asked stopped next now' then' after text' is e
         driven_at (inr e) = driven_unasked stopped now' then' after text' e
 
-        pub is_driven_at : EndsAt y tells first most node name stopped next seat now now' then then' before after text text' → IsTrue tells → AreOwn node after.seen
+        pub is_driven_at : EndsAt y tells may_begin most node name stopped next seat now now' then then' before after text text' → IsTrue tells → (first : World) → may_begin first → AreOwn node after.seen
             → IsDriven y first node name lines (node_end (Err stopped)) (turns_in after.seen) was now' start text'
-        is_driven_at (inl e) sure own = is_driven_asked stopped next now' then' after text' is e sure own
-        is_driven_at (inr e) sure own = is_driven_unasked stopped now' then' after text' e sure own
+        is_driven_at (inl e) sure first may own = is_driven_asked stopped next now' then' after text' is e sure first may own
+        is_driven_at (inr e) sure first may own = is_driven_unasked stopped now' then' after text' e sure first may own

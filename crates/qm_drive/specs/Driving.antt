@@ -38,6 +38,12 @@ node_end (Err end.HistoryFull) = TurnsSpent
 node_end (Err (end.Damaged file place)) = FileDamaged file place
 node_end (Err end.NoMemory) = MemoryShort
 
+-- no file is told as one that isn't sound
+abbrev pub IsUndamaged : DriveEnd → Type 0
+IsUndamaged end.HistoryFull = Unit {0}
+IsUndamaged (end.Damaged file place) = ⊥
+IsUndamaged end.NoMemory = Unit {0}
+
 -- the call left a turn of this node, and was told all that the turn tells
 abbrev pub IsHeard : ℕ → Noted → Type 0
 IsHeard node n = (t : Turn) × (n.turn ≡ Some t) × (t.node ≡ node) × (n.unread ≡ false)
@@ -46,9 +52,17 @@ IsHeard node n = (t : Turn) × (n.turn ≡ Some t) × (t.node ≡ node) × (n.un
 abbrev pub IsLastOf : ℕ → NodeEnd → List Noted → Type 0
 IsLastOf node Ended last = last ≡ []
 IsLastOf node BrokenOff last = ⊥
-IsLastOf node TurnsSpent last = (n : Noted) × (last ≡ n ∷ []) × (n.turn ≡ None)
+IsLastOf node TurnsSpent last = (n : Noted) × (last ≡ n ∷ []) × (n.turn ≡ None) × (n.unread ≡ false)
 IsLastOf node (FileDamaged file place) last = (n : Noted) × (t : Turn) × (last ≡ n ∷ []) × (n.turn ≡ Some t) × (t.node ≡ node)
 IsLastOf node MemoryShort last = (last ≡ []) ⊎ ((n : Noted) × (last ≡ n ∷ []) × IsOfNode node n)
+
+-- how many turns that tell of a disk that failed may be hidden by this end
+abbrev pub hidden_by : NodeEnd → ℕ
+hidden_by Ended = 0
+hidden_by BrokenOff = 0
+hidden_by TurnsSpent = 0
+hidden_by (FileDamaged file place) = 1
+hidden_by MemoryShort = 1
 
 -- ---- what it did
 

@@ -55,8 +55,8 @@ ending_of (answer.Fenced held current) = None
 ending_of (answer.NoManager took name) = None
 
 -- The pass had its turn with the call of this node, at this reading: it has then seen the turns up to that, which found the others.
--- Where the disks tell, all of them are legal from the first world on, and the call was told what its turn says.
-pub record IsTurnMade (tells : Bool) (first : World) (most node now : ℕ) (asked : Call) (told : Answer) (old new : Known Noted) : Type 0 where
+-- Where the disks tell, all of them are legal from each world on in which it may have begun, and the call was told what its turn says, and of no damaged file.
+pub record IsTurnMade (tells : Bool) (may_begin : World → Type 0) (most node now : ℕ) (asked : Call) (told : Answer) (old new : Known Noted) : Type 0 where
   pub between : List (ℕ × Noted)
   pub note : Noted
   pub seen : new.seen ≡ (old.seen ++ between) ++ (old.number, note) ∷ []
@@ -70,8 +70,9 @@ pub record IsTurnMade (tells : Bool) (first : World) (most node now : ℕ) (aske
   pub made : IsOf node now asked note.turn
   pub leaves : LeavesTurn most (turns_in (old.seen ++ between)) note.turn told
   pub few : length (turns_in (old.seen ++ between) ++ option_to_list note.turn) ≤ most
-  pub legal : IsTrue tells → IsLegal HasSpelling first (turns_in (old.seen ++ between))
-  pub answered : IsTrue tells → IsAnswered (after_turns first (turns_in (old.seen ++ between))) asked note.turn told
+  pub legal : IsTrue tells → (w : World) → may_begin w → IsLegal HasSpelling w (turns_in (old.seen ++ between))
+  pub answered : IsTrue tells → (w : World) → may_begin w → IsAnswered (after_turns w (turns_in (old.seen ++ between))) asked note.turn told
+  pub undamaged : IsTrue tells → (file place : ℕ) → told ≡ answer.Damaged file place → ⊥
   pub heard : CanBeHeard told
 
 -- The call of what comes next was made, as far as that is built, where the node has begun these listings.
@@ -106,7 +107,7 @@ EndsBy name stopped asked told text printed =
     ((ending_of told ≡ Some stopped) × (printed ≡ text))
     ⊎ ((ending_of told ≡ None) × (stopped ≡ end.NoMemory) × ((printed ≡ text) ⊎ Prints name asked told text printed))
 
-module _ {Y : Type 0} (y : Meaning Y) (tells : Bool) (first : World) (most : ℕ) (node : ℕ) (name : List ℕ) where
+module _ {Y : Type 0} (y : Meaning Y) (tells : Bool) (may_begin : World → Type 0) (most : ℕ) (node : ℕ) (name : List ℕ) where
   -- what comes next was asked for, with one reading of the clock, and had its turn
   pub record IsAskedFor (next : Next) (old : HeldSeat) (was now : Y) (told then : Option (List ℕ)) (before after : Known Noted) : Type 0 where
     pub asked : Asked
@@ -114,7 +115,7 @@ module _ {Y : Type 0} (y : Meaning Y) (tells : Bool) (first : World) (most : ℕ
     pub told_by_it : Answer
     pub call : IsCalled y old.begun next old.node.state asked made was now
     pub clock : Appends told then (asked.moment ∷ [])
-    pub turn : IsTurnMade tells first most node asked.moment asked.call told_by_it before after
+    pub turn : IsTurnMade tells may_begin most node asked.moment asked.call told_by_it before after
 
   -- and its answer was printed and taken in
   pub record MakesTurn (next : Next) (old new : HeldSeat) (was now : Y) (told then : Option (List ℕ)) (before after : Known Noted) (text printed : List ℕ) : Type 0 where

@@ -49,7 +49,7 @@ impl<S: Serve> Task<Shared<S>> for Asking<S> {
 
     ghost note = { λ task before after answer. note_of task.call (S.kept before.manager) (S.kept after.manager) answer };
 
-    ghost does = { λ task before after answer. Asks S.tells S.first S.most task (S.kept before.manager) (S.kept after.manager) answer };
+    ghost does = { λ task before after answer. Asks S.tells S.may_begin S.most task (S.kept before.manager) (S.kept after.manager) answer };
 
     fn work(self, shared: &mut Shared<S>) -> Answer {
         let Asking {

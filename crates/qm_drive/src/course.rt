@@ -1,19 +1,21 @@
 // A node's whole course, by its own thread.
-ghost use Rattle.std.specs.Prelude.{◌≡◌, ◌≤◌, true, [], IsTrue};
+ghost use Rattle.std.specs.Prelude.{◌≡◌, ◌≤◌, true, [], IfErr, IsTrue};
 ghost use Rattle.qm_record.specs.Spelling.{HasSpelling};
+ghost use Rattle.qm_history.specs.declared.world.World.{World};
 ghost use Rattle.qm_history.specs.Chest.{turns_kept};
 ghost use Rattle.qm_history.specs.World.{IsSound, is_live};
 ghost use Rattle.qm_script.specs.ClusterLines.{user_lines_view};
 ghost use Rattle.qm_drive.specs.Allowed.{CanAskAll};
-ghost use Rattle.qm_drive.specs.Driving.{HasDriven, IsDriven, node_end};
+ghost use Rattle.qm_drive.specs.Driving.{HasDriven, IsDriven, IsUndamaged, node_end};
 ghost use Rattle.qm_drive.specs.Passes.{AreOwn, turns_in};
 
 use crate::ending::DriveEnd;
+use crate::gate::Gate;
 use crate::seat::Seat;
 use crate::serve::Serve;
 use crate::shared::Shared;
-use crate::station::{Gate, Station};
 use crate::turn::make_turn;
+use qm_course::Station;
 use qm_history::{QueueFile, worlds_stay_sound};
 use qm_io::Clock;
 use qm_kinds::Name;
@@ -33,7 +35,7 @@ const MOST_CALLS: u32 = 1_000_001;
 /// It ends with the node's course, or before that where an answer tells that no more turns can be kept, that a file is damaged
 /// or that memory is short, or where memory is short for what the node keeps or prints. Whether the turns of other nodes that its
 /// pass has seen are made by their own passes alone is known once all passes are joined; only then is it known that this is the
-/// node's course.
+/// node's course, in each world in which the manager may have begun.
 ///
 /// OpenVMS System Manager's Manual, Setting Up and Maintaining Queues, on symbionts.
 pub fn drive<'a, S: Serve, R: Wait, C: Clock, Y: Symbiont, G: Gate>(
@@ -44,7 +46,8 @@ pub fn drive<'a, S: Serve, R: Wait, C: Clock, Y: Symbiont, G: Gate>(
     node: u8,
     name: &Name,
     lines: &'a [UserLine<'a>],
-    station: &mut Station<C, Y, G>,
+    station: &mut Station<C, Y>,
+    gate: &mut G,
     text: &mut Vec<u8>,
 ) -> Result<(), DriveEnd>
     requires here { pass.old.place ≡ turnstile.now.place }
@@ -52,12 +55,13 @@ pub fn drive<'a, S: Serve, R: Wait, C: Clock, Y: Symbiont, G: Gate>(
     requires new { (pass.old.seen ≡ []) × (pass.old.mine ≡ []) }
     requires asks { CanAskAll S.can_ask node }
     requires most { S.most ≤ turns_kept }
-    requires sound { IsTrue S.tells → IsSound HasSpelling S.first × (is_live S.first node ≡ true) }
+    requires sound { IsTrue S.tells → (w : World) → S.may_begin w → IsSound HasSpelling w × (is_live w node ≡ true) }
 
     ensures knows { HasDriven S.most node (node_end result) pass.old pass.new (C.told station.old.clock) (C.told station.new.clock) }
-    ensures drives { IsTrue S.tells → AreOwn node pass.new.seen →
-        IsDriven Y.meaning S.first node name.now (user_lines_view lines.now) (node_end result) (turns_in pass.new.seen)
+    ensures drives { IsTrue S.tells → (w : World) → S.may_begin w → AreOwn node pass.new.seen →
+        IsDriven Y.meaning w node name.now (user_lines_view lines.now) (node_end result) (turns_in pass.new.seen)
         station.old.symbiont station.new.symbiont text.old.items text.new.items }
+    ensures undamaged { IsTrue S.tells → IfErr result IsUndamaged }
 {
     worlds_stay_sound::<QueueFile>();
     let mut seat = Seat::new(alloc, lines);
@@ -66,7 +70,7 @@ pub fn drive<'a, S: Serve, R: Wait, C: Clock, Y: Symbiont, G: Gate>(
             return Ok(());
         };
         let made = make_turn(
-            rt, alloc, turnstile, pass, node, name, &mut seat, &next, station, text,
+            rt, alloc, turnstile, pass, node, name, &mut seat, &next, station, gate, text,
         );
         match made {
             Ok(()) => {}

@@ -15,5 +15,5 @@ impl<S: Serve> Told for Shared<S> {
 
     type Note = Noted;
 
-    ghost stands = { λ shared notes. StandsFor S.tells S.first S.kept S.stands shared.manager notes };
+    ghost stands = { λ shared notes. StandsFor S.tells S.may_begin S.kept S.stands shared.manager notes };
 }

@@ -10,11 +10,11 @@ ghost use Rattle.qm_drive.specs.Turning.{EndsAt, EndsBy, IsCalled, IsTurnMade, M
 
 use crate::asking::Asking;
 use crate::ending::DriveEnd;
+use crate::gate::{Gate, Point};
 use crate::seat::{Seat, ending_of};
 use crate::serve::Serve;
 use crate::shared::Shared;
-use crate::station::{Gate, Point, Station};
-use qm_course::{Gist, built_asked, gist_of};
+use qm_course::{Gist, Station, built_asked, gist_of};
 use qm_history::{Answer, Call};
 use qm_io::Clock;
 use qm_kinds::{Moment, Name};
@@ -38,7 +38,7 @@ fn ask<S: Serve, R: Wait>(
     requires here { pass.old.place ≡ turnstile.now.place }
     requires room { length pass.old.mine < 2 ^ 32 - 1 }
     requires asked { S.can_ask node call }
-    ensures { IsTurnMade S.tells S.first S.most node now call result pass.old pass.new }
+    ensures { IsTurnMade S.tells S.may_begin S.most node now call result pass.old pass.new }
 {
     match turnstile.turn(rt, pass, Asking::<S>::new(node, now, call)) {
         Ok(answer) => answer,
@@ -99,7 +99,8 @@ fn make_call<'a, S: Serve, C: Clock, Y: Symbiont, G: Gate>(
     node: u8,
     seat: &mut Seat<'a, Y>,
     next: &Next<'a>,
-    station: &mut Station<C, Y, G>,
+    station: &mut Station<C, Y>,
+    gate: &mut G,
 ) -> Result<Asked, AllocError>
     requires next { IsTurn (next_at seat.old.live seat.old.node.state seat.old.node.state.stage) (Some next.now) }
     requires can { CanBeMade seat.old.node.state next.now }
@@ -112,7 +113,7 @@ fn make_call<'a, S: Serve, C: Clock, Y: Symbiont, G: Gate>(
     ensures no_memory { OnErr result ((seat.new ≡ seat.old) × (station.new.symbiont ≡ station.old.symbiont)) }
 {
     if let Next::Step(_) = next {
-        station.gate.at(Point::InStep);
+        gate.at(Point::InStep);
     }
     match seat.state.call(next, &seat.begun, &mut station.clock, &mut station.symbiont) {
         Ok(asked) => Ok(built_asked(asked)),
@@ -131,7 +132,8 @@ pub(crate) fn make_turn<'a, S: Serve, R: Wait, C: Clock, Y: Symbiont, G: Gate>(
     name: &Name,
     seat: &mut Seat<'a, Y>,
     next: &Next<'a>,
-    station: &mut Station<C, Y, G>,
+    station: &mut Station<C, Y>,
+    gate: &mut G,
     text: &mut Vec<u8>,
 ) -> Result<(), DriveEnd>
     requires here { pass.old.place ≡ turnstile.now.place }
@@ -141,18 +143,18 @@ pub(crate) fn make_turn<'a, S: Serve, R: Wait, C: Clock, Y: Symbiont, G: Gate>(
     requires told { seat.old.node.made ≡ None }
     requires few { seat.old.count < 2 ^ 32 }
     requires asks { CanAskAll S.can_ask node }
-    ensures made { OnOk result (MakesTurn Y.meaning S.tells S.first S.most node name.now next.now seat.old seat.new
+    ensures made { OnOk result (MakesTurn Y.meaning S.tells S.may_begin S.most node name.now next.now seat.old seat.new
         station.old.symbiont station.new.symbiont (C.told station.old.clock) (C.told station.new.clock) pass.old pass.new text.old.items text.new.items) }
-    ensures ends { IfErr result (λ end. EndsAt Y.meaning S.tells S.first S.most node name.now end next.now seat.old
+    ensures ends { IfErr result (λ end. EndsAt Y.meaning S.tells S.may_begin S.most node name.now end next.now seat.old
         station.old.symbiont station.new.symbiont (C.told station.old.clock) (C.told station.new.clock) pass.old pass.new text.old.items text.new.items) }
 {
-    let Ok(Asked { moment, call }) = make_call::<S, C, Y, G>(node, seat, next, station) else {
+    let Ok(Asked { moment, call }) = make_call::<S, C, Y, G>(node, seat, next, station, gate) else {
         return Err(DriveEnd::NoMemory);
     };
     let gist = gist_of(&call);
-    station.gate.at(Point::BeforeTurn);
+    gate.at(Point::BeforeTurn);
     let answer = ask(rt, turnstile, pass, node, moment, call);
-    station.gate.at(Point::AfterTurn);
+    gate.at(Point::AfterTurn);
     hear(
         alloc,
         name,

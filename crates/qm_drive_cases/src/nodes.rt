@@ -3,7 +3,8 @@ ghost use Rattle.std.specs.Prelude.{◌≡◌, [], IfOk};
 
 use crate::recorder::Recorder;
 use qm_batch::Standard;
-use qm_drive::{DriveEnd, Gate, Point, Shared, Station, drive};
+use qm_course::Station;
+use qm_drive::{DriveEnd, Gate, Point, Shared, drive};
 use qm_io::MemoryClock;
 use qm_kinds::{Moment, system_user};
 use qm_script::UserLine;
@@ -88,16 +89,12 @@ pub(crate) struct Driven<G> {
 }
 
 // What a node has of its own.
-fn station<G: Drop>(
-    alloc: Global,
-    gate: G,
-) -> Result<Station<MemoryClock, Standard<MemoryDevice>, G>, AllocError> {
+fn station(alloc: Global) -> Result<Station<MemoryClock, Standard<MemoryDevice>>, AllocError> {
     let mut moments = Vec::with_capacity(alloc, 1)?;
     moments.push(Moment::BASE)?;
     Ok(Station {
         clock: MemoryClock::new(moments),
         symbiont: Standard::new(alloc, MemoryDevice::new(alloc, Vec::new(alloc))),
-        gate,
     })
 }
 
@@ -109,14 +106,14 @@ pub(crate) fn drive_node<'a, R: Wait, G: Gate + Drop>(
     mut pass: PassOf<Shared<Recorder>>,
     node: u8,
     lines: &'a [UserLine<'a>],
-    gate: G,
+    mut gate: G,
 ) -> Result<Driven<G>, AllocError>
     requires here { pass.place ≡ turnstile.now.place }
     requires number { pass.number ≡ node }
     requires new { (pass.seen ≡ []) × (pass.mine ≡ []) × (pass.took ≡ []) }
     ensures { IfOk result (λ d. (d.pass.place ≡ turnstile.now.place) × (d.pass.number ≡ node) × (d.pass.took ≡ [])) }
 {
-    let mut station = station(alloc, gate)?;
+    let mut station = station(alloc)?;
     let mut text = Vec::new(alloc);
     let end = drive(
         rt,
@@ -127,11 +124,8 @@ pub(crate) fn drive_node<'a, R: Wait, G: Gate + Drop>(
         &system_user(),
         lines,
         &mut station,
+        &mut gate,
         &mut text,
     );
-    Ok(Driven {
-        pass,
-        end,
-        gate: station.gate,
-    })
+    Ok(Driven { pass, end, gate })
 }

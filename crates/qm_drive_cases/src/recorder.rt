@@ -132,9 +132,9 @@ fn is_new(asked: &[Turn], node: u8) -> bool {
 }
 
 impl Serve for Recorder {
-    ghost use Rattle.std.specs.Prelude.{◌≤◌, [], false, length, None};
+    ghost use Rattle.std.specs.Prelude.{◌≤◌, false, length};
 
-    ghost first = { record { log = []; doubt = None; manager = None; greatest = 0; live = []; held = [] } };
+    ghost may_begin = { λ w. Unit {0} };
 
     ghost tells = { false };
 

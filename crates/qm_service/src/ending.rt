@@ -76,8 +76,8 @@ fn some_disk_failed(turns: &[Turn]) -> bool
     false
 }
 
-/// The end of a script that was served whole, by its turns.
-pub(crate) fn end_of_turns(turns: &[Turn]) -> ServeEnd
+/// The end where nothing stopped the nodes, by their turns.
+pub fn end_of_turns(turns: &[Turn]) -> ServeEnd
     ensures { serving_end result ≡ end_of_turns turns.now }
 {
     if some_disk_failed(turns) {

@@ -8,5 +8,5 @@ mod fitting;
 mod service;
 mod serving;
 
-pub use ending::{ServeEnd, Served};
+pub use ending::{ServeEnd, Served, end_of_turns};
 pub use service::Service;

@@ -7,14 +7,14 @@ ghost use Rattle.qm_database.specs.Loading.{FailsBy};
 ghost use Rattle.qm_disk.specs.Disk.{OnlyLooks, TellsFaults};
 ghost use Rattle.qm_glog.specs.declared.fault.OpenFault.TheVariants as fault;
 ghost use Rattle.qm_service.specs.Opening.{IsOpened, disk_opened};
-ghost use Rattle.qm_service.specs.Value.{meaning_of, service_disk, service_names};
+ghost use Rattle.qm_service.specs.Value.{meaning_of, service_disk, service_names, service_turns};
 
 use crate::fitting::look_at_call;
 use qm_chest::{Checked, Chest, check, chests_begin_without_notes, sites_begin_one_world};
 use qm_course::Serve;
 use qm_database::LoadFault;
 use qm_disk::Disk;
-use qm_history::{Answer, Call};
+use qm_history::{Answer, Call, Turn};
 use qm_kinds::{Moment, Name};
 use qm_node::duties_can_be_learned;
 use qm_restore::site_files_are_consistent;
@@ -71,13 +71,22 @@ impl<D: Disk> Service<D> {
         self.chest.names()
     }
 
+    /// Lets go of what was read, and hands out the device, and the turns that were made, the first one first.
+    pub fn close(self) -> (D, Vec<Turn>)
+        ensures disk { result.0 ≡ service_disk self }
+        ensures turns { result.1.items ≡ service_turns self }
+    {
+        let Service { chest } = self;
+        let (closed, turns) = chest.end();
+        (closed.give_back(), turns)
+    }
+
     /// Lets go of what was read.
     pub fn give_back(self) -> D
         ensures { result ≡ service_disk self }
     {
-        let Service { chest } = self;
-        let (closed, _) = chest.end();
-        closed.give_back()
+        let (disk, _) = self.close();
+        disk
     }
 }
 

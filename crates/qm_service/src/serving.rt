@@ -107,12 +107,7 @@ impl<D: Disk> Service<D> {
         ensures disk { result.disk ≡ service_disk self }
         ensures turns { result.turns.items ≡ service_turns self }
     {
-        let Service { chest } = self;
-        let (closed, turns) = chest.end();
-        Served {
-            end,
-            disk: closed.give_back(),
-            turns,
-        }
+        let (disk, turns) = self.close();
+        Served { end, disk, turns }
     }
 }

@@ -4,9 +4,8 @@ use crate::begins::Begins;
 use qm_chest::calls_are_noted;
 use qm_disk::Disk;
 use qm_drive::Serve;
-use qm_history::{Answer, Call, QueueFile, full_files_are_full};
+use qm_history::{Answer, Call};
 use qm_kinds::Moment;
-use qm_restore::site_files_are_accepted;
 use qm_service::Service;
 use std::marker::PhantomData;
 
@@ -23,9 +22,9 @@ impl<D: Disk, J: Begins<D>> Serve for Site<D, J> {
     ghost use Rattle.qm_history.specs.Calls.{input_of};
     ghost use Rattle.qm_history.specs.Chest.{turns_kept};
     ghost use Rattle.qm_service.specs.Value.{service_turns};
-    ghost use Rattle.qm_shared.specs.Standing.{HasStood};
+    ghost use Rattle.qm_shared.specs.Standing.{HasStood, MayBeginOn};
 
-    ghost first = { J.world };
+    ghost may_begin = { λ w. MayBeginOn D.meaning J.device w };
 
     ghost tells = { D.meaning.tells };
 
@@ -33,13 +32,11 @@ impl<D: Disk, J: Begins<D>> Serve for Site<D, J> {
 
     ghost most = { turns_kept };
 
-    ghost stands = { λ site notes. HasStood D.meaning J.cap J.world J.device J.names site.service notes };
+    ghost stands = { λ site notes. HasStood D.meaning J.device J.names site.service notes };
 
     ghost can_ask = { λ node asked. (node < length J.names) × IsAskable (input_of asked) };
 
     fn serve(&mut self, node: u8, now: Moment, call: Call) -> Answer {
-        site_files_are_accepted();
-        full_files_are_full::<QueueFile>();
         calls_are_noted::<D>();
         qm_course::Serve::serve(&mut self.service, node, now, call)
     }

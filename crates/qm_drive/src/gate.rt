@@ -1,4 +1,4 @@
-// What a node has of its own.
+// What a node comes by at its turns.
 
 /// Where a node is at its turns.
 #[derive(Clone, Copy, Debug, PartialEq, Eq)]
@@ -23,12 +23,4 @@ pub struct OpenGate;
 
 impl Gate for OpenGate {
     fn at(&mut self, _point: Point) {}
-}
-
-/// What a node has of its own: its clock, its symbiont and its gate.
-#[derive(Drop)]
-pub struct Station<C, Y, G> {
-    pub clock: C,
-    pub symbiont: Y,
-    pub gate: G,
 }
