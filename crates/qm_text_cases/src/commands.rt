@@ -13,7 +13,8 @@ use std::alloc::{AllocError, Global};
 // 1-JAN-2030 15:00, when the texts are read, in hundredths of a second from 17-NOV-1858.
 const NOW: u64 = (62_502 * 24 + 15) * 360_000;
 
-fn now() -> Moment {
+/// When the texts are read.
+pub(crate) fn now() -> Moment {
     Moment::new(NOW).unwrap_or(Moment::BASE)
 }
 
@@ -139,8 +140,17 @@ pub(crate) fn tell_input(
 
 /// Whether a text asks for something, and what is told of it, or of its fault.
 pub(crate) fn answer_to(alloc: Global, text: &[u8]) -> Result<(bool, Vec<u8>), AllocError> {
+    answer_at(alloc, text, now())
+}
+
+/// The same of a text that is read at some moment.
+pub(crate) fn answer_at(
+    alloc: Global,
+    text: &[u8],
+    now: Moment,
+) -> Result<(bool, Vec<u8>), AllocError> {
     let mut told = Vec::new(alloc);
-    match read_command(alloc, text, user(), now()) {
+    match read_command(alloc, text, user(), now) {
         Ok(input) => {
             tell_input(alloc, &mut told, input)?;
             Ok((true, told))

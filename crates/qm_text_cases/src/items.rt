@@ -28,8 +28,8 @@ fn push_word(alloc: Global, bytes: &mut Vec<u8>, word: &str) -> Result<(), Alloc
     }
 }
 
-// The bytes of words in hexadecimal.
-fn bytes_of(alloc: Global, words: &str) -> Result<Vec<u8>, AllocError> {
+/// The bytes of words in hexadecimal.
+pub(crate) fn bytes_of(alloc: Global, words: &str) -> Result<Vec<u8>, AllocError> {
     let mut bytes = Vec::new(alloc);
     for word in words.split_whitespace() {
         push_word(alloc, &mut bytes, word)?;
@@ -48,9 +48,9 @@ fn fault_of(fault: ItemFault) -> CallFault {
     CallFault::At { place, kind }
 }
 
-// What a call asks for, or what is wrong with it.
+/// What a call asks for, or what is wrong with it.
 #[tactic(auto, using(crate::proofs::Lists::items_are_short))]
-fn asked(alloc: Global, function: u16, bytes: &[u8]) -> Result<Input, CallFault> {
+pub(crate) fn asked(alloc: Global, function: u16, bytes: &[u8]) -> Result<Input, CallFault> {
     match read_items(alloc, bytes) {
         Ok(items) => read_call(alloc, function, &items, user()),
         Err(fault) => Err(fault_of(fault)),

@@ -8,6 +8,7 @@ mod fields;
 mod items;
 mod records;
 mod shown;
+mod spelled;
 mod times;
 mod tokens;
 
@@ -17,6 +18,7 @@ use items::tell_called;
 use qm_plans::{Desk, holds, number_and_rest, push_bytes, push_line};
 use records::tell_record;
 use shown::{tell_answers, tell_row_items, tell_rows};
+use spelled::{tell_called_spelling, tell_spelling};
 use std::process::ExitCode;
 use std::{env, fs, io};
 use times::{tell_day, tell_time};
@@ -47,6 +49,8 @@ impl Desk for Taken {
         push_bytes(&mut bytes, text)?;
         match verb {
             "ask" => tell_asked(alloc, told, &bytes)?,
+            "spell" => tell_spelling(alloc, told, &bytes)?,
+            "spell-call" => tell_called_spelling(alloc, told, text)?,
             "when" => tell_time_asked(alloc, told, text)?,
             "tokens" => tell_tokens(alloc, told, &bytes)?,
             "time" => tell_time(alloc, told, &bytes)?,
