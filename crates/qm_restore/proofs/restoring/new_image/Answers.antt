@@ -1,6 +1,5 @@
-use Rattle.std.proofs.Common.{◌≡◌, ◌∙◌, sym, subst}
+use Rattle.std.proofs.Common.{◌∙◌, sym, subst}
 use Rattle.qm_model.specs.Consistent.{IsConsistent}
-use Rattle.qm_restore.specs.Site.{new_system}
 use Rattle.qm_restore.proofs.Beginning.{if_ok}
 use Rattle.qm_restore.proofs.restoring.new_image.Goals as goal
 
