@@ -1,6 +1,6 @@
 -- The rows with which a queue file begins, and what it means that one isn't there.
-use Rattle.std.specs.Prelude.{zero}
-use Rattle.std.proofs.Common.{◌≡◌, ℕ, suc, ◌+◌, ◌<◌, ◌≤◌, List, [], ◌∷◌, ◌++◌, length, map, take, drop, get_or, Bool, true, false, eqb, ltb, Option, Some, Err, refl, sym, ap, subst, ◌∙◌, arith, add-one, lit<, lit≤}
+use Rattle.std.specs.Prelude.{zero, IfOk}
+use Rattle.std.proofs.Common.{◌≡◌, ℕ, suc, ◌+◌, ◌<◌, ◌≤◌, List, [], ◌∷◌, ◌++◌, length, map, take, drop, get_or, Bool, true, false, eqb, ltb, Option, Some, Result, Ok, Err, refl, sym, ap, subst, ◌∙◌, arith, add-one, lit<, lit≤}
 use Rattle.std.specs.List.{AllByRecursion, slice_get}
 use Rattle.std.specs.Option.{option_map}
 use Rattle.std.proofs.lemmas.List.{take-append-drop, take_more_same, length-take}
@@ -9,6 +9,7 @@ use Rattle.std.specs.Cmp.Lexicographic.{pointwise}
 use Rattle.std.proofs.lemmas.Bool.Decides.{nat_tests, Decides-eqb}
 use Rattle.std.proofs.lemmas.Slice.Eq.{slice_eq-Decides}
 use Rattle.std.proofs.lemmas.Option.{slice_get_within, get_or_from_slice_get, slice_get-map, slice_get_read}
+use Rattle.qm_kinds.specs.declared.record.Body.{Body}
 use Rattle.qm_kinds.specs.declared.record.Record.{Record}
 use Rattle.qm_kinds.specs.declared.system.Node.{Node}
 use Rattle.qm_kinds.specs.declared.system.System.{System}
@@ -18,7 +19,7 @@ use Rattle.qm_record.specs.Spelling.{HasSpelling, record_text}
 use Rattle.qm_record.specs.Faults.{IsRecord}
 use Rattle.qm_restore.specs.Site.{new_system, new_rows}
 use Rattle.qm_restore.specs.QueueFile.{IsFileOf, IsSiteFile, Begins, IsFirstUnlawful}
-use Rattle.qm_restore.specs.Restoring.{OfBody, named_by, IsOf, BeginsWithRows, Judges, IsRead, IsUnreadableAt, IsFirst}
+use Rattle.qm_restore.specs.Restoring.{OfBody, named_by, Names, NamesNone, IsOf, BeginsWithRows, Judges, IsRead, IsUnreadableAt, IsFirst}
 use Rattle.qm_restore.specs.declared.fault.RestoreFault.{RestoreFault}
 use Rattle.qm_restore.specs.declared.fault.RestoreFault.TheVariants.{Unlawful, NoMemory}
 use Rattle.qm_restore.specs.declared.fault.Flaw.TheVariants.{Unreadable, NoRow, Refused}
@@ -199,6 +200,32 @@ pub unnamed_is_unlawful : (bodies : List (List ℕ)) (r : Record) → (AreNodes 
 unnamed_is_unlawful bodies r unnamed only = first_is_unlawful bodies (λ body nodes is proper spelled same.
     let named : named_by r.body ≡ nodes = names_its_nodes r nodes (only body is (head_row nodes) spelled same) in
     unnamed (subst AreNodes (sym named) proper))
+
+pub unnamed_is_judged : (bodies : List (List ℕ)) (r : Record) (fault : RestoreFault)
+    → OfBody bodies 0 (λ body. (other : Record) → HasSpelling other → body ≡ record_text other → r ≡ other)
+    → NamesNone r.body fault → Judges bodies fault
+unnamed_is_judged bodies r (Unlawful index Unreadable) only none = absurd none
+unnamed_is_judged bodies r (Unlawful index NoRow) only none =
+    (subst (IsFirstUnlawful bodies) (sym none.0) (unnamed_is_unlawful bodies r none.1 only), omega (arith, none.0))
+unnamed_is_judged bodies r (Unlawful index Refused) only none = absurd none
+unnamed_is_judged bodies r NoMemory only none = tt
+
+pub unnamed_is_first : (body : Body) (fault : RestoreFault) → NamesNone body fault → IsFirst fault
+unnamed_is_first body (Unlawful index Unreadable) none = absurd none
+unnamed_is_first body (Unlawful index NoRow) none = none.0
+unnamed_is_first body (Unlawful index Refused) none = absurd none
+unnamed_is_first body NoMemory none = tt
+
+-- a first record that names nodes of a site
+pub of_named : (bodies : List (List ℕ)) (r : Record) (nodes : List Node) → 0 < length bodies → HasSpelling r
+    → OfBody bodies 0 (λ body. (other : Record) → HasSpelling other → body ≡ record_text other → r ≡ other)
+    → Names r.body nodes → IsOf bodies nodes
+of_named bodies r nodes some fits only named =
+    subst (λ (ns : List Node). IsOf bodies ns) (sym named.0) (is_of bodies r (named_by r.body) some named.1 (spelled_nodes_fit r fits named.1) refl only)
+
+pub if_ok : {X E : Type 0} {P Q : X → Type 0} (result : Result X E) → ((x : X) → P x → Q x) → IfOk result P → IfOk result Q
+if_ok (Ok x) step holds = step x holds
+if_ok (Err e) step holds = tt
 
 no_record : (body : List ℕ) → ((other : Record) → HasSpelling other → body ≡ record_text other → ⊥) → IsRecord body → ⊥
 no_record body none is = none is.value is.spells.fits is.spells.is

@@ -16,25 +16,13 @@ use Rattle.qm_record.specs.declared.fault.RecordFault.TheVariants.{Bad}
 use Rattle.qm_record.specs.declared.fault.RecordFault.TheVariants as record_fault
 use Rattle.qm_restore.specs.Site.{new_system, new_rows}
 use Rattle.qm_restore.specs.QueueFile.{LeadTo, IsFileOf, IsSiteFile, IsFirstUnlawful}
-use Rattle.qm_restore.specs.Restoring.{BeginsWithRows, Judges, GoesTo, CannotStand, Leaves, LeavesNothing, LeavesBy, IsRefused, RefusesRead, IsFlawOf, IsFlawOfRead, IsFlaw}
+use Rattle.qm_restore.specs.Restoring.{BeginsWithRows, Judges, GoesOn, GoesTo, Stands, CannotStand, Leaves, LeavesNothing, LeavesBy, IsRefused, RefusesRead, IsFlawOf, IsFlawOfRead, IsFlaw}
 use Rattle.qm_restore.specs.declared.fault.RestoreFault.{RestoreFault}
 use Rattle.qm_restore.specs.declared.fault.RestoreFault.TheVariants.{Unlawful, NoMemory}
 use Rattle.qm_restore.specs.declared.fault.Flaw.{Flaw}
 use Rattle.qm_restore.specs.declared.fault.Flaw.TheVariants.{Unreadable, NoRow, Refused}
 use Rattle.qm_restore.proofs.Beginning.{new_site_file}
 use Rattle.qm_restore.proofs.Leading.{lead_more, first_leads, first_cannot}
-
--- records with which a system goes on to another, by their bodies
-pub record GoesOn (s : System) (more : List (List ℕ)) (t : System) : Type 0 where
-  pub records : List Record
-  pub fit : AllByRecursion HasSpelling records
-  pub spelled : more ≡ map record_text records
-  pub lead : LeadTo s records t
-
--- These records are a queue file of this system, and each queue file that begins with them goes on from it.
-pub record Stands (front : List (List ℕ)) (s : System) : Type 0 where
-  pub lawful : IsSiteFile front s
-  pub goes_on : (more : List (List ℕ)) (t : System) → IsSiteFile (front ++ more) t → GoesOn s more t
 
 fit_more : (rs : List Record) (r : Record) → AllByRecursion HasSpelling rs → HasSpelling r → AllByRecursion HasSpelling (rs ++ r ∷ [])
 fit_more [] r all fits = (fits, tt)

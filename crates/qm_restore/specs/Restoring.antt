@@ -16,7 +16,7 @@ use Rattle.qm_record.specs.declared.fault.RecordFault.{RecordFault}
 use Rattle.qm_record.specs.declared.fault.RecordFault.TheVariants.{Bad}
 use Rattle.qm_record.specs.declared.fault.RecordFault.TheVariants as record_fault
 use Rattle.qm_restore.specs.Site.{new_rows}
-use Rattle.qm_restore.specs.QueueFile.{IsFileOf, IsFirstUnlawful}
+use Rattle.qm_restore.specs.QueueFile.{IsFileOf, IsSiteFile, IsFirstUnlawful, LeadTo}
 use Rattle.qm_restore.specs.declared.fault.RestoreFault.{RestoreFault}
 use Rattle.qm_restore.specs.declared.fault.RestoreFault.TheVariants.{Unlawful, NoMemory}
 use Rattle.qm_restore.specs.declared.fault.Flaw.{Flaw}
@@ -51,6 +51,17 @@ abbrev pub named_by : Body → List Node
 named_by (Head nodes may next_entry next_run last) = nodes
 named_by _ = []
 
+-- these are the nodes that a head names, and a site can have them
+abbrev pub Names : Body → List Node → Type 0
+Names body nodes = (nodes ≡ named_by body) × AreNodes (named_by body)
+
+-- what is told of a first row that names no nodes of a site
+abbrev pub NamesNone : Body → RestoreFault → Type 0
+NamesNone body (Unlawful index Unreadable) = ⊥
+NamesNone body (Unlawful index NoRow) = (index ≡ 0) × (AreNodes (named_by body) → ⊥)
+NamesNone body (Unlawful index Refused) = ⊥
+NamesNone body NoMemory = Unit {0}
+
 -- Each queue file that begins with the first of these records is of these nodes, which are named there.
 pub record IsOf (bodies : List (List ℕ)) (nodes : List Node) : Type 0 where
   pub proper : AreNodes nodes
@@ -68,6 +79,18 @@ pub record BeginsWithRows (bodies : List (List ℕ)) (nodes : List Node) : Type 
   pub rest : List (List ℕ)
   pub rows : bodies ≡ map record_text (new_rows nodes) ++ rest
   pub only : (others : List Node) (more : List (List ℕ)) (s : System) → IsFileOf others (map record_text (new_rows nodes) ++ more) s → others ≡ nodes
+
+-- records with which a system goes on to another, by their bodies
+pub record GoesOn (s : System) (more : List (List ℕ)) (t : System) : Type 0 where
+  pub records : List Record
+  pub fit : AllByRecursion HasSpelling records
+  pub spelled : more ≡ map record_text records
+  pub lead : LeadTo s records t
+
+-- These records are a queue file of this system, and each queue file that begins with them goes on from it.
+pub record Stands (front : List (List ℕ)) (s : System) : Type 0 where
+  pub lawful : IsSiteFile front s
+  pub goes_on : (more : List (List ℕ)) (t : System) → IsSiteFile (front ++ more) t → GoesOn s more t
 
 -- the record can be the next one behind this system, and leaves that one
 abbrev pub GoesTo : System → Record → System → Type 0

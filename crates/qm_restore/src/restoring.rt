@@ -1,11 +1,12 @@
 // How the records of a queue file become the image of a system.
-ghost use Rattle.std.specs.Prelude.{◌<◌, length, IsErr, IfOk, IfErr, OnOk};
+ghost use Rattle.std.specs.Prelude.{◌≡◌, ◌<◌, length, take, IsErr, IfOk, IfErr, OnOk};
 ghost use Rattle.qm_history.specs.Accepted.{IsNext};
-ghost use Rattle.qm_model.specs.Consistent.{IsConsistent};
+ghost use Rattle.qm_model.specs.Consistent.{AreNodes, IsConsistent};
 ghost use Rattle.qm_state.specs.Image.{system_of};
 ghost use Rattle.qm_record.specs.Spelling.{HasSpelling};
 ghost use Rattle.qm_restore.specs.QueueFile.{IsSiteFile};
-ghost use Rattle.qm_restore.specs.Restoring.{OfBody, Judges, IsReplayed, Leaves, LeavesBy, IsRefused, RefusesRead};
+ghost use Rattle.qm_restore.specs.Restoring.{rows_count, OfBody, Judges, IsReplayed, Leaves, LeavesBy, IsRefused, RefusesRead, Stands};
+ghost use Rattle.qm_restore.specs.Site.{new_system};
 
 use crate::bodies::Bodies;
 use crate::fault::{Flaw, RestoreFault};
@@ -13,7 +14,7 @@ use crate::judging::can_act;
 use crate::laws::new_sites_are_consistent;
 use crate::rows::read_rows;
 use crate::site::new_system;
-use qm_kinds::{Body, Record};
+use qm_kinds::{Body, Node, Record};
 use qm_model::requests_keep_consistent;
 use qm_record::{RecordFault, read_record};
 use qm_state::{Image, Refused};
@@ -96,6 +97,30 @@ fn restore_record<B: Bodies>(
     replay_read(image, index, &read)
 }
 
+// Does what the records behind the rows say, one after the other.
+fn restore_records<B: Bodies>(alloc: Global, log: &B, image: &mut Image) -> Result<(), RestoreFault>
+    requires sound { IsConsistent (system_of image.old) }
+    requires stands { Stands (take rows_count (B.bodies log.now)) (system_of image.old) }
+    ensures stands { OnOk result (IsSiteFile (B.bodies log.now) (system_of image.new)) }
+    ensures judged { IfErr result (Judges (B.bodies log.now)) }
+{
+    for index in ROWS..log.count() {
+        restore_record(alloc, log, index, image)?;
+    }
+    Ok(())
+}
+
+// The image of a new site of these nodes.
+fn new_image(alloc: Global, nodes: &[Node]) -> Result<Image, AllocError>
+    requires { AreNodes nodes.now }
+    ensures is { IfOk result (λ image. system_of image ≡ new_system nodes.now) }
+    ensures sound { IfOk result (λ image. IsConsistent (system_of image)) }
+{
+    new_sites_are_consistent();
+    let system = new_system(alloc, nodes)?;
+    Image::from_rows(alloc, &system)
+}
+
 /// The image of the system for which the records stand: the rows of a new site, of one or more nodes that are up or down, and
 /// then requests, each accepted behind those before it. Where they stand for none, the first record that can't stand there, and
 /// what is wrong with it. The nodes of the system are called as the first row says; which of them are up the last records tell.
@@ -104,10 +129,7 @@ pub fn restore<B: Bodies>(alloc: Global, log: &B) -> Result<Image, RestoreFault>
     ensures judged { IfErr result (Judges (B.bodies log.now)) }
 {
     let nodes = read_rows(alloc, log)?;
-    new_sites_are_consistent();
-    let mut image = Image::from_rows(alloc, &new_system(alloc, &nodes)?)?;
-    for index in ROWS..log.count() {
-        restore_record(alloc, log, index, &mut image)?;
-    }
+    let mut image = new_image(alloc, &nodes)?;
+    restore_records(alloc, log, &mut image)?;
     Ok(image)
 }

@@ -5,7 +5,7 @@ ghost use Rattle.qm_kinds.specs.declared.record.Record.{Record as AnyRecord};
 ghost use Rattle.qm_model.specs.Consistent.{AreNodes};
 ghost use Rattle.qm_record.specs.Faults.{IsRecord};
 ghost use Rattle.qm_record.specs.Spelling.{record_text, CanBeWritten, HasSpelling};
-ghost use Rattle.qm_restore.specs.Restoring.{named_by, OfBody, IsOf, BeginsWithRows, Judges, IsRead, IsUnreadableAt, IsFirst};
+ghost use Rattle.qm_restore.specs.Restoring.{named_by, Names, NamesNone, OfBody, IsOf, BeginsWithRows, Judges, IsRead, IsUnreadableAt, IsFirst};
 
 use crate::bodies::Bodies;
 use crate::fault::{Flaw, RestoreFault};
@@ -43,6 +43,22 @@ fn read_at<B: Bodies>(alloc: Global, log: &B, index: usize) -> Result<Record, Re
     }
 }
 
+// The nodes that the first row of a site names.
+fn nodes_in(alloc: Global, body: &Body) -> Result<Vec<Node>, RestoreFault>
+    ensures nodes { IfOk result (λ nodes. Names body.now nodes.items) }
+    ensures none { IfErr result (NamesNone body.now) }
+{
+    let nodes = named_by(body);
+    if !are_nodes(nodes) {
+        return Err(RestoreFault::Unlawful {
+            index: 0,
+            flaw: Flaw::NoRow,
+        });
+    }
+    let nodes = Vec::from_slice(alloc, nodes)?;
+    Ok(nodes)
+}
+
 /// The nodes of the site whose queue file these records begin, up or down as its first row says. The other records aren't
 /// looked at: where more is wrong with them, `restore` tells.
 pub fn read_nodes<B: Bodies>(alloc: Global, log: &B) -> Result<Vec<Node>, RestoreFault>
@@ -50,20 +66,14 @@ pub fn read_nodes<B: Bodies>(alloc: Global, log: &B) -> Result<Vec<Node>, Restor
     ensures judged { IfErr result (Judges (B.bodies log.now)) }
     ensures first { IfErr result IsFirst }
 {
-    let unlawful = RestoreFault::Unlawful {
-        index: 0,
-        flaw: Flaw::NoRow,
-    };
     if log.count() == 0 {
-        return Err(unlawful);
+        return Err(RestoreFault::Unlawful {
+            index: 0,
+            flaw: Flaw::NoRow,
+        });
     }
     let record = read_at(alloc, log, 0)?;
-    let nodes = named_by(&record.body);
-    if !are_nodes(nodes) {
-        return Err(unlawful);
-    }
-    let nodes = Vec::from_slice(alloc, nodes)?;
-    Ok(nodes)
+    nodes_in(alloc, &record.body)
 }
 
 // Whether the record of this index is this one.

@@ -18,7 +18,7 @@ ghost use Rattle.qm_kinds.specs.declared.queue.Queue.{Queue as AnyQueue};
 ghost use Rattle.qm_kinds.specs.declared.system.System.{System};
 ghost use Rattle.qm_match.specs.Keys.{schedule_of};
 ghost use Rattle.qm_ready.specs.Jobs.{IsRowOf as HasJobs, fitting};
-ghost use Rattle.qm_sched.specs.Ready.{IsRowOf, ready_key};
+ghost use Rattle.qm_sched.specs.Ready.{AreKept, IsRowOf, ready_key};
 ghost use Rattle.qm_sched.specs.Rooms.{CanPut, HavePlaces, HavePlacesFor, HaveRoom, is_home, reach, rooms_of};
 ghost use Rattle.qm_sched.specs.Tables.{with_tables};
 
@@ -93,15 +93,26 @@ fn no_bounds(alloc: Global, count: usize) -> Result<Vec<Option<usize>>, AllocErr
     Ok(bounds)
 }
 
+// A row for each queue, with the jobs that are ready, and as often that nothing is known of how many jobs may come to it.
+fn filled_rows(
+    alloc: Global,
+    tables: &TableSet,
+) -> Result<(Vec<ReadyRow>, Vec<Option<usize>>), AllocError>
+    ensures { IfOk result (λ made. AreKept tables.now made.0.items made.1.items 0) }
+{
+    let mut rows = new_rows(alloc, tables)?;
+    let bounds = no_bounds(alloc, rows.len())?;
+    refill_all(alloc, tables, &mut rows);
+    Ok((rows, bounds))
+}
+
 impl Parts {
     /// These tables, with the rows of the jobs that are ready. There is room for no further queue. It walks over the entries twice
     /// for each queue that is open, and once for each other one.
     pub fn of(alloc: Global, tables: TableSet) -> Result<Parts, AllocError>
         ensures { IfOk result (λ parts. parts ≡ record tables { spare_queues = 0; rooms = parts.rooms }) }
     {
-        let mut rows = new_rows(alloc, &tables)?;
-        let bounds = no_bounds(alloc, rows.len())?;
-        refill_all(alloc, &tables, &mut rows);
+        let (rows, bounds) = filled_rows(alloc, &tables)?;
         Ok(Parts {
             alloc,
             tables,

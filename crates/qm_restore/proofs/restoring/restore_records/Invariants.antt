@@ -1,8 +1,8 @@
 use Rattle.std.proofs.Common.{take}
 use Rattle.qm_model.specs.Consistent.{IsConsistent}
 use Rattle.qm_state.specs.Image.{system_of}
-use Rattle.qm_restore.proofs.Going.{Stands}
-use Rattle.qm_restore.proofs.restoring.restore.Given as goal
+use Rattle.qm_restore.specs.Restoring.{Stands}
+use Rattle.qm_restore.proofs.restoring.restore_records.Given as goal
 
 -- the records so far are a queue file of the image, which each longer one goes on from
 abbrev pub invariant-loop-index : goal.invariant-loop-index
