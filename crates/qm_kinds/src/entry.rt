@@ -11,7 +11,7 @@ pub enum JobKind {
 }
 
 /// Whether a job is kept in its queue's listing after it ends.
-#[derive(Clone, Copy, PartialEq, Eq)]
+#[derive(Clone, Copy)]
 pub enum JobRetain {
     /// As the queue says.
     Default,
@@ -21,14 +21,14 @@ pub enum JobRetain {
 }
 
 /// What becomes of an aborting job once its run has ended.
-#[derive(Clone, Copy, Debug, PartialEq, Eq)]
+#[derive(Clone, Copy, PartialEq, Eq)]
 pub enum Fate {
     Requeue,
     Finish,
     Remove,
 }
 
-#[derive(Clone, Copy, Debug, PartialEq, Eq)]
+#[derive(Clone, Copy, PartialEq, Eq)]
 pub enum EntryState {
     Pending,
     Holding,
@@ -54,7 +54,7 @@ pub enum EntryState {
 
 /// A job in a queue. It stands in its home, the queue to which it was submitted or moved, or, while its run lasts,
 /// in the queue where it runs.
-#[derive(Clone, Copy, PartialEq, Eq)]
+#[derive(Clone, Copy)]
 pub struct Entry {
     /// Entries are numbered from 1 on, and no number is used again.
     pub number: u32,

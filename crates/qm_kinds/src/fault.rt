@@ -2,7 +2,7 @@ use std::error::Error;
 use std::fmt;
 
 /// Why a text isn't a name or a pattern.
-#[derive(Clone, Copy, Debug, PartialEq, Eq)]
+#[derive(Clone, Copy, Debug)]
 pub enum NameFault {
     /// It has no byte.
     Empty,
@@ -25,7 +25,7 @@ impl fmt::Display for NameFault {
 impl Error for NameFault {}
 
 /// Why bytes aren't a mark.
-#[derive(Clone, Copy, Debug, PartialEq, Eq)]
+#[derive(Clone, Copy, Debug)]
 pub enum MarkFault {
     /// There are more than 255.
     TooLong { length: usize },

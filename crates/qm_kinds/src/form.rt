@@ -3,7 +3,7 @@ ghost use Rattle.std.specs.Prelude.{◌≡◌, ◌==◌, ◌<◌, ◌^◌, ◌�
 use crate::name::Name;
 
 /// A set of characteristics: the bit `n` says whether the characteristic of number `n` (0 to 127) is in it.
-#[derive(Clone, Copy, PartialEq, Eq)]
+#[derive(Clone, Copy)]
 pub struct CharacteristicSet(pub u128);
 
 impl CharacteristicSet {
@@ -39,7 +39,7 @@ impl CharacteristicSet {
 }
 
 /// How text is set on a page. `length` counts lines and `width` columns, margins included.
-#[derive(Clone, Copy, PartialEq, Eq)]
+#[derive(Clone, Copy)]
 pub struct Shape {
     pub length: u8,
     pub width: u8,
@@ -52,7 +52,7 @@ pub struct Shape {
 }
 
 /// A form: the paper (its stock) and how text is set on it. Numbers are 0 to 999.
-#[derive(Clone, Copy, PartialEq, Eq)]
+#[derive(Clone, Copy)]
 pub struct Form {
     pub name: Name,
     pub number: u16,
@@ -61,7 +61,7 @@ pub struct Form {
 }
 
 /// A characteristic that a queue can have and a job can ask for. Numbers are 0 to 127.
-#[derive(Clone, Copy, PartialEq, Eq)]
+#[derive(Clone, Copy)]
 pub struct Characteristic {
     pub name: Name,
     pub number: u8,

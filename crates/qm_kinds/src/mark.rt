@@ -6,7 +6,6 @@ ghost use Rattle.qm_kinds.specs.Text.{mark_of};
 
 use crate::fault::MarkFault;
 use crate::short_bytes::ShortBytes;
-use std::fmt;
 use std::marker::Model;
 
 /// A checkpoint of a job: at most 255 bytes, none before the first checkpoint.
@@ -63,10 +62,4 @@ impl PartialEq for Mark {
 
 impl Eq for Mark {
     ghost laws = { nat_list_eq_equiv };
-}
-
-impl fmt::Debug for Mark {
-    fn fmt<W: fmt::Write>(&self, f: &mut fmt::Formatter<W>) -> fmt::Result {
-        fmt::Debug::fmt(self.as_bytes(), f)
-    }
 }

@@ -8,7 +8,7 @@ pub const LAST_MOMENT: u64 = 25_690_901_759_999;
 
 /// A moment, as hundredths of a second from 17-NOV-1858 00:00:00.00, the base of the system time.
 /// The last one is the end of 31-DEC-9999.
-#[derive(Clone, Copy, Debug, PartialEq, Eq, PartialOrd, Ord)]
+#[derive(Clone, Copy, PartialEq, Eq, PartialOrd, Ord)]
 pub struct Moment {
     hundredths: u64,
 }

@@ -1,8 +1,5 @@
 ghost use Rattle.std.specs.Char.{to_ascii_uppercase};
 ghost use Rattle.std.specs.Prelude.{position, not, ◌≡◌, ◌||◌, ◌==◌, Some};
-ghost use Rattle.std.specs.Cmp.{partial_equiv_from_equiv};
-ghost use Rattle.std.specs.Cmp.Lexicographic.{pointwise, nat_list_eq_equiv};
-ghost use Rattle.std.specs.Prelude.{nat_eq};
 ghost use Rattle.qm_kinds.specs.Text.{text_of, is_pattern_byte, IsText};
 ghost use Rattle.qm_kinds.specs.Wildcards.{matches};
 
@@ -10,7 +7,6 @@ use crate::fault::NameFault;
 use crate::name::{Name, is_name_byte};
 use crate::short_bytes::{ShortBytes, read_text};
 use crate::wildcards::matches;
-use std::fmt;
 use std::marker::Model;
 
 /// A pattern of names: 1 to 39 bytes of a name's, `*` and `%`. `*` stands for any bytes or none, `%` for one byte.
@@ -78,24 +74,4 @@ fn is_pattern_byte(byte: u8) -> bool
     ensures { result ≡ is_pattern_byte byte }
 {
     is_name_byte(byte) || byte == b'*' || byte == b'%'
-}
-
-impl PartialEq for Pattern {
-    ghost eq = { pointwise nat_eq };
-
-    ghost laws = { partial_equiv_from_equiv nat_list_eq_equiv };
-
-    fn eq(&self, other: &Self) -> bool {
-        self.as_bytes() == other.as_bytes()
-    }
-}
-
-impl Eq for Pattern {
-    ghost laws = { nat_list_eq_equiv };
-}
-
-impl fmt::Debug for Pattern {
-    fn fmt<W: fmt::Write>(&self, f: &mut fmt::Formatter<W>) -> fmt::Result {
-        fmt::Debug::fmt(self.as_str(), f)
-    }
 }

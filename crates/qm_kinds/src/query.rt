@@ -6,7 +6,7 @@ use crate::queue::Queue;
 use crate::seq::Seq;
 
 /// What is listed.
-#[derive(Clone, Copy, Debug, PartialEq, Eq)]
+#[derive(Clone, Copy, Debug)]
 pub enum Listing {
     Queues,
     /// The entries of the queue that was listed last.
@@ -20,7 +20,7 @@ pub enum Listing {
 }
 
 /// The kinds of queue that are listed.
-#[derive(Clone, Copy, PartialEq, Eq)]
+#[derive(Clone, Copy)]
 pub struct Kinds {
     pub batch: bool,
     pub print: bool,
@@ -29,14 +29,14 @@ pub struct Kinds {
 }
 
 /// The last row that a listing gave.
-#[derive(Clone, Copy, PartialEq, Eq)]
+#[derive(Clone, Copy)]
 pub enum After {
     Name(Name),
     Number(u32),
 }
 
 /// What is asked for, without a change.
-#[derive(Clone, Copy, PartialEq, Eq)]
+#[derive(Clone, Copy)]
 pub struct Query {
     pub listing: Listing,
     pub pattern: Pattern,

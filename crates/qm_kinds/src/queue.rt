@@ -17,7 +17,7 @@ pub enum QueueKind {
     GenericPrint,
 }
 
-#[derive(Clone, Copy, Debug, PartialEq, Eq)]
+#[derive(Clone, Copy, PartialEq, Eq)]
 pub enum QueueState {
     Stopped,
     Started,
@@ -53,7 +53,7 @@ impl fmt::Display for QueueState {
 }
 
 /// Which jobs a queue keeps in its listing after they end, where the job itself doesn't say.
-#[derive(Clone, Copy, PartialEq, Eq)]
+#[derive(Clone, Copy)]
 pub enum QueueRetain {
     Nothing,
     Failed,
@@ -61,7 +61,7 @@ pub enum QueueRetain {
 }
 
 /// A queue and its settings. An execution queue has a node and a device, a generic one neither.
-#[derive(Drop, Clone)]
+#[derive(Drop)]
 pub struct Queue {
     pub name: Name,
     pub kind: QueueKind,

@@ -9,7 +9,7 @@ use crate::request::NameOrNumber;
 use std::fmt;
 
 /// What still names a thing that should go.
-#[derive(Clone, Copy, Debug, PartialEq, Eq)]
+#[derive(Clone, Copy)]
 pub enum Holder {
     Queue(Name),
     Entry(u32),
@@ -62,7 +62,7 @@ impl fmt::Display for ParseKind {
 }
 
 /// Why a call was refused. A refused call changes nothing.
-#[derive(Clone, Copy, Debug, PartialEq, Eq)]
+#[derive(Clone, Copy)]
 pub enum Refusal {
     NoSuchQueue { name: Name },
     NoSuchEntry { number: u32 },

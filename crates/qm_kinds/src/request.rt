@@ -8,14 +8,14 @@ use crate::queue::{NewQueue, QueueChange};
 use crate::seq::Seq;
 
 /// A form or a characteristic, by its name or by its number.
-#[derive(Clone, Copy, Debug, PartialEq, Eq)]
+#[derive(Clone, Copy)]
 pub enum NameOrNumber {
     Name(Name),
     Number(u16),
 }
 
 /// How a queue is stopped.
-#[derive(Clone, Copy, PartialEq, Eq)]
+#[derive(Clone, Copy)]
 pub enum StopMode {
     /// Its runs wait.
     Pause,

@@ -1,7 +1,7 @@
 use crate::name::Name;
 
 /// A run of a job in a queue on a node. Runs are numbered from 1 on.
-#[derive(Clone, Copy, PartialEq, Eq)]
+#[derive(Clone, Copy)]
 pub struct Run {
     pub run: u64,
     pub entry: u32,

@@ -4,7 +4,7 @@ ghost use Rattle.qm_kinds.specs.Words.{script_kind_text};
 use std::fmt;
 
 /// What is wrong with a script.
-#[derive(Clone, Copy, Debug, PartialEq, Eq)]
+#[derive(Clone, Copy, PartialEq, Eq)]
 pub enum ScriptKind {
     /// A byte that may not stand in a script.
     Byte,

@@ -1,8 +1,6 @@
-ghost use Rattle.std.specs.Prelude.{◌≡◌, ◌==◌, ◌↔◌, [], length, IfOk, IsTrue};
-ghost use Rattle.std.specs.Cmp.Lexicographic.{pointwise, lists_per, lists_equiv};
-ghost use Rattle.std.specs.List.{AllZip};
+ghost use Rattle.std.specs.Prelude.{◌≡◌, ◌↔◌, [], length, IsTrue};
 
-use std::alloc::{AllocError, Global};
+use std::alloc::Global;
 use std::marker::Model;
 
 /// A list of values, which contracts see as just that.
@@ -63,28 +61,4 @@ impl<T> Seq<T> {
     {
         self.items.is_empty()
     }
-}
-
-impl<T: Clone> Clone for Seq<T> {
-    ghost is_clone = { AllZip T.is_clone };
-
-    fn clone(&self) -> Result<Seq<T>, AllocError> {
-        Ok(Seq {
-            items: self.items.clone()?,
-        })
-    }
-}
-
-impl<T: PartialEq> PartialEq for Seq<T> {
-    ghost eq = { pointwise T.eq };
-
-    ghost laws = { lists_per T.laws };
-
-    fn eq(&self, other: &Self) -> bool {
-        self.as_slice() == other.as_slice()
-    }
-}
-
-impl<T: Eq> Eq for Seq<T> {
-    ghost laws = { lists_equiv T.Eq.laws };
 }

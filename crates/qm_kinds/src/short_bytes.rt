@@ -2,14 +2,8 @@
 ghost use Rattle.std.specs.Prelude.{◌≡◌, ◌≤◌, ◌<◌, length, map};
 ghost use Rattle.std.specs.Char.{to_ascii_uppercase};
 ghost use Rattle.qm_kinds.specs.Text.{text_unless};
-ghost use Rattle.std.specs.Ordering.{nat_cmp};
-ghost use Rattle.std.specs.Cmp.{partial_equiv_from_equiv};
-ghost use Rattle.std.specs.Cmp.Lexicographic.{pointwise, slice_cmp, nat_list_eq_equiv, nat_list_cmp_total, texts_po, texts_ties};
-ghost use Rattle.std.specs.Prelude.{nat_eq, Some};
-ghost use Rattle.std.proofs.Common.{rules};
 
 use crate::fault::NameFault;
-use std::cmp::Ordering;
 use std::marker::Model;
 
 /// At most `CAP` bytes, and at most 255.
@@ -84,43 +78,5 @@ pub(crate) fn read_text(text: &[u8], bad: Option<usize>) -> Result<ShortBytes<39
     match bad {
         Some(place) => Err(NameFault::BadByte { place }),
         None => Ok(ShortBytes::raised(text)),
-    }
-}
-
-impl<const CAP: usize> PartialEq for ShortBytes<CAP> {
-    ghost eq = { pointwise nat_eq };
-
-    ghost laws = { partial_equiv_from_equiv nat_list_eq_equiv };
-
-    fn eq(&self, other: &Self) -> bool {
-        self.as_bytes() == other.as_bytes()
-    }
-}
-
-impl<const CAP: usize> Eq for ShortBytes<CAP> {
-    ghost laws = { nat_list_eq_equiv };
-}
-
-impl<const CAP: usize> PartialOrd for ShortBytes<CAP> {
-    ghost partial_cmp = { λ a b. Some (slice_cmp nat_cmp a b) };
-
-    ghost laws = { texts_po };
-
-    fn partial_cmp(&self, other: &Self) -> Option<Ordering> {
-        Some(self.cmp(other))
-    }
-}
-
-impl<const CAP: usize> Ord for ShortBytes<CAP> {
-    ghost cmp = { slice_cmp nat_cmp };
-
-    ghost total = { nat_list_cmp_total };
-
-    ghost matches_partial_cmp = { Prim.search rules };
-
-    ghost matches_eq = { texts_ties };
-
-    fn cmp(&self, other: &Self) -> Ordering {
-        self.as_bytes().cmp(other.as_bytes())
     }
 }

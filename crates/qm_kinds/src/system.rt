@@ -7,7 +7,7 @@ use crate::queue::Queue;
 use crate::seq::Seq;
 
 /// A node of the cluster.
-#[derive(Clone, Copy, PartialEq, Eq)]
+#[derive(Clone, Copy)]
 pub struct Node {
     pub name: Name,
     pub up: bool,

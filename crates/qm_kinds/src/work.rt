@@ -39,7 +39,7 @@ pub struct Duty {
 }
 
 /// How far a run is.
-#[derive(Clone, Copy, PartialEq, Eq)]
+#[derive(Clone, Copy)]
 pub struct Place {
     /// The blocks that a print job handed over, or the number of a batch job's next line, from 1.
     pub at: u32,

@@ -11,7 +11,7 @@ use std::alloc::Global;
 use std::fmt;
 
 /// How the program ended.
-#[derive(Clone, Copy, Debug, PartialEq, Eq)]
+#[derive(Clone, Copy, PartialEq, Eq)]
 pub enum End {
     /// The script was read to its end, every line was answered, each run that could step was carried out, and no disk failed;
     /// or the files were made.

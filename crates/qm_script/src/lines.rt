@@ -42,7 +42,7 @@ pub struct UserLine<'a> {
 }
 
 /// Why no lines were read.
-#[derive(Clone, Copy, Debug, PartialEq, Eq)]
+#[derive(Clone, Copy)]
 pub enum LinesEnd {
     /// What is wrong at this line, the first at which something is; 0 stands for the script as a whole.
     Fault { line: u32, kind: ScriptKind },

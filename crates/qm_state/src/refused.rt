@@ -5,7 +5,7 @@ use qm_kinds::Refusal;
 use std::alloc::{AllocError, AllocFailed};
 
 /// Why a call gave nothing. It changed no row.
-#[derive(Clone, Copy, Debug, PartialEq, Eq)]
+#[derive(Clone, Copy)]
 pub enum Refused {
     /// The rules of the queue system refuse it.
     By(Refusal),
