@@ -6,7 +6,7 @@ ghost use Rattle.qm_match.specs.Keys.{comes_before, key_of, schedule_of};
 use qm_kinds::{Entry, Queue, QueueKind};
 
 /// How a queue chooses among jobs of one priority: DCL Dictionary, INITIALIZE/QUEUE, /SCHEDULE.
-#[derive(Clone, Copy, Debug, PartialEq, Eq)]
+#[derive(Clone, Copy)]
 pub enum Schedule {
     /// The smaller job comes first, and of two of one size the one with the smaller number.
     BySize,
@@ -15,7 +15,7 @@ pub enum Schedule {
 }
 
 /// What counts of a job where a queue chooses: its priority, its size in blocks and its number.
-#[derive(Clone, Copy, Debug, PartialEq, Eq)]
+#[derive(Clone, Copy)]
 pub struct Key {
     pub priority: u8,
     pub size: u32,

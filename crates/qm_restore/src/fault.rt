@@ -5,7 +5,7 @@ ghost use Rattle.qm_restore.specs.declared.fault.RestoreFault.TheVariants.{NoMem
 use std::alloc::{AllocError, AllocFailed};
 
 /// What is wrong with a record.
-#[derive(Clone, Copy, Debug, PartialEq, Eq)]
+#[derive(Clone, Copy)]
 pub enum Flaw {
     /// Its body spells no record.
     Unreadable,
@@ -17,7 +17,7 @@ pub enum Flaw {
 }
 
 /// Why records aren't those of a queue file.
-#[derive(Clone, Copy, Debug, PartialEq, Eq)]
+#[derive(Clone, Copy)]
 pub enum RestoreFault {
     /// The record of this index, counted from 0, is the first that can't stand there; where it is the count, the records end too
     /// early.

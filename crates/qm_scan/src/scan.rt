@@ -10,7 +10,7 @@ use qm_sched::Parts;
 use std::alloc::{AllocError, Global};
 
 /// What a scan goes through.
-#[derive(Clone, Copy, Debug, PartialEq, Eq)]
+#[derive(Clone, Copy)]
 pub enum ScanKind {
     /// Queues, by name.
     Queues,

@@ -7,7 +7,7 @@ use qm_course::TurnEnd;
 use qm_history::{Event, Turn};
 
 /// How the serving of a script ended.
-#[derive(Clone, Copy, Debug, PartialEq, Eq)]
+#[derive(Clone, Copy)]
 pub enum ServeEnd {
     /// Every line was answered, and each run that could step was carried out.
     Served,
