@@ -60,7 +60,18 @@ impl<D: Disk, C: Clock, Y: Symbiont> ServeLines<D, C, Y> for OneThread {
         service: Service<D>,
         stations: &mut [Station<C, Y>],
         sink: &mut O,
-    ) -> Served<D> {
+    ) -> Served<D>
+        requires fresh { IsFresh D.meaning service }
+        requires script { IsScriptOf (service_names service) (user_lines_view lines.now) }
+        requires stations { NODES_LIMIT ≤ length stations.old }
+        ensures serves { (disk : D) → IsOpened D.meaning disk service → Serves D.meaning Y.meaning disk (service_names service) (user_lines_view lines.now)
+            (outside (service_disk service) (O.taken sink.old) (map (side_of C.told) stations.old))
+            (outside result.disk (O.taken sink.new) (map (side_of C.told) stations.new)) result.turns.items (serving_end result.end) }
+        ensures reason { (disk : D) → IsOpened D.meaning disk service
+            → HasReason D.meaning.tells (serving_end result.end) result.turns.items (D.meaning.faults (service_disk service)) (D.meaning.faults result.disk) }
+        ensures spare { (disk : D) → IsOpened D.meaning disk service → IsTrue D.meaning.tells → KeepsSpare D.meaning (service_disk service) result.disk }
+        ensures sink { CountsSink (serving_end result.end) (O.faults sink.old) (O.faults sink.new) }
+    {
         service.serve(alloc, lines, stations, sink)
     }
 }
