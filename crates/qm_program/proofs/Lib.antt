@@ -4,5 +4,5 @@ pub mod Counting
 pub mod Leaving
 pub mod Listing
 pub mod NewSite
-pub mod Serving
+pub mod Reasons
 pub mod Surviving

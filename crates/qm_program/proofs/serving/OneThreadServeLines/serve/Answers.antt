@@ -1,5 +1,5 @@
 use Rattle.qm_service.specs.Ends.{serving_end}
-use Rattle.qm_program.proofs.Serving.{one_reason, one_spare}
+use Rattle.qm_program.proofs.Reasons.{one_reason, one_spare}
 use Rattle.qm_program.proofs.serving.OneThreadServeLines.serve.Goals as goal
 
 pub returns-clause-reason : goal.returns-clause-reason
