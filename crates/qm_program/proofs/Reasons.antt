@@ -1,6 +1,5 @@
 -- What the serving of lines by one thread says of its end.
 use Rattle.std.proofs.Common.{◌≡◌, ℕ, List, [], Option, None, IsTrue}
-use Rattle.qm_course.specs.Taken.{RoseBy}
 use Rattle.qm_disk.specs.Disk.{Meaning}
 use Rattle.qm_history.specs.Ends.{ServingEnd}
 use Rattle.qm_history.specs.Ends as serving
@@ -20,9 +19,9 @@ failed_as_told serving.HistoryFull turns before now counts = told_at_full turns 
 failed_as_told (serving.Damaged file place) turns before now counts = tt
 failed_as_told serving.NoMemory turns before now counts = tt
 
-pub one_reason : {D Y : Type 0} (m : Meaning D) (y : symb.Meaning Y) (disk : D) {names : List (List ℕ)} {script : List UserLine} {old new : Outside D Y} {turns : List Turn}
-    (end : ServingEnd) → Serves m y disk names script old new turns end → HasReason m.tells end turns (m.faults old.disk) (m.faults new.disk)
-one_reason m y disk {turns = turns} {old = old} {new = new} end serves = record {
+pub one_reason : {D Y : Type 0} (m : Meaning D) (y : symb.Meaning Y) (disk : D) (names : List (List ℕ)) (script : List UserLine)
+    (old new : Outside D Y) (turns : List Turn) (end : ServingEnd) → Serves m y disk names script old new turns end → HasReason m.tells end turns (m.faults old.disk) (m.faults new.disk)
+one_reason m y disk names script old new turns end serves = record {
   ends = serves.ends;
   failed = failed_as_told end turns (m.faults old.disk) (m.faults new.disk) serves.failed;
   undamaged = serves.undamaged;
