@@ -1,5 +1,5 @@
 -- What the serving of lines by one thread says of its end.
-use Rattle.std.proofs.Common.{◌≡◌, ℕ, List, [], Option, None, IsTrue}
+use Rattle.std.proofs.Common.{ℕ, List}
 use Rattle.qm_disk.specs.Disk.{Meaning}
 use Rattle.qm_history.specs.Ends.{ServingEnd}
 use Rattle.qm_history.specs.Ends as serving
