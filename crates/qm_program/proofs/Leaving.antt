@@ -24,17 +24,16 @@ use Rattle.qm_script.specs.declared.lines.LinesEnd.TheVariants as lines
 use Rattle.qm_script.specs.declared.script.TheConstants.{SCRIPT_BYTES}
 use Rattle.qm_service.specs.Ends.{CountsSink}
 use Rattle.qm_service.specs.Opening.{IsOpened}
-use Rattle.qm_service.specs.Serving.{Serves, outside}
+use Rattle.qm_service.specs.Serving.{Outside, outside}
 use Rattle.qm_service.specs.Value.{service_disk, service_names}
 use Rattle.qm_service.specs.declared.service.Service.{Service}
-use Rattle.qm_symb.specs.Device as symb
-use Rattle.qm_program.specs.Causes.{HasCause}
+use Rattle.qm_program.specs.Causes.{HasCause, HasReason}
 use Rattle.qm_program.specs.Ends.{EndsUnopened, EndsUnserved, IsBehindText, end_of_lines, end_of_serving}
 use Rattle.qm_program.specs.Reading.{AreKnown, HoldCluster, IsFaulty, IsFirstFault, IsRead, IsScript, Reads}
-use Rattle.qm_program.specs.Running.{RunsTo, ServesScript, TouchesNothing}
+use Rattle.qm_program.specs.Running.{ServesScript, ServesTo, TouchesNothing}
 use Rattle.qm_program.specs.declared.outcome.End.{End}
 use Rattle.qm_program.specs.declared.outcome.End.TheVariants as ends
-use Rattle.qm_program.proofs.Counting.{counts_of, none_rose, same_counts, some_rose, told_at_full, told_at_write}
+use Rattle.qm_program.proofs.Counting.{counts_of, none_rose, same_counts, some_rose}
 
 -- ---- what was read
 
@@ -56,11 +55,13 @@ is_script_by names left text (Err fault) read is ok = cc
 is_script : (names : Option (List (List ℕ))) (left : Option (List ℕ)) (text : List ℕ) → IsRead left text → IsOk (script_lines names text) → IsScript names left
 is_script names left text read ok = is_script_by names left text (script_lines names text) read refl ok
 
-module _ {D Y : Type 0} (m : Meaning D) (y : symb.Meaning Y) (left : Option (List ℕ)) (text : List ℕ) (read : IsRead left text) where
+module _ {D Y : Type 0} (m : Meaning D)
+    (S : D → List (List ℕ) → List UserLine → Outside D Y → Outside D Y → List Turn → ServingEnd → Type 0)
+    (left : Option (List ℕ)) (text : List ℕ) (read : IsRead left text) where
   -- ---- lines that weren't served
 
   module _ (source sink : ℕ) (old new : D) (taken : Option (List ℕ)) (sides : List (Side Y)) (looks : OnlyLooks m old new) where
-    touched : TouchesNothing m y [] (outside old taken sides) (outside new taken sides)
+    touched : TouchesNothing m [] (outside old taken sides) (outside new taken sides)
     touched = record { disk = looks; taken = refl; sides = refl; none = refl }
 
     -- it ends so, and leaves this
@@ -68,7 +69,7 @@ module _ {D Y : Type 0} (m : Meaning D) (y : symb.Meaning Y) (left : Option (Lis
     Ends end =
         IsBehindText end
         × HasCause m.tells (m.seen old) left [] (counts_of source sink (m.faults old)) (counts_of source sink (m.faults new)) end
-        × RunsTo m y left [] (outside old taken sides) (outside new taken sides) end
+        × ServesTo m S left [] (outside old taken sides) (outside new taken sides) end
 
     faulty : (names : Option (List (List ℕ))) → AreKnown m.tells (m.seen old) (m.faults old) (m.faults new) names → (fault : LineFault) → script_lines names text ≡ Err fault
         → IsFaulty m.tells (m.seen old) (m.faults old) (m.faults new) left fault
@@ -123,9 +124,9 @@ module _ {D Y : Type 0} (m : Meaning D) (y : symb.Meaning Y) (left : Option (Lis
 
     module _ (script : List UserLine) (is : script_lines (Some (service_names service)) text ≡ Ok script) (taken now : Option (List ℕ)) (was are : List (Side Y)) (new : D) (turns : List Turn) where
       abbrev Served : ServingEnd → Type 0
-      Served end = Serves m y disk (service_names service) script (outside (service_disk service) taken was) (outside new now are) turns end
+      Served end = S disk (service_names service) script (outside (service_disk service) taken was) (outside new now are) turns end
 
-      served_so : (end : ServingEnd) → Served end → ServesScript m y left turns (outside disk taken was) (outside new now are) end
+      served_so : (end : ServingEnd) → Served end → ServesScript m S left turns (outside disk taken was) (outside new now are) end
       served_so end serves = record {
         names = service_names service;
         cluster = holds;
@@ -135,26 +136,26 @@ module _ {D Y : Type 0} (m : Meaning D) (y : symb.Meaning Y) (left : Option (Lis
         served = record { text = text; lines = script; read = read; script = is; so = serves };
       }
 
-      pub served_runs : (end : ServingEnd) → Served end → RunsTo m y left turns (outside disk taken was) (outside new now are) (end_of_serving end)
-      served_runs serving.Served serves = served_so serving.Served serves
-      served_runs serving.DiskFailed serves = inr (served_so serving.DiskFailed serves)
-      served_runs serving.SinkFailed serves = served_so serving.SinkFailed serves
-      served_runs serving.HistoryFull serves = served_so serving.HistoryFull serves
-      served_runs (serving.Damaged file place) serves = inr (served_so (serving.Damaged file place) serves)
-      served_runs serving.NoMemory serves = inr (inr (served_so serving.NoMemory serves))
+      pub served_to : (end : ServingEnd) → Served end → ServesTo m S left turns (outside disk taken was) (outside new now are) (end_of_serving end)
+      served_to serving.Served serves = served_so serving.Served serves
+      served_to serving.DiskFailed serves = inr (served_so serving.DiskFailed serves)
+      served_to serving.SinkFailed serves = served_so serving.SinkFailed serves
+      served_to serving.HistoryFull serves = served_so serving.HistoryFull serves
+      served_to (serving.Damaged file place) serves = inr (served_so (serving.Damaged file place) serves)
+      served_to serving.NoMemory serves = inr (inr (served_so serving.NoMemory serves))
 
       since_opening : RoseBy (faults_told turns) (m.faults (service_disk service)) (m.faults new) → RoseBy (faults_told turns) (m.faults disk) (m.faults new)
       since_opening rose = subst (λ (n : ℕ). RoseBy (faults_told turns) n (m.faults new)) opened.quiet rose
 
-      pub served_cause : (end : ServingEnd) → CountsSink end sink later → Served end
+      pub served_cause : (end : ServingEnd) → CountsSink end sink later → HasReason m.tells end turns (m.faults (service_disk service)) (m.faults new)
           → HasCause m.tells (m.seen disk) left turns (counts_of source sink (m.faults disk)) (counts_of source later (m.faults new)) (end_of_serving end)
-      served_cause serving.Served counts serves =
-          same_counts source sink (m.faults disk) later (m.faults new) counts (none_rose turns (m.faults disk) (m.faults new) serves.ends (since_opening serves.failed))
-      served_cause serving.DiskFailed counts serves = (refl, counts, some_rose turns (m.faults disk) (m.faults new) serves.ends (since_opening serves.failed))
-      served_cause serving.SinkFailed counts serves = (refl, counts, since_opening (told_at_write turns _ _ serves.failed))
-      served_cause serving.HistoryFull counts serves = (refl, counts, since_opening (told_at_full turns _ _ serves.failed), serves.ends)
-      served_cause (serving.Damaged file place) counts serves = (refl, counts, inr serves.undamaged)
-      served_cause serving.NoMemory counts serves = (refl, counts)
+      served_cause serving.Served counts reason =
+          same_counts source sink (m.faults disk) later (m.faults new) counts (none_rose turns (m.faults disk) (m.faults new) reason.ends (since_opening reason.failed))
+      served_cause serving.DiskFailed counts reason = (refl, counts, some_rose turns (m.faults disk) (m.faults new) reason.ends (since_opening reason.failed))
+      served_cause serving.SinkFailed counts reason = (refl, counts, since_opening reason.failed)
+      served_cause serving.HistoryFull counts reason = (refl, counts, since_opening reason.failed, reason.ends)
+      served_cause (serving.Damaged file place) counts reason = (refl, counts, inr reason.undamaged)
+      served_cause serving.NoMemory counts reason = (refl, counts)
 
 -- the whole text was read
 pub served_behind : (end : ServingEnd) → IsBehindText (end_of_serving end)

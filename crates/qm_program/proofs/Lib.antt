@@ -4,4 +4,5 @@ pub mod Counting
 pub mod Leaving
 pub mod Listing
 pub mod NewSite
+pub mod Reasons
 pub mod Surviving

@@ -2,10 +2,9 @@
 use Rattle.std.proofs.Common.{◌≡◌, ◌≢◌, ◌⊎◌, inl, inr, ⊎_elim, ℕ, List, [], ◌∷◌, ◌++◌, slice_get, Option, None, Some, Contains, IsTrue, option_to_list, sym, ◌∙◌, ap, subst}
 use Rattle.std.proofs.lemmas.List.{append-nil}
 use Rattle.std.proofs.lemmas.List.Elements.{Contains-append_left}
-use Rattle.qm_acting.specs.Spare.{KeepsSpare}
-use Rattle.qm_acting.proofs.Spare.{keeps_at, keeps_on, looks_keep}
 use Rattle.qm_course.specs.Asking.{read_built}
 use Rattle.qm_course.specs.Runs.{IsNodeOf, Side}
+use Rattle.qm_course.specs.Taken.{AreTaken}
 use Rattle.qm_disk.specs.Disk.{CrashState, IsLeft, LeavesOnly, Meaning}
 use Rattle.qm_disk.proofs.Moments.{goes_further, started, weaker}
 use Rattle.qm_glog.specs.Records.{IsLog}
@@ -19,7 +18,7 @@ use Rattle.qm_history.specs.Ends as serving
 use Rattle.qm_history.specs.Happening.{acknowledged, events_of}
 use Rattle.qm_history.specs.Leaving.{MayBeLeft, MayBeLeftBehind}
 use Rattle.qm_history.specs.Legal.{after_turns}
-use Rattle.qm_history.specs.Script.{UserLine}
+use Rattle.qm_history.specs.Script.{UserLine, lines_of}
 use Rattle.qm_history.specs.Start.{Hold, Starts}
 use Rattle.qm_history.specs.Step.{after_events}
 use Rattle.qm_history.specs.World.{IsSound, system_in}
@@ -29,12 +28,13 @@ use Rattle.qm_history.specs.declared.world.World.{World}
 use Rattle.qm_kinds.specs.declared.record.Record.{Record}
 use Rattle.qm_model.specs.Folding.{system_of}
 use Rattle.qm_record.specs.Spelling.{HasSpelling, record_text}
+use Rattle.qm_service.specs.Ends.{extent_to, stop_of}
 use Rattle.qm_service.specs.Noted.{HasNoted}
 use Rattle.qm_service.specs.Opening.{MayBegin}
-use Rattle.qm_service.specs.Serving.{Outside, ServesIn}
+use Rattle.qm_service.specs.Serving.{Outside, Serves}
 use Rattle.qm_service.specs.Value.{meaning_of}
 use Rattle.qm_symb.specs.Device as symb
-use Rattle.qm_program.specs.Running.{RunsTo, ServesScript, Stays, TouchesNothing}
+use Rattle.qm_program.specs.Running.{ServesScript, ServesTo, Stays, TouchesNothing}
 use Rattle.qm_program.specs.Surviving.{GoesOnFrom, HasAcknowledged, TakesInStretches}
 use Rattle.qm_program.specs.declared.outcome.End.{End}
 use Rattle.qm_program.specs.declared.outcome.End.TheVariants as ends
@@ -47,18 +47,26 @@ InMoment w turns crashed = HoldIn IsLog HasSpelling record_text crashed w turns
 abbrev pub InWorld : World → CrashState → Type 0
 InWorld w crashed = HoldWorld IsLog HasSpelling record_text crashed w
 
-module _ {D Y : Type 0} (m : Meaning D) (y : symb.Meaning Y) (left : Option (List ℕ)) (turns : List Turn) (old new : Outside D Y) where
+-- The steps of a node's course came in turns, and its devices took the blocks of these steps.
+abbrev pub TakesCourse : {Y : Type 0} → symb.Meaning Y → World → List Turn → ℕ → Side Y → Side Y → Type 0
+TakesCourse y w turns node was now =
+    (extent : Extent) × (lines : List UserLine) × (faults : ℕ) × (course : IsCourse HasSpelling read_built extent w turns node lines faults)
+    × AreTaken y course.steps course.broken was.symbiont now.symbiont
+
+module _ {D Y : Type 0} (m : Meaning D)
+    (S : D → List (List ℕ) → List UserLine → Outside D Y → Outside D Y → List Turn → ServingEnd → Type 0)
+    (left : Option (List ℕ)) (turns : List Turn) (old new : Outside D Y) where
   -- a run touches nothing, only looks, or serves the script
   abbrev IsOneOf : Type 0
-  IsOneOf = Stays m y turns old new ⊎ (TouchesNothing m y turns old new ⊎ ((end : ServingEnd) × ServesScript m y left turns old new end))
+  IsOneOf = Stays m turns old new ⊎ (TouchesNothing m turns old new ⊎ ((end : ServingEnd) × ServesScript m S left turns old new end))
 
-  served_to : (end : ServingEnd) → ServesScript m y left turns old new end → IsOneOf
+  served_to : (end : ServingEnd) → ServesScript m S left turns old new end → IsOneOf
   served_to end serves = inr (inr (end, serves))
 
-  touched_to : TouchesNothing m y turns old new → IsOneOf
+  touched_to : TouchesNothing m turns old new → IsOneOf
   touched_to touches = inr (inl touches)
 
-  pub parted : (end : End) → RunsTo m y left turns old new end → IsOneOf
+  pub parted : (end : End) → ServesTo m S left turns old new end → IsOneOf
   parted ends.Ok runs = served_to serving.Served runs
   parted ends.Usage runs = absurd runs
   parted ends.Read runs = inl runs
@@ -70,23 +78,9 @@ module _ {D Y : Type 0} (m : Meaning D) (y : symb.Meaning Y) (left : Option (Lis
   parted ends.HistoryFull runs = served_to serving.HistoryFull runs
   parted ends.NoMemory runs = ⊎_elim (λ stays. inl stays) (⊎_elim (λ lacks. touched_to lacks.0) (served_to serving.NoMemory)) runs
 
-  -- the queue file that isn't live stays
-  pub run_spare : IsTrue m.tells → (end : End) → RunsTo m y left turns old new end → KeepsSpare m old.disk new.disk
-  run_spare tells end runs = elim (parted end runs) [
-    | inl stays ↦ keeps_at m old.disk new.disk (ap (λ (o : Outside D Y). o.disk) stays.0)
-    | inr more ↦ elim more [
-      | inl touches ↦ looks_keep m old.disk new.disk touches.disk
-      | inr served ↦
-          let s = served.1 in
-          keeps_on m old.disk s.opened new.disk (looks_keep m old.disk s.opened s.looks) (s.served.so.spare tells)
-    ]
-  ]
-
-  module _ (w : World) (tells : IsTrue m.tells) (begins : MayBegin m old.disk w) where
-    -- the lines were served so
-    served_in : (end : ServingEnd) (s : ServesScript m y left turns old new end) → ServesIn m y w s.names s.served.lines (record old { disk = s.opened }) new turns end
-    served_in end s = s.served.so.within tells w begins
-
+  -- in a world with which a program begins on the disk, the calls of each way of serving are noted
+  module _ (w : World) (tells : IsTrue m.tells) (begins : MayBegin m old.disk w)
+      (noted : (opened : D) (names : List (List ℕ)) (lines : List UserLine) (end : ServingEnd) → S old.disk names lines (record old { disk = opened }) new turns end → HasNoted m w opened new.disk turns) where
     -- what stands behind the turns, over the disk that was opened
     abbrev StandsOver : D → Type 0
     StandsOver opened = LeavesOnly m opened new.disk (InMoment w turns) × Keeps IsLog HasSpelling record_text m (after_turns w turns) new.disk
@@ -100,22 +94,22 @@ module _ {D Y : Type 0} (m : Meaning D) (y : symb.Meaning Y) (left : Option (Lis
     )
 
     noted_stands : (opened : D) → HasNoted m w opened new.disk turns → StandsOver opened
-    noted_stands opened noted = by (noted.stands.stands tells)
+    noted_stands opened has = by (has.stands.stands tells)
       where
-        by : StandsFor IsLog HasSpelling record_text m w opened noted.last noted.notes → StandsOver opened
-        by stands = over opened noted.last.disk noted.last.turns noted.disk_is noted.turns_are stands.moments stands.keeps
+        by : StandsFor IsLog HasSpelling record_text m w opened has.last has.notes → StandsOver opened
+        by stands = over opened has.last.disk has.last.turns has.disk_is has.turns_are stands.moments stands.keeps
 
-    served_stands : (end : ServingEnd) (s : ServesScript m y left turns old new end) → StandsOver s.opened
-    served_stands end s = noted_stands s.opened (served_in end s).noted
+    served_stands : (end : ServingEnd) (s : ServesScript m S left turns old new end) → StandsOver s.opened
+    served_stands end s = noted_stands s.opened (noted s.opened s.names s.served.lines end s.served.so)
 
     -- ---- moments
 
     abbrev IsOfRun : CrashState → Type 0
     IsOfRun crashed = IsLeft (m.may_leave old.disk) crashed ⊎ InMoment w turns crashed
 
-    pub run_moments : ((disk : D) (crashed : CrashState) → m.left_since disk (m.moment disk) crashed → IsLeft (m.may_leave disk) crashed) → (end : End) → RunsTo m y left turns old new end
+    pub served_moments : ((disk : D) (crashed : CrashState) → m.left_since disk (m.moment disk) crashed → IsLeft (m.may_leave disk) crashed) → (end : End) → ServesTo m S left turns old new end
         → LeavesOnly m old.disk new.disk IsOfRun
-    run_moments only_now end runs = elim (parted end runs) [
+    served_moments only_now end runs = elim (parted end runs) [
       | inl stays ↦ subst (λ (o : Outside D Y). LeavesOnly m old.disk o.disk IsOfRun) (sym stays.0) (started m old.disk IsOfRun (λ crashed left. inl (only_now old.disk crashed left)))
       | inr more ↦ elim more [
         | inl touches ↦ weaker m old.disk new.disk (IsLeft (m.may_leave old.disk)) IsOfRun touches.disk.any_moment (λ crashed left. inl left)
@@ -126,9 +120,10 @@ module _ {D Y : Type 0} (m : Meaning D) (y : symb.Meaning Y) (left : Option (Lis
       ]
     ]
 
-    -- behind a run that made turns
-    pub run_behind : (end : End) → RunsTo m y left turns old new end → turns ≢ [] → (crashed : CrashState) → IsLeft (m.may_leave new.disk) crashed → InWorld (after_turns w turns) crashed
-    run_behind end runs some crashed is_left = elim (parted end runs) [
+    -- behind turns that were made
+    pub served_behind : (end : End) → ServesTo m S left turns old new end → turns ≢ [] → (crashed : CrashState) → IsLeft (m.may_leave new.disk) crashed
+        → InWorld (after_turns w turns) crashed
+    served_behind end runs some crashed is_left = elim (parted end runs) [
       | inl stays ↦ absurd (some stays.1)
       | inr more ↦ elim more [
         | inl touches ↦ absurd (some touches.none)
@@ -136,46 +131,64 @@ module _ {D Y : Type 0} (m : Meaning D) (y : symb.Meaning Y) (left : Option (Lis
       ]
     ]
 
-    -- ---- devices
+  -- ---- devices
 
-    module _ (stretches : (extent : Extent) (node : ℕ) (lines : List UserLine) (faults : ℕ) (h : IsCourse HasSpelling read_built extent w turns node lines faults) → ComeInStretches [] (all_steps h.steps h.broken))
-        (node : ℕ) (name : List ℕ) (was now : Side Y) (called : slice_get (cluster (system_in w)) node ≡ Some name)
-        (before : slice_get old.sides node ≡ Some was) (after : slice_get new.sides node ≡ Some now) where
-      -- nothing was taken
-      none_taken : new.sides ≡ old.sides → TakesInStretches y was.symbiont now.symbiont
-      none_taken same = by (same_side (slice_get old.sides node) before (subst (λ (sides : List (Side Y)). slice_get sides node ≡ Some now) same after))
-        where
-          same_side : (o : Option (Side Y)) → o ≡ Some was → o ≡ Some now → was ≡ now
-          same_side o a b = cc
+  module _ (y : symb.Meaning Y) (w : World) (tells : IsTrue m.tells) (begins : MayBegin m old.disk w)
+      (stretches : (extent : Extent) (node : ℕ) (lines : List UserLine) (faults : ℕ) (h : IsCourse HasSpelling read_built extent w turns node lines faults) → ComeInStretches [] (all_steps h.steps h.broken))
+      (node : ℕ) (name : List ℕ) (was now : Side Y) (called : slice_get (cluster (system_in w)) node ≡ Some name)
+      (before : slice_get old.sides node ≡ Some was) (after : slice_get new.sides node ≡ Some now)
+      (taken : (opened : D) (names : List (List ℕ)) (lines : List UserLine) (end : ServingEnd) → slice_get names node ≡ Some name
+      → S old.disk names lines (record old { disk = opened }) new turns end → TakesCourse y w turns node was now) where
+    -- nothing was taken
+    none_taken : new.sides ≡ old.sides → TakesInStretches y was.symbiont now.symbiont
+    none_taken same = by (same_side (slice_get old.sides node) before (subst (λ (sides : List (Side Y)). slice_get sides node ≡ Some now) same after))
+      where
+        same_side : (o : Option (Side Y)) → o ≡ Some was → o ≡ Some now → was ≡ now
+        same_side o a b = cc
 
-          by : was ≡ now → TakesInStretches y was.symbiont now.symbiont
-          by is = record {
-            steps = [];
-            broken = None;
-            stretches = tt;
-            taken = record { handed = []; are_handed = tt; taken = λ told. ap (λ (side : Side Y). y.taken side.symbiont) (sym is) ∙ sym (append-nil (y.taken was.symbiont)) };
-          }
+        by : was ≡ now → TakesInStretches y was.symbiont now.symbiont
+        by is = record {
+          steps = [];
+          broken = None;
+          stretches = tt;
+          taken = record { handed = []; are_handed = tt; taken = λ told. ap (λ (side : Side Y). y.taken side.symbiont) (sym is) ∙ sym (append-nil (y.taken was.symbiont)) };
+        }
 
-      node_taken : (extent : Extent) (lines : List UserLine) → IsNodeOf (meaning_of m) y extent w turns node lines was now → TakesInStretches y was.symbiont now.symbiont
-      node_taken extent lines is = record {
-        steps = is.course.steps;
-        broken = is.course.broken;
-        stretches = stretches extent node lines is.faults is.course;
-        taken = is.taken;
-      }
+    course_taken : TakesCourse y w turns node was now → TakesInStretches y was.symbiont now.symbiont
+    course_taken takes = record {
+      steps = takes.3.steps;
+      broken = takes.3.broken;
+      stretches = stretches takes.0 node takes.1 takes.2 takes.3;
+      taken = takes.4;
+    }
 
-      pub run_taken : (end : End) → RunsTo m y left turns old new end → TakesInStretches y was.symbiont now.symbiont
-      run_taken end runs = elim (parted end runs) [
-        | inl stays ↦ none_taken (ap (λ (o : Outside D Y). o.sides) stays.0)
-        | inr more ↦ elim more [
-          | inl touches ↦ none_taken touches.sides
-          | inr served ↦
-              let s = served.1 in
-              let names : cluster (system_in w) ≡ s.names = (s.cluster tells).names_are w begins.starts in
-              let named : slice_get s.names node ≡ Some name = subst (λ (n : List (List ℕ)). slice_get n node ≡ Some name) names called in
-              node_taken _ _ ((served_in served.0 s).run.nodes node name was now named before after)
-        ]
+    pub served_taken : (end : End) → ServesTo m S left turns old new end → TakesInStretches y was.symbiont now.symbiont
+    served_taken end runs = elim (parted end runs) [
+      | inl stays ↦ none_taken (ap (λ (o : Outside D Y). o.sides) stays.0)
+      | inr more ↦ elim more [
+        | inl touches ↦ none_taken touches.sides
+        | inr served ↦
+            let s = served.1 in
+            let names : cluster (system_in w) ≡ s.names = (s.cluster tells).names_are w begins.starts in
+            let named : slice_get s.names node ≡ Some name = subst (λ (n : List (List ℕ)). slice_get n node ≡ Some name) names called in
+            course_taken (taken s.opened s.names s.served.lines served.0 named s.served.so)
       ]
+    ]
+
+-- ---- one thread
+
+module _ {D Y : Type 0} (m : Meaning D) (y : symb.Meaning Y) (turns : List Turn) (old new : Outside D Y) (w : World) (tells : IsTrue m.tells) (begins : MayBegin m old.disk w) where
+  pub one_noted : (opened : D) (names : List (List ℕ)) (lines : List UserLine) (end : ServingEnd) → Serves m y old.disk names lines (record old { disk = opened }) new turns end
+      → HasNoted m w opened new.disk turns
+  one_noted opened names lines end serves = (serves.within tells w begins).noted
+
+  pub one_taken : (node : ℕ) (name : List ℕ) (was now : Side Y) → slice_get old.sides node ≡ Some was → slice_get new.sides node ≡ Some now
+      → (opened : D) (names : List (List ℕ)) (lines : List UserLine) (end : ServingEnd) → slice_get names node ≡ Some name
+      → Serves m y old.disk names lines (record old { disk = opened }) new turns end → TakesCourse y w turns node was now
+  one_taken node name was now before after opened names lines end named serves = by ((serves.within tells w begins).run.nodes node name was now named before after)
+    where
+      by : IsNodeOf (meaning_of m) y (extent_to (stop_of end)) w turns node (lines_of name lines) was now → TakesCourse y w turns node was now
+      by is = (extent_to (stop_of end), lines_of name lines, is.faults, is.course, is.taken)
 
 -- ---- what was acknowledged
 

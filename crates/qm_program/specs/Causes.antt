@@ -5,9 +5,12 @@ use Rattle.qm_course.specs.Taken.{RoseBy}
 use Rattle.qm_disk.specs.Disk.{CrashState}
 use Rattle.qm_glog.specs.declared.fault.OpenFault.TheVariants as opening
 use Rattle.qm_history.specs.Chest.{turns_kept}
+use Rattle.qm_history.specs.Ends.{ServingEnd}
+use Rattle.qm_history.specs.Ends as serving
 use Rattle.qm_history.specs.Faults.{faults_told}
 use Rattle.qm_history.specs.declared.turn.Turn.{Turn}
 use Rattle.qm_io.specs.Faults.{counted}
+use Rattle.qm_service.specs.Ends.{EndsBy, IsUndamaged}
 use Rattle.qm_program.specs.Reading.{IsFaulty}
 use Rattle.qm_program.specs.declared.outcome.End.{End}
 use Rattle.qm_program.specs.declared.outcome.End.TheVariants as ends
@@ -46,3 +49,21 @@ HasCause tells files left turns old new (ends.Damaged file place) =
 HasCause tells files left turns old new ends.HistoryFull =
     (new.source ≡ old.source) × (new.sink ≡ old.sink) × RoseBy (faults_told turns) old.disk new.disk × (length turns ≡ turns_kept)
 HasCause tells files left turns old new ends.NoMemory = (new.source ≡ old.source) × (new.sink ≡ old.sink)
+
+-- ---- lines that were served
+
+-- The disk failed as often as the turns tell; at want of memory and at a damaged file nothing is said of it.
+abbrev pub FailedAsTold : ServingEnd → List Turn → ℕ → ℕ → Type 0
+FailedAsTold serving.Served turns before now = RoseBy (faults_told turns) before now
+FailedAsTold serving.DiskFailed turns before now = RoseBy (faults_told turns) before now
+FailedAsTold serving.SinkFailed turns before now = RoseBy (faults_told turns) before now
+FailedAsTold serving.HistoryFull turns before now = RoseBy (faults_told turns) before now
+FailedAsTold (serving.Damaged file place) turns before now = Unit {0}
+FailedAsTold serving.NoMemory turns before now = Unit {0}
+
+-- Why the serving of lines ended so: by its turns, and by how often the disk failed in them. Where disks tell what they hold, no file is
+-- told as one that isn't sound.
+pub record HasReason (tells : Bool) (end : ServingEnd) (turns : List Turn) (before now : ℕ) : Type 0 where
+  pub ends : EndsBy end turns
+  pub failed : FailedAsTold end turns before now
+  pub undamaged : IsTrue tells → IsUndamaged end

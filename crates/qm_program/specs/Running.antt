@@ -5,6 +5,7 @@ use Rattle.qm_disk.specs.Disk.{Meaning, IsQuiet, OnlyLooks}
 use Rattle.qm_glog.specs.declared.fault.OpenFault.TheVariants as opening
 use Rattle.qm_history.specs.Ends.{ServingEnd}
 use Rattle.qm_history.specs.Ends as serving
+use Rattle.qm_history.specs.Script.{UserLine}
 use Rattle.qm_history.specs.declared.turn.Turn.{Turn}
 use Rattle.qm_service.specs.Serving.{Outside, Serves}
 use Rattle.qm_symb.specs.Device as symb
@@ -12,7 +13,7 @@ use Rattle.qm_program.specs.Reading.{AreKnown, HoldCluster, IsScript, OfScript}
 use Rattle.qm_program.specs.declared.outcome.End.{End}
 use Rattle.qm_program.specs.declared.outcome.End.TheVariants as ends
 
-module _ {D Y : Type 0} (m : Meaning D) (y : symb.Meaning Y) where
+module _ {D Y : Type 0} (m : Meaning D) where
   -- the outside is as it was, and no turn was made
   abbrev pub Stays : List Turn → Outside D Y → Outside D Y → Type 0
   Stays turns old new = (new ≡ old) × (turns ≡ [])
@@ -25,16 +26,6 @@ module _ {D Y : Type 0} (m : Meaning D) (y : symb.Meaning Y) where
     pub sides : new.sides ≡ old.sides
     pub none : turns ≡ []
 
-  -- What a source had left is a script of the cluster of the disk's files. The disk was opened, which looked at it alone and didn't fail,
-  -- and the script's lines were served from there on, up to this end.
-  pub record ServesScript (left : Option (List ℕ)) (turns : List Turn) (old new : Outside D Y) (end : ServingEnd) : Type 0 where
-    pub names : List (List ℕ)
-    pub cluster : IsTrue m.tells → HoldCluster (m.seen old.disk) names
-    pub opened : D
-    pub looks : OnlyLooks m old.disk opened
-    pub quiet : IsQuiet m old.disk opened
-    pub served : OfScript (Some names) left (λ lines. Serves m y old.disk names lines (record old { disk = opened }) new turns end)
-
   -- Files that aren't those of a site, or can't be read, end a run only where what the source had left is a script of some cluster.
   abbrev pub IsUnopened : Option (List ℕ) → List Turn → Outside D Y → Outside D Y → Type 0
   IsUnopened left turns old new = TouchesNothing turns old new × IsScript None left
@@ -46,19 +37,36 @@ module _ {D Y : Type 0} (m : Meaning D) (y : symb.Meaning Y) where
       × ((IsQuiet m old.disk new.disk × (IsTrue m.tells → IsRestoreFault (m.seen old.disk) opening.NoMemory))
       ⊎ ((names : Option (List (List ℕ))) × AreKnown m.tells (m.seen old.disk) (m.faults old.disk) (m.faults new.disk) names × IsScript names left))
 
-  -- What a run over what a source had left leaves, by its end. At Ok and Journal the script was served whole, and at Write and HistoryFull
-  -- up to a turn; at Damaged and NoMemory up to a turn, or not at all. Before a line is served the files are only looked at; at Read, and
-  -- where a script is too long, nothing is touched.
+  -- how the lines of a script were served: on a site that was opened on this device, of nodes of these names, up to this end
+  module _ (lines_served : D → List (List ℕ) → List UserLine → Outside D Y → Outside D Y → List Turn → ServingEnd → Type 0) where
+    -- What a source had left is a script of the cluster of the disk's files. The disk was opened, which looked at it alone and didn't
+    -- fail, and the script's lines were served from there on, up to this end.
+    pub record ServesScript (left : Option (List ℕ)) (turns : List Turn) (old new : Outside D Y) (end : ServingEnd) : Type 0 where
+      pub names : List (List ℕ)
+      pub cluster : IsTrue m.tells → HoldCluster (m.seen old.disk) names
+      pub opened : D
+      pub looks : OnlyLooks m old.disk opened
+      pub quiet : IsQuiet m old.disk opened
+      pub served : OfScript (Some names) left (λ lines. lines_served old.disk names lines (record old { disk = opened }) new turns end)
+
+    -- What serving a script leaves that a source had left, by its end. At Ok and Journal the script was served whole, and at Write and
+    -- HistoryFull up to a turn; at Damaged and NoMemory up to a turn, or not at all. Before a line is served the files are only looked
+    -- at; at Read, and where a script is too long, nothing is touched.
+    abbrev pub ServesTo : Option (List ℕ) → List Turn → Outside D Y → Outside D Y → End → Type 0
+    ServesTo left turns old new ends.Ok = ServesScript left turns old new serving.Served
+    ServesTo left turns old new ends.Usage = ⊥
+    ServesTo left turns old new ends.Read = Stays turns old new
+    ServesTo left turns old new (ends.Script line kind) = Stays turns old new ⊎ TouchesNothing turns old new
+    ServesTo left turns old new ends.Write = ServesScript left turns old new serving.SinkFailed
+    ServesTo left turns old new ends.Journal = IsUnopened left turns old new ⊎ ServesScript left turns old new serving.DiskFailed
+    ServesTo left turns old new (ends.Unformatted byte) = IsUnopened left turns old new
+    ServesTo left turns old new (ends.Damaged file place) =
+        IsUnopened left turns old new ⊎ ServesScript left turns old new (serving.Damaged file place)
+    ServesTo left turns old new ends.HistoryFull = ServesScript left turns old new serving.HistoryFull
+    ServesTo left turns old new ends.NoMemory =
+        Stays turns old new ⊎ (LacksMemory left turns old new ⊎ ServesScript left turns old new serving.NoMemory)
+
+module _ {D Y : Type 0} (m : Meaning D) (y : symb.Meaning Y) where
+  -- what a run leaves, whose lines one thread serves in their order
   abbrev pub RunsTo : Option (List ℕ) → List Turn → Outside D Y → Outside D Y → End → Type 0
-  RunsTo left turns old new ends.Ok = ServesScript left turns old new serving.Served
-  RunsTo left turns old new ends.Usage = ⊥
-  RunsTo left turns old new ends.Read = Stays turns old new
-  RunsTo left turns old new (ends.Script line kind) = Stays turns old new ⊎ TouchesNothing turns old new
-  RunsTo left turns old new ends.Write = ServesScript left turns old new serving.SinkFailed
-  RunsTo left turns old new ends.Journal = IsUnopened left turns old new ⊎ ServesScript left turns old new serving.DiskFailed
-  RunsTo left turns old new (ends.Unformatted byte) = IsUnopened left turns old new
-  RunsTo left turns old new (ends.Damaged file place) =
-      IsUnopened left turns old new ⊎ ServesScript left turns old new (serving.Damaged file place)
-  RunsTo left turns old new ends.HistoryFull = ServesScript left turns old new serving.HistoryFull
-  RunsTo left turns old new ends.NoMemory =
-      Stays turns old new ⊎ (LacksMemory left turns old new ⊎ ServesScript left turns old new serving.NoMemory)
+  RunsTo left turns old new end = ServesTo m (Serves m y) left turns old new end

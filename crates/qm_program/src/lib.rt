@@ -6,6 +6,7 @@ mod laws;
 mod making;
 mod outcome;
 mod running;
+mod serving;
 mod showing;
 mod task;
 mod top_call;

@@ -1,4 +1,4 @@
-// A run: a script is read, the site is opened, and the script's lines are served over it.
+// A script is read, the site is opened, and the script's lines are served over it.
 ghost use Rattle.std.specs.Prelude.{◌≡◌, ◌≤◌, ℕ, [], List, Option, IsTrue, None, length, map};
 ghost use Rattle.qm_acting.specs.Spare.{KeepsSpare};
 ghost use Rattle.qm_course.specs.Runs.{side_of};
@@ -7,14 +7,15 @@ ghost use Rattle.qm_kinds.specs.declared.limits.TheConstants.{NODES_LIMIT};
 ghost use Rattle.qm_script.specs.ClusterLines.{user_lines_view};
 ghost use Rattle.qm_service.specs.Ends.{CountsSink, serving_end};
 ghost use Rattle.qm_service.specs.Opening.{IsFresh, IsOpened, IsScriptOf};
-ghost use Rattle.qm_service.specs.Serving.{Serves, outside};
+ghost use Rattle.qm_service.specs.Serving.{outside};
 ghost use Rattle.qm_service.specs.Value.{service_disk, service_names};
-ghost use Rattle.qm_program.specs.Causes.{HasCause};
+ghost use Rattle.qm_program.specs.Causes.{HasCause, HasReason};
 ghost use Rattle.qm_program.specs.Ends.{EndsUnopened, EndsUnserved, IsBehindText, end_of_lines, end_of_opening, end_of_reading, end_of_serving, status_of};
 ghost use Rattle.qm_program.specs.Reading.{IsRead, Reads};
-ghost use Rattle.qm_program.specs.Running.{RunsTo};
+ghost use Rattle.qm_program.specs.Running.{ServesTo};
 
 use crate::outcome::{End, Outcome};
+use crate::serving::ServeLines;
 use qm_course::Station;
 use qm_database::LoadFault;
 use qm_disk::Disk;
@@ -87,7 +88,8 @@ fn unopened_end(alloc: Global, script: &[u8], fault: LoadFault) -> End
 }
 
 // Serves the lines of a script over a site that was opened.
-fn serve_lines<'a, O: Sink, D: Disk, C: Clock, Y: Symbiont>(
+fn serve_lines<'a, W: ServeLines<D, C, Y>, O: Sink, D: Disk, C: Clock, Y: Symbiont>(
+    way: &W,
     alloc: Global,
     lines: &'a [UserLine<'a>],
     service: Service<D>,
@@ -101,16 +103,19 @@ fn serve_lines<'a, O: Sink, D: Disk, C: Clock, Y: Symbiont>(
     ensures behind { IsBehindText result.end }
     ensures serves { (disk : D) → IsOpened D.meaning disk service → (end : ServingEnd) × (result.end ≡ end_of_serving end)
         × CountsSink end (O.faults sink.old) (O.faults sink.new)
-        × Serves D.meaning Y.meaning disk (service_names service) (user_lines_view lines.now)
+        × HasReason D.meaning.tells end result.turns.items (D.meaning.faults (service_disk service)) (D.meaning.faults result.disk)
+        × W.served disk (service_names service) (user_lines_view lines.now)
         (outside (service_disk service) (O.taken sink.old) (map (side_of C.told) stations.old))
         (outside result.disk (O.taken sink.new) (map (side_of C.told) stations.new)) result.turns.items end }
+    ensures spare { (disk : D) → IsOpened D.meaning disk service → IsTrue D.meaning.tells → KeepsSpare D.meaning disk result.disk }
 {
-    let Served { end, disk, turns } = service.serve(alloc, lines, stations, sink);
+    let Served { end, disk, turns } = way.serve(alloc, lines, service, stations, sink);
     Outcome::with(End::from(end), disk, turns)
 }
 
-// A run over a site that was opened.
-fn run_opened<O: Sink, D: Disk, C: Clock, Y: Symbiont>(
+// The same of a script, over a site that was opened.
+fn serve_opened<W: ServeLines<D, C, Y>, O: Sink, D: Disk, C: Clock, Y: Symbiont>(
+    way: &W,
     alloc: Global,
     script: &[u8],
     service: Service<D>,
@@ -125,20 +130,22 @@ fn run_opened<O: Sink, D: Disk, C: Clock, Y: Symbiont>(
         → HasCause D.meaning.tells (D.meaning.seen disk) left result.turns.items
         (record { source = source; sink = O.faults sink.old; disk = D.meaning.faults disk })
         (record { source = source; sink = O.faults sink.new; disk = D.meaning.faults result.disk }) result.end }
-    ensures runs { (disk : D) (left : Option (List ℕ)) → IsOpened D.meaning disk service → IsRead left script.now
-        → RunsTo D.meaning Y.meaning left result.turns.items
+    ensures serves { (disk : D) (left : Option (List ℕ)) → IsOpened D.meaning disk service → IsRead left script.now
+        → ServesTo D.meaning W.served left result.turns.items
         (outside disk (O.taken sink.old) (map (side_of C.told) stations.old))
         (outside result.disk (O.taken sink.new) (map (side_of C.told) stations.new)) result.end }
+    ensures spare { (disk : D) → IsOpened D.meaning disk service → IsTrue D.meaning.tells → KeepsSpare D.meaning disk result.disk }
 {
     let names = service.names();
     match read_lines(alloc, Some(names), script) {
-        Ok(lines) => serve_lines(alloc, &lines, service, stations, sink),
+        Ok(lines) => serve_lines(way, alloc, &lines, service, stations, sink),
         Err(end) => Outcome::of(alloc, End::from(end), service.give_back()),
     }
 }
 
-// A run over what was read.
-fn run_script<O: Sink, D: Disk, C: Clock, Y: Symbiont>(
+// The same of what was read.
+fn serve_read<W: ServeLines<D, C, Y>, O: Sink, D: Disk, C: Clock, Y: Symbiont>(
+    way: &W,
     alloc: Global,
     script: &[u8],
     disk: D,
@@ -152,12 +159,13 @@ fn run_script<O: Sink, D: Disk, C: Clock, Y: Symbiont>(
         → HasCause D.meaning.tells (D.meaning.seen disk) left result.turns.items
         (record { source = source; sink = O.faults sink.old; disk = D.meaning.faults disk })
         (record { source = source; sink = O.faults sink.new; disk = D.meaning.faults result.disk }) result.end }
-    ensures runs { (left : Option (List ℕ)) → IsRead left script.now → RunsTo D.meaning Y.meaning left result.turns.items
+    ensures serves { (left : Option (List ℕ)) → IsRead left script.now → ServesTo D.meaning W.served left result.turns.items
         (outside disk (O.taken sink.old) (map (side_of C.told) stations.old))
         (outside result.disk (O.taken sink.new) (map (side_of C.told) stations.new)) result.end }
+    ensures spare { IsTrue D.meaning.tells → KeepsSpare D.meaning disk result.disk }
 {
     match Service::open(alloc, disk) {
-        Ok(service) => run_opened(alloc, script, service, stations, sink),
+        Ok(service) => serve_opened(way, alloc, script, service, stations, sink),
         Err((disk, fault)) => {
             let end = unopened_end(alloc, script, fault);
             Outcome::of(alloc, end, disk)
@@ -165,8 +173,16 @@ fn run_script<O: Sink, D: Disk, C: Clock, Y: Symbiont>(
     }
 }
 
-/// Serves a script: it is read whole, then the site is opened, and its lines are served.
-pub(crate) fn run<S: Source, O: Sink, D: Disk, C: Clock, Y: Symbiont>(
+/// Serves a script: it is read whole, then the site is opened, and its lines are served in this way.
+pub(crate) fn serve_script<
+    W: ServeLines<D, C, Y>,
+    S: Source,
+    O: Sink,
+    D: Disk,
+    C: Clock,
+    Y: Symbiont,
+>(
+    way: &W,
     alloc: Global,
     source: &mut S,
     sink: &mut O,
@@ -179,14 +195,14 @@ pub(crate) fn run<S: Source, O: Sink, D: Disk, C: Clock, Y: Symbiont>(
         (record { source = S.faults source.old; sink = O.faults sink.old; disk = D.meaning.faults disk })
         (record { source = S.faults source.new; sink = O.faults sink.new; disk = D.meaning.faults result.disk }) result.end }
     ensures reads { Reads (S.remaining source.old) (S.remaining source.new) result.end }
-    ensures runs { RunsTo D.meaning Y.meaning (S.remaining source.old) result.turns.items
+    ensures serves { ServesTo D.meaning W.served (S.remaining source.old) result.turns.items
         (outside disk (O.taken sink.old) (map (side_of C.told) stations.old))
         (outside result.disk (O.taken sink.new) (map (side_of C.told) stations.new)) result.end }
     ensures spare { IsTrue D.meaning.tells → KeepsSpare D.meaning disk result.disk }
 {
     a_script_has_a_limit();
     match read_whole(alloc, source, SCRIPT_BYTES) {
-        Ok(script) => run_script(alloc, &script, disk, stations, sink),
+        Ok(script) => serve_read(way, alloc, &script, disk, stations, sink),
         Err(end) => Outcome::of(alloc, End::from(end), disk),
     }
 }

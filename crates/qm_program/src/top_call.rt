@@ -14,7 +14,8 @@ ghost use Rattle.qm_program.specs.declared.task.Task.TheVariants.{Run, Show};
 use crate::laws::sound_scripts_are_served;
 use crate::making::make;
 use crate::outcome::{End, Outcome};
-use crate::running::run;
+use crate::running::serve_script;
+use crate::serving::OneThread;
 use crate::showing::show;
 use crate::task::{Task, read_task};
 use qm_course::Station;
@@ -91,7 +92,7 @@ pub fn qman<S: Source, O: Sink, D: Disk, C: Clock, Y: Symbiont>(
 {
     sound_scripts_are_served();
     match read_task(alloc, words) {
-        Ok(Some(Task::Run)) => run(alloc, source, sink, disk, stations),
+        Ok(Some(Task::Run)) => serve_script(&OneThread, alloc, source, sink, disk, stations),
         Ok(Some(Task::Show)) => show(alloc, sink, disk),
         Ok(Some(Task::Init { nodes, cap })) => make(alloc, nodes.as_slice(), cap, sink, disk),
         Ok(None) => Outcome::of(alloc, End::Usage, disk),

@@ -1,4 +1,4 @@
-use Rattle.std.proofs.Common.{◌≡◌, ◌∙◌, ap, sym}
+use Rattle.std.proofs.Common.{◌∙◌, ap, sym}
 use Rattle.qm_history.specs.Ends.{show_text}
 use Rattle.qm_program.proofs.laws.listings_are_of_the_world_of_a_run.Goals as goal
 

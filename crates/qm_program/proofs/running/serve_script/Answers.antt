@@ -1,0 +1,12 @@
+use Rattle.qm_acting.proofs.Spare.{keeps_at}
+use Rattle.qm_program.proofs.Leaving.{read_text}
+use Rattle.qm_program.proofs.running.serve_script.Goals as goal
+
+pub returns-in-Ok-clause-cause : goal.returns-in-Ok-clause-cause
+returns-in-Ok-clause-cause g c =
+    let left = g.S.Source.remaining c.args.source.now in
+    rw (c.in-Ok.ensures.quiet (λ failed. cc))
+    (c.serve_read.ensures.cause left (g.S.Source.faults c.args.source.now) (read_text left c.in-Ok.script.items c.deref.result.now c.in-Ok.ensures.whole c.deref.ensures.value))
+
+pub returns-in-Err-clause-spare : goal.returns-in-Err-clause-spare
+returns-in-Err-clause-spare g c tells = keeps_at g.D.Disk.meaning c.args.disk c.of.result.disk c.of.ensures.disk
