@@ -31,7 +31,7 @@ pub struct Beginning<C> {
 /// OpenVMS System Manager's Manual, Setting Up and Maintaining Queues, on symbionts.
 pub trait Symbiont {
     /// Where a run stands in its work.
-    type Cursor: Drop + Send;
+    type Cursor: Drop;
 
     /// What the calls speak of: the blocks that were handed over, where that is told, and how many calls of the
     /// devices failed.
