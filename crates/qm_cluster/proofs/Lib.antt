@@ -1,0 +1,5 @@
+mod Halves
+mod Places
+mod Gathering
+mod Leaving
+mod Whole
