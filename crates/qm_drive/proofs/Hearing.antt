@@ -120,17 +120,18 @@ module _ (most node now : ℕ) (asked : Call) (turns : List Turn) (n : Noted) (n
   damaged_last file place (Some t) is made leaves = (t, is, made.0)
 
   -- where the answer is the end
-  ended_by : (told : Answer) (stopped : DriveEnd) → ending_of told ≡ Some stopped → IsMadeFor node now asked n.turn → LeavesTurn most turns n.turn told
+  ended_by : (told : Answer) (stopped : DriveEnd) → ending_of told ≡ Some stopped → n.unread ≡ is_unread n.turn told → IsMadeFor node now asked n.turn → LeavesTurn most turns n.turn told
       → IsLastOf node (node_end (Err stopped)) (n ∷ []) × (node_end (Err stopped) ≡ TurnsSpent → (n.turn ≡ None) × (length turns ≡ most))
-  ended_by answer.HistoryFull end.HistoryFull h made leaves = let last = full_last n.turn refl leaves in ((n, refl, last.0), λ spent. last)
-  ended_by (answer.Damaged file place) (end.Damaged f p) h made leaves =
+  ended_by answer.HistoryFull end.HistoryFull h unread made leaves =
+      let last = full_last n.turn refl leaves in ((n, refl, last.0, unread ∙ ap (λ o. is_unread o answer.HistoryFull) last.0), λ spent. last)
+  ended_by (answer.Damaged file place) (end.Damaged f p) h unread made leaves =
       let last = damaged_last file place n.turn refl made leaves in ((n, last.0, refl, last.1, last.2), λ spent. cc)
-  ended_by (answer.NoMemory took) end.NoMemory h made leaves = (inr (n, refl, of_this n.turn refl made), λ spent. cc)
-  ended_by told stopped h made leaves = cc
+  ended_by (answer.NoMemory took) end.NoMemory h unread made leaves = (inr (n, refl, of_this n.turn refl made), λ spent. cc)
+  ended_by told stopped h unread made leaves = cc
 
-  pub last_call : (told : Answer) (stopped : DriveEnd) → EndsBy name stopped asked told text printed → IsMadeFor node now asked n.turn → LeavesTurn most turns n.turn told
+  pub last_call : (told : Answer) (stopped : DriveEnd) → EndsBy name stopped asked told text printed → n.unread ≡ is_unread n.turn told → IsMadeFor node now asked n.turn → LeavesTurn most turns n.turn told
       → IsLastOf node (node_end (Err stopped)) (n ∷ []) × (node_end (Err stopped) ≡ TurnsSpent → (n.turn ≡ None) × (length turns ≡ most))
-  last_call told stopped (inl h) made leaves = ended_by told stopped h.0 made leaves
-  last_call told stopped (inr h) made leaves =
+  last_call told stopped (inl h) unread made leaves = ended_by told stopped h.0 unread made leaves
+  last_call told stopped (inr h) unread made leaves =
       subst (λ s. IsLastOf node (node_end (Err s)) (n ∷ []) × (node_end (Err s) ≡ TurnsSpent → (n.turn ≡ None) × (length turns ≡ most))) (sym h.1)
       (inr (n, refl, of_this n.turn refl made), λ spent. cc)

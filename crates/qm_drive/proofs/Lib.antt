@@ -8,3 +8,4 @@ pub mod Onward
 pub mod Underway
 pub mod Leaving
 pub mod Undamaged
+pub mod Hiding

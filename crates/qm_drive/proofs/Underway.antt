@@ -250,7 +250,7 @@ module _ {Y : Type 0} (y : Meaning Y) (tells : Bool) (may_begin : World → Type
           there = seen_turns tells may_begin most node e.asked.asked.moment e.asked.asked.call e.asked.told_by_it before after u.made.number.1 u.made.all_mine turn
 
           last : IsLastOf node (node_end (Err stopped)) (turn.note ∷ []) × (node_end (Err stopped) ≡ TurnsSpent → (turn.note.turn ≡ None) × (length here ≡ most))
-          last = last_call most node e.asked.asked.moment e.asked.asked.call here turn.note name text text' e.asked.told_by_it stopped e.ends turn.made turn.leaves
+          last = last_call most node e.asked.asked.moment e.asked.asked.call here turn.note name text text' e.asked.told_by_it stopped e.ends turn.unread turn.made turn.leaves
 
           told_one : (o : Option Turn) → turn.note.turn ≡ o → IsMadeFor node e.asked.asked.moment e.asked.asked.call o
               → (more : List ℕ) × Appends told then' (readings after.mine ++ more) × (length more ≤ 1)

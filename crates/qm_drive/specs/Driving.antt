@@ -52,9 +52,17 @@ IsHeard node n = (t : Turn) × (n.turn ≡ Some t) × (t.node ≡ node) × (n.un
 abbrev pub IsLastOf : ℕ → NodeEnd → List Noted → Type 0
 IsLastOf node Ended last = last ≡ []
 IsLastOf node BrokenOff last = ⊥
-IsLastOf node TurnsSpent last = (n : Noted) × (last ≡ n ∷ []) × (n.turn ≡ None)
+IsLastOf node TurnsSpent last = (n : Noted) × (last ≡ n ∷ []) × (n.turn ≡ None) × (n.unread ≡ false)
 IsLastOf node (FileDamaged file place) last = (n : Noted) × (t : Turn) × (last ≡ n ∷ []) × (n.turn ≡ Some t) × (t.node ≡ node)
 IsLastOf node MemoryShort last = (last ≡ []) ⊎ ((n : Noted) × (last ≡ n ∷ []) × IsOfNode node n)
+
+-- how many turns that tell of a disk that failed may be hidden by this end
+abbrev pub hidden_by : NodeEnd → ℕ
+hidden_by Ended = 0
+hidden_by BrokenOff = 0
+hidden_by TurnsSpent = 0
+hidden_by (FileDamaged file place) = 1
+hidden_by MemoryShort = 1
 
 -- ---- what it did
 

@@ -1,5 +1,5 @@
 -- What the passes of all nodes know together, and what they know of each node's turns. The pass of a node has its number.
-use Rattle.std.specs.Prelude.{◌≡◌, ℕ, List, [], ◌∷◌, IfSome}
+use Rattle.std.specs.Prelude.{◌≡◌, ℕ, List, [], ◌∷◌, IfSome, count_by, sum_by}
 use Rattle.std.specs.List.{AllByRecursion}
 use Rattle.qm_history.specs.declared.turn.Turn.{Turn}
 use Rattle.qm_turn.specs.History.{notes}
@@ -26,6 +26,14 @@ AreOwn node log = AllByRecursion (λ (e : ℕ × Noted). IfSome e.1.turn (λ (t 
 -- of each number, the notes that are known have turns of that node alone
 abbrev pub KnowOwnTurns : List (ℕ × List Noted) → Type 0
 KnowOwnTurns pairs = AllByRecursion (λ (pair : ℕ × List Noted). AllByRecursion (IsOfNode pair.0) pair.1) pairs
+
+-- how many of the calls left a turn that tells of a disk that failed, and weren't told so
+abbrev pub unread_in : List Noted → ℕ
+unread_in notes = count_by (λ (n : Noted). n.unread) notes
+
+-- and of those that are known of numbers
+abbrev pub unread_known : List (ℕ × List Noted) → ℕ
+unread_known pairs = sum_by (λ (pair : ℕ × List Noted). unread_in pair.1) pairs
 
 -- a pass took these others in, one behind another
 abbrev pub TakesIn : Known Noted → List (Known Noted) → Known Noted → Type 0

@@ -1,19 +1,23 @@
 // What the passes of all nodes know together, behind the joins.
-ghost use Rattle.std.specs.Prelude.{◌≡◌, ◌≤◌, ◌<◌, ◌++◌, ◌∷◌, [], List, ℕ, flat_map};
+ghost use Rattle.std.specs.Prelude.{◌≡◌, ◌≤◌, ◌<◌, ◌++◌, ◌∷◌, [], List, Option, ℕ, flat_map, map};
 ghost use Rattle.std.specs.List.{AllByRecursion};
 ghost use mathlib.Core.List.{IsPrefix};
 ghost use Rattle.qm_kinds.specs.declared.input.Input.{Input};
 ghost use Rattle.qm_kinds.specs.declared.query.Row.{Row};
 ghost use Rattle.qm_record.specs.Spelling.{HasSpelling};
 ghost use Rattle.qm_history.specs.declared.world.World.{World};
+ghost use Rattle.qm_history.specs.Chest.{unread_of};
 ghost use Rattle.qm_history.specs.Course.{Extent, IsCourse};
+ghost use Rattle.qm_history.specs.Ends.{NodeEnd};
 ghost use Rattle.qm_history.specs.Script.{UserLine};
 ghost use Rattle.qm_history.specs.Text.{text_of_node};
 ghost use Rattle.qm_history.specs.Visits.{Visit, visits_of};
-ghost use Rattle.qm_turn.specs.History.{Agrees, notes_by, numbers_of, times};
+ghost use Rattle.qm_turn.specs.History.{Agrees, notes, notes_by, numbers_of, times};
 ghost use Rattle.qm_turn.specs.Turns.{Known, Joined, own};
 ghost use Rattle.qm_drive.specs.declared.noted.Noted.{Noted};
-ghost use Rattle.qm_drive.specs.Passes.{AreOfTheirNodes, AreOwn, IsOfNode, KnowOwnTurns, TakesIn, turns_in};
+ghost use Rattle.qm_drive.specs.Driving.{HasDriven, hidden_by};
+ghost use Rattle.qm_drive.specs.Passes.{AreOfTheirNodes, AreOwn, IsOfNode, KnowOwnTurns, TakesIn, turns_in, unread_in, unread_known};
+ghost use Rattle.qm_drive.specs.Sharing.{note_view};
 
 /// A pass that took others in, one behind another, has seen all that it and each of them had; and it knows all that each of them
 /// knew of its own turns and of those of the passes that it had taken in.
@@ -53,4 +57,15 @@ pub fn courses_and_texts_are_whole()
     ensures text { (items_line : Row → List ℕ) (node : ℕ) (w : World) (seen log : List (ℕ × Noted)) →
         visits_of node w (turns_in log) ≡ visits_of node w (turns_in seen) →
         text_of_node items_line node w (turns_in log) ≡ text_of_node items_line node w (turns_in seen) }
+{}
+
+/// In a closed history, where the notes of each number that was given are known and no other number has any, no more turns hide a
+/// disk that failed than the notes that are known tell. A pass whose node made its turns knows of one at most, its last one, where
+/// the node ended for want of memory or at a damaged file.
+pub fn closed_histories_hide_what_passes_know()
+    ensures closed { (log : List (ℕ × Noted)) (passes : ℕ) (pairs : List (ℕ × List Noted)) → Agrees log pairs →
+        ((k : ℕ) → k < passes → 1 ≤ times k (numbers_of pairs)) → ((k : ℕ) → passes ≤ k → notes_by k log ≡ []) →
+        unread_of (map note_view (notes log)) ≤ unread_known pairs }
+    ensures driven { (most node : ℕ) (stopped : NodeEnd) (old new : Known Noted) (told then : Option (List ℕ)) →
+        HasDriven most node stopped old new told then → unread_in new.mine ≤ hidden_by stopped }
 {}

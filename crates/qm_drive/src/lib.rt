@@ -18,8 +18,8 @@ pub use course::drive;
 pub use ending::DriveEnd;
 pub use gate::{Gate, OpenGate, Point};
 pub use laws::{
-    closed_histories_have_known_turns, courses_and_texts_are_whole, passes_see_beginnings,
-    turns_are_of_the_nodes_of_their_passes,
+    closed_histories_have_known_turns, closed_histories_hide_what_passes_know,
+    courses_and_texts_are_whole, passes_see_beginnings, turns_are_of_the_nodes_of_their_passes,
 };
 pub use noted::Noted;
 pub use serve::Serve;

@@ -56,7 +56,7 @@ live_small file (inl one) = omega (arith, one)
 live_small file (inr two) = omega (arith, two)
 
 -- files that read the same begin the same world
-starts_moved : (old new : CrashState) → ((f : ℕ) → f ≤ 2 → new f ≡ old f) → (w : World) → StartsEarly old w → StartsEarly new w
+pub starts_moved : (old new : CrashState) → ((f : ℕ) → f ≤ 2 → new f ≡ old f) → (w : World) → StartsEarly old w → StartsEarly new w
 starts_moved old new same w early =
     let s = early.starts in
     let h = s.hold in

@@ -21,15 +21,15 @@ pub record IsToldBut (unread : ℕ) (turns : List Turn) (old new : ℕ) : Type 0
   pub rose : RoseBy failed old new
 
 module _ {D : Type 0} (m : Meaning D) where
-  -- In a world with which a program begins: the turns are a legal history, and all calls are noted, each of which did to the device, as the
-  -- one before left it, what histories say.
+  -- In a world with which a program begins: the turns are a legal history, and all calls are noted, each of which did to the
+  -- device, as the one before left it, what histories say.
   pub record ServesNodesIn (w : World) (old new : D) (turns : List Turn) : Type 0 where
     pub legal : IsLegal HasSpelling w turns
     pub noted : HasNoted m w old new turns
 
-  -- Nodes made these turns on a site that was opened on this device. The turns tell how often disks failed, but for so many of which the
-  -- calls weren't told. Where the disks tell, the queue file that isn't live stays, and in the world with which a program begins on the
-  -- device they were made so.
+  -- Nodes made these turns on a site that was opened on this device. The turns tell how often disks failed, but for so many of
+  -- which the calls weren't told. Where the disks tell, the queue file that isn't live stays, and in the world with which a program
+  -- begins on the device they were made so.
   pub record ServesNodes (opened old new : D) (turns : List Turn) (unread : ℕ) : Type 0 where
     pub few : length turns ≤ turns_kept
     pub failed : IsToldBut unread turns (m.faults old) (m.faults new)

@@ -23,8 +23,8 @@ module _ {D : Type 0} (m : Meaning D) where
   abbrev pub MayBeginOn : List D → World → Type 0
   MayBeginOn began w = AllByRecursion (λ (device : D). MayBegin m device w) began
 
-  -- It began in this world on this device, with no note. The calls that are noted were served one behind another, and it stands for
-  -- their notes.
+  -- It began in this world on this device, with no note. The calls that are noted were served one behind another, and it stands
+  -- for their notes.
   pub record HasNotedIn (w : World) (began : D) (service : Service D) (failed : ℕ) (notes : List Note) : Type 0 where
     pub cap : ℕ
     pub first : Chest D
@@ -33,9 +33,9 @@ module _ {D : Type 0} (m : Meaning D) where
     pub calls : AreServed m w began [] first notes (chest_told service.chest failed)
     pub since : StandsSince m cap w began service.chest failed notes
 
-  -- It began on a device as it was then, with nodes of these names, and stands for the notes of its calls. The next call can be served.
-  -- So many calls of disks failed as the turns tell, but for those whose calls weren't told so. Where the disks tell, the queue file that
-  -- isn't live stays; and in each world with which a program can begin on the device the calls are noted so.
+  -- It began on a device as it was then, with nodes of these names, and stands for the notes of its calls. The next call can be
+  -- served. So many calls of disks failed as the turns tell, but for those whose calls weren't told so. Where the disks tell, the
+  -- queue file that isn't live stays; and in each world with which a program can begin on the device the calls are noted so.
   pub record HasStood (began : List D) (names : List (List ℕ)) (service : Service D) (notes : List Note) : Type 0 where
     pub serving : IsServing m service.chest
     pub names_are : service_names service ≡ names

@@ -1,5 +1,5 @@
-//! A site at work that its nodes share in turns, each by a thread of its own: its service, in a wrapper whose type names with what
-//! it began. So it can say what it stands for between two turns.
+//! A site at work that its nodes share in turns, each by a thread of its own: its service, in a wrapper whose type names the device
+//! with which it began. So it can say what it stands for between two turns.
 #![tactic(auto)]
 
 mod begins;
