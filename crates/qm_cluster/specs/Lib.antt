@@ -1,8 +1,2 @@
-pub mod Each
-pub mod Through
-pub mod Gathered
-pub mod Served
-pub mod Printing
-pub mod Serving
-pub mod Running
 pub mod Ending
+pub mod Serving

@@ -4,10 +4,10 @@ ghost use Rattle.qm_drive.specs.Driving.{node_end};
 ghost use Rattle.qm_history.specs.Ends.{NodeText, end_of, end_of_node, worse};
 ghost use Rattle.qm_service.specs.Ends.{serving_end};
 ghost use Rattle.qm_cluster.specs.Ending.{ends_of};
-ghost use Rattle.qm_cluster.specs.Gathered.{text_left};
+ghost use Rattle.qm_nodes.specs.Gathered.{text_left};
 
-use crate::joining::LeftText;
 use qm_drive::DriveEnd;
+use qm_nodes::LeftText;
 use qm_service::ServeEnd;
 
 // What the end of a node's turns makes of the end of all.

@@ -1,14 +1,8 @@
-//! A site at work whose nodes work at once: each serves its own lines and carries out its own jobs by a thread of its own, and they
-//! ask one queue manager, in turns. What they leave is what one queue system leaves that is asked one call at a time.
+//! A site at work whose nodes work at once: each serves its own lines and carries out its own jobs by a thread of its own. What they
+//! leave is what one queue system leaves that is asked one call at a time.
 #![tactic(auto)]
 
-mod driver;
-mod each;
 mod ending;
-mod joining;
-mod printing;
-mod running;
-mod seat;
 mod serving;
 
 pub use serving::serve_nodes;

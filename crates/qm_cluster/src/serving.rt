@@ -10,12 +10,11 @@ ghost use Rattle.qm_service.specs.Serving.{outside};
 ghost use Rattle.qm_service.specs.Value.{service_disk, service_names, service_turns};
 ghost use Rattle.qm_history.specs.Ends.{texts_printed};
 ghost use Rattle.qm_cluster.specs.Ending.{IsToldBy, ends_of};
-ghost use Rattle.qm_cluster.specs.Gathered.{text_left};
-ghost use Rattle.qm_cluster.specs.Printing.{turns_line};
+ghost use Rattle.qm_nodes.specs.Gathered.{text_left};
+ghost use Rattle.qm_nodes.specs.Printing.{turns_line};
 ghost use Rattle.qm_cluster.specs.Serving.{ServesAtOnce};
 
 use crate::ending::worst_end;
-use crate::printing::print_all;
 use crate::running::{Ran, run_nodes};
 use qm_course::{Station, own_lines};
 use qm_disk::Disk;

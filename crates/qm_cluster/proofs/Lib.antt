@@ -1,5 +1,0 @@
-mod Halves
-mod Places
-mod Gathering
-mod Leaving
-mod Whole

@@ -1,0 +1,125 @@
+-- From what the threads did to what is left.
+use Rattle.std.proofs.Common.{◌≡◌, ℕ, zero, suc, ◌+◌, ◌<◌, ◌≤◌, Bool, IsTrue, List, [], ◌∷◌, ◌++◌, length, map, refl, sym, ◌∙◌, ap, subst, Option, None, Some, arith}
+use mathlib.Core.List.{IsPrefix}
+use Rattle.std.specs.Prelude.{slice_get, sum_by}
+use Rattle.std.specs.List.{AllByRecursion}
+use Rattle.std.specs.Option.{option_map}
+use Rattle.std.proofs.lemmas.List.{length-append, length-map}
+use Rattle.std.proofs.lemmas.Option.{slice_get-map}
+use Rattle.atomic_table.specs.Seated.{TableId}
+use Rattle.qm_symb.specs.Device.{Meaning}
+use Rattle.qm_history.specs.declared.turn.Turn.{Turn}
+use Rattle.qm_history.specs.declared.world.World.{World}
+use Rattle.qm_history.specs.Chest.{unread_of}
+use Rattle.qm_history.specs.Ends.{FileDamaged, NodeEnd, NodeText, TurnsSpent}
+use Rattle.qm_history.specs.Script.{UserLine}
+use Rattle.qm_course.specs.Runs.{Side}
+use Rattle.qm_turn.specs.History.{Agrees, notes, notes_by, numbers_of, times}
+use Rattle.qm_turn.specs.Turns.{Known, fresh}
+use Rattle.qm_drive.specs.declared.noted.Noted.{Noted}
+use Rattle.qm_drive.specs.Driving.{HasDriven, hidden_by}
+use Rattle.qm_drive.specs.Passes.{IsOfNode, turns_in, unread_in, unread_known}
+use Rattle.qm_drive.specs.Sharing.{note_view}
+use Rattle.qm_drive.proofs.Owning.{turns_in_append}
+use Rattle.qm_nodes.specs.Gathered.{AreGathered, pair_of, text_at}
+use Rattle.qm_nodes.specs.Leaving.{AreFull, HaveMadeTurns, NoneDamaged}
+use Rattle.qm_nodes.specs.Served.{AllHaveServed, HasServed}
+use Rattle.qm_nodes.specs.Through.{AllAreThrough, AtTurnstile, IsThrough, first_at}
+use Rattle.qm_nodes.proofs.Halves.{get_below}
+use Rattle.qm_nodes.proofs.Places.{all_there, at_place, made_from, there}
+use Rattle.qm_nodes.proofs.Whole.{all_own, node_served, theirs}
+
+-- a beginning has no more turns
+few_turns : (seen log : List (ℕ × Noted)) → IsPrefix seen log → length (turns_in seen) ≤ length (turns_in log)
+few_turns seen log begins =
+    let whole = ap turns_in (sym begins.1) ∙ turns_in_append seen begins.0 in
+    let long = ap length whole ∙ length-append (turns_in seen) (turns_in begins.0) in
+    omega (arith, long)
+
+-- what is known of a node at the turnstile
+abbrev known_of : AtTurnstile → Known Noted
+known_of at = at.known
+
+module _ {Y : Type 0} (y : Meaning Y) (tells : Bool) (may_begin : World → Type 0) (most : ℕ) (place : TableId) (names : List (List ℕ)) (lines : List (List UserLine)) (left : List AtTurnstile) (was now : List (Side Y))
+    (through : AllAreThrough y tells may_begin most place names lines left was now) (lined : length lines ≡ length names) (count : length was ≡ length names)
+    (log : List (ℕ × Noted)) (seen : AllByRecursion (λ (pass : Known Noted). IsPrefix pass.seen log) (map known_of left)) (agrees : Agrees log (map pair_of (map known_of left)))
+    (no_others : (number : ℕ) → length (map known_of left) ≤ number → notes_by number log ≡ [])
+  where
+    -- each node is through
+    is_through : (k : ℕ) (at : AtTurnstile) → slice_get left k ≡ Some at
+        → (name : List ℕ) × (own : List UserLine) × (before : Side Y) × (after : Side Y) × IsThrough y tells may_begin most k name own (first_at (fresh place k)) at before after
+    is_through k at here =
+        let low = get_below left k at here in
+        let many = through.count in
+        let stations = through.stations in
+        let name = there names k (omega (arith, low, many)) in
+        let own = there lines k (omega (arith, low, many, lined)) in
+        let before = there was k (omega (arith, low, many, count)) in
+        let after = there now k (omega (arith, low, many, count, stations)) in
+        (name.0, own.0, before.0, after.0, through.each k name.0 own.0 at before.0 after.0 name.1 own.1 here before.1 after.1)
+
+    pass_at : (k : ℕ) (at : AtTurnstile) → slice_get left k ≡ Some at → slice_get (map known_of left) k ≡ Some at.known
+    pass_at k at here = slice_get-map known_of left k ∙ ap (option_map known_of) here
+
+    numbered : (k : ℕ) (pass : Known Noted) → slice_get (map known_of left) k ≡ Some pass → pass.number ≡ k
+    numbered k pass here =
+        let from = made_from known_of left k pass here in
+        let is = is_through k from.0 from.1 in
+        ap (λ (p : Known Noted). p.number) (sym from.2) ∙ is.2.2.2.2.knows.number
+
+    own_of : (k : ℕ) (pass : Known Noted) → slice_get (map known_of left) k ≡ Some pass → AllByRecursion (IsOfNode k) pass.mine
+    own_of k pass here =
+        let from = made_from known_of left k pass here in
+        let is = is_through k from.0 from.1 in
+        subst (λ (p : Known Noted). AllByRecursion (IsOfNode k) p.mine) from.2
+        (all_own most k from.0.end (fresh place k) from.0.known is.2.2.0.told is.2.2.2.0.told is.2.2.2.2.knows)
+
+    full : AreFull most (turns_in log) (map text_at left)
+    full k at here spent =
+        let from = made_from text_at left k at here in
+        let is = is_through k from.0 from.1 in
+        let prefix = at_place (λ (pass : Known Noted). IsPrefix pass.seen log) (map known_of left) k from.0.known seen (pass_at k from.0 from.1) in
+        let kept = is.2.2.2.2.knows.spent (ap (λ (t : NodeText). t.end) from.2 ∙ spent) in
+        let some = few_turns from.0.known.seen log prefix in
+        omega (arith, kept, some)
+
+    undamaged : IsTrue tells → NoneDamaged (map text_at left)
+    undamaged sure k at file spot here damaged =
+        let from = made_from text_at left k at here in
+        let is = is_through k from.0 from.1 in
+        is.2.2.2.2.undamaged sure file spot (ap (λ (t : NodeText). t.end) from.2 ∙ damaged)
+
+    served : IsTrue tells → (w : World) → may_begin w → AllHaveServed y w (turns_in log) names lines (map text_at left) was now
+    served sure w begins node name own at before after named has_lines here was_there now_there =
+        let from = made_from text_at left node at here in
+        subst (λ (t : NodeText). HasServed y w (turns_in log) node name own t before after) from.2
+        (node_served (map known_of left) log agrees seen no_others numbered own_of y tells sure may_begin w begins most
+        node name own (first_at (fresh place node)) from.0 before after refl (pass_at node from.0 from.1)
+        (through.each node name own from.0 before after named has_lines from.1 was_there now_there))
+
+    module _ (driven : (most node : ℕ) (stopped : NodeEnd) (old new : Known Noted) (told then : Option (List ℕ)) → HasDriven most node stopped old new told then → unread_in new.mine ≤ hidden_by stopped)
+        (closed : unread_of (map note_view (notes log)) ≤ unread_known (map pair_of (map known_of left)))
+      where
+        hides : AllByRecursion (λ (at : AtTurnstile). unread_in at.known.mine ≤ hidden_by at.end) left
+        hides =
+            all_there (λ (at : AtTurnstile). unread_in at.known.mine ≤ hidden_by at.end) left
+            (λ k at here. let is = is_through k at here in driven most k at.end (fresh place k) at.known is.2.2.0.told is.2.2.2.0.told is.2.2.2.2.knows)
+
+        hidden_each : (ats : List AtTurnstile) → AllByRecursion (λ (at : AtTurnstile). unread_in at.known.mine ≤ hidden_by at.end) ats
+            → unread_known (map pair_of (map known_of ats)) ≤ sum_by (λ (t : NodeText). hidden_by t.end) (map text_at ats)
+        hidden_each [] all = omega arith
+        hidden_each (at ∷ ats) all = let rest = hidden_each ats all.1 in let first = all.0 in omega (arith, rest, first)
+
+        pub have_made : {S : Type 0} (stands : S → List Noted → Type 0) (manager : S) → stands manager (notes log)
+            → HaveMadeTurns y tells may_begin most stands names lines manager (map text_at left) was now
+        have_made stands manager stood =
+            record {
+              log = log;
+              stood = stood;
+              theirs = theirs (map known_of left) log agrees seen no_others numbered own_of;
+              count = length-map left text_at ∙ through.count;
+              full = full;
+              hidden = (let each = hidden_each left hides in omega (arith, closed, each));
+              undamaged = undamaged;
+              served = served;
+            }

@@ -1,0 +1,7 @@
+mod Halves
+mod Places
+mod Gathering
+mod Driven
+mod Together
+mod Whole
+mod Leaving

@@ -1,0 +1,6 @@
+pub mod Each
+pub mod Through
+pub mod Gathered
+pub mod Served
+pub mod Leaving
+pub mod Printing
