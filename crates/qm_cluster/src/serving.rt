@@ -49,6 +49,8 @@ pub fn serve_nodes<
     stations: &mut [Station<C, Y>],
     sink: &mut O,
 ) -> Served<D>
+where
+    Y::Cursor: Send,
     requires fresh { IsFresh D.meaning service }
     requires script { IsScriptOf (service_names service) (user_lines_view lines.now) }
     requires stations { NODES_LIMIT ≤ length stations.old }

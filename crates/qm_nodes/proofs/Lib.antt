@@ -3,5 +3,6 @@ mod Places
 mod Gathering
 mod Driven
 mod Together
+mod Writing
 mod Whole
 mod Leaving

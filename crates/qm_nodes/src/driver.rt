@@ -38,7 +38,10 @@ struct Driver<'a, R, S: Serve> {
 impl<'a, R: Wait + Sync, S: Serve + Send, C: Clock + Send, Y: Symbiont + Send> Work<
     Seat<S>,
     Station<C, Y>,
-> for Driver<'a, R, S> {
+> for Driver<'a, R, S>
+where
+    Y::Cursor: Send,
+{
     ghost use Rattle.std.specs.Prelude.{◌≡◌, ◌<◌, ◌≤◌, [], length, ℕ, List, slice_get, true, IsTrue, Some};
     ghost use Rattle.qm_record.specs.Spelling.{HasSpelling};
     ghost use Rattle.qm_history.specs.Chest.{turns_kept};
@@ -92,6 +95,8 @@ pub(crate) fn drive_all<
     seats: &mut [Seat<S>],
     stations: &mut [Station<C, Y>],
 )
+where
+    Y::Cursor: Send,
     requires few { length names.now ≤ NODES_LIMIT }
     requires lines { length lines.now ≡ length names.now }
     requires seats { length seats.old ≡ length names.now }

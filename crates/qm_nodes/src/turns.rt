@@ -53,6 +53,8 @@ pub fn make_turns<
     lines: &'a [Vec<UserLine<'a>>],
     stations: &mut [Station<C, Y>],
 ) -> Result<MadeTurns<S>, S>
+where
+    Y::Cursor: Send,
     requires some { 1 ≤ length names.now }
     requires few { length names.now ≤ NODES_LIMIT }
     requires lines { length lines.now ≡ length names.now }
