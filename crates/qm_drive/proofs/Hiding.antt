@@ -96,14 +96,18 @@ hidden_known log passes pairs agrees all none =
 
 -- ---- the notes of one pass
 
+-- how often a note counts
+abbrev one_if : Bool → ℕ
+one_if b = cond b 1 0
+
 heard_none : (node : ℕ) (front last : List Noted) → AllByRecursion (IsHeard node) front → unread_in (front ++ last) ≡ unread_in last
 heard_none node [] last h = refl
 heard_none node (n ∷ front) last h =
-    let one : cond n.unread 1 0 ≡ 0 = ap (λ b. cond b 1 0) h.0.3 in
+    let one : one_if n.unread ≡ one_if false = ap one_if h.0.3 in
     let cons = unread_cons n (front ++ last) in let rest = heard_none node front last h.1 in omega (arith, one, cons, rest)
 
 one_note : (n : Noted) (b : Bool) → n.unread ≡ b → unread_in (n ∷ []) ≡ cond b 1 0
-one_note n b is = let one = unread_cons n [] in let same : cond n.unread 1 0 ≡ cond b 1 0 = ap (λ c. cond c 1 0) is in omega (arith, one, same)
+one_note n b is = let one = unread_cons n [] in let same : one_if n.unread ≡ one_if b = ap one_if is in omega (arith, one, same)
 
 one_at_most : (n : Noted) (b : Bool) → n.unread ≡ b → unread_in (n ∷ []) ≤ 1
 one_at_most n true is = let one = one_note n true is in omega (arith, one)
