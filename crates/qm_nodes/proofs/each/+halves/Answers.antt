@@ -7,14 +7,14 @@ work_on_each-work_on_halves-requires-clause-low g t c =
     let cut = c.split_at_mut-low in
     let other = c.split_at_mut-left in
     can_front (g.W.Work.can_work c.args.work.now) c.args.place (c.args.place + length cut.result.0.now) c.args.firsts.now cut.result.0.now cut.result.1.now c.args.seconds.now other.result.0.now other.result.1.now
-    cut.ensures.value other.ensures.value (other.ensures.front_len ∙ sym cut.ensures.front_len) refl c.requires
+    cut.ensures.value other.ensures.value (other.ensures.front_len ∙ sym cut.ensures.front_len) refl c.requires.can
 
 pub work_on_each-work_on_halves-requires-clause-high : goal.work_on_each-work_on_halves-requires-clause-high
 work_on_each-work_on_halves-requires-clause-high g t c =
     let cut = c.split_at_mut-low in
     let other = c.split_at_mut-left in
     can_back (g.W.Work.can_work c.args.work.now) c.args.place (c.args.place + length c.args.firsts.now / 2) c.args.firsts.now cut.result.0.now cut.result.1.now c.args.seconds.now other.result.0.now other.result.1.now
-    cut.ensures.value other.ensures.value (other.ensures.front_len ∙ sym cut.ensures.front_len) (ap (λ n. c.args.place + n) (sym cut.ensures.front_len)) c.requires
+    cut.ensures.value other.ensures.value (other.ensures.front_len ∙ sym cut.ensures.front_len) (ap (λ n. c.args.place + n) (sym cut.ensures.front_len)) c.requires.can
 
 pub work_on_each-returns : goal.work_on_each-returns
 work_on_each-returns g t c =
