@@ -3,6 +3,7 @@
 #![tactic(auto)]
 
 mod ending;
+mod running;
 mod serving;
 
 pub use serving::serve_nodes;

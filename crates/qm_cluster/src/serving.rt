@@ -4,12 +4,12 @@ ghost use Rattle.qm_course.specs.Fresh.{each_lines, own_view};
 ghost use Rattle.qm_course.specs.Runs.{side_of};
 ghost use Rattle.qm_kinds.specs.declared.limits.TheConstants.{NODES_LIMIT};
 ghost use Rattle.qm_script.specs.ClusterLines.{user_lines_view};
-ghost use Rattle.qm_service.specs.Ends.{CountsSink, serving_end};
+ghost use Rattle.qm_service.specs.Ends.{serving_end};
 ghost use Rattle.qm_service.specs.Opening.{IsFresh, IsOpened, IsScriptOf};
 ghost use Rattle.qm_service.specs.Serving.{outside};
 ghost use Rattle.qm_service.specs.Value.{service_disk, service_names, service_turns};
 ghost use Rattle.qm_history.specs.Ends.{texts_printed};
-ghost use Rattle.qm_cluster.specs.Ending.{IsToldBy, ends_of};
+ghost use Rattle.qm_cluster.specs.Ending.{CountsSink, IsToldBy, ends_of};
 ghost use Rattle.qm_nodes.specs.Gathered.{text_left};
 ghost use Rattle.qm_nodes.specs.Printing.{turns_line};
 ghost use Rattle.qm_cluster.specs.Serving.{ServesAtOnce};
@@ -20,6 +20,7 @@ use qm_course::{Station, own_lines};
 use qm_disk::Disk;
 use qm_io::{Clock, Failed, Sink};
 use qm_kinds::Name;
+use qm_nodes::print_all;
 use qm_script::UserLine;
 use qm_service::{ServeEnd, Served, Service, end_of_turns};
 use qm_symb::Symbiont;
@@ -66,6 +67,7 @@ where
     let Ok(own) = own_lines(alloc, &names, lines) else {
         return unserved(service);
     };
+    let (stations, _) = stations.split_at_mut(names.len());
     match run_nodes::<Brand, R, D, C, Y>(rt, alloc, service, &names, &own, stations) {
         Ok(ran) => tell(ran, &names, sink),
         Err(service) => unserved(service),

@@ -25,7 +25,7 @@ use Rattle.qm_nodes.specs.Gathered.{AreGathered, pair_of, text_at}
 use Rattle.qm_nodes.specs.Leaving.{AreFull, HaveMadeTurns, NoneDamaged}
 use Rattle.qm_nodes.specs.Served.{AllHaveServed, HasServed}
 use Rattle.qm_nodes.specs.Through.{AllAreThrough, AtTurnstile, IsThrough, first_at}
-use Rattle.qm_nodes.proofs.Halves.{get_below}
+use Rattle.qm_pairs.proofs.Halves.{get_below}
 use Rattle.qm_nodes.proofs.Places.{all_there, at_place, made_from, there}
 use Rattle.qm_nodes.proofs.Whole.{all_own, node_served, theirs}
 

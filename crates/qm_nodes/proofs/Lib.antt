@@ -1,8 +1,8 @@
-mod Halves
 mod Places
 mod Gathering
 mod Driven
 mod Together
 mod Writing
+mod Sequences
 mod Whole
 mod Leaving

@@ -1,4 +1,3 @@
-pub mod Each
 pub mod Through
 pub mod Gathered
 pub mod Served

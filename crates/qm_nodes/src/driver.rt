@@ -11,12 +11,12 @@ ghost use Rattle.qm_drive.specs.Allowed.{CanAskAll};
 ghost use Rattle.qm_turn.specs.Turns.{fresh};
 ghost use Rattle.qm_nodes.specs.Through.{AllAreThrough, first_at, is_at};
 
-use crate::each::{Work, work_on_each};
 use crate::seat::Seat;
 use qm_course::Station;
 use qm_drive::{OpenGate, Serve, Shared, drive};
 use qm_io::Clock;
 use qm_kinds::Name;
+use qm_pairs::{Work, work_on_each};
 use qm_script::UserLine;
 use qm_symb::Symbiont;
 use qm_turn::Turnstile;

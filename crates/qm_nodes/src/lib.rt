@@ -4,7 +4,6 @@
 #![tactic(auto)]
 
 mod driver;
-mod each;
 mod joining;
 mod printing;
 mod seat;

@@ -1,19 +1,20 @@
 // Work at each place of two slices, by threads.
 ghost use Rattle.std.specs.Prelude.{◌≡◌, ◌+◌, ◌^◌, ◌<◌, ◌≤◌, ℕ, length};
 ghost use Rattle.std.specs.Thread.{IsSend, IsSync};
-ghost use Rattle.qm_nodes.specs.Each.{CanBeWorkedOn, IsWorkedOn};
+ghost use Rattle.qm_pairs.specs.Each.{CanBeWorkedOn, IsWorkedOn};
 
 use std::marker::{Send, Sync};
 use std::thread::{Threads, join_mut};
 
 /// What is done at each place of two slices.
-pub(crate) trait Work<A, B>: Sync {
+pub trait Work<A, B>: Sync {
     /// It can be done there, on these two.
     ghost can_work: { Self → ℕ → A → B → Type 0 };
 
     /// It leaves the latter two of the former.
     ghost works: { Self → ℕ → A → B → A → B → Type 0 };
 
+    /// Does it: `first` and `second` are what stands at this place of the two slices.
     fn work(&self, place: usize, first: &mut A, second: &mut B)
         requires { can_work self.now place first.old second.old }
         ensures { works self.now place first.old second.old first.new second.new };
@@ -33,7 +34,7 @@ fn work_on_one<A, B, W: Work<A, B>>(work: &W, place: usize, firsts: &mut [A], se
 
 /// Works at each place of two slices, counted from this one on, each by a thread of its own where one can be made.
 #[cycle(halves)]
-pub(crate) fn work_on_each<R: Threads + Sync, A: Send, B: Send, W: Work<A, B>>(
+pub fn work_on_each<R: Threads + Sync, A: Send, B: Send, W: Work<A, B>>(
     rt: &R,
     work: &W,
     place: usize,

@@ -1,6 +1,6 @@
 use Rattle.std.proofs.Common.{◌≡◌, ◌+◌, ◌/◌, refl, sym, ◌∙◌, ap, length}
-use Rattle.qm_nodes.proofs.Halves.{can_back, can_front, worked_both}
-use Rattle.qm_nodes.proofs.each.+halves.Goals as goal
+use Rattle.qm_pairs.proofs.Halves.{can_back, can_front, worked_both}
+use Rattle.qm_pairs.proofs.each.+halves.Goals as goal
 
 pub work_on_each-work_on_halves-requires-clause-low : goal.work_on_each-work_on_halves-requires-clause-low
 work_on_each-work_on_halves-requires-clause-low g t c =

@@ -1,5 +1,5 @@
 use Rattle.std.proofs.Common.{◌+◌, ◌-◌, ◌*◌, length}
-use Rattle.qm_nodes.proofs.each.+halves.Given as goal
+use Rattle.qm_pairs.proofs.each.+halves.Given as goal
 
 abbrev pub decreases-work_on_each : goal.decreases-work_on_each
 decreases-work_on_each g l = 4 * length l.firsts.now

@@ -1,7 +1,7 @@
 use Rattle.std.proofs.Common.{◌≡◌, ◌+◌, ◌<◌, ◌∙◌, ap, length, subst, sym, add-zero, arith, rules}
 use Rattle.std.specs.Prelude.{slice_index_or}
-use Rattle.qm_nodes.proofs.Halves.{get_first}
-use Rattle.qm_nodes.proofs.each.work_on_one.Goals as goal
+use Rattle.qm_pairs.proofs.Halves.{get_first}
+use Rattle.qm_pairs.proofs.each.work_on_one.Goals as goal
 
 pub work-requires : goal.work-requires
 work-requires g c =

@@ -1,0 +1,7 @@
+//! Work at each place of two slices, each by a thread of its own where one can be made: what it left of both is known behind it. Nothing
+//! here knows what the work is.
+#![tactic(auto)]
+
+mod each;
+
+pub use each::{Work, work_on_each};
