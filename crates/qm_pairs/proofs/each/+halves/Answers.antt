@@ -3,14 +3,14 @@ use Rattle.qm_pairs.proofs.Halves.{can_back, can_front, worked_both}
 use Rattle.qm_pairs.proofs.each.+halves.Goals as goal
 
 pub work_on_each-work_on_halves-requires-clause-low : goal.work_on_each-work_on_halves-requires-clause-low
-work_on_each-work_on_halves-requires-clause-low g t c =
+work_on_each-work_on_halves-requires-clause-low g t c κs within =
     let cut = c.split_at_mut-low in
     let other = c.split_at_mut-left in
     can_front (g.W.Work.can_work c.args.work.now) c.args.place (c.args.place + length cut.result.0.now) c.args.firsts.now cut.result.0.now cut.result.1.now c.args.seconds.now other.result.0.now other.result.1.now
     cut.ensures.value other.ensures.value (other.ensures.front_len ∙ sym cut.ensures.front_len) refl c.requires.can
 
 pub work_on_each-work_on_halves-requires-clause-high : goal.work_on_each-work_on_halves-requires-clause-high
-work_on_each-work_on_halves-requires-clause-high g t c =
+work_on_each-work_on_halves-requires-clause-high g t c κs within =
     let cut = c.split_at_mut-low in
     let other = c.split_at_mut-left in
     can_back (g.W.Work.can_work c.args.work.now) c.args.place (c.args.place + length c.args.firsts.now / 2) c.args.firsts.now cut.result.0.now cut.result.1.now c.args.seconds.now other.result.0.now other.result.1.now
