@@ -4,5 +4,6 @@ mod Driven
 mod Together
 mod Writing
 mod Sequences
+mod Numbers
 mod Whole
 mod Leaving
