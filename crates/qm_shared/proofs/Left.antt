@@ -17,7 +17,7 @@ use Rattle.qm_shared.specs.Standing.{HasNotedIn, HasStood}
 use Rattle.qm_shared.proofs.Opened.{begins_behind}
 
 -- the one element of a list
-one_of : {D : Type 0} → D → List D → D
+abbrev one_of : {D : Type 0} → D → List D → D
 one_of none [] = none
 one_of none (x ∷ xs) = x
 
