@@ -25,8 +25,7 @@ use Rattle.qm_nodes.specs.Gathered.{AreGathered, pair_of, text_at}
 use Rattle.qm_nodes.specs.Leaving.{AreFull, HaveMadeTurns, NoneDamaged}
 use Rattle.qm_nodes.specs.Served.{AllHaveServed, HasServed}
 use Rattle.qm_nodes.specs.Through.{AllAreThrough, AtTurnstile, IsThrough, first_at}
-use Rattle.qm_pairs.proofs.Halves.{get_below}
-use Rattle.qm_nodes.proofs.Places.{all_there, at_place, made_from, there}
+use Rattle.qm_nodes.proofs.Places.{all_there, at_place, get_below, made_from, there}
 use Rattle.qm_nodes.proofs.Whole.{all_own, node_served, theirs}
 
 -- a beginning has no more turns
@@ -65,21 +64,21 @@ module _ {Y : Type 0} (y : Meaning Y) (tells : Bool) (may_begin : World → Type
     numbered k pass here =
         let from = made_from known_of left k pass here in
         let is = is_through k from.0 from.1 in
-        ap (λ (p : Known Noted). p.number) (sym from.2) ∙ is.2.2.2.2.knows.number
+        ap (λ (p : Known Noted). p.number) (sym from.2) ∙ is.4.knows.number
 
     own_of : (k : ℕ) (pass : Known Noted) → slice_get (map known_of left) k ≡ Some pass → AllByRecursion (IsOfNode k) pass.mine
     own_of k pass here =
         let from = made_from known_of left k pass here in
         let is = is_through k from.0 from.1 in
         subst (λ (p : Known Noted). AllByRecursion (IsOfNode k) p.mine) from.2
-        (all_own most k from.0.end (fresh place k) from.0.known is.2.2.0.told is.2.2.2.0.told is.2.2.2.2.knows)
+        (all_own most k from.0.end (fresh place k) from.0.known is.2.told is.3.told is.4.knows)
 
     full : AreFull most (turns_in log) (map text_at left)
     full k at here spent =
         let from = made_from text_at left k at here in
         let is = is_through k from.0 from.1 in
         let prefix = at_place (λ (pass : Known Noted). IsPrefix pass.seen log) (map known_of left) k from.0.known seen (pass_at k from.0 from.1) in
-        let kept = is.2.2.2.2.knows.spent (ap (λ (t : NodeText). t.end) from.2 ∙ spent) in
+        let kept = is.4.knows.spent (ap (λ (t : NodeText). t.end) from.2 ∙ spent) in
         let some = few_turns from.0.known.seen log prefix in
         omega (arith, kept, some)
 
@@ -87,7 +86,7 @@ module _ {Y : Type 0} (y : Meaning Y) (tells : Bool) (may_begin : World → Type
     undamaged sure k at file spot here damaged =
         let from = made_from text_at left k at here in
         let is = is_through k from.0 from.1 in
-        is.2.2.2.2.undamaged sure file spot (ap (λ (t : NodeText). t.end) from.2 ∙ damaged)
+        is.4.undamaged sure file spot (ap (λ (t : NodeText). t.end) from.2 ∙ damaged)
 
     served : IsTrue tells → (w : World) → may_begin w → AllHaveServed y w (turns_in log) names lines (map text_at left) was now
     served sure w begins node name own at before after named has_lines here was_there now_there =
@@ -103,7 +102,7 @@ module _ {Y : Type 0} (y : Meaning Y) (tells : Bool) (may_begin : World → Type
         hides : AllByRecursion (λ (at : AtTurnstile). unread_in at.known.mine ≤ hidden_by at.end) left
         hides =
             all_there (λ (at : AtTurnstile). unread_in at.known.mine ≤ hidden_by at.end) left
-            (λ k at here. let is = is_through k at here in driven most k at.end (fresh place k) at.known is.2.2.0.told is.2.2.2.0.told is.2.2.2.2.knows)
+            (λ k at here. let is = is_through k at here in driven most k at.end (fresh place k) at.known is.2.told is.3.told is.4.knows)
 
         hidden_each : (ats : List AtTurnstile) → AllByRecursion (λ (at : AtTurnstile). unread_in at.known.mine ≤ hidden_by at.end) ats
             → unread_known (map pair_of (map known_of ats)) ≤ sum_by (λ (t : NodeText). hidden_by t.end) (map text_at ats)

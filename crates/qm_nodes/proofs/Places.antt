@@ -37,3 +37,8 @@ pub made_from : {X Z : Type 0} (f : X → Z) (xs : List X) (k : ℕ) (z : Z) →
 made_from f [] k z at = cc
 made_from f (x ∷ xs) zero z at = (x, refl, (let same : f x ≡ z = cc in same))
 made_from f (x ∷ xs) (suc k) z at = made_from f xs k z at
+
+pub get_below : {X : Type 0} (xs : List X) (k : ℕ) (x : X) → slice_get xs k ≡ Some x → k < length xs
+get_below [] k x is = cc
+get_below (y ∷ xs) zero x is = omega arith
+get_below (y ∷ xs) (suc k) x is = let low = get_below xs k x is in omega arith

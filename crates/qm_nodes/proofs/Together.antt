@@ -17,8 +17,7 @@ use Rattle.qm_drive.specs.Allowed.{CanAskAll}
 use Rattle.qm_drive.specs.declared.noted.Noted.{Noted}
 use Rattle.qm_pairs.specs.Each.{CanBeWorkedOn, IsWorkedOn}
 use Rattle.qm_nodes.specs.Through.{AllAreThrough, AtTurnstile, CanBeDriven, IsThrough, first_at}
-use Rattle.qm_pairs.proofs.Halves.{get_below}
-use Rattle.qm_nodes.proofs.Places.{made_from, there}
+use Rattle.qm_nodes.proofs.Places.{get_below, made_from, there}
 
 module _ {A B Y : Type 0} (y : Meaning Y) (tells : Bool) (may_begin : World → Type 0) (most : ℕ) (is_at : A → AtTurnstile) (side : B → Side Y) (place : TableId) (names : List (List ℕ)) (lines : List (List UserLine))
     (seats then : List A) (stations after : List B)

@@ -1,5 +1,5 @@
 -- What the passes know of each node's turns, in the history of all.
-use Rattle.std.proofs.Common.{◌≡◌, ◌⊎◌, inl, inr, ℕ, ◌+◌, ◌<◌, ◌≤◌, ◌==◌, Bool, true, false, cond, IsTrue, List, [], ◌∷◌, ◌++◌, length, map, refl, sym, ◌∙◌, ap, subst, Option, None, Some, arith}
+use Rattle.std.proofs.Common.{◌≡◌, ◌⊎◌, inl, inr, ℕ, suc, zero, ◌+◌, ◌<◌, ◌≤◌, ◌==◌, Bool, true, false, cond, IsTrue, List, [], ◌∷◌, ◌++◌, length, map, refl, sym, ◌∙◌, ap, subst, Option, None, Some, arith}
 use mathlib.Core.List.{IsPrefix}
 use Rattle.std.specs.Prelude.{IfSome, option_to_list, slice_get}
 use Rattle.std.specs.List.{AllByRecursion}
@@ -41,7 +41,7 @@ module _ {X : Type 0} (P : X → Type 0) where
   both (x ∷ xs) ys a b = (a.0, both xs ys a.1 b)
 
 heard_own : (node : ℕ) (n : Noted) → IsHeard node n → IsOfNode node n
-heard_own node n h = subst (λ (turn : Option Turn). IfSome turn (λ (t : Turn). t.node ≡ node)) (sym h.1) h.2.0
+heard_own node n h = subst (λ (turn : Option Turn). IfSome turn (λ (t : Turn). t.node ≡ node)) (sym h.1) h.2
 
 all_heard : (node : ℕ) (ns : List Noted) → AllByRecursion (IsHeard node) ns → AllByRecursion (IsOfNode node) ns
 all_heard node [] h = tt
@@ -56,9 +56,9 @@ alone node n last is own = subst (AllByRecursion (IsOfNode node)) (sym is) (own,
 last_own : (node : ℕ) (stopped : NodeEnd) (last : List Noted) → IsLastOf node stopped last → AllByRecursion (IsOfNode node) last
 last_own node Ended last h = subst (AllByRecursion (IsOfNode node)) (sym h) tt
 last_own node BrokenOff last h = absurd h
-last_own node TurnsSpent last h = alone node h.0 last h.1 (none_own node h.0 h.2.0)
+last_own node TurnsSpent last h = alone node h.0 last h.1 (none_own node h.0 h.2)
 last_own node (FileDamaged file place) last h =
-    alone node h.0 last h.2.0 (subst (λ (turn : Option Turn). IfSome turn (λ (t : Turn). t.node ≡ node)) (sym h.2.1.0) h.2.1.1)
+    alone node h.0 last h.2 (subst (λ (turn : Option Turn). IfSome turn (λ (t : Turn). t.node ≡ node)) (sym h.3) h.4)
 last_own node MemoryShort last (inl h) = subst (AllByRecursion (IsOfNode node)) (sym h) tt
 last_own node MemoryShort last (inr h) = alone node h.0 last h.1 h.2
 

@@ -11,7 +11,7 @@ use Rattle.qm_io.specs.Bytes.{TakesPrefix}
 use Rattle.qm_nodes.specs.Printing.{Writes}
 
 front_more : (old new : Option (List ℕ)) (x y : List ℕ) → TakesFront old new x → TakesFront old new (x ++ y)
-front_more old new x y f = (f.0, f.1 ++ y, ap (λ (l : List ℕ). l ++ y) f.2.0 ∙ append_assoc f.0 f.1 y, f.2.1)
+front_more old new x y f = (f.0, f.1 ++ y, ap (λ (l : List ℕ). l ++ y) f.2 ∙ append_assoc f.0 f.1 y, f.3)
 
 -- the first text failed
 pub fails : (old new : Option (List ℕ)) (before now : ℕ) (x y : List ℕ) → TakesFront old new x → now ≡ counted before → TakesFront old new (x ++ y) × (now ≡ counted before)

@@ -3,7 +3,6 @@ use Rattle.std.proofs.lemmas.List.{length-map}
 use Rattle.qm_course.specs.Fresh.{own_view}
 use Rattle.qm_course.specs.Runs.{side_of}
 use Rattle.qm_nodes.specs.Through.{is_at}
-use Rattle.qm_pairs.proofs.Halves.{get_below}
 use Rattle.qm_nodes.proofs.Together.{all_ready, all_through}
 use Rattle.qm_nodes.proofs.driver.drive_all.Goals as goal
 
