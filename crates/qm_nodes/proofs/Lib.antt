@@ -3,6 +3,8 @@ mod Gathering
 mod Driven
 mod Together
 mod Writing
+mod Words
+mod Closing
 mod Sequences
 mod Numbers
 mod Whole

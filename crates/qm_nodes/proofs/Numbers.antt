@@ -1,8 +1,10 @@
 -- The numbers of nodes, from the first one on.
-use Rattle.std.proofs.Common.{◌≡◌, ℕ, zero, suc, ◌+◌, ◌<◌, List, [], ◌∷◌, length, map, refl, sym, ◌∙◌, ap, subst, Option, Some, add-zero, zero-add, arith}
+use Rattle.std.proofs.Common.{◌≡◌, ℕ, zero, suc, ◌+◌, ◌<◌, ◌≤◌, List, [], ◌∷◌, ◌++◌, length, map, take, refl, sym, ◌∙◌, ap, subst, Option, Some, add-zero, zero-add, arith}
 use Rattle.std.specs.Prelude.{slice_get}
 use Rattle.std.specs.List.{range_with_len}
 use Rattle.std.specs.Option.{option_map}
+use Rattle.std.proofs.lemmas.List.{length-map, take-append-le, take_all}
+use Rattle.std.proofs.lemmas.List.FromFn.{length-range_with_len}
 use Rattle.std.proofs.lemmas.Option.{slice_get-map}
 use Rattle.atomic_table.specs.Seated.{TableId}
 use Rattle.qm_turn.specs.Turns.{Known, fresh}
@@ -32,3 +34,12 @@ are_range number m [] each = refl
 are_range number m (x ∷ xs) each =
     ap (λ (j : ℕ). j ∷ map number xs) (each 0 x refl ∙ add-zero m)
     ∙ ap (λ (l : List ℕ). m ∷ l) (are_range number (m + 1) xs (λ k y at. let is = each (suc k) y at in omega (arith, is)))
+
+-- there are as many seats
+pub as_fresh : {A : Type 0} (is_at : A → AtTurnstile) (place : TableId) (n : ℕ) (seats : List A) → map is_at seats ≡ map first_at (map (fresh place) (range_with_len 0 n)) → length seats ≡ n
+as_fresh is_at place n seats first =
+    sym (length-map seats is_at) ∙ ap length first ∙ length-map (map (fresh place) (range_with_len 0 n)) first_at ∙ length-map (range_with_len 0 n) (fresh place) ∙ length-range_with_len 0 n
+
+-- a list that was written over the whole of another
+pub taken_whole : {X : Type 0} (n : ℕ) (xs ys : List X) → n ≡ length xs → take n (xs ++ ys) ≡ xs
+taken_whole n xs ys same = take-append-le n xs ys (omega (arith, same)) ∙ take_all n xs (omega (arith, same))

@@ -11,13 +11,13 @@ use Rattle.qm_record.specs.Spelling.{HasSpelling}
 use Rattle.qm_symb.specs.Device.{Meaning}
 use Rattle.qm_history.specs.declared.turn.Turn.{Turn}
 use Rattle.qm_history.specs.declared.world.World.{World}
-use Rattle.qm_history.specs.Course.{Extent, IsCourse}
+use Rattle.qm_history.specs.Course.{Extent, GoesOn, IsCourse, at_first}
 use Rattle.qm_history.specs.Ends.{BrokenOff, Ended, FileDamaged, HasPrinted, MemoryShort, NodeEnd, NodeText, TurnsSpent, extent_of}
 use Rattle.qm_history.specs.Legal.{after_turn}
 use Rattle.qm_history.specs.Readings.{AreReadings, readings_of}
 use Rattle.qm_history.specs.Script.{UserLine}
 use Rattle.qm_history.specs.Visits.{Visit, visits_of}
-use Rattle.qm_history.proofs.HistoryLemmas.{same_course}
+use Rattle.qm_history.specs.World.{is_live}
 use Rattle.qm_course.specs.Asking.{read_built}
 use Rattle.qm_course.specs.Runs.{Side}
 use Rattle.qm_course.specs.Taken.{AreTold}
@@ -132,7 +132,7 @@ module _ (passes : List (Known Noted)) (log : List (ℕ × Noted)) (agrees : Agr
               subst (λ (p : ℕ × List Noted). AllByRecursion (IsOfNode p.0) p.1) same
               (subst (λ (n : ℕ). AllByRecursion (IsOfNode n) pass.mine) (sym (numbered k pass is)) (own k pass is))
 
-      all_numbers : (k : ℕ) → k < length passes → 1 ≤ times k (numbers_of (map pair_of passes))
+      pub all_numbers : (k : ℕ) → k < length passes → 1 ≤ times k (numbers_of (map pair_of passes))
       all_numbers k low =
           let at = there passes k low in
           subst (λ (ns : List ℕ). 1 ≤ times k ns) (sym (mapped (λ (pair : ℕ × List Noted). pair.0) pair_of passes))
@@ -153,16 +153,21 @@ module _ (passes : List (Known Noted)) (log : List (ℕ × Noted)) (agrees : Agr
       module _ {Y : Type 0} (y : Meaning Y) (tells : Bool) (sure : IsTrue tells) (may_begin : World → Type 0) (first : World) (begins : may_begin first) (most : ℕ) where
         pub node_served : (k : ℕ) (name : List ℕ) (lines : List UserLine) (start at : AtTurnstile) (before after : Side Y) → start.text ≡ [] → slice_get passes k ≡ Some at.known
             → IsThrough y tells may_begin most k name lines start at before after → HasServed y first (turns_in log) k name lines (text_at at) before after
-        node_served k name lines start at before after empty there through =
+        node_served k name lines start at before after empty stands through =
             let is = through.knows in
-            let prefix = at_place (λ (p : Known Noted). IsPrefix p.seen log) passes k at.known seen there in
+            let prefix = at_place (λ (p : Known Noted). IsPrefix p.seen log) passes k at.known seen stands in
             let drives = through.drives sure first begins (own_begins k at.known.seen log prefix (own_turns k log theirs)) in
-            let whole = node_visits k first at.known there is.all_mine in
+            let whole = node_visits k first at.known stands is.all_mine in
             let read : readings at.known.mine ≡ readings_of (visits_of k first (turns_in log)) =
-            ap readings (sym (node_notes k at.known there)) ∙ sym (readings_whole k first log theirs) in
+            ap readings (sym (node_notes k at.known stands)) ∙ sym (readings_whole k first log theirs) in
             record {
               faults = drives.faults;
-              course = same_course HasSpelling read_built (extent_of at.end) first first (turns_in at.known.seen) (turns_in log) k lines drives.faults refl (sym whole) drives.course;
+              course = record {
+                steps = drives.course.steps;
+                broken = drives.course.broken;
+                turns_are = subst (λ (vs : List Visit). GoesOn HasSpelling read_built (extent_of at.end) drives.course.broken (at_first lines) [] (is_live first k) vs drives.course.steps) (sym whole) drives.course.turns_are;
+                few_faults = drives.course.few_faults;
+              };
               rose = drives.rose;
               told = record {
                 told = readings at.known.mine ++ is.more;

@@ -6,7 +6,7 @@ ghost use Rattle.qm_nodes.specs.Gathered.{AreGathered, text_at, text_left};
 ghost use Rattle.qm_nodes.specs.Through.{AtTurnstile, is_at};
 
 use crate::seat::Seat;
-use qm_drive::{DriveEnd, Serve, Shared, passes_see_beginnings};
+use qm_drive::{DriveEnd, Serve, Shared};
 use qm_turn::Turnstile;
 
 /// What is left of a node: how its turns ended, and their text.
@@ -31,7 +31,6 @@ pub(crate) fn join_all<S: Serve>(
     ensures gathered { AreGathered (λ (shared : Shared S) notes. StandsFor S.tells S.may_begin S.kept S.stands shared.manager notes) (map (λ (s : Seat S). s.pass) seats.items) result.0 }
     ensures texts { map text_left result.1.items ≡ map (λ (s : Seat S). text_at (is_at s)) seats.items }
 {
-    passes_see_beginnings();
     let Seat {
         mut pass,
         text,

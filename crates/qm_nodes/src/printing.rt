@@ -21,15 +21,22 @@ fn cuts_text(end: &Result<(), DriveEnd>) -> bool
     }
 }
 
-// Writes the name of the node whose turn it was.
+// The name of the node whose turn it was.
+fn name_of<'a>(names: &'a [Name], turn: &Turn) -> &'a [u8]
+    ensures { result.now ≡ name_at names.now turn.now.node }
+{
+    match names.get(turn.node as usize) {
+        Some(name) => name.as_bytes(),
+        None => &[],
+    }
+}
+
+// Writes it, behind a blank.
 fn print_turn<O: Sink>(sink: &mut O, names: &[Name], turn: &Turn) -> Result<(), Failed>
     ensures { Writes result (O.taken sink.old) (O.taken sink.new) (O.faults sink.old) (O.faults sink.new) (codes " " ++ name_at names.now turn.now.node) }
 {
     write_whole(sink, b" ")?;
-    match names.get(turn.node as usize) {
-        Some(name) => write_whole(sink, name.as_bytes()),
-        None => Ok(()),
-    }
+    write_whole(sink, name_of(names, turn))
 }
 
 // Writes the names of the nodes whose turns these are, in their order.
