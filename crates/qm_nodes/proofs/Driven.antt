@@ -1,6 +1,6 @@
 -- From the course of one node to what is said of all.
-use Rattle.std.proofs.Common.{◌≡◌, ℕ, ◌<◌, Bool, IsTrue, List, map, refl, sym, ◌∙◌, ap, subst, Option, Some, Result, Ok, Err}
-use Rattle.std.specs.Prelude.{IfErr, slice_get}
+use Rattle.std.proofs.Common.{◌≡◌, ℕ, Bool, IsTrue, List, sym, ◌∙◌, subst, Result, Ok, Err}
+use Rattle.std.specs.Prelude.{IfErr}
 use Rattle.qm_symb.specs.Device.{Meaning}
 use Rattle.qm_history.specs.declared.world.World.{World}
 use Rattle.qm_history.specs.Ends.{FileDamaged, NodeEnd}

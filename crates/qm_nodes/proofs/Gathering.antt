@@ -1,10 +1,9 @@
 -- From the joined passes to the one history.
-use Rattle.std.proofs.Common.{◌≡◌, ℕ, ◌+◌, ◌<◌, ◌≤◌, List, [], ◌∷◌, ◌++◌, length, map, refl, sym, ◌∙◌, ap, subst, arith}
+use Rattle.std.proofs.Common.{◌≡◌, ℕ, ◌≤◌, List, [], ◌∷◌, ◌++◌, length, map, refl, sym, ◌∙◌, ap, subst, arith}
 use Rattle.std.specs.Prelude.{flat_map}
 use Rattle.std.specs.List.{AllByRecursion, range_with_len}
-use Rattle.std.proofs.lemmas.List.{append-nil, length-map}
 use mathlib.Core.List.{IsPrefix}
-use Rattle.qm_turn.specs.History.{Agrees, notes_by, numbers_of, times}
+use Rattle.qm_turn.specs.History.{Agrees, numbers_of, times}
 use Rattle.qm_turn.specs.Turns.{Closed, IsLast, Known, own}
 use Rattle.qm_turn.proofs.Gathering.{all_there}
 use Rattle.qm_drive.specs.declared.noted.Noted.{Noted}

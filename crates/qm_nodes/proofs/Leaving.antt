@@ -1,5 +1,5 @@
 -- From what the threads did to what is left.
-use Rattle.std.proofs.Common.{◌≡◌, ℕ, zero, suc, ◌+◌, ◌<◌, ◌≤◌, Bool, IsTrue, List, [], ◌∷◌, ◌++◌, length, map, refl, sym, ◌∙◌, ap, subst, Option, None, Some, arith, zero-add}
+use Rattle.std.proofs.Common.{◌≡◌, ℕ, ◌≤◌, Bool, IsTrue, List, [], ◌∷◌, length, map, refl, sym, ◌∙◌, ap, subst, Some, arith, zero-add}
 use mathlib.Core.List.{IsPrefix}
 use Rattle.std.specs.Prelude.{slice_get, sum_by}
 use Rattle.std.specs.List.{AllByRecursion, range_with_len}
@@ -9,18 +9,15 @@ use Rattle.std.proofs.lemmas.List.Sums.{sum_by-cons}
 use Rattle.std.proofs.lemmas.Option.{slice_get-map}
 use Rattle.atomic_table.specs.Seated.{TableId}
 use Rattle.qm_symb.specs.Device.{Meaning}
-use Rattle.qm_history.specs.declared.turn.Turn.{Turn}
 use Rattle.qm_history.specs.declared.world.World.{World}
-use Rattle.qm_history.specs.Chest.{unread_of}
-use Rattle.qm_history.specs.Ends.{FileDamaged, NodeEnd, NodeText, TurnsSpent}
+use Rattle.qm_history.specs.Ends.{NodeText}
 use Rattle.qm_history.specs.Script.{UserLine}
 use Rattle.qm_course.specs.Runs.{Side}
-use Rattle.qm_turn.specs.History.{Agrees, notes, notes_by, numbers_of, times}
+use Rattle.qm_turn.specs.History.{Agrees, notes, notes_by}
 use Rattle.qm_turn.specs.Turns.{Known, fresh}
 use Rattle.qm_drive.specs.declared.noted.Noted.{Noted}
-use Rattle.qm_drive.specs.Driving.{HasDriven, hidden_by}
+use Rattle.qm_drive.specs.Driving.{hidden_by}
 use Rattle.qm_drive.specs.Passes.{IsOfNode, turns_in, unread_in, unread_known}
-use Rattle.qm_drive.specs.Sharing.{note_view}
 use Rattle.qm_drive.proofs.Hiding.{driven_hides, hidden_known}
 use Rattle.qm_drive.proofs.Owning.{turns_in_append}
 use Rattle.qm_nodes.specs.Gathered.{AreGathered, pair_of, text_at}

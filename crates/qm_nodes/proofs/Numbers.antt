@@ -1,5 +1,5 @@
 -- The numbers of nodes, from the first one on.
-use Rattle.std.proofs.Common.{◌≡◌, ℕ, zero, suc, ◌+◌, ◌<◌, ◌≤◌, List, [], ◌∷◌, ◌++◌, length, map, take, refl, sym, ◌∙◌, ap, subst, Option, Some, add-zero, zero-add, arith}
+use Rattle.std.proofs.Common.{◌≡◌, ℕ, zero, suc, ◌+◌, List, [], ◌∷◌, ◌++◌, length, map, take, refl, sym, ◌∙◌, ap, Some, add-zero, zero-add, arith}
 use Rattle.std.specs.Prelude.{slice_get}
 use Rattle.std.specs.List.{range_with_len}
 use Rattle.std.specs.Option.{option_map}
@@ -7,8 +7,7 @@ use Rattle.std.proofs.lemmas.List.{length-map, take-append-le, take_all}
 use Rattle.std.proofs.lemmas.List.FromFn.{length-range_with_len}
 use Rattle.std.proofs.lemmas.Option.{slice_get-map}
 use Rattle.atomic_table.specs.Seated.{TableId}
-use Rattle.qm_turn.specs.Turns.{Known, fresh}
-use Rattle.qm_drive.specs.declared.noted.Noted.{Noted}
+use Rattle.qm_turn.specs.Turns.{fresh}
 use Rattle.qm_nodes.specs.Through.{AtTurnstile, first_at}
 use Rattle.qm_nodes.proofs.Places.{made_from}
 

@@ -1,18 +1,17 @@
 -- What the passes know of each node's turns, in the history of all.
-use Rattle.std.proofs.Common.{◌≡◌, ◌⊎◌, inl, inr, ℕ, suc, zero, ◌+◌, ◌<◌, ◌≤◌, ◌==◌, Bool, true, false, cond, IsTrue, List, [], ◌∷◌, ◌++◌, length, map, refl, sym, ◌∙◌, ap, subst, Option, None, Some, arith}
+use Rattle.std.proofs.Common.{◌≡◌, inl, inr, ℕ, suc, zero, ◌<◌, ◌≤◌, ◌==◌, Bool, true, false, cond, IsTrue, List, [], ◌∷◌, ◌++◌, length, map, refl, sym, ◌∙◌, ap, subst, Option, None, Some, arith}
 use mathlib.Core.List.{IsPrefix}
 use Rattle.std.specs.Prelude.{IfSome, option_to_list, slice_get}
 use Rattle.std.specs.List.{AllByRecursion}
-use Rattle.std.specs.Io.KnownBytes.{Appends}
 use Rattle.std.specs.Option.{option_map}
-use Rattle.std.proofs.lemmas.List.{append-nil, length-map}
+use Rattle.std.proofs.lemmas.List.{append-nil}
 use Rattle.std.proofs.lemmas.Option.{slice_get-map}
 use Rattle.qm_record.specs.Spelling.{HasSpelling}
 use Rattle.qm_symb.specs.Device.{Meaning}
 use Rattle.qm_history.specs.declared.turn.Turn.{Turn}
 use Rattle.qm_history.specs.declared.world.World.{World}
-use Rattle.qm_history.specs.Course.{Extent, GoesOn, IsCourse, at_first}
-use Rattle.qm_history.specs.Ends.{BrokenOff, Ended, FileDamaged, HasPrinted, MemoryShort, NodeEnd, NodeText, TurnsSpent, extent_of}
+use Rattle.qm_history.specs.Course.{GoesOn, at_first}
+use Rattle.qm_history.specs.Ends.{BrokenOff, Ended, FileDamaged, HasPrinted, MemoryShort, NodeEnd, TurnsSpent, extent_of}
 use Rattle.qm_history.specs.Legal.{after_turn}
 use Rattle.qm_history.specs.Readings.{AreReadings, readings_of}
 use Rattle.qm_history.specs.Script.{UserLine}
@@ -20,15 +19,14 @@ use Rattle.qm_history.specs.Visits.{Visit, visits_of}
 use Rattle.qm_history.specs.World.{is_live}
 use Rattle.qm_course.specs.Asking.{read_built}
 use Rattle.qm_course.specs.Runs.{Side}
-use Rattle.qm_course.specs.Taken.{AreTold}
 use Rattle.qm_turn.specs.History.{Agrees, notes_by, numbers_of, times}
 use Rattle.qm_turn.specs.Turns.{Known}
 use Rattle.qm_drive.specs.declared.noted.Noted.{Noted}
-use Rattle.qm_drive.specs.Driving.{HasDriven, IsDriven, IsHeard, IsLastOf, readings, text_told}
-use Rattle.qm_drive.specs.Passes.{AreOfTheirNodes, AreOwn, IsOfNode, KnowOwnTurns, turns_in}
+use Rattle.qm_drive.specs.Driving.{HasDriven, IsHeard, IsLastOf, readings, text_told}
+use Rattle.qm_drive.specs.Passes.{AreOfTheirNodes, IsOfNode, KnowOwnTurns, turns_in}
 use Rattle.qm_drive.specs.Sharing.{turns_of}
 use Rattle.qm_drive.proofs.Owning.{of_their_nodes, own_begins, own_of_each, own_turns, turns_from, visits_whole}
-use Rattle.qm_nodes.specs.Gathered.{AreGathered, pair_of, text_at}
+use Rattle.qm_nodes.specs.Gathered.{pair_of, text_at}
 use Rattle.qm_nodes.specs.Served.{HasServed}
 use Rattle.qm_nodes.specs.Through.{AtTurnstile, IsThrough}
 use Rattle.qm_nodes.proofs.Places.{all_there, at_place, mapped, there, times_there}

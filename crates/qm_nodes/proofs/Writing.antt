@@ -1,7 +1,8 @@
 -- What a sink took of texts that are written one behind another.
-use Rattle.std.proofs.Common.{◌≡◌, ◌≤◌, ℕ, Bool, true, false, cond, length, map, drop, get_or, arith, List, [], ◌∷◌, ◌++◌, refl, sym, ◌∙◌, ap, subst, Option, Result, Ok, Err, append_assoc}
+use Rattle.std.proofs.Common.{◌≡◌, ◌≤◌, ℕ, Bool, true, false, cond, length, map, drop, take, get_or, arith, ◌-◌, List, [], ◌∷◌, ◌++◌, refl, sym, ◌∙◌, ap, subst, Option, Result, Ok, Err, append_assoc}
 use Rattle.std.specs.Prelude.{IsErr, OnErr, OnOk}
 use Rattle.std.specs.Io.KnownBytes.{Appends}
+use Rattle.std.proofs.lemmas.List.{take_all}
 use Rattle.qm_course.specs.Turning.{TakesFront}
 use Rattle.qm_course.proofs.Counting.{appends_on}
 use Rattle.qm_course.proofs.Fronts.{front_of_prefix}
@@ -62,3 +63,12 @@ module _ (last first : List ℕ) (cuts : Bool) (more : List ℕ) where
 
   pub behind_first : {E T : Type 0} (r : Result T E) (old new : Option (List ℕ)) (before now : ℕ) → cuts ≡ false → Writes r old new before now (first ++ more) → Writes r old new before now (cond cuts first (first ++ more))
   behind_first r old new before now whole w = subst (λ (b : Bool). Writes r old new before now (cond b first (first ++ more))) (sym whole) w
+
+-- one fewer
+fewer : {A : Type 0} (texts : List A) → length (drop 1 texts) ≤ length texts - 1
+fewer [] = omega arith
+fewer (t ∷ texts) = omega arith
+
+-- the texts behind the first one
+pub rest_whole : {A : Type 0} (texts : List A) → take (length texts - 1) (drop 1 texts) ≡ drop 1 texts
+rest_whole texts = take_all (length texts - 1) (drop 1 texts) (fewer texts)

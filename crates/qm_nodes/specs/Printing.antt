@@ -1,12 +1,11 @@
 -- What is printed behind the turns of nodes.
 -- This site's own: the texts of nodes in the cluster's order, and whose turn each was.
-use Rattle.std.specs.Prelude.{◌≡◌, ℕ, List, [], ◌∷◌, ◌++◌, codes, flat_map, slice_get, Option, None, Some, Result, Ok, Err}
+use Rattle.std.specs.Prelude.{◌≡◌, ℕ, List, [], ◌∷◌, ◌++◌, codes, flat_map, slice_get, Option, Result, Ok, Err}
 use Rattle.std.specs.Option.{unwrap_or}
 use Rattle.std.specs.Io.KnownBytes.{Appends}
 use Rattle.qm_course.specs.Turning.{TakesFront}
 use Rattle.qm_faults.specs.Faults.{counted}
 use Rattle.qm_history.specs.declared.turn.Turn.{Turn}
-use Rattle.qm_history.specs.Ends.{NodeText, cuts_text, texts_printed}
 
 -- a node's name
 abbrev pub name_at : List (List ℕ) → ℕ → List ℕ

@@ -1,9 +1,9 @@
 // The end of the nodes' turns: their passes are joined, and the turnstile is closed.
-ghost use Rattle.std.specs.Prelude.{◌≡◌, ◌≤◌, [], ℕ, length, map, slice_get, Some, vec_capacity};
+ghost use Rattle.std.specs.Prelude.{◌≡◌, ◌≤◌, [], length, map, vec_capacity};
 ghost use Rattle.std.specs.List.{AllByRecursion, range_with_len};
 ghost use Rattle.qm_drive.specs.Sharing.{StandsFor};
 ghost use Rattle.qm_nodes.specs.Gathered.{AreGathered, text_at, text_left};
-ghost use Rattle.qm_nodes.specs.Through.{AtTurnstile, is_at};
+ghost use Rattle.qm_nodes.specs.Through.{is_at};
 
 use crate::seat::Seat;
 use qm_drive::{DriveEnd, Serve, Shared};

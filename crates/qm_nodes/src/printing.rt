@@ -1,5 +1,5 @@
 // What is printed behind the turns: the texts of the nodes, and whose turn each was.
-ghost use Rattle.std.specs.Prelude.{◌≡◌, ◌++◌, codes, length, map, true, false};
+ghost use Rattle.std.specs.Prelude.{◌≡◌, ◌++◌, codes, map, true, false};
 ghost use Rattle.qm_drive.specs.Driving.{node_end};
 ghost use Rattle.qm_history.specs.Ends.{cuts_text, texts_printed};
 ghost use Rattle.qm_nodes.specs.Gathered.{text_left};

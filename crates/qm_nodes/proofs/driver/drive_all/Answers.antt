@@ -1,5 +1,4 @@
-use Rattle.std.proofs.Common.{◌≡◌, ◌+◌, ◌<◌, ◌≤◌, ◌∙◌, ap, length, map, subst, sym, zero-add, arith}
-use Rattle.std.proofs.lemmas.List.{length-map}
+use Rattle.std.proofs.Common.{ap, length}
 use Rattle.qm_course.specs.Fresh.{own_view}
 use Rattle.qm_course.specs.Runs.{side_of}
 use Rattle.qm_nodes.specs.Through.{is_at}

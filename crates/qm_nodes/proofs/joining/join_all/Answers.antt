@@ -1,4 +1,4 @@
-use Rattle.std.proofs.Common.{◌≡◌, ◌+◌, ◌<◌, ◌≤◌, ◌++◌, ◌∷◌, ◌∙◌, [], append-nil, length, map, refl, sym, subst, ap, arith, rules}
+use Rattle.std.proofs.Common.{◌≡◌, ◌<◌, ◌≤◌, ◌++◌, ◌∷◌, ◌∙◌, [], append-nil, length, refl, sym, subst, rules}
 use Rattle.std.specs.List.{AllByRecursion}
 use Rattle.qm_nodes.specs.Gathered.{text_at, text_left}
 use Rattle.qm_nodes.specs.Through.{is_at}
@@ -25,10 +25,10 @@ seats-preserved g c =
       search rules,
       all.1,
       (
-        inv.3 ++ seat ∷ [],
-        one_moved (λ s. s.pass) c.remove-pass.new.self.items inv.3 c.seats.seats.items left seat inv.4 next,
-        one_joined (λ s. s.pass) c.remove-pass.new.self.items inv.3 c.seats.seats.items left seat inv.4 next c.remove-pass.result.pass c.seats.pass c.join.new.into inv.5 c.join.ensures,
-        one_text (λ s. text_at (is_at s)) text_left c.push_reserved.new.self.items c.seats.texts.items c.push_reserved-in-seats.new.self.items _ inv.3 seat inv.6 c.push_reserved-in-seats.ensures.items refl,
+        inv.3.0 ++ seat ∷ [],
+        one_moved (λ s. s.pass) c.remove-pass.new.self.items inv.3.0 c.seats.seats.items left seat inv.3.1 next,
+        one_joined (λ s. s.pass) c.remove-pass.new.self.items inv.3.0 c.seats.seats.items left seat inv.3.1 next c.remove-pass.result.pass c.seats.pass c.join.new.into inv.3.2 c.join.ensures,
+        one_text (λ s. text_at (is_at s)) text_left c.push_reserved.new.self.items c.seats.texts.items c.push_reserved-in-seats.new.self.items _ inv.3.0 seat inv.3.3 c.push_reserved-in-seats.ensures.items refl,
       ),
     )
 
@@ -38,7 +38,7 @@ close-requires-clause-last g c =
     let some : 0 < length c.args.seats.items = search rules in
     let empty : length c.seats.seats.items ≤ 0 = search rules in
     let first = taken_first c.args.seats.items c.remove-pass.new.self.items c.remove-pass.result some c.remove-pass.ensures.value c.remove-pass.ensures.by_index.2 in
-    knows_all (λ s. s.pass) c.args.seats.items c.remove-pass.new.self.items inv.3 c.seats.seats.items c.remove-pass.result c.seats.pass first inv.4 empty inv.5
+    knows_all (λ s. s.pass) c.args.seats.items c.remove-pass.new.self.items inv.3.0 c.seats.seats.items c.remove-pass.result c.seats.pass first inv.3.1 empty inv.3.2
     (latter (λ s. s.pass.place ≡ c.args.turnstile.place) (λ s. s.pass.took ≡ []) c.args.seats.items c.requires.here) c.args.turnstile.passes c.requires.numbers
 
 pub returns-clause-gathered : goal.returns-clause-gathered
@@ -47,7 +47,7 @@ returns-clause-gathered g c =
     let some : 0 < length c.args.seats.items = search rules in
     let empty : length c.seats.seats.items ≤ 0 = search rules in
     let first = taken_first c.args.seats.items c.remove-pass.new.self.items c.remove-pass.result some c.remove-pass.ensures.value c.remove-pass.ensures.by_index.2 in
-    all_gathered (λ s. s.pass) c.args.seats.items c.remove-pass.new.self.items inv.3 c.seats.seats.items c.remove-pass.result c.seats.pass first inv.4 empty inv.5
+    all_gathered (λ s. s.pass) c.args.seats.items c.remove-pass.new.self.items inv.3.0 c.seats.seats.items c.remove-pass.result c.seats.pass first inv.3.1 empty inv.3.2
     (latter (λ s. s.pass.place ≡ c.args.turnstile.place) (λ s. s.pass.took ≡ []) c.args.seats.items c.requires.here) c.args.turnstile.passes c.requires.numbers
     _ c.close.result c.close.ensures
 
@@ -57,5 +57,5 @@ returns-clause-texts g c =
     let some : 0 < length c.args.seats.items = search rules in
     let empty : length c.seats.seats.items ≤ 0 = search rules in
     let first = taken_first c.args.seats.items c.remove-pass.new.self.items c.remove-pass.result some c.remove-pass.ensures.value c.remove-pass.ensures.by_index.2 in
-    all_texts (λ s. text_at (is_at s)) text_left c.args.seats.items c.remove-pass.new.self.items inv.3 c.seats.seats.items c.remove-pass.result _ c.args.texts.items c.push_reserved.new.self.items c.seats.texts.items
-    c.requires.none c.push_reserved.ensures.items refl inv.6 first inv.4 empty
+    all_texts (λ s. text_at (is_at s)) text_left c.args.seats.items c.remove-pass.new.self.items inv.3.0 c.seats.seats.items c.remove-pass.result _ c.args.texts.items c.push_reserved.new.self.items c.seats.texts.items
+    c.requires.none c.push_reserved.ensures.items refl inv.3.3 first inv.3.1 empty

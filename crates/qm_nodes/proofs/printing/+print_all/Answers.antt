@@ -1,11 +1,11 @@
-use Rattle.std.proofs.Common.{◌≡◌, ◌∙◌, drop, map, ap, refl, subst, sym}
+use Rattle.std.proofs.Common.{◌∙◌, drop, map, subst, sym}
 use Rattle.std.specs.Io.KnownBytes.{Appends}
 use Rattle.qm_course.proofs.Fronts.{front_of_prefix}
 use Rattle.qm_history.specs.Ends.{cuts_text, texts_printed}
 use Rattle.qm_drive.specs.Driving.{node_end}
 use Rattle.qm_nodes.specs.Gathered.{text_left}
 use Rattle.qm_nodes.specs.Printing.{Writes, turns_line}
-use Rattle.qm_nodes.proofs.Writing.{behind_first, failed, front_of_first, printed_from, then_writes}
+use Rattle.qm_nodes.proofs.Writing.{behind_first, failed, front_of_first, printed_from, rest_whole, then_writes}
 use Rattle.qm_nodes.proofs.printing.+print_all.Goals as goal
 
 pub returns-in_err-write_whole-in-len1-up : goal.returns-in_err-write_whole-in-len1-up
@@ -38,4 +38,5 @@ returns-else-cuts_text g t c =
     let took = subst (λ l. Appends old mid l) c.deref.ensures.value c.in_ok-write_whole-in-len1-up.ensures.all in
     subst (λ l. Writes c.print_all.result old new before now l) (sym (printed_from text_left last c.args.texts.now first c.in-len1-up.len_at_least c.first-item.is))
     (behind_first last text (cuts_text (node_end first.end)) more c.print_all.result old new before now (sym c.cuts_text.ensures ∙ c.if-cuts_text.false)
-    (then_writes c.print_all.result old mid new before between now text more took c.in_ok-write_whole-in-len1-up.ensures.quiet c.print_all.ensures))
+    (then_writes c.print_all.result old mid new before between now text more took c.in_ok-write_whole-in-len1-up.ensures.quiet
+    (subst (λ l. Writes c.print_all.result mid new between now (texts_printed last (map text_left l))) (rest_whole c.args.texts.now) c.print_all.ensures)))

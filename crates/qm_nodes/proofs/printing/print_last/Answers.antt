@@ -1,4 +1,4 @@
-use Rattle.std.proofs.Common.{◌≡◌, ◌∷◌, ◌++◌, ◌∙◌, [], codes, ap, refl}
+use Rattle.std.proofs.Common.{◌∷◌, ◌++◌, ◌∙◌, [], codes, ap, refl}
 use Rattle.qm_course.proofs.Fronts.{front_of_prefix}
 use Rattle.qm_faults.specs.Faults.{counted}
 use Rattle.qm_nodes.specs.Printing.{turns_line, words_of}

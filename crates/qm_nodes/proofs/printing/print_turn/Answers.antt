@@ -1,4 +1,4 @@
-use Rattle.std.proofs.Common.{◌≡◌, ◌∷◌, [], codes}
+use Rattle.std.proofs.Common.{codes}
 use Rattle.qm_nodes.specs.Printing.{name_at}
 use Rattle.qm_nodes.proofs.Writing.{two_texts}
 use Rattle.qm_nodes.proofs.printing.print_turn.Goals as goal

@@ -1,8 +1,8 @@
-use Rattle.std.proofs.Common.{◌≡◌, ◌<◌, ◌≤◌, length, refl, sym, arith}
+use Rattle.std.proofs.Common.{◌<◌, length, refl, arith}
 use Rattle.qm_course.proofs.Counting.{appends_none}
 use Rattle.qm_nodes.specs.Printing.{words_of}
 use Rattle.qm_nodes.proofs.Writing.{failed}
-use Rattle.qm_nodes.proofs.Words.{all_words, goes, stops}
+use Rattle.qm_nodes.proofs.Words.{goes, stops}
 use Rattle.qm_nodes.proofs.printing.print_turns.Goals as goal
 
 pub turns-init : goal.turns-init

@@ -1,4 +1,4 @@
-use Rattle.std.proofs.Common.{◌≡◌, ◌+◌, ◌<◌, ◌≤◌, ◌++◌, ◌∙◌, length, map, refl, sym, ap, arith, rules}
+use Rattle.std.proofs.Common.{◌<◌, ◌++◌, ◌∙◌, length, map, ap, rules}
 use Rattle.qm_history.specs.Ends.{Ended}
 use Rattle.qm_nodes.specs.Through.{first_at, is_at}
 use Rattle.qm_nodes.proofs.Sequences.{moved_on, taken_first}

@@ -1,11 +1,11 @@
-use Rattle.std.proofs.Common.{◌≡◌, ◌≤◌, ◌++◌, ◌∙◌, List, [], length, map, take, drop, ap, refl, subst, sym, arith, rules}
+use Rattle.std.proofs.Common.{◌≡◌, ◌∙◌, [], length, map, drop, ap, subst, sym, arith}
 use Rattle.std.specs.List.{AllByRecursion, range_with_len}
 use Rattle.std.proofs.lemmas.List.{length-map}
 use Rattle.qm_course.specs.Fresh.{own_view}
 use Rattle.qm_course.specs.Runs.{side_of}
 use Rattle.qm_drive.specs.Sharing.{StandsFor}
 use Rattle.qm_nodes.specs.Gathered.{AreGathered, text_at, text_left}
-use Rattle.qm_nodes.specs.Through.{first_at, is_at}
+use Rattle.qm_nodes.specs.Through.{is_at}
 use Rattle.qm_nodes.proofs.Leaving.{all_made, are_here, are_numbered, as_many}
 use Rattle.qm_nodes.proofs.Numbers.{as_fresh, is_first, taken_whole}
 use Rattle.qm_nodes.proofs.turns.end_turns.Goals as goal

@@ -1,4 +1,4 @@
-use Rattle.std.proofs.Common.{◌≡◌, ap}
+use Rattle.std.proofs.Common.{ap}
 use Rattle.qm_nodes.proofs.driver.DriverWorkSeatStation.work.Goals as goal
 
 pub drive-seat-requires-clause-here : goal.drive-seat-requires-clause-here
