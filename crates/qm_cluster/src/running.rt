@@ -50,7 +50,6 @@ where
     Y::Cursor: Send,
     requires device { J.device ≡ service_disk service ∷ [] }
     requires names { (J.names ≡ service_names service) × (names.now ≡ service_names service) }
-    requires some { 1 ≤ length names.now }
     requires few { length names.now ≤ NODES_LIMIT }
     requires opened { (disk : D) × IsOpened D.meaning disk service }
     requires lines { length lines.now ≡ length names.now }
@@ -61,6 +60,12 @@ where
 {
     opened_sites_stand_for_no_notes::<D>();
     nodes_begin_live::<D>();
+    if names.is_empty() {
+        return Ok(Ran {
+            service,
+            texts: Vec::new(alloc),
+        });
+    }
     let site: Site<D, J> = Site {
         service,
         began: PhantomData,

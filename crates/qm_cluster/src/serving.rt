@@ -4,25 +4,29 @@ ghost use Rattle.qm_course.specs.Fresh.{each_lines, own_view};
 ghost use Rattle.qm_course.specs.Runs.{side_of};
 ghost use Rattle.qm_kinds.specs.declared.limits.TheConstants.{NODES_LIMIT};
 ghost use Rattle.qm_script.specs.ClusterLines.{user_lines_view};
-ghost use Rattle.qm_service.specs.Ends.{serving_end};
-ghost use Rattle.qm_service.specs.Opening.{IsFresh, IsOpened, IsScriptOf};
+ghost use Rattle.qm_service.specs.Ends.{CountsSink, serving_end};
+ghost use Rattle.qm_service.specs.Opening.{IsOpened};
 ghost use Rattle.qm_service.specs.Serving.{outside};
 ghost use Rattle.qm_service.specs.Value.{service_disk, service_names, service_turns};
 ghost use Rattle.qm_history.specs.Ends.{texts_printed};
-ghost use Rattle.qm_cluster.specs.Ending.{CountsSink, IsToldBy, ends_of};
+ghost use Rattle.qm_cluster.specs.Ending.{IsToldBy, worst_of};
 ghost use Rattle.qm_nodes.specs.Gathered.{text_left};
 ghost use Rattle.qm_nodes.specs.Printing.{turns_line};
 ghost use Rattle.qm_cluster.specs.Serving.{ServesAtOnce};
 
-use crate::ending::worst_end;
+use crate::ending::print_texts;
 use crate::running::{Ran, run_nodes};
 use qm_course::{Station, own_lines};
 use qm_disk::Disk;
-use qm_io::{Clock, Failed, Sink};
+use qm_io::{Clock, Sink};
 use qm_kinds::Name;
-use qm_nodes::print_all;
+use qm_model::nodes_keep_their_names;
 use qm_script::UserLine;
-use qm_service::{ServeEnd, Served, Service, end_of_turns};
+use qm_service::{ServeEnd, Served, Service};
+use qm_shared::{
+    nodes_begin_live, nodes_leave_what_is_noted, opened_sites_stand_for_no_notes,
+    openings_keep_worlds,
+};
 use qm_symb::Symbiont;
 use std::alloc::Global;
 use std::marker::{Brand, Send, Sync};
@@ -34,7 +38,7 @@ use std::thread::Threads;
 /// nodes are printed in the cluster's order, and behind them whose turn each was.
 ///
 /// Once a turn was made it takes no memory of its own, so that the disk and the turns always come back. Where several ends came, want of
-/// memory counts first, then a damaged file, then the sink, then a full history.
+/// memory counts first, then a damaged file, then the sink, then a full history; for the first two nothing is printed.
 pub fn serve_nodes<
     'a,
     R: Threads + Wait + Sync,
@@ -52,8 +56,7 @@ pub fn serve_nodes<
 ) -> Served<D>
 where
     Y::Cursor: Send,
-    requires fresh { IsFresh D.meaning service }
-    requires script { IsScriptOf (service_names service) (user_lines_view lines.now) }
+    requires opened { (disk : D) × IsOpened D.meaning disk service }
     requires stations { NODES_LIMIT ≤ length stations.old }
     ensures serves { (disk : D) → IsOpened D.meaning disk service
         → ServesAtOnce D.meaning Y.meaning disk (service_names service) (user_lines_view lines.now)
@@ -61,6 +64,11 @@ where
         (outside result.disk (O.taken sink.new) (map (side_of C.told) stations.new)) result.turns.items (serving_end result.end) }
     ensures sink { CountsSink (serving_end result.end) (O.faults sink.old) (O.faults sink.new) }
 {
+    nodes_keep_their_names();
+    opened_sites_stand_for_no_notes::<D>();
+    nodes_begin_live::<D>();
+    openings_keep_worlds::<D>();
+    nodes_leave_what_is_noted::<D>();
     let Ok(names) = service.names().to_vec(alloc) else {
         return unserved(service);
     };
@@ -92,18 +100,14 @@ fn unserved<D: Disk>(service: Service<D>) -> Served<D>
 fn tell<D: Disk, O: Sink>(ran: Ran<D>, names: &[Name], sink: &mut O) -> Served<D>
     ensures disk { result.disk ≡ service_disk ran.service }
     ensures turns { result.turns.items ≡ service_turns ran.service }
-    ensures told { IsToldBy (O.taken sink.old) (O.taken sink.new) (O.faults sink.old) (O.faults sink.new)
+    ensures told { IsToldBy (worst_of (map text_left ran.texts.items)) (O.taken sink.old) (O.taken sink.new) (O.faults sink.old) (O.faults sink.new)
         (texts_printed (turns_line names.now (service_turns ran.service)) (map text_left ran.texts.items)) (service_turns ran.service)
-        (ends_of (map text_left ran.texts.items)) (serving_end result.end) }
+        (serving_end result.end) }
 {
     let Ran { service, texts } = ran;
     let (disk, turns) = service.close();
-    let besides = match print_all(sink, names, &texts, &turns) {
-        Ok(()) => end_of_turns(&turns),
-        Err(Failed) => ServeEnd::SinkFailed,
-    };
     Served {
-        end: worst_end(&texts, besides),
+        end: print_texts(sink, names, &texts, &turns),
         disk,
         turns,
     }

@@ -1,4 +1,4 @@
-mod Places
+pub mod Places
 mod Gathering
 mod Driven
 mod Together

@@ -1,0 +1,5 @@
+mod Naming
+mod Texts
+mod Worst
+mod Told
+mod Left
