@@ -16,26 +16,64 @@ fn spelling(alloc: Global, input: &Input) -> Result<Option<Vec<u8>>, AllocError>
     }
 }
 
+// Whether a text and a spelling, which is read at another moment, ask for the same.
+fn asks_for_the_same(alloc: Global, text: &[u8], spelled: &[u8]) -> Result<bool, AllocError> {
+    let (_, typed) = answer_to(alloc, text)?;
+    let (_, again) = answer_at(alloc, spelled, Moment::BASE)?;
+    Ok(typed.as_slice() == again.as_slice())
+}
+
+// Tells a spelling on a line.
+fn tell(told: &mut Vec<u8>, spelled: &[u8]) -> Result<(), AllocError> {
+    told.extend_from_slice(spelled)?;
+    push_line(told, "")
+}
+
+// Tells the spelling of what a text asks for, and whether that reads to something else at another moment.
+fn tell_beside(
+    alloc: Global,
+    told: &mut Vec<u8>,
+    text: &[u8],
+    spelled: &[u8],
+) -> Result<(), AllocError> {
+    tell(told, spelled)?;
+    if asks_for_the_same(alloc, text, spelled)? {
+        Ok(())
+    } else {
+        push_line(told, "which reads to something else")
+    }
+}
+
+// The same of a text that was read.
+fn tell_input(
+    alloc: Global,
+    told: &mut Vec<u8>,
+    text: &[u8],
+    input: &Input,
+) -> Result<(), AllocError> {
+    match spelling(alloc, input)? {
+        Some(spelled) => tell_beside(alloc, told, text, &spelled),
+        None => push_line(told, "no spelling"),
+    }
+}
+
 /// Tells the full spelling of what a text asks for, and whether that reads to something else at another moment.
 pub(crate) fn tell_spelling(
     alloc: Global,
     told: &mut Vec<u8>,
     text: &[u8],
 ) -> Result<(), AllocError> {
-    let Ok(input) = read_command(alloc, text, user(), now()) else {
-        return push_line(told, "no command");
-    };
-    let Some(spelled) = spelling(alloc, &input)? else {
-        return push_line(told, "no spelling");
-    };
-    told.extend_from_slice(&spelled)?;
-    push_line(told, "")?;
-    let (_, typed) = answer_to(alloc, text)?;
-    let (_, again) = answer_at(alloc, &spelled, Moment::BASE)?;
-    if typed.as_slice() == again.as_slice() {
-        Ok(())
-    } else {
-        push_line(told, "which reads to something else")
+    match read_command(alloc, text, user(), now()) {
+        Ok(input) => tell_input(alloc, told, text, &input),
+        Err(_) => push_line(told, "no command"),
+    }
+}
+
+// Tells the full spelling of what a call asks for, if some command asks for it too.
+fn tell_called(alloc: Global, told: &mut Vec<u8>, input: &Input) -> Result<(), AllocError> {
+    match spelling(alloc, input)? {
+        Some(spelled) => tell(told, &spelled),
+        None => push_line(told, "no spelling"),
     }
 }
 
@@ -47,14 +85,9 @@ pub(crate) fn tell_called_spelling(
 ) -> Result<(), AllocError> {
     let (number, list) = text.split_once(" ").unwrap_or((text, ""));
     let function = number.parse::<u16>().unwrap_or(0);
-    let Ok(input) = asked(alloc, function, &bytes_of(alloc, list)?) else {
-        return push_line(told, "no call");
-    };
-    match spelling(alloc, &input)? {
-        Some(spelled) => {
-            told.extend_from_slice(&spelled)?;
-            push_line(told, "")
-        }
-        None => push_line(told, "no spelling"),
+    let bytes = bytes_of(alloc, list)?;
+    match asked(alloc, function, &bytes) {
+        Ok(input) => tell_called(alloc, told, &input),
+        Err(_) => push_line(told, "no call"),
     }
 }
