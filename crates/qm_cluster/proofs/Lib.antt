@@ -1,0 +1,6 @@
+mod Naming
+mod Texts
+mod Worst
+mod Told
+mod Left
+mod Begun
