@@ -10,7 +10,7 @@ use std::alloc::{AllocError, Global};
 
 /// What a list is of.
 #[derive(Clone, Copy)]
-pub(crate) enum ListOf {
+pub enum ListOf {
     Characteristics,
     /// The queues to which a generic queue passes its jobs on.
     Targets,
@@ -20,10 +20,10 @@ pub(crate) enum ListOf {
 
 /// The lists of a command that asks for a request; none where a list isn't given.
 #[derive(Drop)]
-pub(crate) struct Lists {
-    pub(crate) characteristics: Option<Seq<NameOrNumber>>,
+pub struct Lists {
+    pub characteristics: Option<Seq<NameOrNumber>>,
     /// The queues to which a generic queue passes its jobs on.
-    pub(crate) targets: Option<Seq<Name>>,
+    pub targets: Option<Seq<Name>>,
 }
 
 // Whether a qualifier gives a list. /NOCHARACTERISTICS takes no value, and gives the empty one.

@@ -18,7 +18,7 @@ use qm_lex::Token;
 
 /// How a queue is stopped, or a job of it.
 #[derive(Clone, Copy)]
-pub(crate) enum Stop {
+pub enum Stop {
     Next,
     Reset,
     Abort,
@@ -27,88 +27,88 @@ pub(crate) enum Stop {
 
 /// What is given of a job.
 #[derive(Clone, Copy)]
-pub(crate) struct JobSettings {
-    pub(crate) name: Option<Name>,
-    pub(crate) priority: Option<u8>,
+pub struct JobSettings {
+    pub name: Option<Name>,
+    pub priority: Option<u8>,
     /// The moment before which the job doesn't start. Some of none takes away the one that it has.
-    pub(crate) after: Option<Option<Moment>>,
-    pub(crate) hold: bool,
+    pub after: Option<Option<Moment>>,
+    pub hold: bool,
     /// Whether it waits no longer, neither held nor for a moment.
-    pub(crate) release: bool,
-    pub(crate) retain: Option<JobRetain>,
+    pub release: bool,
+    pub retain: Option<JobRetain>,
     /// Whether the job may start again.
-    pub(crate) restart: Option<bool>,
-    pub(crate) form: Option<NameOrNumber>,
-    pub(crate) copies: u8,
+    pub restart: Option<bool>,
+    pub form: Option<NameOrNumber>,
+    pub copies: u8,
     /// Whether a page that names the job stands before its text.
-    pub(crate) flag: bool,
+    pub flag: bool,
 }
 
 /// What is given of a queue.
 #[derive(Clone, Copy)]
-pub(crate) struct QueueSettings {
+pub struct QueueSettings {
     /// How many jobs may run at once.
-    pub(crate) limit: Option<u8>,
+    pub limit: Option<u8>,
     /// The form that is mounted.
-    pub(crate) form: Option<NameOrNumber>,
+    pub form: Option<NameOrNumber>,
     /// The least and the greatest size of a job, in blocks.
-    pub(crate) blocks: Option<(u32, u32)>,
+    pub blocks: Option<(u32, u32)>,
     /// Whether jobs stand in order of their sizes.
-    pub(crate) by_size: Option<bool>,
+    pub by_size: Option<bool>,
     /// Which jobs the queue keeps after they end.
-    pub(crate) retain: Option<QueueRetain>,
+    pub retain: Option<QueueRetain>,
     /// Whether the queue is for batch jobs.
-    pub(crate) batch: bool,
-    pub(crate) location: Option<Location>,
+    pub batch: bool,
+    pub location: Option<Location>,
     /// Whether a new queue is started.
-    pub(crate) start: bool,
+    pub start: bool,
 }
 
 /// What is given of a form or a characteristic.
 #[derive(Clone, Copy)]
-pub(crate) struct Definition {
-    pub(crate) name: Option<Name>,
-    pub(crate) form_number: Option<u16>,
-    pub(crate) characteristic_number: Option<u8>,
-    pub(crate) stock: Option<Name>,
-    pub(crate) shape: Shape,
+pub struct Definition {
+    pub name: Option<Name>,
+    pub form_number: Option<u16>,
+    pub characteristic_number: Option<u8>,
+    pub stock: Option<Name>,
+    pub shape: Shape,
 }
 
 /// What is given of a listing.
 #[derive(Clone, Copy)]
-pub(crate) struct ListingSettings {
-    pub(crate) pattern: Option<Pattern>,
+pub struct ListingSettings {
+    pub pattern: Option<Pattern>,
     /// Whether the jobs of all users are listed.
-    pub(crate) all_jobs: bool,
+    pub all_jobs: bool,
     /// Whether batch queues are listed.
-    pub(crate) batch: bool,
+    pub batch: bool,
     /// Whether print queues are listed.
-    pub(crate) device: bool,
+    pub device: bool,
     /// Whether generic queues of both kinds are listed.
-    pub(crate) generic: bool,
+    pub generic: bool,
 }
 
 /// What the parts of a command give, but for lists.
 #[derive(Clone, Copy)]
-pub(crate) struct Settings {
+pub struct Settings {
     /// Whether the option that is the first parameter is still to come.
-    pub(crate) awaits_object: bool,
+    pub awaits_object: bool,
     /// The qualifier whose value may come next.
-    pub(crate) word: Option<Word>,
+    pub word: Option<Word>,
     /// Whether a value of it has named a node on which the queue manager may run, or all of them.
-    pub(crate) has_node: bool,
-    pub(crate) file: Option<FileName>,
+    pub has_node: bool,
+    pub file: Option<FileName>,
     /// The name of a queue; where two are merged, of the target.
-    pub(crate) queue: Option<Name>,
+    pub queue: Option<Name>,
     /// The name of the queue whose entries are moved to another.
-    pub(crate) source: Option<Name>,
+    pub source: Option<Name>,
     /// The number of an entry.
-    pub(crate) entry: Option<u32>,
-    pub(crate) stop: Option<Stop>,
-    pub(crate) job: JobSettings,
-    pub(crate) queue_settings: QueueSettings,
-    pub(crate) definition: Definition,
-    pub(crate) listing: ListingSettings,
+    pub entry: Option<u32>,
+    pub stop: Option<Stop>,
+    pub job: JobSettings,
+    pub queue_settings: QueueSettings,
+    pub definition: Definition,
+    pub listing: ListingSettings,
 }
 
 // Whether the first parameter of a command is its option.

@@ -18,7 +18,7 @@ use qm_time::{TIME_BYTES, read_time};
 
 /// A margin of a page.
 #[derive(Clone, Copy)]
-pub(crate) enum Side {
+pub enum Side {
     Top,
     Bottom,
     Left,
@@ -27,9 +27,9 @@ pub(crate) enum Side {
 
 /// Where a queue stands.
 #[derive(Clone, Copy)]
-pub(crate) struct Location {
-    pub(crate) node: Name,
-    pub(crate) device: Option<Name>,
+pub struct Location {
+    pub node: Name,
+    pub device: Option<Name>,
 }
 
 // What stands between the quotes of a string.

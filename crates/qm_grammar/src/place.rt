@@ -7,7 +7,7 @@ use qm_lex::Token;
 
 /// Behind which token one stands.
 #[derive(Clone, Copy)]
-pub(crate) enum Place {
+pub enum Place {
     /// The verb.
     Verb,
     /// A parameter.
@@ -38,25 +38,25 @@ pub(crate) enum Place {
 
 /// What the tokens so far tell.
 #[derive(Clone, Copy)]
-pub(crate) struct State {
+pub struct State {
     /// Where one stands.
-    pub(crate) place: Place,
+    pub place: Place,
     /// What the last qualifier takes.
-    pub(crate) takes: Takes,
+    pub takes: Takes,
     /// Whether its list is open.
-    pub(crate) in_list: bool,
+    pub in_list: bool,
     /// How many values it has.
-    pub(crate) values: usize,
+    pub values: usize,
     /// How many parameters there are; where no command is named, whether there is one.
-    pub(crate) parameters: usize,
+    pub parameters: usize,
     /// Whether there is a qualifier or an option.
-    pub(crate) qualified: bool,
+    pub qualified: bool,
     /// Whether an earlier qualifier lacks a value or the end of its list.
-    pub(crate) owed: bool,
+    pub owed: bool,
     /// Where the last token begins.
-    pub(crate) start: usize,
+    pub start: usize,
     /// Where it ends.
-    pub(crate) end: usize,
+    pub end: usize,
 }
 
 /// Whether a value, or the end of a list, is still to come.

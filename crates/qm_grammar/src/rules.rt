@@ -7,7 +7,7 @@ use crate::word::Word;
 
 /// What value a qualifier takes. A list of one value needs no parentheses, and one value may stand in them.
 #[derive(Clone, Copy)]
-pub(crate) enum Takes {
+pub enum Takes {
     /// None.
     Nothing,
     /// One.
@@ -23,7 +23,7 @@ pub(crate) enum Takes {
 }
 
 /// The name of an option or a qualifier, and what value it takes.
-pub(crate) type Rule = (Word, Takes);
+pub type Rule = (Word, Takes);
 
 // What can be set for a queue.
 const QUEUE_SETTINGS: [Rule; 9] = [

@@ -6,7 +6,7 @@ use crate::word::Word;
 
 /// The first word of a command.
 #[derive(Clone, Copy)]
-pub(crate) enum Verb {
+pub enum Verb {
     Initialize,
     Set,
     Start,
@@ -66,20 +66,20 @@ pub enum Command {
 
 /// A row of the table: a command of a verb.
 #[derive(Clone, Copy)]
-pub(crate) struct Row {
-    pub(crate) command: Command,
+pub struct Row {
+    pub command: Command,
     /// The option that is the first parameter.
-    pub(crate) object: Option<Word>,
+    pub object: Option<Word>,
     /// The option behind a `/`.
-    pub(crate) option: Option<Word>,
+    pub option: Option<Word>,
     /// A further option behind a `/`.
-    pub(crate) further: Option<Word>,
+    pub further: Option<Word>,
     /// How many parameters the command needs; an object counts as one.
-    pub(crate) least: usize,
+    pub least: usize,
     /// How many parameters the command takes; an object counts as one.
-    pub(crate) most: usize,
+    pub most: usize,
     /// Whether the command needs a qualifier.
-    pub(crate) must_set: bool,
+    pub must_set: bool,
 }
 
 const INITIALIZE: [Row; 1] = [Row {

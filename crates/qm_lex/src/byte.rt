@@ -6,7 +6,7 @@ use crate::token::TokenKind;
 
 /// What a byte is in the text of a command, outside quotes.
 #[derive(Clone, Copy, Debug, PartialEq, Eq)]
-pub(crate) enum Sort {
+pub enum Sort {
     /// A blank or a tab, which parts words.
     Blank,
     /// An exclamation mark: behind it stands a comment.

@@ -8,6 +8,7 @@ mod laws;
 mod quoted;
 mod token;
 
+pub use byte::Sort;
 pub use fault::LexFault;
 pub use laws::tokens_are_in_order;
-pub use token::{Token, TokenKind, lex};
+pub use token::{Piece, Token, TokenKind, lex};

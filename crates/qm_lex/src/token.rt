@@ -35,9 +35,9 @@ pub struct Token {
     pub end: usize,
 }
 
-// What stands at a place of a text.
+/// What stands at a place of a text.
 #[derive(Clone, Copy, Debug, PartialEq, Eq)]
-enum Piece {
+pub enum Piece {
     /// A token of so many bytes.
     Takes { kind: TokenKind, length: usize },
     /// A byte that parts tokens.
