@@ -95,7 +95,7 @@ fn overfull<R: Threads + Wait + Sync>(rt: &R, alloc: Global) -> Option<(bool, u3
     let mut holds = left.texts.len() == 2;
     for (node, name) in names.iter().enumerate() {
         let made = whys_of(alloc, &left.recorder.asked, node).ok()?;
-        let count = made.len() as u32;
+        let count = u32::try_from(made.len()).ok()?;
         holds = holds && made == whys(alloc, count, &[]).ok()?;
         holds = holds && left.texts.get(node)?.end == Err(DriveEnd::HistoryFull);
         push_lines(&mut wanted, name, count)?;
