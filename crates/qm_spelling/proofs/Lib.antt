@@ -2,3 +2,12 @@ pub mod Listed
 mod Blanks
 mod Values
 mod Times
+mod SpelledLexemes
+mod SpelledPieces
+mod SpelledReading
+mod SpelledFinding
+mod SpelledSettings
+mod SpelledLists
+mod SpelledCommand
+mod SpelledWords
+mod SpelledDeletions

@@ -1,0 +1,7 @@
+use Rattle.qm_spelling.proofs.SpelledDeletions.{form_deletion}
+use Rattle.qm_spelling.proofs.read_back.deletions_read_back.Goals as goal
+
+pub returns : goal.returns
+returns c = record {
+  form = form_deletion;
+}
