@@ -9,5 +9,6 @@ mod SpelledFinding
 mod SpelledSettings
 mod SpelledLists
 mod SpelledCommand
+mod SpelledTails
 mod SpelledWords
 mod SpelledDeletions

@@ -1,0 +1,6 @@
+use Rattle.qm_spelling.proofs.SpelledDeletions.{merge}
+use Rattle.qm_spelling.proofs.SpelledTails.{given_leaves}
+use Rattle.qm_spelling.proofs.read_back.merges_read_back.Goals as goal
+
+pub returns : goal.returns
+returns c = merge
