@@ -11,4 +11,5 @@ mod SpelledLists
 mod SpelledCommand
 mod SpelledTails
 mod SpelledWords
+mod SpelledAsking
 mod SpelledDeletions

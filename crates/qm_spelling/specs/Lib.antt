@@ -6,3 +6,4 @@ pub mod Listings
 pub mod Commands
 pub mod Faults
 pub mod ReadBack
+pub mod Lawful

@@ -1,0 +1,30 @@
+-- What the types of requests promise of the values in them.
+use Rattle.std.specs.Prelude.{◌<◌, ◌≤◌, ◌^◌, ℕ, List, [], ◌∷◌, IfSome}
+use Rattle.qm_kinds.specs.Text.{IsText, is_name_byte}
+use Rattle.qm_kinds.specs.declared.queue.QueueChange.{QueueChange}
+use Rattle.qm_kinds.specs.declared.request.NameOrNumber.{NameOrNumber}
+use Rattle.qm_kinds.specs.declared.request.NameOrNumber.TheVariants.{Name, Number}
+
+-- a name
+abbrev pub IsName : List ℕ → Type 0
+IsName name = IsText is_name_byte name
+
+abbrev pub AreNames : List (List ℕ) → Type 0
+AreNames [] = Unit {0}
+AreNames (name ∷ names) = IsName name × AreNames names
+
+-- a form or a characteristic, by its name or by a number of 16 bits
+abbrev pub IsReference : NameOrNumber → Type 0
+IsReference (Name name) = IsName name
+IsReference (Number number) = number < 2 ^ 16
+
+abbrev pub AreReferences : List NameOrNumber → Type 0
+AreReferences [] = Unit {0}
+AreReferences (reference ∷ references) = IsReference reference × AreReferences references
+
+-- what is changed of a queue
+pub record IsQueueChange (change : QueueChange) : Type 0 where
+  pub limit : IfSome change.limit (λ n. n < 2 ^ 8)
+  pub characteristics : IfSome change.characteristics AreReferences
+  pub form : IfSome change.form IsReference
+  pub blocks : IfSome change.blocks (λ limits. (limits.0 < 2 ^ 32) × (limits.1 < 2 ^ 32))
