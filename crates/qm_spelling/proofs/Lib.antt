@@ -12,4 +12,5 @@ mod SpelledCommand
 mod SpelledTails
 mod SpelledWords
 mod SpelledAsking
+mod SpelledQueueSettings
 mod SpelledDeletions
