@@ -13,4 +13,8 @@ mod SpelledTails
 mod SpelledWords
 mod SpelledAsking
 mod SpelledQueueSettings
+mod SpelledQueueAsking
+mod SpelledQueues
+mod SpelledStops
+mod SpelledForms
 mod SpelledDeletions

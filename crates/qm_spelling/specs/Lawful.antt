@@ -1,6 +1,9 @@
 -- What the types of requests promise of the values in them.
 use Rattle.std.specs.Prelude.{◌<◌, ◌≤◌, ◌^◌, ℕ, List, [], ◌∷◌, IfSome}
 use Rattle.qm_kinds.specs.Text.{IsText, is_name_byte}
+use Rattle.qm_kinds.specs.declared.form.Characteristic.{Characteristic}
+use Rattle.qm_kinds.specs.declared.form.Form.{Form}
+use Rattle.qm_kinds.specs.declared.form.Shape.{Shape}
 use Rattle.qm_kinds.specs.declared.queue.QueueChange.{QueueChange}
 use Rattle.qm_kinds.specs.declared.request.NameOrNumber.{NameOrNumber}
 use Rattle.qm_kinds.specs.declared.request.NameOrNumber.TheVariants.{Name, Number}
@@ -28,3 +31,24 @@ pub record IsQueueChange (change : QueueChange) : Type 0 where
   pub characteristics : IfSome change.characteristics AreReferences
   pub form : IfSome change.form IsReference
   pub blocks : IfSome change.blocks (λ limits. (limits.0 < 2 ^ 32) × (limits.1 < 2 ^ 32))
+
+-- how text is set on a form
+pub record IsShape (shape : Shape) : Type 0 where
+  pub length : shape.length < 2 ^ 8
+  pub width : shape.width < 2 ^ 8
+  pub top : shape.top < 2 ^ 8
+  pub bottom : shape.bottom < 2 ^ 8
+  pub left : shape.left < 2 ^ 8
+  pub right : shape.right < 2 ^ 8
+
+-- a form
+pub record IsForm (form : Form) : Type 0 where
+  pub name : IsName form.name
+  pub number : form.number < 2 ^ 16
+  pub stock : IsName form.stock
+  pub shape : IsShape form.shape
+
+-- a characteristic
+pub record IsCharacteristic (characteristic : Characteristic) : Type 0 where
+  pub name : IsName characteristic.name
+  pub number : characteristic.number < 2 ^ 8
