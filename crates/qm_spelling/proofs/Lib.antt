@@ -17,4 +17,5 @@ mod SpelledQueueAsking
 mod SpelledQueues
 mod SpelledStops
 mod SpelledForms
+mod SpelledListings
 mod SpelledDeletions

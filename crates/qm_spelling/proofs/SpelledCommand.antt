@@ -63,7 +63,7 @@ reads v row pieces user now input makes asks =
 
 -- ---- the spelling
 
-text_where : (b : Bool) (a text : List ℕ) → (if b then Some a else None) ≡ Some text → (b ≡ true) × (a ≡ text)
+pub text_where : (b : Bool) (a text : List ℕ) → (if b then Some a else None) ≡ Some text → (b ≡ true) × (a ≡ text)
 text_where true a text h = (refl, cc)
 text_where false a text h = absurd cc
 

@@ -1,9 +1,10 @@
 -- What the types of requests promise of the values in them.
-use Rattle.std.specs.Prelude.{◌<◌, ◌≤◌, ◌^◌, ℕ, List, [], ◌∷◌, IfSome}
-use Rattle.qm_kinds.specs.Text.{IsText, is_name_byte}
+use Rattle.std.specs.Prelude.{◌≡◌, ◌<◌, ◌≤◌, ◌^◌, ℕ, List, [], ◌∷◌, IfSome}
+use Rattle.qm_kinds.specs.Text.{IsText, is_name_byte, is_pattern_byte}
 use Rattle.qm_kinds.specs.declared.form.Characteristic.{Characteristic}
 use Rattle.qm_kinds.specs.declared.form.Form.{Form}
 use Rattle.qm_kinds.specs.declared.form.Shape.{Shape}
+use Rattle.qm_kinds.specs.declared.query.Query.{Query}
 use Rattle.qm_kinds.specs.declared.queue.QueueChange.{QueueChange}
 use Rattle.qm_kinds.specs.declared.request.NameOrNumber.{NameOrNumber}
 use Rattle.qm_kinds.specs.declared.request.NameOrNumber.TheVariants.{Name, Number}
@@ -52,3 +53,9 @@ pub record IsForm (form : Form) : Type 0 where
 pub record IsCharacteristic (characteristic : Characteristic) : Type 0 where
   pub name : IsName characteristic.name
   pub number : characteristic.number < 2 ^ 8
+
+-- a listing, which this user asks for
+pub record IsQueryOf (user : List ℕ) (query : Query) : Type 0 where
+  pub pattern : IsText is_pattern_byte query.pattern
+  pub number : IfSome query.number (λ n. n < 2 ^ 32)
+  pub asker : IfSome query.user (λ name. name ≡ user)

@@ -2,6 +2,7 @@ use Rattle.qm_spelling.proofs.SpelledDeletions.{merge}
 use Rattle.qm_spelling.proofs.SpelledQueues.{set_back, start_back}
 use Rattle.qm_spelling.proofs.SpelledStops.{stop_back, abort_back}
 use Rattle.qm_spelling.proofs.SpelledForms.{form_back, characteristic_back}
+use Rattle.qm_spelling.proofs.SpelledListings.{query_back}
 use Rattle.qm_spelling.proofs.read_back.merges_read_back.Goals as goal
 
 pub returns : goal.returns
