@@ -18,4 +18,5 @@ mod SpelledQueues
 mod SpelledStops
 mod SpelledForms
 mod SpelledListings
+mod SpelledManager
 mod SpelledDeletions
