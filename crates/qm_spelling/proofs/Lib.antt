@@ -19,4 +19,5 @@ mod SpelledStops
 mod SpelledForms
 mod SpelledListings
 mod SpelledManager
+mod SpelledTimes
 mod SpelledDeletions

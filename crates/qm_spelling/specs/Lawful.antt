@@ -1,11 +1,15 @@
 -- What the types of requests promise of the values in them.
 use Rattle.std.specs.Prelude.{◌≡◌, ◌<◌, ◌≤◌, ◌^◌, ℕ, List, [], ◌∷◌, IfSome}
 use Rattle.qm_kinds.specs.Text.{IsText, is_name_byte, is_pattern_byte}
+use Rattle.qm_kinds.specs.declared.entry.JobRetain.{JobRetain}
+use Rattle.qm_kinds.specs.declared.entry.JobRetain.TheVariants.{Default, Always, Failed, Until}
+use Rattle.qm_kinds.specs.declared.file.FileName.{FileName}
 use Rattle.qm_kinds.specs.declared.form.Characteristic.{Characteristic}
 use Rattle.qm_kinds.specs.declared.form.Form.{Form}
 use Rattle.qm_kinds.specs.declared.form.Shape.{Shape}
 use Rattle.qm_kinds.specs.declared.query.Query.{Query}
 use Rattle.qm_kinds.specs.declared.queue.QueueChange.{QueueChange}
+use Rattle.qm_kinds.specs.declared.request.Job.{Job}
 use Rattle.qm_kinds.specs.declared.request.NameOrNumber.{NameOrNumber}
 use Rattle.qm_kinds.specs.declared.request.NameOrNumber.TheVariants.{Name, Number}
 
@@ -59,3 +63,32 @@ pub record IsQueryOf (user : List ℕ) (query : Query) : Type 0 where
   pub pattern : IsText is_pattern_byte query.pattern
   pub number : IfSome query.number (λ n. n < 2 ^ 32)
   pub asker : IfSome query.user (λ name. name ≡ user)
+
+-- a moment before the end of 9999
+abbrev pub IsMoment : ℕ → Type 0
+IsMoment moment = moment ≤ 25690901759999
+
+-- whether a job is kept
+abbrev pub IsRetain : JobRetain → Type 0
+IsRetain Default = Unit {0}
+IsRetain Always = Unit {0}
+IsRetain Failed = Unit {0}
+IsRetain (Until moment) = IsMoment moment
+
+-- a file
+pub record IsFileName (file : FileName) : Type 0 where
+  pub name : IsName file.name
+  pub extension : IfSome file.extension IsName
+
+-- a job, which this user submits
+pub record IsJobOf (user : List ℕ) (job : Job) : Type 0 where
+  pub submitter : job.user ≡ user
+  pub queue : IsName job.queue
+  pub file : IsFileName job.file
+  pub name : IsName job.name
+  pub priority : job.priority < 2 ^ 8
+  pub after : IfSome job.after IsMoment
+  pub retain : IsRetain job.retain
+  pub characteristics : AreReferences job.characteristics
+  pub form : IfSome job.form IsReference
+  pub copies : job.copies < 2 ^ 8
