@@ -20,4 +20,5 @@ mod SpelledForms
 mod SpelledListings
 mod SpelledManager
 mod SpelledTimes
+mod SpelledJobPieces
 mod SpelledDeletions
