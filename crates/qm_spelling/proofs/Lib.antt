@@ -21,4 +21,5 @@ mod SpelledListings
 mod SpelledManager
 mod SpelledTimes
 mod SpelledJobPieces
+mod SpelledJobAsking
 mod SpelledDeletions
