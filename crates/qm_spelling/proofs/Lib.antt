@@ -22,4 +22,6 @@ mod SpelledManager
 mod SpelledTimes
 mod SpelledJobPieces
 mod SpelledJobAsking
+mod SpelledFiles
+mod SpelledJobs
 mod SpelledDeletions

@@ -1,0 +1,269 @@
+-- SUBMIT and PRINT.
+use Rattle.std.proofs.Common.{◌≡◌, inl, inr, ◌<◌, ◌≤◌, ◌^◌, ◌+◌, ℕ, List, [], ◌∷◌, ◌++◌, length, codes, decimal, IfSome, Option, None, Some, is_some, Bool, true, false, not, ◌&&◌, ◌==◌, if◌then◌else◌, refl, sym, ap, subst, ◌∙◌, arith, append_assoc, append-nil}
+use Rattle.std.specs.Prelude.{option_map, filter_map, unwrap_or}
+use Rattle.std.specs.List.{list_all}
+use Rattle.std.specs.Option.{option_map_or}
+use Rattle.std.specs.Str.{bytes_eq}
+use Rattle.std.proofs.lemmas.Bool.Decides.{nat_tests}
+use Rattle.std.proofs.lemmas.Slice.Eq.{bytes_eq-Decides}
+use Rattle.qm_kinds.specs.Files.{file_name_text}
+use Rattle.qm_kinds.specs.declared.entry.JobKind.{JobKind}
+use Rattle.qm_kinds.specs.declared.entry.JobKind.TheVariants.{Batch, Print}
+use Rattle.qm_kinds.specs.declared.entry.JobRetain.{JobRetain}
+use Rattle.qm_kinds.specs.declared.entry.JobRetain.TheVariants.{Default, Always, Failed, Until}
+use Rattle.qm_kinds.specs.declared.file.FileName.{FileName}
+use Rattle.qm_kinds.specs.declared.input.Input.{Input}
+use Rattle.qm_kinds.specs.declared.input.Input.TheVariants.{Ask}
+use Rattle.qm_kinds.specs.declared.request.Job.{Job}
+use Rattle.qm_kinds.specs.declared.request.NameOrNumber.{NameOrNumber}
+use Rattle.qm_kinds.specs.declared.request.Request.TheVariants.{Submit}
+use Rattle.qm_model.specs.Built.{is_short}
+use Rattle.qm_grammar.specs.declared.rules.Takes.{Takes}
+use Rattle.qm_grammar.specs.declared.rules.Takes.TheVariants as takes
+use Rattle.qm_grammar.specs.declared.table.Command.{Command}
+use Rattle.qm_grammar.specs.declared.table.Command.TheVariants as command
+use Rattle.qm_grammar.specs.declared.table.Row.{Row}
+use Rattle.qm_grammar.specs.declared.table.Verb.TheVariants as verb
+use Rattle.qm_grammar.specs.declared.word.Word.{Word}
+use Rattle.qm_grammar.specs.declared.word.Word.TheVariants as words
+use Rattle.qm_grammar.specs.Rules.{job_settings}
+use Rattle.qm_grammar.specs.Table.{row}
+use Rattle.qm_dcl.specs.declared.lists.ListOf.TheVariants.{Characteristics}
+use Rattle.qm_dcl.specs.declared.lists.Lists.{Lists}
+use Rattle.qm_dcl.specs.declared.settings.JobSettings.{JobSettings}
+use Rattle.qm_dcl.specs.declared.settings.Settings.{Settings}
+use Rattle.qm_dcl.specs.Command.{asked}
+use Rattle.qm_dcl.specs.Settings.{nothing_given}
+use Rattle.qm_dcl.specs.Submitting.{default_queue, default_type, default_restart, with_type, job_of}
+use Rattle.qm_dcl.specs.Values.{characteristic_said, short_name_said}
+use Rattle.qm_spelling.specs.Jobs.{unless_default, number_unless_default, retain_unless_default, restart_unless_default, restart_text, job_place_text, job_waiting_text, job_terms_text, job_settings_text, print_settings_text, job_text, is_job}
+use Rattle.qm_spelling.specs.Lawful.{IsName, IsReference, AreReferences, IsRetain, IsMoment, IsJobOf}
+use Rattle.qm_spelling.specs.Pieces.{valued, is_form_reference, are_characteristics, is_reference, fits_list}
+use Rattle.qm_spelling.specs.ReadBack.{ReadsBack}
+use Rattle.qm_spelling.proofs.SpelledLexemes.{text_of}
+use Rattle.qm_spelling.proofs.SpelledPieces.{Said, Piece, ArePieces, command_lexemes}
+use Rattle.qm_spelling.proofs.SpelledReading.{Spoken, spoken, plain}
+use Rattle.qm_spelling.proofs.SpelledFinding.{Makes}
+use Rattle.qm_spelling.proofs.SpelledSettings.{value_by}
+use Rattle.qm_spelling.proofs.SpelledLists.{texts_of, lists_by, nodes_by}
+use Rattle.qm_spelling.proofs.SpelledCommand.{Asks, AskFor, one_asks, reads_back}
+use Rattle.qm_spelling.proofs.SpelledTails.{mark, pieces_text, both_texts, mark_text, AreGiven, AreItself, given_append, given_behind, pieces_append, given_allows}
+use Rattle.qm_spelling.proofs.SpelledAsking.{AllAre, quiet}
+use Rattle.qm_spelling.proofs.SpelledQueueAsking.{CanBeSaid, can_all}
+use Rattle.qm_spelling.proofs.SpelledTimes.{TimesRead}
+use Rattle.qm_spelling.proofs.SpelledFiles.{file_is, file_word}
+use Rattle.qm_spelling.proofs.SpelledJobPieces.{text_piece, number_piece, reference_piece, time_piece, retain_piece, restart_piece, characteristics_piece, text_is, number_is, reference_piece_is, time_piece_is, retain_is, restart_is, characteristics_is, text_given, number_given, reference_given, time_given, retain_given, restart_given, characteristics_given, mark_given, text_words, number_words, reference_words, time_words, retain_words, restart_words, characteristics_words, mark_words}
+use Rattle.qm_spelling.proofs.SpelledJobAsking.{IsOfJob, job_with, Holds, queue_asks, name_asks, priority_asks, after_asks, hold_asks, retain_asks, restart_asks, characteristics_ask, form_asks, copies_ask, copies_or, flag_asks, text_quiet, number_quiet, reference_quiet, time_quiet, retain_quiet, restart_quiet, mark_quiet, listed_or_none, characteristics_there}
+
+and_left : (a b : Bool) → (a && b) ≡ true → a ≡ true
+and_left true b h = refl
+and_left false b h = absurd cc
+
+and_right : (a b : Bool) → (a && b) ≡ true → b ≡ true
+and_right true b h = h
+and_right false b h = absurd cc
+
+-- ---- what stands where nothing is given
+
+unless_all : (P : List ℕ → Type 0) (default name : List ℕ) → P name → IfSome (unless_default default name) P
+unless_all P default name is = by (bytes_eq name default)
+  where
+    by : (b : Bool) → IfSome (if b then None else Some name) P
+    by true = tt
+    by false = is
+
+unless_is : (default name : List ℕ) → unwrap_or (unless_default default name) default ≡ name
+unless_is default name = by (bytes_eq name default) refl
+  where
+    by : (b : Bool) → bytes_eq name default ≡ b → unwrap_or (if b then None else Some name) default ≡ name
+    by true h = sym ((bytes_eq-Decides name default).0 h)
+    by false h = refl
+
+same_number : (a b : ℕ) → (a == b) ≡ true → b ≡ a
+same_number a b h = grind (arith, nat_tests)
+
+number_unless_all : (P : ℕ → Type 0) (default n : ℕ) → P n → IfSome (number_unless_default default n) P
+number_unless_all P default n is = by (n == default)
+  where
+    by : (b : Bool) → IfSome (if b then None else Some n) P
+    by true = tt
+    by false = is
+
+number_unless_is : (default n : ℕ) → unwrap_or (number_unless_default default n) default ≡ n
+number_unless_is default n = by (n == default) refl
+  where
+    by : (b : Bool) → (n == default) ≡ b → unwrap_or (if b then None else Some n) default ≡ n
+    by true h = same_number n default h
+    by false h = refl
+
+copies_are : (n : ℕ) → copies_or (number_unless_default 1 n) ≡ n
+copies_are n = by (n == 1) refl
+  where
+    by : (b : Bool) → (n == 1) ≡ b → copies_or (if b then None else Some n) ≡ n
+    by true h = same_number n 1 h
+    by false h = refl
+
+after_is : (after : Option ℕ) → unwrap_or (option_map Some after) None ≡ after
+after_is None = refl
+after_is (Some moment) = refl
+
+retain_all : (retain : JobRetain) → IsRetain retain → IfSome (retain_unless_default retain) IsRetain
+retain_all Default is = tt
+retain_all Always is = tt
+retain_all Failed is = tt
+retain_all (Until moment) is = is
+
+retain_same : (retain : JobRetain) → unwrap_or (retain_unless_default retain) Default ≡ retain
+retain_same Default = refl
+retain_same Always = refl
+retain_same Failed = refl
+retain_same (Until moment) = refl
+
+restart_same : (kind : JobKind) (restart : Bool) → unwrap_or (restart_unless_default kind restart) (default_restart kind) ≡ restart
+restart_same Batch true = refl
+restart_same Batch false = refl
+restart_same Print true = refl
+restart_same Print false = refl
+
+pub listed_same : (rs : List NameOrNumber) → unwrap_or (listed_or_none rs) [] ≡ rs
+listed_same [] = refl
+listed_same (first ∷ others) = refl
+
+type_same : (file : FileName) (type : List ℕ) → is_some file.extension ≡ true → with_type file type file.extension ≡ file
+type_same file type some = by file.extension some
+  where
+    by : (extension : Option (List ℕ)) → is_some extension ≡ true → with_type file type extension ≡ file
+    by None some = absurd cc
+    by (Some extension) some = refl
+
+-- ---- the qualifiers of jobs of both kinds
+
+module _ (kind : JobKind) (job : Job) where
+  abbrev queue_of : Option (List ℕ)
+  queue_of = unless_default (default_queue kind) job.queue
+
+  abbrev name_of_job : Option (List ℕ)
+  name_of_job = unless_default job.file.name job.name
+
+  abbrev priority_of : Option ℕ
+  priority_of = number_unless_default 100 job.priority
+
+  abbrev retain_of : Option JobRetain
+  retain_of = retain_unless_default job.retain
+
+  abbrev restart_of : Option Bool
+  restart_of = restart_unless_default kind job.restart
+
+  abbrev place_pieces : List Piece
+  place_pieces = text_piece words.Queue queue_of ++ text_piece words.Name name_of_job ++ number_piece words.Priority priority_of
+
+  abbrev waiting_pieces : List Piece
+  waiting_pieces = time_piece job.after ++ mark words.Hold job.hold
+
+  abbrev terms_pieces : List Piece
+  terms_pieces = retain_piece retain_of ++ restart_piece restart_of ++ characteristics_piece job.characteristics
+
+  abbrev both_pieces : List Piece
+  both_pieces = place_pieces ++ waiting_pieces ++ terms_pieces
+
+  both_given : fits_list (length job.characteristics) ≡ true → AreGiven job_settings both_pieces
+  both_given fits =
+      given_append job_settings (place_pieces ++ waiting_pieces) terms_pieces
+      (given_append job_settings place_pieces waiting_pieces
+      (given_append job_settings (text_piece words.Queue queue_of ++ text_piece words.Name name_of_job) (number_piece words.Priority priority_of)
+      (given_append job_settings (text_piece words.Queue queue_of) (text_piece words.Name name_of_job)
+      (text_given job_settings words.Queue queue_of (inl refl)) (text_given job_settings words.Name name_of_job (inr (inl refl))))
+      (number_given job_settings words.Priority priority_of (inr (inr (inl refl)))))
+      (given_append job_settings (time_piece job.after) (mark words.Hold job.hold) (time_given job_settings job.after (inr (inr (inr (inl refl)))))
+      (mark_given job_settings words.Hold job.hold (inr (inr (inr (inr (inl refl))))))))
+      (given_append job_settings (retain_piece retain_of ++ restart_piece restart_of) (characteristics_piece job.characteristics)
+      (given_append job_settings (retain_piece retain_of) (restart_piece restart_of) (retain_given job_settings retain_of (inr (inr (inr (inr (inr (inl refl)))))))
+      (restart_given job_settings restart_of (inr (inr (inr (inr (inr (inr (inl refl))))))) (inr (inr (inr (inr (inr (inr (inr (inl refl))))))))))
+      (characteristics_given job_settings job.characteristics (inr (inr (inr (inr (inr (inr (inr (inr (inl refl))))))))) fits))
+
+  both_words : (user : List ℕ) → IsJobOf user job → ArePieces both_pieces
+  both_words user lawful =
+      pieces_append (place_pieces ++ waiting_pieces) terms_pieces
+      (pieces_append place_pieces waiting_pieces
+      (pieces_append (text_piece words.Queue queue_of ++ text_piece words.Name name_of_job) (number_piece words.Priority priority_of)
+      (pieces_append (text_piece words.Queue queue_of) (text_piece words.Name name_of_job)
+      (text_words words.Queue queue_of (unless_all IsName (default_queue kind) job.queue lawful.queue)) (text_words words.Name name_of_job (unless_all IsName job.file.name job.name lawful.name)))
+      (number_words words.Priority priority_of (number_unless_all (λ n. n < 2 ^ 8) 100 job.priority lawful.priority)))
+      (pieces_append (time_piece job.after) (mark words.Hold job.hold) (time_words job.after) (mark_words words.Hold job.hold)))
+      (pieces_append (retain_piece retain_of ++ restart_piece restart_of) (characteristics_piece job.characteristics)
+      (pieces_append (retain_piece retain_of) (restart_piece restart_of) (retain_words retain_of) (restart_words restart_of))
+      (characteristics_words job.characteristics lawful.characteristics))
+
+  both_text : kind ≡ job.kind → job_settings_text job ≡ pieces_text both_pieces
+  both_text same =
+      both_texts (place_pieces ++ waiting_pieces) terms_pieces _ _
+      (both_texts place_pieces waiting_pieces _ _
+      (both_texts (text_piece words.Queue queue_of ++ text_piece words.Name name_of_job) (number_piece words.Priority priority_of) _ _
+      (both_texts (text_piece words.Queue queue_of) (text_piece words.Name name_of_job) _ _
+      (subst (λ (k : JobKind). valued words.Queue (unless_default (default_queue k) job.queue) ≡ pieces_text (text_piece words.Queue queue_of)) same (text_is words.Queue queue_of))
+      (text_is words.Name name_of_job)) (number_is words.Priority priority_of))
+      (both_texts (time_piece job.after) (mark words.Hold job.hold) _ _ (time_piece_is job.after) (mark_text words.Hold job.hold)))
+      (both_texts (retain_piece retain_of ++ restart_piece restart_of) (characteristics_piece job.characteristics) _ _
+      (both_texts (retain_piece retain_of) (restart_piece restart_of) _ _ (retain_is retain_of)
+      (subst (λ (k : JobKind). restart_text (restart_unless_default k job.restart) ≡ pieces_text (restart_piece restart_of)) same (restart_is restart_of)))
+      (characteristics_is job.characteristics))
+
+  -- the groups, one behind the other, with others behind them
+  abbrev in_order : List Piece → List Piece
+  in_order h =
+      text_piece words.Queue queue_of ++ (text_piece words.Name name_of_job ++ (number_piece words.Priority priority_of ++ (time_piece job.after ++ (mark words.Hold job.hold
+      ++ (retain_piece retain_of ++ (restart_piece restart_of ++ (characteristics_piece job.characteristics ++ h)))))))
+
+  same_order : (h : List Piece) → both_pieces ++ h ≡ in_order h
+  same_order h = simp append_assoc
+
+  -- what these qualifiers give, where more of them follow
+  abbrev then_with : Option NameOrNumber → ℕ → Bool → JobSettings
+  then_with form copies flag = job_with name_of_job priority_of (option_map Some job.after) job.hold false retain_of restart_of form copies flag
+
+  module _ (times : TimesRead) (user : List ℕ) (now : ℕ) (c : Command) (lists : Lists) (nodes : Option (List (List ℕ))) (input : Input) (of : IsOfJob c) (file : Option FileName)
+      (lawful : IsJobOf user job) (short : is_short job.queue ≡ true) (can : AllAre (CanBeSaid 255) job.characteristics)
+      (queue_read : (t : Settings) (text : List ℕ) (inner : Option Said) → value_by now c t (Some words.Queue) (plain text) inner ≡ option_map (λ n. record t { queue = Some n }) (short_name_said text)) where
+    both_ask : (h : List Piece) → ((s : Settings) → Holds file None s queue_of (then_with None 1 false) → Asks user now c lists nodes input s (spoken h))
+        → (s : Settings) → Holds file None s None (job_with None None None false false None None None 1 false) → Asks user now c lists nodes input s (spoken (in_order h))
+    both_ask h asks =
+        let q : Option (List ℕ) = queue_of in
+        let m : Option (List ℕ) = name_of_job in let p : Option ℕ = priority_of in let a : Option (Option ℕ) = option_map Some job.after in
+        let r : Option JobRetain = retain_of in let rs : Option Bool = restart_of in
+        let h1 : List Piece = characteristics_piece job.characteristics ++ h in
+        let h2 : List Piece = restart_piece rs ++ h1 in
+        let h3 : List Piece = retain_piece r ++ h2 in
+        let h4 : List Piece = mark words.Hold job.hold ++ h3 in
+        let h5 : List Piece = time_piece job.after ++ h4 in
+        let h6 : List Piece = number_piece words.Priority p ++ h5 in
+        let h7 : List Piece = text_piece words.Name m ++ h6 in
+        queue_asks times user now c lists nodes input of file None words.Queue (λ x. refl) queue_read q (job_with None None None false false None None None 1 false) h7
+        (unless_all IsName (default_queue kind) job.queue lawful.queue) (unless_all (λ n. is_short n ≡ true) (default_queue kind) job.queue short)
+        (name_asks times user now c lists nodes input of file None q m None None false false None None None 1 false h6 (unless_all IsName job.file.name job.name lawful.name)
+        (priority_asks times user now c lists nodes input of file None q p m None false false None None None 1 false h5 (number_unless_all (λ n. n < 2 ^ 8) 100 job.priority lawful.priority)
+        (after_asks times user now c lists nodes input of file None q job.after m p false false None None None 1 false h4 lawful.after
+        (hold_asks times user now c lists nodes input of file None q job.hold m p a false None None None 1 false h3
+        (retain_asks times user now c lists nodes input of file None q r m p a job.hold false None None 1 false h2 (retain_all job.retain lawful.retain)
+        (restart_asks times user now c lists nodes input of file None q rs m p a job.hold false r None 1 false h1
+        (characteristics_ask times user now c lists nodes input of file None q job.characteristics (job_with m p a job.hold false r rs None 1 false) h can asks)))))))
+
+  -- the characteristics that are given
+  listed_is : (h : List Piece) → AllAre (CanBeSaid 255) job.characteristics → texts_of Characteristics (spoken h) ≡ None
+      → option_map (filter_map characteristic_said) (texts_of Characteristics (spoken (in_order h))) ≡ listed_or_none job.characteristics
+  listed_is h can none =
+      let h1 : List Piece = characteristics_piece job.characteristics ++ h in
+      let h2 : List Piece = restart_piece restart_of ++ h1 in
+      let h3 : List Piece = retain_piece retain_of ++ h2 in
+      let h4 : List Piece = mark words.Hold job.hold ++ h3 in
+      let h5 : List Piece = time_piece job.after ++ h4 in
+      let h6 : List Piece = number_piece words.Priority priority_of ++ h5 in
+      let h7 : List Piece = text_piece words.Name name_of_job ++ h6 in
+      ap (option_map (filter_map characteristic_said))
+      (quiet Characteristics (text_piece words.Queue queue_of) h7 (text_quiet Characteristics words.Queue queue_of refl)
+      ∙ quiet Characteristics (text_piece words.Name name_of_job) h6 (text_quiet Characteristics words.Name name_of_job refl)
+      ∙ quiet Characteristics (number_piece words.Priority priority_of) h5 (number_quiet Characteristics words.Priority priority_of refl)
+      ∙ quiet Characteristics (time_piece job.after) h4 (time_quiet Characteristics job.after refl)
+      ∙ quiet Characteristics (mark words.Hold job.hold) h3 (mark_quiet Characteristics words.Hold job.hold refl)
+      ∙ quiet Characteristics (retain_piece retain_of) h2 (retain_quiet Characteristics retain_of refl)
+      ∙ quiet Characteristics (restart_piece restart_of) h1 (restart_quiet Characteristics restart_of refl refl))
+      ∙ characteristics_there job.characteristics h can none
