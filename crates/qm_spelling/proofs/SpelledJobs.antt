@@ -2,7 +2,7 @@
 use Rattle.std.proofs.Common.{◌≡◌, inl, inr, ◌<◌, ◌≤◌, ◌^◌, ◌+◌, ℕ, List, [], ◌∷◌, ◌++◌, length, codes, decimal, IfSome, Option, None, Some, is_some, Bool, true, false, not, ◌&&◌, ◌==◌, if◌then◌else◌, refl, sym, ap, subst, ◌∙◌, arith, append_assoc, append-nil}
 use Rattle.std.specs.Prelude.{option_map, filter_map, unwrap_or}
 use Rattle.std.specs.List.{list_all}
-use Rattle.std.specs.Option.{option_map_or}
+use Rattle.std.specs.Option.{option_map_or, option_or}
 use Rattle.std.specs.Str.{bytes_eq}
 use Rattle.std.proofs.lemmas.Bool.Decides.{nat_tests}
 use Rattle.std.proofs.lemmas.Slice.Eq.{bytes_eq-Decides}
@@ -36,7 +36,7 @@ use Rattle.qm_dcl.specs.Command.{asked}
 use Rattle.qm_dcl.specs.Settings.{nothing_given}
 use Rattle.qm_dcl.specs.Submitting.{default_queue, default_type, default_restart, with_type, job_of}
 use Rattle.qm_dcl.specs.Values.{characteristic_said, short_name_said}
-use Rattle.qm_spelling.specs.Jobs.{unless_default, number_unless_default, retain_unless_default, restart_unless_default, restart_text, job_place_text, job_waiting_text, job_terms_text, job_settings_text, print_settings_text, job_text, is_job}
+use Rattle.qm_spelling.specs.Jobs.{unless_default, number_unless_default, retain_unless_default, restart_unless_default, restart_text, job_place_text, job_waiting_text, job_terms_text, job_settings_text, print_settings_text, job_text, are_print_settings, is_job}
 use Rattle.qm_spelling.specs.Lawful.{IsName, IsReference, AreReferences, IsRetain, IsMoment, IsJobOf}
 use Rattle.qm_spelling.specs.Pieces.{valued, is_form_reference, are_characteristics, is_reference, fits_list}
 use Rattle.qm_spelling.specs.ReadBack.{ReadsBack}
@@ -46,7 +46,7 @@ use Rattle.qm_spelling.proofs.SpelledReading.{Spoken, spoken, plain}
 use Rattle.qm_spelling.proofs.SpelledFinding.{Makes}
 use Rattle.qm_spelling.proofs.SpelledSettings.{value_by}
 use Rattle.qm_spelling.proofs.SpelledLists.{texts_of, lists_by, nodes_by}
-use Rattle.qm_spelling.proofs.SpelledCommand.{Asks, AskFor, one_asks, reads_back}
+use Rattle.qm_spelling.proofs.SpelledCommand.{Asks, AskFor, one_asks, text_where, reads_back}
 use Rattle.qm_spelling.proofs.SpelledTails.{mark, pieces_text, both_texts, mark_text, AreGiven, AreItself, given_append, given_behind, pieces_append, given_allows}
 use Rattle.qm_spelling.proofs.SpelledAsking.{AllAre, quiet}
 use Rattle.qm_spelling.proofs.SpelledQueueAsking.{CanBeSaid, can_all}
@@ -267,3 +267,303 @@ module _ (kind : JobKind) (job : Job) where
       ∙ quiet Characteristics (retain_piece retain_of) h2 (retain_quiet Characteristics retain_of refl)
       ∙ quiet Characteristics (restart_piece restart_of) h1 (restart_quiet Characteristics restart_of refl refl))
       ∙ characteristics_there job.characteristics h can none
+
+-- ---- the job that is submitted
+
+-- the job of what is given
+abbrev job_from : List ℕ → JobKind → FileName → Option (List ℕ) → JobSettings → Option (List NameOrNumber) → Job
+job_from user kind file q j characteristics = record {
+  user = user;
+  kind = kind;
+  queue = unwrap_or q (default_queue kind);
+  file = with_type file (default_type kind) file.extension;
+  name = unwrap_or j.name file.name;
+  priority = unwrap_or j.priority 100;
+  after = unwrap_or j.after None;
+  hold = j.hold;
+  retain = unwrap_or j.retain Default;
+  restart = unwrap_or j.restart (default_restart kind);
+  characteristics = unwrap_or characteristics [];
+  form = j.form;
+  copies = j.copies;
+  flag = j.flag;
+}
+
+job_is : (user : List ℕ) (kind : JobKind) (job : Job) (form : Option NameOrNumber) (copies : ℕ) (flag : Bool) → user ≡ job.user → kind ≡ job.kind → is_some job.file.extension ≡ true
+    → form ≡ job.form → copies ≡ job.copies → flag ≡ job.flag
+    → job_from user kind job.file (queue_of kind job) (then_with kind job form copies flag) (listed_or_none job.characteristics) ≡ job
+job_is user kind job form copies flag of_user of_kind of_file of_form of_copies of_flag =
+    let of_queue = unless_is (default_queue kind) job.queue in
+    let of_type = type_same job.file (default_type kind) of_file in
+    let of_name = unless_is job.file.name job.name in
+    let of_priority = number_unless_is 100 job.priority in
+    let of_after = after_is job.after in
+    let of_retain = retain_same job.retain in
+    let of_restart = restart_same kind job.restart in
+    let of_characteristics = listed_same job.characteristics in
+    λ i. record {
+      user = of_user i;
+      kind = of_kind i;
+      queue = of_queue i;
+      file = of_type i;
+      name = of_name i;
+      priority = of_priority i;
+      after = of_after i;
+      hold = job.hold;
+      retain = of_retain i;
+      restart = of_restart i;
+      characteristics = of_characteristics i;
+      form = of_form i;
+      copies = of_copies i;
+      flag = of_flag i;
+    }
+
+-- a command that submits a job of a kind
+abbrev Submits : Command → JobKind → Type 0
+Submits c kind = (user : List ℕ) (s : Settings) (lists : Lists) (nodes : Option (List (List ℕ))) (file : FileName) → s.file ≡ Some file
+    → asked user c s lists nodes ≡ Some (Ask (Submit (job_from user kind file s.queue s.job lists.characteristics)))
+
+module _ (user : List ℕ) (kind : JobKind) (job : Job) (c : Command) (submits : Submits c kind) (now : ℕ) (lists : Lists) (nodes : Option (List (List ℕ)))
+    (given : lists.characteristics ≡ listed_or_none job.characteristics) where
+  submitted : (form : Option NameOrNumber) (copies : ℕ) (flag : Bool) → job_from user kind job.file (queue_of kind job) (then_with kind job form copies flag) (listed_or_none job.characteristics) ≡ job
+      → (s : Settings) → Holds (Some job.file) None s (queue_of kind job) (then_with kind job form copies flag) → Asks user now c lists nodes (Ask (Submit job)) s []
+  submitted form copies flag same s holds = record {
+    is = submits user s lists nodes job.file holds.file_is
+        ∙ ap (λ (q : Option (List ℕ)). Some (Ask (Submit (job_from user kind job.file q s.job lists.characteristics)))) holds.queue_is
+        ∙ ap (λ (j : JobSettings). Some (Ask (Submit (job_from user kind job.file (queue_of kind job) j lists.characteristics)))) holds.job_is
+        ∙ ap (λ (o : Option (List NameOrNumber)). Some (Ask (Submit (job_from user kind job.file (queue_of kind job) (then_with kind job form copies flag) o)))) given
+        ∙ ap (λ (x : Job). Some (Ask (Submit x))) same;
+  }
+
+one_front : (o : Option (List (List ℕ))) → option_or o None ≡ o
+one_front None = refl
+one_front (Some texts) = refl
+
+-- ---- SUBMIT
+
+abbrev submit_row : Row
+submit_row = row command.Submit None None 1 1
+
+submit_itself : AreItself verb.Submit submit_row job_settings
+submit_itself = (refl, (refl, (refl, (refl, (refl, (refl, (refl, (refl, (refl, (refl, (refl, (refl, (refl, (refl, (refl, (refl, tt))))))))))))))))
+
+of_submit : IsOfJob command.Submit
+of_submit = record { no_nodes = λ word. refl; of_job = refl }
+
+submits : Submits command.Submit Batch
+submits user s lists nodes file is = ap (λ (o : Option FileName). option_map Ask (option_map (λ f. Submit (job_of user Batch f s lists)) o)) is
+
+module _ (times : TimesRead) (user : List ℕ) (job : Job) (lawful : IsJobOf user job) (of_kind : Batch ≡ job.kind) (is : is_job job ≡ true) where
+  three : (is_short job.queue && is_some job.file.extension && are_characteristics job.characteristics) ≡ true
+  three = and_left (is_short job.queue && is_some job.file.extension && are_characteristics job.characteristics) _ is
+
+  two : (is_short job.queue && is_some job.file.extension) ≡ true
+  two = and_left (is_short job.queue && is_some job.file.extension) (are_characteristics job.characteristics) three
+
+  characteristics_can : are_characteristics job.characteristics ≡ true
+  characteristics_can = and_right (is_short job.queue && is_some job.file.extension) (are_characteristics job.characteristics) three
+
+  can : AllAre (CanBeSaid 255) job.characteristics
+  can = can_all 255 job.characteristics lawful.characteristics (and_right (fits_list (length job.characteristics)) _ characteristics_can)
+
+  plain_job : are_print_settings Batch job ≡ true
+  plain_job = subst (λ (k : JobKind). are_print_settings k job ≡ true) (sym of_kind)
+      (and_right (is_short job.queue && is_some job.file.extension && are_characteristics job.characteristics) _ is)
+
+  no_form : None ≡ job.form
+  no_form = by job.form (and_left (not (is_some job.form)) (job.copies == 1) (and_left (not (is_some job.form) && job.copies == 1) (not job.flag) plain_job))
+    where
+      by : (form : Option NameOrNumber) → not (is_some form) ≡ true → None ≡ form
+      by None h = refl
+      by (Some form) h = absurd cc
+
+  one_copy : 1 ≡ job.copies
+  one_copy = same_number job.copies 1 (and_right (not (is_some job.form)) (job.copies == 1) (and_left (not (is_some job.form) && job.copies == 1) (not job.flag) plain_job))
+
+  no_flag : false ≡ job.flag
+  no_flag = by job.flag (and_right (not (is_some job.form) && job.copies == 1) (not job.flag) plain_job)
+    where
+      by : (flag : Bool) → not flag ≡ true → false ≡ flag
+      by false h = refl
+      by true h = absurd cc
+
+  abbrev submit_pieces : List Piece
+  submit_pieces = Piece.Parameter (file_name_text job.file) ∷ both_pieces Batch job
+
+  submit_makes : Makes verb.Submit submit_row submit_pieces
+  submit_makes = record {
+    lexed = (file_word job.file lawful.file, both_words Batch job user lawful);
+    leads = tt;
+    found = refl;
+    allowed = (refl, given_allows verb.Submit submit_row job_settings (both_pieces Batch job) 1 false submit_itself (both_given Batch job (and_left (fits_list (length job.characteristics)) _ characteristics_can)) refl refl);
+    agrees = refl;
+  }
+
+  order : both_pieces Batch job ≡ in_order Batch job []
+  order = sym (append-nil (both_pieces Batch job)) ∙ same_order Batch job []
+
+  submit_asks : (now : ℕ) → AskFor user now command.Submit (Ask (Submit job)) submit_pieces
+  submit_asks now =
+      let s : Settings = nothing_given command.Submit in
+      let t : Settings = record s { file = Some job.file } in
+      let lists : Lists = lists_by (spoken submit_pieces) in
+      let nodes : Option (List (List ℕ)) = nodes_by (spoken submit_pieces) in
+      let some : is_some job.file.extension ≡ true = and_right (is_short job.queue) (is_some job.file.extension) two in
+      let given : lists.characteristics ≡ listed_or_none job.characteristics =
+      ap (option_map (filter_map characteristic_said)) (one_front (texts_of Characteristics (spoken (both_pieces Batch job))) ∙ ap (λ (g : List Piece). texts_of Characteristics (spoken g)) order)
+      ∙ listed_is Batch job [] can refl in
+      let end = submitted user Batch job command.Submit submits now lists nodes given None 1 false
+      (job_is user Batch job None 1 false (sym lawful.submitter) of_kind some no_form one_copy no_flag) in
+      one_asks s t (Spoken.SaysParameter (file_name_text job.file)) (spoken (both_pieces Batch job)) (ap (option_map (λ f. record s { file = Some f })) (file_is job.file lawful.file some))
+      (subst (λ (g : List Piece). Asks user now command.Submit lists nodes (Ask (Submit job)) t (spoken g)) (sym order)
+      (both_ask Batch job times user now command.Submit lists nodes (Ask (Submit job)) of_submit (Some job.file) lawful (and_left (is_short job.queue) (is_some job.file.extension) two) can
+      (λ u text inner. refl) [] end t (record { file_is = refl; entry_is = refl; queue_is = refl; job_is = refl })))
+
+  submit_text : job_text job.kind job ≡ text_of (command_lexemes verb.Submit submit_pieces)
+  submit_text =
+      ap (λ (k : JobKind). job_text k job) (sym of_kind)
+      ∙ ap (λ (l : List ℕ). codes "SUBMIT " ++ (file_name_text job.file ++ l)) (both_text Batch job of_kind)
+
+-- ---- PRINT
+
+abbrev print_row : Row
+print_row = row command.Print None None 1 1
+
+abbrev print_front : List (Word × Takes)
+print_front = (words.Form, takes.One) ∷ (words.Copies, takes.One) ∷ (words.Flag, takes.Nothing) ∷ (words.NoFlag, takes.Nothing) ∷ []
+
+print_itself : AreItself verb.Print print_row (print_front ++ job_settings)
+print_itself =
+    (refl, (refl, (refl, (refl, (refl, (refl, (refl, (refl, (refl, (refl, (refl, (refl, (refl, (refl, (refl, (refl, (refl, (refl, (refl, (refl, tt))))))))))))))))))))
+
+of_print : IsOfJob command.Print
+of_print = record { no_nodes = λ word. refl; of_job = refl }
+
+prints : Submits command.Print Print
+prints user s lists nodes file is = ap (λ (o : Option FileName). option_map Ask (option_map (λ f. Submit (job_of user Print f s lists)) o)) is
+
+module _ (times : TimesRead) (user : List ℕ) (job : Job) (lawful : IsJobOf user job) (of_kind : Print ≡ job.kind) (is : is_job job ≡ true) where
+  short_too : (is_short job.queue && is_some job.file.extension && are_characteristics job.characteristics) ≡ true
+  short_too = and_left (is_short job.queue && is_some job.file.extension && are_characteristics job.characteristics) _ is
+
+  short_typed : (is_short job.queue && is_some job.file.extension) ≡ true
+  short_typed = and_left (is_short job.queue && is_some job.file.extension) (are_characteristics job.characteristics) short_too
+
+  all_can : are_characteristics job.characteristics ≡ true
+  all_can = and_right (is_short job.queue && is_some job.file.extension) (are_characteristics job.characteristics) short_too
+
+  can_be_said : AllAre (CanBeSaid 255) job.characteristics
+  can_be_said = can_all 255 job.characteristics lawful.characteristics (and_right (fits_list (length job.characteristics)) _ all_can)
+
+  form_can : IfSome job.form (CanBeSaid 65535)
+  form_can = by job.form lawful.form
+      (subst (λ (k : JobKind). are_print_settings k job ≡ true) (sym of_kind) (and_right (is_short job.queue && is_some job.file.extension && are_characteristics job.characteristics) _ is))
+    where
+      by : (form : Option NameOrNumber) → IfSome form IsReference → option_map_or is_form_reference form true ≡ true → IfSome form (CanBeSaid 65535)
+      by None of_form h = tt
+      by (Some form) of_form h = (of_form, h)
+
+  abbrev copies_of : Option ℕ
+  copies_of = number_unless_default 1 job.copies
+
+  abbrev own_pieces : List Piece
+  own_pieces = reference_piece words.Form job.form ++ number_piece words.Copies copies_of ++ mark words.Flag job.flag
+
+  abbrev own_in_order : List Piece
+  own_in_order = reference_piece words.Form job.form ++ (number_piece words.Copies copies_of ++ (mark words.Flag job.flag ++ []))
+
+  abbrev print_tail : List Piece
+  print_tail = both_pieces Print job ++ own_pieces
+
+  print_order : print_tail ≡ in_order Print job own_in_order
+  print_order = ap (λ (g : List Piece). both_pieces Print job ++ g) own_order ∙ same_order Print job own_in_order
+    where
+      own_order : own_pieces ≡ own_in_order
+      own_order = simp (append_assoc, append-nil)
+
+  abbrev print_pieces : List Piece
+  print_pieces = Piece.Parameter (file_name_text job.file) ∷ print_tail
+
+  own_given : AreGiven (print_front ++ job_settings) own_pieces
+  own_given =
+      let table : List (Word × Takes) = print_front ++ job_settings in
+      given_append table (reference_piece words.Form job.form ++ number_piece words.Copies copies_of) (mark words.Flag job.flag)
+      (given_append table (reference_piece words.Form job.form) (number_piece words.Copies copies_of)
+      (reference_given table words.Form job.form (inl refl)) (number_given table words.Copies copies_of (inr (inl refl))))
+      (mark_given table words.Flag job.flag (inr (inr (inl refl))))
+
+  own_words : ArePieces own_pieces
+  own_words =
+      pieces_append (reference_piece words.Form job.form ++ number_piece words.Copies copies_of) (mark words.Flag job.flag)
+      (pieces_append (reference_piece words.Form job.form) (number_piece words.Copies copies_of)
+      (reference_words words.Form job.form lawful.form) (number_words words.Copies copies_of (number_unless_all (λ n. n < 2 ^ 8) 1 job.copies lawful.copies)))
+      (mark_words words.Flag job.flag)
+
+  own_text : print_settings_text job ≡ pieces_text own_pieces
+  own_text =
+      both_texts (reference_piece words.Form job.form ++ number_piece words.Copies copies_of) (mark words.Flag job.flag) _ _
+      (both_texts (reference_piece words.Form job.form) (number_piece words.Copies copies_of) _ _ (reference_piece_is words.Form job.form) (number_is words.Copies copies_of))
+      (mark_text words.Flag job.flag)
+
+  print_makes : Makes verb.Print print_row print_pieces
+  print_makes = record {
+    lexed = (file_word job.file lawful.file, pieces_append (both_pieces Print job) own_pieces (both_words Print job user lawful) own_words);
+    leads = tt;
+    found = refl;
+    allowed = (refl, given_allows verb.Print print_row (print_front ++ job_settings) print_tail 1 false print_itself
+        (given_append (print_front ++ job_settings) (both_pieces Print job) own_pieces
+        (given_behind print_front job_settings (both_pieces Print job) (both_given Print job (and_left (fits_list (length job.characteristics)) _ all_can))) own_given) refl refl);
+    agrees = refl;
+  }
+
+  none_own : texts_of Characteristics (spoken own_in_order) ≡ None
+  none_own =
+      quiet Characteristics (reference_piece words.Form job.form) (number_piece words.Copies copies_of ++ (mark words.Flag job.flag ++ [])) (reference_quiet Characteristics words.Form job.form refl)
+      ∙ quiet Characteristics (number_piece words.Copies copies_of) (mark words.Flag job.flag ++ []) (number_quiet Characteristics words.Copies copies_of refl)
+      ∙ quiet Characteristics (mark words.Flag job.flag) [] (mark_quiet Characteristics words.Flag job.flag refl)
+
+  print_asks : (now : ℕ) → AskFor user now command.Print (Ask (Submit job)) print_pieces
+  print_asks now =
+      let s : Settings = nothing_given command.Print in
+      let t : Settings = record s { file = Some job.file } in
+      let lists : Lists = lists_by (spoken print_pieces) in
+      let nodes : Option (List (List ℕ)) = nodes_by (spoken print_pieces) in
+      let input : Input = Ask (Submit job) in
+      let some : is_some job.file.extension ≡ true = and_right (is_short job.queue) (is_some job.file.extension) short_typed in
+      let given : lists.characteristics ≡ listed_or_none job.characteristics =
+      ap (option_map (filter_map characteristic_said)) (one_front (texts_of Characteristics (spoken print_tail)) ∙ ap (λ (g : List Piece). texts_of Characteristics (spoken g)) print_order)
+      ∙ listed_is Print job own_in_order can_be_said none_own in
+      let q : Option (List ℕ) = queue_of Print job in let m : Option (List ℕ) = name_of_job Print job in let p : Option ℕ = priority_of Print job in
+      let a : Option (Option ℕ) = option_map Some job.after in let r : Option JobRetain = retain_of Print job in let rs : Option Bool = restart_of Print job in
+      let end = submitted user Print job command.Print prints now lists nodes given job.form (copies_or copies_of) job.flag
+      (job_is user Print job job.form (copies_or copies_of) job.flag (sym lawful.submitter) of_kind some refl (copies_are job.copies) refl) in
+      let flags = flag_asks times user now command.Print lists nodes input of_print (Some job.file) None q job.flag m p a job.hold false r rs job.form (copies_or copies_of) [] end in
+      let copies = copies_ask times user now command.Print lists nodes input of_print (Some job.file) None q copies_of m p a job.hold false r rs job.form false (mark words.Flag job.flag ++ [])
+      (number_unless_all (λ n. n < 2 ^ 8) 1 job.copies lawful.copies) flags in
+      let forms = form_asks times user now command.Print lists nodes input of_print (Some job.file) None q job.form m p a job.hold false r rs 1 false
+      (number_piece words.Copies copies_of ++ (mark words.Flag job.flag ++ [])) form_can copies in
+      one_asks s t (Spoken.SaysParameter (file_name_text job.file)) (spoken print_tail) (ap (option_map (λ f. record s { file = Some f })) (file_is job.file lawful.file some))
+      (subst (λ (g : List Piece). Asks user now command.Print lists nodes input t (spoken g)) (sym print_order)
+      (both_ask Print job times user now command.Print lists nodes input of_print (Some job.file) lawful (and_left (is_short job.queue) (is_some job.file.extension) short_typed) can_be_said
+      (λ u text inner. refl) own_in_order forms t (record { file_is = refl; entry_is = refl; queue_is = refl; job_is = refl })))
+
+  print_text : job_text job.kind job ≡ text_of (command_lexemes verb.Print print_pieces)
+  print_text =
+      ap (λ (k : JobKind). job_text k job) (sym of_kind)
+      ∙ ap (λ (l : List ℕ). codes "PRINT " ++ l) (append_assoc (file_name_text job.file) (job_settings_text job) (print_settings_text job))
+      ∙ ap (λ (l : List ℕ). codes "PRINT " ++ (file_name_text job.file ++ l)) (both_texts (both_pieces Print job) own_pieces _ _ (both_text Print job of_kind) own_text)
+
+-- ---- either
+
+pub submit_back : TimesRead → (user : List ℕ) (job : Job) → IsJobOf user job → ReadsBack user (Ask (Submit job))
+submit_back times user job lawful = by job.kind refl
+  where
+    by : (kind : JobKind) → kind ≡ job.kind → ReadsBack user (Ask (Submit job))
+    by Batch same = λ now text h.
+        reads_back verb.Submit submit_row (Piece.Parameter (file_name_text job.file) ∷ both_pieces Batch job) user (Ask (Submit job))
+        (submit_text times user job lawful same (text_where (is_job job) (job_text job.kind job) text h).0)
+        (λ is. (submit_makes times user job lawful same is, λ n. submit_asks times user job lawful same is n)) now text h
+    by Print same = λ now text h.
+        let is = (text_where (is_job job) (job_text job.kind job) text h).0 in
+        reads_back verb.Print print_row (print_pieces times user job lawful same is) user (Ask (Submit job)) (print_text times user job lawful same is)
+        (λ _. (print_makes times user job lawful same is, λ n. print_asks times user job lawful same is n)) now text h
