@@ -24,4 +24,5 @@ mod SpelledJobPieces
 mod SpelledJobAsking
 mod SpelledFiles
 mod SpelledJobs
+mod SpelledEntries
 mod SpelledDeletions

@@ -72,7 +72,7 @@ module _ (times : TimesRead) (user : List ℕ) (now : ℕ) (c : Command) (lists 
   All_ask q j h = (s : Settings) → Holds file entry s q j → Asks user now c lists nodes input s (spoken h)
 
   -- a qualifier whose value is set for the job
-  set_asks : (word : Word) (said : Said) (q : Option (List ℕ)) (j : JobSettings) (set : JobSettings → JobSettings) (h : List Piece) (ps : List Spoken)
+  pub set_asks : (word : Word) (said : Said) (q : Option (List ℕ)) (j : JobSettings) (set : JobSettings → JobSettings) (h : List Piece) (ps : List Spoken)
       → ((x : JobSettings) → job_marked x word ≡ x)
       → ((t : Settings) → value_by now c t (Some word) said (inner_of ps) ≡ Some (with_job t (set t.job)))
       → ((t : Settings) → Holds file entry t q (set j) → Asks user now c lists nodes input t ps)
@@ -88,7 +88,7 @@ module _ (times : TimesRead) (user : List ℕ) (now : ℕ) (c : Command) (lists 
       }))
 
   -- a qualifier without a value
-  marked_asks : (word : Word) (q : Option (List ℕ)) (j : JobSettings) (h : List Piece) → All_ask q (job_marked j word) h → All_ask q j (Piece.Marked word ∷ h)
+  pub marked_asks : (word : Word) (q : Option (List ℕ)) (j : JobSettings) (h : List Piece) → All_ask q (job_marked j word) h → All_ask q j (Piece.Marked word ∷ h)
   marked_asks word q j h asks s holds =
       one_asks s (with_word s word) (Spoken.SaysQualifier word) (spoken h) refl
       (asks (with_word s word) (record {

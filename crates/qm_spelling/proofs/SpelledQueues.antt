@@ -53,7 +53,7 @@ and_right false b h = absurd cc
 
 -- ---- something is set
 
-has_both : (g h : List Piece) (a b : Bool) → a ≡ has_some g → b ≡ has_some h → (a || b) ≡ has_some (g ++ h)
+pub has_both : (g h : List Piece) (a b : Bool) → a ≡ has_some g → b ≡ has_some h → (a || b) ≡ has_some (g ++ h)
 has_both [] h false b of_g of_h = of_h
 has_both [] h true b of_g of_h = absurd cc
 has_both (piece ∷ g) h true b of_g of_h = refl

@@ -9,6 +9,7 @@ use Rattle.qm_kinds.specs.declared.form.Form.{Form}
 use Rattle.qm_kinds.specs.declared.form.Shape.{Shape}
 use Rattle.qm_kinds.specs.declared.query.Query.{Query}
 use Rattle.qm_kinds.specs.declared.queue.QueueChange.{QueueChange}
+use Rattle.qm_kinds.specs.declared.request.EntryChange.{EntryChange}
 use Rattle.qm_kinds.specs.declared.request.Job.{Job}
 use Rattle.qm_kinds.specs.declared.request.NameOrNumber.{NameOrNumber}
 use Rattle.qm_kinds.specs.declared.request.NameOrNumber.TheVariants.{Name, Number}
@@ -92,3 +93,13 @@ pub record IsJobOf (user : List ℕ) (job : Job) : Type 0 where
   pub characteristics : AreReferences job.characteristics
   pub form : IfSome job.form IsReference
   pub copies : job.copies < 2 ^ 8
+
+-- what is changed of an entry
+pub record IsEntryChange (change : EntryChange) : Type 0 where
+  pub after : IfSome change.after (λ moment. IfSome moment IsMoment)
+  pub priority : IfSome change.priority (λ n. n < 2 ^ 8)
+  pub name : IfSome change.name IsName
+  pub characteristics : IfSome change.characteristics AreReferences
+  pub form : IfSome change.form IsReference
+  pub queue : IfSome change.queue IsName
+  pub retain : IfSome change.retain IsRetain
