@@ -8,7 +8,7 @@ use Rattle.qm_spelling.proofs.SpelledTimes.{time_inside}
 use Rattle.qm_spelling.proofs.SpelledJobPieces.{mark_words}
 use Rattle.qm_spelling.proofs.SpelledJobAsking.{mark_quiet}
 use Rattle.qm_spelling.proofs.SpelledJobs.{submit_back}
-use Rattle.qm_spelling.proofs.SpelledEntries.{has_tail}
+use Rattle.qm_spelling.proofs.SpelledEntries.{entry_back}
 use Rattle.qm_spelling.proofs.read_back.merges_read_back.Goals as goal
 
 pub returns : goal.returns
