@@ -25,4 +25,5 @@ mod SpelledJobAsking
 mod SpelledFiles
 mod SpelledJobs
 mod SpelledEntries
+mod SpelledNewQueues
 mod SpelledDeletions

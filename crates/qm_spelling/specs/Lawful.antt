@@ -8,6 +8,7 @@ use Rattle.qm_kinds.specs.declared.form.Characteristic.{Characteristic}
 use Rattle.qm_kinds.specs.declared.form.Form.{Form}
 use Rattle.qm_kinds.specs.declared.form.Shape.{Shape}
 use Rattle.qm_kinds.specs.declared.query.Query.{Query}
+use Rattle.qm_kinds.specs.declared.queue.NewQueue.{NewQueue}
 use Rattle.qm_kinds.specs.declared.queue.QueueChange.{QueueChange}
 use Rattle.qm_kinds.specs.declared.request.EntryChange.{EntryChange}
 use Rattle.qm_kinds.specs.declared.request.Job.{Job}
@@ -103,3 +104,11 @@ pub record IsEntryChange (change : EntryChange) : Type 0 where
   pub form : IfSome change.form IsReference
   pub queue : IfSome change.queue IsName
   pub retain : IfSome change.retain IsRetain
+
+-- a queue that is made
+pub record IsNewQueue (new : NewQueue) : Type 0 where
+  pub name : IsName new.name
+  pub node : IfSome new.node IsName
+  pub device : IfSome new.device IsName
+  pub targets : AreNames new.targets
+  pub change : IsQueueChange new.change

@@ -9,6 +9,7 @@ use Rattle.qm_spelling.proofs.SpelledJobPieces.{mark_words}
 use Rattle.qm_spelling.proofs.SpelledJobAsking.{mark_quiet}
 use Rattle.qm_spelling.proofs.SpelledJobs.{submit_back}
 use Rattle.qm_spelling.proofs.SpelledEntries.{entry_back}
+use Rattle.qm_spelling.proofs.SpelledNewQueues.{targets_are}
 use Rattle.qm_spelling.proofs.read_back.merges_read_back.Goals as goal
 
 pub returns : goal.returns
