@@ -26,4 +26,5 @@ mod SpelledFiles
 mod SpelledJobs
 mod SpelledEntries
 mod SpelledNewQueues
+mod SpelledBack
 mod SpelledDeletions

@@ -32,7 +32,7 @@ use Rattle.qm_dcl.specs.Values.{number_to}
 use Rattle.qm_spelling.specs.Forms.{margins_text, are_default_margins, margins_unless_default, shape_text, form_text}
 use Rattle.qm_spelling.specs.Jobs.{unless_default, number_unless_default}
 use Rattle.qm_spelling.specs.Lawful.{IsName, IsShape, IsForm, IsCharacteristic}
-use Rattle.qm_spelling.specs.Pieces.{marked, valued}
+use Rattle.qm_spelling.specs.Pieces.{marked, valued, list_text}
 use Rattle.qm_spelling.specs.ReadBack.{ReadsBack}
 use Rattle.qm_spelling.proofs.Values.{number_reads_back}
 use Rattle.qm_spelling.proofs.SpelledLexemes.{text_of}
@@ -41,7 +41,7 @@ use Rattle.qm_spelling.proofs.SpelledReading.{Spoken, spoken, plain}
 use Rattle.qm_spelling.proofs.SpelledFinding.{counts_in, Makes}
 use Rattle.qm_spelling.proofs.SpelledLists.{lists_by, nodes_by}
 use Rattle.qm_spelling.proofs.SpelledCommand.{Asks, AskFor, one_asks, reads_back}
-use Rattle.qm_spelling.proofs.SpelledTails.{mark, one, pieces_text, value_text, both_texts, mark_text, valued_text, one_text, AreGiven, AreItself, given_append, pieces_append, given_allows, given_leaves}
+use Rattle.qm_spelling.proofs.SpelledTails.{mark, one, pieces_text, value_text, both_texts, mark_text, valued_text, one_text, many_text, AreGiven, AreItself, given_append, pieces_append, given_allows, given_leaves}
 use Rattle.qm_spelling.proofs.SpelledWords.{name_word, number_word, short_said, definable_said}
 use Rattle.qm_spelling.proofs.SpelledAsking.{value_asks, valued_asks}
 
@@ -129,7 +129,14 @@ margins_unless true shape = []
 margins_unless false shape = Piece.Valued words.Margin (margins_value shape) ∷ []
 
 margins_are : (shape : Shape) → margins_text shape ≡ value_text (margins_value shape)
-margins_are shape = simp (append_assoc, append-nil)
+margins_are shape =
+    let top = sym (append-nil (decimal shape.top)) in let bottom = sym (append-nil (decimal shape.bottom)) in
+    let left = sym (append-nil (decimal shape.left)) in let right = sym (append-nil (decimal shape.right)) in
+    let each : margins_text shape ≡ list_text ((codes "TOP=" ++ (decimal shape.top ++ [])) ∷ (codes "BOTTOM=" ++ (decimal shape.bottom ++ []))
+    ∷ (codes "LEFT=" ++ (decimal shape.left ++ [])) ∷ (codes "RIGHT=" ++ (decimal shape.right ++ [])) ∷ []) =
+    λ i. list_text ((codes "TOP=" ++ top i) ∷ (codes "BOTTOM=" ++ bottom i) ∷ (codes "LEFT=" ++ left i) ∷ (codes "RIGHT=" ++ right i) ∷ []) in
+    each ∙ many_text (side_item (codes "TOP") shape.top)
+    (side_item (codes "BOTTOM") shape.bottom ∷ side_item (codes "LEFT") shape.left ∷ side_item (codes "RIGHT") shape.right ∷ [])
 
 margins_unless_text : (shape : Shape) → valued words.Margin (margins_unless_default shape) ≡ pieces_text (margins_unless (are_default_margins shape) shape)
 margins_unless_text shape = by (are_default_margins shape)

@@ -25,7 +25,7 @@ use Rattle.qm_spelling.specs.Lawful.{IsName, IsReference, AreReferences, IsRetai
 use Rattle.qm_spelling.specs.Pieces.{reference_text, is_reference, are_characteristics, fits_list}
 use Rattle.qm_spelling.proofs.Values.{name_reads_back, number_reads_back}
 use Rattle.qm_spelling.proofs.SpelledPieces.{Said, Value, Piece}
-use Rattle.qm_spelling.proofs.SpelledReading.{Spoken, spoken, plain}
+use Rattle.qm_spelling.proofs.SpelledReading.{Spoken, spoken, items_spoken, plain}
 use Rattle.qm_spelling.proofs.SpelledSettings.{inner_of, value_by, job_retain_by}
 use Rattle.qm_spelling.proofs.SpelledLists.{texts_of}
 use Rattle.qm_spelling.proofs.SpelledCommand.{Asks, one_asks}
@@ -58,6 +58,11 @@ job_with name priority after hold release retain restart form copies flag = reco
   copies = copies;
   flag = flag;
 }
+
+-- how many copies, where 1 is as many as where none are given
+abbrev pub copies_or : Option ℕ → ℕ
+copies_or None = 1
+copies_or (Some n) = n
 
 -- this is given of a job for this file, or of the entry of this number
 pub record Holds (the_file : Option FileName) (the_entry : Option ℕ) (s : Settings) (q : Option (List ℕ)) (j : JobSettings) : Type 0 where
@@ -182,11 +187,6 @@ module _ (times : TimesRead) (user : List ℕ) (now : ℕ) (c : Command) (lists 
         set_asks words.Form (plain (reference_text form)) q (job_with m p a ho re r rs None n fl) (λ x. record x { form = Some form }) h (spoken h) (λ x. refl)
         (λ t. ap (option_map (λ k. with_job t (record t.job { form = Some k }))) (reference_is 65535 form lawful.0 lawful.1)) asks
 
-    -- how many copies, where 1 is as many as where none are given
-    abbrev pub copies_or : Option ℕ → ℕ
-    copies_or None = 1
-    copies_or (Some n) = n
-
     pub copies_ask : (o : Option ℕ) (m : Option (List ℕ)) (p : Option ℕ) (a : Option (Option ℕ)) (ho re : Bool) (r : Option JobRetain) (rs : Option Bool) (f : Option NameOrNumber) (fl : Bool) (h : List Piece)
         → IfSome o (λ n. n < 2 ^ 8) → All_ask q (job_with m p a ho re r rs f (copies_or o) fl) h → All_ask q (job_with m p a ho re r rs f 1 fl) (number_piece words.Copies o ++ h)
     copies_ask None m p a ho re r rs f fl h lawful asks = asks
@@ -208,7 +208,7 @@ module _ (times : TimesRead) (user : List ℕ) (now : ℕ) (c : Command) (lists 
     characteristics_ask [] j h can asks = asks
     characteristics_ask (first ∷ others) j h can asks = λ s holds.
         let t : Settings = with_word s words.Characteristics in
-        one_asks s t (Spoken.SaysQualifier words.Characteristics) (spoken (Piece.Valued words.Characteristics (words_list (reference_text first) (map reference_text others)) ∷ h)) refl
+        one_asks s t (Spoken.SaysQualifier words.Characteristics) (items_spoken (map item (map reference_text (first ∷ others))) (spoken h)) refl
         (values_ask user now c lists nodes input of.no_nodes t (map reference_text (first ∷ others)) (spoken h) (characteristics_read t (first ∷ others) refl can)
         (asks t (record { file_is = holds.file_is; entry_is = holds.entry_is; queue_is = holds.queue_is; job_is = holds.job_is })))
 

@@ -1,5 +1,5 @@
 -- INITIALIZE/QUEUE.
-use Rattle.std.proofs.Common.{◌≡◌, ◌⊎◌, inl, inr, ◌<◌, ◌≤◌, ◌^◌, ◌+◌, ◌-◌, ℕ, suc, List, [], ◌∷◌, ◌++◌, length, take, drop, position, codes, IfSome, Option, None, Some, is_some, Bool, true, false, cond, not, ◌&&◌, ◌||◌, ◌==◌, if◌then◌else◌, nat_lt, refl, sym, ap, subst, ◌∙◌, arith, append_assoc, append-nil, length-append}
+use Rattle.std.proofs.Common.{◌≡◌, ◌⊎◌, inl, inr, ◌<◌, ◌≤◌, ◌^◌, ◌+◌, ◌-◌, ℕ, suc, List, [], ◌∷◌, ◌++◌, length, map, take, drop, position, codes, IfSome, Option, None, Some, is_some, Bool, true, false, cond, not, ◌&&◌, ◌||◌, ◌==◌, if◌then◌else◌, nat_lt, refl, sym, ap, subst, ◌∙◌, arith, append_assoc, append-nil, length-append}
 use Rattle.std.specs.Prelude.{option_map, option_and_then, filter_map, unwrap_or}
 use Rattle.std.specs.List.{list_all, cons_option}
 use Rattle.std.specs.Option.{option_map_or, option_or}
@@ -33,7 +33,7 @@ use Rattle.qm_dcl.specs.declared.settings.Settings.{Settings}
 use Rattle.qm_dcl.specs.declared.value.Location.{Location}
 use Rattle.qm_dcl.specs.Given.{with_word, with_queue_settings}
 use Rattle.qm_dcl.specs.Lists.{gives}
-use Rattle.qm_dcl.specs.Queues.{new_queue_of, queue_request}
+use Rattle.qm_dcl.specs.Queues.{kind_of, new_queue_of, queue_request}
 use Rattle.qm_dcl.specs.Settings.{nothing_given}
 use Rattle.qm_dcl.specs.Values.{is_node_name, node_said, short_name_said, characteristic_said, behind_colon, before_colon, device_said, located, location_cut_at, location_said}
 use Rattle.qm_spelling.specs.Lawful.{IsName, AreNames, IsQueueChange, IsNewQueue}
@@ -42,7 +42,7 @@ use Rattle.qm_spelling.specs.Queues.{is_for_batch, targets_text, device_text, lo
 use Rattle.qm_spelling.specs.ReadBack.{ReadsBack}
 use Rattle.qm_spelling.proofs.SpelledLexemes.{is_word_byte, text_of}
 use Rattle.qm_spelling.proofs.SpelledPieces.{Said, Piece, IsWord, ArePieces, command_lexemes}
-use Rattle.qm_spelling.proofs.SpelledReading.{Spoken, spoken, plain}
+use Rattle.qm_spelling.proofs.SpelledReading.{Spoken, spoken, items_spoken, plain}
 use Rattle.qm_spelling.proofs.SpelledFinding.{counts_in, Makes}
 use Rattle.qm_spelling.proofs.SpelledSettings.{value_by}
 use Rattle.qm_spelling.proofs.SpelledLists.{texts_of, lists_by, nodes_by}
@@ -299,6 +299,238 @@ module _ (user : List ℕ) (now : ℕ) (lists : Lists) (nodes : Option (List (Li
   targets_ask [] qs h lawful short asks = asks
   targets_ask (first ∷ others) qs h lawful short asks = λ s stands.
       let t : Settings = with_word s words.Generic in
-      one_asks s t (Spoken.SaysQualifier words.Generic) (spoken (Piece.Valued words.Generic (words_list first others) ∷ h)) refl
+      one_asks s t (Spoken.SaysQualifier words.Generic) (items_spoken (map item (first ∷ others)) (spoken h)) refl
       (values_ask user now command.InitializeQueue lists nodes input of_new.no_nodes t (first ∷ others) (spoken h) (targets_read t (first ∷ others) refl lawful short)
       (asks t (record { settings = stands.settings; named = stands.named })))
+
+-- ---- the queue that is made
+
+abbrev targets_or_none : List (List ℕ) → Option (List (List ℕ))
+targets_or_none [] = None
+targets_or_none (first ∷ others) = Some (first ∷ others)
+
+kind_same : (kind : QueueKind) → kind_of (is_for_batch kind) (is_generic kind) ≡ kind
+kind_same Batch = refl
+kind_same Print = refl
+kind_same GenericBatch = refl
+kind_same GenericPrint = refl
+
+node_same : (node device : Option (List ℕ)) → option_map (λ (l : Location). l.node) (location_of node device) ≡ node
+node_same None device = refl
+node_same (Some node) device = refl
+
+device_same : (node device : Option (List ℕ)) → (is_some node || not (is_some device)) ≡ true → option_and_then (λ (l : Location). l.device) (location_of node device) ≡ device
+device_same None None h = refl
+device_same None (Some device) h = absurd cc
+device_same (Some node) device h = refl
+
+targets_same : (targets : List (List ℕ)) → unwrap_or (targets_or_none targets) [] ≡ targets
+targets_same [] = refl
+targets_same (first ∷ others) = refl
+
+-- each name is a target
+all_targets : (names : List (List ℕ)) → AreNames names → list_all is_short names ≡ true → filter_map short_name_said names ≡ names
+all_targets [] lawful short = refl
+all_targets (name ∷ names) lawful short =
+    ap (λ (o : Option (List ℕ)). cons_option o (filter_map short_name_said names)) (short_said name lawful.0 (and_left (is_short name) _ short))
+    ∙ ap (λ (l : List (List ℕ)). name ∷ l) (all_targets names lawful.1 (and_right (is_short name) _ short))
+
+targets_quiet : (list : ListOf) (targets : List (List ℕ)) → gives list words.Generic ≡ false → AreQuiet list (targets_pieces targets)
+targets_quiet list [] h = tt
+targets_quiet list (first ∷ others) h = (h, tt)
+
+location_quiet : (list : ListOf) (node device : Option (List ℕ)) → gives list words.On ≡ false → AreQuiet list (location_pieces node device)
+location_quiet list None device h = tt
+location_quiet list (Some node) device h = (h, tt)
+
+mark_quiet_in : (list : ListOf) (word : Word) (b : Bool) → gives list word ≡ false → AreQuiet list (mark word b)
+mark_quiet_in list word true h = (h, tt)
+mark_quiet_in list word false h = tt
+
+targets_there : (targets : List (List ℕ)) (h : List Piece) → AreNames targets → list_all is_short targets ≡ true → texts_of Targets (spoken h) ≡ None
+    → option_map (filter_map short_name_said) (texts_of Targets (spoken (targets_pieces targets ++ h))) ≡ targets_or_none targets
+targets_there [] h lawful short none = ap (option_map (filter_map short_name_said)) none
+targets_there (first ∷ others) h lawful short none =
+    ap (option_map (filter_map short_name_said)) (list_is Targets words.Generic first others h refl none)
+    ∙ ap (λ (l : List (List ℕ)). Some l) (all_targets (first ∷ others) lawful short)
+
+two_front : (o : Option (List (List ℕ))) → option_or (option_or o None) None ≡ o
+two_front None = refl
+two_front (Some texts) = refl
+
+-- what stands in front, in order, and what is set behind it
+abbrev new_order : NewQueue → List Piece
+new_order new =
+    mark words.Batch (is_for_batch new.kind) ++ (targets_pieces new.targets ++ (location_pieces new.node new.device ++ (mark words.Start new.start ++ in_order new.change)))
+
+tail_order : (new : NewQueue) → tail_pieces new ≡ new_order new
+tail_order new = ap (λ (g : List Piece). front_pieces new ++ g) (same_order new.change) ∙ simp append_assoc
+
+-- what a new queue is, whatever its kind
+record CanBeMade (new : NewQueue) : Type 0 where
+  table : List (Word × Takes)
+  itself : AreItself verb.Initialize new_row table
+  given : AreGiven table (tail_pieces new)
+  unnamed : leave verb.Initialize None words.Queue table ≡ true
+  excludes : (leave verb.Initialize (Some new_row) words.Generic table ≡ true) ⊎ (leave verb.Initialize (Some new_row) words.On table ≡ true)
+  short : is_short new.name ≡ true
+  set : are_queue_settings new.change ≡ true
+  short_targets : list_all is_short new.targets ≡ true
+  short_node : option_map_or is_node_name new.node true ≡ true
+  short_device : option_map_or is_short new.device true ≡ true
+  on_node : (is_some new.node || not (is_some new.device)) ≡ true
+  generic : is_generic new.kind ≡ is_some (targets_or_none new.targets)
+
+module _ (user : List ℕ) (new : NewQueue) (lawful : IsNewQueue new) (can : CanBeMade new) where
+  made_makes : Makes verb.Initialize new_row (all_pieces new)
+  made_makes = new_makes new can.table lawful can.itself can.given can.unnamed can.excludes
+
+  given_characteristics : (lists_by (spoken (all_pieces new))).characteristics ≡ new.change.characteristics
+  given_characteristics =
+      let h3 : List Piece = mark words.Start new.start ++ in_order new.change in
+      let h2 : List Piece = location_pieces new.node new.device ++ h3 in
+      let h1 : List Piece = targets_pieces new.targets ++ h2 in
+      ap (option_map (filter_map characteristic_said)) (
+      two_front (texts_of Characteristics (spoken (tail_pieces new))) ∙ ap (λ (g : List Piece). texts_of Characteristics (spoken g)) (tail_order new)
+      ∙ quiet Characteristics (mark words.Batch (is_for_batch new.kind)) h1 (mark_quiet_in Characteristics words.Batch (is_for_batch new.kind) refl)
+      ∙ quiet Characteristics (targets_pieces new.targets) h2 (targets_quiet Characteristics new.targets refl)
+      ∙ quiet Characteristics (location_pieces new.node new.device) h3 (location_quiet Characteristics new.node new.device refl)
+      ∙ quiet Characteristics (mark words.Start new.start) (in_order new.change) (mark_quiet_in Characteristics words.Start new.start refl))
+      ∙ set_characteristics new.change lawful.change can.set
+
+  given_targets : (lists_by (spoken (all_pieces new))).targets ≡ targets_or_none new.targets
+  given_targets =
+      let h3 : List Piece = mark words.Start new.start ++ in_order new.change in
+      let h2 : List Piece = location_pieces new.node new.device ++ h3 in
+      let h1 : List Piece = targets_pieces new.targets ++ h2 in
+      let none : texts_of Targets (spoken h2) ≡ None =
+      quiet Targets (location_pieces new.node new.device) h3 (location_quiet Targets new.node new.device refl)
+      ∙ quiet Targets (mark words.Start new.start) (in_order new.change) (mark_quiet_in Targets words.Start new.start refl) ∙ no_targets new.change in
+      ap (option_map (filter_map short_name_said)) (
+      two_front (texts_of Targets (spoken (tail_pieces new))) ∙ ap (λ (g : List Piece). texts_of Targets (spoken g)) (tail_order new)
+      ∙ quiet Targets (mark words.Batch (is_for_batch new.kind)) h1 (mark_quiet_in Targets words.Batch (is_for_batch new.kind) refl))
+      ∙ targets_there new.targets h2 lawful.targets can.short_targets none
+
+  -- the queue of what is given
+  abbrev made_from : QueueSettings → Option (List NameOrNumber) → Option (List (List ℕ)) → NewQueue
+  made_from qs characteristics targets = new_queue_of new.name qs (record { characteristics = characteristics; targets = targets })
+
+  abbrev all_set : QueueSettings
+  all_set =
+      queue_with new.change.limit new.change.form new.change.blocks new.change.by_size new.change.retain (is_for_batch new.kind) (location_of new.node new.device) new.start
+
+  same_queue : made_from all_set new.change.characteristics (targets_or_none new.targets) ≡ new
+  same_queue =
+      let kind : kind_of (is_for_batch new.kind) (is_some (targets_or_none new.targets)) ≡ new.kind = ap (kind_of (is_for_batch new.kind)) (sym can.generic) ∙ kind_same new.kind in
+      let node = node_same new.node new.device in let device = device_same new.node new.device can.on_node in let targets = targets_same new.targets in
+      λ i. record { name = new.name; kind = kind i; node = node i; device = device i; targets = targets i; change = new.change; start = new.start }
+
+  made_asks : (now : ℕ) → AskFor user now command.InitializeQueue (Ask (InitializeQueue new)) (all_pieces new)
+  made_asks now =
+      let s : Settings = nothing_given command.InitializeQueue in
+      let t : Settings = with_word s words.Queue in
+      let u : Settings = record t { queue = Some new.name } in
+      let lists : Lists = lists_by (spoken (all_pieces new)) in
+      let nodes : Option (List (List ℕ)) = nodes_by (spoken (all_pieces new)) in
+      let input : Input = Ask (InitializeQueue new) in
+      let batch : Bool = is_for_batch new.kind in let at : Option Location = location_of new.node new.device in
+      let h3 : List Piece = mark words.Start new.start ++ in_order new.change in
+      let h2 : List Piece = location_pieces new.node new.device ++ h3 in
+      let h1 : List Piece = targets_pieces new.targets ++ h2 in
+      let end : New_ask user now lists nodes input (Some new.name) all_set [] = λ v stands. record {
+        is = ap (λ (q : Option (List ℕ)). option_map Ask (option_and_then (λ n. queue_request n command.InitializeQueue v lists) q)) stands.named
+            ∙ ap (λ (qs : QueueSettings). Some (Ask (InitializeQueue (made_from qs lists.characteristics lists.targets)))) stands.settings
+            ∙ ap (λ (o : Option (List NameOrNumber)). Some (Ask (InitializeQueue (made_from all_set o lists.targets)))) given_characteristics
+            ∙ ap (λ (o : Option (List (List ℕ))). Some (Ask (InitializeQueue (made_from all_set new.change.characteristics o)))) given_targets
+            ∙ ap (λ (q : NewQueue). Some (Ask (InitializeQueue q))) same_queue;
+      } in
+      let sets = settings_ask user now command.InitializeQueue lists nodes input of_new (Some new.name) batch at new.start new.change lawful.change can.set end in
+      let starts = start_asks user now lists nodes input (Some new.name) batch at new.start (in_order new.change) sets in
+      let locations = location_asks user now lists nodes input (Some new.name) batch new.node new.device false h3 lawful.node can.short_node lawful.device can.short_device starts in
+      let targets = targets_ask user now lists nodes input (Some new.name) new.targets (made user now lists nodes input (Some new.name) batch None false) h2 lawful.targets can.short_targets locations in
+      let batches = batch_asks user now lists nodes input (Some new.name) batch None false h1 targets in
+      one_asks s t (Spoken.SaysQualifier words.Queue) (Spoken.SaysParameter new.name ∷ spoken (tail_pieces new)) refl
+      (one_asks t u (Spoken.SaysParameter new.name) (spoken (tail_pieces new)) (ap (option_map (λ n. record t { queue = Some n })) (short_said new.name lawful.name can.short))
+      (subst (λ (g : List Piece). Asks user now command.InitializeQueue lists nodes input u (spoken g)) (sym (tail_order new)) (batches u (record { settings = refl; named = refl }))))
+
+-- ---- by its kind
+
+empty : (targets : List (List ℕ)) → (length targets == 0) ≡ true → targets ≡ []
+empty [] h = refl
+empty (first ∷ others) h = absurd (let same : length (first ∷ others) ≡ 0 = grind (arith, nat_tests) in omega (arith, same))
+
+none_there : {X : Type 0} (o : Option X) → not (is_some o) ≡ true → o ≡ None
+none_there None h = refl
+none_there (Some x) h = absurd cc
+
+or_true : (a b : Bool) → b ≡ true → (a || b) ≡ true
+or_true true b h = refl
+or_true false b h = h
+
+some_targets : (targets : List (List ℕ)) → nat_lt 0 (length targets) ≡ true → true ≡ is_some (targets_or_none targets)
+some_targets [] h = absurd cc
+some_targets (first ∷ others) h = refl
+
+placed_can : (new : NewQueue) → is_generic new.kind ≡ false → is_short new.name ≡ true → is_placed new ≡ true → are_queue_settings new.change ≡ true → CanBeMade new
+placed_can new kind short placed set =
+    let three = and_left (length new.targets == 0 && option_map_or is_node_name new.node true && option_map_or is_short new.device true) (is_some new.node || not (is_some new.device)) placed in
+    let two = and_left (length new.targets == 0 && option_map_or is_node_name new.node true) (option_map_or is_short new.device true) three in
+    let none : new.targets ≡ [] = empty new.targets (and_left (length new.targets == 0) (option_map_or is_node_name new.node true) two) in
+    record {
+      table = placed_front ++ queue_settings;
+      itself = placed_itself;
+      given = front_given (placed_front ++ queue_settings) new (inl refl) (inr (inr (inl refl)))
+          (subst (λ (l : List (List ℕ)). AreGiven (placed_front ++ queue_settings) (targets_pieces l)) (sym none) tt) (location_given new.node new.device)
+          (given_behind placed_front queue_settings (settings_pieces new.change) (settings_given new.change set));
+      unnamed = refl;
+      excludes = inl refl;
+      short = short;
+      set = set;
+      short_targets = subst (λ (l : List (List ℕ)). list_all is_short l ≡ true) (sym none) refl;
+      short_node = and_right (length new.targets == 0) (option_map_or is_node_name new.node true) two;
+      short_device = and_right (length new.targets == 0 && option_map_or is_node_name new.node true) (option_map_or is_short new.device true) three;
+      on_node = and_right (length new.targets == 0 && option_map_or is_node_name new.node true && option_map_or is_short new.device true) (is_some new.node || not (is_some new.device)) placed;
+      generic = kind ∙ ap (λ (l : List (List ℕ)). is_some (targets_or_none l)) (sym none);
+    }
+
+generic_can : (new : NewQueue) → is_generic new.kind ≡ true → is_short new.name ≡ true → is_passing_on new ≡ true → are_queue_settings new.change ≡ true → CanBeMade new
+generic_can new kind short passing set =
+    let four = and_left (nat_lt 0 (length new.targets) && fits_list (length new.targets) && list_all is_short new.targets && not (is_some new.node)) (not (is_some new.device)) passing in
+    let three = and_left (nat_lt 0 (length new.targets) && fits_list (length new.targets) && list_all is_short new.targets) (not (is_some new.node)) four in
+    let two = and_left (nat_lt 0 (length new.targets) && fits_list (length new.targets)) (list_all is_short new.targets) three in
+    let no_node : new.node ≡ None = none_there new.node (and_right (nat_lt 0 (length new.targets) && fits_list (length new.targets) && list_all is_short new.targets) (not (is_some new.node)) four) in
+    let no_device : new.device ≡ None =
+    none_there new.device (and_right (nat_lt 0 (length new.targets) && fits_list (length new.targets) && list_all is_short new.targets && not (is_some new.node)) (not (is_some new.device)) passing) in
+    record {
+      table = generic_front ++ queue_settings;
+      itself = generic_itself;
+      given = front_given (generic_front ++ queue_settings) new (inl refl) (inr (inr (inl refl)))
+          (targets_given new.targets (and_right (nat_lt 0 (length new.targets)) (fits_list (length new.targets)) two))
+          (subst (λ (o : Option (List ℕ)). AreGiven (generic_front ++ queue_settings) (location_pieces o new.device)) (sym no_node) tt)
+          (given_behind generic_front queue_settings (settings_pieces new.change) (settings_given new.change set));
+      unnamed = refl;
+      excludes = inr refl;
+      short = short;
+      set = set;
+      short_targets = and_right (nat_lt 0 (length new.targets) && fits_list (length new.targets)) (list_all is_short new.targets) three;
+      short_node = subst (λ (o : Option (List ℕ)). option_map_or is_node_name o true ≡ true) (sym no_node) refl;
+      short_device = subst (λ (o : Option (List ℕ)). option_map_or is_short o true ≡ true) (sym no_device) refl;
+      on_node = or_true (is_some new.node) (not (is_some new.device)) (subst (λ (o : Option (List ℕ)). not (is_some o) ≡ true) (sym no_device) refl);
+      generic = kind ∙ some_targets new.targets (and_left (nat_lt 0 (length new.targets)) (fits_list (length new.targets)) two);
+    }
+
+can_be : (new : NewQueue) → is_new_queue new ≡ true → CanBeMade new
+can_be new is =
+    let two = and_left (is_short new.name && (if is_generic new.kind then is_passing_on new else is_placed new)) (are_queue_settings new.change) is in
+    by (is_generic new.kind) refl (and_left (is_short new.name) (if is_generic new.kind then is_passing_on new else is_placed new) two)
+    (and_right (is_short new.name) (if is_generic new.kind then is_passing_on new else is_placed new) two)
+    (and_right (is_short new.name && (if is_generic new.kind then is_passing_on new else is_placed new)) (are_queue_settings new.change) is)
+  where
+    by : (g : Bool) → is_generic new.kind ≡ g → is_short new.name ≡ true → (if g then is_passing_on new else is_placed new) ≡ true → are_queue_settings new.change ≡ true → CanBeMade new
+    by true kind short is set = generic_can new kind short is set
+    by false kind short is set = placed_can new kind short is set
+
+pub new_back : (user : List ℕ) (new : NewQueue) → IsNewQueue new → ReadsBack user (Ask (InitializeQueue new))
+new_back user new lawful =
+    reads_back verb.Initialize new_row (all_pieces new) user (Ask (InitializeQueue new)) (new_is new)
+    (λ is. (made_makes user new lawful (can_be new is), λ now. made_asks user new lawful (can_be new is) now))

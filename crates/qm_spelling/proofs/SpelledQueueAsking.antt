@@ -27,7 +27,7 @@ use Rattle.qm_spelling.specs.Pieces.{reference_text, is_form_reference, is_refer
 use Rattle.qm_spelling.specs.Queues.{are_no_limits, are_queue_settings}
 use Rattle.qm_spelling.proofs.Values.{number_reads_back}
 use Rattle.qm_spelling.proofs.SpelledPieces.{Said, Value, Piece}
-use Rattle.qm_spelling.proofs.SpelledReading.{Spoken, spoken, plain}
+use Rattle.qm_spelling.proofs.SpelledReading.{Spoken, spoken, items_spoken, plain}
 use Rattle.qm_spelling.proofs.SpelledSettings.{inner_of, value_by, job_retain_by}
 use Rattle.qm_spelling.proofs.SpelledLists.{texts_ahead, texts_of}
 use Rattle.qm_spelling.proofs.SpelledCommand.{Asks, one_asks}
@@ -108,7 +108,7 @@ module _ (user : List ℕ) (now : ℕ) (c : Command) (lists : Lists) (nodes : Op
         (asks (with_word s words.NoCharacteristics) (record { settings = stands.settings; named = stands.named }))
     characteristics_ask (Some (first ∷ others)) qs h lawful can asks = λ s stands.
         let t : Settings = with_word s words.Characteristics in
-        one_asks s t (Spoken.SaysQualifier words.Characteristics) (spoken (Piece.Valued words.Characteristics (words_list (reference_text first) (map reference_text others)) ∷ h)) refl
+        one_asks s t (Spoken.SaysQualifier words.Characteristics) (items_spoken (map item (map reference_text (first ∷ others))) (spoken h)) refl
         (values_ask user now c lists nodes input of.no_nodes t (map reference_text (first ∷ others)) (spoken h)
         (characteristics_read t (first ∷ others) refl (can_all 255 (first ∷ others) lawful (and_right (fits_list (length (first ∷ others))) _ can)))
         (asks t (record { settings = stands.settings; named = stands.named })))

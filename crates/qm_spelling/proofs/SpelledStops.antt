@@ -160,10 +160,18 @@ module _ (user name : List ℕ) (named : IsName name) where
           (ap (option_map (λ m. record s { entry = Some m })) (number_reads_back 4294967295 n (omega (arith, lawful)) (omega (arith, lawful)))) (record { is = refl }))
 
   abort_is : (entry : Option ℕ) (requeue : Bool) → abort_text name entry requeue ≡ text_of (command_lexemes verb.Stop (abort_pieces entry requeue))
-  abort_is None true = simp (append_assoc, append-nil)
-  abort_is None false = simp (append_assoc, append-nil)
-  abort_is (Some entry) true = simp (append_assoc, append-nil)
-  abort_is (Some entry) false = simp (append_assoc, append-nil)
+  abort_is None true = ap (λ (l : List ℕ). codes "STOP/QUEUE " ++ l) (append-nil ((name ++ []) ++ codes "/REQUEUE") ∙ ap (λ (l : List ℕ). l ++ codes "/REQUEUE") (append-nil name))
+  abort_is None false = ap (λ (l : List ℕ). codes "STOP/QUEUE " ++ l) (append-nil ((name ++ codes "/ABORT") ++ []) ∙ append-nil (name ++ codes "/ABORT"))
+  abort_is (Some entry) true =
+      let last : List ℕ = codes "/ENTRY=" ++ decimal entry in
+      ap (λ (l : List ℕ). codes "STOP/QUEUE " ++ l)
+      (ap (λ (l : List ℕ). (l ++ codes "/REQUEUE") ++ last) (append-nil name) ∙ append_assoc name (codes "/REQUEUE") last
+      ∙ ap (λ (l : List ℕ). name ++ (codes "/REQUEUE/ENTRY=" ++ l)) (sym (append-nil (decimal entry))))
+  abort_is (Some entry) false =
+      let last : List ℕ = codes "/ENTRY=" ++ decimal entry in
+      ap (λ (l : List ℕ). codes "STOP/QUEUE " ++ l)
+      (ap (λ (l : List ℕ). l ++ last) (append-nil (name ++ codes "/ABORT")) ∙ append_assoc name (codes "/ABORT") last
+      ∙ ap (λ (l : List ℕ). name ++ (codes "/ABORT/ENTRY=" ++ l)) (sym (append-nil (decimal entry))))
 
   pub abort_back : (entry : Option ℕ) (requeue : Bool) → IfSome entry (λ n. n < 2 ^ 32) → ReadsBack user (Ask (AbortJob name entry requeue))
   abort_back entry requeue lawful =

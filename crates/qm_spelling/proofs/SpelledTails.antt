@@ -116,6 +116,26 @@ listed_is first (other ∷ others) =
 pub list_text_is : (first : List ℕ) (others : List (List ℕ)) → list_text (first ∷ others) ≡ value_text (words_list first others)
 list_text_is first others = append_assoc (codes "(") (listed (first ∷ others)) (codes ")") ∙ ap (λ (t : List ℕ). 40 ∷ t) (listed_is first others)
 
+-- ---- lists of values with values of their own
+
+abbrev pub item_text : Item → List ℕ
+item_text i = text_of (item_lexemes i [])
+
+item_split : (i : Item) (ls : List Lexeme) → text_of (item_lexemes i ls) ≡ item_text i ++ text_of ls
+item_split i ls = ap text_of (item_behind i ls) ∙ texts_behind (item_lexemes i []) ls
+
+listed_items : (first : Item) (others : List Item) → listed (item_text first ∷ map item_text others) ++ codes ")" ≡ text_of (item_lexemes first (others_lexemes others []))
+listed_items first [] = sym (item_split first (closing ∷ []))
+listed_items first (other ∷ others) =
+    append_assoc (item_text first ++ codes ",") (listed (item_text other ∷ map item_text others)) (codes ")")
+    ∙ append_assoc (item_text first) (codes ",") (listed (item_text other ∷ map item_text others) ++ codes ")")
+    ∙ ap (λ (t : List ℕ). item_text first ++ (44 ∷ t)) (listed_items other others)
+    ∙ sym (item_split first (comma ∷ item_lexemes other (others_lexemes others [])))
+
+pub many_text : (first : Item) (others : List Item) → list_text (item_text first ∷ map item_text others) ≡ value_text (Value.Many first others)
+many_text first others =
+    append_assoc (codes "(") (listed (item_text first ∷ map item_text others)) (codes ")") ∙ ap (λ (t : List ℕ). 40 ∷ t) (listed_items first others)
+
 -- ---- what may be given
 
 abbrev pub In : Word × Takes → List (Word × Takes) → Type 0

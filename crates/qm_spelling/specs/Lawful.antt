@@ -7,6 +7,8 @@ use Rattle.qm_kinds.specs.declared.file.FileName.{FileName}
 use Rattle.qm_kinds.specs.declared.form.Characteristic.{Characteristic}
 use Rattle.qm_kinds.specs.declared.form.Form.{Form}
 use Rattle.qm_kinds.specs.declared.form.Shape.{Shape}
+use Rattle.qm_kinds.specs.declared.input.Input.{Input}
+use Rattle.qm_kinds.specs.declared.input.Input.TheVariants.{Ask, Show, TakeManager}
 use Rattle.qm_kinds.specs.declared.query.Query.{Query}
 use Rattle.qm_kinds.specs.declared.queue.NewQueue.{NewQueue}
 use Rattle.qm_kinds.specs.declared.queue.QueueChange.{QueueChange}
@@ -14,6 +16,8 @@ use Rattle.qm_kinds.specs.declared.request.EntryChange.{EntryChange}
 use Rattle.qm_kinds.specs.declared.request.Job.{Job}
 use Rattle.qm_kinds.specs.declared.request.NameOrNumber.{NameOrNumber}
 use Rattle.qm_kinds.specs.declared.request.NameOrNumber.TheVariants.{Name, Number}
+use Rattle.qm_kinds.specs.declared.request.Request.{Request}
+use Rattle.qm_kinds.specs.declared.request.Request.TheVariants.{DefineForm, DeleteForm, DefineCharacteristic, DeleteCharacteristic, InitializeQueue, SetQueue, StartQueue, StopQueue, AbortJob, DeleteQueue, Merge, Submit, SetEntry, DeleteEntry}
 
 -- a name
 abbrev pub IsName : List ℕ → Type 0
@@ -112,3 +116,27 @@ pub record IsNewQueue (new : NewQueue) : Type 0 where
   pub device : IfSome new.device IsName
   pub targets : AreNames new.targets
   pub change : IsQueueChange new.change
+
+-- what this user can ask for, whose values are as their types promise
+abbrev pub IsRequestOf : List ℕ → Request → Type 0
+IsRequestOf user (DefineForm form) = IsForm form
+IsRequestOf user (DeleteForm name) = IsName name
+IsRequestOf user (DefineCharacteristic characteristic) = IsCharacteristic characteristic
+IsRequestOf user (DeleteCharacteristic name) = IsName name
+IsRequestOf user (InitializeQueue new) = IsNewQueue new
+IsRequestOf user (SetQueue name change) = IsName name × IsQueueChange change
+IsRequestOf user (StartQueue name change) = IsName name × IsQueueChange change
+IsRequestOf user (StopQueue name how) = IsName name
+IsRequestOf user (AbortJob queue entry requeue) = IsName queue × IfSome entry (λ n. n < 2 ^ 32)
+IsRequestOf user (DeleteQueue name) = IsName name
+IsRequestOf user (Merge to from) = IsName to × IsName from
+IsRequestOf user (Submit job) = IsJobOf user job
+IsRequestOf user (SetEntry entry change) = (entry < 2 ^ 32) × IsEntryChange change
+IsRequestOf user (DeleteEntry entry) = entry < 2 ^ 32
+IsRequestOf user _ = Unit {0}
+
+abbrev pub IsInputOf : List ℕ → Input → Type 0
+IsInputOf user (Ask request) = IsRequestOf user request
+IsInputOf user (Show query) = IsQueryOf user query
+IsInputOf user (TakeManager on) = IfSome on AreNames
+IsInputOf user _ = Unit {0}

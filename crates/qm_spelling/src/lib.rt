@@ -15,4 +15,4 @@ mod read_back;
 pub use command::print_command;
 pub use fault::PrintFault;
 pub use laws::{names_read_back, numbers_read_back, patterns_read_back, times_read_back};
-pub use read_back::{deletions_read_back, merges_read_back};
+pub use read_back::spellings_read_back;
