@@ -1,8 +1,11 @@
-// Laws of spellings: what a value is spelled as says that value.
-ghost use Rattle.std.specs.Prelude.{◌≡◌, ◌≤◌, ◌<◌, ◌^◌, ℕ, List, Some, decimal};
+// Laws of spellings: what a value is spelled as says that value, and what is read has a spelling.
+ghost use Rattle.std.specs.Prelude.{◌≡◌, ◌≤◌, ◌<◌, ◌^◌, ℕ, List, Some, Ok, IsSome, decimal};
 ghost use Rattle.qm_kinds.specs.Files.{name_of};
 ghost use Rattle.qm_kinds.specs.Text.{IsText, is_name_byte, is_pattern_byte};
 ghost use Rattle.qm_dcl.specs.Values.{moment_said, number_to, pattern_said, unquoted};
+ghost use Rattle.qm_kinds.specs.declared.input.Input.{Input};
+ghost use Rattle.qm_dcl.specs.Command.{command_of};
+ghost use Rattle.qm_spelling.specs.Commands.{spelling_of};
 ghost use Rattle.qm_spelling.specs.Pieces.{time_text};
 
 use qm_time::printed_moments_read_back;
@@ -28,3 +31,8 @@ pub fn times_read_back()
 {
     printed_moments_read_back();
 }
+
+/// What a text asks for has a spelling, whoever types it and whenever it is read.
+pub fn what_is_read_has_a_spelling()
+    ensures { (user : List ℕ) (now : ℕ) (text : List ℕ) (input : Input) → command_of user now text ≡ Ok input → IsSome (spelling_of input) }
+{}
