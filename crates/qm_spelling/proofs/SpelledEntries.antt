@@ -416,8 +416,14 @@ module _ (times : TimesRead) (user : List ℕ) (number : ℕ) (within : number <
     lexed = ((lit< tt, refl), (number_word number (omega (arith, within)), tail_words change lawful));
     leads = tt;
     found = refl;
-    allowed = (refl, (refl, given_allows verb.Set entry_row entry_table (tail change) 2 false entry_itself (entry_given_all number change listed_can) refl
-        (negated (has_some (tail change)) (sym (has_tail change listed_can) ∙ and_left (sets_entry change) _ two))));
+    allowed = (
+      refl,
+      (
+        refl,
+        given_allows verb.Set entry_row entry_table (tail change) 2 false entry_itself (entry_given_all number change listed_can) refl
+            (negated (has_some (tail change)) (sym (has_tail change listed_can) ∙ and_left (sets_entry change) _ two)),
+      ),
+    );
     agrees = agrees number change listed_can change.release refl (and_right (sets_entry change) _ two);
   }
 
@@ -455,7 +461,7 @@ module _ (times : TimesRead) (user : List ℕ) (number : ℕ) (within : number <
       ∙ characteristics_there (those change.characteristics) h4 can none ∙ those_there change.characteristics listed_can in
       let m : Option (List ℕ) = change.name in let p : Option ℕ = change.priority in let a : Option (Option ℕ) = change.after in
       let end : All_ask times user now command.SetEntry lists nodes input of_entry None (Some number) change.queue
-          (job_with m p a change.hold change.release change.retain change.restart change.form 1 false) [] = λ v holds. record {
+      (job_with m p a change.hold change.release change.retain change.restart change.form 1 false) [] = λ v holds. record {
         is = ap (λ (o : Option ℕ). option_map Ask (option_map (λ n. SetEntry n (entry_change_of v.job v.queue lists.characteristics)) o)) holds.entry_is
             ∙ ap (λ (j : JobSettings). Some (Ask (SetEntry number (entry_change_of j v.queue lists.characteristics)))) holds.job_is
             ∙ ap (λ (q : Option (List ℕ)). Some (Ask (SetEntry number (entry_change_of (job_with m p a change.hold change.release change.retain change.restart change.form 1 false) q lists.characteristics)))) holds.queue_is
@@ -464,14 +470,14 @@ module _ (times : TimesRead) (user : List ℕ) (number : ℕ) (within : number <
       let retains = retain_asks times user now command.SetEntry lists nodes input of_entry None (Some number) change.queue change.retain m p a change.hold change.release change.restart change.form 1 false [] lawful.retain end in
       let restarts = restart_asks times user now command.SetEntry lists nodes input of_entry None (Some number) change.queue change.restart m p a change.hold change.release None change.form 1 false h1 retains in
       let queues = queue_asks times user now command.SetEntry lists nodes input of_entry None (Some number) words.Requeue (λ x. refl) (λ v text inner. refl) change.queue
-          (job_with m p a change.hold change.release None None change.form 1 false) h2 lawful.queue
-          (short_queue change.queue (and_right (sets_entry change && not (change.release && (change.hold || is_timed change.after)) && option_map_or are_entry_characteristics change.characteristics true
-          && option_map_or is_form_reference change.form true) (option_map_or is_short change.queue true) is)) restarts in
+      (job_with m p a change.hold change.release None None change.form 1 false) h2 lawful.queue
+      (short_queue change.queue (and_right (sets_entry change && not (change.release && (change.hold || is_timed change.after)) && option_map_or are_entry_characteristics change.characteristics true
+      && option_map_or is_form_reference change.form true) (option_map_or is_short change.queue true) is)) restarts in
       let forms = form_asks times user now command.SetEntry lists nodes input of_entry None (Some number) None change.form m p a change.hold change.release None None 1 false h3
-          (form_can_be change.form lawful.form (and_right (sets_entry change && not (change.release && (change.hold || is_timed change.after))
-          && option_map_or are_entry_characteristics change.characteristics true) (option_map_or is_form_reference change.form true) four)) queues in
+      (form_can_be change.form lawful.form (and_right (sets_entry change && not (change.release && (change.hold || is_timed change.after))
+      && option_map_or are_entry_characteristics change.characteristics true) (option_map_or is_form_reference change.form true) four)) queues in
       let listed = characteristics_ask times user now command.SetEntry lists nodes input of_entry None (Some number) None (those change.characteristics)
-          (job_with m p a change.hold change.release None None None 1 false) h4 can forms in
+      (job_with m p a change.hold change.release None None None 1 false) h4 can forms in
       let names = name_asks times user now command.SetEntry lists nodes input of_entry None (Some number) None m p a change.hold change.release None None None 1 false h5 lawful.name listed in
       let priorities = priority_asks times user now command.SetEntry lists nodes input of_entry None (Some number) None p None a change.hold change.release None None None 1 false h6 lawful.priority names in
       let afters = changed_after times user now lists nodes input (Some number) a None None change.hold change.release None None None 1 false h7 lawful.after priorities in

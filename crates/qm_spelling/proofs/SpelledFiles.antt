@@ -71,8 +71,7 @@ file_word file lawful = by file.extension lawful.extension
         let name = name_word file.name lawful.name in
         (omega (arith, name.0, length-append {A = ℕ} file.name []), list_all-append is_word_byte file.name [] ∙ rw name.1 refl)
     by (Some extension) of_extension =
-        let name = name_word file.name lawful.name in
-        (
+        let name = name_word file.name lawful.name in (
           omega (arith, name.0, length-append file.name (46 ∷ extension)),
           list_all-append is_word_byte file.name (46 ∷ extension) ∙ rw (name.1, (name_word extension of_extension).1) refl,
         )

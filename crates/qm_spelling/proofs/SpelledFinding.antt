@@ -93,8 +93,8 @@ module _ (text : List ℕ) (v : Verb) (row : Option Row) (word : Word) where
       let other : is_word_given text v row (undone_by word) token ≡ other_by (spelling given) v row (undone_by word) = given_is (at + 1) end (spelling given) (undone_by word) say.1.0 in
       counts end (place_with text v row word (Some at) so_far token) say.1.1
       ∙ ap f (either_way (is_name text v row token word) (is_word_given text v row (undone_by word) token) at so_far
-          ∙ ap (λ (a : Bool). if a then true else if is_word_given text v row (undone_by word) token then false else is_some so_far) is
-          ∙ ap (λ (b : Bool). if name_by (spelling given) v row word then true else if b then false else is_some so_far) other)
+      ∙ ap (λ (a : Bool). if a then true else if is_word_given text v row (undone_by word) token then false else is_some so_far) is
+      ∙ ap (λ (b : Bool). if name_by (spelling given) v row word then true else if b then false else is_some so_far) other)
 
   pieces_count : (pieces : List Piece) → Counts (lexemes pieces) (λ b. counts_in v row word b pieces)
   pieces_count [] = λ at so_far say. refl
@@ -203,8 +203,7 @@ module _ (text : List ℕ) (v : Verb) (at : ℕ) where
       → (rows : List Row) → Agree (named_there (Piece.Parameter bytes ∷ pieces)) (named_by_pieces v (Piece.Parameter bytes ∷ pieces)) rows
   with_objects bytes pieces say [] = tt
   with_objects bytes pieces say (row ∷ rows) =
-      let all : List Piece = Piece.Parameter bytes ∷ pieces in
-      (
+      let all : List Piece = Piece.Parameter bytes ∷ pieces in (
         rw (object_is text v bytes pieces (at + 1) (at + 1 + length bytes) say.0 row.object, option_is text v all at say row.option, option_is text v all at say row.further) refl,
         with_objects bytes pieces say rows,
       )
@@ -216,11 +215,10 @@ module _ (text : List ℕ) (v : Verb) (at : ℕ) where
   without_objects : (pieces : List Piece) → Say text (placed at (lexemes pieces)) (lexemes pieces)
       → (rows : List Row) → HaveNoObject rows → Agree (named_there pieces) (named_by_pieces v pieces) rows
   without_objects pieces say [] none = tt
-  without_objects pieces say (row ∷ rows) none =
-      (
-        rw (no_object pieces (first_parameter (placed at (lexemes pieces))) row.object none.0, option_is text v pieces at say row.option, option_is text v pieces at say row.further) refl,
-        without_objects pieces say rows none.1,
-      )
+  without_objects pieces say (row ∷ rows) none = (
+    rw (no_object pieces (first_parameter (placed at (lexemes pieces))) row.object none.0, option_is text v pieces at say row.option, option_is text v pieces at say row.further) refl,
+    without_objects pieces say rows none.1,
+  )
 
   row_is : (pieces : List Piece) → Leads v pieces → Say text (placed at (lexemes pieces)) (lexemes pieces) → row_of text (placed at (lexemes pieces)) v ≡ row_by v pieces
   row_is [] leads say = same_found (named_there []) (named_by_pieces v []) (rows_of v) (without_objects [] say (rows_of v) leads)

@@ -205,11 +205,19 @@ unless_words word false text is = ((is, tt), tt)
 
 margins_words : (b : Bool) (shape : Shape) → IsShape shape → ArePieces (margins_unless b shape)
 margins_words true shape lawful = tt
-margins_words false shape lawful =
-    ((((lit< tt, refl), number_word shape.top (omega (arith, lawful.top))),
-      (((lit< tt, refl), number_word shape.bottom (omega (arith, lawful.bottom))),
-      (((lit< tt, refl), number_word shape.left (omega (arith, lawful.left))),
-      (((lit< tt, refl), number_word shape.right (omega (arith, lawful.right))), tt)))), tt)
+margins_words false shape lawful = (
+  (
+    ((lit< tt, refl), number_word shape.top (omega (arith, lawful.top))),
+    (
+      ((lit< tt, refl), number_word shape.bottom (omega (arith, lawful.bottom))),
+      (
+        ((lit< tt, refl), number_word shape.left (omega (arith, lawful.left))),
+        (((lit< tt, refl), number_word shape.right (omega (arith, lawful.right))), tt),
+      ),
+    ),
+  ),
+  tt,
+)
 
 wrap_words : (b : Bool) → ArePieces (mark words.Wrap b)
 wrap_words true = (tt, tt)

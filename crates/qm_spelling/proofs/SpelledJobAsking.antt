@@ -198,11 +198,10 @@ module _ (times : TimesRead) (user : List ℕ) (now : ℕ) (c : Command) (lists 
     characteristics_read : (s : Settings) (rs : List NameOrNumber) → s.word ≡ Some words.Characteristics → AllAre (CanBeSaid 255) rs
         → AreRead user now c lists nodes input of.no_nodes s (map reference_text rs)
     characteristics_read s [] word can = tt
-    characteristics_read s (r ∷ rs) word can =
-        (
-          λ inner. ap (λ (w : Option Word). value_by now c s w (plain (reference_text r)) inner) word ∙ ap (option_map (λ _. s)) (reference_is 255 r can.0.0 can.0.1),
-          characteristics_read s rs word can.1,
-        )
+    characteristics_read s (r ∷ rs) word can = (
+      λ inner. ap (λ (w : Option Word). value_by now c s w (plain (reference_text r)) inner) word ∙ ap (option_map (λ _. s)) (reference_is 255 r can.0.0 can.0.1),
+      characteristics_read s rs word can.1,
+    )
 
     pub characteristics_ask : (rs : List NameOrNumber) (j : JobSettings) (h : List Piece) → AllAre (CanBeSaid 255) rs → All_ask q j h → All_ask q j (characteristics_piece rs ++ h)
     characteristics_ask [] j h can asks = asks

@@ -135,9 +135,15 @@ module _ (table : List (Word × Takes)) where
 
   pub characteristics_given : (rs : List NameOrNumber) → In (words.Characteristics, takes.List) table → fits_list (length rs) ≡ true → AreGiven table (characteristics_piece rs)
   characteristics_given [] here fits = tt
-  characteristics_given (first ∷ others) here fits =
-      ((takes.List, here, list_taken (reference_text first) (map reference_text others)
-      (subst (λ (n : ℕ). fits_list n ≡ true) (ap suc (sym (length-map others reference_text))) fits)), tt)
+  characteristics_given (first ∷ others) here fits = (
+    (
+      takes.List,
+      here,
+      list_taken (reference_text first) (map reference_text others)
+          (subst (λ (n : ℕ). fits_list n ≡ true) (ap suc (sym (length-map others reference_text))) fits),
+    ),
+    tt,
+  )
 
   pub mark_given : (word : Word) (b : Bool) → In (word, takes.Nothing) table → AreGiven table (mark word b)
   mark_given word true here = ((takes.Nothing, here, refl), tt)

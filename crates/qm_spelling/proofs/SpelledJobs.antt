@@ -510,9 +510,12 @@ module _ (times : TimesRead) (user : List ℕ) (job : Job) (lawful : IsJobOf use
     lexed = (file_word job.file lawful.file, pieces_append (both_pieces Print job) own_pieces (both_words Print job user lawful) own_words);
     leads = tt;
     found = refl;
-    allowed = (refl, given_allows verb.Print print_row (print_front ++ job_settings) print_tail 1 false print_itself
-        (given_append (print_front ++ job_settings) (both_pieces Print job) own_pieces
-        (given_behind print_front job_settings (both_pieces Print job) (both_given Print job (and_left (fits_list (length job.characteristics)) _ all_can))) own_given) refl refl);
+    allowed = (
+      refl,
+      given_allows verb.Print print_row (print_front ++ job_settings) print_tail 1 false print_itself
+          (given_append (print_front ++ job_settings) (both_pieces Print job) own_pieces
+          (given_behind print_front job_settings (both_pieces Print job) (both_given Print job (and_left (fits_list (length job.characteristics)) _ all_can))) own_given) refl refl,
+    );
     agrees = refl;
   }
 

@@ -247,12 +247,11 @@ said_from front (l ∷ ls) at text here is =
     let start : start_at l.blank at ≡ length (front ++ lead l.blank) = lead_takes l.blank at front here in
     let whole : text ≡ (front ++ lead l.blank) ++ (l.bytes ++ text_of ls) =
     is ∙ ap (λ (more : List ℕ). front ++ more) (lead_is l.blank l.bytes (text_of ls)) ∙ sym (append_assoc front (lead l.blank) (l.bytes ++ text_of ls)) in
-    let behind : text ≡ ((front ++ lead l.blank) ++ l.bytes) ++ text_of ls = whole ∙ sym (append_assoc (front ++ lead l.blank) l.bytes (text_of ls)) in
-    (
+    let behind : text ≡ ((front ++ lead l.blank) ++ l.bytes) ++ text_of ls = whole ∙ sym (append_assoc (front ++ lead l.blank) l.bytes (text_of ls)) in (
       ap (λ (all : List ℕ). bytes_of all (token_at at l)) whole
-      ∙ bytes_are (front ++ lead l.blank) l.bytes (text_of ls) l.kind (start_at l.blank at) (start_at l.blank at + length l.bytes) start refl,
+          ∙ bytes_are (front ++ lead l.blank) l.bytes (text_of ls) l.kind (start_at l.blank at) (start_at l.blank at + length l.bytes) start refl,
       said_from ((front ++ lead l.blank) ++ l.bytes) ls (start_at l.blank at + length l.bytes) text
-      (omega (arith, start, length-append (front ++ lead l.blank) l.bytes)) behind,
+          (omega (arith, start, length-append (front ++ lead l.blank) l.bytes)) behind,
     )
 
 pub said : (ls : List Lexeme) → Say (text_of ls) (placed 0 ls) ls

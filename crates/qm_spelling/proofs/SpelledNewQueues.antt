@@ -289,11 +289,10 @@ module _ (user : List ℕ) (now : ℕ) (lists : Lists) (nodes : Option (List (Li
   targets_read : (s : Settings) (names : List (List ℕ)) → s.word ≡ Some words.Generic → AreNames names → list_all is_short names ≡ true
       → AreRead user now command.InitializeQueue lists nodes input of_new.no_nodes s names
   targets_read s [] word lawful short = tt
-  targets_read s (name ∷ names) word lawful short =
-      (
-        λ inner. ap (λ (w : Option Word). value_by now command.InitializeQueue s w (plain name) inner) word ∙ ap (option_map (λ _. s)) (short_said name lawful.0 (and_left (is_short name) _ short)),
-        targets_read s names word lawful.1 (and_right (is_short name) _ short),
-      )
+  targets_read s (name ∷ names) word lawful short = (
+    λ inner. ap (λ (w : Option Word). value_by now command.InitializeQueue s w (plain name) inner) word ∙ ap (option_map (λ _. s)) (short_said name lawful.0 (and_left (is_short name) _ short)),
+    targets_read s names word lawful.1 (and_right (is_short name) _ short),
+  )
 
   targets_ask : (targets : List (List ℕ)) (qs : QueueSettings) (h : List Piece) → AreNames targets → list_all is_short targets ≡ true → New_ask qs h → New_ask qs (targets_pieces targets ++ h)
   targets_ask [] qs h lawful short asks = asks

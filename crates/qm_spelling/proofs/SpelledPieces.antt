@@ -164,12 +164,11 @@ inner_fits None ls is end fits = fits
 inner_fits (Some inner) ls is end fits = (refl, refl, (said_are inner.quoted inner.text is, said_end inner.quoted (ends ls) end, fits))
 
 item_fits : (item : Item) (ls : List Lexeme) → IsItem item → ends ls ≡ true → Fits ls → Fits (item_lexemes item ls)
-item_fits item ls is end fits =
-    (
-      said_are item.said.quoted item.said.text is.0,
-      said_end item.said.quoted (ends (inner_lexemes item.inner ls)) (inner_ends item.inner ls end),
-      inner_fits item.inner ls is.1 end fits,
-    )
+item_fits item ls is end fits = (
+  said_are item.said.quoted item.said.text is.0,
+  said_end item.said.quoted (ends (inner_lexemes item.inner ls)) (inner_ends item.inner ls end),
+  inner_fits item.inner ls is.1 end fits,
+)
 
 others_end : (items : List Item) (ls : List Lexeme) → ends (others_lexemes items ls) ≡ true
 others_end [] ls = refl

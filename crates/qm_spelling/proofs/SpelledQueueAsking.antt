@@ -83,11 +83,10 @@ module _ (user : List ℕ) (now : ℕ) (c : Command) (lists : Lists) (nodes : Op
   pub characteristics_read : (s : Settings) (rs : List NameOrNumber) → s.word ≡ Some words.Characteristics → AllAre (CanBeSaid 255) rs
       → AreRead user now c lists nodes input of.no_nodes s (map reference_text rs)
   characteristics_read s [] word can = tt
-  characteristics_read s (r ∷ rs) word can =
-      (
-        λ inner. ap (λ (w : Option Word). value_by now c s w (plain (reference_text r)) inner) word ∙ ap (option_map (λ _. s)) (reference_is 255 r can.0.0 can.0.1),
-        characteristics_read s rs word can.1,
-      )
+  characteristics_read s (r ∷ rs) word can = (
+    λ inner. ap (λ (w : Option Word). value_by now c s w (plain (reference_text r)) inner) word ∙ ap (option_map (λ _. s)) (reference_is 255 r can.0.0 can.0.1),
+    characteristics_read s rs word can.1,
+  )
 
   module _ (batch : Bool) (location : Option Location) (start : Bool) where
     limit_asks : (limit : Option ℕ) (f : Option NameOrNumber) (b : Option (ℕ × ℕ)) (z : Option Bool) (r : Option QueueRetain) (h : List Piece) → IfSome limit (λ n. n < 2 ^ 8)

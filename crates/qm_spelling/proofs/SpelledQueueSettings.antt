@@ -143,9 +143,15 @@ limit_given (Some limit) = ((takes.One, inl refl, (some_taken, tt)), tt)
 characteristics_given : (characteristics : Option (List NameOrNumber)) → option_map_or are_characteristics characteristics true ≡ true → AreGiven queue_settings (characteristics_pieces characteristics)
 characteristics_given None is = tt
 characteristics_given (Some []) is = ((takes.Nothing, inr (inr (inl refl)), refl), tt)
-characteristics_given (Some (first ∷ others)) is =
-    ((takes.List, inr (inl refl), list_taken (reference_text first) (map reference_text others)
-    (subst (λ (n : ℕ). fits_list n ≡ true) (ap suc (sym (length-map others reference_text))) (and_left (fits_list (length (first ∷ others))) _ is))), tt)
+characteristics_given (Some (first ∷ others)) is = (
+  (
+    takes.List,
+    inr (inl refl),
+    list_taken (reference_text first) (map reference_text others)
+        (subst (λ (n : ℕ). fits_list n ≡ true) (ap suc (sym (length-map others reference_text))) (and_left (fits_list (length (first ∷ others))) _ is)),
+  ),
+  tt,
+)
 
 form_given : (form : Option NameOrNumber) → AreGiven queue_settings (form_pieces form)
 form_given None = tt

@@ -186,8 +186,8 @@ module _ (user name : List ℕ) (named : IsName name) (change : QueueChange) (la
   set_back = reads_back verb.Set set_row set_pieces user (Ask (SetQueue name change))
       (ap (λ (l : List ℕ). codes "SET QUEUE " ++ (name ++ l)) (settings_text change))
       (λ is. let can = and_right (is_short name && sets_queue change) (are_queue_settings change) is in
-          let both = and_left (is_short name && sets_queue change) (are_queue_settings change) is in
-          (set_makes (and_right (is_short name) (sets_queue change) both) can, λ now. set_asks now (and_left (is_short name) (sets_queue change) both) can))
+      let both = and_left (is_short name && sets_queue change) (are_queue_settings change) is in
+      (set_makes (and_right (is_short name) (sets_queue change) both) can, λ now. set_asks now (and_left (is_short name) (sets_queue change) both) can))
 
 -- ---- START/QUEUE
 

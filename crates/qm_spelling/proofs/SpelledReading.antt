@@ -192,24 +192,24 @@ module _ (text : List ℕ) (verb : Verb) (row : Row) where
 
   sign_step : (s next : State) (token : Token) (tokens : List Token) (said : List Spoken)
       → with_token text verb (Some row) s token token.kind ≡ Ok next → part_of text verb (Some row) s token ≡ None → Done next tokens said → Done s (token ∷ tokens) said
-  sign_step s next token tokens said step none done =
-      (
-        done.0, done.1,
-        ap (λ (r : Result State Fault). on_state r (λ t. read_from text verb (Some row) t tokens)) step ∙ done.2,
-        ap (λ (r : Result State Fault). on_next r (λ t. option_to_list (part_of text verb (Some row) s token) ++ parts_from text verb (Some row) t tokens)) step
+  sign_step s next token tokens said step none done = (
+    done.0,
+    done.1,
+    ap (λ (r : Result State Fault). on_state r (λ t. read_from text verb (Some row) t tokens)) step ∙ done.2,
+    ap (λ (r : Result State Fault). on_next r (λ t. option_to_list (part_of text verb (Some row) s token) ++ parts_from text verb (Some row) t tokens)) step
         ∙ ap (λ (o : Option Part). option_to_list o ++ parts_from text verb (Some row) next tokens) none ∙ done.3,
-      )
+  )
 
   text_step : (s next : State) (token : Token) (tokens : List Token) (part : Part) (one : Spoken) (said : List Spoken)
       → with_token text verb (Some row) s token token.kind ≡ Ok next → part_of text verb (Some row) s token ≡ Some part → TellsOne text part one
       → Done next tokens said → Done s (token ∷ tokens) (one ∷ said)
-  text_step s next token tokens part one said step is tells done =
-      (
-        part ∷ done.0, (tells, done.1),
-        ap (λ (r : Result State Fault). on_state r (λ t. read_from text verb (Some row) t tokens)) step ∙ done.2,
-        ap (λ (r : Result State Fault). on_next r (λ t. option_to_list (part_of text verb (Some row) s token) ++ parts_from text verb (Some row) t tokens)) step
+  text_step s next token tokens part one said step is tells done = (
+    part ∷ done.0,
+    (tells, done.1),
+    ap (λ (r : Result State Fault). on_state r (λ t. read_from text verb (Some row) t tokens)) step ∙ done.2,
+    ap (λ (r : Result State Fault). on_next r (λ t. option_to_list (part_of text verb (Some row) s token) ++ parts_from text verb (Some row) t tokens)) step
         ∙ ap (λ (o : Option Part). option_to_list o ++ parts_from text verb (Some row) next tokens) is ∙ ap (λ (l : List Part). part ∷ l) done.3,
-      )
+  )
 
   -- ---- qualifiers and options
 
@@ -288,9 +288,9 @@ module _ (text : List ℕ) (verb : Verb) (row : Row) where
   -- a token that is taken as a value
   taken : (p : Place) (t : Takes) (in_list : Bool) (values n : ℕ) (q quoted : Bool) (bytes : List ℕ) (ls : List Lexeme) (said : List Spoken)
       → ((start at : ℕ) → with_token text verb (Some row) (at_place p t in_list values n q start at) (token_at at (said_lexeme (record { quoted = quoted; text = bytes }))) (kind_of quoted)
-          ≡ Ok (at_place place.Value t in_list (values + 1) n q at (at + length (said_bytes quoted bytes))))
+      ≡ Ok (at_place place.Value t in_list (values + 1) n q at (at + length (said_bytes quoted bytes))))
       → ((start at : ℕ) → part_of text verb (Some row) (at_place p t in_list values n q start at) (token_at at (said_lexeme (record { quoted = quoted; text = bytes })))
-          ≡ Some (parts.Value (token_at at (said_lexeme (record { quoted = quoted; text = bytes })))))
+      ≡ Some (parts.Value (token_at at (said_lexeme (record { quoted = quoted; text = bytes })))))
       → Goes place.Value t in_list (values + 1) n q ls said
       → Goes p t in_list values n q (said_lexeme (record { quoted = quoted; text = bytes }) ∷ ls) (SaysValue (record { quoted = quoted; text = bytes }) ∷ said)
   taken p t in_list values n q quoted bytes ls said step is goes start at say =
@@ -374,7 +374,7 @@ module _ (text : List ℕ) (verb : Verb) (row : Row) where
   -- a token that is taken as a parameter
   counts : (p : Place) (t : Takes) (values n : ℕ) (q : Bool) (bytes : List ℕ) (ls : List Lexeme) (said : List Spoken)
       → ((start at : ℕ) → with_token text verb (Some row) (at_place p t false values n q start at) (token_at at (parameter_lexeme bytes)) kinds.Word
-          ≡ Ok (at_place place.Parameter t false values (n + 1) q (at + 1) (at + 1 + length bytes)))
+      ≡ Ok (at_place place.Parameter t false values (n + 1) q (at + 1) (at + 1 + length bytes)))
       → ((start at : ℕ) → part_of text verb (Some row) (at_place p t false values n q start at) (token_at at (parameter_lexeme bytes)) ≡ Some (parts.Parameter (token_at at (parameter_lexeme bytes))))
       → Goes place.Parameter t false values (n + 1) q ls said
       → Goes p t false values n q (parameter_lexeme bytes ∷ ls) (SaysParameter bytes ∷ said)
@@ -415,9 +415,9 @@ module _ (text : List ℕ) (verb : Verb) (row : Row) where
   pieces_go (Piece.Marked word ∷ pieces) p t values n q rests may =
       slash_goes p t values n q (word_lexeme (spelling word) ∷ lexemes pieces) (SaysQualifier word ∷ spoken pieces) rests
       (λ next at_slash. name_goes next t may.0 values n q word (lexemes pieces) (spoken pieces) at_slash may.1
-          (pieces_go pieces place.Name may.0 0 n true may.2 may.3))
+      (pieces_go pieces place.Name may.0 0 n true may.2 may.3))
   pieces_go (Piece.Valued word value ∷ pieces) p t values n q rests may =
       slash_goes p t values n q (word_lexeme (spelling word) ∷ equals ∷ value_lexemes value (lexemes pieces)) (SaysQualifier word ∷ value_spoken value (spoken pieces)) rests
       (λ next at_slash. name_goes next t may.0 values n q word (equals ∷ value_lexemes value (lexemes pieces)) (value_spoken value (spoken pieces)) at_slash may.1
-          (equals_goes may.0 0 n true (value_lexemes value (lexemes pieces)) (value_spoken value (spoken pieces))
-          (values_go may.0 n true value (lexemes pieces) (spoken pieces) may.2 (λ place last r. pieces_go pieces place may.0 last n true r may.3))))
+      (equals_goes may.0 0 n true (value_lexemes value (lexemes pieces)) (value_spoken value (spoken pieces))
+      (values_go may.0 n true value (lexemes pieces) (spoken pieces) may.2 (λ place last r. pieces_go pieces place may.0 last n true r may.3))))
