@@ -1,6 +1,6 @@
 -- What values give, one behind the other, and which lists they are.
-use Rattle.std.proofs.Common.{◌≡◌, ◌<◌, ◌≤◌, ◌^◌, ◌+◌, ℕ, List, [], ◌∷◌, ◌++◌, length, map, decimal, Option, None, Some, Bool, true, false, not, ◌&&◌, if◌then◌else◌, nat_le, nat_lt, refl, sym, ap, ◌∙◌, arith}
-use Rattle.std.specs.Prelude.{option_map, option_and_then, filter_map}
+use Rattle.std.proofs.Common.{◌≡◌, ℕ, List, [], ◌∷◌, ◌++◌, length, map, decimal, Option, None, Some, Bool, true, false, not, ◌&&◌, if◌then◌else◌, nat_lt, refl, ap, ◌∙◌, arith}
+use Rattle.std.specs.Prelude.{option_map, filter_map}
 use Rattle.std.specs.List.{list_all, cons_option}
 use Rattle.std.specs.Option.{option_or}
 use Rattle.std.specs.Char.{is_ascii_digit}
@@ -9,7 +9,7 @@ use Rattle.std.proofs.lemmas.List.{length-map}
 use Rattle.qm_kinds.specs.declared.input.Input.{Input}
 use Rattle.qm_kinds.specs.declared.request.NameOrNumber.{NameOrNumber}
 use Rattle.qm_kinds.specs.declared.request.NameOrNumber.TheVariants.{Name, Number}
-use Rattle.qm_model.specs.Built.{is_short, is_definable}
+use Rattle.qm_model.specs.Built.{is_short}
 use Rattle.qm_grammar.specs.declared.rules.Takes.{Takes}
 use Rattle.qm_grammar.specs.declared.rules.Takes.TheVariants as takes
 use Rattle.qm_grammar.specs.declared.table.Command.{Command}
@@ -20,11 +20,11 @@ use Rattle.qm_dcl.specs.declared.settings.Settings.{Settings}
 use Rattle.qm_dcl.specs.Given.{with_word, node_given}
 use Rattle.qm_dcl.specs.Lists.{gives}
 use Rattle.qm_dcl.specs.Settings.{lists_nodes}
-use Rattle.qm_dcl.specs.Values.{are_digits, number_to, short_name_said, reference_said}
-use Rattle.qm_spelling.specs.Lawful.{IsName, IsReference, AreReferences, AreNames}
+use Rattle.qm_dcl.specs.Values.{number_to, short_name_said, reference_said}
+use Rattle.qm_spelling.specs.Lawful.{IsReference, AreReferences, AreNames}
 use Rattle.qm_spelling.specs.Pieces.{reference_text, is_reference, fits_list}
 use Rattle.qm_spelling.proofs.Values.{decimal_is_digits, number_reads_back}
-use Rattle.qm_spelling.proofs.SpelledPieces.{Said, Item, Value, Piece, IsWord, IsItem, AreItems}
+use Rattle.qm_spelling.proofs.SpelledPieces.{Said, Item, Value, Piece, IsWord, AreItems}
 use Rattle.qm_spelling.proofs.SpelledReading.{Spoken, spoken, inner_spoken, items_spoken, value_spoken, plain, TakesOthers, TakesValue}
 use Rattle.qm_spelling.proofs.SpelledSettings.{inner_of, is_ahead, value_by}
 use Rattle.qm_spelling.proofs.SpelledLists.{texts_ahead, texts_of}

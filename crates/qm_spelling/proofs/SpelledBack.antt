@@ -1,5 +1,5 @@
 -- Each full spelling is read as what it was spelled of.
-use Rattle.std.proofs.Common.{◌≡◌, ℕ, List, Option, None, Some, Ok}
+use Rattle.std.proofs.Common.{ℕ, List}
 use Rattle.qm_kinds.specs.declared.input.Input.{Input}
 use Rattle.qm_kinds.specs.declared.input.Input.TheVariants.{Ask, Show, TakeManager}
 use Rattle.qm_kinds.specs.declared.request.Request.{Request}

@@ -1,5 +1,5 @@
 -- A command that is spelled in full is read as what it was spelled of.
-use Rattle.std.proofs.Common.{◌≡◌, ℕ, List, [], ◌∷◌, Option, None, Some, Bool, true, false, if◌then◌else◌, Result, Ok, Err, refl, sym, ap, subst, ◌∙◌}
+use Rattle.std.proofs.Common.{◌≡◌, ℕ, List, ◌∷◌, Option, None, Some, Bool, true, false, if◌then◌else◌, Result, Ok, refl, sym, ap, ◌∙◌}
 use Rattle.std.specs.Prelude.{option_and_then, ok_or}
 use Rattle.qm_kinds.specs.declared.input.Input.{Input}
 use Rattle.qm_grammar.specs.declared.fault.Fault.{Fault}
@@ -7,21 +7,19 @@ use Rattle.qm_grammar.specs.declared.part.Part.{Part}
 use Rattle.qm_grammar.specs.declared.table.Command.{Command}
 use Rattle.qm_grammar.specs.declared.table.Row.{Row}
 use Rattle.qm_grammar.specs.declared.table.Verb.{Verb}
-use Rattle.qm_grammar.specs.declared.word.Word.{Word}
-use Rattle.qm_grammar.specs.Parsed.{tokens_in, parts_in, command_in}
+use Rattle.qm_grammar.specs.Parsed.{command_in}
 use Rattle.qm_dcl.specs.declared.lists.Lists.{Lists}
 use Rattle.qm_dcl.specs.declared.settings.Settings.{Settings}
-use Rattle.qm_dcl.specs.Command.{asked, judged, asked_with, not_built, meant, command_named, command_of}
-use Rattle.qm_dcl.specs.Given.{with_word}
+use Rattle.qm_dcl.specs.Command.{asked, judged, asked_with, not_built, command_named, command_of}
 use Rattle.qm_dcl.specs.Lists.{lists_of, nodes_of}
 use Rattle.qm_dcl.specs.Settings.{nothing_given, settings_of}
 use Rattle.qm_spelling.specs.Commands.{is_command, command_text}
 use Rattle.qm_spelling.specs.ReadBack.{ReadsBack}
 use Rattle.qm_spelling.proofs.SpelledLexemes.{text_of}
-use Rattle.qm_spelling.proofs.SpelledPieces.{Said, Piece, command_lexemes}
+use Rattle.qm_spelling.proofs.SpelledPieces.{Piece, command_lexemes}
 use Rattle.qm_spelling.proofs.SpelledReading.{Spoken, spoken}
 use Rattle.qm_spelling.proofs.SpelledFinding.{IsRead, Makes, is_read}
-use Rattle.qm_spelling.proofs.SpelledSettings.{one_given, parameter_by, given, follows}
+use Rattle.qm_spelling.proofs.SpelledSettings.{one_given, given, follows}
 use Rattle.qm_spelling.proofs.SpelledLists.{lists_by, nodes_by, lists_are, nodes_are}
 
 -- from these settings on, what else is said asks for this

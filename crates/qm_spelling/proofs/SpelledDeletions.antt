@@ -1,14 +1,12 @@
 -- DELETE/FORM and its like, and ASSIGN/MERGE.
-use Rattle.std.proofs.Common.{◌≡◌, ◌<◌, ◌≤◌, ◌^◌, ℕ, Bool, ◌&&◌, List, [], ◌∷◌, ◌++◌, codes, decimal, Option, None, Some, true, false, refl, ap, ◌∙◌, sym, append-nil, append_assoc, arith}
+use Rattle.std.proofs.Common.{◌≡◌, ◌<◌, ◌≤◌, ◌^◌, ℕ, Bool, ◌&&◌, List, [], ◌∷◌, ◌++◌, codes, decimal, None, Some, true, false, refl, ap, ◌∙◌, sym, append-nil, append_assoc, arith}
 use Rattle.std.specs.Prelude.{option_map}
 use Rattle.qm_kinds.specs.Text.{IsText, is_name_byte}
 use Rattle.qm_kinds.specs.declared.input.Input.TheVariants.{Ask}
 use Rattle.qm_kinds.specs.declared.request.Request.TheVariants.{DeleteForm, DeleteCharacteristic, DeleteQueue, DeleteEntry, Merge}
 use Rattle.qm_model.specs.Built.{is_short, is_definable}
 use Rattle.qm_grammar.specs.declared.rules.Takes.TheVariants as takes
-use Rattle.qm_grammar.specs.declared.table.Command.{Command}
 use Rattle.qm_grammar.specs.declared.table.Command.TheVariants as command
-use Rattle.qm_grammar.specs.declared.table.Row.{Row}
 use Rattle.qm_grammar.specs.declared.table.Verb.TheVariants as verb
 use Rattle.qm_grammar.specs.declared.word.Word.TheVariants as words
 use Rattle.qm_grammar.specs.Table.{row}
@@ -17,10 +15,10 @@ use Rattle.qm_dcl.specs.Given.{with_word, with_definition}
 use Rattle.qm_dcl.specs.declared.settings.Settings.{Settings}
 use Rattle.qm_spelling.specs.ReadBack.{ReadsBack}
 use Rattle.qm_spelling.proofs.Values.{number_reads_back}
-use Rattle.qm_spelling.proofs.SpelledPieces.{Piece, Value}
+use Rattle.qm_spelling.proofs.SpelledPieces.{Piece}
 use Rattle.qm_spelling.proofs.SpelledReading.{Spoken, plain}
 use Rattle.qm_spelling.proofs.SpelledFinding.{Makes}
-use Rattle.qm_spelling.proofs.SpelledCommand.{Asks, AskFor, one_asks, reads_back}
+use Rattle.qm_spelling.proofs.SpelledCommand.{AskFor, one_asks, reads_back}
 use Rattle.qm_spelling.proofs.SpelledTails.{one}
 use Rattle.qm_spelling.proofs.SpelledWords.{name_word, number_word, short_said, definable_said}
 

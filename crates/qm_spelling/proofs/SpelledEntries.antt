@@ -1,5 +1,5 @@
 -- SET ENTRY.
-use Rattle.std.proofs.Common.{◌≡◌, inl, inr, ◌<◌, ◌≤◌, ◌^◌, ◌+◌, ℕ, List, [], ◌∷◌, ◌++◌, length, codes, decimal, IfSome, Option, None, Some, is_some, Bool, true, false, not, ◌&&◌, ◌||◌, if◌then◌else◌, nat_lt, refl, sym, ap, subst, ◌∙◌, arith, lit<, append_assoc, append-nil}
+use Rattle.std.proofs.Common.{◌≡◌, inl, inr, ◌<◌, ◌^◌, ℕ, List, [], ◌∷◌, ◌++◌, length, codes, decimal, IfSome, Option, None, Some, is_some, Bool, true, false, not, ◌&&◌, ◌||◌, if◌then◌else◌, nat_lt, refl, sym, ap, subst, ◌∙◌, arith, lit<, append_assoc, append-nil}
 use Rattle.std.specs.Prelude.{option_map, filter_map}
 use Rattle.std.specs.List.{list_all}
 use Rattle.std.specs.Option.{option_map_or, option_or}
@@ -25,18 +25,16 @@ use Rattle.qm_dcl.specs.declared.lists.Lists.{Lists}
 use Rattle.qm_dcl.specs.declared.settings.JobSettings.{JobSettings}
 use Rattle.qm_dcl.specs.declared.settings.Settings.{Settings}
 use Rattle.qm_dcl.specs.Entries.{entry_change_of}
-use Rattle.qm_dcl.specs.Given.{after_given}
 use Rattle.qm_dcl.specs.Settings.{nothing_given}
 use Rattle.qm_dcl.specs.Values.{characteristic_said}
-use Rattle.qm_spelling.specs.Jobs.{entry_after_text, entry_waiting_text, entry_needs_text, entry_terms_text, entry_settings_text, set_entry_text, is_timed, are_entry_characteristics, sets_entry, is_entry_change}
-use Rattle.qm_spelling.specs.Lawful.{IsName, IsReference, AreReferences, IsRetain, IsMoment, IsEntryChange}
-use Rattle.qm_spelling.specs.Pieces.{marked, valued, references_text, is_form_reference, are_characteristics, fits_list}
+use Rattle.qm_spelling.specs.Jobs.{entry_after_text, entry_settings_text, set_entry_text, is_timed, are_entry_characteristics, sets_entry, is_entry_change}
+use Rattle.qm_spelling.specs.Lawful.{IsReference, AreReferences, IsMoment, IsEntryChange}
+use Rattle.qm_spelling.specs.Pieces.{valued, references_text, is_form_reference, are_characteristics, fits_list}
 use Rattle.qm_spelling.specs.ReadBack.{ReadsBack}
 use Rattle.qm_spelling.proofs.Values.{number_reads_back}
-use Rattle.qm_spelling.proofs.SpelledLexemes.{text_of}
-use Rattle.qm_spelling.proofs.SpelledPieces.{Piece, ArePieces, command_lexemes}
+use Rattle.qm_spelling.proofs.SpelledPieces.{Piece, ArePieces}
 use Rattle.qm_spelling.proofs.SpelledReading.{Spoken, spoken, name_by}
-use Rattle.qm_spelling.proofs.SpelledFinding.{other_by, counted, counts_in, Makes}
+use Rattle.qm_spelling.proofs.SpelledFinding.{other_by, counts_in, Makes}
 use Rattle.qm_spelling.proofs.SpelledLists.{texts_of, lists_by, nodes_by}
 use Rattle.qm_spelling.proofs.SpelledCommand.{Asks, AskFor, one_asks, text_where, reads_back}
 use Rattle.qm_spelling.proofs.SpelledTails.{mark, pieces_text, both_texts, mark_text, In, AreGiven, AreItself, has_some, given_append, given_behind, pieces_append, given_allows}
@@ -44,9 +42,9 @@ use Rattle.qm_spelling.proofs.SpelledWords.{number_word}
 use Rattle.qm_spelling.proofs.SpelledAsking.{AllAre, AreQuiet, quiet}
 use Rattle.qm_spelling.proofs.SpelledQueueAsking.{CanBeSaid, can_all}
 use Rattle.qm_spelling.proofs.SpelledQueues.{has_both}
-use Rattle.qm_spelling.proofs.SpelledTimes.{inside, TimesRead}
+use Rattle.qm_spelling.proofs.SpelledTimes.{TimesRead}
 use Rattle.qm_spelling.proofs.SpelledJobPieces.{text_piece, number_piece, reference_piece, time_piece, retain_piece, restart_piece, characteristics_piece, text_is, number_is, reference_piece_is, time_piece_is, retain_is, restart_is, characteristics_is, text_given, number_given, reference_given, time_given, retain_given, restart_given, characteristics_given, mark_given, text_words, number_words, reference_words, time_words, retain_words, restart_words, characteristics_words, mark_words}
-use Rattle.qm_spelling.proofs.SpelledJobAsking.{IsOfJob, job_with, Holds, All_ask, marked_asks, queue_asks, name_asks, priority_asks, after_asks, hold_asks, release_asks, retain_asks, restart_asks, characteristics_ask, form_asks, text_quiet, number_quiet, reference_quiet, time_quiet, retain_quiet, restart_quiet, mark_quiet, listed_or_none, characteristics_there}
+use Rattle.qm_spelling.proofs.SpelledJobAsking.{IsOfJob, job_with, All_ask, marked_asks, queue_asks, name_asks, priority_asks, after_asks, hold_asks, release_asks, retain_asks, restart_asks, characteristics_ask, form_asks, text_quiet, number_quiet, reference_quiet, retain_quiet, restart_quiet, mark_quiet, listed_or_none, characteristics_there}
 
 and_left : (a b : Bool) → (a && b) ≡ true → a ≡ true
 and_left true b h = refl

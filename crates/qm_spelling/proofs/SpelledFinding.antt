@@ -1,22 +1,20 @@
 -- Which command pieces name, and that nothing in them excludes anything else.
-use Rattle.std.proofs.Common.{◌≡◌, ◌+◌, ℕ, List, [], ◌∷◌, length, find, map, Option, None, Some, is_some, Bool, true, false, cond, not, ◌&&◌, ◌||◌, if◌then◌else◌, nat_lt, Result, Ok, Err, refl, sym, ap, ◌∙◌}
+use Rattle.std.proofs.Common.{◌≡◌, ◌+◌, ℕ, List, [], ◌∷◌, length, find, Option, None, Some, is_some, Bool, true, false, cond, ◌&&◌, ◌||◌, if◌then◌else◌, Result, Ok, refl, ap, ◌∙◌}
 use Rattle.std.specs.List.{list_all}
 use Rattle.std.specs.Option.{option_map}
 use Rattle.qm_lex.specs.declared.token.Token.{Token}
 use Rattle.qm_lex.specs.declared.token.TokenKind.TheVariants as kinds
 use Rattle.qm_lex.specs.Tokens.{tokens_of}
-use Rattle.qm_grammar.specs.declared.fault.Fault.{Fault}
 use Rattle.qm_grammar.specs.declared.part.Part.{Part}
 use Rattle.qm_grammar.specs.declared.place.Place.TheVariants as place
 use Rattle.qm_grammar.specs.declared.rules.Takes.TheVariants as takes
-use Rattle.qm_grammar.specs.declared.table.Command.{Command}
 use Rattle.qm_grammar.specs.declared.table.Row.{Row}
 use Rattle.qm_grammar.specs.declared.table.Verb.{Verb}
 use Rattle.qm_grammar.specs.declared.table.Verb.TheVariants as verb
 use Rattle.qm_grammar.specs.declared.word.Word.{Word}
 use Rattle.qm_grammar.specs.Conflicts.{is_word_given, place_with, place_from, counting_place, later_of_both, earlier, conflict_of, first_conflict}
 use Rattle.qm_grammar.specs.Finding.{verb_of, first_parameter, has_object, has_option, is_named, row_of, named_behind, named_command}
-use Rattle.qm_grammar.specs.Names.{is_name, is_object, is_verb}
+use Rattle.qm_grammar.specs.Names.{is_name}
 use Rattle.qm_grammar.specs.Parsed.{tokens_in, tokens_by, parts_in, command_in, or_unreadable}
 use Rattle.qm_grammar.specs.Parts.{parts_of, parts_behind, parts_from}
 use Rattle.qm_grammar.specs.Places.{begun}
@@ -25,9 +23,9 @@ use Rattle.qm_grammar.specs.Rules.{exclusions_of}
 use Rattle.qm_grammar.specs.Spelled.{bytes_of}
 use Rattle.qm_grammar.specs.Table.{rows_of, verbs}
 use Rattle.qm_grammar.specs.Words.{undone_by, spelling, verb_spelling}
-use Rattle.qm_spelling.proofs.SpelledLexemes.{Lexeme, Say, text_of, placed, token_at, start_at, lexed, said}
-use Rattle.qm_spelling.proofs.SpelledPieces.{Said, Item, Value, Piece, ArePieces, slash, equals, opening, closing, comma, word_lexeme, parameter_lexeme, said_lexeme, inner_lexemes, item_lexemes, others_lexemes, value_lexemes, lexemes, command_lexemes, command_fits}
-use Rattle.qm_spelling.proofs.SpelledReading.{begins_by, no_rival_by, means_by, name_by, Spoken, spoken, Tells, Allows, Done, at_place, pieces_go}
+use Rattle.qm_spelling.proofs.SpelledLexemes.{Lexeme, Say, text_of, placed, token_at, lexed, said}
+use Rattle.qm_spelling.proofs.SpelledPieces.{Said, Item, Value, Piece, ArePieces, slash, equals, word_lexeme, said_lexeme, inner_lexemes, item_lexemes, others_lexemes, value_lexemes, lexemes, command_lexemes, command_fits}
+use Rattle.qm_spelling.proofs.SpelledReading.{no_rival_by, means_by, name_by, spoken, Tells, Allows, Done, at_place, pieces_go}
 
 -- ---- which qualifiers and options count
 

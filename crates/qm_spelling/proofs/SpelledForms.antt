@@ -1,5 +1,5 @@
 -- DEFINE/FORM and DEFINE/CHARACTERISTIC.
-use Rattle.std.proofs.Common.{◌≡◌, inl, inr, ◌<◌, ◌≤◌, ◌^◌, ◌+◌, ℕ, List, [], ◌∷◌, ◌++◌, length, codes, decimal, Option, None, Some, Bool, true, false, cond, not, ◌&&◌, ◌||◌, ◌==◌, if◌then◌else◌, refl, sym, ap, subst, ◌∙◌, arith, lit<, append_assoc, append-nil}
+use Rattle.std.proofs.Common.{◌≡◌, inl, inr, ◌<◌, ◌≤◌, ◌^◌, ℕ, List, [], ◌∷◌, ◌++◌, length, codes, decimal, Option, None, Some, Bool, true, false, cond, ◌&&◌, ◌||◌, ◌==◌, if◌then◌else◌, refl, sym, ap, subst, ◌∙◌, arith, lit<, append_assoc, append-nil}
 use Rattle.std.specs.Prelude.{option_map, unwrap_or}
 use Rattle.std.specs.Str.{bytes_eq}
 use Rattle.std.proofs.lemmas.Bool.Decides.{nat_tests}
@@ -13,7 +13,6 @@ use Rattle.qm_kinds.specs.declared.request.Request.TheVariants.{DefineForm, Defi
 use Rattle.qm_model.specs.Built.{is_short, is_definable}
 use Rattle.qm_grammar.specs.declared.rules.Takes.{Takes}
 use Rattle.qm_grammar.specs.declared.rules.Takes.TheVariants as takes
-use Rattle.qm_grammar.specs.declared.table.Command.{Command}
 use Rattle.qm_grammar.specs.declared.table.Command.TheVariants as command
 use Rattle.qm_grammar.specs.declared.table.Row.{Row}
 use Rattle.qm_grammar.specs.declared.table.Verb.TheVariants as verb
@@ -32,11 +31,11 @@ use Rattle.qm_dcl.specs.Values.{number_to}
 use Rattle.qm_spelling.specs.Forms.{margins_text, are_default_margins, margins_unless_default, shape_text, form_text}
 use Rattle.qm_spelling.specs.Jobs.{unless_default, number_unless_default}
 use Rattle.qm_spelling.specs.Lawful.{IsName, IsShape, IsForm, IsCharacteristic}
-use Rattle.qm_spelling.specs.Pieces.{marked, valued, list_text}
+use Rattle.qm_spelling.specs.Pieces.{valued, list_text}
 use Rattle.qm_spelling.specs.ReadBack.{ReadsBack}
 use Rattle.qm_spelling.proofs.Values.{number_reads_back}
 use Rattle.qm_spelling.proofs.SpelledLexemes.{text_of}
-use Rattle.qm_spelling.proofs.SpelledPieces.{command_lexemes, Said, Item, Value, Piece, IsWord, ArePieces}
+use Rattle.qm_spelling.proofs.SpelledPieces.{command_lexemes, Item, Value, Piece, IsWord, ArePieces}
 use Rattle.qm_spelling.proofs.SpelledReading.{Spoken, spoken, plain}
 use Rattle.qm_spelling.proofs.SpelledFinding.{counts_in, Makes}
 use Rattle.qm_spelling.proofs.SpelledLists.{lists_by, nodes_by}

@@ -1,8 +1,6 @@
 -- What the qualifiers of jobs give.
-use Rattle.std.proofs.Common.{◌≡◌, ◌<◌, ◌≤◌, ◌^◌, ◌+◌, ℕ, List, [], ◌∷◌, ◌++◌, length, map, codes, decimal, IfSome, Option, None, Some, Bool, true, false, not, ◌&&◌, if◌then◌else◌, refl, sym, ap, subst, ◌∙◌, arith}
+use Rattle.std.proofs.Common.{◌≡◌, ◌<◌, ◌^◌, ℕ, List, [], ◌∷◌, ◌++◌, map, codes, decimal, IfSome, Option, None, Some, Bool, true, false, ◌&&◌, if◌then◌else◌, refl, ap, ◌∙◌, arith}
 use Rattle.std.specs.Prelude.{option_map, filter_map}
-use Rattle.std.specs.List.{list_all}
-use Rattle.qm_kinds.specs.Files.{name_of}
 use Rattle.qm_kinds.specs.declared.entry.JobRetain.{JobRetain}
 use Rattle.qm_kinds.specs.declared.entry.JobRetain.TheVariants.{Default, Always, Failed, Until}
 use Rattle.qm_kinds.specs.declared.file.FileName.{FileName}
@@ -20,21 +18,21 @@ use Rattle.qm_dcl.specs.declared.settings.JobSettings.{JobSettings}
 use Rattle.qm_dcl.specs.Given.{with_word, with_job, with_retain, until_given, after_given, queue_retain_given, job_marked}
 use Rattle.qm_dcl.specs.Lists.{gives}
 use Rattle.qm_dcl.specs.Settings.{lists_nodes, is_of_queue}
-use Rattle.qm_dcl.specs.Values.{moment_said, characteristic_said, short_name_said}
-use Rattle.qm_spelling.specs.Lawful.{IsName, IsReference, AreReferences, IsRetain, IsMoment}
-use Rattle.qm_spelling.specs.Pieces.{reference_text, is_reference, are_characteristics, fits_list}
+use Rattle.qm_dcl.specs.Values.{characteristic_said, short_name_said}
+use Rattle.qm_spelling.specs.Lawful.{IsName, IsRetain, IsMoment}
+use Rattle.qm_spelling.specs.Pieces.{reference_text}
 use Rattle.qm_spelling.proofs.Values.{name_reads_back, number_reads_back}
-use Rattle.qm_spelling.proofs.SpelledPieces.{Said, Value, Piece}
+use Rattle.qm_spelling.proofs.SpelledPieces.{Said, Piece}
 use Rattle.qm_spelling.proofs.SpelledReading.{Spoken, spoken, items_spoken, plain}
 use Rattle.qm_spelling.proofs.SpelledSettings.{inner_of, value_by, job_retain_by}
 use Rattle.qm_spelling.proofs.SpelledLists.{texts_of}
 use Rattle.qm_spelling.proofs.SpelledCommand.{Asks, one_asks}
-use Rattle.qm_spelling.proofs.SpelledTails.{mark, one, item, words_list, none_inner}
+use Rattle.qm_spelling.proofs.SpelledTails.{mark, item, none_inner}
 use Rattle.qm_spelling.proofs.SpelledWords.{short_said}
-use Rattle.qm_spelling.proofs.SpelledAsking.{reference_is, value_asks, valued_asks, AreRead, values_ask, AreQuiet, quiet, list_is, AllAre, all_read}
-use Rattle.qm_spelling.proofs.SpelledQueueAsking.{CanBeSaid, can_all}
+use Rattle.qm_spelling.proofs.SpelledAsking.{reference_is, valued_asks, AreRead, values_ask, AreQuiet, list_is, AllAre, all_read}
+use Rattle.qm_spelling.proofs.SpelledQueueAsking.{CanBeSaid}
 use Rattle.qm_spelling.proofs.SpelledTimes.{inside, TimesRead}
-use Rattle.qm_spelling.proofs.SpelledJobPieces.{text_piece, number_piece, reference_piece, time_piece, retain_value, retain_piece, restart_piece, characteristics_piece}
+use Rattle.qm_spelling.proofs.SpelledJobPieces.{text_piece, number_piece, reference_piece, time_piece, retain_piece, restart_piece, characteristics_piece}
 
 and_right : (a b : Bool) → (a && b) ≡ true → b ≡ true
 and_right true b h = h

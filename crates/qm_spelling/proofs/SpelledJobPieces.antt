@@ -1,5 +1,5 @@
 -- The qualifiers of jobs: their pieces, the text of these, and that they are in the table.
-use Rattle.std.proofs.Common.{◌≡◌, ◌⊎◌, inl, inr, ◌<◌, ◌≤◌, ◌^◌, ◌+◌, ℕ, suc, List, [], ◌∷◌, ◌++◌, length, map, codes, decimal, IfSome, Option, None, Some, Bool, true, false, not, ◌&&◌, if◌then◌else◌, refl, sym, ap, subst, ◌∙◌, arith, lit<}
+use Rattle.std.proofs.Common.{◌≡◌, ◌<◌, ◌≤◌, ◌^◌, ℕ, suc, List, [], ◌∷◌, ◌++◌, length, map, codes, decimal, IfSome, Option, None, Some, Bool, true, false, refl, sym, ap, subst, arith, lit<}
 use Rattle.std.specs.Prelude.{option_map}
 use Rattle.std.proofs.lemmas.List.{length-map}
 use Rattle.qm_kinds.specs.declared.entry.JobRetain.{JobRetain}
@@ -10,11 +10,11 @@ use Rattle.qm_grammar.specs.declared.rules.Takes.TheVariants as takes
 use Rattle.qm_grammar.specs.declared.word.Word.{Word}
 use Rattle.qm_grammar.specs.declared.word.Word.TheVariants as words
 use Rattle.qm_spelling.specs.Jobs.{job_retain_text, restart_text, job_characteristics_text}
-use Rattle.qm_spelling.specs.Lawful.{IsName, IsReference, AreReferences, IsRetain, IsMoment}
-use Rattle.qm_spelling.specs.Pieces.{marked, valued, reference_text, references_text, time_text, fits_list}
-use Rattle.qm_spelling.proofs.SpelledPieces.{Said, Item, Value, Piece, IsWord, ArePieces}
+use Rattle.qm_spelling.specs.Lawful.{IsName, IsReference, AreReferences}
+use Rattle.qm_spelling.specs.Pieces.{valued, reference_text, time_text, fits_list}
+use Rattle.qm_spelling.proofs.SpelledPieces.{Item, Value, Piece, ArePieces}
 use Rattle.qm_spelling.proofs.SpelledReading.{plain, TakesValue}
-use Rattle.qm_spelling.proofs.SpelledTails.{mark, one, item, in_quotes, words_list, pieces_text, value_text, mark_text, valued_text, one_text, list_text_is, In, AreGiven}
+use Rattle.qm_spelling.proofs.SpelledTails.{mark, one, in_quotes, words_list, pieces_text, value_text, valued_text, one_text, list_text_is, In, AreGiven}
 use Rattle.qm_spelling.proofs.SpelledWords.{name_word, number_word}
 use Rattle.qm_spelling.proofs.SpelledAsking.{reference_word, references_words, items_are, list_taken}
 use Rattle.qm_spelling.proofs.SpelledTimes.{inside, time_is, time_inside}

@@ -1,7 +1,6 @@
 -- SUBMIT and PRINT.
-use Rattle.std.proofs.Common.{◌≡◌, inl, inr, ◌<◌, ◌≤◌, ◌^◌, ◌+◌, ℕ, List, [], ◌∷◌, ◌++◌, length, codes, decimal, IfSome, Option, None, Some, is_some, Bool, true, false, not, ◌&&◌, ◌==◌, if◌then◌else◌, refl, sym, ap, subst, ◌∙◌, arith, append_assoc, append-nil}
+use Rattle.std.proofs.Common.{◌≡◌, inl, inr, ◌<◌, ◌^◌, ℕ, List, [], ◌∷◌, ◌++◌, length, codes, IfSome, Option, None, Some, is_some, Bool, true, false, not, ◌&&◌, ◌==◌, if◌then◌else◌, refl, sym, ap, subst, ◌∙◌, arith, append_assoc, append-nil}
 use Rattle.std.specs.Prelude.{option_map, filter_map, unwrap_or}
-use Rattle.std.specs.List.{list_all}
 use Rattle.std.specs.Option.{option_map_or, option_or}
 use Rattle.std.specs.Str.{bytes_eq}
 use Rattle.std.proofs.lemmas.Bool.Decides.{nat_tests}
@@ -36,9 +35,9 @@ use Rattle.qm_dcl.specs.Command.{asked}
 use Rattle.qm_dcl.specs.Settings.{nothing_given}
 use Rattle.qm_dcl.specs.Submitting.{default_queue, default_type, default_restart, with_type, job_of}
 use Rattle.qm_dcl.specs.Values.{characteristic_said, short_name_said}
-use Rattle.qm_spelling.specs.Jobs.{unless_default, number_unless_default, retain_unless_default, restart_unless_default, restart_text, job_place_text, job_waiting_text, job_terms_text, job_settings_text, print_settings_text, job_text, are_print_settings, is_job}
-use Rattle.qm_spelling.specs.Lawful.{IsName, IsReference, AreReferences, IsRetain, IsMoment, IsJobOf}
-use Rattle.qm_spelling.specs.Pieces.{valued, is_form_reference, are_characteristics, is_reference, fits_list}
+use Rattle.qm_spelling.specs.Jobs.{unless_default, number_unless_default, retain_unless_default, restart_unless_default, restart_text, job_settings_text, print_settings_text, job_text, are_print_settings, is_job}
+use Rattle.qm_spelling.specs.Lawful.{IsName, IsReference, IsRetain, IsJobOf}
+use Rattle.qm_spelling.specs.Pieces.{valued, is_form_reference, are_characteristics, fits_list}
 use Rattle.qm_spelling.specs.ReadBack.{ReadsBack}
 use Rattle.qm_spelling.proofs.SpelledLexemes.{text_of}
 use Rattle.qm_spelling.proofs.SpelledPieces.{Said, Piece, ArePieces, command_lexemes}

@@ -1,12 +1,11 @@
 -- The tokens of a text that is put together of words, quoted strings and signs, with blanks between them.
-use Rattle.std.proofs.Common.{◌≡◌, ◌<◌, ◌≤◌, ◌+◌, ◌-◌, ℕ, zero, suc, List, [], ◌∷◌, ◌++◌, drop, take, length, Option, None, Some, Bool, true, false, cond, ◌&&◌, ◌||◌, not, ◌==◌, if◌then◌else◌, nat_le, slice_range, Result, Ok, Err, refl, sym, ◌∙◌, ap, subst, arith, append-nil, append_assoc, length-append}
+use Rattle.std.proofs.Common.{◌≡◌, ◌<◌, ◌+◌, ◌-◌, ℕ, zero, suc, List, [], ◌∷◌, ◌++◌, drop, take, length, Some, Bool, true, false, ◌&&◌, ◌||◌, not, ◌==◌, if◌then◌else◌, nat_le, slice_range, Result, Ok, refl, sym, ◌∙◌, ap, arith, append_assoc, length-append}
 use Rattle.std.specs.List.{list_all}
 use Rattle.std.specs.Option.{option_map}
-use Rattle.std.proofs.lemmas.Bool.{leb-true, le-leb}
-use Rattle.std.proofs.lemmas.Bool.Decides.{nat_tests}
+use Rattle.std.proofs.lemmas.Bool.{le-leb}
 use Rattle.std.proofs.lemmas.List.{take_at, drop_at}
 use Rattle.qm_lex.specs.Bytes.{sort_of, is_word, word_length, quoted_length}
-use Rattle.qm_lex.specs.Tokens.{piece_of, tokens_from, tokens_of, with_piece, one_more}
+use Rattle.qm_lex.specs.Tokens.{piece_of, tokens_from, with_piece, one_more}
 use Rattle.qm_lex.specs.declared.byte.Sort.{Sort}
 use Rattle.qm_lex.specs.declared.byte.Sort.TheVariants as sorts
 use Rattle.qm_lex.specs.declared.token.TokenKind.{TokenKind}

@@ -1,13 +1,11 @@
 -- SHOW QUEUE and SHOW ENTRY.
-use Rattle.std.proofs.Common.{◌≡◌, inl, inr, ◌<◌, ◌≤◌, ◌^◌, ◌+◌, ℕ, List, [], ◌∷◌, ◌++◌, length, codes, decimal, IfSome, Option, None, Some, is_some, Bool, true, false, cond, not, ◌&&◌, ◌||◌, if◌then◌else◌, refl, sym, ap, subst, ◌∙◌, arith, lit<, append_assoc, append-nil}
+use Rattle.std.proofs.Common.{◌≡◌, inl, inr, ◌<◌, ◌^◌, ℕ, List, [], ◌∷◌, ◌++◌, codes, decimal, IfSome, Option, None, Some, is_some, Bool, true, false, cond, not, ◌&&◌, ◌||◌, if◌then◌else◌, refl, sym, ap, subst, ◌∙◌, arith, lit<, append_assoc, append-nil}
 use Rattle.std.specs.Prelude.{option_map, unwrap_or}
-use Rattle.std.specs.Str.{bytes_eq}
 use Rattle.std.proofs.lemmas.Slice.Eq.{bytes_eq-Decides}
 use Rattle.qm_kinds.specs.Text.{IsText, is_pattern_byte}
 use Rattle.qm_kinds.specs.declared.input.Input.{Input}
 use Rattle.qm_kinds.specs.declared.input.Input.TheVariants.{Show}
 use Rattle.qm_kinds.specs.declared.query.After.{After}
-use Rattle.qm_kinds.specs.declared.query.Kinds.{Kinds}
 use Rattle.qm_kinds.specs.declared.query.Listing.{Listing}
 use Rattle.qm_kinds.specs.declared.query.Listing.TheVariants.{Queues, Jobs, Entries, Forms, Characteristics, Manager, Cancel}
 use Rattle.qm_kinds.specs.declared.query.Query.{Query}
@@ -25,20 +23,20 @@ use Rattle.qm_dcl.specs.declared.settings.ListingSettings.{ListingSettings}
 use Rattle.qm_dcl.specs.declared.settings.Settings.{Settings}
 use Rattle.qm_dcl.specs.Given.{with_word, entry_given, pattern_given, parametered}
 use Rattle.qm_dcl.specs.Settings.{nothing_given}
-use Rattle.qm_dcl.specs.Showing.{all_kinds, forms_query, characteristics_query, entries_query, queues_query}
-use Rattle.qm_dcl.specs.Values.{are_digits, says_all, pattern_said}
+use Rattle.qm_dcl.specs.Showing.{all_kinds, forms_query, characteristics_query, queues_query}
+use Rattle.qm_dcl.specs.Values.{are_digits, says_all}
 use Rattle.qm_spelling.specs.Lawful.{IsQueryOf}
-use Rattle.qm_spelling.specs.Listings.{pattern_text, are_all, kinds_text, entries_text, query_text, is_for_all, is_query}
+use Rattle.qm_spelling.specs.Listings.{pattern_text, are_all, kinds_text, query_text, is_for_all, is_query}
 use Rattle.qm_spelling.specs.Pieces.{marked}
 use Rattle.qm_spelling.specs.ReadBack.{ReadsBack}
 use Rattle.qm_spelling.proofs.Values.{decimal_is_digits, number_reads_back, pattern_reads_back}
 use Rattle.qm_spelling.proofs.SpelledLexemes.{text_of}
 use Rattle.qm_spelling.proofs.SpelledPieces.{Piece, ArePieces, command_lexemes}
-use Rattle.qm_spelling.proofs.SpelledReading.{Spoken, spoken, plain}
+use Rattle.qm_spelling.proofs.SpelledReading.{Spoken, spoken}
 use Rattle.qm_spelling.proofs.SpelledFinding.{counts_in, Makes}
 use Rattle.qm_spelling.proofs.SpelledLists.{lists_by, nodes_by}
 use Rattle.qm_spelling.proofs.SpelledCommand.{Asks, AskFor, one_asks, text_where, reads_back}
-use Rattle.qm_spelling.proofs.SpelledTails.{mark, pieces_text, both_texts, text_append, mark_text, In, AreGiven, AreItself, given_append, pieces_append, given_allows, given_leaves}
+use Rattle.qm_spelling.proofs.SpelledTails.{mark, pieces_text, both_texts, mark_text, In, AreGiven, AreItself, given_append, pieces_append, given_allows, given_leaves}
 use Rattle.qm_spelling.proofs.SpelledWords.{pattern_word, number_word}
 
 -- ---- a pattern

@@ -1,17 +1,15 @@
 -- The lists that qualifiers give, by what their values say.
-use Rattle.std.proofs.Common.{◌≡◌, ℕ, List, [], ◌∷◌, map, Option, None, Some, Bool, true, false, if◌then◌else◌, refl, sym, ap, ◌∙◌}
+use Rattle.std.proofs.Common.{◌≡◌, ℕ, List, [], ◌∷◌, map, Option, None, Some, Bool, true, false, if◌then◌else◌, refl, ap, ◌∙◌}
 use Rattle.std.specs.Prelude.{option_map, filter_map}
 use Rattle.std.specs.List.{cons_option}
 use Rattle.std.specs.Option.{option_or}
 use Rattle.qm_lex.specs.declared.token.Token.{Token}
 use Rattle.qm_grammar.specs.declared.part.Part.{Part}
 use Rattle.qm_grammar.specs.declared.part.Part.TheVariants as parts
-use Rattle.qm_grammar.specs.declared.word.Word.{Word}
-use Rattle.qm_kinds.specs.declared.request.NameOrNumber.{NameOrNumber}
 use Rattle.qm_dcl.specs.declared.lists.ListOf.{ListOf}
 use Rattle.qm_dcl.specs.declared.lists.ListOf.TheVariants.{Characteristics, Targets, Nodes}
 use Rattle.qm_dcl.specs.declared.lists.Lists.{Lists}
-use Rattle.qm_dcl.specs.Lists.{gives, begins_list, behind_last, values_ahead, listed, lists_of, nodes_of}
+use Rattle.qm_dcl.specs.Lists.{gives, begins_list, behind_last, values_ahead, lists_of, nodes_of}
 use Rattle.qm_dcl.specs.Values.{said_by, characteristic_said, short_name_said, node_said}
 use Rattle.qm_spelling.proofs.SpelledReading.{Spoken, TellsOne, Tells}
 use Rattle.qm_spelling.proofs.SpelledSettings.{says}

@@ -1,9 +1,8 @@
 -- START/QUEUE/MANAGER.
-use Rattle.std.proofs.Common.{◌≡◌, inl, inr, ◌<◌, ◌≤◌, ℕ, suc, List, [], ◌∷◌, ◌++◌, length, map, codes, IfSome, Option, None, Some, Bool, true, false, cond, not, ◌&&◌, if◌then◌else◌, refl, sym, ap, subst, ◌∙◌, lit<, append-nil}
+use Rattle.std.proofs.Common.{◌≡◌, ℕ, List, [], ◌∷◌, ◌++◌, length, map, codes, IfSome, Option, None, Some, Bool, true, false, not, ◌&&◌, if◌then◌else◌, refl, ap, subst, ◌∙◌, lit<}
 use Rattle.std.specs.Prelude.{option_map, filter_map}
 use Rattle.std.specs.List.{list_all, cons_option}
 use Rattle.std.specs.Option.{option_map_or, option_or}
-use Rattle.std.specs.Str.{bytes_eq}
 use Rattle.std.proofs.lemmas.Slice.Eq.{bytes_eq-Decides}
 use Rattle.qm_kinds.specs.Text.{is_name_byte}
 use Rattle.qm_kinds.specs.declared.input.Input.{Input}
@@ -24,14 +23,13 @@ use Rattle.qm_spelling.specs.Commands.{are_nodes, nodes_text}
 use Rattle.qm_spelling.specs.Lawful.{IsName, AreNames}
 use Rattle.qm_spelling.specs.Pieces.{fits_list}
 use Rattle.qm_spelling.specs.ReadBack.{ReadsBack}
-use Rattle.qm_spelling.proofs.SpelledLexemes.{text_of}
-use Rattle.qm_spelling.proofs.SpelledPieces.{Piece, command_lexemes}
+use Rattle.qm_spelling.proofs.SpelledPieces.{Piece}
 use Rattle.qm_spelling.proofs.SpelledReading.{Spoken, spoken, items_spoken, plain}
 use Rattle.qm_spelling.proofs.SpelledFinding.{Makes}
 use Rattle.qm_spelling.proofs.SpelledSettings.{inner_of, is_ahead, value_by}
 use Rattle.qm_spelling.proofs.SpelledLists.{texts_of, lists_by, nodes_by}
 use Rattle.qm_spelling.proofs.SpelledCommand.{Asks, AskFor, one_asks, reads_back}
-use Rattle.qm_spelling.proofs.SpelledTails.{one, item, words_list, pieces_text, valued_text, one_text, list_text_is}
+use Rattle.qm_spelling.proofs.SpelledTails.{one, item, words_list, pieces_text, valued_text, list_text_is}
 use Rattle.qm_spelling.proofs.SpelledWords.{name_word, node_name_said}
 use Rattle.qm_spelling.proofs.SpelledAsking.{names_words, items_are, list_taken, list_is}
 

@@ -1,5 +1,5 @@
 -- INITIALIZE/QUEUE.
-use Rattle.std.proofs.Common.{◌≡◌, ◌⊎◌, inl, inr, ◌<◌, ◌≤◌, ◌^◌, ◌+◌, ◌-◌, ℕ, suc, List, [], ◌∷◌, ◌++◌, length, map, take, drop, position, codes, IfSome, Option, None, Some, is_some, Bool, true, false, cond, not, ◌&&◌, ◌||◌, ◌==◌, if◌then◌else◌, nat_lt, refl, sym, ap, subst, ◌∙◌, arith, append_assoc, append-nil, length-append}
+use Rattle.std.proofs.Common.{◌≡◌, ◌⊎◌, inl, inr, ◌<◌, ◌+◌, ◌-◌, ℕ, List, [], ◌∷◌, ◌++◌, length, map, take, drop, codes, IfSome, Option, None, Some, is_some, Bool, true, false, cond, not, ◌&&◌, ◌||◌, ◌==◌, if◌then◌else◌, nat_lt, refl, sym, ap, subst, ◌∙◌, arith, append_assoc, length-append}
 use Rattle.std.specs.Prelude.{option_map, option_and_then, filter_map, unwrap_or}
 use Rattle.std.specs.List.{list_all, cons_option}
 use Rattle.std.specs.Option.{option_map_or, option_or}
@@ -10,7 +10,6 @@ use Rattle.qm_kinds.specs.Text.{is_name_byte}
 use Rattle.qm_kinds.specs.declared.input.Input.{Input}
 use Rattle.qm_kinds.specs.declared.input.Input.TheVariants.{Ask}
 use Rattle.qm_kinds.specs.declared.queue.NewQueue.{NewQueue}
-use Rattle.qm_kinds.specs.declared.queue.QueueChange.{QueueChange}
 use Rattle.qm_kinds.specs.declared.queue.QueueKind.{QueueKind}
 use Rattle.qm_kinds.specs.declared.queue.QueueKind.TheVariants.{Batch, Print, GenericBatch, GenericPrint}
 use Rattle.qm_kinds.specs.declared.request.NameOrNumber.{NameOrNumber}
@@ -35,13 +34,13 @@ use Rattle.qm_dcl.specs.Given.{with_word, with_queue_settings}
 use Rattle.qm_dcl.specs.Lists.{gives}
 use Rattle.qm_dcl.specs.Queues.{kind_of, new_queue_of, queue_request}
 use Rattle.qm_dcl.specs.Settings.{nothing_given}
-use Rattle.qm_dcl.specs.Values.{is_node_name, node_said, short_name_said, characteristic_said, behind_colon, before_colon, device_said, located, location_cut_at, location_said}
-use Rattle.qm_spelling.specs.Lawful.{IsName, AreNames, IsQueueChange, IsNewQueue}
-use Rattle.qm_spelling.specs.Pieces.{marked, valued, fits_list}
+use Rattle.qm_dcl.specs.Values.{is_node_name, short_name_said, characteristic_said, behind_colon, before_colon, device_said, located, location_cut_at, location_said}
+use Rattle.qm_spelling.specs.Lawful.{IsName, AreNames, IsNewQueue}
+use Rattle.qm_spelling.specs.Pieces.{marked, fits_list}
 use Rattle.qm_spelling.specs.Queues.{is_for_batch, targets_text, device_text, location_text, queue_settings_text, new_queue_text, are_queue_settings, is_generic, is_placed, is_passing_on, is_new_queue}
 use Rattle.qm_spelling.specs.ReadBack.{ReadsBack}
 use Rattle.qm_spelling.proofs.SpelledLexemes.{is_word_byte, text_of}
-use Rattle.qm_spelling.proofs.SpelledPieces.{Said, Piece, IsWord, ArePieces, command_lexemes}
+use Rattle.qm_spelling.proofs.SpelledPieces.{Piece, IsWord, ArePieces, command_lexemes}
 use Rattle.qm_spelling.proofs.SpelledReading.{Spoken, spoken, items_spoken, plain}
 use Rattle.qm_spelling.proofs.SpelledFinding.{counts_in, Makes}
 use Rattle.qm_spelling.proofs.SpelledSettings.{value_by}

@@ -1,5 +1,5 @@
 -- What the qualifiers of a queue give.
-use Rattle.std.proofs.Common.{◌≡◌, ◌<◌, ◌≤◌, ◌^◌, ◌+◌, ℕ, List, [], ◌∷◌, ◌++◌, length, map, codes, decimal, IfSome, Option, None, Some, Bool, true, false, not, ◌&&◌, ◌==◌, if◌then◌else◌, refl, sym, ap, subst, ◌∙◌, arith, append-nil, append_assoc}
+use Rattle.std.proofs.Common.{◌≡◌, ◌<◌, ◌^◌, ℕ, List, [], ◌∷◌, ◌++◌, length, map, codes, decimal, IfSome, Option, None, Some, Bool, true, false, ◌&&◌, ◌==◌, if◌then◌else◌, refl, ap, ◌∙◌, arith, append-nil, append_assoc}
 use Rattle.std.specs.Prelude.{option_map, filter_map}
 use Rattle.std.specs.List.{list_all}
 use Rattle.std.specs.Option.{option_map_or, option_or}
@@ -18,7 +18,7 @@ use Rattle.qm_dcl.specs.declared.lists.Lists.{Lists}
 use Rattle.qm_dcl.specs.declared.settings.Settings.{Settings}
 use Rattle.qm_dcl.specs.declared.settings.QueueSettings.{QueueSettings}
 use Rattle.qm_dcl.specs.declared.value.Location.{Location}
-use Rattle.qm_dcl.specs.Given.{with_word, with_queue_settings, blocks_with, queue_retain_given}
+use Rattle.qm_dcl.specs.Given.{with_word, with_queue_settings, queue_retain_given}
 use Rattle.qm_dcl.specs.Lists.{gives}
 use Rattle.qm_dcl.specs.Settings.{lists_nodes, is_of_queue}
 use Rattle.qm_dcl.specs.Values.{characteristic_said}
@@ -26,12 +26,12 @@ use Rattle.qm_spelling.specs.Lawful.{IsReference, AreReferences, IsQueueChange}
 use Rattle.qm_spelling.specs.Pieces.{reference_text, is_form_reference, is_reference, are_characteristics, fits_list}
 use Rattle.qm_spelling.specs.Queues.{are_no_limits, are_queue_settings}
 use Rattle.qm_spelling.proofs.Values.{number_reads_back}
-use Rattle.qm_spelling.proofs.SpelledPieces.{Said, Value, Piece}
+use Rattle.qm_spelling.proofs.SpelledPieces.{Said, Piece}
 use Rattle.qm_spelling.proofs.SpelledReading.{Spoken, spoken, items_spoken, plain}
 use Rattle.qm_spelling.proofs.SpelledSettings.{inner_of, value_by, job_retain_by}
 use Rattle.qm_spelling.proofs.SpelledLists.{texts_ahead, texts_of}
 use Rattle.qm_spelling.proofs.SpelledCommand.{Asks, one_asks}
-use Rattle.qm_spelling.proofs.SpelledTails.{one, item, words_list}
+use Rattle.qm_spelling.proofs.SpelledTails.{item}
 use Rattle.qm_spelling.proofs.SpelledAsking.{reference_is, value_asks, valued_asks, AreRead, values_ask, AreQuiet, quiet, list_is, AllAre, all_read, none_ahead}
 use Rattle.qm_spelling.proofs.SpelledQueueSettings.{limit_pieces, characteristics_pieces, form_pieces, limits_pieces, blocks_pieces, schedule_pieces, retain_pieces, settings_pieces}
 

@@ -1,42 +1,22 @@
 -- The qualifiers of what is set for a queue.
-use Rattle.std.proofs.Common.{◌≡◌, inl, inr, ◌<◌, ◌≤◌, ◌^◌, ◌+◌, ℕ, suc, List, [], ◌∷◌, ◌++◌, length, map, codes, decimal, IfSome, Option, None, Some, Bool, true, false, not, ◌&&◌, ◌==◌, if◌then◌else◌, refl, sym, ap, subst, ◌∙◌, arith, lit<}
-use Rattle.std.specs.Prelude.{option_map, filter_map}
-use Rattle.std.specs.List.{list_all}
+use Rattle.std.proofs.Common.{◌≡◌, inl, inr, ◌<◌, ◌≤◌, ◌^◌, ℕ, suc, List, [], ◌∷◌, ◌++◌, length, map, codes, decimal, IfSome, Option, None, Some, Bool, true, false, ◌&&◌, if◌then◌else◌, refl, sym, ap, subst, arith, lit<}
+use Rattle.std.specs.Prelude.{option_map}
 use Rattle.std.specs.Option.{option_map_or}
-use Rattle.std.proofs.lemmas.Bool.Decides.{nat_tests}
 use Rattle.std.proofs.lemmas.List.{length-map}
-use Rattle.qm_kinds.specs.declared.input.Input.{Input}
 use Rattle.qm_kinds.specs.declared.queue.QueueChange.{QueueChange}
 use Rattle.qm_kinds.specs.declared.queue.QueueRetain.{QueueRetain}
 use Rattle.qm_kinds.specs.declared.queue.QueueRetain.TheVariants.{Nothing, Failed, All}
 use Rattle.qm_kinds.specs.declared.request.NameOrNumber.{NameOrNumber}
-use Rattle.qm_grammar.specs.declared.rules.Takes.{Takes}
 use Rattle.qm_grammar.specs.declared.rules.Takes.TheVariants as takes
-use Rattle.qm_grammar.specs.declared.table.Command.{Command}
-use Rattle.qm_grammar.specs.declared.word.Word.{Word}
 use Rattle.qm_grammar.specs.declared.word.Word.TheVariants as words
 use Rattle.qm_grammar.specs.Rules.{queue_settings}
-use Rattle.qm_dcl.specs.declared.lists.ListOf.{ListOf}
-use Rattle.qm_dcl.specs.declared.lists.ListOf.TheVariants.{Characteristics, Targets}
-use Rattle.qm_dcl.specs.declared.lists.Lists.{Lists}
-use Rattle.qm_dcl.specs.declared.settings.Settings.{Settings}
-use Rattle.qm_dcl.specs.declared.settings.QueueSettings.{QueueSettings}
-use Rattle.qm_dcl.specs.declared.value.Location.{Location}
-use Rattle.qm_dcl.specs.Given.{with_word, with_queue_settings, blocks_with, queue_retain_given}
-use Rattle.qm_dcl.specs.Settings.{lists_nodes, is_of_queue}
-use Rattle.qm_dcl.specs.Values.{characteristic_said}
 use Rattle.qm_spelling.specs.Lawful.{IsReference, AreReferences, IsQueueChange}
-use Rattle.qm_spelling.specs.Pieces.{marked, valued, list_text, reference_text, is_form_reference, is_reference, are_characteristics, fits_list}
-use Rattle.qm_spelling.specs.Queues.{queue_characteristics_text, are_no_limits, blocks_text, schedule_text, queue_retain_text, queue_settings_text, are_queue_settings, sets_queue}
-use Rattle.qm_spelling.proofs.Values.{number_reads_back}
-use Rattle.qm_spelling.proofs.SpelledPieces.{Said, Item, Value, Piece, ArePieces}
-use Rattle.qm_spelling.proofs.SpelledReading.{Spoken, spoken, plain}
-use Rattle.qm_spelling.proofs.SpelledSettings.{inner_of, value_by, job_retain_by}
-use Rattle.qm_spelling.proofs.SpelledLists.{texts_of}
-use Rattle.qm_spelling.proofs.SpelledCommand.{Asks, one_asks}
-use Rattle.qm_spelling.proofs.SpelledTails.{mark, with_value, one, item, words_list, pieces_text, both_texts, mark_text, valued_text, one_text, list_text_is, AreGiven, given_append, pieces_append, has_some}
+use Rattle.qm_spelling.specs.Pieces.{marked, valued, list_text, reference_text, are_characteristics, fits_list}
+use Rattle.qm_spelling.specs.Queues.{queue_characteristics_text, are_no_limits, blocks_text, schedule_text, queue_retain_text, queue_settings_text, are_queue_settings}
+use Rattle.qm_spelling.proofs.SpelledPieces.{Piece, ArePieces}
+use Rattle.qm_spelling.proofs.SpelledTails.{one, words_list, pieces_text, both_texts, mark_text, valued_text, one_text, list_text_is, AreGiven, given_append, pieces_append}
 use Rattle.qm_spelling.proofs.SpelledWords.{number_word}
-use Rattle.qm_spelling.proofs.SpelledAsking.{reference_word, reference_is, references_words, items_are, list_taken, value_asks, valued_asks, AreRead, values_ask, AreQuiet, quiet, list_is, AllAre, all_read}
+use Rattle.qm_spelling.proofs.SpelledAsking.{reference_word, references_words, items_are, list_taken}
 
 and_left : (a b : Bool) → (a && b) ≡ true → a ≡ true
 and_left true b h = refl

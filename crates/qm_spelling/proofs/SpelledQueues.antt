@@ -1,7 +1,6 @@
 -- SET QUEUE and START/QUEUE.
-use Rattle.std.proofs.Common.{◌≡◌, ◌<◌, ◌≤◌, ◌^◌, ◌+◌, ℕ, List, [], ◌∷◌, ◌++◌, length, codes, decimal, Option, None, Some, is_some, Bool, true, false, cond, not, ◌&&◌, ◌||◌, refl, sym, ap, subst, ◌∙◌, lit<, append_assoc, append-nil}
+use Rattle.std.proofs.Common.{◌≡◌, ℕ, List, [], ◌∷◌, ◌++◌, codes, Option, None, Some, is_some, Bool, true, false, cond, not, ◌&&◌, ◌||◌, refl, sym, ap, subst, ◌∙◌, lit<}
 use Rattle.std.specs.Prelude.{option_map, option_and_then, filter_map}
-use Rattle.qm_kinds.specs.declared.input.Input.{Input}
 use Rattle.qm_kinds.specs.declared.input.Input.TheVariants.{Ask}
 use Rattle.qm_kinds.specs.declared.queue.QueueChange.{QueueChange}
 use Rattle.qm_kinds.specs.declared.queue.QueueRetain.{QueueRetain}
@@ -10,13 +9,11 @@ use Rattle.qm_kinds.specs.declared.request.NameOrNumber.{NameOrNumber}
 use Rattle.qm_kinds.specs.declared.request.Request.{Request}
 use Rattle.qm_kinds.specs.declared.request.Request.TheVariants.{SetQueue, StartQueue}
 use Rattle.qm_model.specs.Built.{is_short}
-use Rattle.qm_grammar.specs.declared.rules.Takes.{Takes}
 use Rattle.qm_grammar.specs.declared.rules.Takes.TheVariants as takes
 use Rattle.qm_grammar.specs.declared.table.Command.{Command}
 use Rattle.qm_grammar.specs.declared.table.Command.TheVariants as command
 use Rattle.qm_grammar.specs.declared.table.Row.{Row}
 use Rattle.qm_grammar.specs.declared.table.Verb.TheVariants as verb
-use Rattle.qm_grammar.specs.declared.word.Word.{Word}
 use Rattle.qm_grammar.specs.declared.word.Word.TheVariants as words
 use Rattle.qm_grammar.specs.Rules.{queue_settings}
 use Rattle.qm_grammar.specs.Table.{row, object_row}
@@ -30,18 +27,18 @@ use Rattle.qm_dcl.specs.Queues.{change_of, queue_request}
 use Rattle.qm_dcl.specs.Settings.{nothing_given}
 use Rattle.qm_dcl.specs.Values.{characteristic_said}
 use Rattle.qm_spelling.specs.Lawful.{IsName, IsQueueChange}
-use Rattle.qm_spelling.specs.Queues.{queue_settings_text, are_no_limits, are_queue_settings, sets_queue}
+use Rattle.qm_spelling.specs.Queues.{are_no_limits, are_queue_settings, sets_queue}
 use Rattle.qm_spelling.specs.ReadBack.{ReadsBack}
 use Rattle.qm_spelling.proofs.SpelledPieces.{Piece}
 use Rattle.qm_spelling.proofs.SpelledReading.{Spoken, spoken}
-use Rattle.qm_spelling.proofs.SpelledFinding.{counts_in, row_by, clashes, Makes}
+use Rattle.qm_spelling.proofs.SpelledFinding.{counts_in, Makes}
 use Rattle.qm_spelling.proofs.SpelledLists.{texts_of, lists_by, nodes_by}
 use Rattle.qm_spelling.proofs.SpelledCommand.{Asks, AskFor, one_asks, reads_back}
-use Rattle.qm_spelling.proofs.SpelledTails.{AreGiven, AreItself, has_some, given_allows, given_leaves}
+use Rattle.qm_spelling.proofs.SpelledTails.{AreItself, has_some, given_allows, given_leaves}
 use Rattle.qm_spelling.proofs.SpelledWords.{name_word, short_said}
 use Rattle.qm_spelling.proofs.SpelledAsking.{quiet}
 use Rattle.qm_spelling.proofs.SpelledQueueSettings.{limit_pieces, characteristics_pieces, form_pieces, limits_pieces, blocks_pieces, schedule_pieces, retain_pieces, settings_pieces, settings_text, settings_given, settings_words}
-use Rattle.qm_spelling.proofs.SpelledQueueAsking.{IsOfQueue, Stands, queue_with, in_order, settings_ask, set_characteristics, same_order}
+use Rattle.qm_spelling.proofs.SpelledQueueAsking.{IsOfQueue, Stands, queue_with, settings_ask, set_characteristics, same_order}
 
 and_left : (a b : Bool) → (a && b) ≡ true → a ≡ true
 and_left true b h = refl

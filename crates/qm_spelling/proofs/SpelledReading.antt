@@ -1,5 +1,5 @@
 -- Pieces are read by the grammar as the command and the parts that they are meant as.
-use Rattle.std.proofs.Common.{◌≡◌, ◌<◌, ◌≤◌, ◌+◌, ℕ, suc, List, [], ◌∷◌, ◌++◌, length, take, find, map, Option, None, Some, Bool, true, false, cond, not, ◌==◌, ◌&&◌, ◌||◌, if◌then◌else◌, nat_le, nat_lt, Result, Ok, Err, refl, sym, ap, ◌∙◌, subst, arith}
+use Rattle.std.proofs.Common.{◌≡◌, ◌<◌, ◌≤◌, ◌+◌, ℕ, suc, List, [], ◌∷◌, ◌++◌, length, take, find, map, Option, None, Some, Bool, true, false, not, ◌==◌, ◌&&◌, ◌||◌, nat_le, nat_lt, Result, Ok, refl, ap, ◌∙◌, arith}
 use Rattle.std.specs.List.{list_all}
 use Rattle.std.specs.Option.{option_to_list}
 use Rattle.std.specs.Char.{to_ascii_uppercase}
@@ -7,7 +7,6 @@ use Rattle.std.specs.Str.{bytes_eq}
 use Rattle.std.proofs.lemmas.Bool.{le-leb}
 use Rattle.std.proofs.lemmas.Bool.Decides.{nat_tests}
 use Rattle.qm_lex.specs.declared.token.Token.{Token}
-use Rattle.qm_lex.specs.declared.token.TokenKind.{TokenKind}
 use Rattle.qm_lex.specs.declared.token.TokenKind.TheVariants as kinds
 use Rattle.qm_grammar.specs.declared.fault.Fault.{Fault}
 use Rattle.qm_grammar.specs.declared.part.Part.{Part}
@@ -16,21 +15,18 @@ use Rattle.qm_grammar.specs.declared.place.Place.{Place}
 use Rattle.qm_grammar.specs.declared.place.Place.TheVariants as place
 use Rattle.qm_grammar.specs.declared.place.State.{State}
 use Rattle.qm_grammar.specs.declared.rules.Takes.{Takes}
-use Rattle.qm_grammar.specs.declared.rules.Takes.TheVariants as takes
-use Rattle.qm_grammar.specs.declared.table.Command.{Command}
 use Rattle.qm_grammar.specs.declared.table.Row.{Row}
 use Rattle.qm_grammar.specs.declared.table.Verb.{Verb}
 use Rattle.qm_grammar.specs.declared.word.Word.{Word}
 use Rattle.qm_grammar.specs.Names.{rules_for, rule_for}
 use Rattle.qm_grammar.specs.Parts.{part_of, parts_from, on_next, qualifier_part}
-use Rattle.qm_grammar.specs.Places.{is_awaited, is_owing, one_more}
-use Rattle.qm_grammar.specs.Reading.{read_from, on_state, ended, whole, is_short}
+use Rattle.qm_grammar.specs.Reading.{read_from, on_state, ended}
 use Rattle.qm_grammar.specs.Rules.{most_values, may_have_key, needs_value}
-use Rattle.qm_grammar.specs.Spelled.{bytes_of, is_text}
+use Rattle.qm_grammar.specs.Spelled.{bytes_of}
 use Rattle.qm_grammar.specs.Steps.{with_token, named_by}
 use Rattle.qm_grammar.specs.Words.{spelling}
-use Rattle.qm_spelling.proofs.SpelledLexemes.{Lexeme, Say, placed, token_at, start_at}
-use Rattle.qm_spelling.proofs.SpelledPieces.{Said, Item, Value, Piece, slash, equals, opening, closing, comma, word_lexeme, parameter_lexeme, kind_of, said_bytes, said_lexeme, inner_lexemes, item_lexemes, others_lexemes, value_lexemes, piece_lexemes, lexemes}
+use Rattle.qm_spelling.proofs.SpelledLexemes.{Lexeme, Say, placed, token_at}
+use Rattle.qm_spelling.proofs.SpelledPieces.{Said, Item, Value, Piece, slash, equals, opening, closing, comma, word_lexeme, parameter_lexeme, kind_of, said_bytes, said_lexeme, inner_lexemes, item_lexemes, others_lexemes, value_lexemes, lexemes}
 
 -- ---- names by the bytes that say them
 

@@ -1,26 +1,22 @@
 -- What the parts of a command give, by what they say.
-use Rattle.std.proofs.Common.{◌≡◌, ◌+◌, ℕ, List, [], ◌∷◌, ◌++◌, map, Option, None, Some, Bool, true, false, cond, not, if◌then◌else◌, Result, Ok, Err, refl, sym, ap, ◌∙◌}
-use Rattle.std.specs.Prelude.{option_map, option_and_then, ok_or, filter_map}
-use Rattle.std.specs.Option.{option_or}
+use Rattle.std.proofs.Common.{◌≡◌, ℕ, List, [], ◌∷◌, map, Option, None, Some, Bool, true, false, not, if◌then◌else◌, Result, Ok, refl, ap, ◌∙◌}
+use Rattle.std.specs.Prelude.{option_and_then, ok_or}
 use Rattle.std.specs.Char.{to_ascii_uppercase}
 use Rattle.qm_kinds.specs.declared.entry.JobRetain.{JobRetain}
-use Rattle.qm_kinds.specs.declared.input.Input.{Input}
 use Rattle.qm_kinds.specs.declared.refusal.ParseKind.TheVariants as fault
 use Rattle.qm_lex.specs.declared.token.Token.{Token}
-use Rattle.qm_lex.specs.declared.token.TokenKind.{TokenKind}
 use Rattle.qm_grammar.specs.declared.fault.Fault.{Fault}
 use Rattle.qm_grammar.specs.declared.part.Part.{Part}
 use Rattle.qm_grammar.specs.declared.part.Part.TheVariants as parts
 use Rattle.qm_grammar.specs.declared.table.Command.{Command}
-use Rattle.qm_grammar.specs.declared.table.Row.{Row}
 use Rattle.qm_grammar.specs.declared.word.Word.{Word}
 use Rattle.qm_grammar.specs.declared.word.Word.TheVariants as words
-use Rattle.qm_grammar.specs.Spelled.{bytes_of, is_word}
+use Rattle.qm_grammar.specs.Spelled.{bytes_of}
 use Rattle.qm_dcl.specs.declared.settings.Settings.{Settings}
 use Rattle.qm_dcl.specs.declared.value.Side.{Side}
 use Rattle.qm_dcl.specs.Given.{with_word, valued, node_given, schedule_given, queue_retain_given, with_retain, until_given, after_given, margin_given, parametered}
 use Rattle.qm_dcl.specs.Settings.{or_value_fault, with_parameter, with_key, with_until, with_retain_word, with_job_retain, is_of_queue, with_retained, with_value, inner_value, has_value_ahead, lists_nodes, with_value_of, with_part, on_settings, settings_from}
-use Rattle.qm_dcl.specs.Values.{said_by, raised_by, unquoted, job_retain_said, is_until, side_said, moment_said}
+use Rattle.qm_dcl.specs.Values.{said_by, raised_by, job_retain_said, is_until, side_said, moment_said}
 use Rattle.qm_spelling.proofs.Times.{unquoted_is}
 use Rattle.qm_spelling.proofs.SpelledPieces.{Said, kind_of, said_bytes}
 use Rattle.qm_spelling.proofs.SpelledReading.{Spoken, Says, plain, TellsOne, Tells}

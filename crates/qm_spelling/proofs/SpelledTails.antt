@@ -1,6 +1,5 @@
 -- Qualifiers behind the parameters of a command, one group behind the other, as their texts stand one behind the other.
-use Rattle.std.proofs.Common.{◌≡◌, ◌⊎◌, inl, inr, ◌≤◌, ◌+◌, ℕ, List, [], ◌∷◌, ◌++◌, length, map, codes, Option, None, Some, is_some, Bool, true, false, not, ◌&&◌, ◌||◌, if◌then◌else◌, nat_lt, refl, sym, ap, ◌∙◌, append-nil, append_assoc}
-use Rattle.std.specs.Prelude.{option_map}
+use Rattle.std.proofs.Common.{◌≡◌, ◌⊎◌, inl, inr, ℕ, List, [], ◌∷◌, ◌++◌, map, codes, Option, None, Some, Bool, true, false, not, ◌&&◌, ◌||◌, if◌then◌else◌, nat_lt, refl, sym, ap, ◌∙◌, append-nil, append_assoc}
 use Rattle.std.specs.List.{list_all}
 use Rattle.qm_grammar.specs.declared.rules.Takes.{Takes}
 use Rattle.qm_grammar.specs.declared.table.Row.{Row}
@@ -12,7 +11,7 @@ use Rattle.qm_spelling.specs.Pieces.{marked, valued, list_text}
 use Rattle.qm_model.specs.Words.{listed}
 use Rattle.qm_spelling.proofs.SpelledLexemes.{Lexeme, text_of}
 use Rattle.qm_spelling.proofs.SpelledPieces.{Said, Item, Value, Piece, ArePieces, slash, equals, opening, closing, comma, word_lexeme, said_lexeme, inner_lexemes, item_lexemes, others_lexemes, value_lexemes, piece_lexemes, lexemes}
-use Rattle.qm_spelling.proofs.SpelledReading.{rule_by, name_by, plain, Spoken, spoken, Allows, TakesValue}
+use Rattle.qm_spelling.proofs.SpelledReading.{rule_by, name_by, plain, spoken, Allows, TakesValue}
 use Rattle.qm_spelling.proofs.SpelledFinding.{other_by, counted, counts_in}
 use Rattle.qm_spelling.proofs.SpelledSettings.{inner_of}
 

@@ -1,15 +1,13 @@
 -- Times as quoted strings of a command.
-use Rattle.std.proofs.Common.{◌≡◌, ◌≤◌, ◌+◌, ◌/◌, ◌%◌, ℕ, List, [], ◌∷◌, ◌++◌, codes, Option, None, Some, Ok, Bool, true, false, not, ◌==◌, ◌&&◌, if◌then◌else◌, refl, sym, ap, subst, ◌∙◌, arith, append-nil}
+use Rattle.std.proofs.Common.{◌≡◌, ◌≤◌, ◌+◌, ◌/◌, ◌%◌, ℕ, List, [], ◌∷◌, ◌++◌, codes, Some, Bool, true, false, not, ◌==◌, ◌&&◌, if◌then◌else◌, refl, sym, ◌∙◌, arith, append-nil}
 use Rattle.std.specs.Prelude.{nat_lt}
-use Rattle.std.specs.List.{list_all}
-use Rattle.std.specs.Result.{result_ok}
 use Rattle.std.proofs.lemmas.Bool.Decides.{nat_tests}
 use Rattle.std.proofs.lemmas.List.Folds.{list_all-append}
 use Rattle.qm_model.specs.Calendar.{CivilDate, date_of_day}
-use Rattle.qm_model.specs.MomentText.{digit, two_digits, four_digits, right_in_two, month_letters, date_text, clock_text, moment_text, without_blank}
+use Rattle.qm_model.specs.MomentText.{two_digits, four_digits, right_in_two, month_letters, date_text, clock_text, moment_text, without_blank}
 use Rattle.qm_dcl.specs.Values.{moment_said}
 use Rattle.qm_spelling.specs.Pieces.{time_text}
-use Rattle.qm_spelling.proofs.SpelledPieces.{Value, IsInside}
+use Rattle.qm_spelling.proofs.SpelledPieces.{IsInside}
 use Rattle.qm_spelling.proofs.SpelledTails.{in_quotes, value_text}
 
 -- what stands between the quotes
