@@ -2,6 +2,7 @@ pub mod Listed
 mod Blanks
 mod Values
 mod Times
+mod SpelledTruth
 mod SpelledLexemes
 mod SpelledPieces
 mod SpelledReading

@@ -31,14 +31,7 @@ use Rattle.qm_spelling.proofs.SpelledLists.{texts_ahead, texts_of}
 use Rattle.qm_spelling.proofs.SpelledCommand.{Asks, one_asks}
 use Rattle.qm_spelling.proofs.SpelledTails.{item, words_list}
 use Rattle.qm_spelling.proofs.SpelledWords.{name_word, number_word, short_said}
-
-and_left : (a b : Bool) → (a && b) ≡ true → a ≡ true
-and_left true b h = refl
-and_left false b h = absurd cc
-
-and_right : (a b : Bool) → (a && b) ≡ true → b ≡ true
-and_right true b h = h
-and_right false b h = absurd cc
+use Rattle.qm_spelling.proofs.SpelledTruth.{and_left, and_right}
 
 -- ---- forms and characteristics as words
 

@@ -1,5 +1,5 @@
 -- DELETE/FORM and its like, and ASSIGN/MERGE.
-use Rattle.std.proofs.Common.{◌≡◌, ◌<◌, ◌≤◌, ◌^◌, ℕ, Bool, ◌&&◌, List, [], ◌∷◌, ◌++◌, codes, decimal, None, Some, true, false, refl, ap, ◌∙◌, sym, append-nil, append_assoc, arith}
+use Rattle.std.proofs.Common.{◌≡◌, ◌<◌, ◌≤◌, ◌^◌, ℕ, List, [], ◌∷◌, ◌++◌, codes, decimal, None, Some, true, refl, ap, ◌∙◌, sym, append-nil, append_assoc, arith}
 use Rattle.std.specs.Prelude.{option_map}
 use Rattle.qm_kinds.specs.Text.{IsText, is_name_byte}
 use Rattle.qm_kinds.specs.declared.input.Input.TheVariants.{Ask}
@@ -21,6 +21,7 @@ use Rattle.qm_spelling.proofs.SpelledFinding.{Makes}
 use Rattle.qm_spelling.proofs.SpelledCommand.{AskFor, one_asks, reads_back}
 use Rattle.qm_spelling.proofs.SpelledTails.{one}
 use Rattle.qm_spelling.proofs.SpelledWords.{name_word, number_word, short_said, definable_said}
+use Rattle.qm_spelling.proofs.SpelledTruth.{and_left, and_right}
 
 module _ (user name : List ℕ) (lawful : IsText is_name_byte name) where
   -- ---- forms
@@ -137,14 +138,6 @@ module _ (user : List ℕ) (number : ℕ) (within : number < 2 ^ 32) where
       (λ is. (entry_makes, λ now. entry_asks now))
 
 -- ---- queues that are merged
-
-and_left : (a b : Bool) → (a && b) ≡ true → a ≡ true
-and_left true b h = refl
-and_left false b h = absurd cc
-
-and_right : (a b : Bool) → (a && b) ≡ true → b ≡ true
-and_right true b h = h
-and_right false b h = absurd cc
 
 module _ (user to from : List ℕ) (lawful_to : IsText is_name_byte to) (lawful_from : IsText is_name_byte from) where
   abbrev merged : List Piece

@@ -45,14 +45,7 @@ use Rattle.qm_spelling.proofs.SpelledQueues.{has_both}
 use Rattle.qm_spelling.proofs.SpelledTimes.{TimesRead}
 use Rattle.qm_spelling.proofs.SpelledJobPieces.{text_piece, number_piece, reference_piece, time_piece, retain_piece, restart_piece, characteristics_piece, text_is, number_is, reference_piece_is, time_piece_is, retain_is, restart_is, characteristics_is, text_given, number_given, reference_given, time_given, retain_given, restart_given, characteristics_given, mark_given, text_words, number_words, reference_words, time_words, retain_words, restart_words, characteristics_words, mark_words}
 use Rattle.qm_spelling.proofs.SpelledJobAsking.{IsOfJob, job_with, All_ask, marked_asks, queue_asks, name_asks, priority_asks, after_asks, hold_asks, release_asks, retain_asks, restart_asks, characteristics_ask, form_asks, text_quiet, number_quiet, reference_quiet, retain_quiet, restart_quiet, mark_quiet, listed_or_none, characteristics_there}
-
-and_left : (a b : Bool) → (a && b) ≡ true → a ≡ true
-and_left true b h = refl
-and_left false b h = absurd cc
-
-and_right : (a b : Bool) → (a && b) ≡ true → b ≡ true
-and_right true b h = h
-and_right false b h = absurd cc
+use Rattle.qm_spelling.proofs.SpelledTruth.{and_left, and_right, negated}
 
 -- ---- what isn't given doesn't count
 
@@ -388,10 +381,6 @@ short_queue (Some name) short = short
 two_front : (o : Option (List (List ℕ))) → option_or (option_or o None) None ≡ o
 two_front None = refl
 two_front (Some texts) = refl
-
-negated : (b : Bool) → b ≡ true → not b ≡ false
-negated true h = refl
-negated false h = absurd cc
 
 module _ (times : TimesRead) (user : List ℕ) (number : ℕ) (within : number < 2 ^ 32) (change : EntryChange) (lawful : IsEntryChange change) (is : is_entry_change change ≡ true) where
   four : (sets_entry change && not (change.release && (change.hold || is_timed change.after)) && option_map_or are_entry_characteristics change.characteristics true

@@ -1,5 +1,5 @@
 -- Names of files as words of a command.
-use Rattle.std.proofs.Common.{◌≡◌, ◌+◌, ℕ, suc, List, [], ◌∷◌, ◌++◌, length, drop, position, IfSome, Option, None, Some, is_some, Bool, true, false, ◌&&◌, ◌==◌, refl, sym, ap, ◌∙◌, arith, length-append}
+use Rattle.std.proofs.Common.{◌≡◌, ◌+◌, ℕ, suc, List, [], ◌∷◌, ◌++◌, length, drop, position, IfSome, Option, None, Some, is_some, true, false, ◌==◌, refl, sym, ap, ◌∙◌, arith, length-append}
 use Rattle.std.specs.Prelude.{option_map, option_and_then, nat_lt}
 use Rattle.std.specs.List.{list_all, position_or_len}
 use Rattle.std.proofs.lemmas.Bool.{le-leb}
@@ -14,14 +14,7 @@ use Rattle.qm_spelling.proofs.Values.{name_reads_back}
 use Rattle.qm_spelling.proofs.SpelledLexemes.{is_word_byte}
 use Rattle.qm_spelling.proofs.SpelledPieces.{IsWord}
 use Rattle.qm_spelling.proofs.SpelledWords.{name_word}
-
-and_left : (a b : Bool) → (a && b) ≡ true → a ≡ true
-and_left true b h = refl
-and_left false b h = absurd cc
-
-and_right : (a b : Bool) → (a && b) ≡ true → b ≡ true
-and_right true b h = h
-and_right false b h = absurd cc
+use Rattle.qm_spelling.proofs.SpelledTruth.{and_left, and_right}
 
 -- ---- where a byte stands behind a name
 

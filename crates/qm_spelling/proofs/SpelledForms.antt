@@ -2,7 +2,6 @@
 use Rattle.std.proofs.Common.{◌≡◌, inl, inr, ◌<◌, ◌≤◌, ◌^◌, ℕ, List, [], ◌∷◌, ◌++◌, length, codes, decimal, Option, None, Some, Bool, true, false, cond, ◌&&◌, ◌||◌, ◌==◌, if◌then◌else◌, refl, sym, ap, subst, ◌∙◌, arith, lit<, append_assoc, append-nil}
 use Rattle.std.specs.Prelude.{option_map, unwrap_or}
 use Rattle.std.specs.Str.{bytes_eq}
-use Rattle.std.proofs.lemmas.Bool.Decides.{nat_tests}
 use Rattle.std.proofs.lemmas.Slice.Eq.{bytes_eq-Decides}
 use Rattle.qm_kinds.specs.declared.form.Characteristic.{Characteristic}
 use Rattle.qm_kinds.specs.declared.form.Form.{Form}
@@ -43,17 +42,7 @@ use Rattle.qm_spelling.proofs.SpelledCommand.{Asks, AskFor, one_asks, reads_back
 use Rattle.qm_spelling.proofs.SpelledTails.{mark, one, pieces_text, value_text, both_texts, mark_text, valued_text, one_text, many_text, AreGiven, AreItself, given_append, pieces_append, given_allows, given_leaves}
 use Rattle.qm_spelling.proofs.SpelledWords.{name_word, number_word, short_said, definable_said}
 use Rattle.qm_spelling.proofs.SpelledAsking.{value_asks, valued_asks}
-
-and_left : (a b : Bool) → (a && b) ≡ true → a ≡ true
-and_left true b h = refl
-and_left false b h = absurd cc
-
-and_right : (a b : Bool) → (a && b) ≡ true → b ≡ true
-and_right true b h = h
-and_right false b h = absurd cc
-
-same_number : (a b : ℕ) → (a == b) ≡ true → b ≡ a
-same_number a b h = grind (arith, nat_tests)
+use Rattle.qm_spelling.proofs.SpelledTruth.{and_left, and_right, same_number}
 
 -- ---- characteristics
 

@@ -1,5 +1,5 @@
 -- What the qualifiers of jobs give.
-use Rattle.std.proofs.Common.{◌≡◌, ◌<◌, ◌^◌, ℕ, List, [], ◌∷◌, ◌++◌, map, codes, decimal, IfSome, Option, None, Some, Bool, true, false, ◌&&◌, if◌then◌else◌, refl, ap, ◌∙◌, arith}
+use Rattle.std.proofs.Common.{◌≡◌, ◌<◌, ◌^◌, ℕ, List, [], ◌∷◌, ◌++◌, map, codes, decimal, IfSome, Option, None, Some, Bool, true, false, if◌then◌else◌, refl, ap, ◌∙◌, arith}
 use Rattle.std.specs.Prelude.{option_map, filter_map}
 use Rattle.qm_kinds.specs.declared.entry.JobRetain.{JobRetain}
 use Rattle.qm_kinds.specs.declared.entry.JobRetain.TheVariants.{Default, Always, Failed, Until}
@@ -33,10 +33,6 @@ use Rattle.qm_spelling.proofs.SpelledAsking.{reference_is, valued_asks, AreRead,
 use Rattle.qm_spelling.proofs.SpelledQueueAsking.{CanBeSaid}
 use Rattle.qm_spelling.proofs.SpelledTimes.{inside, TimesRead}
 use Rattle.qm_spelling.proofs.SpelledJobPieces.{text_piece, number_piece, reference_piece, time_piece, retain_piece, restart_piece, characteristics_piece}
-
-and_right : (a b : Bool) → (a && b) ≡ true → b ≡ true
-and_right true b h = h
-and_right false b h = absurd cc
 
 -- a command that is about a job
 pub record IsOfJob (c : Command) : Type 0 where

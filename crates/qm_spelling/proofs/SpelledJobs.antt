@@ -1,9 +1,8 @@
 -- SUBMIT and PRINT.
-use Rattle.std.proofs.Common.{◌≡◌, inl, inr, ◌<◌, ◌^◌, ℕ, List, [], ◌∷◌, ◌++◌, length, codes, IfSome, Option, None, Some, is_some, Bool, true, false, not, ◌&&◌, ◌==◌, if◌then◌else◌, refl, sym, ap, subst, ◌∙◌, arith, append_assoc, append-nil}
+use Rattle.std.proofs.Common.{◌≡◌, inl, inr, ◌<◌, ◌^◌, ℕ, List, [], ◌∷◌, ◌++◌, length, codes, IfSome, Option, None, Some, is_some, Bool, true, false, not, ◌&&◌, ◌==◌, if◌then◌else◌, refl, sym, ap, subst, ◌∙◌, append_assoc, append-nil}
 use Rattle.std.specs.Prelude.{option_map, filter_map, unwrap_or}
 use Rattle.std.specs.Option.{option_map_or, option_or}
 use Rattle.std.specs.Str.{bytes_eq}
-use Rattle.std.proofs.lemmas.Bool.Decides.{nat_tests}
 use Rattle.std.proofs.lemmas.Slice.Eq.{bytes_eq-Decides}
 use Rattle.qm_kinds.specs.Files.{file_name_text}
 use Rattle.qm_kinds.specs.declared.entry.JobKind.{JobKind}
@@ -53,14 +52,7 @@ use Rattle.qm_spelling.proofs.SpelledTimes.{TimesRead}
 use Rattle.qm_spelling.proofs.SpelledFiles.{file_is, file_word}
 use Rattle.qm_spelling.proofs.SpelledJobPieces.{text_piece, number_piece, reference_piece, time_piece, retain_piece, restart_piece, characteristics_piece, text_is, number_is, reference_piece_is, time_piece_is, retain_is, restart_is, characteristics_is, text_given, number_given, reference_given, time_given, retain_given, restart_given, characteristics_given, mark_given, text_words, number_words, reference_words, time_words, retain_words, restart_words, characteristics_words, mark_words}
 use Rattle.qm_spelling.proofs.SpelledJobAsking.{IsOfJob, job_with, Holds, queue_asks, name_asks, priority_asks, after_asks, hold_asks, retain_asks, restart_asks, characteristics_ask, form_asks, copies_ask, copies_or, flag_asks, text_quiet, number_quiet, reference_quiet, time_quiet, retain_quiet, restart_quiet, mark_quiet, listed_or_none, characteristics_there}
-
-and_left : (a b : Bool) → (a && b) ≡ true → a ≡ true
-and_left true b h = refl
-and_left false b h = absurd cc
-
-and_right : (a b : Bool) → (a && b) ≡ true → b ≡ true
-and_right true b h = h
-and_right false b h = absurd cc
+use Rattle.qm_spelling.proofs.SpelledTruth.{and_left, and_right, same_number}
 
 -- ---- what stands where nothing is given
 
@@ -77,9 +69,6 @@ unless_is default name = by (bytes_eq name default) refl
     by : (b : Bool) → bytes_eq name default ≡ b → unwrap_or (if b then None else Some name) default ≡ name
     by true h = sym ((bytes_eq-Decides name default).0 h)
     by false h = refl
-
-same_number : (a b : ℕ) → (a == b) ≡ true → b ≡ a
-same_number a b h = grind (arith, nat_tests)
 
 number_unless_all : (P : ℕ → Type 0) (default n : ℕ) → P n → IfSome (number_unless_default default n) P
 number_unless_all P default n is = by (n == default)

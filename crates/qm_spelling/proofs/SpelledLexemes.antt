@@ -1,5 +1,5 @@
 -- The tokens of a text that is put together of words, quoted strings and signs, with blanks between them.
-use Rattle.std.proofs.Common.{◌≡◌, ◌<◌, ◌+◌, ◌-◌, ℕ, zero, suc, List, [], ◌∷◌, ◌++◌, drop, take, length, Some, Bool, true, false, ◌&&◌, ◌||◌, not, ◌==◌, if◌then◌else◌, nat_le, slice_range, Result, Ok, refl, sym, ◌∙◌, ap, arith, append_assoc, length-append}
+use Rattle.std.proofs.Common.{◌≡◌, ◌<◌, ◌+◌, ◌-◌, ℕ, zero, suc, List, [], ◌∷◌, ◌++◌, drop, take, length, Some, Bool, true, false, ◌||◌, not, ◌==◌, if◌then◌else◌, nat_le, slice_range, Result, Ok, refl, sym, ◌∙◌, ap, arith, append_assoc, length-append}
 use Rattle.std.specs.List.{list_all}
 use Rattle.std.specs.Option.{option_map}
 use Rattle.std.proofs.lemmas.Bool.{le-leb}
@@ -14,6 +14,7 @@ use Rattle.qm_lex.specs.declared.token.Piece.{Piece}
 use Rattle.qm_lex.specs.declared.token.Piece.TheVariants.{Takes}
 use Rattle.qm_lex.specs.declared.token.Token.{Token}
 use Rattle.qm_grammar.specs.Spelled.{bytes_of}
+use Rattle.qm_spelling.proofs.SpelledTruth.{and_left, and_right}
 
 -- ---- what is spelled
 
@@ -82,14 +83,6 @@ Fits (l ∷ ls) = Are l.kind l.bytes × ((is_sign l.kind || ends ls) ≡ true) �
 abbrev pub Apart : List ℕ → Type 0
 Apart [] = Unit {0}
 Apart (b ∷ rest) = (is_word_byte b ≡ false) × ((b == 34) ≡ false)
-
-and_left : (a b : Bool) → (a && b) ≡ true → a ≡ true
-and_left true b h = refl
-and_left false b h = absurd cc
-
-and_right : (a b : Bool) → (a && b) ≡ true → b ≡ true
-and_right true b h = h
-and_right false b h = absurd cc
 
 sign_apart : (kind : TokenKind) (bytes rest : List ℕ) → is_sign kind ≡ true → Are kind bytes → Apart (bytes ++ rest)
 sign_apart kinds.Word bytes rest sign are = absurd cc

@@ -38,6 +38,7 @@ use Rattle.qm_spelling.proofs.SpelledLists.{lists_by, nodes_by}
 use Rattle.qm_spelling.proofs.SpelledCommand.{Asks, AskFor, one_asks, text_where, reads_back}
 use Rattle.qm_spelling.proofs.SpelledTails.{mark, pieces_text, both_texts, mark_text, In, AreGiven, AreItself, given_append, pieces_append, given_allows, given_leaves}
 use Rattle.qm_spelling.proofs.SpelledWords.{pattern_word, number_word}
+use Rattle.qm_spelling.proofs.SpelledTruth.{and_left, and_right}
 
 -- ---- a pattern
 
@@ -427,14 +428,6 @@ module _ (user pattern : List ℕ) (lawful : IsText is_pattern_byte pattern) whe
           ap (λ (l : List ℕ). query_with Queues l None (Some user) true true true true) h ∙ ap (λ (n : List ℕ). query_with Queues pattern None (Some n) true true true true) (sym own)
 
 -- ---- any listing
-
-and_left : (a b : Bool) → (a && b) ≡ true → a ≡ true
-and_left true b h = refl
-and_left false b h = absurd cc
-
-and_right : (a b : Bool) → (a && b) ≡ true → b ≡ true
-and_right true b h = h
-and_right false b h = absurd cc
 
 module _ (user pattern : List ℕ) (lawful : IsText is_pattern_byte pattern) where
   -- ---- by the kinds of queues

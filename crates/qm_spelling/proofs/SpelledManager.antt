@@ -1,5 +1,5 @@
 -- START/QUEUE/MANAGER.
-use Rattle.std.proofs.Common.{◌≡◌, ℕ, List, [], ◌∷◌, ◌++◌, length, map, codes, IfSome, Option, None, Some, Bool, true, false, not, ◌&&◌, if◌then◌else◌, refl, ap, subst, ◌∙◌, lit<}
+use Rattle.std.proofs.Common.{◌≡◌, ℕ, List, [], ◌∷◌, ◌++◌, length, map, codes, IfSome, Option, None, Some, Bool, true, false, not, if◌then◌else◌, refl, ap, subst, ◌∙◌, lit<}
 use Rattle.std.specs.Prelude.{option_map, filter_map}
 use Rattle.std.specs.List.{list_all, cons_option}
 use Rattle.std.specs.Option.{option_map_or, option_or}
@@ -32,14 +32,7 @@ use Rattle.qm_spelling.proofs.SpelledCommand.{Asks, AskFor, one_asks, reads_back
 use Rattle.qm_spelling.proofs.SpelledTails.{one, item, words_list, pieces_text, valued_text, list_text_is}
 use Rattle.qm_spelling.proofs.SpelledWords.{name_word, node_name_said}
 use Rattle.qm_spelling.proofs.SpelledAsking.{names_words, items_are, list_taken, list_is}
-
-and_left : (a b : Bool) → (a && b) ≡ true → a ≡ true
-and_left true b h = refl
-and_left false b h = absurd cc
-
-and_right : (a b : Bool) → (a && b) ≡ true → b ≡ true
-and_right true b h = h
-and_right false b h = absurd cc
+use Rattle.qm_spelling.proofs.SpelledTruth.{and_left, and_right}
 
 abbrev manager_row : Row
 manager_row = row command.StartManager (Some words.Queue) (Some words.Manager) 0 0

@@ -52,14 +52,7 @@ use Rattle.qm_spelling.proofs.SpelledAsking.{names_words, items_are, list_taken,
 use Rattle.qm_spelling.proofs.SpelledFiles.{found_behind}
 use Rattle.qm_spelling.proofs.SpelledQueueSettings.{settings_pieces, settings_text, settings_given, settings_words}
 use Rattle.qm_spelling.proofs.SpelledQueueAsking.{IsOfQueue, Stands, queue_with, in_order, settings_ask, set_characteristics, no_targets, same_order}
-
-and_left : (a b : Bool) → (a && b) ≡ true → a ≡ true
-and_left true b h = refl
-and_left false b h = absurd cc
-
-and_right : (a b : Bool) → (a && b) ≡ true → b ≡ true
-and_right true b h = h
-and_right false b h = absurd cc
+use Rattle.qm_spelling.proofs.SpelledTruth.{and_left, and_right}
 
 -- ---- where a queue stands
 
@@ -137,9 +130,6 @@ tail_pieces new = front_pieces new ++ settings_pieces new.change
 
 abbrev all_pieces : NewQueue → List Piece
 all_pieces new = Piece.Marked words.Queue ∷ Piece.Parameter new.name ∷ tail_pieces new
-
-front_in_order : (a b d e : List Piece) → (a ++ b ++ d ++ e) ≡ a ++ (b ++ (d ++ e))
-front_in_order a b d e = simp append_assoc
 
 regroup : (name m t l s g : List ℕ) → name ++ m ++ t ++ l ++ s ++ g ≡ name ++ ((m ++ t ++ l ++ s) ++ g)
 regroup name m t l s g = simp append_assoc

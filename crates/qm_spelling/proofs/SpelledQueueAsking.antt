@@ -1,9 +1,8 @@
 -- What the qualifiers of a queue give.
-use Rattle.std.proofs.Common.{◌≡◌, ◌<◌, ◌^◌, ℕ, List, [], ◌∷◌, ◌++◌, length, map, codes, decimal, IfSome, Option, None, Some, Bool, true, false, ◌&&◌, ◌==◌, if◌then◌else◌, refl, ap, ◌∙◌, arith, append-nil, append_assoc}
+use Rattle.std.proofs.Common.{◌≡◌, ◌<◌, ◌^◌, ℕ, List, [], ◌∷◌, ◌++◌, length, map, codes, decimal, IfSome, Option, None, Some, Bool, true, false, ◌==◌, if◌then◌else◌, refl, ap, ◌∙◌, arith, append-nil, append_assoc}
 use Rattle.std.specs.Prelude.{option_map, filter_map}
 use Rattle.std.specs.List.{list_all}
 use Rattle.std.specs.Option.{option_map_or, option_or}
-use Rattle.std.proofs.lemmas.Bool.Decides.{nat_tests}
 use Rattle.qm_kinds.specs.declared.input.Input.{Input}
 use Rattle.qm_kinds.specs.declared.queue.QueueChange.{QueueChange}
 use Rattle.qm_kinds.specs.declared.queue.QueueRetain.{QueueRetain}
@@ -34,14 +33,7 @@ use Rattle.qm_spelling.proofs.SpelledCommand.{Asks, one_asks}
 use Rattle.qm_spelling.proofs.SpelledTails.{item}
 use Rattle.qm_spelling.proofs.SpelledAsking.{reference_is, value_asks, valued_asks, AreRead, values_ask, AreQuiet, quiet, list_is, AllAre, all_read, none_ahead}
 use Rattle.qm_spelling.proofs.SpelledQueueSettings.{limit_pieces, characteristics_pieces, form_pieces, limits_pieces, blocks_pieces, schedule_pieces, retain_pieces, settings_pieces}
-
-and_left : (a b : Bool) → (a && b) ≡ true → a ≡ true
-and_left true b h = refl
-and_left false b h = absurd cc
-
-and_right : (a b : Bool) → (a && b) ≡ true → b ≡ true
-and_right true b h = h
-and_right false b h = absurd cc
+use Rattle.qm_spelling.proofs.SpelledTruth.{and_left, and_right, same_number}
 
 -- a command that sets what a queue does with its jobs
 pub record IsOfQueue (c : Command) : Type 0 where
@@ -70,9 +62,6 @@ abbrev pub in_order : QueueChange → List Piece
 in_order change =
     limit_pieces change.limit ++ (characteristics_pieces change.characteristics ++ (form_pieces change.form ++ (blocks_pieces change.blocks
     ++ (schedule_pieces change.by_size ++ (retain_pieces change.retain ++ [])))))
-
-same_number : (a b : ℕ) → (a == b) ≡ true → b ≡ a
-same_number a b h = grind (arith, nat_tests)
 
 module _ (user : List ℕ) (now : ℕ) (c : Command) (lists : Lists) (nodes : Option (List (List ℕ))) (input : Input) (of : IsOfQueue c) (queue : Option (List ℕ)) where
   -- whoever stands there asks for the input

@@ -1,5 +1,5 @@
 -- The qualifiers of what is set for a queue.
-use Rattle.std.proofs.Common.{◌≡◌, inl, inr, ◌<◌, ◌≤◌, ◌^◌, ℕ, suc, List, [], ◌∷◌, ◌++◌, length, map, codes, decimal, IfSome, Option, None, Some, Bool, true, false, ◌&&◌, if◌then◌else◌, refl, sym, ap, subst, arith, lit<}
+use Rattle.std.proofs.Common.{◌≡◌, inl, inr, ◌<◌, ◌≤◌, ◌^◌, ℕ, suc, List, [], ◌∷◌, ◌++◌, length, map, codes, decimal, IfSome, Option, None, Some, Bool, true, false, if◌then◌else◌, refl, sym, ap, subst, arith, lit<}
 use Rattle.std.specs.Prelude.{option_map}
 use Rattle.std.specs.Option.{option_map_or}
 use Rattle.std.proofs.lemmas.List.{length-map}
@@ -17,14 +17,7 @@ use Rattle.qm_spelling.proofs.SpelledPieces.{Piece, ArePieces}
 use Rattle.qm_spelling.proofs.SpelledTails.{one, words_list, pieces_text, both_texts, mark_text, valued_text, one_text, list_text_is, AreGiven, given_append, pieces_append}
 use Rattle.qm_spelling.proofs.SpelledWords.{number_word}
 use Rattle.qm_spelling.proofs.SpelledAsking.{reference_word, references_words, items_are, list_taken}
-
-and_left : (a b : Bool) → (a && b) ≡ true → a ≡ true
-and_left true b h = refl
-and_left false b h = absurd cc
-
-and_right : (a b : Bool) → (a && b) ≡ true → b ≡ true
-and_right true b h = h
-and_right false b h = absurd cc
+use Rattle.qm_spelling.proofs.SpelledTruth.{and_left}
 
 -- ---- their pieces
 

@@ -1,5 +1,5 @@
 -- SET QUEUE and START/QUEUE.
-use Rattle.std.proofs.Common.{◌≡◌, ℕ, List, [], ◌∷◌, ◌++◌, codes, Option, None, Some, is_some, Bool, true, false, cond, not, ◌&&◌, ◌||◌, refl, sym, ap, subst, ◌∙◌, lit<}
+use Rattle.std.proofs.Common.{◌≡◌, ℕ, List, [], ◌∷◌, ◌++◌, codes, Option, None, Some, is_some, Bool, true, false, cond, ◌&&◌, ◌||◌, refl, sym, ap, subst, ◌∙◌, lit<}
 use Rattle.std.specs.Prelude.{option_map, option_and_then, filter_map}
 use Rattle.qm_kinds.specs.declared.input.Input.TheVariants.{Ask}
 use Rattle.qm_kinds.specs.declared.queue.QueueChange.{QueueChange}
@@ -39,14 +39,7 @@ use Rattle.qm_spelling.proofs.SpelledWords.{name_word, short_said}
 use Rattle.qm_spelling.proofs.SpelledAsking.{quiet}
 use Rattle.qm_spelling.proofs.SpelledQueueSettings.{limit_pieces, characteristics_pieces, form_pieces, limits_pieces, blocks_pieces, schedule_pieces, retain_pieces, settings_pieces, settings_text, settings_given, settings_words}
 use Rattle.qm_spelling.proofs.SpelledQueueAsking.{IsOfQueue, Stands, queue_with, settings_ask, set_characteristics, same_order}
-
-and_left : (a b : Bool) → (a && b) ≡ true → a ≡ true
-and_left true b h = refl
-and_left false b h = absurd cc
-
-and_right : (a b : Bool) → (a && b) ≡ true → b ≡ true
-and_right true b h = h
-and_right false b h = absurd cc
+use Rattle.qm_spelling.proofs.SpelledTruth.{and_left, and_right, negated}
 
 -- ---- something is set
 
@@ -133,10 +126,6 @@ given_behind front change lawful can same =
 first_off : (a b c : Bool) → a ≡ false → ((a && b) || ((a && c) || false)) ≡ false
 first_off true b c h = absurd cc
 first_off false b c h = refl
-
-negated : (b : Bool) → b ≡ true → not b ≡ false
-negated true h = refl
-negated false h = absurd cc
 
 of_set : IsOfQueue command.SetQueue
 of_set = record { no_nodes = λ word. refl; of_queue = refl }

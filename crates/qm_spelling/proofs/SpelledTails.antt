@@ -14,6 +14,7 @@ use Rattle.qm_spelling.proofs.SpelledPieces.{Said, Item, Value, Piece, ArePieces
 use Rattle.qm_spelling.proofs.SpelledReading.{rule_by, name_by, plain, spoken, Allows, TakesValue}
 use Rattle.qm_spelling.proofs.SpelledFinding.{other_by, counted, counts_in}
 use Rattle.qm_spelling.proofs.SpelledSettings.{inner_of}
+use Rattle.qm_spelling.proofs.SpelledTruth.{and_left, and_right}
 
 -- ---- groups
 
@@ -214,14 +215,6 @@ leaves v row word given = not (name_by (spelling given.0) v row word || other_by
 
 abbrev pub leave : Verb → Option Row → Word → List (Word × Takes) → Bool
 leave v row word table = list_all (leaves v row word) table
-
-and_left : (a b : Bool) → (a && b) ≡ true → a ≡ true
-and_left true b h = refl
-and_left false b h = absurd cc
-
-and_right : (a b : Bool) → (a && b) ≡ true → b ≡ true
-and_right true b h = h
-and_right false b h = absurd cc
 
 left : (v : Verb) (row : Option Row) (word : Word) (table : List (Word × Takes)) (rule : Word × Takes) → leave v row word table ≡ true → In rule table → leaves v row word rule ≡ true
 left v row word [] rule all here = absurd here

@@ -1,5 +1,5 @@
 -- Times as quoted strings of a command.
-use Rattle.std.proofs.Common.{◌≡◌, ◌≤◌, ◌+◌, ◌/◌, ◌%◌, ℕ, List, [], ◌∷◌, ◌++◌, codes, Some, Bool, true, false, not, ◌==◌, ◌&&◌, if◌then◌else◌, refl, sym, ◌∙◌, arith, append-nil}
+use Rattle.std.proofs.Common.{◌≡◌, ◌≤◌, ◌+◌, ◌/◌, ◌%◌, ℕ, List, [], ◌∷◌, ◌++◌, codes, Some, Bool, true, false, not, ◌==◌, if◌then◌else◌, refl, sym, ◌∙◌, arith, append-nil}
 use Rattle.std.specs.Prelude.{nat_lt}
 use Rattle.std.proofs.lemmas.Bool.Decides.{nat_tests}
 use Rattle.std.proofs.lemmas.List.Folds.{list_all-append}
@@ -9,6 +9,7 @@ use Rattle.qm_dcl.specs.Values.{moment_said}
 use Rattle.qm_spelling.specs.Pieces.{time_text}
 use Rattle.qm_spelling.proofs.SpelledPieces.{IsInside}
 use Rattle.qm_spelling.proofs.SpelledTails.{in_quotes, value_text}
+use Rattle.qm_spelling.proofs.SpelledTruth.{and_right}
 
 -- what stands between the quotes
 abbrev pub inside : ℕ → List ℕ
@@ -75,10 +76,6 @@ moment_inside moment =
     both (date_text (date_of_day (moment / 8640000)) ++ codes " ") (clock_text (moment % 8640000))
     (both (date_text (date_of_day (moment / 8640000))) (codes " ") (date_inside (date_of_day (moment / 8640000))) refl)
     (clock_inside (moment % 8640000))
-
-and_right : (a b : Bool) → (a && b) ≡ true → b ≡ true
-and_right true b h = h
-and_right false b h = absurd cc
 
 rest_inside : (text : List ℕ) → IsInside text → IsInside (without_blank text)
 rest_inside [] h = refl

@@ -1,5 +1,5 @@
 -- Names, numbers and times as words of a command, and what they say.
-use Rattle.std.proofs.Common.{◌≡◌, ◌<◌, ◌^◌, ℕ, List, [], ◌∷◌, decimal, Some, Bool, true, false, ◌&&◌, refl, ap, ◌∙◌, arith}
+use Rattle.std.proofs.Common.{◌≡◌, ◌<◌, ◌^◌, ℕ, List, [], ◌∷◌, decimal, Some, Bool, true, refl, ap, ◌∙◌, arith}
 use Rattle.std.specs.Prelude.{option_and_then}
 use Rattle.std.specs.List.{list_all}
 use Rattle.std.specs.Char.{is_ascii_digit}
@@ -11,14 +11,7 @@ use Rattle.qm_dcl.specs.Values.{if_passes, short_name_said, definable_name_said,
 use Rattle.qm_spelling.proofs.Values.{name_reads_back, decimal_is_digits}
 use Rattle.qm_spelling.proofs.SpelledLexemes.{is_word_byte}
 use Rattle.qm_spelling.proofs.SpelledPieces.{IsWord}
-
-and_left : (a b : Bool) → (a && b) ≡ true → a ≡ true
-and_left true b h = refl
-and_left false b h = absurd cc
-
-and_right : (a b : Bool) → (a && b) ≡ true → b ≡ true
-and_right true b h = h
-and_right false b h = absurd cc
+use Rattle.qm_spelling.proofs.SpelledTruth.{and_left, and_right}
 
 -- ---- words
 
