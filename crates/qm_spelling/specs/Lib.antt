@@ -5,3 +5,5 @@ pub mod Forms
 pub mod Listings
 pub mod Commands
 pub mod Faults
+pub mod ReadBack
+pub mod Lawful

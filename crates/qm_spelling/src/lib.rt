@@ -10,6 +10,7 @@ mod laws;
 mod listings;
 mod pieces;
 mod queues;
+mod read_back;
 
 pub use command::print_command;
 pub use fault::PrintFault;
@@ -17,3 +18,4 @@ pub use laws::{
     names_read_back, numbers_read_back, patterns_read_back, times_read_back,
     what_is_read_has_a_spelling,
 };
+pub use read_back::spellings_read_back;
