@@ -180,10 +180,10 @@ fn is_command(input: &Input) -> bool
 
 /// The one full spelling of an input: verb and option whole, the parameters, and a qualifier for each thing that isn't as it is where
 /// nothing is given, in the order of the tables; lists in parentheses, times absolute and in quotes. The user who types the command
-/// isn't part of it. That `read_command` reads it to the same input, at any moment, is tried by cases and isn't proved; the laws of
-/// this crate say it of numbers, names, patterns and times.
+/// isn't part of it. It is read to the same input, at any moment, where that user types it ([`crate::spellings_read_back`]).
 ///
-/// `NoCommand` comes exactly where the input has no spelling. Memory may run out where it has one; it is taken in the length of the
+/// `NoCommand` comes exactly where the input has no spelling, which is where no text asks for it
+/// ([`crate::what_is_read_has_a_spelling`]). Memory may run out where it has one; it is taken in the length of the
 /// text.
 pub fn print_command(alloc: Global, input: &Input) -> Result<Vec<u8>, PrintFault>
     ensures text { IfOk result (λ text. spelling_of input.now ≡ Some text.items) }
