@@ -1,10 +1,10 @@
 // Runs of the program over real files.
-use crate::desk::{Desk, push_told, push_walk};
+use crate::desk::{Asked, Desk, push_walk};
 use crate::files::Files;
 use crate::run::{Ran, Site, run};
 use qm_files::FileDisk;
 use std::alloc::AllocError;
-use std::{fs, io, mem};
+use std::{fs, io, slice};
 
 // The folder of the files, which is made for a run of `init`.
 const FOLDER: &str = "files";
@@ -38,15 +38,24 @@ pub(crate) fn run_over_files(
     let alloc = rt.alloc();
     let outside = desk.outside(&desk.script)?;
     let site = desk.site(files(rt)?)?;
-    let ran = run(alloc, words, outside, site)?;
-    push_told(alloc, told, &ran, usize::MAX)?;
+    let ran = run(rt, words, outside, site)?;
+    let asked = Asked::all(words, &desk.script);
+    desk.push_told(told, &asked, &desk.files, &ran)?;
     let Ran { site, turns, .. } = ran;
     let Site { disk, .. } = site;
     disk.close();
-    let before = mem::replace(&mut desk.files, Files::new(alloc));
-    *desk.files.get_mut(0) = fs::read(rt, "files/master")?;
-    *desk.files.get_mut(1) = fs::read(rt, "files/one")?;
-    push_walk(alloc, told, words, &before, turns, &desk.files)?;
+    let mut left = Files::new(alloc);
+    *left.get_mut(0) = fs::read(rt, "files/master")?;
+    *left.get_mut(1) = fs::read(rt, "files/one")?;
+    push_walk(
+        alloc,
+        told,
+        &asked,
+        &desk.files,
+        turns,
+        slice::from_ref(&left),
+    )?;
+    desk.files = left;
     if fs::exists(rt, "files/two")? {
         told.extend_from_slice(b"queue file 2 was made\n")?;
     }
