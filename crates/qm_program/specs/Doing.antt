@@ -8,18 +8,20 @@ use Rattle.qm_service.specs.Serving.{Outside}
 use Rattle.qm_symb.specs.Device as symb
 use Rattle.qm_program.specs.Making.{Makes}
 use Rattle.qm_program.specs.Reading.{AreSite, HoldCluster, IsScript, Reads}
-use Rattle.qm_program.specs.Running.{RunsTo}
+use Rattle.qm_program.specs.Running.{RunsAtOnce, RunsTo}
 use Rattle.qm_program.specs.Showing.{Shows}
 use Rattle.qm_program.specs.declared.outcome.End.{End}
 use Rattle.qm_program.specs.declared.task.Task.{Task}
-use Rattle.qm_program.specs.declared.task.Task.TheVariants.{Run, Show, Init}
+use Rattle.qm_program.specs.declared.task.Task.TheVariants.{Run, Cluster, Show, Init}
 
 module _ {D Y : Type 0} (m : Meaning D) (y : symb.Meaning Y) where
-  -- Words that ask for nothing touch nothing. A run alone reads, asks clocks and hands over blocks, and makes turns.
+  -- Words that ask for nothing touch nothing. To serve a script alone reads, asks clocks and hands over blocks, and makes turns.
   abbrev pub Does : {S : Type 0} → (S → Option (List ℕ)) → Option Task → S → S → List Turn → Outside D Y → Outside D Y → End → Type 0
   Does remaining None source rest turns old new end = (rest ≡ source) × (new ≡ old) × (turns ≡ [])
   Does remaining (Some Run) source rest turns old new end =
       Reads (remaining source) (remaining rest) end × RunsTo m y (remaining source) turns old new end
+  Does remaining (Some Cluster) source rest turns old new end =
+      Reads (remaining source) (remaining rest) end × RunsAtOnce m y (remaining source) turns old new end
   Does remaining (Some Show) source rest turns old new end =
       (rest ≡ source) × (new.sides ≡ old.sides) × (turns ≡ []) × Shows m old.disk new.disk old.taken new.taken end
   Does remaining (Some (Init nodes cap)) source rest turns old new end =
@@ -30,6 +32,7 @@ module _ {D Y : Type 0} (m : Meaning D) (y : symb.Meaning Y) where
 abbrev pub SpareStays : {D : Type 0} → Meaning D → Option Task → D → D → Type 0
 SpareStays m None old new = new ≡ old
 SpareStays m (Some Run) old new = KeepsSpare m old new
+SpareStays m (Some Cluster) old new = KeepsSpare m old new
 SpareStays m (Some Show) old new = OnlyLooks m old new
 SpareStays m (Some (Init nodes cap)) old new = KeepsFile m 2 old new
 

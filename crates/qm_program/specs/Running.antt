@@ -1,6 +1,7 @@
 -- What a run leaves of the disk, the sink, and the nodes' clocks and symbionts, by its end.
 use Rattle.std.specs.Prelude.{◌≡◌, ◌⊎◌, ℕ, List, [], Option, Some, None, IsTrue}
 use Rattle.qm_acting.specs.Reading.{IsRestoreFault}
+use Rattle.qm_cluster.specs.Serving.{ServesAtOnce}
 use Rattle.qm_disk.specs.Disk.{Meaning, IsQuiet, OnlyLooks}
 use Rattle.qm_glog.specs.declared.fault.OpenFault.TheVariants as opening
 use Rattle.qm_history.specs.Ends.{ServingEnd}
@@ -70,3 +71,7 @@ module _ {D Y : Type 0} (m : Meaning D) (y : symb.Meaning Y) where
   -- what a run leaves, whose lines one thread serves in their order
   abbrev pub RunsTo : Option (List ℕ) → List Turn → Outside D Y → Outside D Y → End → Type 0
   RunsTo left turns old new end = ServesTo m (Serves m y) left turns old new end
+
+  -- and what it leaves where each node is served by a thread of its own
+  abbrev pub RunsAtOnce : Option (List ℕ) → List Turn → Outside D Y → Outside D Y → End → Type 0
+  RunsAtOnce left turns old new end = ServesTo m (ServesAtOnce m y) left turns old new end

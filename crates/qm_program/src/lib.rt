@@ -19,4 +19,4 @@ pub use laws::{
 pub use making::new_sites_begin_one_world;
 pub use outcome::{End, Outcome};
 pub use qm_course::Station;
-pub use top_call::qman;
+pub use top_call::{alone, qman};

@@ -6,7 +6,7 @@ ghost use Rattle.qm_history.specs.Ends.{ServingEnd};
 ghost use Rattle.qm_kinds.specs.declared.limits.TheConstants.{NODES_LIMIT};
 ghost use Rattle.qm_script.specs.ClusterLines.{user_lines_view};
 ghost use Rattle.qm_service.specs.Ends.{CountsSink, serving_end};
-ghost use Rattle.qm_service.specs.Opening.{IsFresh, IsOpened, IsScriptOf};
+ghost use Rattle.qm_service.specs.Opening.{IsOpened, IsScriptOf};
 ghost use Rattle.qm_service.specs.Serving.{outside};
 ghost use Rattle.qm_service.specs.Value.{service_disk, service_names};
 ghost use Rattle.qm_program.specs.Causes.{HasCause, HasReason};
@@ -96,7 +96,7 @@ fn serve_lines<'a, W: ServeLines<D, C, Y>, O: Sink, D: Disk, C: Clock, Y: Symbio
     stations: &mut [Station<C, Y>],
     sink: &mut O,
 ) -> Outcome<D>
-    requires fresh { IsFresh D.meaning service }
+    requires opened { (disk : D) × IsOpened D.meaning disk service }
     requires script { IsScriptOf (service_names service) (user_lines_view lines.now) }
     requires stations { NODES_LIMIT ≤ length stations.old }
     ensures status { result.status ≡ status_of result.end }
@@ -122,7 +122,7 @@ fn serve_opened<W: ServeLines<D, C, Y>, O: Sink, D: Disk, C: Clock, Y: Symbiont>
     stations: &mut [Station<C, Y>],
     sink: &mut O,
 ) -> Outcome<D>
-    requires fresh { IsFresh D.meaning service }
+    requires opened { (disk : D) × IsOpened D.meaning disk service }
     requires stations { NODES_LIMIT ≤ length stations.old }
     ensures status { result.status ≡ status_of result.end }
     ensures behind { IsBehindText result.end }

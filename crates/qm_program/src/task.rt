@@ -1,7 +1,8 @@
 // What the program's words ask for.
-ghost use Rattle.std.specs.Prelude.{◌≡◌, map, IfOk, IfSome};
+ghost use Rattle.std.specs.Prelude.{◌≡◌, ◌↔◌, map, IfOk, IfSome, IsTrue, Some};
 ghost use Rattle.std.specs.String.{string_bytes};
 ghost use Rattle.qm_program.specs.Task.{NamesSite, init_of, task_of};
+ghost use Rattle.qm_program.specs.declared.task.Task.TheVariants.{Cluster};
 
 use qm_kinds::{Name, Seq};
 use qm_script::{caps_have_limits, named_nodes_make_a_site, read_cap, read_nodes};
@@ -13,8 +14,10 @@ pub const USUAL_CAP: u64 = 134_217_728;
 /// What the program is asked to do.
 #[derive(Drop)]
 pub(crate) enum Task {
-    /// To serve a script.
+    /// To serve a script, one line behind another.
     Run,
+    /// To serve a script whose nodes work at once.
+    Cluster,
     /// To list the queues and entries of a site.
     Show,
     /// To make a new site of these nodes, whose queue files may have so many bytes.
@@ -37,7 +40,7 @@ fn read_init(alloc: Global, word: &[u8], cap: Option<u64>) -> Result<Option<Task
     }
 }
 
-/// What the words ask for: `run`; `show`; or `init`, the names of one to eight nodes with commas between them, each of at most six bytes
+/// What the words ask for: `run`; `cluster`; `show`; or `init`, the names of one to eight nodes with commas between them, each of at most six bytes
 /// and each once, and behind them the most bytes of a queue file, 4,096 to 268,435,456, or nothing. Other words ask for
 /// nothing. Memory may run out where the words are two or three.
 pub(crate) fn read_task(alloc: Global, words: &[String]) -> Result<Option<Task>, AllocError>
@@ -49,6 +52,7 @@ pub(crate) fn read_task(alloc: Global, words: &[String]) -> Result<Option<Task>,
     caps_have_limits();
     match words {
         [word] if word.as_str() == "run" => Ok(Some(Task::Run)),
+        [word] if word.as_str() == "cluster" => Ok(Some(Task::Cluster)),
         [word] if word.as_str() == "show" => Ok(Some(Task::Show)),
         [word, nodes] if word.as_str() == "init" => {
             read_init(alloc, nodes.as_bytes(), Some(USUAL_CAP))
@@ -57,5 +61,15 @@ pub(crate) fn read_task(alloc: Global, words: &[String]) -> Result<Option<Task>,
             read_init(alloc, nodes.as_bytes(), read_cap(cap.as_bytes()))
         }
         _ => Ok(None),
+    }
+}
+
+/// Whether the words ask for nodes that work at once.
+pub(crate) fn asks_for_cluster(words: &[String]) -> bool
+    ensures { IsTrue result ↔ (task_of (map string_bytes words.now) ≡ Some Cluster) }
+{
+    match words {
+        [word] => word.as_str() == "cluster",
+        _ => false,
     }
 }

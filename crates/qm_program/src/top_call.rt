@@ -1,5 +1,5 @@
 // The top call.
-ghost use Rattle.std.specs.Prelude.{◌≡◌, ◌⊎◌, ◌≤◌, List, [], map, length, IsTrue, None, Some};
+ghost use Rattle.std.specs.Prelude.{◌≡◌, ◌≢◌, ◌⊎◌, ◌≤◌, List, [], map, length, IsTrue, None, Some};
 ghost use Rattle.std.specs.String.{string_bytes};
 ghost use Rattle.qm_course.specs.Runs.{side_of};
 ghost use Rattle.qm_history.specs.Chest.{turns_kept};
@@ -9,20 +9,23 @@ ghost use Rattle.qm_program.specs.Doing.{Does, HasSoundScript, IsWithoutFault, S
 ghost use Rattle.qm_program.specs.Ends.{status_of};
 ghost use Rattle.qm_program.specs.Reading.{AreSite};
 ghost use Rattle.qm_program.specs.Task.{task_of};
-ghost use Rattle.qm_program.specs.declared.task.Task.TheVariants.{Run, Show};
+ghost use Rattle.qm_program.specs.declared.task.Task.TheVariants.{Cluster, Run, Show};
 
 use crate::laws::sound_scripts_are_served;
 use crate::making::make;
 use crate::outcome::{End, Outcome};
 use crate::running::serve_script;
-use crate::serving::OneThread;
+use crate::serving::{OneThread, ThreadForEach};
 use crate::showing::show;
-use crate::task::{Task, read_task};
+use crate::task::{Task, asks_for_cluster, read_task};
 use qm_course::Station;
 use qm_disk::Disk;
 use qm_io::{Clock, Sink, Source};
 use qm_symb::Symbiont;
 use std::alloc::{AllocError, Global};
+use std::marker::{Send, Sync};
+use std::sync::Wait;
+use std::thread::Threads;
 
 /// The program between its words and its status.
 ///
@@ -36,20 +39,37 @@ use std::alloc::{AllocError, Global};
 /// by a record that no crash can take away, before its answer is written, and that before the next turn is made. A call at which
 /// the disk fails is told so (`%QMAN-F-JOURNAL`); the next one takes over, and the run goes on. The turns are handed out.
 ///
+/// With the word `cluster` the same is read and opened, and then each node serves its own lines, in their order, and works on for itself
+/// behind them, by a thread of its own; where none can be made, it is served by the calling thread. A node's turns are those that its
+/// lines ask for and its own, and all turns, in the order in which the nodes got them, are one history of a queue system that is asked
+/// one call at a time. Behind all turns the lines of each node are written, node by node in the cluster's order, and then `turns:`
+/// with the name of the node of each turn. A call at which the disk fails doesn't end it. A node ends at a damaged file, at a full
+/// history and for want of memory, and the others go on. Where several ends came, `NoMemory` counts first, then `Damaged`, `Write`,
+/// `HistoryFull` and `Journal`; at the first two nothing is written, since the text of some node may not be whole. Once a turn was made
+/// the disk and the turns come back at each end. That nodes get their turn at all, and when, isn't promised: `cluster` may wait.
+///
 /// With the word `show` the files are read, which changes nothing, and the listing of all queues and entries is written, as SHOW
 /// QUEUE/ALL_JOBS gives it, without prefixes. No node becomes manager, and no epoch is begun.
 ///
-/// The ends of a run are tried in this order: `Usage` (other words; nothing is read), `Read` (the source failed), `Script` (what was
+/// The ends of `run` are tried in this order: `Usage` (other words; nothing is read), `Read` (the source failed), `Script` (what was
 /// read is no script of the files' cluster, or of any, where these aren't a site's or can't be read), `Journal`, `Unformatted` and
 /// `Damaged` as the files tell, which are only looked at so far; and while lines are served `Write` (the sink failed), `Damaged`, `HistoryFull` (as many
 /// turns are kept as can be) and `NoMemory` as they arise. `Journal` comes behind a script that was served whole, where the disk failed
 /// at some turn. Epochs of 2^61 and more can't be gone on from, which is told as `NoMemory`.
 ///
-/// Laws say what follows from the clause `does` of a run. A crash at any moment leaves what it might before the run, or a log of some
+/// Laws say what follows from the clause `does` where a script is served. A crash at any moment leaves what it might before the run, or a log of some
 /// moment of its turns ([`crate::a_crash_leaves_a_moment_of_the_run`]); from each of these a program goes on with what was acknowledged
 /// ([`crate::programs_go_on_with_what_was_acknowledged`]), and so it does behind the run ([`crate::programs_go_on_behind_runs`]). And what
 /// the devices of a node took is the blocks of its steps, which come in stretches ([`crate::blocks_come_in_stretches`]).
-pub fn qman<S: Source, O: Sink, D: Disk, C: Clock, Y: Symbiont>(
+pub fn qman<
+    R: Threads + Wait + Sync,
+    S: Source,
+    O: Sink,
+    D: Disk + Drop + Send,
+    C: Clock + Send,
+    Y: Symbiont + Send,
+>(
+    rt: &R,
     alloc: Global,
     words: &[String],
     source: &mut S,
@@ -57,6 +77,8 @@ pub fn qman<S: Source, O: Sink, D: Disk, C: Clock, Y: Symbiont>(
     disk: D,
     stations: &mut [Station<C, Y>],
 ) -> Outcome<D>
+where
+    Y::Cursor: Send,
     // The k-th station is that of the k-th node.
     requires stations { NODES_LIMIT ≤ length stations.old }
 
@@ -80,7 +102,8 @@ pub fn qman<S: Source, O: Sink, D: Disk, C: Clock, Y: Symbiont>(
 
     // Over a script and files that are sound every line is answered, and each run that can step is carried out, unless the disk, the
     // sink or the source fails, memory runs out, or as many turns are kept as can be. Devices may fail.
-    ensures complete { task_of (map string_bytes words.now) ≡ Some Run → IsTrue D.meaning.tells → HasSoundScript (S.remaining source.old) (D.meaning.seen disk)
+    ensures complete { (task_of (map string_bytes words.now) ≡ Some Run) ⊎ (task_of (map string_bytes words.now) ≡ Some Cluster)
+        → IsTrue D.meaning.tells → HasSoundScript (S.remaining source.old) (D.meaning.seen disk)
         → IsWithoutFault (S.faults source.old) (S.faults source.new) → IsWithoutFault (O.faults sink.old) (O.faults sink.new)
         → IsWithoutFault (D.meaning.faults disk) (D.meaning.faults result.disk)
         → (result.end ≡ End.Ok) ⊎ ((result.end ≡ End.NoMemory) ⊎ ((result.end ≡ End.HistoryFull) × (length result.turns.items ≡ turns_kept))) }
@@ -91,8 +114,48 @@ pub fn qman<S: Source, O: Sink, D: Disk, C: Clock, Y: Symbiont>(
         → (result.end ≡ End.Ok) ⊎ (result.end ≡ End.NoMemory) }
 {
     sound_scripts_are_served();
+    if asks_for_cluster(words) {
+        serve_script(&ThreadForEach { rt }, alloc, source, sink, disk, stations)
+    } else {
+        alone(alloc, words, source, sink, disk, stations)
+    }
+}
+
+/// The program between its words and its status for all other words than `cluster`. It waits for nobody, so it returns as soon as the
+/// source, the sink, the disk, the clocks and the devices do. What it does is said of [`qman`].
+pub fn alone<S: Source, O: Sink, D: Disk, C: Clock, Y: Symbiont>(
+    alloc: Global,
+    words: &[String],
+    source: &mut S,
+    sink: &mut O,
+    disk: D,
+    stations: &mut [Station<C, Y>],
+) -> Outcome<D>
+    // They ask for no nodes that work at once.
+    requires words { task_of (map string_bytes words.now) ≢ Some Cluster }
+    requires stations { NODES_LIMIT ≤ length stations.old }
+    ensures status { result.status ≡ status_of result.end }
+    ensures usage { result.end ≡ End.Usage → task_of (map string_bytes words.now) ≡ None }
+    ensures unasked { task_of (map string_bytes words.now) ≡ None → (result.end ≡ End.Usage) ⊎ (result.end ≡ End.NoMemory) }
+    ensures cause { HasCause D.meaning.tells (D.meaning.seen disk) (S.remaining source.old) result.turns.items
+        (record { source = S.faults source.old; sink = O.faults sink.old; disk = D.meaning.faults disk })
+        (record { source = S.faults source.new; sink = O.faults sink.new; disk = D.meaning.faults result.disk }) result.end }
+    ensures does { Does D.meaning Y.meaning S.remaining (task_of (map string_bytes words.now)) source.old source.new result.turns.items
+        (record { disk = disk; taken = O.taken sink.old; sides = map (side_of C.told) stations.old })
+        (record { disk = result.disk; taken = O.taken sink.new; sides = map (side_of C.told) stations.new }) result.end }
+    ensures others { IsTrue D.meaning.tells → SpareStays D.meaning (task_of (map string_bytes words.now)) disk result.disk }
+    ensures complete { task_of (map string_bytes words.now) ≡ Some Run → IsTrue D.meaning.tells → HasSoundScript (S.remaining source.old) (D.meaning.seen disk)
+        → IsWithoutFault (S.faults source.old) (S.faults source.new) → IsWithoutFault (O.faults sink.old) (O.faults sink.new)
+        → IsWithoutFault (D.meaning.faults disk) (D.meaning.faults result.disk)
+        → (result.end ≡ End.Ok) ⊎ ((result.end ≡ End.NoMemory) ⊎ ((result.end ≡ End.HistoryFull) × (length result.turns.items ≡ turns_kept))) }
+    ensures listed { task_of (map string_bytes words.now) ≡ Some Show → IsTrue D.meaning.tells → AreSite (D.meaning.seen disk)
+        → IsWithoutFault (O.faults sink.old) (O.faults sink.new) → IsWithoutFault (D.meaning.faults disk) (D.meaning.faults result.disk)
+        → (result.end ≡ End.Ok) ⊎ (result.end ≡ End.NoMemory) }
+{
+    sound_scripts_are_served();
     match read_task(alloc, words) {
         Ok(Some(Task::Run)) => serve_script(&OneThread, alloc, source, sink, disk, stations),
+        Ok(Some(Task::Cluster)) => unreachable!(),
         Ok(Some(Task::Show)) => show(alloc, sink, disk),
         Ok(Some(Task::Init { nodes, cap })) => make(alloc, nodes.as_slice(), cap, sink, disk),
         Ok(None) => Outcome::of(alloc, End::Usage, disk),

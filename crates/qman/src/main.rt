@@ -19,7 +19,10 @@ use qm_program::{End, Outcome, qman};
 use qm_symb::FileDevice;
 use std::alloc::AllocError;
 use std::io::IsTerminal;
+use std::marker::Sync;
 use std::process::ExitCode;
+use std::sync::Wait;
+use std::thread::Threads;
 use std::{env, fs, io};
 
 // The first queue file.
@@ -71,7 +74,7 @@ fn stations(rt: &HostRuntime) -> Result<Vec<OwnStation<'_>>, AllocError>
 }
 
 // How the program ended, and whether another run has the folder. A word that isn't UTF-8 is no word of the program.
-fn run(rt: &HostRuntime) -> (End, bool) {
+fn run<R: Threads + Wait + Sync>(threads: &R, rt: &HostRuntime) -> (End, bool) {
     let words = match words(rt) {
         Ok(words) => words,
         Err(error) if error.kind() == io::ErrorKind::InvalidData => return (End::Usage, false),
@@ -86,6 +89,7 @@ fn run(rt: &HostRuntime) -> (End, bool) {
     let mut source = InputSource::new(rt.stdin());
     let mut sink = OutputSink::new(rt.stdout());
     let Outcome { end, disk, .. } = qman(
+        threads,
         rt.alloc(),
         &words,
         &mut source,
@@ -132,7 +136,7 @@ fn exit_code(end: End) -> ExitCode
 }
 
 fn main(rt: HostRuntime) -> ExitCode {
-    let (end, is_in_use) = run(&rt);
+    let (end, is_in_use) = run(&rt, &rt);
     if end != End::Ok {
         tell(&rt, end, is_in_use);
     }

@@ -4,7 +4,7 @@ use Rattle.qm_course.specs.Runs.{side_of}
 use Rattle.qm_service.specs.Serving.{outside}
 use Rattle.qm_program.specs.Task.{task_of}
 use Rattle.qm_program.proofs.Asking.{spare_untouched, untouched}
-use Rattle.qm_program.proofs.top_call.qman.Goals as goal
+use Rattle.qm_program.proofs.top_call.alone.Goals as goal
 
 pub returns-in-Err-clause-does : goal.returns-in-Err-clause-does
 returns-in-Err-clause-does g c =
