@@ -9,6 +9,9 @@ use qm_kinds::Moment;
 use qm_program::End;
 use qm_time::read_time;
 use std::alloc::{AllocError, Global};
+use std::marker::Sync;
+use std::sync::Wait;
+use std::thread::Threads;
 use std::{fs, io, str};
 
 type MemorySite = Site<MemoryDisk>;
@@ -25,12 +28,15 @@ const RUN: &str = "\"run\"";
 const CLUSTER: &str = "\"cluster\"";
 
 // A new site of nodes, with commas between their names.
-fn new_site(rt: &HostRuntime, nodes: &str) -> Result<MemorySite, AllocError> {
-    let alloc = rt.alloc();
+fn new_site<R: Threads + Wait + Sync>(
+    threads: &R,
+    alloc: Global,
+    nodes: &str,
+) -> Result<MemorySite, AllocError> {
     let outside = outside_of(alloc, Vec::new(alloc), Vec::new(alloc));
     let mut words = words_of(alloc, "\"init\"")?;
     words.push(String::from_str(alloc, nodes)?)?;
-    let Ran { site, .. } = run(rt, &words, outside, empty_site(alloc)?)?;
+    let Ran { site, .. } = run(threads, alloc, &words, outside, empty_site(alloc)?)?;
     Ok(site)
 }
 
@@ -130,8 +136,9 @@ fn is_transcript(rt: &HostRuntime, name: &str, printed: &[u8]) -> io::Result<boo
 
 // Serves a case over a site by the program of this word, and tells whether it printed its transcript, and its turns lead to what it
 // left; and where nodes work at once, whether they are of the lines of each.
-fn prints(
+fn prints<R: Threads + Wait + Sync>(
     rt: &HostRuntime,
+    threads: &R,
     word: &str,
     name: &str,
     site: MemorySite,
@@ -145,7 +152,7 @@ fn prints(
         printed,
         turns,
         site,
-    } = run(rt, &words_of(alloc, word)?, outside, site)?;
+    } = run(threads, alloc, &words_of(alloc, word)?, outside, site)?;
     let names = names_of(alloc, &before)?;
     let goes = word == RUN || go_by_lines(alloc, &turns, &script, &names, &printed, end)?;
     let behind = [Files::of(alloc, &site.disk)?];
@@ -155,7 +162,12 @@ fn prints(
 }
 
 // Whether `show` lists a site as the case says, where it says it.
-fn lists(rt: &HostRuntime, name: &str, site: MemorySite) -> io::Result<(bool, MemorySite)> {
+fn lists<R: Threads + Wait + Sync>(
+    rt: &HostRuntime,
+    threads: &R,
+    name: &str,
+    site: MemorySite,
+) -> io::Result<(bool, MemorySite)> {
     let Some(listing) = found(rt, name, "listing")? else {
         return Ok((true, site));
     };
@@ -167,19 +179,20 @@ fn lists(rt: &HostRuntime, name: &str, site: MemorySite) -> io::Result<(bool, Me
         printed,
         site,
         ..
-    } = run(rt, &words, outside, site)?;
+    } = run(threads, alloc, &words, outside, site)?;
     Ok((end == End::Ok && printed == listing, site))
 }
 
 // Serves the case of this name by the program of this word, and lists the site behind it.
-fn serves(
+fn serves<R: Threads + Wait + Sync>(
     rt: &HostRuntime,
+    threads: &R,
     word: &str,
     name: &str,
     site: MemorySite,
 ) -> io::Result<(bool, MemorySite)> {
-    let (prints, left) = prints(rt, word, name, site)?;
-    let (lists, left) = lists(rt, name, left)?;
+    let (prints, left) = prints(rt, threads, word, name, site)?;
+    let (lists, left) = lists(rt, threads, name, left)?;
     Ok((prints && lists, left))
 }
 
@@ -192,12 +205,17 @@ fn word_and_case(case: &str) -> (&str, &str) {
 }
 
 // Serves the case that is named so, and looks at a device where one is named behind it.
-fn passes(rt: &HostRuntime, case: &str, site: MemorySite) -> io::Result<(bool, MemorySite)> {
+fn passes<R: Threads + Wait + Sync>(
+    rt: &HostRuntime,
+    threads: &R,
+    case: &str,
+    site: MemorySite,
+) -> io::Result<(bool, MemorySite)> {
     let (word, case) = word_and_case(case);
     match case.split_once("=") {
-        None => serves(rt, word, case, site),
+        None => serves(rt, threads, word, case, site),
         Some((name, device)) => {
-            let (serves, left) = serves(rt, word, name, site)?;
+            let (serves, left) = serves(rt, threads, word, name, site)?;
             Ok((serves && is_output(rt, name, device, &left)?, left))
         }
     }
@@ -205,14 +223,15 @@ fn passes(rt: &HostRuntime, case: &str, site: MemorySite) -> io::Result<(bool, M
 
 /// Serves the case that a word names: over a new site of the nodes in front of a `:`, or of the node A; or behind a `+` over the
 /// site that the case before it left.
-pub(crate) fn serve_case(
+pub(crate) fn serve_case<R: Threads + Wait + Sync>(
     rt: &HostRuntime,
+    threads: &R,
     word: &str,
     before: MemorySite,
 ) -> io::Result<(bool, MemorySite)> {
     if let Some(case) = word.strip_prefix("+") {
-        return passes(rt, case, before);
+        return passes(rt, threads, case, before);
     }
     let (nodes, case) = word.split_once(":").unwrap_or((NODE, word));
-    passes(rt, case, new_site(rt, nodes)?)
+    passes(rt, threads, case, new_site(threads, rt.alloc(), nodes)?)
 }

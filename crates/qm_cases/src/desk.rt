@@ -12,8 +12,10 @@ use qm_kinds::Moment;
 use qm_plans::push_line;
 use qm_program::End;
 use std::alloc::{AllocError, Global};
-use std::marker::Send;
+use std::marker::{Send, Sync};
 use std::mem;
+use std::sync::Wait;
+use std::thread::Threads;
 
 // The words that ask for a run.
 const RUN: &str = "\"run\"";
@@ -157,9 +159,9 @@ impl Desk {
     }
 
     // Runs the program over files, where these calls of the disk fail, and tells of the run.
-    fn run_over(
+    fn run_over<R: Threads + Wait + Sync>(
         &self,
-        rt: &HostRuntime,
+        threads: &R,
         told: &mut Vec<u8>,
         asked: &Asked<'_>,
         files: &Files,
@@ -167,7 +169,7 @@ impl Desk {
     ) -> Result<Ran<MemoryDisk>, AllocError> {
         let outside = self.outside(asked.script)?;
         let site = self.site(files.disk(self.alloc, failing)?)?;
-        let mut ran = run(rt, asked.words, outside, site)?;
+        let mut ran = run(threads, self.alloc, asked.words, outside, site)?;
         self.push_told(told, asked, files, &ran)?;
         let turns = mem::replace(&mut ran.turns, Vec::new(self.alloc));
         let behind = self.left(&ran.site.disk, asked.behind)?;
@@ -217,9 +219,9 @@ impl Desk {
     }
 
     /// Runs the program over the files, tells of the run, and keeps the files that it left. Gives its disk.
-    pub(crate) fn run(
+    pub(crate) fn run<R: Threads + Wait + Sync>(
         &mut self,
-        rt: &HostRuntime,
+        threads: &R,
         told: &mut Vec<u8>,
         words: &[String],
     ) -> Result<MemoryDisk, AllocError> {
@@ -227,7 +229,7 @@ impl Desk {
             last: self.last,
             ..Asked::all(words, &self.script)
         };
-        let ran = self.run_over(rt, told, &asked, &self.files, &self.failing.calls)?;
+        let ran = self.run_over(threads, told, &asked, &self.files, &self.failing.calls)?;
         self.last = usize::MAX;
         let Ran { site, .. } = ran;
         self.keep_handed(&site)?;
@@ -242,9 +244,9 @@ impl Desk {
 
     // Runs the program over the files, where these calls of the disk fail, and tells of the run: of nodes at once how many of their
     // turns met a failing disk, since threads decide which.
-    fn run_failing_at(
+    fn run_failing_at<R: Threads + Wait + Sync>(
         &self,
-        rt: &HostRuntime,
+        threads: &R,
         told: &mut Vec<u8>,
         words: &[String],
         failing: &[u64],
@@ -254,7 +256,7 @@ impl Desk {
         if asked.is_at_once() {
             asked.last = 0;
         }
-        let ran = self.run_over(rt, told, &asked, &self.files, failing)?;
+        let ran = self.run_over(threads, told, &asked, &self.files, failing)?;
         if asked.is_at_once() {
             let line = format!(in self.alloc; "failed turns: {}", count_failed(&ran.printed))?;
             push_line(told, line.as_str())?;
@@ -265,9 +267,9 @@ impl Desk {
     /// Runs the program over the files once for each of its calls on the disk, which fails, or from which on each one does, and
     /// at last once where none fails. Tells of each run, and then of what is found behind it, where that isn't what was told
     /// before; the files stay as they are.
-    pub(crate) fn run_failing(
+    pub(crate) fn run_failing<R: Threads + Wait + Sync>(
         &self,
-        rt: &HostRuntime,
+        threads: &R,
         told: &mut Vec<u8>,
         words: &[String],
         failures: Failures,
@@ -277,9 +279,9 @@ impl Desk {
         for number in 1..CALLS {
             let failing = numbers_from(self.alloc, number, failures)?;
             let mut now = Vec::new(self.alloc);
-            let ran = self.run_failing_at(rt, &mut now, words, &failing)?;
+            let ran = self.run_failing_at(threads, &mut now, words, &failing)?;
             let mut found = Vec::new(self.alloc);
-            self.look_behind(rt, &mut found, &ran.site.disk)?;
+            self.look_behind(threads, &mut found, &ran.site.disk)?;
             if now != before || found != found_before {
                 push_line(told, "--")?;
             }
@@ -304,9 +306,9 @@ impl Desk {
     }
 
     // Asks what is there over files, and tells it behind a head, unless that is what was told before.
-    fn look_over(
+    fn look_over<R: Threads + Wait + Sync>(
         &self,
-        rt: &HostRuntime,
+        threads: &R,
         told: &mut Vec<u8>,
         head: &str,
         files: &Files,
@@ -315,7 +317,7 @@ impl Desk {
         let words = words_of(self.alloc, RUN)?;
         let mut found = Vec::new(self.alloc);
         let asked = Asked::all(&words, &self.look);
-        let _ = self.run_over(rt, &mut found, &asked, files, &[])?;
+        let _ = self.run_over(threads, &mut found, &asked, files, &[])?;
         if found.as_slice() != before.as_slice() {
             told.extend_from_slice(head.as_bytes())?;
         }
@@ -323,9 +325,9 @@ impl Desk {
     }
 
     /// Asks what is there behind a crash of each kind of this disk, and without a crash.
-    pub(crate) fn look_behind(
+    pub(crate) fn look_behind<R: Threads + Wait + Sync>(
         &self,
-        rt: &HostRuntime,
+        threads: &R,
         told: &mut Vec<u8>,
         disk: &MemoryDisk,
     ) -> Result<(), AllocError> {
@@ -333,16 +335,16 @@ impl Desk {
         for pick in 0..3u8 {
             let left = Files::of(self.alloc, &disk.after_crash(pick)?)?;
             let head = format!(in self.alloc; "crash {pick}:\n")?;
-            self.look_over(rt, told, head.as_str(), &left, &mut before)?;
+            self.look_over(threads, told, head.as_str(), &left, &mut before)?;
         }
         let left = Files::of(self.alloc, disk)?;
-        self.look_over(rt, told, "no crash:\n", &left, &mut before)
+        self.look_over(threads, told, "no crash:\n", &left, &mut before)
     }
 
     /// Asks what is there over the files, the chosen one spoiled at each of these places.
-    pub(crate) fn look_at_spoiled(
+    pub(crate) fn look_at_spoiled<R: Threads + Wait + Sync>(
         &self,
-        rt: &HostRuntime,
+        threads: &R,
         told: &mut Vec<u8>,
         spoil: Spoil,
         first: usize,
@@ -352,7 +354,7 @@ impl Desk {
         for place in first..=last {
             let files = self.files.spoiled(self.alloc, self.chosen, spoil, place)?;
             let head = format!(in self.alloc; "{place}:\n")?;
-            self.look_over(rt, told, head.as_str(), &files, &mut before)?;
+            self.look_over(threads, told, head.as_str(), &files, &mut before)?;
         }
         Ok(())
     }

@@ -30,27 +30,38 @@ mod walks;
 use cases::serve_case;
 use desk::Desk;
 use run::empty_site;
+use std::marker::Sync;
 use std::process::ExitCode;
+use std::sync::Wait;
+use std::thread::Threads;
 use std::{env, fs, io};
+use verbs::Office;
 
 // Whether the plan of this name holds.
-fn plan_holds(rt: &HostRuntime, desk: &mut Desk, name: &str) -> io::Result<bool> {
+fn plan_holds<R: Threads + Wait + Sync>(
+    rt: &HostRuntime,
+    office: &mut Office<'_, R>,
+    name: &str,
+) -> io::Result<bool> {
     let path = format!(in rt.alloc(); "{name}.plan")?;
     let text = fs::read_to_string(rt, path.as_str())?;
-    qm_plans::holds(rt, desk, text.as_str())
+    qm_plans::holds(rt, office, text.as_str())
 }
 
 // Serves the cases, and counts those that pass and those that don't.
-fn serve_cases(rt: &HostRuntime) -> io::Result<(u32, u32)> {
+fn serve_cases<R: Threads + Wait + Sync>(rt: &HostRuntime, threads: &R) -> io::Result<(u32, u32)> {
     let mut passed = 0u32;
     let mut failed = 0u32;
     let mut site = empty_site(rt.alloc())?;
-    let mut desk = Desk::new(rt.alloc());
+    let mut office = Office {
+        threads,
+        desk: Desk::new(rt.alloc()),
+    };
     for word in env::args(rt)?.skip(1) {
         let passes = if let Some(name) = word.as_str().strip_prefix("@") {
-            plan_holds(rt, &mut desk, name)?
+            plan_holds(rt, &mut office, name)?
         } else {
-            let (passes, left) = serve_case(rt, word.as_str(), site)?;
+            let (passes, left) = serve_case(rt, threads, word.as_str(), site)?;
             site = left;
             passes
         };
@@ -65,7 +76,7 @@ fn serve_cases(rt: &HostRuntime) -> io::Result<(u32, u32)> {
 }
 
 fn main(rt: HostRuntime) -> io::Result<ExitCode> {
-    let (passed, failed) = serve_cases(&rt)?;
+    let (passed, failed) = serve_cases(&rt, &rt)?;
     println!(rt; "{passed} passed, {failed} failed")?;
     Ok(if failed == 0 {
         ExitCode::SUCCESS

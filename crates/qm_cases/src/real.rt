@@ -4,6 +4,9 @@ use crate::files::Files;
 use crate::run::{Ran, Site, run};
 use qm_files::FileDisk;
 use std::alloc::AllocError;
+use std::marker::Sync;
+use std::sync::Wait;
+use std::thread::Threads;
 use std::{fs, io, slice};
 
 // The folder of the files, which is made for a run of `init`.
@@ -29,8 +32,9 @@ pub(crate) fn new_folder(rt: &HostRuntime) -> io::Result<()> {
 
 /// Runs the program over the files of the folder, tells of the run, and keeps the master and the first queue file that it left. The
 /// second queue file was asked for nothing, and so wasn't made.
-pub(crate) fn run_over_files(
+pub(crate) fn run_over_files<R: Threads + Wait + Sync>(
     rt: &HostRuntime,
+    threads: &R,
     desk: &mut Desk,
     told: &mut Vec<u8>,
     words: &[String],
@@ -38,7 +42,7 @@ pub(crate) fn run_over_files(
     let alloc = rt.alloc();
     let outside = desk.outside(&desk.script)?;
     let site = desk.site(files(rt)?)?;
-    let ran = run(rt, words, outside, site)?;
+    let ran = run(threads, alloc, words, outside, site)?;
     let asked = Asked::all(words, &desk.script);
     desk.push_told(told, &asked, &desk.files, &ran)?;
     let Ran { site, turns, .. } = ran;

@@ -7,7 +7,9 @@ use qm_kinds::{Moment, NODES_LIMIT};
 use qm_program::{End, Outcome, Station, qman};
 use qm_symb::MemoryDevice;
 use std::alloc::{AllocError, Global};
-use std::marker::Send;
+use std::marker::{Send, Sync};
+use std::sync::Wait;
+use std::thread::Threads;
 
 /// What a node has of its own: its clock, and what carries out its runs.
 pub(crate) type MemoryStation = Station<MemoryClock, Standard<MemoryDevice>>;
@@ -37,13 +39,13 @@ pub(crate) struct Ran<D: Disk + Drop> {
 }
 
 /// The program with these words. The clocks begin anew.
-pub(crate) fn run<D: Disk + Drop + Send>(
-    rt: &HostRuntime,
+pub(crate) fn run<R: Threads + Wait + Sync, D: Disk + Drop + Send>(
+    threads: &R,
+    alloc: Global,
     words: &[String],
     mut outside: Outside,
     site: Site<D>,
 ) -> Result<Ran<D>, AllocError> {
-    let alloc = rt.alloc();
     let Site { disk, mut stations } = site;
     for station in &mut stations {
         station.clock = clock_of(alloc, &outside.moments)?;
@@ -57,7 +59,7 @@ pub(crate) fn run<D: Disk + Drop + Send>(
         turns,
         ..
     } = qman(
-        rt,
+        threads,
         alloc,
         words,
         &mut outside.source,

@@ -34,6 +34,9 @@ use qm_plans::{number_and_rest, numbers, push_bytes, push_line, push_times};
 use qm_program::End;
 use std::alloc::{AllocError, Global};
 use std::io;
+use std::marker::Sync;
+use std::sync::Wait;
+use std::thread::Threads;
 
 // The moments that a text names, in hundredths of a second from the base of the system time.
 fn moments(alloc: Global, text: &str) -> Result<Vec<Moment>, AllocError> {
@@ -168,8 +171,9 @@ fn act_on_outside(desk: &mut Desk, verb: &str, text: &str) -> Result<bool, Alloc
 }
 
 // What makes a run, or more.
-fn run_by(
+fn run_by<R: Threads + Wait + Sync>(
     rt: &HostRuntime,
+    threads: &R,
     desk: &mut Desk,
     told: &mut Vec<u8>,
     verb: &str,
@@ -177,14 +181,14 @@ fn run_by(
 ) -> io::Result<()> {
     match verb {
         "run" => {
-            let _ = desk.run(rt, told, &words_of(desk.alloc, text)?)?;
+            let _ = desk.run(threads, told, &words_of(desk.alloc, text)?)?;
         }
-        "stop" => desk.stopped = desk.run(rt, told, &words_of(desk.alloc, text)?)?,
-        "looks" => desk.look_behind(rt, told, &desk.stopped)?,
-        "once" => desk.run_failing(rt, told, &words_of(desk.alloc, text)?, Failures::Once)?,
+        "stop" => desk.stopped = desk.run(threads, told, &words_of(desk.alloc, text)?)?,
+        "looks" => desk.look_behind(threads, told, &desk.stopped)?,
+        "once" => desk.run_failing(threads, told, &words_of(desk.alloc, text)?, Failures::Once)?,
         "from-there-on" => {
             desk.run_failing(
-                rt,
+                threads,
                 told,
                 &words_of(desk.alloc, text)?,
                 Failures::FromThereOn,
@@ -197,7 +201,7 @@ fn run_by(
             } else {
                 Spoil::Raised
             };
-            desk.look_at_spoiled(rt, told, spoil, first, number_and_rest(last).0)?;
+            desk.look_at_spoiled(threads, told, spoil, first, number_and_rest(last).0)?;
         }
         "handed" => {
             told.extend_from_slice(&desk.handed)?;
@@ -209,14 +213,21 @@ fn run_by(
             push_end(desk.alloc, told, End::HistoryFull)?;
         }
         "folder" => new_folder(rt)?,
-        "over-files" => run_over_files(rt, desk, told, &words_of(desk.alloc, text)?)?,
+        "over-files" => run_over_files(rt, threads, desk, told, &words_of(desk.alloc, text)?)?,
         "" | "#" => {}
         _ => push_line(told, "no such verb")?,
     }
     Ok(())
 }
 
-impl qm_plans::Desk for Desk {
+/// A desk, and what starts the threads of its runs.
+#[derive(Drop)]
+pub(crate) struct Office<'a, R> {
+    pub(crate) threads: &'a R,
+    pub(crate) desk: Desk,
+}
+
+impl<'a, R: Threads + Wait + Sync> qm_plans::Desk for Office<'a, R> {
     fn act(
         &mut self,
         rt: &HostRuntime,
@@ -224,12 +235,13 @@ impl qm_plans::Desk for Desk {
         verb: &str,
         text: &str,
     ) -> io::Result<()> {
-        if act_on_file(self, verb, text)?
-            || act_on_files(self, told, verb, text)?
-            || act_on_outside(self, verb, text)?
+        let desk = &mut self.desk;
+        if act_on_file(desk, verb, text)?
+            || act_on_files(desk, told, verb, text)?
+            || act_on_outside(desk, verb, text)?
         {
             return Ok(());
         }
-        run_by(rt, self, told, verb, text)
+        run_by(rt, self.threads, desk, told, verb, text)
     }
 }
