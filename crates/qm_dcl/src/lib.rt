@@ -20,7 +20,5 @@ pub use command::read_command;
 pub use fault::DclFault;
 pub use laws::{no_fault_is_told_behind_the_first, what_is_asked_is_a_command};
 pub use lists::{ListOf, Lists};
-pub use settings::{
-    Definition, JobSettings, ListingSettings, QueueSettings, Settings, Stop,
-};
+pub use settings::{Definition, JobSettings, ListingSettings, QueueSettings, Settings, Stop};
 pub use value::{Location, Side};

@@ -8,6 +8,7 @@ use Rattle.qm_faults.specs.Faults.{counted}
 use Rattle.qm_history.specs.Faults.{faults_told, tells_disk_fault}
 use Rattle.qm_history.specs.declared.turn.Turn.{Turn}
 use Rattle.qm_service.specs.Ends.{some_disk_failed}
+use Rattle.qm_shared.specs.Serving.{IsToldBut}
 use Rattle.qm_program.specs.Causes.{Counts, DiskFails}
 use Rattle.qm_program.specs.Doing.{IsWithoutFault}
 
@@ -64,6 +65,13 @@ told_at_full turns before now told = told_all told.failed told.unread told.told 
   where
     told_all : (failed unread : ℕ) → faults_told turns ≡ failed + unread → RoseBy failed before now → unread ≡ 0 → RoseBy (faults_told turns) before now
     told_all failed unread told rose none = subst (λ (n : ℕ). RoseBy n before now) (omega (arith, told, none)) rose
+
+-- nor does one of nodes that made their turns at once, where none is said to
+pub told_but_none : (turns : List Turn) (before now unread : ℕ) → unread ≡ 0 → IsToldBut unread turns before now → RoseBy (faults_told turns) before now
+told_but_none turns before now unread none told = told_all told.failed told.told told.rose
+  where
+    told_all : (failed : ℕ) → faults_told turns ≡ failed + unread → RoseBy failed before now → RoseBy (faults_told turns) before now
+    told_all failed told rose = subst (λ (n : ℕ). RoseBy n before now) (omega (arith, told, none)) rose
 
 -- ---- counts that could have risen
 

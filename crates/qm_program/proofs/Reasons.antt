@@ -1,5 +1,7 @@
--- What the serving of lines by one thread says of its end.
-use Rattle.std.proofs.Common.{ℕ, List}
+-- What the serving of lines says of its end: by one thread, and by a thread for each node.
+use Rattle.std.proofs.Common.{ℕ, List, length}
+use Rattle.qm_cluster.specs.Serving.{ServesAtOnce}
+use Rattle.qm_cluster.specs.Serving as at_once
 use Rattle.qm_disk.specs.Disk.{Meaning}
 use Rattle.qm_history.specs.Ends.{ServingEnd}
 use Rattle.qm_history.specs.Ends as serving
@@ -9,7 +11,7 @@ use Rattle.qm_service.specs.Ends.{CountsDisk, stop_of}
 use Rattle.qm_service.specs.Serving.{Outside, Serves}
 use Rattle.qm_symb.specs.Device as symb
 use Rattle.qm_program.specs.Causes.{FailedAsTold, HasReason}
-use Rattle.qm_program.proofs.Counting.{told_at_full, told_at_write}
+use Rattle.qm_program.proofs.Counting.{told_at_full, told_at_write, told_but_none}
 
 failed_as_told : (end : ServingEnd) (turns : List Turn) (before now : ℕ) → CountsDisk (stop_of end) turns before now → FailedAsTold end turns before now
 failed_as_told serving.Served turns before now counts = counts
@@ -24,5 +26,21 @@ pub one_reason : {D Y : Type 0} (m : Meaning D) (y : symb.Meaning Y) (disk : D) 
 one_reason m y disk names script old new turns end serves = record {
   ends = serves.ends;
   failed = failed_as_told end turns (m.faults old.disk) (m.faults new.disk) serves.failed;
+  undamaged = serves.undamaged;
+}
+
+failed_at_once : (end : ServingEnd) (nodes : ℕ) (turns : List Turn) (before now : ℕ) → at_once.CountsDisk (stop_of end) nodes turns before now → FailedAsTold end turns before now
+failed_at_once serving.Served nodes turns before now counts = told_but_none turns before now counts.unread counts.hidden counts.told
+failed_at_once serving.DiskFailed nodes turns before now counts = told_but_none turns before now counts.unread counts.hidden counts.told
+failed_at_once serving.SinkFailed nodes turns before now counts = told_but_none turns before now counts.unread counts.hidden counts.told
+failed_at_once serving.HistoryFull nodes turns before now counts = told_but_none turns before now counts.unread counts.hidden counts.told
+failed_at_once (serving.Damaged file place) nodes turns before now counts = tt
+failed_at_once serving.NoMemory nodes turns before now counts = tt
+
+pub nodes_reason : {D Y : Type 0} (m : Meaning D) (y : symb.Meaning Y) (disk : D) (names : List (List ℕ)) (script : List UserLine)
+    (old new : Outside D Y) (turns : List Turn) (end : ServingEnd) → ServesAtOnce m y disk names script old new turns end → HasReason m.tells end turns (m.faults old.disk) (m.faults new.disk)
+nodes_reason m y disk names script old new turns end serves = record {
+  ends = serves.ends;
+  failed = failed_at_once end (length names) turns (m.faults old.disk) (m.faults new.disk) serves.failed;
   undamaged = serves.undamaged;
 }

@@ -2,6 +2,8 @@
 use Rattle.std.proofs.Common.{◌≡◌, ◌≢◌, ◌⊎◌, inl, inr, ⊎_elim, ℕ, List, [], ◌∷◌, ◌++◌, slice_get, Option, None, Some, Contains, IsTrue, option_to_list, sym, ◌∙◌, ap, subst}
 use Rattle.std.proofs.lemmas.List.{append-nil}
 use Rattle.std.proofs.lemmas.List.Elements.{Contains-append_left}
+use Rattle.qm_cluster.specs.Serving.{ServesAtOnce}
+use Rattle.qm_cluster.specs.Serving as at_once
 use Rattle.qm_course.specs.Asking.{read_built}
 use Rattle.qm_course.specs.Runs.{IsNodeOf, Side}
 use Rattle.qm_course.specs.Taken.{AreTaken}
@@ -12,7 +14,7 @@ use Rattle.qm_history.specs.Accepted.{cluster}
 use Rattle.qm_history.specs.Blocks.{ComeInStretches, all_steps}
 use Rattle.qm_history.specs.Chest.{StandsFor}
 use Rattle.qm_history.specs.Contents.{HoldIn, HoldWithin, HoldWorld, Keeps}
-use Rattle.qm_history.specs.Course.{Extent, IsCourse}
+use Rattle.qm_history.specs.Course.{Extent, IsCourse, Whole}
 use Rattle.qm_history.specs.Ends.{ServingEnd}
 use Rattle.qm_history.specs.Ends as serving
 use Rattle.qm_history.specs.Happening.{acknowledged, events_of}
@@ -189,6 +191,21 @@ module _ {D Y : Type 0} (m : Meaning D) (y : symb.Meaning Y) (turns : List Turn)
     where
       by : IsNodeOf (meaning_of m) y (extent_to (stop_of end)) w turns node (lines_of name lines) was now → TakesCourse y w turns node was now
       by is = (extent_to (stop_of end), lines_of name lines, is.faults, is.course, is.taken)
+
+-- ---- a thread for each node
+
+module _ {D Y : Type 0} (m : Meaning D) (y : symb.Meaning Y) (turns : List Turn) (old new : Outside D Y) (w : World) (tells : IsTrue m.tells) (begins : MayBegin m old.disk w) where
+  pub nodes_noted : (opened : D) (names : List (List ℕ)) (lines : List UserLine) (end : ServingEnd) → ServesAtOnce m y old.disk names lines (record old { disk = opened }) new turns end
+      → HasNoted m w opened new.disk turns
+  nodes_noted opened names lines end serves = (serves.within tells w begins).site.noted
+
+  pub nodes_taken : (node : ℕ) (name : List ℕ) (was now : Side Y) → slice_get old.sides node ≡ Some was → slice_get new.sides node ≡ Some now
+      → (opened : D) (names : List (List ℕ)) (lines : List UserLine) (end : ServingEnd) → slice_get names node ≡ Some name
+      → ServesAtOnce m y old.disk names lines (record old { disk = opened }) new turns end → TakesCourse y w turns node was now
+  nodes_taken node name was now before after opened names lines end named serves = by ((serves.within tells w begins).nodes node name was now named before after)
+    where
+      by : (extent : Extent) × (stop_of end ≡ None → extent ≡ Whole) × at_once.IsNodeOf y w turns extent node (lines_of name lines) was now → TakesCourse y w turns node was now
+      by is = (is.0, lines_of name lines, is.2.faults, is.2.course, is.2.taken)
 
 -- ---- what was acknowledged
 

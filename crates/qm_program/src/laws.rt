@@ -1,4 +1,4 @@
-// What follows from what a run leaves.
+// What follows from what a run leaves, whether one thread serves its script or each node has its own.
 ghost use Rattle.std.specs.Prelude.{◌≡◌, ◌≢◌, ◌⊎◌, ℕ, Bool, List, [], Option, Some, IsTrue, length, slice_get};
 ghost use Rattle.qm_course.specs.Runs.{Side};
 ghost use Rattle.qm_disk.specs.Disk.{CrashState, IsLeft, LeavesOnly};
@@ -21,7 +21,7 @@ ghost use Rattle.qm_service.specs.Opening.{MayBegin};
 ghost use Rattle.qm_service.specs.Serving.{Outside};
 ghost use Rattle.qm_program.specs.Causes.{Counts, HasCause};
 ghost use Rattle.qm_program.specs.Doing.{HasSoundScript, IsWithoutFault};
-ghost use Rattle.qm_program.specs.Running.{RunsTo};
+ghost use Rattle.qm_program.specs.Running.{RunsAtOnce, RunsTo};
 ghost use Rattle.qm_program.specs.Surviving.{GoesOnFrom, TakesInStretches};
 ghost use Rattle.qm_program.specs.declared.outcome.End.{End};
 
@@ -37,8 +37,12 @@ use qm_symb::Symbiont;
 /// A crash at any moment of a run leaves what a crash before it might leave; or the files then hold a log that may be left at some
 /// moment of its turns.
 pub fn a_crash_leaves_a_moment_of_the_run<D: Disk, Y: Symbiont>()
-    ensures { (left : Option (List ℕ)) (turns : List Turn) (old new : Outside D Y) (end : End) (w : World)
+    ensures run { (left : Option (List ℕ)) (turns : List Turn) (old new : Outside D Y) (end : End) (w : World)
         → RunsTo D.meaning Y.meaning left turns old new end → IsTrue D.meaning.tells → MayBegin D.meaning old.disk w
+        → LeavesOnly D.meaning old.disk new.disk
+        (λ crashed. IsLeft (D.meaning.may_leave old.disk) crashed ⊎ HoldIn IsLog HasSpelling record_text crashed w turns) }
+    ensures cluster { (left : Option (List ℕ)) (turns : List Turn) (old new : Outside D Y) (end : End) (w : World)
+        → RunsAtOnce D.meaning Y.meaning left turns old new end → IsTrue D.meaning.tells → MayBegin D.meaning old.disk w
         → LeavesOnly D.meaning old.disk new.disk
         (λ crashed. IsLeft (D.meaning.may_leave old.disk) crashed ⊎ HoldIn IsLog HasSpelling record_text crashed w turns) }
 {}
@@ -59,8 +63,11 @@ pub fn programs_go_on_with_what_was_acknowledged()
 
 /// So it does behind a run that made turns, whatever a crash makes of the files.
 pub fn programs_go_on_behind_runs<D: Disk, Y: Symbiont>()
-    ensures { (left : Option (List ℕ)) (turns : List Turn) (old new : Outside D Y) (end : End) (w : World)
+    ensures run { (left : Option (List ℕ)) (turns : List Turn) (old new : Outside D Y) (end : End) (w : World)
         → RunsTo D.meaning Y.meaning left turns old new end → IsTrue D.meaning.tells → MayBegin D.meaning old.disk w → turns ≢ []
+        → (crashed : CrashState) → IsLeft (D.meaning.may_leave new.disk) crashed → GoesOnFrom turns crashed }
+    ensures cluster { (left : Option (List ℕ)) (turns : List Turn) (old new : Outside D Y) (end : End) (w : World)
+        → RunsAtOnce D.meaning Y.meaning left turns old new end → IsTrue D.meaning.tells → MayBegin D.meaning old.disk w → turns ≢ []
         → (crashed : CrashState) → IsLeft (D.meaning.may_leave new.disk) crashed → GoesOnFrom turns crashed }
 {
     programs_go_on_with_what_was_acknowledged();
@@ -69,8 +76,12 @@ pub fn programs_go_on_behind_runs<D: Disk, Y: Symbiont>()
 /// What the devices of each node of the cluster took in a run is the blocks of its steps, which come in stretches, one for each fetch that
 /// gave a run to the node.
 pub fn blocks_come_in_stretches<D: Disk, Y: Symbiont>()
-    ensures { (left : Option (List ℕ)) (turns : List Turn) (old new : Outside D Y) (end : End) (w : World)
+    ensures run { (left : Option (List ℕ)) (turns : List Turn) (old new : Outside D Y) (end : End) (w : World)
         → RunsTo D.meaning Y.meaning left turns old new end → IsTrue D.meaning.tells → MayBegin D.meaning old.disk w
+        → (node : ℕ) (name : List ℕ) (was now : Side Y) → slice_get (cluster (system_in w)) node ≡ Some name
+        → slice_get old.sides node ≡ Some was → slice_get new.sides node ≡ Some now → TakesInStretches Y.meaning was.symbiont now.symbiont }
+    ensures cluster { (left : Option (List ℕ)) (turns : List Turn) (old new : Outside D Y) (end : End) (w : World)
+        → RunsAtOnce D.meaning Y.meaning left turns old new end → IsTrue D.meaning.tells → MayBegin D.meaning old.disk w
         → (node : ℕ) (name : List ℕ) (was now : Side Y) → slice_get (cluster (system_in w)) node ≡ Some name
         → slice_get old.sides node ≡ Some was → slice_get new.sides node ≡ Some now → TakesInStretches Y.meaning was.symbiont now.symbiont }
 {

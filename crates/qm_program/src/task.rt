@@ -40,9 +40,9 @@ fn read_init(alloc: Global, word: &[u8], cap: Option<u64>) -> Result<Option<Task
     }
 }
 
-/// What the words ask for: `run`; `cluster`; `show`; or `init`, the names of one to eight nodes with commas between them, each of at most six bytes
-/// and each once, and behind them the most bytes of a queue file, 4,096 to 268,435,456, or nothing. Other words ask for
-/// nothing. Memory may run out where the words are two or three.
+/// What the words ask for: `run`; `cluster`; `show`; or `init`, the names of one to eight nodes with commas between them, each of
+/// at most six bytes and each once, and behind them the most bytes of a queue file, 4,096 to 268,435,456, or nothing. Other words
+/// ask for nothing. Memory may run out where the words are two or three.
 pub(crate) fn read_task(alloc: Global, words: &[String]) -> Result<Option<Task>, AllocError>
     ensures task { IfOk result (λ task. task ≡ task_of (map string_bytes words.now)) }
     // What is asked for can be made.

@@ -39,28 +39,29 @@ use std::thread::Threads;
 /// by a record that no crash can take away, before its answer is written, and that before the next turn is made. A call at which
 /// the disk fails is told so (`%QMAN-F-JOURNAL`); the next one takes over, and the run goes on. The turns are handed out.
 ///
-/// With the word `cluster` the same is read and opened, and then each node serves its own lines, in their order, and works on for itself
-/// behind them, by a thread of its own; where none can be made, it is served by the calling thread. A node's turns are those that its
-/// lines ask for and its own, and all turns, in the order in which the nodes got them, are one history of a queue system that is asked
-/// one call at a time. Behind all turns the lines of each node are written, node by node in the cluster's order, and then `turns:`
-/// with the name of the node of each turn. A call at which the disk fails doesn't end it. A node ends at a damaged file, at a full
-/// history and for want of memory, and the others go on. Where several ends came, `NoMemory` counts first, then `Damaged`, `Write`,
-/// `HistoryFull` and `Journal`; at the first two nothing is written, since the text of some node may not be whole. Once a turn was made
-/// the disk and the turns come back at each end. That nodes get their turn at all, and when, isn't promised: `cluster` may wait.
+/// With the word `cluster` a script is read and the files are opened as for `run`. Then each node serves its own lines, in their
+/// order, and works on for itself behind them, by a thread of its own; a node for which no thread can be made is served by the
+/// calling one. All turns, one behind another as the nodes got them, are a history of one queue system that is asked one call at
+/// a time; they are handed out. Behind the last one the lines of each node are written, node by node in the cluster's order, and
+/// then `turns:` and the name of the node of each turn. Nothing is promised of when a node gets its turn, or that it does.
 ///
 /// With the word `show` the files are read, which changes nothing, and the listing of all queues and entries is written, as SHOW
 /// QUEUE/ALL_JOBS gives it, without prefixes. No node becomes manager, and no epoch is begun.
 ///
-/// The ends of `run` are tried in this order: `Usage` (other words; nothing is read), `Read` (the source failed), `Script` (what was
-/// read is no script of the files' cluster, or of any, where these aren't a site's or can't be read), `Journal`, `Unformatted` and
-/// `Damaged` as the files tell, which are only looked at so far; and while lines are served `Write` (the sink failed), `Damaged`, `HistoryFull` (as many
-/// turns are kept as can be) and `NoMemory` as they arise. `Journal` comes behind a script that was served whole, where the disk failed
-/// at some turn. Epochs of 2^61 and more can't be gone on from, which is told as `NoMemory`.
+/// The ends are tried in this order: `Usage` (other words; nothing is read), `Read` (the source failed), `Script` (what was read
+/// is no script of the files' cluster, or of any, where these aren't a site's or can't be read), `Journal`, `Unformatted` and
+/// `Damaged` as the files tell, which are only looked at so far. While the lines of a `run` are served, `Write` (the sink
+/// failed), `Damaged`, `HistoryFull` (as many turns are kept as can be) and `NoMemory` end it as they arise. In a `cluster` a
+/// node's turns end at `Damaged`, `HistoryFull` or `NoMemory`, and the other nodes go on; where several ends came, `NoMemory`
+/// counts first, then `Damaged`, `Write` and `HistoryFull`, and for the first two nothing is written, since some node's lines may
+/// not be whole. `Journal` comes behind a script that was served whole, where the disk failed at some turn. At each end the disk
+/// and the turns come back. Epochs of 2^61 and more can't be gone on from, which is told as `NoMemory`.
 ///
-/// Laws say what follows from the clause `does` where a script is served. A crash at any moment leaves what it might before the run, or a log of some
-/// moment of its turns ([`crate::a_crash_leaves_a_moment_of_the_run`]); from each of these a program goes on with what was acknowledged
-/// ([`crate::programs_go_on_with_what_was_acknowledged`]), and so it does behind the run ([`crate::programs_go_on_behind_runs`]). And what
-/// the devices of a node took is the blocks of its steps, which come in stretches ([`crate::blocks_come_in_stretches`]).
+/// Laws say what follows from the clause `does` where a script is served, by `run` or by `cluster`. A crash at any moment leaves
+/// what it might before, or a log of some moment of the turns ([`crate::a_crash_leaves_a_moment_of_the_run`]); from each of these
+/// a program goes on with what was acknowledged ([`crate::programs_go_on_with_what_was_acknowledged`]), and so it does behind the
+/// run ([`crate::programs_go_on_behind_runs`]). And what the devices of a node took is the blocks of its steps, which come in
+/// stretches ([`crate::blocks_come_in_stretches`]).
 pub fn qman<
     R: Threads + Wait + Sync,
     S: Source,
@@ -121,8 +122,8 @@ where
     }
 }
 
-/// The program between its words and its status for all other words than `cluster`. It waits for nobody, so it returns as soon as the
-/// source, the sink, the disk, the clocks and the devices do. What it does is said of [`qman`].
+/// The program between its words and its status, for all words but `cluster`. It waits for no thread, so it returns as the
+/// source, the sink, the disk, the clocks and the devices do. What it does is told at [`qman`].
 pub fn alone<S: Source, O: Sink, D: Disk, C: Clock, Y: Symbiont>(
     alloc: Global,
     words: &[String],
