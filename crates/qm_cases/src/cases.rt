@@ -3,7 +3,7 @@ use crate::courses::go_by_lines;
 use crate::either::Either;
 use crate::files::Files;
 use crate::run::{MemoryStation, Ran, Site, empty_site, outside_of, run, words_of};
-use crate::walks::{lead_on, names_of};
+use crate::walks::lead_on;
 use qm_disk::MemoryDisk;
 use qm_kinds::Moment;
 use qm_program::End;
@@ -153,8 +153,7 @@ fn prints<R: Threads + Wait + Sync>(
         turns,
         site,
     } = run(threads, alloc, &words_of(alloc, word)?, outside, site)?;
-    let names = names_of(alloc, &before)?;
-    let goes = word == RUN || go_by_lines(alloc, &turns, &script, &names, &printed, end)?;
+    let goes = word == RUN || go_by_lines(alloc, &before, &script, &turns, &printed, end)?;
     let behind = [Files::of(alloc, &site.disk)?];
     let leads = lead_on(alloc, &before, turns, &behind)?;
     let is_told = is_transcript(rt, name, &printed)?;

@@ -1,5 +1,7 @@
 // Whether the turns of nodes that work at once are what their lines ask for, whatever threads decide. No line of their scripts goes
 // on with the next one.
+use crate::files::Files;
+use crate::walks::names_of;
 use qm_history::{Turn, Why};
 use qm_kinds::Name;
 use qm_program::End;
@@ -80,20 +82,21 @@ fn turns_line(alloc: Global, turns: &[Turn], names: &[Name]) -> Result<Vec<u8>, 
     Ok(line)
 }
 
-/// Whether the turns of nodes with these names are of their lines, in their order, and the last line that was printed says whose each
-/// was, unless the output failed. Where there are none, nothing was printed.
+/// Whether the turns of a run over files are of the lines of each node, in their order, and the last line that was printed says whose
+/// each was, unless the output failed. Where there are none, nothing was printed.
 pub(crate) fn go_by_lines(
     alloc: Global,
-    turns: &[Turn],
+    files: &Files,
     script: &[u8],
-    names: &[Name],
+    turns: &[Turn],
     printed: &[u8],
     end: End,
 ) -> Result<bool, AllocError> {
     if turns.is_empty() {
         return Ok(printed.is_empty());
     }
-    let line = turns_line(alloc, turns, names)?;
+    let names = names_of(alloc, files)?;
+    let line = turns_line(alloc, turns, &names)?;
     let tells = end == End::Write || printed.ends_with(&line);
-    Ok(tells && are_of_nodes(alloc, turns, script, names)?)
+    Ok(tells && are_of_nodes(alloc, turns, script, &names)?)
 }

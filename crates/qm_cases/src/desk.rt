@@ -4,7 +4,7 @@ use crate::either::Either;
 use crate::files::{Files, Spoil};
 use crate::records::Names;
 use crate::run::{Outside, Ran, Site, empty_disk, new_stations, run, words_of};
-use crate::walks::{lead_on, names_of};
+use crate::walks::lead_on;
 use qm_disk::{Disk, MemoryDisk};
 use qm_history::Turn;
 use qm_io::{MemorySink, MemorySource};
@@ -191,20 +191,27 @@ impl Desk {
         if ran.end != End::Ok {
             push_end(self.alloc, told, ran.end)?;
         }
-        let names = names_of(self.alloc, files)?;
-        if asked.is_at_once()
-            && !go_by_lines(
-                self.alloc,
-                &ran.turns,
-                asked.script,
-                &names,
-                &ran.printed,
-                ran.end,
-            )?
-        {
-            push_line(told, "the turns aren't those of the lines")?;
+        if !asked.is_at_once() || self.go_by_lines(asked, files, ran)? {
+            return Ok(());
         }
-        Ok(())
+        push_line(told, "the turns aren't those of the lines")
+    }
+
+    // Whether nodes that worked at once over files went by their lines.
+    fn go_by_lines<D: Disk + Drop>(
+        &self,
+        asked: &Asked<'_>,
+        files: &Files,
+        ran: &Ran<D>,
+    ) -> Result<bool, AllocError> {
+        go_by_lines(
+            self.alloc,
+            files,
+            asked.script,
+            &ran.turns,
+            &ran.printed,
+            ran.end,
+        )
     }
 
     // Keeps what the devices took.

@@ -11,9 +11,8 @@
 //! A case whose name has a `&` before it is served by `cluster`, each node by a thread of its own. Its transcript is one of those that
 //! threads may make of it; what is printed is compared with it but for the order of names in the last line, and for the lines that
 //! `NAME.either` names: each of its lines names some, with ` or ` between two and `nothing` for none, of which any may stand in place of
-//! the others. Beyond that the turns of each node have to be of its lines, in their order, and the last line to name these turns. What is
-//! printed twice may differ so, and what this program prints doesn't: behind its name the words of cases can be given as often as they
-//! are to be tried.
+//! the others. Beyond that the turns of each node have to be of its lines, in their order, and the last line to say whose each was.
+//! Threads may do otherwise each time: the words of a case can be given as often as it is to be tried.
 #![tactic(auto)]
 
 mod cases;
