@@ -2,12 +2,12 @@
 ghost use Rattle.std.specs.Prelude.{◌≡◌, [], IfOk};
 ghost use Rattle.qm_turn.specs.Turns.{fresh};
 
+use crate::expected::lines_of;
 use crate::nodes::{Doors, Driven, Meeting, drive_node};
 use crate::recorder::Recorder;
 use qm_drive::{DriveEnd, OpenGate, Shared};
 use qm_history::{Turn, Why};
-use qm_kinds::system_user;
-use qm_script::{LineSort, UserLine};
+use qm_script::UserLine;
 use qm_turn::{PassOf, Turnstile};
 use std::alloc::{AllocError, Global};
 use std::sync::Wait;
@@ -19,12 +19,7 @@ fn recorder(alloc: Global, jobs: bool) -> Shared<Recorder>
     ensures { result.manager.asked.items ≡ [] }
 {
     Shared {
-        manager: Recorder {
-            alloc,
-            jobs,
-            calls: 0,
-            asked: Vec::new(alloc),
-        },
+        manager: Recorder::new(alloc, jobs),
     }
 }
 
@@ -136,29 +131,6 @@ fn two_nodes<R: Threads + Wait + Sync>(rt: &R, alloc: Global) -> Option<(bool, b
     };
     let (first, second) = drive_both(rt, alloc, &turnstile, first, second, &doors);
     what_is_left(turnstile, first, second)
-}
-
-// Lines of this text, one behind another.
-fn lines_of<'a>(
-    alloc: Global,
-    text: &'a [u8],
-    count: u32,
-) -> Result<Vec<UserLine<'a>>, AllocError> {
-    let mut lines = Vec::new(alloc);
-    for number in 0..count {
-        let line = UserLine {
-            number,
-            node: system_user(),
-            user: system_user(),
-            sort: LineSort::Act,
-            text,
-        };
-        match lines.push(line) {
-            Ok(()) => {}
-            Err(_) => return Err(AllocError),
-        }
-    }
-    Ok(lines)
 }
 
 // One node with these lines: how its turns ended, how many calls there were, and how many turns.

@@ -1,10 +1,16 @@
-//! Worked cases of nodes with threads of their own, as tests, over a value in memory that records what it was asked: two nodes
-//! that wait for each other within their jobs, a full history, and a node without lines.
+//! Worked cases of nodes with threads of their own, as tests, over a value in memory that records what it was asked: nodes that wait
+//! for each other within their jobs, full histories, nodes without lines, and what is printed of the turns of all.
 #![tactic(auto)]
 
 #[cfg(test)]
 mod cases;
 #[cfg(test)]
+mod clusters;
+#[cfg(test)]
+mod expected;
+#[cfg(test)]
 mod nodes;
+#[cfg(test)]
+mod places;
 #[cfg(test)]
 mod recorder;

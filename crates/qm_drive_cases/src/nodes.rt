@@ -6,9 +6,9 @@ use qm_batch::Standard;
 use qm_course::Station;
 use qm_drive::{DriveEnd, Gate, Point, Shared, drive};
 use qm_io::MemoryClock;
-use qm_kinds::{Moment, system_user};
+use qm_kinds::{Moment, Name, system_user};
 use qm_script::UserLine;
-use qm_symb::MemoryDevice;
+use qm_symb::{Device, DeviceFault, MemoryDevice};
 use qm_turn::{PassOf, Turnstile};
 use std::alloc::{AllocError, Global};
 use std::sync::Wait;
@@ -26,7 +26,7 @@ pub(crate) struct Doors {
     pub(crate) second: AtomicUsize,
 }
 
-/// Holds a node at a step until the other has come to one.
+/// Holds a node until the other has come as far.
 #[derive(Drop)]
 pub(crate) struct Meeting<'a> {
     doors: &'a Doors,
@@ -62,13 +62,9 @@ impl<'a> Meeting<'a> {
             self.doors.first.load(SeqCst) == 1
         }
     }
-}
 
-impl<'a> Gate for Meeting<'a> {
-    fn at(&mut self, point: Point) {
-        if point != Point::InStep {
-            return;
-        }
+    // Waits for the other one, for so many looks.
+    fn meet(&mut self) {
         self.come();
         for _ in 0..LOOKS {
             if self.has_other() {
@@ -80,6 +76,35 @@ impl<'a> Gate for Meeting<'a> {
     }
 }
 
+impl<'a> Gate for Meeting<'a> {
+    fn at(&mut self, point: Point) {
+        if point == Point::InStep {
+            self.meet();
+        }
+    }
+}
+
+/// A device that takes a block once the other node's has come to one. It tells nothing of the blocks.
+#[derive(Drop)]
+pub(crate) struct MeetingDevice<'a> {
+    pub(crate) meeting: Meeting<'a>,
+}
+
+impl<'a> Device for MeetingDevice<'a> {
+    ghost use Rattle.std.specs.Prelude.{[], false};
+
+    ghost meaning = { record {
+      tells = false;
+      taken = λ device. [];
+      faults = λ device. 0;
+    } };
+
+    fn hand(&mut self, _run: u64, _device: &Name, _block: &[u8]) -> Result<(), DeviceFault> {
+        self.meeting.meet();
+        Ok(())
+    }
+}
+
 /// A node that has made its turns.
 #[derive(Drop)]
 pub(crate) struct Driven<G> {
@@ -88,13 +113,16 @@ pub(crate) struct Driven<G> {
     pub(crate) gate: G,
 }
 
-// What a node has of its own.
-fn station(alloc: Global) -> Result<Station<MemoryClock, Standard<MemoryDevice>>, AllocError> {
+/// What a node has of its own, over this device.
+pub(crate) fn station_of<D: Device + Drop>(
+    alloc: Global,
+    device: D,
+) -> Result<Station<MemoryClock, Standard<D>>, AllocError> {
     let mut moments = Vec::with_capacity(alloc, 1)?;
     moments.push(Moment::BASE)?;
     Ok(Station {
         clock: MemoryClock::new(moments),
-        symbiont: Standard::new(alloc, MemoryDevice::new(alloc, Vec::new(alloc))),
+        symbiont: Standard::new(alloc, device),
     })
 }
 
@@ -113,7 +141,7 @@ pub(crate) fn drive_node<'a, R: Wait, G: Gate + Drop>(
     requires new { (pass.seen ≡ []) × (pass.mine ≡ []) × (pass.took ≡ []) }
     ensures { IfOk result (λ d. (d.pass.place ≡ turnstile.now.place) × (d.pass.number ≡ node) × (d.pass.took ≡ [])) }
 {
-    let mut station = station(alloc)?;
+    let mut station = station_of(alloc, MemoryDevice::new(alloc, Vec::new(alloc)))?;
     let mut text = Vec::new(alloc);
     let end = drive(
         rt,

@@ -1,5 +1,5 @@
 // A value in memory that records what it was asked.
-ghost use Rattle.std.specs.Prelude.{◌≡◌, ◌≢◌, IfOk, IsTrue};
+ghost use Rattle.std.specs.Prelude.{◌≡◌, ◌≢◌, [], IfOk, IsTrue};
 ghost use Rattle.qm_history.specs.Calls.{why_of};
 ghost use Rattle.qm_history.specs.declared.call.Answer.TheVariants as answer;
 ghost use Rattle.qm_node.specs.Duties.{AreLearnable};
@@ -25,6 +25,20 @@ pub(crate) struct Recorder {
     pub(crate) asked: Vec<Turn>,
 }
 
+impl Recorder {
+    /// It was asked nothing yet.
+    pub(crate) fn new(alloc: Global, jobs: bool) -> Recorder
+        ensures { result.asked.items ≡ [] }
+    {
+        Recorder {
+            alloc,
+            jobs,
+            calls: 0,
+            asked: Vec::new(alloc),
+        }
+    }
+}
+
 /// Why a call is made.
 fn why_of(call: &Call) -> Why
     ensures { result ≡ why_of call.now }
@@ -47,7 +61,7 @@ fn is_within_limits(work: &Work) -> bool
         && work.text.len() <= TEXT_BYTES
 }
 
-// A batch job of one line, which runs as this run.
+// A batch job that writes a line, and runs as this run.
 fn work_of(alloc: Global, run: u64) -> Result<Work, AllocError> {
     let shape = Shape {
         length: 1,
@@ -65,7 +79,7 @@ fn work_of(alloc: Global, run: u64) -> Result<Work, AllocError> {
         name: system_user(),
         user: system_user(),
         device: system_user(),
-        text: Seq::of(b"$ EXIT 1".to_vec(alloc)?),
+        text: Seq::of(b"$ WRITE SYS$OUTPUT \"DONE\"".to_vec(alloc)?),
         shape,
         copies: 1,
         flag: false,

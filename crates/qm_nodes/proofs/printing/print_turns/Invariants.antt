@@ -1,8 +1,10 @@
-use Rattle.std.proofs.Common.{◌≡◌, take}
-use Rattle.std.specs.Io.KnownBytes.{Appends}
-use Rattle.qm_nodes.specs.Printing.{words_of}
+use Rattle.std.proofs.Common.{length}
+use Rattle.qm_nodes.proofs.Words.{AreTold}
 use Rattle.qm_nodes.proofs.printing.print_turns.Given as goal
 
-abbrev pub invariant-turns : goal.invariant-turns
-invariant-turns g l =
-    Appends (g.O.Sink.taken l.fn.sink) (g.O.Sink.taken l.sink) (words_of l.fn.names (take l.turn-index l.fn.turns)) × (g.O.Sink.faults l.sink ≡ g.O.Sink.faults l.fn.sink)
+abbrev pub invariant-pieces : goal.invariant-pieces
+invariant-pieces g l =
+    AreTold l.fn.names l.fn.turns (g.O.Sink.taken l.fn.sink) (g.O.Sink.faults l.fn.sink) l.rest (g.O.Sink.taken l.sink) (g.O.Sink.faults l.sink)
+
+abbrev pub decreases-pieces : goal.decreases-pieces
+decreases-pieces g l = length l.rest
