@@ -42,16 +42,16 @@ enum Behind {
 
 /// What a run is asked, how many lines are told of what it prints, from the last one on, and which files are looked at behind it.
 #[derive(Clone, Copy)]
-pub(crate) struct Asked<'a> {
-    words: &'a [String],
-    script: &'a [u8],
+pub(crate) struct Asked<'w, 's> {
+    words: &'w [String],
+    script: &'s [u8],
     last: usize,
     behind: Behind,
 }
 
-impl<'a> Asked<'a> {
+impl<'w, 's> Asked<'w, 's> {
     /// All lines are told.
-    pub(crate) fn all(words: &'a [String], script: &'a [u8]) -> Asked<'a> {
+    pub(crate) fn all(words: &'w [String], script: &'s [u8]) -> Asked<'w, 's> {
         Asked {
             words,
             script,
@@ -163,7 +163,7 @@ impl Desk {
         &self,
         threads: &R,
         told: &mut Vec<u8>,
-        asked: &Asked<'_>,
+        asked: &Asked<'_, '_>,
         files: &Files,
         failing: &[u64],
     ) -> Result<Ran<MemoryDisk>, AllocError> {
@@ -182,7 +182,7 @@ impl Desk {
     pub(crate) fn push_told<D: Disk + Drop>(
         &self,
         told: &mut Vec<u8>,
-        asked: &Asked<'_>,
+        asked: &Asked<'_, '_>,
         files: &Files,
         ran: &Ran<D>,
     ) -> Result<(), AllocError> {
@@ -200,7 +200,7 @@ impl Desk {
     // Whether nodes that worked at once over files went by their lines.
     fn go_by_lines<D: Disk + Drop>(
         &self,
-        asked: &Asked<'_>,
+        asked: &Asked<'_, '_>,
         files: &Files,
         ran: &Ran<D>,
     ) -> Result<bool, AllocError> {
@@ -421,7 +421,7 @@ fn is_first(words: &[String], word: &str) -> bool {
 pub(crate) fn push_walk(
     alloc: Global,
     told: &mut Vec<u8>,
-    asked: &Asked<'_>,
+    asked: &Asked<'_, '_>,
     before: &Files,
     turns: Vec<Turn>,
     behind: &[Files],
