@@ -225,6 +225,18 @@ impl Desk {
         Ok(())
     }
 
+    // Runs the program over the files, and tells of the run.
+    fn run_once<R: Threads + Wait + Sync>(
+        &self,
+        threads: &R,
+        told: &mut Vec<u8>,
+        words: &[String],
+    ) -> Result<Ran<MemoryDisk>, AllocError> {
+        let mut asked = Asked::all(words, &self.script);
+        asked.last = self.last;
+        self.run_over(threads, told, &asked, &self.files, &self.failing.calls)
+    }
+
     /// Runs the program over the files, tells of the run, and keeps the files that it left. Gives its disk.
     pub(crate) fn run<R: Threads + Wait + Sync>(
         &mut self,
@@ -232,11 +244,7 @@ impl Desk {
         told: &mut Vec<u8>,
         words: &[String],
     ) -> Result<MemoryDisk, AllocError> {
-        let asked = Asked {
-            last: self.last,
-            ..Asked::all(words, &self.script)
-        };
-        let ran = self.run_over(threads, told, &asked, &self.files, &self.failing.calls)?;
+        let ran = self.run_once(threads, told, words)?;
         self.last = usize::MAX;
         let Ran { site, .. } = ran;
         self.keep_handed(&site)?;

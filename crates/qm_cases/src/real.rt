@@ -30,15 +30,15 @@ pub(crate) fn new_folder(rt: &HostRuntime) -> io::Result<()> {
     fs::create_dir(rt, FOLDER)
 }
 
-/// Runs the program over the files of the folder, tells of the run, and keeps the master and the first queue file that it left. The
-/// second queue file was asked for nothing, and so wasn't made.
-pub(crate) fn run_over_files<R: Threads + Wait + Sync>(
+// Runs the program over the files of the folder, and tells of the run. Gives the master and the first queue file that it left; the
+// second one was asked for nothing, and so wasn't made.
+fn run_once<R: Threads + Wait + Sync>(
     rt: &HostRuntime,
     threads: &R,
-    desk: &mut Desk,
+    desk: &Desk,
     told: &mut Vec<u8>,
     words: &[String],
-) -> io::Result<()> {
+) -> io::Result<Files> {
     let alloc = rt.alloc();
     let outside = desk.outside(&desk.script)?;
     let site = desk.site(files(rt)?)?;
@@ -51,14 +51,20 @@ pub(crate) fn run_over_files<R: Threads + Wait + Sync>(
     let mut left = Files::new(alloc);
     *left.get_mut(0) = fs::read(rt, "files/master")?;
     *left.get_mut(1) = fs::read(rt, "files/one")?;
-    push_walk(
-        alloc,
-        told,
-        &asked,
-        &desk.files,
-        turns,
-        slice::from_ref(&left),
-    )?;
+    let behind = slice::from_ref(&left);
+    push_walk(alloc, told, &asked, &desk.files, turns, behind)?;
+    Ok(left)
+}
+
+/// Runs the program over the files of the folder, tells of the run, and keeps the files that it left.
+pub(crate) fn run_over_files<R: Threads + Wait + Sync>(
+    rt: &HostRuntime,
+    threads: &R,
+    desk: &mut Desk,
+    told: &mut Vec<u8>,
+    words: &[String],
+) -> io::Result<()> {
+    let left = run_once(rt, threads, desk, told, words)?;
     desk.files = left;
     if fs::exists(rt, "files/two")? {
         told.extend_from_slice(b"queue file 2 was made\n")?;
