@@ -3,6 +3,8 @@ use Rattle.std.proofs.Common.{◌≡◌, ◌+◌, ◌<◌, inl, inr, ⊎_elim, �
 use Rattle.std.proofs.lemmas.Bool.Decides.{nat_tests}
 use Rattle.std.specs.Io.KnownBytes.{IsAtEnd}
 use Rattle.qm_acting.specs.Reading.{IsRestoreFault}
+use Rattle.qm_acting.specs.Spare.{KeepsSpare}
+use Rattle.qm_acting.proofs.Spare.{keeps_on, looks_keep}
 use Rattle.qm_chest.specs.Noting.{StartsEarly}
 use Rattle.qm_course.specs.Runs.{Side}
 use Rattle.qm_course.specs.Taken.{RoseBy}
@@ -30,7 +32,7 @@ use Rattle.qm_service.specs.declared.service.Service.{Service}
 use Rattle.qm_program.specs.Causes.{HasCause, HasReason}
 use Rattle.qm_program.specs.Ends.{EndsUnopened, EndsUnserved, IsBehindText, end_of_lines, end_of_serving}
 use Rattle.qm_program.specs.Reading.{AreKnown, HoldCluster, IsFaulty, IsFirstFault, IsRead, IsScript, Reads}
-use Rattle.qm_program.specs.Running.{ServesScript, ServesTo, TouchesNothing}
+use Rattle.qm_program.specs.Running.{EndsBehind, ServesScript, ServesTo, TouchesNothing}
 use Rattle.qm_program.specs.declared.outcome.End.{End}
 use Rattle.qm_program.specs.declared.outcome.End.TheVariants as ends
 use Rattle.qm_program.proofs.Counting.{counts_of, none_rose, same_counts, some_rose}
@@ -165,6 +167,43 @@ served_behind serving.SinkFailed = tt
 served_behind serving.HistoryFull = tt
 served_behind (serving.Damaged file place) = tt
 served_behind serving.NoMemory = tt
+
+-- ---- what all this says of a run over a text
+
+module _ {D Y : Type 0} (m : Meaning D)
+    (S : D → List (List ℕ) → List UserLine → Outside D Y → Outside D Y → List Turn → ServingEnd → Type 0) (text : List ℕ) (sink : ℕ) where
+  pub unopened_ends : (old new : D) (taken : Option (List ℕ)) (sides : List (Side Y)) (looks : OnlyLooks m old new) (fault : OpenFault) → (IsTrue m.tells → IsRestoreFault (m.seen old) fault)
+      → TellsFaults m old new (fault ≡ opening.Disk) → (end : End) → EndsUnopened text fault end
+      → EndsBehind m S text [] (outside old taken sides) (outside new taken sides) sink sink end
+  unopened_ends old new taken sides looks fault told counts end is = record {
+    behind = (unopened m S (Some text) text refl 0 sink old new taken sides looks fault told counts end is).0;
+    cause = λ left source read. (unopened m S left text read source sink old new taken sides looks fault told counts end is).1;
+    serves = λ left read. (unopened m S left text read 0 sink old new taken sides looks fault told counts end is).2;
+    spare = λ tells. looks_keep m old new looks;
+  }
+
+  module _ (disk : D) (service : Service D) (opened : IsOpened m disk service) where
+    pub unread_ends : {X : Type 0} (view : X → List UserLine) (taken : Option (List ℕ)) (sides : List (Side Y)) (end : LinesEnd)
+        → ReadsLines view (script_lines (Some (service_names service)) text) (Err end)
+        → EndsBehind m S text [] (outside disk taken sides) (outside (service_disk service) taken sides) sink sink (end_of_lines end)
+    unread_ends view taken sides end is = record {
+      behind = (unread m S (Some text) text refl 0 sink sink disk service opened view taken sides end is).0;
+      cause = λ left source read. (unread m S left text read source sink sink disk service opened view taken sides end is).1;
+      serves = λ left read. (unread m S left text read 0 sink sink disk service opened view taken sides end is).2;
+      spare = λ tells. looks_keep m disk (service_disk service) opened.looks;
+    }
+
+    pub served_ends : (later : ℕ) (script : List UserLine) → script_lines (Some (service_names service)) text ≡ Ok script
+        → (taken now : Option (List ℕ)) (was are : List (Side Y)) (new : D) (turns : List Turn) (end : ServingEnd) → CountsSink end sink later
+        → HasReason m.tells end turns (m.faults (service_disk service)) (m.faults new) → (IsTrue m.tells → KeepsSpare m (service_disk service) new)
+        → S disk (service_names service) script (outside (service_disk service) taken was) (outside new now are) turns end
+        → EndsBehind m S text turns (outside disk taken was) (outside new now are) sink later (end_of_serving end)
+    served_ends later script is taken now was are new turns end counts reason spare serves = record {
+      behind = served_behind end;
+      cause = λ left source read. served_cause m S left text read source sink later disk service opened script is taken now was are new turns end counts reason;
+      serves = λ left read. served_to m S left text read 0 sink later disk service opened script is taken now was are new turns end serves;
+      spare = λ tells. keeps_on m disk (service_disk service) new (looks_keep m disk (service_disk service) opened.looks) (spare tells);
+    }
 
 pub reads_whole : (left rest : Option (List ℕ)) (end : End) → IsBehindText end → LosesAtMost (SCRIPT_BYTES + 1) left rest → IsAtEnd rest → Reads left rest end
 reads_whole left rest ends.Ok behind lost at_end = at_end

@@ -1,6 +1,7 @@
 -- What a run leaves of the disk, the sink, and the nodes' clocks and symbionts, by its end.
 use Rattle.std.specs.Prelude.{◌≡◌, ◌⊎◌, ℕ, List, [], Option, Some, None, IsTrue}
 use Rattle.qm_acting.specs.Reading.{IsRestoreFault}
+use Rattle.qm_acting.specs.Spare.{KeepsSpare}
 use Rattle.qm_cluster.specs.Serving.{ServesAtOnce}
 use Rattle.qm_disk.specs.Disk.{Meaning, IsQuiet, OnlyLooks}
 use Rattle.qm_glog.specs.declared.fault.OpenFault.TheVariants as opening
@@ -10,7 +11,9 @@ use Rattle.qm_history.specs.Script.{UserLine}
 use Rattle.qm_history.specs.declared.turn.Turn.{Turn}
 use Rattle.qm_service.specs.Serving.{Outside, Serves}
 use Rattle.qm_symb.specs.Device as symb
-use Rattle.qm_program.specs.Reading.{AreKnown, HoldCluster, IsScript, OfScript}
+use Rattle.qm_program.specs.Causes.{HasCause}
+use Rattle.qm_program.specs.Ends.{IsBehindText}
+use Rattle.qm_program.specs.Reading.{AreKnown, HoldCluster, IsRead, IsScript, OfScript}
 use Rattle.qm_program.specs.declared.outcome.End.{End}
 use Rattle.qm_program.specs.declared.outcome.End.TheVariants as ends
 
@@ -66,6 +69,16 @@ module _ {D Y : Type 0} (m : Meaning D) where
     ServesTo left turns old new ends.HistoryFull = ServesScript left turns old new serving.HistoryFull
     ServesTo left turns old new ends.NoMemory =
         Stays turns old new ⊎ (LacksMemory left turns old new ⊎ ServesScript left turns old new serving.NoMemory)
+
+    -- Behind a whole text, which is what a source had left, a run ends so: the end has its cause, of which so many failures of the sink
+    -- before and now are part; and this is left.
+    pub record EndsBehind (text : List ℕ) (turns : List Turn) (old new : Outside D Y) (sink later : ℕ) (end : End) : Type 0 where
+      pub behind : IsBehindText end
+      pub cause : (left : Option (List ℕ)) (source : ℕ) → IsRead left text
+          → HasCause m.tells (m.seen old.disk) left turns (record { source = source; sink = sink; disk = m.faults old.disk })
+          (record { source = source; sink = later; disk = m.faults new.disk }) end
+      pub serves : (left : Option (List ℕ)) → IsRead left text → ServesTo left turns old new end
+      pub spare : IsTrue m.tells → KeepsSpare m old.disk new.disk
 
 module _ {D Y : Type 0} (m : Meaning D) (y : symb.Meaning Y) where
   -- what a run leaves, whose lines one thread serves in their order

@@ -1,21 +1,25 @@
-// A script is read, the site is opened, and the script's lines are served over it.
-ghost use Rattle.std.specs.Prelude.{◌≡◌, ◌≤◌, ℕ, [], List, Option, IsTrue, None, length, map};
+// A script is read, the site is opened for its lines, and these are served there: by one thread in their order, or those of each node
+// by a thread of its own.
+ghost use Rattle.std.specs.Prelude.{◌≡◌, ◌≤◌, ℕ, List, Option, IfErr, IfOk, IsTrue, None, Ok, Some, length, map};
 ghost use Rattle.qm_acting.specs.Spare.{KeepsSpare};
 ghost use Rattle.qm_course.specs.Runs.{side_of};
-ghost use Rattle.qm_history.specs.Ends.{ServingEnd};
+ghost use Rattle.qm_history.specs.Lines.{script_lines};
 ghost use Rattle.qm_kinds.specs.declared.limits.TheConstants.{NODES_LIMIT};
 ghost use Rattle.qm_script.specs.ClusterLines.{user_lines_view};
-ghost use Rattle.qm_service.specs.Ends.{CountsSink, serving_end};
-ghost use Rattle.qm_service.specs.Opening.{IsOpened, IsScriptOf};
+ghost use Rattle.qm_service.specs.Ends.{serving_end};
+ghost use Rattle.qm_service.specs.Opening.{IsOpened};
 ghost use Rattle.qm_service.specs.Serving.{outside};
-ghost use Rattle.qm_service.specs.Value.{service_disk, service_names};
-ghost use Rattle.qm_program.specs.Causes.{HasCause, HasReason};
-ghost use Rattle.qm_program.specs.Ends.{EndsUnopened, EndsUnserved, IsBehindText, end_of_lines, end_of_opening, end_of_reading, end_of_serving, status_of};
-ghost use Rattle.qm_program.specs.Reading.{IsRead, Reads};
-ghost use Rattle.qm_program.specs.Running.{ServesTo};
+ghost use Rattle.qm_service.specs.Value.{service_names};
+ghost use Rattle.qm_cluster.specs.Serving.{ServesAtOnce};
+ghost use Rattle.qm_service.specs.Serving.{Serves};
+ghost use Rattle.qm_program.specs.Causes.{HasCause};
+ghost use Rattle.qm_program.specs.Ends.{EndsUnopened, EndsUnserved, end_of_lines, end_of_opening, end_of_reading, end_of_serving, status_of};
+ghost use Rattle.qm_program.specs.Reading.{Reads};
+ghost use Rattle.qm_program.specs.Running.{EndsBehind, RunsAtOnce, RunsTo};
 
 use crate::outcome::{End, Outcome};
-use crate::serving::ServeLines;
+use crate::serving::{AtOnce, InOrder, Way};
+use qm_cluster::serve_nodes;
 use qm_course::Station;
 use qm_database::LoadFault;
 use qm_disk::Disk;
@@ -25,6 +29,9 @@ use qm_script::{LinesEnd, SCRIPT_BYTES, UserLine, a_script_has_a_limit, read_lin
 use qm_service::{ServeEnd, Served, Service};
 use qm_symb::Symbiont;
 use std::alloc::Global;
+use std::marker::{Send, Sync};
+use std::sync::Wait;
+use std::thread::Threads;
 
 impl From<ServeEnd> for End {
     ghost from_gives = { λ fault end. end ≡ end_of_serving (serving_end fault) };
@@ -87,65 +94,71 @@ fn unopened_end(alloc: Global, script: &[u8], fault: LoadFault) -> End
     }
 }
 
-// Serves the lines of a script over a site that was opened.
-fn serve_lines<'a, W: ServeLines<D, C, Y>, O: Sink, D: Disk, C: Clock, Y: Symbiont>(
-    way: &W,
-    alloc: Global,
-    lines: &'a [UserLine<'a>],
+// A site that was opened for the lines of a script.
+struct Ready<'a, D> {
     service: Service<D>,
-    stations: &mut [Station<C, Y>],
-    sink: &mut O,
-) -> Outcome<D>
-    requires opened { (disk : D) × IsOpened D.meaning disk service }
-    requires script { IsScriptOf (service_names service) (user_lines_view lines.now) }
-    requires stations { NODES_LIMIT ≤ length stations.old }
-    ensures status { result.status ≡ status_of result.end }
-    ensures behind { IsBehindText result.end }
-    ensures serves { (disk : D) → IsOpened D.meaning disk service → (end : ServingEnd) × (result.end ≡ end_of_serving end)
-        × CountsSink end (O.faults sink.old) (O.faults sink.new)
-        × HasReason D.meaning.tells end result.turns.items (D.meaning.faults (service_disk service)) (D.meaning.faults result.disk)
-        × W.served disk (service_names service) (user_lines_view lines.now)
-        (outside (service_disk service) (O.taken sink.old) (map (side_of C.told) stations.old))
-        (outside result.disk (O.taken sink.new) (map (side_of C.told) stations.new)) result.turns.items end }
-    ensures spare { (disk : D) → IsOpened D.meaning disk service → IsTrue D.meaning.tells → KeepsSpare D.meaning disk result.disk }
-{
-    let Served { end, disk, turns } = way.serve(alloc, lines, service, stations, sink);
-    Outcome::with(End::from(end), disk, turns)
+    lines: Vec<UserLine<'a>>,
 }
 
-// The same of a script, over a site that was opened.
-fn serve_opened<W: ServeLines<D, C, Y>, O: Sink, D: Disk, C: Clock, Y: Symbiont>(
-    way: &W,
+// Reads the lines of a script for the cluster of a site that was opened. At `Err` the run is over.
+fn lines_for<'a, W: Way<D, Y>, O: Sink, D: Disk, C: Clock, Y: Symbiont>(
     alloc: Global,
-    script: &[u8],
+    script: &'a [u8],
     service: Service<D>,
-    stations: &mut [Station<C, Y>],
-    sink: &mut O,
-) -> Outcome<D>
-    requires opened { (disk : D) × IsOpened D.meaning disk service }
-    requires stations { NODES_LIMIT ≤ length stations.old }
-    ensures status { result.status ≡ status_of result.end }
-    ensures behind { IsBehindText result.end }
-    ensures cause { (disk : D) (left : Option (List ℕ)) (source : ℕ) → IsOpened D.meaning disk service → IsRead left script.now
-        → HasCause D.meaning.tells (D.meaning.seen disk) left result.turns.items
-        (record { source = source; sink = O.faults sink.old; disk = D.meaning.faults disk })
-        (record { source = source; sink = O.faults sink.new; disk = D.meaning.faults result.disk }) result.end }
-    ensures serves { (disk : D) (left : Option (List ℕ)) → IsOpened D.meaning disk service → IsRead left script.now
-        → ServesTo D.meaning W.served left result.turns.items
-        (outside disk (O.taken sink.old) (map (side_of C.told) stations.old))
-        (outside result.disk (O.taken sink.new) (map (side_of C.told) stations.new)) result.end }
-    ensures spare { (disk : D) → IsOpened D.meaning disk service → IsTrue D.meaning.tells → KeepsSpare D.meaning disk result.disk }
+    stations: &[Station<C, Y>],
+    sink: &O,
+) -> Result<Ready<'a, D>, Outcome<D>>
+    ensures same { IfOk result (λ ready. ready.service ≡ service) }
+    ensures lines { IfOk result (λ ready. script_lines (Some (service_names service)) script.now ≡ Ok (user_lines_view ready.lines.items)) }
+    ensures status { IfErr result (λ over. over.status ≡ status_of over.end) }
+    ensures ends { (disk : D) → IsOpened D.meaning disk service → IfErr result (λ over. EndsBehind D.meaning W.served script.now over.turns.items
+        (outside disk (O.taken sink.now) (map (side_of C.told) stations.now)) (outside over.disk (O.taken sink.now) (map (side_of C.told) stations.now))
+        (O.faults sink.now) (O.faults sink.now) over.end) }
 {
     let names = service.names();
     match read_lines(alloc, Some(names), script) {
-        Ok(lines) => serve_lines(way, alloc, &lines, service, stations, sink),
-        Err(end) => Outcome::of(alloc, End::from(end), service.give_back()),
+        Ok(lines) => Ok(Ready { service, lines }),
+        Err(end) => Err(Outcome::of(alloc, End::from(end), service.give_back())),
     }
 }
 
-// The same of what was read.
-fn serve_read<W: ServeLines<D, C, Y>, O: Sink, D: Disk, C: Clock, Y: Symbiont>(
-    way: &W,
+// Opens the site of a disk for a script that was read, and reads the script's lines. At `Err` the run is over.
+fn open_lines<'a, W: Way<D, Y>, O: Sink, D: Disk, C: Clock, Y: Symbiont>(
+    alloc: Global,
+    script: &'a [u8],
+    disk: D,
+    stations: &[Station<C, Y>],
+    sink: &O,
+) -> Result<Ready<'a, D>, Outcome<D>>
+    ensures opened { IfOk result (λ ready. IsOpened D.meaning disk ready.service) }
+    ensures lines { IfOk result (λ ready. script_lines (Some (service_names ready.service)) script.now ≡ Ok (user_lines_view ready.lines.items)) }
+    ensures status { IfErr result (λ over. over.status ≡ status_of over.end) }
+    ensures ends { IfErr result (λ over. EndsBehind D.meaning W.served script.now over.turns.items
+        (outside disk (O.taken sink.now) (map (side_of C.told) stations.now)) (outside over.disk (O.taken sink.now) (map (side_of C.told) stations.now))
+        (O.faults sink.now) (O.faults sink.now) over.end) }
+{
+    match Service::open(alloc, disk) {
+        Ok(service) => lines_for::<W, O, D, C, Y>(alloc, script, service, stations, sink),
+        Err((disk, fault)) => {
+            let end = unopened_end(alloc, script, fault);
+            Err(Outcome::of(alloc, end, disk))
+        }
+    }
+}
+
+// The outcome of lines that were served.
+fn outcome_of<D: Disk>(served: Served<D>) -> Outcome<D>
+    ensures end { result.end ≡ end_of_serving (serving_end served.end) }
+    ensures status { result.status ≡ status_of result.end }
+    ensures disk { result.disk ≡ served.disk }
+    ensures turns { result.turns.items ≡ served.turns.items }
+{
+    let Served { end, disk, turns } = served;
+    Outcome::with(End::from(end), disk, turns)
+}
+
+// Serves a script that was read, by one thread.
+fn serve_text_in_order<O: Sink, D: Disk, C: Clock, Y: Symbiont>(
     alloc: Global,
     script: &[u8],
     disk: D,
@@ -154,35 +167,49 @@ fn serve_read<W: ServeLines<D, C, Y>, O: Sink, D: Disk, C: Clock, Y: Symbiont>(
 ) -> Outcome<D>
     requires stations { NODES_LIMIT ≤ length stations.old }
     ensures status { result.status ≡ status_of result.end }
-    ensures behind { IsBehindText result.end }
-    ensures cause { (left : Option (List ℕ)) (source : ℕ) → IsRead left script.now
-        → HasCause D.meaning.tells (D.meaning.seen disk) left result.turns.items
-        (record { source = source; sink = O.faults sink.old; disk = D.meaning.faults disk })
-        (record { source = source; sink = O.faults sink.new; disk = D.meaning.faults result.disk }) result.end }
-    ensures serves { (left : Option (List ℕ)) → IsRead left script.now → ServesTo D.meaning W.served left result.turns.items
-        (outside disk (O.taken sink.old) (map (side_of C.told) stations.old))
-        (outside result.disk (O.taken sink.new) (map (side_of C.told) stations.new)) result.end }
-    ensures spare { IsTrue D.meaning.tells → KeepsSpare D.meaning disk result.disk }
+    ensures ends { EndsBehind D.meaning (Serves D.meaning Y.meaning) script.now result.turns.items
+        (outside disk (O.taken sink.old) (map (side_of C.told) stations.old)) (outside result.disk (O.taken sink.new) (map (side_of C.told) stations.new))
+        (O.faults sink.old) (O.faults sink.new) result.end }
 {
-    match Service::open(alloc, disk) {
-        Ok(service) => serve_opened(way, alloc, script, service, stations, sink),
-        Err((disk, fault)) => {
-            let end = unopened_end(alloc, script, fault);
-            Outcome::of(alloc, end, disk)
-        }
+    match open_lines::<InOrder, O, D, C, Y>(alloc, script, disk, stations, sink) {
+        Ok(Ready { service, lines }) => outcome_of(service.serve(alloc, &lines, stations, sink)),
+        Err(over) => over,
     }
 }
 
-/// Serves a script: it is read whole, then the site is opened, and its lines are served in this way.
-pub(crate) fn serve_script<
-    W: ServeLines<D, C, Y>,
-    S: Source,
+// The same, each node's lines by a thread of its own.
+fn serve_text_at_once<
+    R: Threads + Wait + Sync,
     O: Sink,
-    D: Disk,
-    C: Clock,
-    Y: Symbiont,
+    D: Disk + Drop + Send,
+    C: Clock + Send,
+    Y: Symbiont + Send,
 >(
-    way: &W,
+    rt: &R,
+    alloc: Global,
+    script: &[u8],
+    disk: D,
+    stations: &mut [Station<C, Y>],
+    sink: &mut O,
+) -> Outcome<D>
+where
+    Y::Cursor: Send,
+    requires stations { NODES_LIMIT ≤ length stations.old }
+    ensures status { result.status ≡ status_of result.end }
+    ensures ends { EndsBehind D.meaning (ServesAtOnce D.meaning Y.meaning) script.now result.turns.items
+        (outside disk (O.taken sink.old) (map (side_of C.told) stations.old)) (outside result.disk (O.taken sink.new) (map (side_of C.told) stations.new))
+        (O.faults sink.old) (O.faults sink.new) result.end }
+{
+    match open_lines::<AtOnce, O, D, C, Y>(alloc, script, disk, stations, sink) {
+        Ok(Ready { service, lines }) => outcome_of(serve_nodes(
+            rt, alloc, service, &lines, stations, sink,
+        )),
+        Err(over) => over,
+    }
+}
+
+/// Serves a script by one thread, its lines in their order: it is read whole, then the site is opened, and its lines are served there.
+pub(crate) fn serve_in_order<S: Source, O: Sink, D: Disk, C: Clock, Y: Symbiont>(
     alloc: Global,
     source: &mut S,
     sink: &mut O,
@@ -195,14 +222,50 @@ pub(crate) fn serve_script<
         (record { source = S.faults source.old; sink = O.faults sink.old; disk = D.meaning.faults disk })
         (record { source = S.faults source.new; sink = O.faults sink.new; disk = D.meaning.faults result.disk }) result.end }
     ensures reads { Reads (S.remaining source.old) (S.remaining source.new) result.end }
-    ensures serves { ServesTo D.meaning W.served (S.remaining source.old) result.turns.items
+    ensures serves { RunsTo D.meaning Y.meaning (S.remaining source.old) result.turns.items
         (outside disk (O.taken sink.old) (map (side_of C.told) stations.old))
         (outside result.disk (O.taken sink.new) (map (side_of C.told) stations.new)) result.end }
     ensures spare { IsTrue D.meaning.tells → KeepsSpare D.meaning disk result.disk }
 {
     a_script_has_a_limit();
     match read_whole(alloc, source, SCRIPT_BYTES) {
-        Ok(script) => serve_read(way, alloc, &script, disk, stations, sink),
+        Ok(script) => serve_text_in_order(alloc, &script, disk, stations, sink),
+        Err(end) => Outcome::of(alloc, End::from(end), disk),
+    }
+}
+
+/// The same, each node's lines by a thread of its own, where one can be made.
+pub(crate) fn serve_at_once<
+    R: Threads + Wait + Sync,
+    S: Source,
+    O: Sink,
+    D: Disk + Drop + Send,
+    C: Clock + Send,
+    Y: Symbiont + Send,
+>(
+    rt: &R,
+    alloc: Global,
+    source: &mut S,
+    sink: &mut O,
+    disk: D,
+    stations: &mut [Station<C, Y>],
+) -> Outcome<D>
+where
+    Y::Cursor: Send,
+    requires stations { NODES_LIMIT ≤ length stations.old }
+    ensures status { result.status ≡ status_of result.end }
+    ensures cause { HasCause D.meaning.tells (D.meaning.seen disk) (S.remaining source.old) result.turns.items
+        (record { source = S.faults source.old; sink = O.faults sink.old; disk = D.meaning.faults disk })
+        (record { source = S.faults source.new; sink = O.faults sink.new; disk = D.meaning.faults result.disk }) result.end }
+    ensures reads { Reads (S.remaining source.old) (S.remaining source.new) result.end }
+    ensures serves { RunsAtOnce D.meaning Y.meaning (S.remaining source.old) result.turns.items
+        (outside disk (O.taken sink.old) (map (side_of C.told) stations.old))
+        (outside result.disk (O.taken sink.new) (map (side_of C.told) stations.new)) result.end }
+    ensures spare { IsTrue D.meaning.tells → KeepsSpare D.meaning disk result.disk }
+{
+    a_script_has_a_limit();
+    match read_whole(alloc, source, SCRIPT_BYTES) {
+        Ok(script) => serve_text_at_once(rt, alloc, &script, disk, stations, sink),
         Err(end) => Outcome::of(alloc, End::from(end), disk),
     }
 }

@@ -1,7 +1,7 @@
 // What the program's words ask for.
 ghost use Rattle.std.specs.Prelude.{◌≡◌, ◌↔◌, map, IfOk, IfSome, IsTrue, Some};
 ghost use Rattle.std.specs.String.{string_bytes};
-ghost use Rattle.qm_program.specs.Task.{NamesSite, init_of, task_of};
+ghost use Rattle.qm_program.specs.Task.{NamesSite, alone_of, init_of, task_of};
 ghost use Rattle.qm_program.specs.declared.task.Task.TheVariants.{Cluster};
 
 use qm_kinds::{Name, Seq};
@@ -22,6 +22,21 @@ pub(crate) enum Task {
     Show,
     /// To make a new site of these nodes, whose queue files may have so many bytes.
     Init { nodes: Seq<Name>, cap: u64 },
+}
+
+// What one word asks for.
+fn read_alone(word: &String) -> Option<Task>
+    ensures { result ≡ alone_of (string_bytes word.now) }
+{
+    if word.as_str() == "run" {
+        Some(Task::Run)
+    } else if word.as_str() == "cluster" {
+        Some(Task::Cluster)
+    } else if word.as_str() == "show" {
+        Some(Task::Show)
+    } else {
+        None
+    }
 }
 
 // A new site of the nodes that the word names, if there is a cap.
@@ -51,9 +66,7 @@ pub(crate) fn read_task(alloc: Global, words: &[String]) -> Result<Option<Task>,
     named_nodes_make_a_site();
     caps_have_limits();
     match words {
-        [word] if word.as_str() == "run" => Ok(Some(Task::Run)),
-        [word] if word.as_str() == "cluster" => Ok(Some(Task::Cluster)),
-        [word] if word.as_str() == "show" => Ok(Some(Task::Show)),
+        [word] => Ok(read_alone(word)),
         [word, nodes] if word.as_str() == "init" => {
             read_init(alloc, nodes.as_bytes(), Some(USUAL_CAP))
         }

@@ -14,8 +14,7 @@ ghost use Rattle.qm_program.specs.declared.task.Task.TheVariants.{Cluster, Run, 
 use crate::laws::sound_scripts_are_served;
 use crate::making::make;
 use crate::outcome::{End, Outcome};
-use crate::running::serve_script;
-use crate::serving::{OneThread, ThreadForEach};
+use crate::running::{serve_at_once, serve_in_order};
 use crate::showing::show;
 use crate::task::{Task, asks_for_cluster, read_task};
 use qm_course::Station;
@@ -116,7 +115,7 @@ where
 {
     sound_scripts_are_served();
     if asks_for_cluster(words) {
-        serve_script(&ThreadForEach { rt }, alloc, source, sink, disk, stations)
+        serve_at_once(rt, alloc, source, sink, disk, stations)
     } else {
         alone(alloc, words, source, sink, disk, stations)
     }
@@ -155,7 +154,7 @@ pub fn alone<S: Source, O: Sink, D: Disk, C: Clock, Y: Symbiont>(
 {
     sound_scripts_are_served();
     match read_task(alloc, words) {
-        Ok(Some(Task::Run)) => serve_script(&OneThread, alloc, source, sink, disk, stations),
+        Ok(Some(Task::Run)) => serve_in_order(alloc, source, sink, disk, stations),
         Ok(Some(Task::Cluster)) => unreachable!(),
         Ok(Some(Task::Show)) => show(alloc, sink, disk),
         Ok(Some(Task::Init { nodes, cap })) => make(alloc, nodes.as_slice(), cap, sink, disk),
