@@ -1,4 +1,6 @@
 // Cases that are a script and what it prints.
+use crate::courses::go_by_lines;
+use crate::either::Either;
 use crate::files::Files;
 use crate::run::{MemoryStation, Ran, Site, empty_site, outside_of, run, words_of};
 use crate::walks::lead_on;
@@ -7,7 +9,10 @@ use qm_kinds::Moment;
 use qm_program::End;
 use qm_time::read_time;
 use std::alloc::{AllocError, Global};
-use std::{fs, io};
+use std::marker::Sync;
+use std::sync::Wait;
+use std::thread::Threads;
+use std::{fs, io, str};
 
 type MemorySite = Site<MemoryDisk>;
 
@@ -17,12 +22,21 @@ const STANDING: &[u8] = b"1-JAN-2030 10:00:00.00";
 // The node of a case that names none.
 const NODE: &str = "A";
 
+// The words of the program that serves a script on one thread, and of the one that serves each node by a thread of its own.
+const RUN: &str = "\"run\"";
+
+const CLUSTER: &str = "\"cluster\"";
+
 // A new site of nodes, with commas between their names.
-fn new_site(alloc: Global, nodes: &str) -> Result<MemorySite, AllocError> {
+fn new_site<R: Threads + Wait + Sync>(
+    threads: &R,
+    alloc: Global,
+    nodes: &str,
+) -> Result<MemorySite, AllocError> {
     let outside = outside_of(alloc, Vec::new(alloc), Vec::new(alloc));
     let mut words = words_of(alloc, "\"init\"")?;
     words.push(String::from_str(alloc, nodes)?)?;
-    let Ran { site, .. } = run(alloc, &words, outside, empty_site(alloc)?)?;
+    let Ran { site, .. } = run(threads, alloc, &words, outside, empty_site(alloc)?)?;
     Ok(site)
 }
 
@@ -30,6 +44,15 @@ fn new_site(alloc: Global, nodes: &str) -> Result<MemorySite, AllocError> {
 fn file_of(rt: &HostRuntime, name: &str, ending: &str) -> io::Result<Vec<u8>> {
     let path = format!(in rt.alloc(); "{name}.{ending}")?;
     fs::read(rt, path.as_str())
+}
+
+// The same, where the case has it.
+fn found(rt: &HostRuntime, name: &str, ending: &str) -> io::Result<Option<Vec<u8>>> {
+    match file_of(rt, name, ending) {
+        Ok(text) => Ok(Some(text)),
+        Err(error) if error.kind() == io::ErrorKind::NotFound => Ok(None),
+        Err(error) => Err(error),
+    }
 }
 
 // The moment that a line names. A printed one has a blank in front where the day has one digit.
@@ -49,16 +72,30 @@ fn moments_in(alloc: Global, text: &[u8]) -> io::Result<Vec<Moment>> {
             moments.push(moment_of(line)?)?;
         }
     }
+    if moments.is_empty() {
+        return Err(io::ErrorKind::InvalidData.into());
+    }
     Ok(moments)
 }
 
 // The moments that the clock of a case tells.
 fn moments_of(rt: &HostRuntime, name: &str) -> io::Result<Vec<Moment>> {
-    match file_of(rt, name, "clock") {
-        Ok(text) => moments_in(rt.alloc(), &text),
-        Err(error) if error.kind() == io::ErrorKind::NotFound => moments_in(rt.alloc(), STANDING),
-        Err(error) => Err(error),
+    match found(rt, name, "clock")? {
+        Some(text) => moments_in(rt.alloc(), &text),
+        None => moments_in(rt.alloc(), STANDING),
     }
+}
+
+// What a case may print in place of something else.
+fn either_of(rt: &HostRuntime, name: &str) -> io::Result<Either> {
+    let mut either = Either::new(rt.alloc());
+    if let Some(text) = found(rt, name, "either")? {
+        let Ok(groups) = str::from_utf8(&text) else {
+            return Err(io::ErrorKind::InvalidData.into());
+        };
+        either.add_all(groups)?;
+    }
+    Ok(either)
 }
 
 // What a device of the site was handed, node by node.
@@ -90,34 +127,48 @@ fn is_output(rt: &HostRuntime, name: &str, device: &str, site: &MemorySite) -> i
     Ok(output_of(rt.alloc(), site, device)? == output)
 }
 
-// Serves a case over a site, and tells whether it printed its transcript, and its turns lead to what it left.
-fn prints(rt: &HostRuntime, name: &str, site: MemorySite) -> io::Result<(bool, MemorySite)> {
-    let script = file_of(rt, name, "qman")?;
+// Whether this is what a case prints, but for what may stand in place of something else.
+fn is_transcript(rt: &HostRuntime, name: &str, printed: &[u8]) -> io::Result<bool> {
     let transcript = file_of(rt, name, "transcript")?;
-    let moments = moments_of(rt, name)?;
-    if moments.is_empty() {
-        return Err(io::ErrorKind::InvalidData.into());
-    }
-    let outside = outside_of(rt.alloc(), script, moments);
-    let words = words_of(rt.alloc(), "\"run\"")?;
-    let before = Files::of(rt.alloc(), &site.disk)?;
+    let either = either_of(rt, name)?;
+    Ok(either.settled(printed)? == either.settled(&transcript)?)
+}
+
+// Serves a case over a site by the program of this word, and tells whether it printed its transcript, and its turns lead to what it
+// left; and where nodes work at once, whether they are of the lines of each.
+fn prints<R: Threads + Wait + Sync>(
+    rt: &HostRuntime,
+    threads: &R,
+    word: &str,
+    name: &str,
+    site: MemorySite,
+) -> io::Result<(bool, MemorySite)> {
+    let alloc = rt.alloc();
+    let script = file_of(rt, name, "qman")?;
+    let before = Files::of(alloc, &site.disk)?;
+    let outside = outside_of(alloc, script.to_vec(alloc)?, moments_of(rt, name)?);
     let Ran {
         end,
         printed,
         turns,
         site,
-    } = run(rt.alloc(), &words, outside, site)?;
-    let behind = Files::of(rt.alloc(), &site.disk)?;
-    let leads = lead_on(rt.alloc(), &before, turns, &behind)?;
-    Ok((end == End::Ok && printed == transcript && leads, site))
+    } = run(threads, alloc, &words_of(alloc, word)?, outside, site)?;
+    let goes = word == RUN || go_by_lines(alloc, &before, &script, &turns, &printed, end)?;
+    let behind = [Files::of(alloc, &site.disk)?];
+    let leads = lead_on(alloc, &before, turns, &behind)?;
+    let is_told = is_transcript(rt, name, &printed)?;
+    Ok((end == End::Ok && is_told && goes && leads, site))
 }
 
 // Whether `show` lists a site as the case says, where it says it.
-fn lists(rt: &HostRuntime, name: &str, site: MemorySite) -> io::Result<(bool, MemorySite)> {
-    let listing = match file_of(rt, name, "listing") {
-        Ok(listing) => listing,
-        Err(error) if error.kind() == io::ErrorKind::NotFound => return Ok((true, site)),
-        Err(error) => return Err(error),
+fn lists<R: Threads + Wait + Sync>(
+    rt: &HostRuntime,
+    threads: &R,
+    name: &str,
+    site: MemorySite,
+) -> io::Result<(bool, MemorySite)> {
+    let Some(listing) = found(rt, name, "listing")? else {
+        return Ok((true, site));
     };
     let alloc = rt.alloc();
     let outside = outside_of(alloc, Vec::new(alloc), Vec::new(alloc));
@@ -127,37 +178,59 @@ fn lists(rt: &HostRuntime, name: &str, site: MemorySite) -> io::Result<(bool, Me
         printed,
         site,
         ..
-    } = run(alloc, &words, outside, site)?;
+    } = run(threads, alloc, &words, outside, site)?;
     Ok((end == End::Ok && printed == listing, site))
 }
 
-// Serves the case of this name, lists the site behind it, and looks at a device where one is named behind it.
-fn passes(rt: &HostRuntime, case: &str, site: MemorySite) -> io::Result<(bool, MemorySite)> {
+// Serves the case of this name by the program of this word, and lists the site behind it.
+fn serves<R: Threads + Wait + Sync>(
+    rt: &HostRuntime,
+    threads: &R,
+    word: &str,
+    name: &str,
+    site: MemorySite,
+) -> io::Result<(bool, MemorySite)> {
+    let (prints, left) = prints(rt, threads, word, name, site)?;
+    let (lists, left) = lists(rt, threads, name, left)?;
+    Ok((prints && lists, left))
+}
+
+// The word of the program that serves a case, and the case without its mark.
+fn word_and_case(case: &str) -> (&str, &str) {
+    match case.strip_prefix("&") {
+        Some(case) => (CLUSTER, case),
+        None => (RUN, case),
+    }
+}
+
+// Serves the case that is named so, and looks at a device where one is named behind it.
+fn passes<R: Threads + Wait + Sync>(
+    rt: &HostRuntime,
+    threads: &R,
+    case: &str,
+    site: MemorySite,
+) -> io::Result<(bool, MemorySite)> {
+    let (word, case) = word_and_case(case);
     match case.split_once("=") {
-        None => {
-            let (prints, left) = prints(rt, case, site)?;
-            let (lists, left) = lists(rt, case, left)?;
-            Ok((prints && lists, left))
-        }
+        None => serves(rt, threads, word, case, site),
         Some((name, device)) => {
-            let (prints, left) = prints(rt, name, site)?;
-            let is_output = is_output(rt, name, device, &left)?;
-            let (lists, left) = lists(rt, name, left)?;
-            Ok((prints && is_output && lists, left))
+            let (serves, left) = serves(rt, threads, word, name, site)?;
+            Ok((serves && is_output(rt, name, device, &left)?, left))
         }
     }
 }
 
 /// Serves the case that a word names: over a new site of the nodes in front of a `:`, or of the node A; or behind a `+` over the
 /// site that the case before it left.
-pub(crate) fn serve_case(
+pub(crate) fn serve_case<R: Threads + Wait + Sync>(
     rt: &HostRuntime,
+    threads: &R,
     word: &str,
     before: MemorySite,
 ) -> io::Result<(bool, MemorySite)> {
     if let Some(case) = word.strip_prefix("+") {
-        return passes(rt, case, before);
+        return passes(rt, threads, case, before);
     }
     let (nodes, case) = word.split_once(":").unwrap_or((NODE, word));
-    passes(rt, case, new_site(rt.alloc(), nodes)?)
+    passes(rt, threads, case, new_site(threads, rt.alloc(), nodes)?)
 }

@@ -1,4 +1,6 @@
 // What a plan has in work: files, scripts, what fails, and what the last runs told and left.
+use crate::courses::go_by_lines;
+use crate::either::Either;
 use crate::files::{Files, Spoil};
 use crate::records::Names;
 use crate::run::{Outside, Ran, Site, empty_disk, new_stations, run, words_of};
@@ -10,7 +12,10 @@ use qm_kinds::Moment;
 use qm_plans::push_line;
 use qm_program::End;
 use std::alloc::{AllocError, Global};
+use std::marker::{Send, Sync};
 use std::mem;
+use std::sync::Wait;
+use std::thread::Threads;
 
 // The words that ask for a run.
 const RUN: &str = "\"run\"";
@@ -26,6 +31,44 @@ pub(crate) struct Failing {
     pub(crate) writes: Vec<u64>,
     pub(crate) calls: Vec<u64>,
     pub(crate) devices: Vec<u64>,
+}
+
+/// Which files behind a run its turns are to lead to: those that are read, or also those that each kind of crash leaves.
+#[derive(Clone, Copy, PartialEq, Eq)]
+enum Behind {
+    Read,
+    Crashed,
+}
+
+/// What a run is asked, how many lines are told of what it prints, from the last one on, and which files are looked at behind it.
+#[derive(Clone, Copy)]
+pub(crate) struct Asked<'w, 's> {
+    words: &'w [String],
+    script: &'s [u8],
+    last: usize,
+    behind: Behind,
+}
+
+impl<'w, 's> Asked<'w, 's> {
+    /// All lines are told.
+    pub(crate) fn all(words: &'w [String], script: &'s [u8]) -> Asked<'w, 's> {
+        Asked {
+            words,
+            script,
+            last: usize::MAX,
+            behind: Behind::Read,
+        }
+    }
+
+    // Whether the nodes work at once.
+    fn is_at_once(&self) -> bool {
+        is_first(self.words, "cluster")
+    }
+
+    // Whether a script is served.
+    fn serves(&self) -> bool {
+        self.is_at_once() || is_first(self.words, "run")
+    }
 }
 
 /// Which calls on a disk fail: one alone, or each one from that on.
@@ -54,6 +97,8 @@ pub(crate) struct Desk {
     pub(crate) moments: Vec<Moment>,
     /// How many lines are told of what is printed, from the last one on.
     pub(crate) last: usize,
+    /// What may be printed in place of something else.
+    pub(crate) either: Either,
     /// What the devices took in the last run, node by node.
     pub(crate) handed: Vec<u8>,
 }
@@ -78,6 +123,7 @@ impl Desk {
             },
             moments: Vec::new(alloc),
             last: usize::MAX,
+            either: Either::new(alloc),
             handed: Vec::new(alloc),
         }
     }
@@ -93,31 +139,79 @@ impl Desk {
     }
 
     /// A disk, with devices that took nothing.
-    pub(crate) fn site<D: Disk + Drop>(&self, disk: D) -> Result<Site<D>, AllocError> {
+    pub(crate) fn site<D: Disk + Drop + Send>(&self, disk: D) -> Result<Site<D>, AllocError> {
         Ok(Site {
             disk,
             stations: new_stations(self.alloc, &self.failing.devices)?,
         })
     }
 
+    // The files of a disk, as they read, and maybe as each kind of crash leaves them.
+    fn left(&self, disk: &MemoryDisk, behind: Behind) -> Result<Vec<Files>, AllocError> {
+        let mut left = Vec::new(self.alloc);
+        left.push(Files::of(self.alloc, disk)?)?;
+        if behind == Behind::Crashed {
+            for pick in 0..3u8 {
+                left.push(Files::of(self.alloc, &disk.after_crash(pick)?)?)?;
+            }
+        }
+        Ok(left)
+    }
+
     // Runs the program over files, where these calls of the disk fail, and tells of the run.
-    fn run_over(
+    fn run_over<R: Threads + Wait + Sync>(
         &self,
+        threads: &R,
         told: &mut Vec<u8>,
-        last: usize,
-        words: &[String],
-        script: &[u8],
+        asked: &Asked<'_, '_>,
         files: &Files,
         failing: &[u64],
     ) -> Result<Ran<MemoryDisk>, AllocError> {
-        let outside = self.outside(script)?;
+        let outside = self.outside(asked.script)?;
         let site = self.site(files.disk(self.alloc, failing)?)?;
-        let mut ran = run(self.alloc, words, outside, site)?;
-        push_told(self.alloc, told, &ran, last)?;
+        let mut ran = run(threads, self.alloc, asked.words, outside, site)?;
+        self.push_told(told, asked, files, &ran)?;
         let turns = mem::replace(&mut ran.turns, Vec::new(self.alloc));
-        let behind = Files::of(self.alloc, &ran.site.disk)?;
-        push_walk(self.alloc, told, words, files, turns, &behind)?;
+        let behind = self.left(&ran.site.disk, asked.behind)?;
+        push_walk(self.alloc, told, asked, files, turns, &behind)?;
         Ok(ran)
+    }
+
+    /// Tells the last lines that a run over files printed, but for what may stand in place of something else, and how it ended where it
+    /// didn't end well; and where nodes that work at once didn't go by their lines.
+    pub(crate) fn push_told<D: Disk + Drop>(
+        &self,
+        told: &mut Vec<u8>,
+        asked: &Asked<'_, '_>,
+        files: &Files,
+        ran: &Ran<D>,
+    ) -> Result<(), AllocError> {
+        let printed = self.either.settled(&ran.printed)?;
+        told.extend_from_slice(last_lines(&printed, asked.last))?;
+        if ran.end != End::Ok {
+            push_end(self.alloc, told, ran.end)?;
+        }
+        if !asked.is_at_once() || self.go_by_lines(asked, files, ran)? {
+            return Ok(());
+        }
+        push_line(told, "the turns aren't those of the lines")
+    }
+
+    // Whether nodes that worked at once over files went by their lines.
+    fn go_by_lines<D: Disk + Drop>(
+        &self,
+        asked: &Asked<'_, '_>,
+        files: &Files,
+        ran: &Ran<D>,
+    ) -> Result<bool, AllocError> {
+        go_by_lines(
+            self.alloc,
+            files,
+            asked.script,
+            &ran.turns,
+            &ran.printed,
+            ran.end,
+        )
     }
 
     // Keeps what the devices took.
@@ -131,20 +225,26 @@ impl Desk {
         Ok(())
     }
 
+    // Runs the program over the files, and tells of the run.
+    fn run_once<R: Threads + Wait + Sync>(
+        &self,
+        threads: &R,
+        told: &mut Vec<u8>,
+        words: &[String],
+    ) -> Result<Ran<MemoryDisk>, AllocError> {
+        let mut asked = Asked::all(words, &self.script);
+        asked.last = self.last;
+        self.run_over(threads, told, &asked, &self.files, &self.failing.calls)
+    }
+
     /// Runs the program over the files, tells of the run, and keeps the files that it left. Gives its disk.
-    pub(crate) fn run(
+    pub(crate) fn run<R: Threads + Wait + Sync>(
         &mut self,
+        threads: &R,
         told: &mut Vec<u8>,
         words: &[String],
     ) -> Result<MemoryDisk, AllocError> {
-        let ran = self.run_over(
-            told,
-            self.last,
-            words,
-            &self.script,
-            &self.files,
-            &self.failing.calls,
-        )?;
+        let ran = self.run_once(threads, told, words)?;
         self.last = usize::MAX;
         let Ran { site, .. } = ran;
         self.keep_handed(&site)?;
@@ -157,11 +257,34 @@ impl Desk {
         Ok(disk)
     }
 
+    // Runs the program over the files, where these calls of the disk fail, and tells of the run: of nodes at once how many of their
+    // turns met a failing disk, since threads decide which.
+    fn run_failing_at<R: Threads + Wait + Sync>(
+        &self,
+        threads: &R,
+        told: &mut Vec<u8>,
+        words: &[String],
+        failing: &[u64],
+    ) -> Result<Ran<MemoryDisk>, AllocError> {
+        let mut asked = Asked::all(words, &self.script);
+        asked.behind = Behind::Crashed;
+        if asked.is_at_once() {
+            asked.last = 0;
+        }
+        let ran = self.run_over(threads, told, &asked, &self.files, failing)?;
+        if asked.is_at_once() {
+            let line = format!(in self.alloc; "failed turns: {}", count_failed(&ran.printed))?;
+            push_line(told, line.as_str())?;
+        }
+        Ok(ran)
+    }
+
     /// Runs the program over the files once for each of its calls on the disk, which fails, or from which on each one does, and
     /// at last once where none fails. Tells of each run, and then of what is found behind it, where that isn't what was told
     /// before; the files stay as they are.
-    pub(crate) fn run_failing(
+    pub(crate) fn run_failing<R: Threads + Wait + Sync>(
         &self,
+        threads: &R,
         told: &mut Vec<u8>,
         words: &[String],
         failures: Failures,
@@ -171,16 +294,9 @@ impl Desk {
         for number in 1..CALLS {
             let failing = numbers_from(self.alloc, number, failures)?;
             let mut now = Vec::new(self.alloc);
-            let ran = self.run_over(
-                &mut now,
-                usize::MAX,
-                words,
-                &self.script,
-                &self.files,
-                &failing,
-            )?;
+            let ran = self.run_failing_at(threads, &mut now, words, &failing)?;
             let mut found = Vec::new(self.alloc);
-            self.look_behind(&mut found, &ran.site.disk)?;
+            self.look_behind(threads, &mut found, &ran.site.disk)?;
             if now != before || found != found_before {
                 push_line(told, "--")?;
             }
@@ -205,8 +321,9 @@ impl Desk {
     }
 
     // Asks what is there over files, and tells it behind a head, unless that is what was told before.
-    fn look_over(
+    fn look_over<R: Threads + Wait + Sync>(
         &self,
+        threads: &R,
         told: &mut Vec<u8>,
         head: &str,
         files: &Files,
@@ -214,7 +331,8 @@ impl Desk {
     ) -> Result<(), AllocError> {
         let words = words_of(self.alloc, RUN)?;
         let mut found = Vec::new(self.alloc);
-        let _ = self.run_over(&mut found, usize::MAX, &words, &self.look, files, &[])?;
+        let asked = Asked::all(&words, &self.look);
+        let _ = self.run_over(threads, &mut found, &asked, files, &[])?;
         if found.as_slice() != before.as_slice() {
             told.extend_from_slice(head.as_bytes())?;
         }
@@ -222,8 +340,9 @@ impl Desk {
     }
 
     /// Asks what is there behind a crash of each kind of this disk, and without a crash.
-    pub(crate) fn look_behind(
+    pub(crate) fn look_behind<R: Threads + Wait + Sync>(
         &self,
+        threads: &R,
         told: &mut Vec<u8>,
         disk: &MemoryDisk,
     ) -> Result<(), AllocError> {
@@ -231,15 +350,16 @@ impl Desk {
         for pick in 0..3u8 {
             let left = Files::of(self.alloc, &disk.after_crash(pick)?)?;
             let head = format!(in self.alloc; "crash {pick}:\n")?;
-            self.look_over(told, head.as_str(), &left, &mut before)?;
+            self.look_over(threads, told, head.as_str(), &left, &mut before)?;
         }
         let left = Files::of(self.alloc, disk)?;
-        self.look_over(told, "no crash:\n", &left, &mut before)
+        self.look_over(threads, told, "no crash:\n", &left, &mut before)
     }
 
     /// Asks what is there over the files, the chosen one spoiled at each of these places.
-    pub(crate) fn look_at_spoiled(
+    pub(crate) fn look_at_spoiled<R: Threads + Wait + Sync>(
         &self,
+        threads: &R,
         told: &mut Vec<u8>,
         spoil: Spoil,
         first: usize,
@@ -249,7 +369,7 @@ impl Desk {
         for place in first..=last {
             let files = self.files.spoiled(self.alloc, self.chosen, spoil, place)?;
             let head = format!(in self.alloc; "{place}:\n")?;
-            self.look_over(told, head.as_str(), &files, &mut before)?;
+            self.look_over(threads, told, head.as_str(), &files, &mut before)?;
         }
         Ok(())
     }
@@ -292,31 +412,29 @@ fn last_lines(text: &[u8], last: usize) -> &[u8] {
     &[]
 }
 
-/// Tells the last lines that a run printed, and how it ended where it didn't end well.
-pub(crate) fn push_told<D: Disk + Drop>(
-    alloc: Global,
-    told: &mut Vec<u8>,
-    ran: &Ran<D>,
-    last: usize,
-) -> Result<(), AllocError> {
-    told.extend_from_slice(last_lines(&ran.printed, last))?;
-    if ran.end != End::Ok {
-        push_end(alloc, told, ran.end)?;
-    }
-    Ok(())
+// How many lines of a text tell of a disk that failed.
+fn count_failed(text: &[u8]) -> usize {
+    let lines = text.split(|byte| *byte == b'\n');
+    lines
+        .filter(|line| line.ends_with(b"%QMAN-F-JOURNAL"))
+        .count()
 }
 
-/// Tells where turns of a run don't lead from the files that it found to those that it left.
+// Whether this is the first of words.
+fn is_first(words: &[String], word: &str) -> bool {
+    words.first().is_some_and(|first| first.as_str() == word)
+}
+
+/// Tells where turns of a run don't lead from the files that it found to each of those that may be there behind it.
 pub(crate) fn push_walk(
     alloc: Global,
     told: &mut Vec<u8>,
-    words: &[String],
+    asked: &Asked<'_, '_>,
     before: &Files,
     turns: Vec<Turn>,
-    behind: &Files,
+    behind: &[Files],
 ) -> Result<(), AllocError> {
-    let is_run = words.first().is_some_and(|word| word.as_str() == "run");
-    if is_run && !lead_on(alloc, before, turns, behind)? {
+    if asked.serves() && !lead_on(alloc, before, turns, behind)? {
         push_line(told, "the turns lead elsewhere")?;
     }
     Ok(())

@@ -7,10 +7,18 @@
 //! that it goes on from; where there is a `NAME.listing`, it is what `show` prints behind the case. A name with a `@` before it
 //! is that of a plan, `NAME.plan`: files of the disk byte by byte, calls that fail, and what later runs find. The turns of each
 //! run are walked along, from the files that it found to those that it left.
+//!
+//! A case whose name has a `&` before it is served by `cluster`, each node by a thread of its own. Its transcript is one of those that
+//! threads may make of it; what is printed is compared with it but for the order of names in the last line, and for the lines that
+//! `NAME.either` names: each of its lines names some, with ` or ` between two and `nothing` for none, of which any may stand in place of
+//! the others. Beyond that the turns of each node have to be of its lines, in their order, and the last line to say whose each was.
+//! Threads may do otherwise each time: the words of a case can be given as often as it is to be tried.
 #![tactic(auto)]
 
 mod cases;
+mod courses;
 mod desk;
+mod either;
 mod files;
 mod real;
 mod records;
@@ -21,27 +29,38 @@ mod walks;
 use cases::serve_case;
 use desk::Desk;
 use run::empty_site;
+use std::marker::Sync;
 use std::process::ExitCode;
+use std::sync::Wait;
+use std::thread::Threads;
 use std::{env, fs, io};
+use verbs::Office;
 
 // Whether the plan of this name holds.
-fn plan_holds(rt: &HostRuntime, desk: &mut Desk, name: &str) -> io::Result<bool> {
+fn plan_holds<R: Threads + Wait + Sync>(
+    rt: &HostRuntime,
+    office: &mut Office<'_, R>,
+    name: &str,
+) -> io::Result<bool> {
     let path = format!(in rt.alloc(); "{name}.plan")?;
     let text = fs::read_to_string(rt, path.as_str())?;
-    qm_plans::holds(rt, desk, text.as_str())
+    qm_plans::holds(rt, office, text.as_str())
 }
 
 // Serves the cases, and counts those that pass and those that don't.
-fn serve_cases(rt: &HostRuntime) -> io::Result<(u32, u32)> {
+fn serve_cases<R: Threads + Wait + Sync>(rt: &HostRuntime, threads: &R) -> io::Result<(u32, u32)> {
     let mut passed = 0u32;
     let mut failed = 0u32;
     let mut site = empty_site(rt.alloc())?;
-    let mut desk = Desk::new(rt.alloc());
+    let mut office = Office {
+        threads,
+        desk: Desk::new(rt.alloc()),
+    };
     for word in env::args(rt)?.skip(1) {
         let passes = if let Some(name) = word.as_str().strip_prefix("@") {
-            plan_holds(rt, &mut desk, name)?
+            plan_holds(rt, &mut office, name)?
         } else {
-            let (passes, left) = serve_case(rt, word.as_str(), site)?;
+            let (passes, left) = serve_case(rt, threads, word.as_str(), site)?;
             site = left;
             passes
         };
@@ -56,7 +75,7 @@ fn serve_cases(rt: &HostRuntime) -> io::Result<(u32, u32)> {
 }
 
 fn main(rt: HostRuntime) -> io::Result<ExitCode> {
-    let (passed, failed) = serve_cases(&rt)?;
+    let (passed, failed) = serve_cases(&rt, &rt)?;
     println!(rt; "{passed} passed, {failed} failed")?;
     Ok(if failed == 0 {
         ExitCode::SUCCESS

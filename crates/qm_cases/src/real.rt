@@ -1,10 +1,13 @@
 // Runs of the program over real files.
-use crate::desk::{Desk, push_told, push_walk};
+use crate::desk::{Asked, Desk, push_walk};
 use crate::files::Files;
 use crate::run::{Ran, Site, run};
 use qm_files::FileDisk;
 use std::alloc::AllocError;
-use std::{fs, io, mem};
+use std::marker::Sync;
+use std::sync::Wait;
+use std::thread::Threads;
+use std::{fs, io, slice};
 
 // The folder of the files, which is made for a run of `init`.
 const FOLDER: &str = "files";
@@ -27,26 +30,42 @@ pub(crate) fn new_folder(rt: &HostRuntime) -> io::Result<()> {
     fs::create_dir(rt, FOLDER)
 }
 
-/// Runs the program over the files of the folder, tells of the run, and keeps the master and the first queue file that it left. The
-/// second queue file was asked for nothing, and so wasn't made.
-pub(crate) fn run_over_files(
+// Runs the program over the files of the folder, and tells of the run. Gives the master and the first queue file that it left; the
+// second one was asked for nothing, and so wasn't made.
+fn run_once<R: Threads + Wait + Sync>(
     rt: &HostRuntime,
+    threads: &R,
+    desk: &Desk,
+    told: &mut Vec<u8>,
+    words: &[String],
+) -> io::Result<Files> {
+    let alloc = rt.alloc();
+    let outside = desk.outside(&desk.script)?;
+    let site = desk.site(files(rt)?)?;
+    let ran = run(threads, alloc, words, outside, site)?;
+    let asked = Asked::all(words, &desk.script);
+    desk.push_told(told, &asked, &desk.files, &ran)?;
+    let Ran { site, turns, .. } = ran;
+    let Site { disk, .. } = site;
+    disk.close();
+    let mut left = Files::new(alloc);
+    *left.get_mut(0) = fs::read(rt, "files/master")?;
+    *left.get_mut(1) = fs::read(rt, "files/one")?;
+    let behind = slice::from_ref(&left);
+    push_walk(alloc, told, &asked, &desk.files, turns, behind)?;
+    Ok(left)
+}
+
+/// Runs the program over the files of the folder, tells of the run, and keeps the files that it left.
+pub(crate) fn run_over_files<R: Threads + Wait + Sync>(
+    rt: &HostRuntime,
+    threads: &R,
     desk: &mut Desk,
     told: &mut Vec<u8>,
     words: &[String],
 ) -> io::Result<()> {
-    let alloc = rt.alloc();
-    let outside = desk.outside(&desk.script)?;
-    let site = desk.site(files(rt)?)?;
-    let ran = run(alloc, words, outside, site)?;
-    push_told(alloc, told, &ran, usize::MAX)?;
-    let Ran { site, turns, .. } = ran;
-    let Site { disk, .. } = site;
-    disk.close();
-    let before = mem::replace(&mut desk.files, Files::new(alloc));
-    *desk.files.get_mut(0) = fs::read(rt, "files/master")?;
-    *desk.files.get_mut(1) = fs::read(rt, "files/one")?;
-    push_walk(alloc, told, words, &before, turns, &desk.files)?;
+    let left = run_once(rt, threads, desk, told, words)?;
+    desk.files = left;
     if fs::exists(rt, "files/two")? {
         told.extend_from_slice(b"queue file 2 was made\n")?;
     }

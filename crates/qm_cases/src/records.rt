@@ -75,6 +75,15 @@ impl Names {
         Ok(file)
     }
 
+    /// The bytes of these names, in which the name of a node stands for each `@`.
+    pub(crate) fn of_node(&self, names: &str, node: &str) -> Result<Vec<u8>, AllocError> {
+        let mut bytes = Vec::new(self.alloc);
+        for name in names.split_whitespace() {
+            push_of_node(&mut bytes, self.get(name), node)?;
+        }
+        Ok(bytes)
+    }
+
     /// Adds to a log so many times the records of the names behind the number.
     pub(crate) fn go_on(&self, file: &mut Vec<u8>, text: &str) -> Result<(), AllocError> {
         let (times, names) = number_and_rest(text);
@@ -85,6 +94,17 @@ impl Names {
         file.push(0)?;
         Ok(())
     }
+}
+
+// Adds bytes in which the name of a node stands for each `@`.
+fn push_of_node(bytes: &mut Vec<u8>, template: &[u8], node: &str) -> Result<(), AllocError> {
+    for byte in template {
+        match byte {
+            b'@' => bytes.extend_from_slice(node.as_bytes())?,
+            _ => bytes.push(*byte)?,
+        }
+    }
+    Ok(())
 }
 
 /// Adds to the log of a master so many epochs of the first node, from 1 on.

@@ -7,6 +7,9 @@ use qm_kinds::{Moment, NODES_LIMIT};
 use qm_program::{End, Outcome, Station, qman};
 use qm_symb::MemoryDevice;
 use std::alloc::{AllocError, Global};
+use std::marker::{Send, Sync};
+use std::sync::Wait;
+use std::thread::Threads;
 
 /// What a node has of its own: its clock, and what carries out its runs.
 pub(crate) type MemoryStation = Station<MemoryClock, Standard<MemoryDevice>>;
@@ -36,7 +39,8 @@ pub(crate) struct Ran<D: Disk + Drop> {
 }
 
 /// The program with these words. The clocks begin anew.
-pub(crate) fn run<D: Disk + Drop>(
+pub(crate) fn run<R: Threads + Wait + Sync, D: Disk + Drop + Send>(
+    threads: &R,
     alloc: Global,
     words: &[String],
     mut outside: Outside,
@@ -55,6 +59,7 @@ pub(crate) fn run<D: Disk + Drop>(
         turns,
         ..
     } = qman(
+        threads,
         alloc,
         words,
         &mut outside.source,

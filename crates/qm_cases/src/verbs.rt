@@ -4,21 +4,26 @@
 // of the record FOUND, queue file 1 of HEAD, FORM and QUEUE, and queue file 2 a byte that no run changes. `of N` chooses the file
 // that the next verbs speak of, the master with 0, and with 1, as `site` does, queue file 1: `records` makes it of the records of
 // these names, `more N` adds records to it N times, and `epochs N` the epochs 1 to N; `file` says its bytes, `behind` adds some, `cut`
-// leaves so many; `holds` tells whether it is the file of these records. `crash` is what a crash of that kind left of all within the run that was stopped last;
-// `unchanged` tells whether the last run left all as they were.
+// leaves so many; `holds` tells whether it is the file of these records. `crash` is what a crash of that kind left of all within the run
+// that was stopped last; `unchanged` tells whether the last run left all as they were.
 //
 // What is asked: `script` says its bytes, `text` adds some, `line`, `lines N`, `numbered N` (with a number for `#`) and `letters N`
-// too; `look` is the script of those runs that look; `clock` says the moments that are told. `reads`, `writes`, `calls` and
-// `devices` are the numbers of the calls that fail.
+// too; `each N NODES NAME` adds for each of the nodes, which have commas between their names, N times the bytes of the name, in which
+// the node's stands for each `@`; `look` is the script of those runs that look; `clock` says the moments that are told. `reads`,
+// `writes`, `calls` and `devices` are the numbers of the calls that fail.
 //
 // Runs: `run` and `stop` run the program with the words in quotes, and tell what it prints (with `last N` before it the last N
-// lines) and its end, if that isn't a good one; `over-files` does so over real files, in a new `folder`. Behind `stop`, `looks`
-// tells what is found after a crash of each kind and without one. `once` runs the program over the same files for each of its calls
-// on the disk, which fails, and at last with none that does; `from-there-on` has all calls fail from that one on; both tell of each
-// run, and what `looks` finds behind it, where that isn't what was told before. `cuts` and `raises` tell what is found of the file
-// when it is cut at each place, or has the byte there raised, and only where something else is found than at the place before.
-// `handed` tells what the devices took in the last run, `other-ends` a good end, and those of a run without memory and of one that
-// keeps no more turns.
+// lines) and its end, if that isn't a good one; `over-files` does so over real files, in a new `folder`. Of lines that one `either`
+// names, with ` or ` between them and `nothing` for none, whichever was printed is told as the first one; an `either` without lines
+// forgets them all. Of nodes at once the last line is told with its names in order; and that turns aren't those of the lines, where
+// they aren't.
+//
+// Behind `stop`, `looks` tells what is found after a crash of each kind and without one. `once` runs the program over the same files
+// for each of its calls on the disk, which fails, and at last with none that does; `from-there-on` has all calls fail from that one
+// on; both tell of each run, and what `looks` finds behind it, where that isn't what was told before. Of nodes at once they tell not
+// what was printed, but in how many turns the disk failed. `cuts` and `raises` tell what is found of the file when it is cut at each
+// place, or has the byte there raised, and only where something else is found than at the place before. `handed` tells what the
+// devices took in the last run, `other-ends` a good end, and those of a run without memory and of one that keeps no more turns.
 use crate::desk::{Desk, Failures, push_end};
 use crate::files::Spoil;
 use crate::real::{new_folder, run_over_files};
@@ -29,6 +34,9 @@ use qm_plans::{number_and_rest, numbers, push_bytes, push_line, push_times};
 use qm_program::End;
 use std::alloc::{AllocError, Global};
 use std::io;
+use std::marker::Sync;
+use std::sync::Wait;
+use std::thread::Threads;
 
 // The moments that a text names, in hundredths of a second from the base of the system time.
 fn moments(alloc: Global, text: &str) -> Result<Vec<Moment>, AllocError> {
@@ -55,6 +63,26 @@ fn push_lines(alloc: Global, script: &mut Vec<u8>, text: &str) -> Result<(), All
     let (times, line) = number_and_rest(text);
     let line = format!(in alloc; "{line}\n")?;
     push_times(script, times, line.as_bytes())
+}
+
+// Adds to a script, for each of these nodes, so many times the bytes of these names, in which the node's name stands for each `@`.
+fn push_each(desk: &mut Desk, text: &str) -> Result<(), AllocError> {
+    let (times, rest) = number_and_rest(text);
+    let (nodes, names) = rest.split_once(" ").unwrap_or((rest, ""));
+    for node in nodes.split(",") {
+        let lines = desk.names.of_node(names, node)?;
+        push_times(&mut desk.script, times, &lines)?;
+    }
+    Ok(())
+}
+
+// Says what may be printed in place of something else: a group of lines, or nothing.
+fn say_either(desk: &mut Desk, group: &str) -> Result<(), AllocError> {
+    if group.is_empty() {
+        desk.either.clear();
+        return Ok(());
+    }
+    desk.either.add(group)
 }
 
 // The files of a new site.
@@ -123,6 +151,7 @@ fn act_on_outside(desk: &mut Desk, verb: &str, text: &str) -> Result<bool, Alloc
         "line" => push_line(&mut desk.script, text)?,
         "lines" => push_lines(alloc, &mut desk.script, text)?,
         "numbered" => push_numbered(alloc, &mut desk.script, text)?,
+        "each" => push_each(desk, text)?,
         "letters" => push_times(&mut desk.script, number_and_rest(text).0, b"a")?,
         "text" => push_bytes(&mut desk.script, text)?,
         "look" => {
@@ -133,6 +162,7 @@ fn act_on_outside(desk: &mut Desk, verb: &str, text: &str) -> Result<bool, Alloc
         "writes" => desk.failing.writes = numbers(alloc, text)?,
         "calls" => desk.failing.calls = numbers(alloc, text)?,
         "devices" => desk.failing.devices = numbers(alloc, text)?,
+        "either" => say_either(desk, text)?,
         "clock" => desk.moments = moments(alloc, text)?,
         "last" => desk.last = number_and_rest(text).0,
         _ => return Ok(false),
@@ -141,8 +171,9 @@ fn act_on_outside(desk: &mut Desk, verb: &str, text: &str) -> Result<bool, Alloc
 }
 
 // What makes a run, or more.
-fn run_by(
+fn run_by<R: Threads + Wait + Sync>(
     rt: &HostRuntime,
+    threads: &R,
     desk: &mut Desk,
     told: &mut Vec<u8>,
     verb: &str,
@@ -150,13 +181,18 @@ fn run_by(
 ) -> io::Result<()> {
     match verb {
         "run" => {
-            let _ = desk.run(told, &words_of(desk.alloc, text)?)?;
+            let _ = desk.run(threads, told, &words_of(desk.alloc, text)?)?;
         }
-        "stop" => desk.stopped = desk.run(told, &words_of(desk.alloc, text)?)?,
-        "looks" => desk.look_behind(told, &desk.stopped)?,
-        "once" => desk.run_failing(told, &words_of(desk.alloc, text)?, Failures::Once)?,
+        "stop" => desk.stopped = desk.run(threads, told, &words_of(desk.alloc, text)?)?,
+        "looks" => desk.look_behind(threads, told, &desk.stopped)?,
+        "once" => desk.run_failing(threads, told, &words_of(desk.alloc, text)?, Failures::Once)?,
         "from-there-on" => {
-            desk.run_failing(told, &words_of(desk.alloc, text)?, Failures::FromThereOn)?;
+            desk.run_failing(
+                threads,
+                told,
+                &words_of(desk.alloc, text)?,
+                Failures::FromThereOn,
+            )?;
         }
         "cuts" | "raises" => {
             let (first, last) = number_and_rest(text);
@@ -165,7 +201,7 @@ fn run_by(
             } else {
                 Spoil::Raised
             };
-            desk.look_at_spoiled(told, spoil, first, number_and_rest(last).0)?;
+            desk.look_at_spoiled(threads, told, spoil, first, number_and_rest(last).0)?;
         }
         "handed" => {
             told.extend_from_slice(&desk.handed)?;
@@ -177,14 +213,21 @@ fn run_by(
             push_end(desk.alloc, told, End::HistoryFull)?;
         }
         "folder" => new_folder(rt)?,
-        "over-files" => run_over_files(rt, desk, told, &words_of(desk.alloc, text)?)?,
+        "over-files" => run_over_files(rt, threads, desk, told, &words_of(desk.alloc, text)?)?,
         "" | "#" => {}
         _ => push_line(told, "no such verb")?,
     }
     Ok(())
 }
 
-impl qm_plans::Desk for Desk {
+/// A desk, and what starts the threads of its runs.
+#[derive(Drop)]
+pub(crate) struct Office<'a, R> {
+    pub(crate) threads: &'a R,
+    pub(crate) desk: Desk,
+}
+
+impl<'a, R: Threads + Wait + Sync> qm_plans::Desk for Office<'a, R> {
     fn act(
         &mut self,
         rt: &HostRuntime,
@@ -192,12 +235,13 @@ impl qm_plans::Desk for Desk {
         verb: &str,
         text: &str,
     ) -> io::Result<()> {
-        if act_on_file(self, verb, text)?
-            || act_on_files(self, told, verb, text)?
-            || act_on_outside(self, verb, text)?
+        let desk = &mut self.desk;
+        if act_on_file(desk, verb, text)?
+            || act_on_files(desk, told, verb, text)?
+            || act_on_outside(desk, verb, text)?
         {
             return Ok(());
         }
-        run_by(rt, self, told, verb, text)
+        run_by(rt, self.threads, desk, told, verb, text)
     }
 }

@@ -7,7 +7,8 @@ use crate::files::Files;
 use qm_database::{Closed, Loaded};
 use qm_disk::MemoryDisk;
 use qm_history::{Event, Turn, World};
-use qm_restore::Bodies;
+use qm_kinds::Name;
+use qm_restore::{Bodies, restore};
 use qm_world::{WalkEnd, first_world, texts_of, walk};
 use std::alloc::{AllocError, Global};
 
@@ -70,13 +71,40 @@ fn hold_log(alloc: Global, files: &Files, world: &World) -> Result<bool, AllocEr
     Ok(holds(&file, &texts, world.log.as_slice().len()))
 }
 
-/// Whether turns lead from the world with which a program begins on the files to one whose log is what the files hold behind them.
-/// Where no program can begin there, there is no turn.
+// Whether all of these files hold it.
+fn all_hold_log(alloc: Global, all: &[Files], world: &World) -> Result<bool, AllocError>
+    requires { IsSound HasSpelling world.now }
+{
+    for files in all {
+        if !hold_log(alloc, files, world)? {
+            return Ok(false);
+        }
+    }
+    Ok(true)
+}
+
+/// The names of the site's nodes in the cluster's order; none where the files are no site's.
+pub(crate) fn names_of(alloc: Global, files: &Files) -> Result<Vec<Name>, AllocError> {
+    let mut names = Vec::new(alloc);
+    let Some(file) = live_file(alloc, files)? else {
+        return Ok(names);
+    };
+    let Ok(image) = restore(alloc, &file) else {
+        return Ok(names);
+    };
+    for node in image.nodes() {
+        names.push(node.name)?;
+    }
+    Ok(names)
+}
+
+/// Whether turns lead from the world with which a program begins on the files to one whose log is what each of these files hold that
+/// may be there behind them. Where no program can begin there, there is no turn.
 pub(crate) fn lead_on(
     alloc: Global,
     before: &Files,
     turns: Vec<Turn>,
-    behind: &Files,
+    behind: &[Files],
 ) -> Result<bool, AllocError> {
     let events = events_of(alloc, turns)?;
     let Some(file) = live_file(alloc, before)? else {
@@ -86,7 +114,7 @@ pub(crate) fn lead_on(
         return Ok(events.is_empty());
     };
     match walk(alloc, &start, &events) {
-        Ok(world) => hold_log(alloc, behind, &world),
+        Ok(world) => all_hold_log(alloc, behind, &world),
         Err(WalkEnd::Illegal { .. }) => Ok(false),
         Err(WalkEnd::NoMemory) => Err(AllocError),
     }
