@@ -2,7 +2,7 @@
 use qm_batch::Standard;
 use qm_disk::{Disk, MemoryDisk};
 use qm_history::Turn;
-use qm_io::{MemoryClock, MemorySink, MemorySource};
+use qm_io::{Clock, MemorySink, MemorySource};
 use qm_kinds::{Moment, NODES_LIMIT};
 use qm_program::{End, Outcome, Station, qman};
 use qm_symb::MemoryDevice;
@@ -11,8 +11,31 @@ use std::marker::{Send, Sync};
 use std::sync::Wait;
 use std::thread::Threads;
 
+/// A clock that tells these moments, and then the last of them for ever. What it told isn't kept, not even for proofs, so that it may go
+/// to a thread.
+#[derive(Drop)]
+pub(crate) struct DeskClock {
+    moments: Vec<Moment>,
+    told: usize,
+    last: Moment,
+}
+
+impl Clock for DeskClock {
+    ghost use Rattle.std.specs.Prelude.{None};
+
+    ghost told = { λ clock. None };
+
+    fn tell(&mut self) -> Moment {
+        if let Some(moment) = self.moments.get(self.told) {
+            self.last = *moment;
+            self.told += 1;
+        }
+        self.last
+    }
+}
+
 /// What a node has of its own: its clock, and what carries out its runs.
-pub(crate) type MemoryStation = Station<MemoryClock, Standard<MemoryDevice>>;
+pub(crate) type MemoryStation = Station<DeskClock, Standard<MemoryDevice>>;
 
 /// The disk of a site, and what each node has of its own, as many as a site can have.
 #[derive(Drop)]
@@ -85,12 +108,12 @@ pub(crate) fn outside_of(alloc: Global, text: Vec<u8>, moments: Vec<Moment>) -> 
 }
 
 // A clock that tells these moments; the base of the system time where there is none.
-fn clock_of(alloc: Global, moments: &[Moment]) -> Result<MemoryClock, AllocError> {
-    Ok(MemoryClock::new(if moments.is_empty() {
-        vec![in alloc; Moment::BASE]?
-    } else {
-        moments.to_vec(alloc)?
-    }))
+fn clock_of(alloc: Global, moments: &[Moment]) -> Result<DeskClock, AllocError> {
+    Ok(DeskClock {
+        moments: moments.to_vec(alloc)?,
+        told: 0,
+        last: Moment::BASE,
+    })
 }
 
 /// What the nodes of a site have of their own: devices that took nothing, of which each node's fail at the calls of these numbers.

@@ -1,13 +1,13 @@
 // The nodes of a cluster at once.
 
 use crate::expected::{lines_of_all, names_of, push_leave, push_lines, push_turns, whys, whys_of};
-use crate::nodes::{Doors, Meeting, MeetingDevice, station_of};
+use crate::nodes::{Doors, Meeting, MeetingDevice};
 use crate::recorder::Recorder;
 use qm_batch::Standard;
 use qm_course::Station;
 use qm_drive::DriveEnd;
 use qm_history::{Turn, Why};
-use qm_io::{MemoryClock, MemorySink};
+use qm_io::{Clock, MemorySink};
 use qm_kinds::{Moment, NODES_LIMIT, Name, Seq};
 use qm_nodes::{LeftText, MadeTurns, make_turns, print_all};
 use qm_script::UserLine;
@@ -18,6 +18,28 @@ use std::sync::Wait;
 use std::sync::atomic::AtomicUsize;
 use std::test::Fail;
 use std::thread::Threads;
+
+// A clock that stands at the base of the system time. What it told isn't kept, not even for proofs, so that it may go to a thread.
+#[derive(Drop)]
+struct StillClock;
+
+impl Clock for StillClock {
+    ghost use Rattle.std.specs.Prelude.{None};
+
+    ghost told = { λ clock. None };
+
+    fn tell(&mut self) -> Moment {
+        Moment::BASE
+    }
+}
+
+// What a node has of its own, over this device.
+fn station_of<D: Device>(alloc: Global, device: D) -> Station<StillClock, Standard<D>> {
+    Station {
+        clock: StillClock,
+        symbiont: Standard::new(alloc, device),
+    }
+}
 
 // What the turns of all nodes left: what was asked for, how each node's turns ended, and all that is printed.
 #[derive(Drop)]
@@ -34,7 +56,7 @@ fn make_all<'a, R: Threads + Wait + Sync, D: Device + Send>(
     jobs: bool,
     names: Vec<Name>,
     lines: Vec<Vec<UserLine<'a>>>,
-    stations: &mut [Station<MemoryClock, Standard<D>>],
+    stations: &mut [Station<StillClock, Standard<D>>],
 ) -> Option<Left> {
     let count = names.len();
     if count == 0 || count > NODES_LIMIT || lines.len() != count || stations.len() != count {
@@ -62,7 +84,7 @@ fn make_lines<R: Threads + Wait + Sync>(rt: &R, alloc: Global, counts: &[u32]) -
     let lines = lines_of_all(alloc, &text, counts)?;
     let mut stations = Vec::new(alloc);
     for _ in counts {
-        let station = station_of(alloc, MemoryDevice::new(alloc, Vec::new(alloc))).ok()?;
+        let station = station_of(alloc, MemoryDevice::new(alloc, Vec::new(alloc)));
         stations.push(station).ok()?;
     }
     make_all(rt, alloc, false, names, lines, &mut stations)
@@ -120,7 +142,7 @@ fn meeting_nodes<R: Threads + Wait + Sync>(rt: &R, alloc: Global) -> Option<(boo
     let mut stations = Vec::new(alloc);
     for is_first in [true, false] {
         let meeting = Meeting::new(doors, is_first);
-        let station = station_of(alloc, MeetingDevice { meeting }).ok()?;
+        let station = station_of(alloc, MeetingDevice { meeting });
         stations.push(station).ok()?;
     }
     let left = make_all(rt, alloc, true, names, lines, &mut stations)?;

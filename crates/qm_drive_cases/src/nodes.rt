@@ -113,8 +113,8 @@ pub(crate) struct Driven<G> {
     pub(crate) gate: G,
 }
 
-/// What a node has of its own, over this device.
-pub(crate) fn station_of<D: Device + Drop>(
+// What a node has of its own, over this device.
+fn station_of<D: Device + Drop>(
     alloc: Global,
     device: D,
 ) -> Result<Station<MemoryClock, Standard<D>>, AllocError> {
