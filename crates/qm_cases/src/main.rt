@@ -34,17 +34,18 @@ use std::process::ExitCode;
 use std::sync::Wait;
 use std::thread::Threads;
 use std::{env, fs, io};
-use verbs::Office;
+use verbs::holds;
 
 // Whether the plan of this name holds.
 fn plan_holds<R: Threads + Wait + Sync>(
     rt: &HostRuntime,
-    office: &mut Office<'_, R>,
+    threads: &R,
+    desk: &mut Desk,
     name: &str,
 ) -> io::Result<bool> {
     let path = format!(in rt.alloc(); "{name}.plan")?;
     let text = fs::read_to_string(rt, path.as_str())?;
-    qm_plans::holds(rt, office, text.as_str())
+    holds(rt, threads, desk, text.as_str())
 }
 
 // Serves the cases, and counts those that pass and those that don't.
@@ -52,13 +53,10 @@ fn serve_cases<R: Threads + Wait + Sync>(rt: &HostRuntime, threads: &R) -> io::R
     let mut passed = 0u32;
     let mut failed = 0u32;
     let mut site = empty_site(rt.alloc())?;
-    let mut office = Office {
-        threads,
-        desk: Desk::new(rt.alloc()),
-    };
+    let mut desk = Desk::new(rt.alloc());
     for word in env::args(rt)?.skip(1) {
         let passes = if let Some(name) = word.as_str().strip_prefix("@") {
-            plan_holds(rt, &mut office, name)?
+            plan_holds(rt, threads, &mut desk, name)?
         } else {
             let (passes, left) = serve_case(rt, threads, word.as_str(), site)?;
             site = left;

@@ -220,28 +220,71 @@ fn run_by<R: Threads + Wait + Sync>(
     Ok(())
 }
 
-/// A desk, and what starts the threads of its runs.
-#[derive(Drop)]
-pub(crate) struct Office<'a, R> {
-    pub(crate) threads: &'a R,
-    pub(crate) desk: Desk,
+// Does what a verb of a plan says, and adds what it tells.
+fn act<R: Threads + Wait + Sync>(
+    rt: &HostRuntime,
+    threads: &R,
+    desk: &mut Desk,
+    told: &mut Vec<u8>,
+    verb: &str,
+    text: &str,
+) -> io::Result<()> {
+    if act_on_file(desk, verb, text)?
+        || act_on_files(desk, told, verb, text)?
+        || act_on_outside(desk, verb, text)?
+    {
+        return Ok(());
+    }
+    run_by(rt, threads, desk, told, verb, text)
 }
 
-impl<'a, R: Threads + Wait + Sync> qm_plans::Desk for Office<'a, R> {
-    fn act(
-        &mut self,
-        rt: &HostRuntime,
-        told: &mut Vec<u8>,
-        verb: &str,
-        text: &str,
-    ) -> io::Result<()> {
-        let desk = &mut self.desk;
-        if act_on_file(desk, verb, text)?
-            || act_on_files(desk, told, verb, text)?
-            || act_on_outside(desk, verb, text)?
-        {
-            return Ok(());
-        }
-        run_by(rt, self.threads, desk, told, verb, text)
+// Adds what a line behind a `|` says is told: the text behind the blank, as often as the number in front of it says.
+fn push_wanted(wanted: &mut Vec<u8>, line: &str) -> Result<(), AllocError> {
+    let (times, text) = line.split_once(" ").unwrap_or((line, ""));
+    for _ in 0..times.parse::<usize>().unwrap_or(1) {
+        push_bytes(wanted, text)?;
+        wanted.push(b'\n')?;
     }
+    Ok(())
+}
+
+// Whether what was told is what is wanted. Where it isn't, it is printed with the number of the line behind it.
+fn is_told(
+    rt: &HostRuntime,
+    told: &mut Vec<u8>,
+    wanted: &mut Vec<u8>,
+    line: usize,
+) -> io::Result<bool> {
+    let holds = told.as_slice() == wanted.as_slice();
+    if !holds {
+        println!(rt; "before line {line} was told: {told:?}")?;
+    }
+    told.clear();
+    wanted.clear();
+    Ok(holds)
+}
+
+/// Follows a plan, and tells whether each of its verbs told what the plan says, as `qm_plans` does it. The verbs start threads, and no
+/// method of a trait can hand what it knows of a handle to them, so they are no desk of that crate.
+pub(crate) fn holds<R: Threads + Wait + Sync>(
+    rt: &HostRuntime,
+    threads: &R,
+    desk: &mut Desk,
+    plan: &str,
+) -> io::Result<bool> {
+    let mut holds = true;
+    let mut lines = 0usize;
+    let mut told = Vec::new(rt.alloc());
+    let mut wanted = Vec::new(rt.alloc());
+    for line in plan.lines() {
+        lines = lines.saturating_add(1);
+        if let Some(text) = line.strip_prefix("|") {
+            push_wanted(&mut wanted, text)?;
+        } else {
+            holds = is_told(rt, &mut told, &mut wanted, lines)? && holds;
+            let (verb, text) = line.split_once(" ").unwrap_or((line, ""));
+            act(rt, threads, desk, &mut told, verb, text)?;
+        }
+    }
+    Ok(is_told(rt, &mut told, &mut wanted, lines)? && holds)
 }
