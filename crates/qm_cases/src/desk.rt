@@ -267,9 +267,9 @@ impl Desk {
         failing: &[u64],
     ) -> Result<Ran<MemoryDisk>, AllocError> {
         let mut asked = Asked::all(words, &self.script);
-        asked.behind = Behind::Crashed;
         if asked.is_at_once() {
             asked.last = 0;
+            asked.behind = Behind::Crashed;
         }
         let ran = self.run_over(threads, told, &asked, &self.files, failing)?;
         if asked.is_at_once() {
