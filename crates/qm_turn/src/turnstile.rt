@@ -12,15 +12,21 @@ use crate::told::{Task, Told};
 use crate::view::View;
 use atomic_table::{Refused, Seat, Table};
 use std::alloc::{AllocFailed, Global};
+use std::array;
 use std::marker::{Brand, Model};
 use std::snapshot::Snapshot;
 use std::sync::Wait;
-use std::thread;
+use std::thread::Parker;
+
+// The most passes, and so the most tickets that wait at a time.
+const MOST_PASSES: usize = 64;
 
 /// A value on which threads work in turns. Contracts see an `Opened`: which turnstile it is, and with how many passes it opened.
 #[derive(Drop)]
 pub struct Turnstile<V: Told> {
     table: Table<Option<V>, View<V::Note>, u32, Order<V>, Global>,
+    // Who waits with a ticket sleeps by the bell of its number, counted around: no two that wait have the same one.
+    bells: [Parker; MOST_PASSES],
 }
 
 impl<V: Told> Model for Turnstile<V> {
@@ -95,7 +101,8 @@ impl<V: Told> Turnstile<V> {
         };
         match Table::new(alloc, &[0, 0], slots, &passes) {
             Ok((table, first)) => {
-                let turnstile = Turnstile { table };
+                let bells = array::from_fn(|_| Parker::new());
+                let turnstile = Turnstile { table, bells };
                 let list = turnstile.split(first, passes, list);
                 Ok((turnstile, list))
             }
@@ -136,7 +143,13 @@ impl<V: Told> Turnstile<V> {
         self.table.shared.fetch_add::<Draw>(seat, 1, 1)
     }
 
-    // Waits until the ticket is served, which gives the seat the value.
+    // The bell of a ticket.
+    fn bell(&self, ticket: u64) -> &Parker {
+        &self.bells[ticket as usize % MOST_PASSES]
+    }
+
+    // Waits until the ticket is served, which gives the seat the value. It sleeps meanwhile, and leaves the processors to those in
+    // front of it and to what they wait for.
     fn look<R: Wait>(&self, rt: &R, seat: &mut Stand<V>, ticket: u64)
         requires here { seat.old.table_id ≡ self.now.place }
         requires waits { (seat.old.me.0.phase ≡ Waits ticket) × (seat.old.me.1 ≡ []) }
@@ -147,7 +160,7 @@ impl<V: Told> Turnstile<V> {
             if self.table.shared.load::<Look<V>>(seat, 0) == ticket {
                 return;
             }
-            thread::yield_now();
+            self.bell(ticket).park(rt);
         }
         unreachable!()
     }
@@ -166,7 +179,7 @@ impl<V: Told> Turnstile<V> {
         }
     }
 
-    // Puts the value back, and lets the next ticket be served.
+    // Puts the value back, lets the next ticket be served, and wakes who has it.
     fn pass_on<J: Noted<V::Note>, W: Task<V>>(
         &self,
         seat: &mut Stand<V>,
@@ -182,7 +195,8 @@ impl<V: Told> Turnstile<V> {
     {
         let was = self.table.shared.exchange(seat, 0, Some(value));
         let None = was else { unreachable!() };
-        self.table.shared.fetch_add::<PassOn<J>>(seat, 0, 1);
+        let served = self.table.shared.fetch_add::<PassOn<J>>(seat, 0, 1);
+        self.bell(served.wrapping_add(1)).unpark();
     }
 
     // One turn of a seat that may draw a ticket.
@@ -259,7 +273,7 @@ impl<V: Told> Turnstile<V> {
         requires last { IsLast self.passes pass }
         ensures { Closed V.stands self.passes pass result }
     {
-        let Turnstile { table } = self;
+        let Turnstile { table, bells: _ } = self;
         let mut closed = table.close_with(pass.into_seat());
         let slot = closed.take(0);
         closed.free();

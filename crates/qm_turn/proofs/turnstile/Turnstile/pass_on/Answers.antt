@@ -4,8 +4,8 @@ use Rattle.qm_turn.specs.History.{notes}
 use Rattle.qm_turn.proofs.Passing.{passes_on}
 use Rattle.qm_turn.proofs.turnstile.Turnstile.pass_on.Goals as goal
 
-pub fetch_add-requires : goal.fetch_add-requires
-fetch_add-requires g c =
+pub fetch_add-served-requires : goal.fetch_add-served-requires
+fetch_add-served-requires g c =
     let e = c.exchange-was.ensures in
     let was = ap (λ m. m.0) e.3 in
     let gone = ap (λ m. m.1) e.3 ∙ ap (λ r. (0, Some c.args.value) ∷ rest r) c.requires.empty in (
