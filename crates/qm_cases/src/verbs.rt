@@ -30,7 +30,7 @@ use crate::real::{new_folder, run_over_files};
 use crate::records::push_epochs;
 use crate::run::words_of;
 use qm_kinds::Moment;
-use qm_plans::{number_and_rest, numbers, push_bytes, push_line, push_times};
+use qm_plans::{is_told, number_and_rest, numbers, push_bytes, push_line, push_times, push_wanted};
 use qm_program::End;
 use std::alloc::{AllocError, Global};
 use std::io;
@@ -238,34 +238,8 @@ fn act<R: Threads + Wait + Sync>(
     run_by(rt, threads, desk, told, verb, text)
 }
 
-// Adds what a line behind a `|` says is told: the text behind the blank, as often as the number in front of it says.
-fn push_wanted(wanted: &mut Vec<u8>, line: &str) -> Result<(), AllocError> {
-    let (times, text) = line.split_once(" ").unwrap_or((line, ""));
-    for _ in 0..times.parse::<usize>().unwrap_or(1) {
-        push_bytes(wanted, text)?;
-        wanted.push(b'\n')?;
-    }
-    Ok(())
-}
-
-// Whether what was told is what is wanted. Where it isn't, it is printed with the number of the line behind it.
-fn is_told(
-    rt: &HostRuntime,
-    told: &mut Vec<u8>,
-    wanted: &mut Vec<u8>,
-    line: usize,
-) -> io::Result<bool> {
-    let holds = told.as_slice() == wanted.as_slice();
-    if !holds {
-        println!(rt; "before line {line} was told: {told:?}")?;
-    }
-    told.clear();
-    wanted.clear();
-    Ok(holds)
-}
-
-/// Follows a plan, and tells whether each of its verbs told what the plan says, as `qm_plans` does it. The verbs start threads, and no
-/// method of a trait can hand what it knows of a handle to them, so they are no desk of that crate.
+/// Follows a plan, and tells whether each of its verbs told what the plan says, as `qm_plans` does it with a desk. The verbs here
+/// start threads.
 pub(crate) fn holds<R: Threads + Wait + Sync>(
     rt: &HostRuntime,
     threads: &R,

@@ -15,8 +15,8 @@ pub trait Desk {
     ) -> io::Result<()>;
 }
 
-// Adds what a line behind a `|` says is told: the text behind the blank, as often as the number in front of it says.
-fn push_wanted(wanted: &mut Vec<u8>, line: &str) -> Result<(), AllocError> {
+/// Adds what a line behind a `|` says is told: the text behind the blank, as often as the number in front of it says.
+pub fn push_wanted(wanted: &mut Vec<u8>, line: &str) -> Result<(), AllocError> {
     let (times, text) = line.split_once(" ").unwrap_or((line, ""));
     for _ in 0..times.parse::<usize>().unwrap_or(1) {
         push_bytes(wanted, text)?;
@@ -25,8 +25,8 @@ fn push_wanted(wanted: &mut Vec<u8>, line: &str) -> Result<(), AllocError> {
     Ok(())
 }
 
-// Whether what was told is what is wanted. Where it isn't, it is printed with the number of the line behind it.
-fn is_told(
+/// Whether what was told is what is wanted. Where it isn't, it is printed with the number of the line behind it. Both are cleared.
+pub fn is_told(
     rt: &HostRuntime,
     told: &mut Vec<u8>,
     wanted: &mut Vec<u8>,
@@ -41,7 +41,8 @@ fn is_told(
     Ok(holds)
 }
 
-/// Follows a plan, and tells whether each of its verbs told what the plan says.
+/// Follows a plan, and tells whether each of its verbs told what the plan says. (A desk whose verbs start threads follows it by a loop of
+/// its own, since no method of a trait can hand what it knows of a handle to them.)
 pub fn holds<D: Desk>(rt: &HostRuntime, desk: &mut D, plan: &str) -> io::Result<bool> {
     let mut holds = true;
     let mut lines = 0usize;
