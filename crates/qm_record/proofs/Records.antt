@@ -18,7 +18,7 @@ use Rattle.qm_record.specs.declared.fault.RecordFault.TheVariants.{Bad, NoMemory
 use Rattle.qm_record.specs.declared.kind.RecordKind.{RecordKind}
 use Rattle.qm_record.specs.Kinds.{number_of, is_row_kind}
 use Rattle.qm_record.specs.Spelling.{body_parts, fields_in, text_of, record_text, HasSpelling}
-use Rattle.qm_record.specs.Reading.{record_at, body_at, last_moment, last_node, ended, whole_at, left_by, TellsWhole}
+use Rattle.qm_record.specs.Reading.{record_at, body_at, last_moment, last_node, ended, whole_at, left_by, completed, TellsWhole}
 use Rattle.qm_record.specs.Faults.{Begins, IsFirstFault, IsRecord, IsRead}
 use Rattle.qm_record.proofs.Bodies.{BodyFor, kind_in, body_reader, has_parts, row_by_kind}
 use Rattle.qm_record.proofs.Numbers.{kind_reader}
@@ -279,24 +279,20 @@ whole_left bytes middle rest m n k (Ok (Ok b)) left e g h = rw (e, g) (ended_bef
 whole_left bytes middle rest m n k (Ok (Err no_memory)) left e g h = rw (e, g.1) (ended_before (record_of m n g.0) rest left h)
 whole_left bytes middle rest m n k (Err fault) left e g h = rw (e, g) (ap failed (same_number fault.left left h))
 
-pub whole_kept : {E : Type 0} (bytes middle rest : List ℕ) (m n : ℕ) (k : RecordKind) (b : Body)
+whole_kept : (bytes middle rest : List ℕ) (m n : ℕ) (k : RecordKind) (b : Body)
+    → record_at bytes ≡ behind m n k middle → body_at k middle ≡ Ok (b, rest)
+    → cond (eqb (length rest) 0) None (Some (length rest)) ≡ None → whole_at bytes ≡ Ok (record_of m n b)
+unfolding whole_at
+whole_kept bytes middle rest m n k b e g h = rw (e, g) (ended_there (record_of m n b) rest h)
+
+pub whole_completed : {E : Type 0} (bytes middle rest : List ℕ) (m n : ℕ) (k : RecordKind)
     (read : Result (Result Body E) BadField)
     → record_at bytes ≡ behind m n k middle → GivesKept read rest (body_at k middle)
-    → left_by read rest ≡ None → read ≡ Ok (Ok b) → whole_at bytes ≡ Ok (record_of m n b)
-unfolding whole_at
-whole_kept bytes middle rest m n k b (Ok (Ok other)) e g h is =
-    let same : other ≡ b = cc in rw (e, g) (ended_there (record_of m n other) rest h ∙ ap (λ x. done (record_of m n x)) same)
-whole_kept bytes middle rest m n k b (Ok (Err no_memory)) e g h is = absurd cc
-whole_kept bytes middle rest m n k b (Err fault) e g h is = absurd cc
-
-pub whole_lost : {E : Type 0} (bytes middle rest : List ℕ) (m n : ℕ) (k : RecordKind) (read : Result (Result Body E) BadField)
-    → record_at bytes ≡ behind m n k middle → GivesKept read rest (body_at k middle)
-    → left_by read rest ≡ None → (r : Record) × (whole_at bytes ≡ Ok r)
-unfolding whole_at
-whole_lost bytes middle rest m n k (Ok (Ok b)) e g h = (record_of m n b, rw (e, g) (ended_there (record_of m n b) rest h))
-whole_lost bytes middle rest m n k (Ok (Err no_memory)) e g h =
-    (record_of m n g.0, rw (e, g.1) (ended_there (record_of m n g.0) rest h))
-whole_lost bytes middle rest m n k (Err fault) e g h = absurd cc
+    → left_by read rest ≡ None → TellsWhole (completed m n read) bytes (whole_at bytes)
+whole_completed bytes middle rest m n k (Ok (Ok b)) e g h = whole_kept bytes middle rest m n k b e g h
+whole_completed bytes middle rest m n k (Ok (Err no_memory)) e g h =
+    (record_of m n g.0, whole_kept bytes middle rest m n k g.0 e g.1 h)
+whole_completed bytes middle rest m n k (Err fault) e g h = absurd cc
 
 -- a fault at its place
 

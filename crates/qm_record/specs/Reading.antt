@@ -437,6 +437,12 @@ abbrev pub left_by : {X : Type 0} → Result X BadField → List ℕ → Option 
 left_by (Ok x) rest = if length rest == 0 then None else Some (length rest)
 left_by (Err fault) rest = Some fault.left
 
+-- the record of a body that was read whole, or that memory ran out for it
+abbrev pub completed : {E : Type 0} → ℕ → ℕ → Result (Result Body E) BadField → Result Record RecordFault
+completed m n (Ok (Ok b)) = Ok (record { moment = m; node = n; body = b })
+completed m n (Ok (Err no_memory)) = Err NoMemory
+completed m n (Err fault) = Err NoMemory
+
 -- What is told of the whole, at its place in the bytes. Where memory ran out there is a record.
 abbrev pub TellsWhole : Result Record RecordFault → List ℕ → Result Record ℕ → Type 0
 TellsWhole (Ok r) bytes read = read ≡ Ok r

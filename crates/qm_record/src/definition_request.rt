@@ -4,6 +4,7 @@ ghost use Rattle.qm_bytes.specs.Reading.{GivesKept};
 ghost use Rattle.qm_record.specs.Spelling.{characteristic as characteristic_text, CharacteristicFits};
 ghost use Rattle.qm_record.specs.Reading.{define_form_at, delete_form_at, define_characteristic_at, delete_characteristic_at};
 
+use crate::field::put_byte;
 use crate::row::read_form;
 use qm_bytes::{BadField, put_name, read_byte, read_name};
 use qm_kinds::{Body, Characteristic, Request};
@@ -38,8 +39,7 @@ pub(crate) fn put_characteristic(
     ensures lawful { OnOk result (CharacteristicFits characteristic.now) }
 {
     put_name(out, &characteristic.name)?;
-    out.push(characteristic.number)?;
-    Ok(())
+    put_byte(out, characteristic.number)
 }
 
 /// Reads the fields of a request to define a characteristic.

@@ -1,5 +1,5 @@
 // What lists and optional fields are made of.
-ghost use Rattle.std.specs.Prelude.{◌≡◌, ◌<◌, ◌^◌, ◌++◌, ℕ, List, length, OnOk, IfOk};
+ghost use Rattle.std.specs.Prelude.{◌≡◌, ◌<◌, ◌^◌, ◌++◌, ℕ, List, Ok, length, OnOk, IfOk};
 ghost use Rattle.std.specs.List.{AllByRecursion};
 ghost use Rattle.qm_bytes.specs.Spelling.{short_bytes, low_first, byte, truth, moment, each, list, optional, IsName, IsMoment, IsList, AllOf};
 ghost use Rattle.qm_bytes.specs.Reading.{Reader, Gives, GivesKept, name_at, number_at, truth_at, moment_at, list_at, optional_at, repeat_at};
@@ -7,8 +7,8 @@ ghost use Rattle.qm_record.specs.Spelling.{node, name_or_number, queue_retain, j
 ghost use Rattle.qm_record.specs.Reading.{Passes, byte_at, node_at, name_or_number_at, queue_retain_at, job_retain_at, limits_at};
 
 use crate::field::{
-    put_job_retain, put_limits, put_name_or_number, put_node, queue_retain_code, read_job_retain,
-    read_limits, read_name_or_number, read_node, read_queue_retain,
+    put_byte, put_job_retain, put_limits, put_name_or_number, put_node, queue_retain_code,
+    read_job_retain, read_limits, read_name_or_number, read_node, read_queue_retain,
 };
 use qm_bytes::{
     BadField, Width, put_name, put_number, put_optional_moment, put_truth, read_byte, read_name,
@@ -95,8 +95,7 @@ impl Element for u8 {
     }
 
     fn put(&self, out: &mut Vec<u8>) -> Result<(), AllocError> {
-        out.push(*self)?;
-        Ok(())
+        put_byte(out, *self)
     }
 }
 
@@ -145,8 +144,7 @@ impl Element for QueueRetain {
     }
 
     fn put(&self, out: &mut Vec<u8>) -> Result<(), AllocError> {
-        out.push(queue_retain_code(*self))?;
-        Ok(())
+        put_byte(out, queue_retain_code(*self))
     }
 }
 
@@ -271,13 +269,12 @@ pub(crate) fn put_optional<T: Element>(
     ensures lawful { OnOk result (AllOf T.fits value.now) }
 {
     match value {
-        None => out.push(0)?,
+        None => put_byte(out, 0),
         Some(value) => {
-            out.push(1)?;
-            value.put(out)?;
+            put_byte(out, 1)?;
+            value.put(out)
         }
     }
-    Ok(())
 }
 
 /// Reads a value, or none.
@@ -302,13 +299,12 @@ pub(crate) fn put_optional_list<T: Element>(
     ensures lawful { OnOk result (AllOf (IsList T.fits) items.now) }
 {
     match items {
-        None => out.push(0)?,
+        None => put_byte(out, 0),
         Some(items) => {
-            out.push(1)?;
-            put_list(out, items)?;
+            put_byte(out, 1)?;
+            put_list(out, items)
         }
     }
-    Ok(())
 }
 
 /// Reads a list, or none. An error in it says that memory ran out for it, behind which reading goes on.
@@ -325,5 +321,18 @@ pub(crate) fn read_optional_list<T: Element>(
     match read_list(alloc, bytes)? {
         Ok(items) => Ok(Ok(Some(items))),
         Err(fault) => Ok(Err(fault)),
+    }
+}
+
+/// Two values that were read, unless memory ran out for one of them.
+pub(crate) fn both<A: Drop, B: Drop>(
+    first: Result<A, AllocError>,
+    second: Result<B, AllocError>,
+) -> Result<(A, B), AllocError>
+    ensures { IfOk result (λ p. (first ≡ Ok p.0) × (second ≡ Ok p.1)) }
+{
+    match (first, second) {
+        (Ok(first), Ok(second)) => Ok((first, second)),
+        _ => Err(AllocError),
     }
 }

@@ -1,5 +1,6 @@
 // The fields of which several records are made.
 ghost use Rattle.std.specs.Prelude.{◌≡◌, ◌++◌, OnOk};
+ghost use Rattle.qm_bytes.specs.Spelling.{byte};
 ghost use Rattle.qm_bytes.specs.Reading.{Gives};
 ghost use Rattle.qm_record.specs.Spelling.{job_kind_code, job_retain, name_or_number, node as node_text, shape as shape_text, queue_kind_code, queue_retain_code, stop_mode_code, limits as limits_text, RetainFits, NameOrNumberFits, NodeFits, ShapeFits, LimitsFit};
 ghost use Rattle.qm_record.specs.Reading.{job_kind_at, job_retain_at, name_or_number_at, node_at, shape_at, queue_kind_at, queue_retain_at, stop_mode_at, limits_at};
@@ -10,6 +11,14 @@ use qm_bytes::{
 };
 use qm_kinds::{JobKind, JobRetain, NameOrNumber, Node, QueueKind, QueueRetain, Shape, StopMode};
 use std::alloc::AllocError;
+
+/// Appends a byte.
+pub(crate) fn put_byte(out: &mut Vec<u8>, value: u8) -> Result<(), AllocError>
+    ensures { OnOk result (out.new.items ≡ out.old.items ++ byte value) }
+{
+    out.push(value)?;
+    Ok(())
+}
 
 /// The code of a kind of job.
 pub(crate) fn job_kind_code(kind: JobKind) -> u8
@@ -38,15 +47,14 @@ pub(crate) fn put_job_retain(out: &mut Vec<u8>, retain: &JobRetain) -> Result<()
     ensures lawful { OnOk result (RetainFits retain.now) }
 {
     match retain {
-        JobRetain::Default => out.push(0)?,
-        JobRetain::Always => out.push(1)?,
-        JobRetain::Failed => out.push(2)?,
+        JobRetain::Default => put_byte(out, 0),
+        JobRetain::Always => put_byte(out, 1),
+        JobRetain::Failed => put_byte(out, 2),
         JobRetain::Until(moment) => {
-            out.push(3)?;
-            put_moment(out, *moment)?;
+            put_byte(out, 3)?;
+            put_moment(out, *moment)
         }
     }
-    Ok(())
 }
 
 /// Reads how a job is kept.
@@ -72,11 +80,11 @@ pub(crate) fn put_name_or_number(out: &mut Vec<u8>, wanted: &NameOrNumber) -> Re
 {
     match wanted {
         NameOrNumber::Name(name) => {
-            out.push(0)?;
+            put_byte(out, 0)?;
             put_name(out, name)
         }
         NameOrNumber::Number(number) => {
-            out.push(1)?;
+            put_byte(out, 1)?;
             put_number(out, Width::Two, u64::from(*number))
         }
     }
@@ -119,12 +127,12 @@ pub(crate) fn put_shape(out: &mut Vec<u8>, shape: &Shape) -> Result<(), AllocErr
     ensures ok { OnOk result (out.new.items ≡ out.old.items ++ shape_text shape.now) }
     ensures lawful { OnOk result (ShapeFits shape.now) }
 {
-    out.push(shape.length)?;
-    out.push(shape.width)?;
-    out.push(shape.top)?;
-    out.push(shape.bottom)?;
-    out.push(shape.left)?;
-    out.push(shape.right)?;
+    put_byte(out, shape.length)?;
+    put_byte(out, shape.width)?;
+    put_byte(out, shape.top)?;
+    put_byte(out, shape.bottom)?;
+    put_byte(out, shape.left)?;
+    put_byte(out, shape.right)?;
     put_truth(out, shape.wrap)
 }
 

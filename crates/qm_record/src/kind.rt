@@ -3,7 +3,7 @@ ghost use Rattle.std.specs.Prelude.{◌≡◌};
 ghost use Rattle.qm_record.specs.Kinds.{number_of, kind_of, is_row_kind};
 
 /// What a record is, told by its number. These are the kinds that are spelled so far: all requests, and rows of an image.
-#[derive(Clone, Copy, Debug)]
+#[derive(Clone, Copy)]
 pub enum RecordKind {
     Append,
     Fill,

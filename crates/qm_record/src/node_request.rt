@@ -5,7 +5,7 @@ ghost use Rattle.qm_bytes.specs.Spelling.{IsList, IsName};
 ghost use Rattle.qm_record.specs.Spelling.{took};
 ghost use Rattle.qm_record.specs.Reading.{node_lost_at, took_at};
 
-use crate::element::{put_list, read_list};
+use crate::element::{both, put_list, read_list};
 use qm_bytes::{BadField, Width, put_number, read_number};
 use qm_kinds::{Body, Name, Request, Seq};
 use std::alloc::{AllocError, Global};
@@ -61,14 +61,15 @@ pub(crate) fn read_took(
     let epoch = read_number(bytes, Width::Eight)?;
     let gone = read_list(alloc, bytes)?;
     let up = read_list(alloc, bytes)?;
+    let changed = both(gone, up);
     let may = read_list(alloc, bytes)?;
-    match (gone, up, may) {
-        (Ok(gone), Ok(up), Ok(may)) => Ok(Ok(Body::Ask(Request::Took {
+    match both(changed, may) {
+        Ok(((gone, up), may)) => Ok(Ok(Body::Ask(Request::Took {
             epoch,
             gone,
             up,
             may,
         }))),
-        _ => Ok(Err(AllocError)),
+        Err(fault) => Ok(Err(fault)),
     }
 }

@@ -6,9 +6,9 @@ ghost use Rattle.qm_record.specs.Spelling.{new_queue as new_queue_text, queue_ch
 ghost use Rattle.qm_record.specs.Reading.{change_at, initialize_at, set_queue_at, start_queue_at, stop_queue_at, abort_job_at, delete_queue_at, merge_at};
 
 use crate::element::{
-    put_list, put_optional, put_optional_list, read_list, read_optional, read_optional_list,
+    both, put_list, put_optional, put_optional_list, read_list, read_optional, read_optional_list,
 };
-use crate::field::{queue_kind_code, read_queue_kind, read_stop_mode, stop_mode_code};
+use crate::field::{put_byte, queue_kind_code, read_queue_kind, read_stop_mode, stop_mode_code};
 use qm_bytes::{
     BadField, put_name, put_optional_name, put_truth, read_name, read_optional_name, read_truth,
 };
@@ -64,7 +64,7 @@ pub(crate) fn put_new_queue(out: &mut Vec<u8>, new: &NewQueue) -> Result<(), All
     ensures lawful { OnOk result (NewQueueFits new.now) }
 {
     put_name(out, &new.name)?;
-    out.push(queue_kind_code(new.kind))?;
+    put_byte(out, queue_kind_code(new.kind))?;
     put_optional_name(out, &new.node)?;
     put_optional_name(out, &new.device)?;
     put_list(out, &new.targets)?;
@@ -88,9 +88,10 @@ pub(crate) fn read_initialize(
     let device = read_optional_name(bytes)?;
     let targets = read_list(alloc, bytes)?;
     let change = read_change(alloc, bytes)?;
+    let parts = both(targets, change);
     let start = read_truth(bytes)?;
-    match (targets, change) {
-        (Ok(targets), Ok(change)) => Ok(Ok(Body::Ask(Request::InitializeQueue(NewQueue {
+    match parts {
+        Ok((targets, change)) => Ok(Ok(Body::Ask(Request::InitializeQueue(NewQueue {
             name,
             kind,
             node,
@@ -99,7 +100,7 @@ pub(crate) fn read_initialize(
             change,
             start,
         })))),
-        _ => Ok(Err(AllocError)),
+        Err(fault) => Ok(Err(fault)),
     }
 }
 
@@ -156,8 +157,7 @@ pub(crate) fn put_stop(out: &mut Vec<u8>, name: &Name, how: StopMode) -> Result<
     ensures lawful { OnOk result (IsName name.now) }
 {
     put_name(out, name)?;
-    out.push(stop_mode_code(how))?;
-    Ok(())
+    put_byte(out, stop_mode_code(how))
 }
 
 /// Reads the fields of a request to stop a queue.

@@ -4,7 +4,7 @@ ghost use Rattle.qm_bytes.specs.Laws.{Spells};
 ghost use Rattle.qm_kinds.specs.declared.moment.TheConstants.{LAST_MOMENT};
 ghost use Rattle.qm_kinds.specs.declared.record.Record.{Record as AnyRecord};
 ghost use Rattle.qm_record.specs.Spelling.{record_text, HasSpelling};
-ghost use Rattle.qm_record.specs.Reading.{record_kind_at, body_at, record_at, whole_at, GivesFront, left_by, TellsWhole, last_moment, last_node};
+ghost use Rattle.qm_record.specs.Reading.{record_kind_at, body_at, record_at, whole_at, GivesFront, left_by, completed, TellsWhole, last_moment, last_node};
 ghost use Rattle.qm_record.specs.Faults.{IsRead, IsRecord, IsFirstFault};
 
 use crate::definition_request::{
@@ -147,6 +147,21 @@ fn left_by(read: &Result<Result<Body, AllocError>, BadField>, rest: &[u8]) -> Op
     }
 }
 
+// The record of a body behind which nothing stands.
+#[inline]
+fn completed(
+    moment: Moment,
+    node: u8,
+    read: Result<Result<Body, AllocError>, BadField>,
+) -> Result<Record, RecordFault>
+    ensures { result ≡ completed moment node read }
+{
+    match read {
+        Ok(Ok(body)) => Ok(Record { moment, node, body }),
+        _ => Err(RecordFault::NoMemory),
+    }
+}
+
 // Reads a record behind which nothing stands. A record is large, so it is made at its place, and its body is moved once. It isn't
 // inlined: in a small function most of the clearing of locals goes, since the compiler sees that they are written.
 #[inline(never)]
@@ -162,10 +177,7 @@ fn read_whole(alloc: Global, bytes: &[u8]) -> Result<Record, RecordFault>
     if let Some(left) = left_by(&read, rest) {
         return Err(fault_at(bytes, left));
     }
-    match read {
-        Ok(Ok(body)) => Ok(Record { moment, node, body }),
-        _ => Err(RecordFault::NoMemory),
-    }
+    completed(moment, node, read)
 }
 
 /// The record that the bytes spell, all of the bytes.

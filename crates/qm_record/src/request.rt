@@ -8,7 +8,7 @@ ghost use Rattle.qm_record.specs.Reading.{submit_at, run_mark_at, done_at};
 use crate::definition_request::put_characteristic;
 use crate::element::{put_list, put_optional, read_list, read_optional};
 use crate::entry_request::put_set_entry;
-use crate::field::{job_kind_code, put_job_retain, read_job_kind, read_job_retain};
+use crate::field::{job_kind_code, put_byte, put_job_retain, read_job_kind, read_job_retain};
 use crate::file_request::{put_append, put_fill};
 use crate::kind::RecordKind;
 use crate::node_request::put_took;
@@ -32,11 +32,10 @@ pub(crate) fn put_front(
     ensures ok { OnOk result (out.new.items ≡ out.old.items ++ front kind moment node) }
     ensures lawful { OnOk result (IsMoment moment) }
 {
-    out.push(1)?;
-    out.push(kind.number())?;
+    put_byte(out, 1)?;
+    put_byte(out, kind.number())?;
     put_moment(out, moment)?;
-    out.push(node)?;
-    Ok(())
+    put_byte(out, node)
 }
 
 // The kind of a request.
@@ -156,18 +155,18 @@ fn put_submit(out: &mut Vec<u8>, job: &Job) -> Result<(), AllocError>
     ensures lawful { OnOk result (JobFits job.now) }
 {
     put_name(out, &job.user)?;
-    out.push(job_kind_code(job.kind))?;
+    put_byte(out, job_kind_code(job.kind))?;
     put_name(out, &job.queue)?;
     put_file_name(out, &job.file)?;
     put_name(out, &job.name)?;
-    out.push(job.priority)?;
+    put_byte(out, job.priority)?;
     put_optional_moment(out, job.after)?;
     put_truth(out, job.hold)?;
     put_job_retain(out, &job.retain)?;
     put_truth(out, job.restart)?;
     put_list(out, &job.characteristics)?;
     put_optional(out, &job.form)?;
-    out.push(job.copies)?;
+    put_byte(out, job.copies)?;
     put_truth(out, job.flag)?;
     Ok(())
 }

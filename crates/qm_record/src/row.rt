@@ -5,9 +5,10 @@ ghost use Rattle.qm_bytes.specs.Reading.{Gives, GivesKept};
 ghost use Rattle.qm_record.specs.Spelling.{head as head_text, NodeFits, form as form_text, queue as queue_text, queue_state_code, FormFits, QueueFits};
 ghost use Rattle.qm_record.specs.Reading.{form_at, form_row_at, queue_row_at, queue_state_at, head_at};
 
-use crate::element::{put_list, read_list};
+use crate::element::{both, put_list, read_list};
 use crate::field::{
-    put_shape, queue_kind_code, queue_retain_code, read_queue_kind, read_queue_retain, read_shape,
+    put_byte, put_shape, queue_kind_code, queue_retain_code, read_queue_kind, read_queue_retain,
+    read_shape,
 };
 use qm_bytes::{
     BadField, Width, put_moment, put_name, put_number, put_optional_name, put_set, put_truth,
@@ -27,18 +28,19 @@ pub(crate) fn read_head(
 {
     let nodes = read_list(alloc, bytes)?;
     let may = read_list(alloc, bytes)?;
+    let lists = both(nodes, may);
     let next_entry = read_number(bytes, Width::Four)?;
     let next_run = read_number(bytes, Width::Eight)?;
     let last = read_moment(bytes)?;
-    match (nodes, may) {
-        (Ok(nodes), Ok(may)) => Ok(Ok(Body::Head {
+    match lists {
+        Ok((nodes, may)) => Ok(Ok(Body::Head {
             nodes,
             may,
             next_entry: next_entry as u32,
             next_run,
             last,
         })),
-        _ => Ok(Err(AllocError)),
+        Err(fault) => Ok(Err(fault)),
     }
 }
 
@@ -134,17 +136,17 @@ pub(crate) fn put_queue(out: &mut Vec<u8>, queue: &Queue) -> Result<(), AllocErr
     ensures lawful { OnOk result (QueueFits queue.now) }
 {
     put_name(out, &queue.name)?;
-    out.push(queue_kind_code(queue.kind))?;
-    out.push(queue_state_code(queue.state))?;
+    put_byte(out, queue_kind_code(queue.kind))?;
+    put_byte(out, queue_state_code(queue.state))?;
     put_optional_name(out, &queue.node)?;
     put_optional_name(out, &queue.device)?;
-    out.push(queue.limit)?;
+    put_byte(out, queue.limit)?;
     put_set(out, queue.characteristics)?;
     put_optional_name(out, &queue.mounted)?;
     put_number(out, Width::Four, u64::from(queue.lower))?;
     put_number(out, Width::Four, u64::from(queue.upper))?;
     put_truth(out, queue.by_size)?;
-    out.push(queue_retain_code(queue.retain))?;
+    put_byte(out, queue_retain_code(queue.retain))?;
     put_list(out, &queue.targets)?;
     Ok(())
 }

@@ -4,9 +4,9 @@ use Rattle.qm_record.specs.Reading.{initialize_at, new_queue_at}
 use Rattle.qm_record.proofs.There.{made_there, then_there, kept_there, all_there}
 use Rattle.qm_record.proofs.queue_request.read_initialize.Goals as goal
 
-pub returns-in_default : goal.returns-in_default
+pub returns-in-Err : goal.returns-in-Err
 unfolding initialize_at new_queue_at
-returns-in_default c =
+returns-in-Err c =
     made_there (λ x. body.Ask (ask.InitializeQueue x)) (
     then_there _ c.in_ok-name.ensures (
     then_there _ c.in_ok-kind.ensures (

@@ -1,5 +1,5 @@
 use Rattle.std.proofs.Common.{sym, ◌∙◌}
-use Rattle.qm_record.proofs.Records.{whole_stops, whole_left, whole_kept, whole_lost, left_is_within, bad_told}
+use Rattle.qm_record.proofs.Records.{whole_stops, whole_left, whole_completed, left_is_within, bad_told}
 use Rattle.qm_record.proofs.reading.read_whole.Goals as goal
 
 pub fault_at-requires : goal.fault_at-requires
@@ -25,14 +25,8 @@ returns-in-Some c =
     c.in-Ok.front.moment c.in-Ok.front.node c.in-Ok.front.kind c.read_body-read.result c.in-Some.left
     c.in-Ok.ensures c.read_body-read.ensures (sym c.left_by.ensures ∙ c.in-Some.is))
 
-pub returns-in-Ok-Ok : goal.returns-in-Ok-Ok
-returns-in-Ok-Ok c =
-    whole_kept c.args.bytes.now c.read_front.new.bytes.now c.read_body-read.new.bytes.now
-    c.in-Ok.front.moment c.in-Ok.front.node c.in-Ok.front.kind c.in-Ok-Ok.body c.read_body-read.result
-    c.in-Ok.ensures c.read_body-read.ensures (sym c.left_by.ensures ∙ c.in_default.is) (rw c.in-Ok-Ok.field-0-is at c.in-Ok-Ok.is)
-
-pub returns-in_default-read : goal.returns-in_default-read
-returns-in_default-read c =
-    whole_lost c.args.bytes.now c.read_front.new.bytes.now c.read_body-read.new.bytes.now
+pub returns : goal.returns
+returns c =
+    rw c.completed.ensures (whole_completed c.args.bytes.now c.read_front.new.bytes.now c.read_body-read.new.bytes.now
     c.in-Ok.front.moment c.in-Ok.front.node c.in-Ok.front.kind c.read_body-read.result
-    c.in-Ok.ensures c.read_body-read.ensures (sym c.left_by.ensures ∙ c.in_default.is)
+    c.in-Ok.ensures c.read_body-read.ensures (sym c.left_by.ensures ∙ c.in_default.is))
