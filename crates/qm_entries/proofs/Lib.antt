@@ -4,3 +4,4 @@ pub mod Numbers
 pub mod LastOne
 pub mod Behind
 pub mod Narrowed
+pub mod SideBySide

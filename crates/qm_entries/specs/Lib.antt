@@ -1,3 +1,4 @@
 pub mod Entries
 pub mod Boxed
 pub mod Changes
+pub mod Tags

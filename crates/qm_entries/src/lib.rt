@@ -7,5 +7,8 @@ mod places;
 mod shelf;
 mod sweep;
 mod table;
+mod tagged;
+mod tags;
 
 pub use table::EntryTable;
+pub use tags::home_tag;

@@ -1,15 +1,15 @@
 // Entries in boxes, one behind the other.
-ghost use Rattle.std.specs.Prelude.{◌≡◌, ◌≤◌, ◌<◌, ◌+◌, ◌-◌, ◌++◌, ◌∷◌, [], IsSome, None, Some, OnOk, length, not, map, filter, count_by, drop, take, vec_len, vec_capacity, slice_set, slice_get, slice_index_or, remove};
+ghost use Rattle.std.specs.Prelude.{◌≡◌, ◌≤◌, ◌<◌, ◌+◌, ◌++◌, ◌∷◌, [], IsSome, None, Some, OnOk, length, not, map, filter, count_by, drop, vec_len, vec_capacity, slice_set, slice_get, slice_index_or, remove};
 ghost use Rattle.std.specs.Str.{bytes_eq};
 ghost use Rattle.qm_kinds.specs.declared.entry.Entry.{Entry as AnyEntry};
 ghost use Rattle.qm_model.specs.Due.{is_over, entry_at};
 ghost use Rattle.qm_model.specs.Merging.{moved_to, waits_in};
-ghost use Rattle.qm_entries.specs.Boxed.{brought, contents};
+ghost use Rattle.qm_entries.specs.Boxed.{contents};
 ghost use Rattle.qm_entries.specs.Changes.{changed_by};
+ghost use Rattle.qm_entries.specs.Tags.{tags_of};
 
 use crate::change::Change;
-use crate::places::change_at;
-use crate::{boxed, sweep};
+use crate::tagged::Tagged;
 use qm_kinds::{Entry, Moment, Name};
 use std::alloc::{AllocError, Global};
 use std::marker::Model;
@@ -19,21 +19,24 @@ use std::marker::Model;
 /// are freed together. Only `reserve` takes memory.
 #[derive(Drop)]
 pub(crate) struct Shelf {
-    boxes: Vec<Box<Entry>>,
+    row: Tagged,
     // So many boxes at the front hold entries that were taken out: few, since they keep their memory.
     gone: usize,
 }
 
 impl Model for Shelf {
-    ghost use Rattle.std.specs.Prelude.{◌-◌, ◌/◌, ◌≤◌, drop, vec_len, vec_capacity};
+    ghost use Rattle.std.specs.Prelude.{◌-◌, ◌/◌, ◌≤◌, drop, min, vec_len, vec_capacity};
     ghost use Rattle.qm_entries.specs.declared.shelf.TheConstants.{MOST_GONE};
     ghost use Rattle.qm_entries.specs.Boxed.{contents, Shelved};
 
     ghost Value = { Shelved };
 
-    ghost view = { λ s. record { entries = drop s.gone (contents s.boxes.items); room = vec_capacity s.boxes - vec_len s.boxes } };
+    ghost view = { λ s. record {
+      entries = drop s.gone (contents s.row.boxes.items);
+      room = min (vec_capacity s.row.boxes - vec_len s.row.boxes) (vec_capacity s.row.tags - vec_len s.row.tags);
+    } };
 
-    ghost invariant = { λ s. (s.gone ≤ vec_len s.boxes) × (s.gone ≤ vec_len s.boxes / MOST_GONE) };
+    ghost invariant = { λ s. (s.gone ≤ vec_len s.row.boxes) × (s.gone ≤ vec_len s.row.boxes / MOST_GONE) };
 }
 
 /// Of so many boxes one may hold an entry that was taken out.
@@ -45,7 +48,7 @@ impl Shelf {
         ensures { result.entries ≡ [] }
     {
         Shelf {
-            boxes: Vec::new(alloc),
+            row: Tagged::new(alloc),
             gone: 0,
         }
     }
@@ -54,7 +57,14 @@ impl Shelf {
     pub(crate) fn as_slice(&self) -> &[Box<Entry>]
         ensures { contents result.now ≡ self.now.entries }
     {
-        &self.boxes[self.gone..]
+        &self.row.boxes[self.gone..]
+    }
+
+    /// The tags of the entries.
+    pub(crate) fn tags(&self) -> &[u16]
+        ensures { result.now ≡ tags_of self.now.entries }
+    {
+        &self.row.tags[self.gone..]
     }
 
     /// Makes a place for one entry more.
@@ -62,7 +72,7 @@ impl Shelf {
         ensures room { OnOk result (0 < self.new.room) }
         ensures entries { self.new.entries ≡ self.old.entries }
     {
-        self.boxes.reserve(1)
+        self.row.reserve()
     }
 
     /// Puts an entry behind the others, over what lay in the box that is ready. There is a place for it.
@@ -72,7 +82,7 @@ impl Shelf {
         ensures entries { self.new.entries ≡ self.old.entries ++ entry.now ∷ [] }
         ensures ready { ready.new ≡ None }
     {
-        boxed::put_last(&mut self.boxes, ready, entry);
+        self.row.put_last(ready, entry);
     }
 
     /// Puts an entry in the place of another one, and gives that.
@@ -82,7 +92,7 @@ impl Shelf {
         ensures entries { self.new.entries ≡ slice_set self.old.entries place entry.now }
         ensures room { self.new.room ≡ self.old.room }
     {
-        boxed::replace(&mut self.boxes, self.gone + place, entry)
+        self.row.replace(self.gone + place, entry)
     }
 
     /// Sets a field of the entry at a place.
@@ -91,10 +101,10 @@ impl Shelf {
         ensures entries { (d : AnyEntry) → self.new.entries ≡ slice_set self.old.entries place (changed_by change.now (slice_index_or self.old.entries place d)) }
         ensures room { self.new.room ≡ self.old.room }
     {
-        change_at(&mut self.boxes, self.gone + place, change);
+        self.row.change_at(self.gone + place, change);
     }
 
-    /// Takes the entry at a place out. Where it stands in the front half the places before it move, 8 bytes each, else those
+    /// Takes the entry at a place out. Where it stands in the front half the places before it move, 10 bytes each, else those
     /// behind it. The box of one in the front half stays until an eighth of the boxes have gone so: those that are left then move
     /// once, 56 bytes for each that has gone.
     pub(crate) fn take(&mut self, place: usize) -> Entry
@@ -103,9 +113,9 @@ impl Shelf {
         ensures entries { self.new.entries ≡ remove self.old.entries place }
         ensures room { self.old.room ≤ self.new.room }
     {
-        let entry = take_at(&mut self.boxes, &mut self.gone, place);
-        if self.gone > self.boxes.len() / MOST_GONE {
-            free_gone(&mut self.boxes, &mut self.gone);
+        let entry = take_at(&mut self.row, &mut self.gone, place);
+        if self.gone > self.row.boxes.len() / MOST_GONE {
+            free_gone(&mut self.row, &mut self.gone);
         }
         entry
     }
@@ -115,8 +125,8 @@ impl Shelf {
         ensures entries { self.new.entries ≡ filter (λ e. not (is_over now e.state)) self.old.entries }
         ensures room { self.old.room ≤ self.new.room }
     {
-        free_gone(&mut self.boxes, &mut self.gone);
-        sweep::remove_over(&mut self.boxes, now);
+        free_gone(&mut self.row, &mut self.gone);
+        self.row.remove_over(now);
     }
 
     /// Takes out the entries of a home, and frees their boxes.
@@ -124,8 +134,8 @@ impl Shelf {
         ensures entries { self.new.entries ≡ filter (λ e. not (bytes_eq e.home home.now)) self.old.entries }
         ensures room { self.old.room ≤ self.new.room }
     {
-        free_gone(&mut self.boxes, &mut self.gone);
-        sweep::remove_of_home(&mut self.boxes, home);
+        free_gone(&mut self.row, &mut self.gone);
+        self.row.remove_of_home(home);
     }
 
     /// Makes each entry what the moment finds.
@@ -133,8 +143,8 @@ impl Shelf {
         ensures entries { self.new.entries ≡ map (entry_at now) self.old.entries }
         ensures room { self.old.room ≤ self.new.room }
     {
-        free_gone(&mut self.boxes, &mut self.gone);
-        sweep::wake(self.boxes.as_mut_slice(), now);
+        free_gone(&mut self.row, &mut self.gone);
+        self.row.wake(now);
     }
 
     /// Gives each job that waits in a queue another home, and tells how many there were.
@@ -143,79 +153,53 @@ impl Shelf {
         ensures moved { result ≡ count_by (waits_in from.now) self.old.entries }
         ensures room { self.old.room ≤ self.new.room }
     {
-        free_gone(&mut self.boxes, &mut self.gone);
-        sweep::merge(self.boxes.as_mut_slice(), to, from)
+        free_gone(&mut self.row, &mut self.gone);
+        self.row.merge(to, from)
     }
 }
 
 // Takes the entry at a place behind those that are gone out.
-fn take_at(boxes: &mut Vec<Box<Entry>>, gone: &mut usize, place: usize) -> Entry
-    requires { gone.old + place < vec_len boxes.old }
-    ensures taken { Some result ≡ slice_get (drop gone.old (contents boxes.old.items)) place }
-    ensures left { drop gone.new (contents boxes.new.items) ≡ remove (drop gone.old (contents boxes.old.items)) place }
-    ensures within { gone.new ≤ vec_len boxes.new }
-    ensures len { vec_len boxes.new ≤ vec_len boxes.old }
-    ensures capacity { vec_capacity boxes.new ≡ vec_capacity boxes.old }
+fn take_at(row: &mut Tagged, gone: &mut usize, place: usize) -> Entry
+    requires { gone.old + place < vec_len row.old.boxes }
+    ensures taken { Some result ≡ slice_get (drop gone.old (contents row.old.boxes.items)) place }
+    ensures left { drop gone.new (contents row.new.boxes.items) ≡ remove (drop gone.old (contents row.old.boxes.items)) place }
+    ensures within { gone.new ≤ vec_len row.new.boxes }
+    ensures len { vec_len row.new.boxes ≤ vec_len row.old.boxes }
+    ensures box_capacity { vec_capacity row.new.boxes ≡ vec_capacity row.old.boxes }
+    ensures tag_capacity { vec_capacity row.new.tags ≡ vec_capacity row.old.tags }
 {
-    if place < (boxes.len() - *gone) / 2 {
-        return take_front(boxes, gone, place);
+    if place < (row.boxes.len() - *gone) / 2 {
+        return take_front(row, gone, place);
     }
-    boxed::take(boxes, *gone + place)
+    row.take(*gone + place)
 }
 
 // Takes the entry at a place behind those that are gone out, by a move of those that stand in front of it: its box stays, as
 // one that is gone.
-fn take_front(boxes: &mut Vec<Box<Entry>>, gone: &mut usize, place: usize) -> Entry
-    requires { gone.old + place < vec_len boxes.old }
-    ensures taken { Some result ≡ slice_get (drop gone.old (contents boxes.old.items)) place }
-    ensures left { drop gone.new (contents boxes.new.items) ≡ remove (drop gone.old (contents boxes.old.items)) place }
-    ensures within { gone.new ≤ vec_len boxes.new }
-    ensures len { vec_len boxes.new ≤ vec_len boxes.old }
-    ensures capacity { vec_capacity boxes.new ≡ vec_capacity boxes.old }
+fn take_front(row: &mut Tagged, gone: &mut usize, place: usize) -> Entry
+    requires { gone.old + place < vec_len row.old.boxes }
+    ensures taken { Some result ≡ slice_get (drop gone.old (contents row.old.boxes.items)) place }
+    ensures left { drop gone.new (contents row.new.boxes.items) ≡ remove (drop gone.old (contents row.old.boxes.items)) place }
+    ensures within { gone.new ≤ vec_len row.new.boxes }
+    ensures len { vec_len row.new.boxes ≤ vec_len row.old.boxes }
+    ensures box_capacity { vec_capacity row.new.boxes ≡ vec_capacity row.old.boxes }
+    ensures tag_capacity { vec_capacity row.new.tags ≡ vec_capacity row.old.tags }
 {
-    turn(boxes, *gone, place);
-    let first = *boxes[*gone];
+    row.turn(*gone, place);
+    let first = *row.boxes[*gone];
     *gone += 1;
     first
 }
 
-// The box at a place behind the first ones comes to stand right behind these, and those in front of it move on by one.
-fn turn(boxes: &mut Vec<Box<Entry>>, first: usize, place: usize)
-    requires { first + place < vec_len boxes.old }
-    ensures items { boxes.new.items ≡ take first boxes.old.items ++ brought place (drop first boxes.old.items) }
-    ensures len { vec_len boxes.new ≡ vec_len boxes.old }
-    ensures capacity { vec_capacity boxes.new ≡ vec_capacity boxes.old }
-{
-    bring(&mut boxes[first..], place);
-}
-
-// The box at a place comes to the front, and those in front of it move on by one.
-fn bring(boxes: &mut [Box<Entry>], place: usize)
-    requires { place < length boxes.old }
-    ensures items { boxes.new ≡ brought place boxes.old }
-    ensures len { length boxes.new ≡ length boxes.old }
-{
-    boxes[..place + 1].rotate_right(1);
-}
-
 // Frees the boxes of entries that are gone, which moves the others to the front.
-fn free_gone(boxes: &mut Vec<Box<Entry>>, gone: &mut usize)
-    requires { gone.old ≤ vec_len boxes.old }
+fn free_gone(row: &mut Tagged, gone: &mut usize)
+    requires { gone.old ≤ vec_len row.old.boxes }
     ensures none { gone.new ≡ 0 }
-    ensures left { contents boxes.new.items ≡ drop gone.old (contents boxes.old.items) }
-    ensures len { vec_len boxes.new ≤ vec_len boxes.old }
-    ensures capacity { vec_capacity boxes.new ≡ vec_capacity boxes.old }
+    ensures left { contents row.new.boxes.items ≡ drop gone.old (contents row.old.boxes.items) }
+    ensures len { vec_len row.new.boxes ≤ vec_len row.old.boxes }
+    ensures box_capacity { vec_capacity row.new.boxes ≡ vec_capacity row.old.boxes }
+    ensures tag_capacity { vec_capacity row.new.tags ≡ vec_capacity row.old.tags }
 {
-    free_first(boxes, *gone);
+    row.free_first(*gone);
     *gone = 0;
-}
-
-// Frees the first boxes.
-fn free_first(boxes: &mut Vec<Box<Entry>>, count: usize)
-    requires { count ≤ vec_len boxes.old }
-    ensures items { boxes.new.items ≡ drop count boxes.old.items }
-    ensures len { vec_len boxes.new ≤ vec_len boxes.old }
-    ensures capacity { vec_capacity boxes.new ≡ vec_capacity boxes.old }
-{
-    boxes.drain(..count);
 }

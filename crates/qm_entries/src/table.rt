@@ -11,6 +11,7 @@ ghost use Rattle.qm_model.specs.Standing.{with_entry};
 ghost use Rattle.qm_entries.specs.Boxed.{contents};
 ghost use Rattle.qm_entries.specs.Entries.{entry_after};
 ghost use Rattle.qm_entries.specs.Changes.{changed_by};
+ghost use Rattle.qm_entries.specs.Tags.{tags_of};
 
 use crate::boxed;
 use crate::change::Change;
@@ -23,10 +24,10 @@ use std::marker::Model;
 /// Entries, each under its number. Contracts see a `Kept`: the entries in order of their numbers, and how many more have
 /// room, which is one or none.
 ///
-/// Only `reserve` takes memory: a place of 8 bytes, and the box of the entry that comes next. Each other call asks a
+/// Only `reserve` takes memory: a place of 8 bytes and one of 2, and the box of the entry that comes next. Each other call asks a
 /// logarithm of the entries. A new entry goes behind the others, so `insert` moves none. `remove` also moves the places that
-/// stand before it or behind it, whichever are fewer, 8 bytes each. The box of an entry of the front half stays until an eighth of
-/// all have gone so, and these are freed together then. No entry is moved when another one comes, is changed or goes.
+/// stand before it or behind it, whichever are fewer, 10 bytes each. The box of an entry of the front half stays until an eighth
+/// of all have gone so, and these are freed together then. No entry is moved when another one comes, is changed or goes.
 #[derive(Drop)]
 pub struct EntryTable {
     alloc: Global,
@@ -177,6 +178,13 @@ impl EntryTable {
         ensures { contents result.now ≡ self.now.entries }
     {
         self.shelf.as_slice()
+    }
+
+    /// The tags of the entries, in the same order: what `home_tag` gives of the home of each.
+    pub fn tags(&self) -> &[u16]
+        ensures { result.now ≡ tags_of self.now.entries }
+    {
+        self.shelf.tags()
     }
 
     /// Takes out the entries that are retained until a moment that has come. It looks at each entry once.

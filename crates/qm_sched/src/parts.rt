@@ -12,6 +12,7 @@ ghost use Rattle.qm_model.specs.Standing.{occupies, has_run, is_run_on};
 ghost use Rattle.qm_model.specs.Stopping.{is_running_in, job_meant};
 ghost use Rattle.qm_entries.specs.Boxed.{contents};
 ghost use Rattle.qm_entries.specs.Entries.{entry_after};
+ghost use Rattle.qm_entries.specs.Tags.{tags_of};
 ghost use Rattle.qm_queues.specs.Queues.{queue_after};
 ghost use Rattle.qm_sched.specs.ByRun.{entry_on};
 ghost use Rattle.qm_kinds.specs.declared.queue.Queue.{Queue as AnyQueue};
@@ -224,6 +225,13 @@ impl Parts {
         ensures { contents result.now ≡ self.now.entries }
     {
         self.tables.entries()
+    }
+
+    /// The tags of the entries, in the same order: what `home_tag` gives of the home of each.
+    pub fn tags(&self) -> &[u16]
+        ensures { result.now ≡ tags_of self.now.entries }
+    {
+        self.tables.tags()
     }
 
     /// How many entries there are.

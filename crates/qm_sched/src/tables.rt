@@ -6,6 +6,7 @@ ghost use Rattle.qm_model.specs.Consistent.{IsInOrder};
 ghost use Rattle.qm_model.specs.Find.{name_cmp, queue_named, entry_numbered};
 ghost use Rattle.qm_entries.specs.Boxed.{contents};
 ghost use Rattle.qm_entries.specs.Entries.{entry_after};
+ghost use Rattle.qm_entries.specs.Tags.{tags_of};
 ghost use Rattle.qm_queues.specs.Queues.{queue_after};
 
 use crate::names::place_of;
@@ -168,6 +169,13 @@ impl TableSet {
         ensures { contents result.now ≡ self.now.entries }
     {
         self.entries.as_slice()
+    }
+
+    /// The tags of the entries, in the same order: what `home_tag` gives of the home of each.
+    pub fn tags(&self) -> &[u16]
+        ensures { result.now ≡ tags_of self.now.entries }
+    {
+        self.entries.tags()
     }
 
     /// How many entries there are.

@@ -5,4 +5,4 @@ use Rattle.qm_entries.proofs.Boxes.{value_of}
 use Rattle.qm_entries.proofs.shelf.free_gone.Goals as goal
 
 pub returns-clause-left : goal.returns-clause-left
-returns-clause-left c = ap contents c.free_first.ensures.items ∙ sym (drop-map value_of c.args.gone.now c.args.boxes.now.items)
+returns-clause-left c = ap contents c.free_first.ensures.items ∙ sym (drop-map value_of c.args.gone.now c.args.row.now.boxes.items)

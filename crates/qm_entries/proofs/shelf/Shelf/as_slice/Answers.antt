@@ -9,5 +9,5 @@ pub returns : goal.returns
 returns c =
     ap contents (take_rest c.deref.result.now c.self.inside.gone)
     ∙ ap (λ (bs : List (Box Entry Global)). contents (drop c.self.inside.gone bs)) c.deref.ensures.value
-    ∙ sym (drop-map value_of c.self.inside.gone c.self.inside.boxes.items)
+    ∙ sym (drop-map value_of c.self.inside.gone c.self.inside.row.boxes.items)
     ∙ ap (λ (s : Shelved). s.entries) c.self.view_is

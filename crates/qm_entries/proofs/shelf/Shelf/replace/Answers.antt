@@ -5,8 +5,8 @@ use Rattle.qm_entries.proofs.Behind.{stands_behind}
 use Rattle.qm_entries.proofs.shelf.Shelf.replace.Goals as goal
 
 pub returns-clause-replaced : goal.returns-clause-replaced
-returns-clause-replaced c = rw (← c.self.view_is) (c.replace.ensures.replaced ∙ stands_behind c.self.inside.gone (contents c.self.inside.boxes.items) c.args.place _ refl)
+returns-clause-replaced c = rw (← c.self.view_is) (c.replace.ensures.replaced ∙ stands_behind c.self.inside.gone (contents c.self.inside.row.boxes.items) c.args.place _ refl)
 
 pub returns-clause-entries : goal.returns-clause-entries
 returns-clause-entries c =
-    rw (← c.self.view_is) (ap (drop c.self.inside.gone) c.replace.ensures.contents ∙ drop-set-add c.self.inside.gone (contents c.self.inside.boxes.items) c.args.place c.args.entry.now)
+    rw (← c.self.view_is) (ap (drop c.self.inside.gone) c.replace.ensures.contents ∙ drop-set-add c.self.inside.gone (contents c.self.inside.row.boxes.items) c.args.place c.args.entry.now)

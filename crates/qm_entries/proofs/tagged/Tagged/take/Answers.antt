@@ -1,0 +1,16 @@
+use Rattle.std.proofs.Common.{◌∙◌, ap, sym, arith}
+use Rattle.std.specs.List.{remove}
+use Rattle.qm_entries.specs.Boxed.{contents}
+use Rattle.qm_entries.specs.Tags.{tags_of}
+use Rattle.qm_entries.proofs.SideBySide.{tags_removed}
+use Rattle.qm_entries.proofs.tagged.Tagged.take.Goals as goal
+
+pub invariant_of-self : goal.invariant_of-self
+invariant_of-self c = record {
+  side_by_side = omega (arith, c.take.ensures.len, c.remove.ensures.len, c.args.self.now.side_by_side);
+  tagged =
+      c.remove.ensures.items
+      ∙ ap (λ ts. remove ts c.args.place) c.args.self.now.tagged
+      ∙ tags_removed (contents c.args.self.now.boxes.items) c.args.place
+      ∙ ap tags_of (sym c.take.ensures.contents);
+}
