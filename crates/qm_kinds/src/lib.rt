@@ -10,6 +10,7 @@ mod form;
 mod input;
 mod known;
 mod limits;
+mod listed;
 mod mark;
 mod moment;
 mod name;
@@ -39,6 +40,7 @@ pub use limits::{
     END_OF_RUNS, ENTRIES_LIMIT, FILE_LIMIT, FILES_LIMIT, LAST_CHARACTERISTIC, LAST_FORM,
     NODES_LIMIT, QUEUES_LIMIT, RUNS_LIMIT, SPOOL_LIMIT, TARGETS_LIMIT,
 };
+pub use listed::ListedEntry;
 pub use mark::Mark;
 pub use moment::{LAST_MOMENT, Moment};
 pub use name::{NODE_NAME_BYTES, Name, SHORT_NAME_BYTES, is_name_byte};

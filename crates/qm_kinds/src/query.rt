@@ -1,5 +1,5 @@
-use crate::entry::Entry;
 use crate::form::{Characteristic, Form};
+use crate::listed::ListedEntry;
 use crate::name::Name;
 use crate::pattern::Pattern;
 use crate::queue::Queue;
@@ -56,7 +56,7 @@ pub struct Query {
 #[derive(Drop)]
 pub enum Row {
     Queue(Queue),
-    Entry(Entry),
+    Entry(ListedEntry),
     Form(Form),
     Characteristic(Characteristic),
     Manager {

@@ -1,10 +1,13 @@
--- Where no job runs in a queue, the entries that stand there have it as their home.
-use Rattle.std.proofs.Common.{◌≡◌, ℕ, ◌&&◌, Bool, true, false, List, [], ◌∷◌, Option, Some, None, refl}
+-- Where no job runs in a queue, the entries that stand there have it as their home, and its tag.
+use Rattle.std.proofs.Common.{◌≡◌, ◌≢◌, ◌∙◌, ℕ, ◌+◌, ◌<◌, ◌&&◌, Bool, true, false, List, [], ◌∷◌, length, get_or, drop, Option, Some, None, refl, sym, ap}
 use Rattle.std.specs.List.{find, list_any}
 use Rattle.std.specs.Option.{option_map_or}
 use Rattle.std.specs.Prelude.{unwrap_or}
 use Rattle.std.specs.Str.{bytes_eq}
 use Rattle.std.proofs.lemmas.Bool.{or_parts}
+use Rattle.std.proofs.lemmas.List.{get_or-map}
+use Rattle.std.proofs.lemmas.Slice.Eq.{bytes_eq-Decides}
+use Rattle.qm_entries.specs.Tags.{tag_of, entry_tag, tags_of}
 use Rattle.qm_kinds.specs.Wildcards.{matches}
 use Rattle.qm_kinds.specs.declared.entry.Entry.{Entry}
 use Rattle.qm_kinds.specs.declared.query.Query.{Query}
@@ -12,6 +15,7 @@ use Rattle.qm_model.specs.JobStates.{runs_in}
 use Rattle.qm_model.specs.Rows.{is_of_user}
 use Rattle.qm_model.specs.Standing.{occupies}
 use Rattle.qm_scan.specs.Listed.{is_entry_listed, is_listed_at_home}
+use Rattle.qm_scan.proofs.Found.{find_nothing}
 
 twice : (h m u : Bool) → (h && (m && u && h)) ≡ (m && u && h)
 twice true m u = refl
@@ -43,3 +47,18 @@ module _ (q : Query) (queue : List ℕ) (far : Entry → Bool) where
   first_is_at_home (e ∷ es) is =
       let two : (occupies queue e ≡ false) × (list_any (occupies queue) es ≡ false) = or_parts (occupies queue e) (list_any (occupies queue) es) is in
       rw (same_one e two.0, first_is_at_home es two.1) refl
+
+  -- an entry of another tag has another home
+  passed_over : (e : Entry) → entry_tag e ≢ tag_of queue → is_listed_at_home q queue e ≡ false
+  passed_over e other = told (bytes_eq e.home queue) refl
+    where
+      told : (t : Bool) → bytes_eq e.home queue ≡ t → is_listed_at_home q queue e ≡ false
+      told false is = ap (λ (t : Bool). t && is_entry_listed q (Some queue) e) is
+      told true is = absurd (other (ap tag_of ((bytes_eq-Decides e.home queue).0 is)))
+
+  -- a place whose tag is another one is passed over
+  pub other_tag : (entries : List Entry) (tags : List ℕ) (i : ℕ) → i < length entries → tags ≡ tags_of entries → get_or tags i 0 ≢ tag_of queue
+      → find (is_listed_at_home q queue) (drop (i + 1) entries) ≡ find (is_listed_at_home q queue) (drop i entries)
+  other_tag entries tags i within are other =
+      find_nothing (is_listed_at_home q queue) entries i within
+      (λ e there. passed_over e (λ same. other (ap (λ (ts : List ℕ). get_or ts i 0) are ∙ get_or-map entry_tag entries i e 0 within ∙ ap entry_tag (sym there) ∙ same)))

@@ -2,7 +2,7 @@
 use Rattle.std.proofs.Common.{◌≡◌, ◌∙◌, ◌<◌, ◌≤◌, ◌+◌, ◌&&◌, ℕ, zero, suc, Bool, true, false, List, [], ◌∷◌, length, get_or, map, drop, Some, None, refl, sym, ap, arith}
 use Rattle.std.specs.List.{AllWithin, filter, find}
 use Rattle.std.specs.Option.{option_map}
-use Rattle.std.proofs.lemmas.List.{drop_more}
+use Rattle.std.proofs.lemmas.List.{drop_more, get_or_default}
 
 module _ {X : Type 0} (p : X → Bool) (xs : List X) (i : ℕ) (x : X) (within : i < length xs) (is : x ≡ get_or xs i x) where
   -- where the next element passes,
@@ -12,6 +12,14 @@ module _ {X : Type 0} (p : X → Bool) (xs : List X) (i : ℕ) (x : X) (within :
   -- and where it doesn't
   pub find_miss : p x ≡ false → find p (drop (i + 1) xs) ≡ find p (drop i xs)
   find_miss fails = sym (ap (find p) (drop_more xs i x within) ∙ rw (← is, fails) refl)
+
+-- where the next element is known not to pass, whichever it is
+pub find_nothing : {X : Type 0} (p : X → Bool) (xs : List X) (i : ℕ) → i < length xs → ((x : X) → x ≡ get_or xs i x → p x ≡ false) → find p (drop (i + 1) xs) ≡ find p (drop i xs)
+find_nothing p [] i within fails = absurd (omega (arith, within))
+find_nothing p (x ∷ xs) i within fails =
+    let y = get_or (x ∷ xs) i x in
+    let is : y ≡ get_or (x ∷ xs) i y = get_or_default (x ∷ xs) i x y within in
+    find_miss p (x ∷ xs) i y within is (fails y is)
 
 -- a search for what no element is
 pub find_never : {X : Type 0} (p : X → Bool) (xs : List X) → find (λ x. false && p x) xs ≡ None

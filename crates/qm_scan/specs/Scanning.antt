@@ -1,6 +1,6 @@
 -- A scan, and the row that it gives next.
 -- OpenVMS System Services Reference Manual, $GETQUI, on wildcard searches.
-use Rattle.std.specs.Prelude.{ℕ, List, true, Option, None, Some}
+use Rattle.std.specs.Prelude.{true, Option, None, Some}
 use Rattle.qm_kinds.specs.declared.query.After.{After}
 use Rattle.qm_kinds.specs.declared.query.After.TheVariants as after
 use Rattle.qm_kinds.specs.declared.query.Listing.{Listing}

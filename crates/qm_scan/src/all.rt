@@ -67,7 +67,7 @@ fn push_queue(
         return Ok(());
     }
     rows.push(Row::Queue(copy_of(alloc, queue)?))?;
-    below.push_rows(rows)
+    below.push_rows(alloc, rows)
 }
 
 // The rows of the listed queues, below each the entries of its group.
@@ -145,7 +145,7 @@ fn entry_rows(
 {
     let listed = listed_entries(alloc, query, queue, entries)?;
     let mut rows = Vec::with_capacity(alloc, listed.len())?;
-    listed.push_rows(&mut rows)?;
+    listed.push_rows(alloc, &mut rows)?;
     Ok(rows)
 }
 

@@ -2,7 +2,7 @@
 ghost use Rattle.std.specs.Prelude.{◌≡◌, ◌++◌, ◌∷◌, [], length, map, OnOk, OnErr};
 ghost use Rattle.qm_kinds.specs.declared.query.Row.TheVariants as row;
 
-use qm_kinds::{Entry, Row};
+use qm_kinds::{Entry, ListedEntry, Row};
 use std::alloc::{AllocError, Global};
 use std::marker::Model;
 
@@ -48,12 +48,11 @@ impl<'a> Lent<'a> {
     }
 
     /// Puts a row of each entry behind the others. Each entry is copied once, to where its row stands.
-    pub(crate) fn push_rows(&self, rows: &mut Vec<Row>) -> Result<(), AllocError>
+    pub(crate) fn push_rows(&self, alloc: Global, rows: &mut Vec<Row>) -> Result<(), AllocError>
         ensures { OnOk result (rows.new.items ≡ rows.old.items ++ map (λ e. row.Entry e) self.now) }
     {
         for entry in &self.entries {
-            rows.reserve(1)?;
-            rows.push_reserved(Row::Entry(**entry));
+            rows.push(Row::Entry(ListedEntry::of(alloc, entry)?))?;
         }
         Ok(())
     }

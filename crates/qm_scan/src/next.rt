@@ -2,6 +2,7 @@
 ghost use Rattle.std.specs.Prelude.{◌≡◌, ◌&&◌, filter, find, map, IfOk, IsSome, None, OnErr, Some};
 ghost use Rattle.std.specs.Option.{option_copied};
 ghost use Rattle.qm_entries.specs.Boxed.{contents};
+ghost use Rattle.qm_entries.specs.Tags.{tags_of};
 ghost use Rattle.qm_kinds.specs.Wildcards.{matches};
 ghost use Rattle.qm_kinds.specs.declared.query.Row.TheVariants as row;
 ghost use Rattle.qm_kinds.specs.declared.system.System.{System};
@@ -13,8 +14,9 @@ ghost use Rattle.qm_scan.specs.Listed.{is_behind, is_entry_listed, is_listed_at_
 
 use crate::all::copy_of;
 use crate::listed::{is_entry_listed, is_listed_at_home, is_named, is_queue_listed};
-use crate::places::{entries_behind, queues_behind};
-use qm_kinds::{After, Characteristic, Entry, Form, Listing, Name, Query, Queue, Row};
+use crate::places::{entries_behind, place_behind, queues_behind};
+use qm_entries::home_tag;
+use qm_kinds::{After, Characteristic, Entry, Form, ListedEntry, Listing, Name, Query, Queue, Row};
 use qm_sched::{Parts, see_entries};
 use std::alloc::{AllocError, Global};
 
@@ -91,12 +93,23 @@ fn first_listed<'a>(
     None
 }
 
-// The first of these entries that is listed, of those that have this queue as their home.
-fn first_at_home<'a>(query: &Query, queue: &Name, entries: &'a [Box<Entry>]) -> Option<&'a Entry>
+// The first of these entries that is listed, of those that have this queue as their home. An entry lies in a box of its own, far
+// from the others, and is looked at only where its tag is that of the queue: the tags lie one behind another.
+fn first_at_home<'a>(
+    query: &Query,
+    queue: &Name,
+    entries: &'a [Box<Entry>],
+    tags: &[u16],
+) -> Option<&'a Entry>
+    requires { tags.now ≡ tags_of (contents entries.now) }
     ensures { option_copied result ≡ find (is_listed_at_home query.now queue.now) (contents entries.now) }
 {
-    for boxed in entries {
-        let entry = boxed.as_ref();
+    let wanted = home_tag(queue);
+    for place in 0..entries.len() {
+        if tags[place] != wanted {
+            continue;
+        }
+        let entry = entries[place].as_ref();
         if is_listed_at_home(query, queue, entry) {
             return Some(entry);
         }
@@ -112,19 +125,32 @@ fn next_of_all<'a>(query: &Query, parts: &'a Parts) -> Option<&'a Entry>
     first_listed(query, &None, entries_behind(&query.after, parts.entries()))
 }
 
+// The first entry behind the last row that is listed, of those that have this queue as their home.
+fn next_at_home<'a>(query: &Query, queue: &Name, parts: &'a Parts) -> Option<&'a Entry>
+    ensures { option_copied result
+        ≡ find (λ e. is_behind query.now.after (row.Entry e) && is_listed_at_home query.now queue.now e) parts.now.entries }
+{
+    see_entries(parts);
+    let entries = parts.entries();
+    let place = place_behind(&query.after, entries);
+    first_at_home(query, queue, &entries[place..], &parts.tags()[place..])
+}
+
 // The first entry behind the last row that is listed, of one queue. Where no job runs in the queue, those that stand there have it as
 // their home.
 fn next_in<'a>(query: &Query, queue: &Name, parts: &'a Parts) -> Option<&'a Entry>
     ensures { option_copied result
         ≡ find (λ e. is_behind query.now.after (row.Entry e) && is_entry_listed query.now (Some queue.now) e) parts.now.entries }
 {
-    see_entries(parts);
-    let entries = entries_behind(&query.after, parts.entries());
-    if parts.is_occupied(queue) {
-        first_listed(query, &Some(*queue), entries)
-    } else {
-        first_at_home(query, queue, entries)
+    if !parts.is_occupied(queue) {
+        return next_at_home(query, queue, parts);
     }
+    see_entries(parts);
+    first_listed(
+        query,
+        &Some(*queue),
+        entries_behind(&query.after, parts.entries()),
+    )
 }
 
 // The first entry behind the last row that is listed, of all queues or of one.
@@ -153,12 +179,18 @@ fn next_queue_row(alloc: Global, query: &Query, queues: &[Queue]) -> Result<Opti
 
 // The row of the next entry, of all queues or of one.
 #[inline(never)]
-fn next_entry_row(query: &Query, queue: &Option<Name>, parts: &Parts) -> Option<Row>
-    ensures { result ≡ next_row query.now.after (map (λ e. row.Entry e) (filter (is_entry_listed query.now queue.now) parts.now.entries)) }
+fn next_entry_row(
+    alloc: Global,
+    query: &Query,
+    queue: &Option<Name>,
+    parts: &Parts,
+) -> Result<Option<Row>, AllocError>
+    ensures row { IfOk result (λ one. one ≡ next_row query.now.after (map (λ e. row.Entry e) (filter (is_entry_listed query.now queue.now) parts.now.entries))) }
+    ensures no_memory { OnErr result (IsSome (next_row query.now.after (map (λ e. row.Entry e) (filter (is_entry_listed query.now queue.now) parts.now.entries)))) }
 {
     match next_entry(query, queue, parts) {
-        None => None,
-        Some(entry) => Some(Row::Entry(*entry)),
+        None => Ok(None),
+        Some(entry) => Ok(Some(Row::Entry(ListedEntry::of(alloc, entry)?))),
     }
 }
 
@@ -189,15 +221,15 @@ fn next_characteristic_row(query: &Query, defined: &[Characteristic]) -> Option<
 /// matches now.
 ///
 /// The place behind that row is found by a logarithm of the queues, or of the entries, and from there it walks to the first that is
-/// listed. Of forms and characteristics it looks from the first on. A row of a queue takes memory.
+/// listed. Of forms and characteristics it looks from the first on. A row of a queue or of an entry takes memory.
 pub fn next_row(alloc: Global, parts: &Parts, query: &Query) -> Result<Option<Row>, AllocError>
     ensures row { (s : System) → IfOk result (λ one. one ≡ next_row query.now.after (single_rows (with_tables s parts.now) query.now query.now.listing)) }
     ensures no_memory { (s : System) → OnErr result (IsSome (next_row query.now.after (single_rows (with_tables s parts.now) query.now query.now.listing))) }
 {
     match query.listing {
         Listing::Queues => next_queue_row(alloc, query, parts.queues()),
-        Listing::Jobs => Ok(next_entry_row(query, &query.queue, parts)),
-        Listing::Entries => Ok(next_entry_row(query, &None, parts)),
+        Listing::Jobs => next_entry_row(alloc, query, &query.queue, parts),
+        Listing::Entries => next_entry_row(alloc, query, &None, parts),
         Listing::Forms => Ok(next_form_row(query, parts.forms())),
         Listing::Characteristics => { Ok(next_characteristic_row(query, parts.characteristics())) }
         Listing::Manager | Listing::Cancel => Ok(None),

@@ -68,14 +68,28 @@ fn place_behind_number(entries: &[Box<Entry>], number: u32) -> usize
     }
 }
 
-// The entries behind a row.
-fn entries_past<'a>(last: &After, entries: &'a [Box<Entry>]) -> &'a [Box<Entry>]
+// Where the entries behind a row begin.
+fn place_past(last: &After, entries: &[Box<Entry>]) -> usize
     requires { IsInOrder nat_cmp (λ e. e.number) (contents entries.now) }
-    ensures { (p : AnyEntry → Bool) → find (λ e. is_past last.now (row.Entry e) && p e) (contents entries.now) ≡ find p (contents result.now) }
+    ensures within { result ≤ length entries.now }
+    ensures behind { (p : AnyEntry → Bool) → find (λ e. is_past last.now (row.Entry e) && p e) (contents entries.now) ≡ find p (drop result (contents entries.now)) }
 {
     match last {
-        After::Name(_) => &entries[entries.len()..],
-        After::Number(number) => &entries[place_behind_number(entries, *number)..],
+        After::Name(_) => entries.len(),
+        After::Number(number) => place_behind_number(entries, *number),
+    }
+}
+
+/// Where the entries behind the row that was given last begin: with the first of all where none was. It asks a logarithm of the
+/// entries.
+pub(crate) fn place_behind(last: &Option<After>, entries: &[Box<Entry>]) -> usize
+    requires { IsInOrder nat_cmp (λ e. e.number) (contents entries.now) }
+    ensures within { result ≤ length entries.now }
+    ensures behind { (p : AnyEntry → Bool) → find (λ e. is_behind last.now (row.Entry e) && p e) (contents entries.now) ≡ find p (drop result (contents entries.now)) }
+{
+    match last {
+        None => 0,
+        Some(last) => place_past(last, entries),
     }
 }
 
@@ -87,8 +101,5 @@ pub(crate) fn entries_behind<'a>(
     requires { IsInOrder nat_cmp (λ e. e.number) (contents entries.now) }
     ensures { (p : AnyEntry → Bool) → find (λ e. is_behind last.now (row.Entry e) && p e) (contents entries.now) ≡ find p (contents result.now) }
 {
-    match last {
-        None => entries,
-        Some(last) => entries_past(last, entries),
-    }
+    &entries[place_behind(last, entries)..]
 }

@@ -56,7 +56,7 @@ fn place_behind(row: &Row) -> Option<After>
 {
     match row {
         Row::Queue(queue) => Some(After::Name(queue.name)),
-        Row::Entry(entry) => Some(After::Number(entry.number)),
+        Row::Entry(entry) => Some(After::Number(entry.number())),
         Row::Form(form) => Some(After::Number(u32::from(form.number))),
         Row::Characteristic(one) => Some(After::Number(u32::from(one.number))),
         Row::Manager { .. } => None,

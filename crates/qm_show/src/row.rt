@@ -158,7 +158,7 @@ impl fmt::Display for RowText<'_> {
     fn fmt<W: fmt::Write>(&self, f: &mut fmt::Formatter<W>) -> fmt::Result {
         match self.0 {
             Row::Queue(queue) => write!(f, "{}", QueueText(queue)),
-            Row::Entry(entry) => write!(f, "{}", EntryText(entry)),
+            Row::Entry(entry) => write!(f, "{}", EntryText(&entry.entry())),
             Row::Form(form) => write!(f, "{}", FormText(form)),
             Row::Characteristic(characteristic) => {
                 write!(f, "{}", CharacteristicText(characteristic))

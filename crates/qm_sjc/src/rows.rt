@@ -142,7 +142,7 @@ pub fn row_items(alloc: Global, row: &Row) -> Result<Vec<Item>, AllocError>
 {
     match row {
         Row::Queue(queue) => queue_items(alloc, queue),
-        Row::Entry(entry) => entry_items(alloc, entry),
+        Row::Entry(entry) => entry_items(alloc, &entry.entry()),
         Row::Form(form) => form_items(alloc, form),
         Row::Characteristic(one) => characteristic_items(alloc, &one.name, one.number),
         Row::Manager { node, epoch, .. } => manager_items(alloc, node, *epoch),

@@ -12,7 +12,7 @@ ghost use Rattle.qm_state.specs.Timers.{AreTimersOf};
 
 use crate::image::Image;
 use crate::refused::Refused;
-use qm_kinds::{Listing, Name, Query, Refusal, Row};
+use qm_kinds::{ListedEntry, Listing, Name, Query, Refusal, Row};
 use qm_ready::ReadyRow;
 use qm_scan::{all_rows, next_row};
 use qm_sched::Parts;
@@ -70,7 +70,7 @@ impl Image {
             None => Err(Refused::By(Refusal::NoSuchEntry { number })),
             Some(entry) => {
                 let mut rows = Vec::new(self.alloc);
-                rows.push(Row::Entry(*entry))?;
+                rows.push(Row::Entry(ListedEntry::of(self.alloc, entry)?))?;
                 Ok(rows)
             }
         }

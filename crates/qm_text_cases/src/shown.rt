@@ -2,8 +2,8 @@
 use qm_item::write_items;
 use qm_kinds::{
     Act, Characteristic, CharacteristicSet, Entry, EntryState, FileName, Form, JobKind, JobRetain,
-    Listing, Mark, Moment, Name, ParseKind, Queue, QueueKind, QueueRetain, QueueState, Refusal,
-    Reply, Row, Seq, Shape, Start, batch_queue,
+    ListedEntry, Listing, Mark, Moment, Name, ParseKind, Queue, QueueKind, QueueRetain, QueueState,
+    Refusal, Reply, Row, Seq, Shape, Start, batch_queue,
 };
 use qm_plans::push_line;
 use qm_show::{Prefix, show_full, show_journal, show_refusal, show_reply, show_rows, show_runs};
@@ -34,8 +34,15 @@ fn queue(alloc: Global, queue: &[u8], kind: QueueKind, node: Option<Name>) -> Ro
     })
 }
 
-fn entry(number: u32, home: &[u8], job: &[u8], size: u32, state: EntryState) -> Row {
-    Row::Entry(Entry {
+fn entry(
+    alloc: Global,
+    number: u32,
+    home: &[u8],
+    job: &[u8],
+    size: u32,
+    state: EntryState,
+) -> Result<Row, AllocError> {
+    let entry = Entry {
         number,
         kind: JobKind::Print,
         home: name(home),
@@ -58,7 +65,8 @@ fn entry(number: u32, home: &[u8], job: &[u8], size: u32, state: EntryState) -> 
         mark: no_mark(),
         again: false,
         state,
-    })
+    };
+    Ok(Row::Entry(ListedEntry::of(alloc, &entry)?))
 }
 
 fn no_mark() -> Mark {
@@ -103,7 +111,7 @@ fn print_rows(alloc: Global) -> Result<Vec<Row>, AllocError> {
     };
     let mut rows = Vec::new(alloc);
     rows.push(queue(alloc, b"PLUTO_LP", QueueKind::Print, Some(node)))?;
-    rows.push(entry(1, b"LPA", b"REPORT", 13, running))?;
+    rows.push(entry(alloc, 1, b"LPA", b"REPORT", 13, running)?)?;
     Ok(rows)
 }
 
@@ -118,8 +126,8 @@ fn push_batch_rows(alloc: Global, rows: &mut Vec<Row>) -> Result<(), AllocError>
     };
     let node = name(b"PLUTO");
     rows.push(queue(alloc, b"SYS$BATCH", QueueKind::Batch, Some(node)))?;
-    rows.push(entry(4, b"LPA", b"A_LONG_NAME_OF_A_JOB", 1, retained))?;
-    rows.push(entry(1234567, b"LPA", b"F", 123456789, timed))?;
+    rows.push(entry(alloc, 4, b"LPA", b"A_LONG_NAME_OF_A_JOB", 1, retained)?)?;
+    rows.push(entry(alloc, 1234567, b"LPA", b"F", 123456789, timed)?)?;
     Ok(())
 }
 
@@ -147,7 +155,7 @@ fn all_rows(alloc: Global) -> Result<Vec<Row>, AllocError> {
 pub(crate) fn tell_row_items(alloc: Global, told: &mut Vec<u8>) -> Result<(), AllocError> {
     let mut rows = all_rows(alloc)?;
     rows.push(queue(alloc, b"HALL", QueueKind::Print, Some(name(b"PLUTO"))))?;
-    rows.push(entry(2, b"HALL", b"REPORT", 1, EntryState::Pending))?;
+    rows.push(entry(alloc, 2, b"HALL", b"REPORT", 1, EntryState::Pending)?)?;
     for row in &rows {
         let items = row_items(alloc, row)?;
         let bytes = write_items(alloc, &items)?;
