@@ -21,6 +21,11 @@ returns-in-TakeManager-clause-follows g c = λ tells.
     parted.managing_follows c.site_files_are_accepted.ensures c.nodes_keep_their_names.ensures.names g.D.Disk.meaning g.met.D.Disk.only_now c.args.self.now c.args.taken c.args.node c.args.now c.args.input desk.2 c.requires.can
     c.parts-manager.result c.parts-manager.ensures c.managing.result c.in-TakeManager.on name.0 c.in-TakeManager.is name.1 (c.managing.ensures name.0 name.1)
 
+pub returns-in-Some-clause-leaves : goal.returns-in-Some-clause-leaves
+returns-in-Some-clause-leaves g c =
+    parted.refused_leaves g.D.Disk.meaning c.args.self.now c.args.taken c.args.node c.requires.desk c.parts-manager.result c.parts-manager.ensures c.behind.result c.up.result c.in-Some.refusal c.acting-acting.result
+    (c.up.ensures ∙ ap (λ (step : Step). came_of step (Up c.parts-manager.result.0 c.args.node)) c.refused.ensures) c.behind.ensures
+
 pub returns-in-Some-clause-follows : goal.returns-in-Some-clause-follows
 returns-in-Some-clause-follows g c = λ tells.
     parted.refused_follows c.site_files_are_accepted.ensures c.nodes_keep_their_names.ensures.names g.D.Disk.meaning g.met.D.Disk.only_now c.args.self.now c.args.taken c.args.node c.args.now c.args.input c.requires.desk.2 c.requires.can
