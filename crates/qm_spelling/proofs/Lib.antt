@@ -1,5 +1,4 @@
 pub mod Listed
-mod Blanks
 mod Values
 mod Times
 mod SpelledTruth

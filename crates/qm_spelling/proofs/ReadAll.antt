@@ -35,8 +35,9 @@ use Rattle.qm_dcl.specs.Given.{with_word}
 use Rattle.qm_dcl.specs.Lists.{gives, values_ahead, behind_last, lists_of, nodes_of}
 use Rattle.qm_dcl.specs.Settings.{nothing_given, settings_from, settings_of}
 use Rattle.qm_dcl.specs.Values.{said_by, characteristic_said, short_name_said}
-use Rattle.qm_spelling.specs.Commands.{is_command, command_text, spelling_of}
-use Rattle.qm_spelling.specs.Jobs.{is_timed, sets_entry}
+use Rattle.qm_sayable.specs.Commands.{is_command}
+use Rattle.qm_spelling.specs.Commands.{command_text, spelling_of}
+use Rattle.qm_sayable.specs.Jobs.{is_timed, sets_entry}
 use Rattle.qm_spelling.proofs.ReadCommands.{HasSpelling, IsWhole, of_command}
 use Rattle.qm_spelling.proofs.ReadConflicts.{has_place, no_conflict, no_further_conflict}
 use Rattle.qm_spelling.proofs.ReadEntry.{is_of_entry, entry_needs, entry_is_set}

@@ -31,11 +31,11 @@ use Rattle.qm_dcl.specs.Queues.{change_of, kind_of, new_queue_of, stop_of, queue
 use Rattle.qm_dcl.specs.Showing.{all_kinds, entries_query}
 use Rattle.qm_dcl.specs.Submitting.{default_queue, default_type, with_type, job_of}
 use Rattle.qm_dcl.specs.Values.{are_digits, is_node_name}
-use Rattle.qm_spelling.specs.Pieces.{fits_list, is_form_reference, are_characteristics}
-use Rattle.qm_spelling.specs.Queues.{is_generic, is_placed, is_passing_on, is_new_queue, are_queue_settings, sets_queue}
-use Rattle.qm_spelling.specs.Jobs.{are_print_settings, is_job, is_timed, sets_entry, are_entry_characteristics, is_entry_change}
-use Rattle.qm_spelling.specs.Listings.{are_kinds}
-use Rattle.qm_spelling.specs.Commands.{is_command, is_request, are_nodes}
+use Rattle.qm_sayable.specs.Values.{fits_list, is_form_reference, are_characteristics}
+use Rattle.qm_sayable.specs.Queues.{is_generic, is_placed, is_passing_on, is_new_queue, are_queue_settings, sets_queue}
+use Rattle.qm_sayable.specs.Jobs.{are_print_settings, is_job, is_timed, sets_entry, are_entry_characteristics, is_entry_change}
+use Rattle.qm_sayable.specs.Listings.{are_kinds}
+use Rattle.qm_sayable.specs.Commands.{is_command, is_request, are_nodes}
 use Rattle.qm_spelling.proofs.ReadLists.{are_targets, AreLists}
 use Rattle.qm_spelling.proofs.ReadSayable.{IsShort, IsDefinable, IsForm, AreSayable}
 use Rattle.qm_spelling.proofs.ReadTokens.{both_first, both_second}

@@ -15,7 +15,7 @@ use Rattle.qm_dcl.specs.Given.{with_job, valued, with_word, with_retain}
 use Rattle.qm_dcl.specs.Lists.{gives, behind_last}
 use Rattle.qm_dcl.specs.Settings.{settings_of}
 use Rattle.qm_dcl.specs.Values.{byte_said, entry_said, short_name_said, form_said, characteristic_said}
-use Rattle.qm_spelling.specs.Jobs.{sets_entry}
+use Rattle.qm_sayable.specs.Jobs.{sets_entry}
 use Rattle.qm_spelling.proofs.ReadSet.{each, marked, filled, HasInner, no_inner, all_lawful, is_settled, are_listed, same_word, Listed}
 use Rattle.qm_spelling.proofs.ReadSettings.{folded, IsKept, holds}
 use Rattle.qm_spelling.proofs.ReadTokens.{or_left, or_right, AreLawful, has_qualifier}

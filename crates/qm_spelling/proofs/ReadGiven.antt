@@ -12,7 +12,7 @@ use Rattle.qm_dcl.specs.declared.settings.Settings.{Settings}
 use Rattle.qm_dcl.specs.Values.{byte_said, entry_said, blocks_said, short_name_said, form_said, characteristic_said, location_said}
 use Rattle.qm_dcl.specs.Given.{job_marked, with_job, with_queue_settings, with_definition, with_shape, blocks_with, valued}
 use Rattle.qm_dcl.specs.Settings.{settings_of}
-use Rattle.qm_spelling.specs.Jobs.{is_timed}
+use Rattle.qm_sayable.specs.Jobs.{is_timed}
 use Rattle.qm_spelling.proofs.ReadSayable.{same_location}
 use Rattle.qm_spelling.proofs.ReadSettings.{folded, AreAll, IsKept, holds}
 use Rattle.qm_spelling.proofs.ReadTokens.{or_left, or_right}

@@ -15,8 +15,8 @@ use Rattle.qm_dcl.specs.declared.lists.ListOf.TheVariants.{Characteristics, Targ
 use Rattle.qm_dcl.specs.declared.lists.Lists.{Lists}
 use Rattle.qm_dcl.specs.Lists.{begins_list, behind_last, values_ahead, lists_of, nodes_of}
 use Rattle.qm_dcl.specs.Values.{said_by, is_node_name, characteristic_said, short_name_said, node_said}
-use Rattle.qm_spelling.specs.Pieces.{fits_list, is_reference, are_characteristics}
-use Rattle.qm_spelling.specs.Commands.{are_nodes}
+use Rattle.qm_sayable.specs.Values.{fits_list, is_reference, are_characteristics}
+use Rattle.qm_sayable.specs.Commands.{are_nodes}
 use Rattle.qm_spelling.proofs.ReadValues.{both, short_name, node_name, reference}
 
 -- ---- how many

@@ -19,7 +19,7 @@ use Rattle.qm_dcl.specs.declared.value.Location.{Location}
 use Rattle.qm_dcl.specs.Values.{are_digits, byte_said, form_number_said, entry_said, blocks_said, short_name_said, definable_name_said, form_said, characteristic_said, location_said, pattern_said}
 use Rattle.qm_dcl.specs.Given.{job_marked, queue_marked, listing_marked, with_word, with_job, with_queue_settings, with_definition, with_shape, queue_given, entry_given, blocks_with, valued, definable_given, form_given, characteristic_given, merge_given, file_given, pattern_given, parametered}
 use Rattle.qm_dcl.specs.Settings.{settings_of}
-use Rattle.qm_spelling.specs.Pieces.{is_form_reference}
+use Rattle.qm_sayable.specs.Values.{is_form_reference}
 use Rattle.qm_spelling.proofs.ReadValues.{short_name, definable_name, reference, pattern, IsPlace, location}
 use Rattle.qm_spelling.proofs.ReadSettings.{AreAll, IsKept, holds}
 

@@ -19,7 +19,7 @@ use Rattle.qm_dcl.specs.Lists.{gives, behind_last}
 use Rattle.qm_dcl.specs.Queues.{change_of}
 use Rattle.qm_dcl.specs.Settings.{has_value_ahead, inner_value, settings_of}
 use Rattle.qm_dcl.specs.Values.{byte_said, entry_said, blocks_said, short_name_said, form_said, characteristic_said, location_said, has_equals}
-use Rattle.qm_spelling.specs.Queues.{sets_queue}
+use Rattle.qm_sayable.specs.Queues.{sets_queue}
 use Rattle.qm_spelling.proofs.ReadSettings.{folded, AreAll, IsKept, holds}
 use Rattle.qm_spelling.proofs.ReadTokens.{or_left, or_right, AreLawful, has_qualifier}
 

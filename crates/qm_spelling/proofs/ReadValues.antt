@@ -14,7 +14,7 @@ use Rattle.qm_model.specs.Built.{is_short, is_definable}
 use Rattle.qm_model.specs.Texts.{value_of}
 use Rattle.qm_dcl.specs.declared.value.Location.{Location}
 use Rattle.qm_dcl.specs.Values.{are_digits, number_to, if_passes, short_name_said, definable_name_said, is_node_name, node_said, reference_said, pattern_said, behind_colon, before_colon, device_said, located, location_cut_at, location_said}
-use Rattle.qm_spelling.specs.Pieces.{is_reference}
+use Rattle.qm_sayable.specs.Values.{is_reference}
 
 -- ---- truth values
 

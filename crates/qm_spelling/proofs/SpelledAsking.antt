@@ -22,7 +22,8 @@ use Rattle.qm_dcl.specs.Lists.{gives}
 use Rattle.qm_dcl.specs.Settings.{lists_nodes}
 use Rattle.qm_dcl.specs.Values.{number_to, short_name_said, reference_said}
 use Rattle.qm_spelling.specs.Lawful.{IsReference, AreReferences, AreNames}
-use Rattle.qm_spelling.specs.Pieces.{reference_text, is_reference, fits_list}
+use Rattle.qm_sayable.specs.Values.{is_reference, fits_list}
+use Rattle.qm_spelling.specs.Pieces.{reference_text}
 use Rattle.qm_spelling.proofs.Values.{decimal_is_digits, number_reads_back}
 use Rattle.qm_spelling.proofs.SpelledPieces.{Said, Item, Value, Piece, IsWord, AreItems}
 use Rattle.qm_spelling.proofs.SpelledReading.{Spoken, spoken, inner_spoken, items_spoken, value_spoken, plain, TakesOthers, TakesValue}

@@ -13,7 +13,8 @@ use Rattle.qm_dcl.specs.declared.settings.Settings.{Settings}
 use Rattle.qm_dcl.specs.Command.{asked, judged, asked_with, not_built, command_named, command_of}
 use Rattle.qm_dcl.specs.Lists.{lists_of, nodes_of}
 use Rattle.qm_dcl.specs.Settings.{nothing_given, settings_of}
-use Rattle.qm_spelling.specs.Commands.{is_command, command_text}
+use Rattle.qm_sayable.specs.Commands.{is_command}
+use Rattle.qm_spelling.specs.Commands.{command_text}
 use Rattle.qm_spelling.specs.ReadBack.{ReadsBack}
 use Rattle.qm_spelling.proofs.SpelledLexemes.{text_of}
 use Rattle.qm_spelling.proofs.SpelledPieces.{Piece, command_lexemes}

@@ -27,9 +27,11 @@ use Rattle.qm_dcl.specs.declared.settings.Settings.{Settings}
 use Rattle.qm_dcl.specs.Entries.{entry_change_of}
 use Rattle.qm_dcl.specs.Settings.{nothing_given}
 use Rattle.qm_dcl.specs.Values.{characteristic_said}
-use Rattle.qm_spelling.specs.Jobs.{entry_after_text, entry_settings_text, set_entry_text, is_timed, are_entry_characteristics, sets_entry, is_entry_change}
+use Rattle.qm_sayable.specs.Jobs.{is_timed, are_entry_characteristics, sets_entry, is_entry_change}
+use Rattle.qm_spelling.specs.Jobs.{entry_after_text, entry_settings_text, set_entry_text}
 use Rattle.qm_spelling.specs.Lawful.{IsReference, AreReferences, IsMoment, IsEntryChange}
-use Rattle.qm_spelling.specs.Pieces.{valued, references_text, is_form_reference, are_characteristics, fits_list}
+use Rattle.qm_sayable.specs.Values.{is_form_reference, are_characteristics, fits_list}
+use Rattle.qm_spelling.specs.Pieces.{valued, references_text}
 use Rattle.qm_spelling.specs.ReadBack.{ReadsBack}
 use Rattle.qm_spelling.proofs.Values.{number_reads_back}
 use Rattle.qm_spelling.proofs.SpelledPieces.{Piece, ArePieces}

@@ -11,7 +11,9 @@ use Rattle.qm_grammar.specs.declared.word.Word.{Word}
 use Rattle.qm_grammar.specs.declared.word.Word.TheVariants as words
 use Rattle.qm_spelling.specs.Jobs.{job_retain_text, restart_text, job_characteristics_text}
 use Rattle.qm_spelling.specs.Lawful.{IsName, IsReference, AreReferences}
-use Rattle.qm_spelling.specs.Pieces.{valued, reference_text, time_text, fits_list}
+use Rattle.qm_sayable.specs.Values.{fits_list}
+use Rattle.qm_sayable.specs.Times.{time_text}
+use Rattle.qm_spelling.specs.Pieces.{valued, reference_text}
 use Rattle.qm_spelling.proofs.SpelledPieces.{Item, Value, Piece, ArePieces}
 use Rattle.qm_spelling.proofs.SpelledReading.{plain, TakesValue}
 use Rattle.qm_spelling.proofs.SpelledTails.{mark, one, in_quotes, words_list, pieces_text, value_text, valued_text, one_text, list_text_is, In, AreGiven}

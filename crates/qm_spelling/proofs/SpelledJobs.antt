@@ -34,9 +34,11 @@ use Rattle.qm_dcl.specs.Command.{asked}
 use Rattle.qm_dcl.specs.Settings.{nothing_given}
 use Rattle.qm_dcl.specs.Submitting.{default_queue, default_type, default_restart, with_type, job_of}
 use Rattle.qm_dcl.specs.Values.{characteristic_said, short_name_said}
-use Rattle.qm_spelling.specs.Jobs.{unless_default, number_unless_default, retain_unless_default, restart_unless_default, restart_text, job_settings_text, print_settings_text, job_text, are_print_settings, is_job}
+use Rattle.qm_sayable.specs.Jobs.{are_print_settings, is_job}
+use Rattle.qm_spelling.specs.Jobs.{unless_default, number_unless_default, retain_unless_default, restart_unless_default, restart_text, job_settings_text, print_settings_text, job_text}
 use Rattle.qm_spelling.specs.Lawful.{IsName, IsReference, IsRetain, IsJobOf}
-use Rattle.qm_spelling.specs.Pieces.{valued, is_form_reference, are_characteristics, fits_list}
+use Rattle.qm_sayable.specs.Values.{is_form_reference, are_characteristics, fits_list}
+use Rattle.qm_spelling.specs.Pieces.{valued}
 use Rattle.qm_spelling.specs.ReadBack.{ReadsBack}
 use Rattle.qm_spelling.proofs.SpelledLexemes.{text_of}
 use Rattle.qm_spelling.proofs.SpelledPieces.{Said, Piece, ArePieces, command_lexemes}

@@ -26,7 +26,8 @@ use Rattle.qm_dcl.specs.Settings.{nothing_given}
 use Rattle.qm_dcl.specs.Showing.{all_kinds, forms_query, characteristics_query, queues_query}
 use Rattle.qm_dcl.specs.Values.{are_digits, says_all}
 use Rattle.qm_spelling.specs.Lawful.{IsQueryOf}
-use Rattle.qm_spelling.specs.Listings.{pattern_text, are_all, kinds_text, query_text, is_for_all, is_query}
+use Rattle.qm_sayable.specs.Listings.{are_all, is_for_all, is_query}
+use Rattle.qm_spelling.specs.Listings.{pattern_text, kinds_text, query_text}
 use Rattle.qm_spelling.specs.Pieces.{marked}
 use Rattle.qm_spelling.specs.ReadBack.{ReadsBack}
 use Rattle.qm_spelling.proofs.Values.{decimal_is_digits, number_reads_back, pattern_reads_back}

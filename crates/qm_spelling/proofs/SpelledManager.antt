@@ -19,9 +19,10 @@ use Rattle.qm_dcl.specs.declared.settings.Settings.{Settings}
 use Rattle.qm_dcl.specs.Given.{with_word, nodes_begun, node_given}
 use Rattle.qm_dcl.specs.Settings.{nothing_given, lists_nodes}
 use Rattle.qm_dcl.specs.Values.{says_all, is_node_name, node_said}
-use Rattle.qm_spelling.specs.Commands.{are_nodes, nodes_text}
+use Rattle.qm_sayable.specs.Commands.{are_nodes}
+use Rattle.qm_spelling.specs.Commands.{nodes_text}
 use Rattle.qm_spelling.specs.Lawful.{IsName, AreNames}
-use Rattle.qm_spelling.specs.Pieces.{fits_list}
+use Rattle.qm_sayable.specs.Values.{fits_list}
 use Rattle.qm_spelling.specs.ReadBack.{ReadsBack}
 use Rattle.qm_spelling.proofs.SpelledPieces.{Piece}
 use Rattle.qm_spelling.proofs.SpelledReading.{Spoken, spoken, items_spoken, plain}

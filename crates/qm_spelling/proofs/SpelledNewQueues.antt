@@ -36,8 +36,10 @@ use Rattle.qm_dcl.specs.Queues.{kind_of, new_queue_of, queue_request}
 use Rattle.qm_dcl.specs.Settings.{nothing_given}
 use Rattle.qm_dcl.specs.Values.{is_node_name, short_name_said, characteristic_said, behind_colon, before_colon, device_said, located, location_cut_at, location_said}
 use Rattle.qm_spelling.specs.Lawful.{IsName, AreNames, IsNewQueue}
-use Rattle.qm_spelling.specs.Pieces.{marked, fits_list}
-use Rattle.qm_spelling.specs.Queues.{is_for_batch, targets_text, device_text, location_text, queue_settings_text, new_queue_text, are_queue_settings, is_generic, is_placed, is_passing_on, is_new_queue}
+use Rattle.qm_sayable.specs.Values.{fits_list}
+use Rattle.qm_spelling.specs.Pieces.{marked}
+use Rattle.qm_sayable.specs.Queues.{are_queue_settings, is_generic, is_placed, is_passing_on, is_new_queue}
+use Rattle.qm_spelling.specs.Queues.{is_for_batch, targets_text, device_text, location_text, queue_settings_text, new_queue_text}
 use Rattle.qm_spelling.specs.ReadBack.{ReadsBack}
 use Rattle.qm_spelling.proofs.SpelledLexemes.{is_word_byte, text_of}
 use Rattle.qm_spelling.proofs.SpelledPieces.{Piece, IsWord, ArePieces, command_lexemes}

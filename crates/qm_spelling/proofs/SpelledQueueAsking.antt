@@ -22,8 +22,10 @@ use Rattle.qm_dcl.specs.Lists.{gives}
 use Rattle.qm_dcl.specs.Settings.{lists_nodes, is_of_queue}
 use Rattle.qm_dcl.specs.Values.{characteristic_said}
 use Rattle.qm_spelling.specs.Lawful.{IsReference, AreReferences, IsQueueChange}
-use Rattle.qm_spelling.specs.Pieces.{reference_text, is_form_reference, is_reference, are_characteristics, fits_list}
-use Rattle.qm_spelling.specs.Queues.{are_no_limits, are_queue_settings}
+use Rattle.qm_sayable.specs.Values.{is_form_reference, is_reference, are_characteristics, fits_list}
+use Rattle.qm_spelling.specs.Pieces.{reference_text}
+use Rattle.qm_sayable.specs.Queues.{are_queue_settings}
+use Rattle.qm_spelling.specs.Queues.{are_no_limits}
 use Rattle.qm_spelling.proofs.Values.{number_reads_back}
 use Rattle.qm_spelling.proofs.SpelledPieces.{Said, Piece}
 use Rattle.qm_spelling.proofs.SpelledReading.{Spoken, spoken, items_spoken, plain}

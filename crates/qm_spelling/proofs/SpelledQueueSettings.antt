@@ -11,8 +11,10 @@ use Rattle.qm_grammar.specs.declared.rules.Takes.TheVariants as takes
 use Rattle.qm_grammar.specs.declared.word.Word.TheVariants as words
 use Rattle.qm_grammar.specs.Rules.{queue_settings}
 use Rattle.qm_spelling.specs.Lawful.{IsReference, AreReferences, IsQueueChange}
-use Rattle.qm_spelling.specs.Pieces.{marked, valued, list_text, reference_text, are_characteristics, fits_list}
-use Rattle.qm_spelling.specs.Queues.{queue_characteristics_text, are_no_limits, blocks_text, schedule_text, queue_retain_text, queue_settings_text, are_queue_settings}
+use Rattle.qm_sayable.specs.Values.{are_characteristics, fits_list}
+use Rattle.qm_spelling.specs.Pieces.{marked, valued, list_text, reference_text}
+use Rattle.qm_sayable.specs.Queues.{are_queue_settings}
+use Rattle.qm_spelling.specs.Queues.{queue_characteristics_text, are_no_limits, blocks_text, schedule_text, queue_retain_text, queue_settings_text}
 use Rattle.qm_spelling.proofs.SpelledPieces.{Piece, ArePieces}
 use Rattle.qm_spelling.proofs.SpelledTails.{one, words_list, pieces_text, both_texts, mark_text, valued_text, one_text, list_text_is, AreGiven, given_append, pieces_append}
 use Rattle.qm_spelling.proofs.SpelledWords.{number_word}

@@ -27,7 +27,8 @@ use Rattle.qm_dcl.specs.Queues.{change_of, queue_request}
 use Rattle.qm_dcl.specs.Settings.{nothing_given}
 use Rattle.qm_dcl.specs.Values.{characteristic_said}
 use Rattle.qm_spelling.specs.Lawful.{IsName, IsQueueChange}
-use Rattle.qm_spelling.specs.Queues.{are_no_limits, are_queue_settings, sets_queue}
+use Rattle.qm_sayable.specs.Queues.{are_queue_settings, sets_queue}
+use Rattle.qm_spelling.specs.Queues.{are_no_limits}
 use Rattle.qm_spelling.specs.ReadBack.{ReadsBack}
 use Rattle.qm_spelling.proofs.SpelledPieces.{Piece}
 use Rattle.qm_spelling.proofs.SpelledReading.{Spoken, spoken}

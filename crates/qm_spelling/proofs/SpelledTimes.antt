@@ -6,7 +6,7 @@ use Rattle.std.proofs.lemmas.List.Folds.{list_all-append}
 use Rattle.qm_model.specs.Calendar.{CivilDate, date_of_day}
 use Rattle.qm_model.specs.MomentText.{two_digits, four_digits, right_in_two, month_letters, date_text, clock_text, moment_text, without_blank}
 use Rattle.qm_dcl.specs.Values.{moment_said}
-use Rattle.qm_spelling.specs.Pieces.{time_text}
+use Rattle.qm_sayable.specs.Times.{time_text}
 use Rattle.qm_spelling.proofs.SpelledPieces.{IsInside}
 use Rattle.qm_spelling.proofs.SpelledTails.{in_quotes, value_text}
 use Rattle.qm_spelling.proofs.SpelledTruth.{and_right}

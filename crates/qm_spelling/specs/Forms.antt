@@ -6,7 +6,6 @@ use Rattle.qm_kinds.specs.declared.form.Form.{Form}
 use Rattle.qm_kinds.specs.declared.form.Shape.{Shape}
 use Rattle.qm_grammar.specs.declared.word.Word.TheVariants as words
 use Rattle.qm_dcl.specs.Forms.{default_shape}
-use Rattle.qm_model.specs.Built.{is_short, is_definable}
 use Rattle.qm_spelling.specs.Pieces.{marked, valued, list_text}
 use Rattle.qm_spelling.specs.Jobs.{unless_default, number_unless_default}
 
@@ -40,10 +39,6 @@ form_text form =
     codes "DEFINE/FORM " ++ form.name ++ codes " " ++ decimal form.number
     ++ valued words.Stock (unless_default form.name form.stock)
     ++ shape_text form.shape
-
--- a form that can be defined by a command
-abbrev pub is_form : Form → Bool
-is_form form = is_definable form.name && is_short form.stock
 
 -- a characteristic that is defined
 abbrev pub characteristic_text : Characteristic → List ℕ

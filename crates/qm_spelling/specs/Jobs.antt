@@ -1,7 +1,6 @@
 -- Commands of jobs.
 -- DCL Dictionary, SUBMIT, PRINT, SET ENTRY and DELETE/ENTRY.
-use Rattle.std.specs.Prelude.{ℕ, Bool, true, false, ◌&&◌, ◌||◌, ◌==◌, not, nat_lt, if◌then◌else◌, List, [], ◌∷◌, ◌++◌, length, codes, decimal, Option, None, Some, option_map, is_some}
-use Rattle.std.specs.Option.{option_map_or}
+use Rattle.std.specs.Prelude.{ℕ, Bool, true, false, ◌==◌, if◌then◌else◌, List, [], ◌∷◌, ◌++◌, codes, decimal, Option, None, Some, option_map}
 use Rattle.std.specs.Str.{bytes_eq}
 use Rattle.qm_kinds.specs.Files.{file_name_text}
 use Rattle.qm_kinds.specs.declared.entry.JobKind.{JobKind}
@@ -13,8 +12,8 @@ use Rattle.qm_kinds.specs.declared.request.Job.{Job}
 use Rattle.qm_kinds.specs.declared.request.NameOrNumber.{NameOrNumber}
 use Rattle.qm_grammar.specs.declared.word.Word.TheVariants as words
 use Rattle.qm_dcl.specs.Submitting.{default_queue}
-use Rattle.qm_model.specs.Built.{is_short}
-use Rattle.qm_spelling.specs.Pieces.{marked, valued, reference_text, references_text, time_text, is_form_reference, are_characteristics}
+use Rattle.qm_sayable.specs.Times.{time_text}
+use Rattle.qm_spelling.specs.Pieces.{marked, valued, reference_text, references_text}
 
 -- whether a job is kept
 abbrev pub job_retain_text : JobRetain → List ℕ
@@ -89,16 +88,6 @@ abbrev pub job_text : JobKind → Job → List ℕ
 job_text Batch job = codes "SUBMIT " ++ file_name_text job.file ++ job_settings_text job
 job_text Print job = codes "PRINT " ++ file_name_text job.file ++ job_settings_text job ++ print_settings_text job
 
--- only a print job has a form, copies or a flag page
-abbrev pub are_print_settings : JobKind → Job → Bool
-are_print_settings Batch job = not (is_some job.form) && job.copies == 1 && not job.flag
-are_print_settings Print job = option_map_or is_form_reference job.form true
-
--- a job that can be submitted by a command: its file has a type, since one is added where none is given
-abbrev pub is_job : Job → Bool
-is_job job =
-    is_short job.queue && is_some job.file.extension && are_characteristics job.characteristics && are_print_settings job.kind job
-
 -- ---- SET ENTRY
 
 -- the moment before which the job doesn't start, or that it waits for none
@@ -133,26 +122,3 @@ entry_settings_text change = entry_waiting_text change ++ entry_needs_text chang
 -- an entry that is changed
 abbrev pub set_entry_text : ℕ → EntryChange → List ℕ
 set_entry_text entry change = codes "SET ENTRY " ++ decimal entry ++ entry_settings_text change
-
--- a moment is set
-abbrev pub is_timed : Option (Option ℕ) → Bool
-is_timed None = false
-is_timed (Some None) = false
-is_timed (Some (Some moment)) = true
-
--- characteristics that an entry can get; SET ENTRY has no word for none
-abbrev pub are_entry_characteristics : List NameOrNumber → Bool
-are_entry_characteristics characteristics = nat_lt 0 (length characteristics) && are_characteristics characteristics
-
--- something is changed
-abbrev pub sets_entry : EntryChange → Bool
-sets_entry change =
-    change.release || change.hold || is_some change.after || is_some change.priority || is_some change.name || is_some change.characteristics
-    || is_some change.form || is_some change.queue || is_some change.restart || is_some change.retain
-
--- a change that a command can make: what is released is neither held nor waits for a moment
-abbrev pub is_entry_change : EntryChange → Bool
-is_entry_change change =
-    sets_entry change && not (change.release && (change.hold || is_timed change.after))
-    && option_map_or are_entry_characteristics change.characteristics true
-    && option_map_or is_form_reference change.form true && option_map_or is_short change.queue true

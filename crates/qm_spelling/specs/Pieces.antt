@@ -1,13 +1,10 @@
--- What commands are put together of, and which values a command can say.
+-- What commands are put together of.
 -- OpenVMS User's Manual, on entering commands: qualifiers, values, lists, quoted strings.
-use Rattle.std.specs.Prelude.{ℕ, Bool, ◌&&◌, nat_le, if◌then◌else◌, List, [], ◌++◌, map, length, codes, decimal, Option, None, Some}
-use Rattle.std.specs.List.{list_all}
+use Rattle.std.specs.Prelude.{ℕ, Bool, if◌then◌else◌, List, [], ◌++◌, map, codes, decimal, Option, None, Some}
 use Rattle.qm_kinds.specs.declared.request.NameOrNumber.{NameOrNumber}
 use Rattle.qm_kinds.specs.declared.request.NameOrNumber.TheVariants.{Name, Number}
 use Rattle.qm_grammar.specs.declared.word.Word.{Word}
 use Rattle.qm_grammar.specs.Words.{spelling}
-use Rattle.qm_model.specs.Built.{is_definable}
-use Rattle.qm_model.specs.MomentText.{moment_text, without_blank}
 use Rattle.qm_model.specs.Words.{listed}
 
 -- a name behind a /, where it is given
@@ -39,26 +36,3 @@ reference_text (Number number) = decimal number
 -- forms or characteristics
 abbrev pub references_text : List NameOrNumber → List ℕ
 references_text references = list_text (map reference_text references)
-
--- A moment as an absolute time, to the hundredth of a second. It has a blank, and so stands in quotes, and no time has one in front.
-abbrev pub time_text : ℕ → List ℕ
-time_text moment = codes "\"" ++ without_blank (moment_text moment) ++ codes "\""
-
--- ---- what can be said
-
--- a list isn't too long
-abbrev pub fits_list : ℕ → Bool
-fits_list values = nat_le values 65535
-
--- a form or a characteristic: a name of digits alone would be a number, and no number is above the most
-abbrev pub is_reference : ℕ → NameOrNumber → Bool
-is_reference most (Name name) = is_definable name
-is_reference most (Number number) = nat_le number most
-
--- a form, whose number has 16 bits
-abbrev pub is_form_reference : NameOrNumber → Bool
-is_form_reference form = is_reference 65535 form
-
--- characteristics, whose numbers have 8 bits
-abbrev pub are_characteristics : List NameOrNumber → Bool
-are_characteristics characteristics = fits_list (length characteristics) && list_all (is_reference 255) characteristics

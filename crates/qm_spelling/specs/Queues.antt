@@ -1,8 +1,6 @@
 -- Commands of queues.
 -- DCL Dictionary, INITIALIZE/QUEUE, SET QUEUE, START/QUEUE, STOP/QUEUE, DELETE/QUEUE and ASSIGN/MERGE.
-use Rattle.std.specs.Prelude.{ℕ, Bool, true, false, ◌&&◌, ◌||◌, ◌==◌, not, nat_lt, if◌then◌else◌, List, [], ◌∷◌, ◌++◌, length, codes, decimal, Option, None, Some, option_map, is_some}
-use Rattle.std.specs.List.{list_all}
-use Rattle.std.specs.Option.{option_map_or}
+use Rattle.std.specs.Prelude.{ℕ, Bool, true, false, ◌&&◌, ◌==◌, not, if◌then◌else◌, List, [], ◌∷◌, ◌++◌, codes, decimal, Option, None, Some, option_map}
 use Rattle.qm_kinds.specs.declared.queue.NewQueue.{NewQueue}
 use Rattle.qm_kinds.specs.declared.queue.QueueChange.{QueueChange}
 use Rattle.qm_kinds.specs.declared.queue.QueueKind.{QueueKind}
@@ -13,9 +11,7 @@ use Rattle.qm_kinds.specs.declared.request.NameOrNumber.{NameOrNumber}
 use Rattle.qm_kinds.specs.declared.request.StopMode.{StopMode}
 use Rattle.qm_kinds.specs.declared.request.StopMode.TheVariants.{Pause, Next, Reset}
 use Rattle.qm_grammar.specs.declared.word.Word.TheVariants as words
-use Rattle.qm_dcl.specs.Values.{is_node_name}
-use Rattle.qm_model.specs.Built.{is_short}
-use Rattle.qm_spelling.specs.Pieces.{marked, valued, list_text, reference_text, references_text, fits_list, is_form_reference, are_characteristics}
+use Rattle.qm_spelling.specs.Pieces.{marked, valued, list_text, reference_text, references_text}
 
 -- ---- what is set for a queue
 
@@ -59,17 +55,6 @@ queue_settings_text change =
     ++ schedule_text change.by_size
     ++ queue_retain_text change.retain
 
--- what is set can be said
-abbrev pub are_queue_settings : QueueChange → Bool
-are_queue_settings change =
-    option_map_or are_characteristics change.characteristics true && option_map_or is_form_reference change.form true
-
--- something is set
-abbrev pub sets_queue : QueueChange → Bool
-sets_queue change =
-    is_some change.limit || is_some change.characteristics || is_some change.form || is_some change.blocks
-    || is_some change.by_size || is_some change.retain
-
 -- ---- INITIALIZE/QUEUE
 
 -- a queue of this kind is for batch jobs
@@ -103,29 +88,6 @@ new_queue_text new =
     ++ location_text new.node new.device
     ++ marked words.Start new.start
     ++ queue_settings_text new.change
-
--- an execution queue passes its jobs on to none, and has a device only of a node that is named
-abbrev pub is_placed : NewQueue → Bool
-is_placed new =
-    length new.targets == 0 && option_map_or is_node_name new.node true && option_map_or is_short new.device true
-    && (is_some new.node || not (is_some new.device))
-
--- a generic queue passes its jobs on to some queues, and stands on no node
-abbrev pub is_passing_on : NewQueue → Bool
-is_passing_on new =
-    nat_lt 0 (length new.targets) && fits_list (length new.targets) && list_all is_short new.targets
-    && not (is_some new.node) && not (is_some new.device)
-
-abbrev pub is_generic : QueueKind → Bool
-is_generic Batch = false
-is_generic Print = false
-is_generic GenericBatch = true
-is_generic GenericPrint = true
-
--- a queue that can be made by a command
-abbrev pub is_new_queue : NewQueue → Bool
-is_new_queue new =
-    is_short new.name && (if is_generic new.kind then is_passing_on new else is_placed new) && are_queue_settings new.change
 
 -- ---- the other commands of queues
 

@@ -1,21 +1,16 @@
 // The full spelling of a command.
-ghost use Rattle.std.specs.Prelude.{◌≡◌, Some, IfOk, IfErr, true};
-ghost use Rattle.std.specs.List.{list_all};
-ghost use Rattle.std.specs.Option.{option_map_or};
-ghost use Rattle.qm_dcl.specs.Values.{is_node_name};
-ghost use Rattle.qm_spelling.specs.Commands.{is_request, are_nodes, is_command, request_text, nodes_text, command_text, spelling_of};
+ghost use Rattle.std.specs.Prelude.{◌≡◌, Some, IfOk, IfErr};
+ghost use Rattle.qm_spelling.specs.Commands.{request_text, nodes_text, command_text, spelling_of};
 ghost use Rattle.qm_spelling.specs.Faults.{Explains};
 
 use crate::fault::PrintFault;
-use crate::forms::{CharacteristicText, FormText, is_form};
-use crate::jobs::{JobText, SetEntryText, is_entry_change, is_job};
-use crate::listings::{QueryText, is_query};
-use crate::pieces::{NamesText, fits_list, is_definable, is_node_name, is_short};
-use crate::queues::{
-    AbortText, NewQueueText, QueueSettingsText, StopText, are_queue_settings, is_new_queue,
-    sets_queue,
-};
+use crate::forms::{CharacteristicText, FormText};
+use crate::jobs::{JobText, SetEntryText};
+use crate::listings::QueryText;
+use crate::pieces::NamesText;
+use crate::queues::{AbortText, NewQueueText, QueueSettingsText, StopText};
 use qm_kinds::{Input, Name, Request, Seq};
+use qm_sayable::is_command;
 use std::alloc::Global;
 use std::fmt;
 
@@ -112,69 +107,6 @@ impl fmt::Display for CommandText<'_> {
             | Input::StartNode
             | Input::Fault { .. } => Ok(()),
         }
-    }
-}
-
-// Whether some command asks for a request.
-fn is_request(request: &Request) -> bool
-    ensures { result ≡ is_request request.now }
-{
-    match request {
-        Request::DefineForm(form) => is_form(form),
-        Request::DeleteForm { name } | Request::DeleteCharacteristic { name } => is_definable(name),
-        Request::DefineCharacteristic(characteristic) => is_definable(&characteristic.name),
-        Request::InitializeQueue(new) => is_new_queue(new),
-        Request::SetQueue { name, change } => {
-            is_short(name) && sets_queue(change) && are_queue_settings(change)
-        }
-        Request::StartQueue { name, change } => is_short(name) && are_queue_settings(change),
-        Request::StopQueue { name, .. } | Request::DeleteQueue { name } => is_short(name),
-        Request::AbortJob { queue, .. } => is_short(queue),
-        Request::Merge { to, from } => is_short(to) && is_short(from),
-        Request::Submit(job) => is_job(job),
-        Request::SetEntry { change, .. } => is_entry_change(change),
-        Request::DeleteEntry { .. } => true,
-        Request::Append { .. }
-        | Request::Fill { .. }
-        | Request::Drop { .. }
-        | Request::Mark { .. }
-        | Request::Done { .. }
-        | Request::Tick
-        | Request::NodeUp
-        | Request::NodeLost { .. }
-        | Request::Took { .. } => false,
-    }
-}
-
-fn have_node_names(nodes: &[Name]) -> bool
-    ensures { result ≡ list_all is_node_name nodes.now }
-{
-    nodes.iter().all(|node| is_node_name(node))
-}
-
-// Whether a command can name these nodes, where they are given.
-fn are_nodes_given(nodes: &Option<Seq<Name>>) -> bool
-    ensures { result ≡ option_map_or are_nodes nodes.now true }
-{
-    match nodes {
-        None => true,
-        Some(nodes) => fits_list(nodes.len()) && have_node_names(nodes.as_slice()),
-    }
-}
-
-// Whether some command asks for an input.
-fn is_command(input: &Input) -> bool
-    ensures { result ≡ is_command input.now }
-{
-    match input {
-        Input::Ask(request) => is_request(request),
-        Input::Show(query) => is_query(query),
-        Input::TakeManager { on } => are_nodes_given(on),
-        Input::Compact
-        | Input::Fetch { .. }
-        | Input::StopNode
-        | Input::StartNode
-        | Input::Fault { .. } => false,
     }
 }
 

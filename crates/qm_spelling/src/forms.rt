@@ -2,10 +2,10 @@
 ghost use Rattle.std.specs.Prelude.{◌≡◌, Some};
 ghost use Rattle.qm_grammar.specs.declared.word.Word.TheVariants as words;
 ghost use Rattle.qm_spelling.specs.Pieces.{valued};
-ghost use Rattle.qm_spelling.specs.Forms.{are_default_margins, margins_unless_default, shape_text, form_text, is_form, characteristic_text};
+ghost use Rattle.qm_spelling.specs.Forms.{are_default_margins, margins_unless_default, shape_text, form_text, characteristic_text};
 
 use crate::jobs::{number_unless_default, unless_default};
-use crate::pieces::{GivenByte, GivenName, Marked, is_definable, is_short};
+use crate::pieces::{GivenByte, GivenName, Marked};
 use qm_kinds::{Characteristic, Form, Shape};
 use std::fmt;
 
@@ -97,11 +97,4 @@ fn are_default_margins(shape: &Shape) -> bool
     ensures { result ≡ are_default_margins shape.now }
 {
     shape.top == 0 && shape.bottom == 6 && shape.left == 0 && shape.right == 0
-}
-
-/// Whether a command can define this form.
-pub(crate) fn is_form(form: &Form) -> bool
-    ensures { result ≡ is_form form.now }
-{
-    is_definable(&form.name) && is_short(&form.stock)
 }

@@ -6,7 +6,7 @@ ghost use Rattle.qm_dcl.specs.Values.{moment_said, number_to, pattern_said, unqu
 ghost use Rattle.qm_kinds.specs.declared.input.Input.{Input};
 ghost use Rattle.qm_dcl.specs.Command.{command_of};
 ghost use Rattle.qm_spelling.specs.Commands.{spelling_of};
-ghost use Rattle.qm_spelling.specs.Pieces.{time_text};
+ghost use Rattle.qm_sayable.specs.Times.{time_text};
 
 use qm_time::printed_moments_read_back;
 
