@@ -192,26 +192,30 @@ query_of list items = record {
 
 -- ---- each function
 
+-- what a function changes that takes no list of values, where nothing that it needs is missing
+abbrev pub listless_of : Function → List Item → Option Request
+listless_of function.Fill items = fill_of items
+listless_of function.Drop items = option_map request.Drop (read_in file_name_of FILE items)
+listless_of function.DefineForm items = define_form items
+listless_of function.DeleteForm items = option_map request.DeleteForm (read_in definable_name_said NAME items)
+listless_of function.DefineCharacteristic items = define_characteristic items
+listless_of function.DeleteCharacteristic items = option_map request.DeleteCharacteristic (read_in definable_name_said NAME items)
+listless_of function.StopQueue items = stop_queue items
+listless_of function.AbortJob items = abort_job items
+listless_of function.DeleteQueue items = option_map request.DeleteQueue (read_in short_name_said QUEUE items)
+listless_of function.Merge items = merge_of items
+listless_of function.DeleteEntry items = option_map request.DeleteEntry (read_in long_said ENTRY items)
+listless_of _ items = None
+
 -- what a function changes, where nothing that it needs is missing
 abbrev pub request_of : List ℕ → Function → List Item → Lists → Option Request
 request_of user function.Append items lists = append_of items lists.bytes
-request_of user function.Fill items lists = fill_of items
-request_of user function.Drop items lists = option_map request.Drop (read_in file_name_of FILE items)
-request_of user function.DefineForm items lists = define_form items
-request_of user function.DeleteForm items lists = option_map request.DeleteForm (read_in definable_name_said NAME items)
-request_of user function.DefineCharacteristic items lists = define_characteristic items
-request_of user function.DeleteCharacteristic items lists = option_map request.DeleteCharacteristic (read_in definable_name_said NAME items)
 request_of user function.InitializeQueue items lists = initialize_of items lists
 request_of user function.SetQueue items lists = set_queue items lists
 request_of user function.StartQueue items lists = start_queue items lists
-request_of user function.StopQueue items lists = stop_queue items
-request_of user function.AbortJob items lists = abort_job items
-request_of user function.DeleteQueue items lists = option_map request.DeleteQueue (read_in short_name_said QUEUE items)
-request_of user function.Merge items lists = merge_of items
 request_of user function.Submit items lists = submit_of user items lists
 request_of user function.SetEntry items lists = set_entry items lists
-request_of user function.DeleteEntry items lists = option_map request.DeleteEntry (read_in long_said ENTRY items)
-request_of user _ items lists = None
+request_of user f items lists = listless_of f items
 
 -- what a function asks for, where nothing that it needs is missing
 abbrev pub asked : List ℕ → Function → List Item → Lists → Option Input

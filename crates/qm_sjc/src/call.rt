@@ -1,21 +1,44 @@
 // Calls: what a function asks for with its items.
 ghost use Rattle.std.specs.Prelude.{◌≡◌, ◌<◌, ◌^◌, Ok, IfOk, IfErr, length};
 ghost use Rattle.qm_item.specs.Text.{text};
-ghost use Rattle.qm_sjc.specs.Asked.{request_of, asked};
+ghost use Rattle.qm_sjc.specs.Asked.{listless_of, request_of, asked};
 ghost use Rattle.qm_sjc.specs.Calls.{call_of, Explains};
 
-use crate::codes::*;
 use crate::fault::{CallFault, Fault};
 use crate::function::{Function, function_of};
-use crate::jobs::{set_entry, submit_of};
+use crate::jobs::{delete_entry, set_entry, submit_of};
 use crate::judging::first_fault;
 use crate::looking::{Lists, lists_in};
-use crate::others::{append_of, define_characteristic, define_form, fill_of, query_of};
-use crate::queues::{abort_job, initialize_of, merge_of, set_queue, start_queue, stop_queue};
-use crate::reading::{definable_name_in, file_in, long_in, short_name_in};
+use crate::others::{
+    append_of, define_characteristic, define_form, delete_characteristic, delete_form, drop_of,
+    fill_of, query_of,
+};
+use crate::queues::{
+    abort_job, delete_queue, initialize_of, merge_of, set_queue, start_queue, stop_queue,
+};
 use qm_item::Item;
 use qm_kinds::{Input, Listing, Name, ParseKind, Request};
 use std::alloc::Global;
+
+// What a function changes that takes no list of values, where nothing that it needs is missing.
+fn listless_of(function: Function, items: &[Item]) -> Option<Request>
+    ensures { result ≡ listless_of function items.now }
+{
+    match function {
+        Function::Fill => fill_of(items),
+        Function::Drop => drop_of(items),
+        Function::DefineForm => define_form(items),
+        Function::DeleteForm => delete_form(items),
+        Function::DefineCharacteristic => define_characteristic(items),
+        Function::DeleteCharacteristic => delete_characteristic(items),
+        Function::StopQueue => stop_queue(items),
+        Function::AbortJob => abort_job(items),
+        Function::DeleteQueue => delete_queue(items),
+        Function::Merge => merge_of(items),
+        Function::DeleteEntry => delete_entry(items),
+        _ => None,
+    }
+}
 
 // What a function changes, where nothing that it needs is missing.
 fn request_of(
@@ -29,33 +52,12 @@ fn request_of(
 {
     match function {
         Function::Append => append_of(items, lists.bytes),
-        Function::Fill => fill_of(items),
-        Function::Drop => Some(Request::Drop {
-            file: file_in(items, FILE)?,
-        }),
-        Function::DefineForm => define_form(items),
-        Function::DeleteForm => Some(Request::DeleteForm {
-            name: definable_name_in(items, NAME)?,
-        }),
-        Function::DefineCharacteristic => define_characteristic(items),
-        Function::DeleteCharacteristic => Some(Request::DeleteCharacteristic {
-            name: definable_name_in(items, NAME)?,
-        }),
         Function::InitializeQueue => initialize_of(items, lists),
         Function::SetQueue => set_queue(items, lists),
         Function::StartQueue => start_queue(items, lists),
-        Function::StopQueue => stop_queue(items),
-        Function::AbortJob => abort_job(items),
-        Function::DeleteQueue => Some(Request::DeleteQueue {
-            name: short_name_in(items, QUEUE)?,
-        }),
-        Function::Merge => merge_of(items),
         Function::Submit => submit_of(alloc, user, items, lists),
         Function::SetEntry => set_entry(items, lists),
-        Function::DeleteEntry => Some(Request::DeleteEntry {
-            entry: long_in(items, ENTRY)?,
-        }),
-        _ => None,
+        _ => listless_of(function, items),
     }
 }
 

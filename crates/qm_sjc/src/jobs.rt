@@ -1,6 +1,7 @@
 // Requests for jobs.
-ghost use Rattle.std.specs.Prelude.{◌≡◌};
-ghost use Rattle.qm_sjc.specs.Asked.{default_queue, default_restart, job_of, submit_of, entry_change, set_entry};
+ghost use Rattle.std.specs.Prelude.{◌≡◌, option_map};
+ghost use Rattle.qm_sjc.specs.Values.{long_said};
+ghost use Rattle.qm_sjc.specs.Asked.{read_in, default_queue, default_restart, job_of, submit_of, entry_change, set_entry};
 
 use crate::codes::*;
 use crate::looking::{Lists, is_given};
@@ -115,4 +116,12 @@ pub(crate) fn set_entry(items: &[Item], lists: Lists) -> Option<Request>
         entry,
         change: entry_change(items, lists),
     })
+}
+
+/// An entry is deleted.
+pub(crate) fn delete_entry(items: &[Item]) -> Option<Request>
+    ensures { result ≡ option_map Request.DeleteEntry (read_in long_said ENTRY items.now) }
+{
+    let entry = long_in(items, ENTRY)?;
+    Some(Request::DeleteEntry { entry })
 }

@@ -1,6 +1,8 @@
 // Requests for files, forms and characteristics, and listings.
-ghost use Rattle.std.specs.Prelude.{◌≡◌, ◌∷◌, []};
-ghost use Rattle.qm_sjc.specs.Asked.{append_of, fill_of, form_of, define_form, define_characteristic, query_of};
+ghost use Rattle.std.specs.Prelude.{◌≡◌, ◌∷◌, [], option_map};
+ghost use Rattle.qm_kinds.specs.Files.{file_name_of};
+ghost use Rattle.qm_sjc.specs.Asked.{read_in, append_of, fill_of, form_of, define_form, define_characteristic, query_of};
+ghost use Rattle.qm_sjc.specs.Values.{definable_name_said};
 
 use crate::codes::*;
 use crate::reading::{
@@ -25,6 +27,14 @@ pub(crate) fn fill_of(items: &[Item]) -> Option<Request>
     let file = file_in(items, FILE)?;
     let lines = short_in(items, LINES)?;
     Some(Request::Fill { file, lines })
+}
+
+/// A file is deleted.
+pub(crate) fn drop_of(items: &[Item]) -> Option<Request>
+    ensures { result ≡ option_map Request.Drop (read_in file_name_of FILE items.now) }
+{
+    let file = file_in(items, FILE)?;
+    Some(Request::Drop { file })
 }
 
 // The shape of a form for which none is given.
@@ -59,6 +69,22 @@ pub(crate) fn define_characteristic(items: &[Item]) -> Option<Request>
     let name = definable_name_in(items, NAME)?;
     let number = small_in(items, NUMBER)?;
     Some(Request::DefineCharacteristic(Characteristic { name, number }))
+}
+
+/// A form is deleted.
+pub(crate) fn delete_form(items: &[Item]) -> Option<Request>
+    ensures { result ≡ option_map Request.DeleteForm (read_in definable_name_said NAME items.now) }
+{
+    let name = definable_name_in(items, NAME)?;
+    Some(Request::DeleteForm { name })
+}
+
+/// A characteristic is deleted.
+pub(crate) fn delete_characteristic(items: &[Item]) -> Option<Request>
+    ensures { result ≡ option_map Request.DeleteCharacteristic (read_in definable_name_said NAME items.now) }
+{
+    let name = definable_name_in(items, NAME)?;
+    Some(Request::DeleteCharacteristic { name })
 }
 
 const ALL_KINDS: Kinds = Kinds {

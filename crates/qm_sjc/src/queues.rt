@@ -1,6 +1,7 @@
 // Requests for queues.
-ghost use Rattle.std.specs.Prelude.{◌≡◌};
-ghost use Rattle.qm_sjc.specs.Asked.{blocks_of, change_of, initialize_of, has_more, set_queue, start_queue, stop_queue, abort_job, merge_of};
+ghost use Rattle.std.specs.Prelude.{◌≡◌, option_map};
+ghost use Rattle.qm_sjc.specs.Values.{short_name_said};
+ghost use Rattle.qm_sjc.specs.Asked.{read_in, blocks_of, change_of, initialize_of, has_more, set_queue, start_queue, stop_queue, abort_job, merge_of};
 
 use crate::codes::*;
 use crate::looking::{Lists, is_given};
@@ -112,6 +113,14 @@ pub(crate) fn abort_job(items: &[Item]) -> Option<Request>
         entry: long_in(items, ENTRY),
         requeue: is_given(items, REQUEUE),
     })
+}
+
+/// A queue is deleted.
+pub(crate) fn delete_queue(items: &[Item]) -> Option<Request>
+    ensures { result ≡ option_map Request.DeleteQueue (read_in short_name_said QUEUE items.now) }
+{
+    let name = short_name_in(items, QUEUE)?;
+    Some(Request::DeleteQueue { name })
 }
 
 /// The jobs that wait in a queue go to another.
