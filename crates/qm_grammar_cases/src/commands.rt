@@ -1,199 +1,178 @@
 // What users type, and which command it is, or what is wrong and where.
-use qm_grammar::{Command, Fault, Part, Word, named_command, parse};
-use qm_kinds::ParseKind;
-use qm_lex::{Token, TokenKind};
-use std::test::Fail;
+use qm_grammar::{Fault, Parsed, named_command, parse};
+use std::alloc::{AllocError, Global};
+use std::process::Abort;
 
-// Texts that are commands.
-const COMMANDS: [(&str, Command); 28] = [
-    ("SUBMIT A.COM", Command::Submit),
-    ("submit/hold a.com /queue = b ! a job", Command::Submit),
-    ("SUBMIT A/NAME=(B)/RETAIN=UNTIL=TOMORROW", Command::Submit),
-    ("PRINT A/COPIES=2/FORM=DEFAULT", Command::Print),
-    ("SHOW ENTRY 5", Command::ShowEntry),
-    ("SHOW/ALL_JOBS QUEUE *", Command::ShowQueue),
-    ("SHOW QUEUE/FORM", Command::ShowForms),
-    ("START/MANAGER/QUEUE/ON=(A,B)", Command::StartManager),
-    ("START X/QUEUE/JOB_LIMIT=3", Command::StartQueue),
-    ("STOP/QUEUE X/ENTRY=5/REQUEUE", Command::StopQueue),
-    ("DELETE/ENTRY=5", Command::DeleteEntry),
-    ("DEFINE/FORM A 5/MARGIN=(TOP=1,LEFT=2)", Command::DefineForm),
-    ("SET ENTRY 5/AFTER=X/RELEASE/NOAFTER", Command::SetEntry),
-    ("SUBMIT A/RETAIN=UNTIL=(TOMORROW)", Command::Submit),
-    ("INIT/QUEUE/START/BATCH X", Command::InitializeQueue),
-    ("SHOW QUEUE/MANAGER", Command::ShowManagers),
-    ("sub/not a", Command::Submit),
-    (
-        "INI/Q/STAR/ON=PLUTO::LPA0:/FORM=LETTER HALL",
-        Command::InitializeQueue,
-    ),
-    (
-        "DEF/FO LETTER 1/STO=WHITE/MARG=(TOP=2)",
-        Command::DefineForm,
-    ),
-    ("SET QUEUE X/RET=ALL/FORM=A", Command::SetQueue),
-    ("SET/R=ALL QUEUE X", Command::SetQueue),
-    ("SH QUEUE/MAN", Command::ShowManagers),
-    ("SHOW Q/A/D", Command::ShowQueue),
-    ("DEL/E=5", Command::DeleteEntry),
-    ("ASS/M A B", Command::AssignMerge),
-    ("SET ENTRY 5/AF=X/REL/NOAF", Command::SetEntry),
-    ("START/QUEUE/MAN/O=*", Command::StartManager),
-    ("STO/Q/REQ X/E=5", Command::StopQueue),
-];
+// What is asked of a text.
+#[derive(Clone, Copy)]
+enum Asked {
+    // Which command it is, or where it goes wrong, and how.
+    Command,
+    // Which command it names, if it names one.
+    Name,
+    Parts,
+}
 
-// Texts that aren't, with the byte at which they go wrong, and how.
-const FAULTS: [(&str, usize, ParseKind); 60] = [
-    ("", 0, ParseKind::Missing),
-    ("  SUBMIT", 8, ParseKind::Missing),
-    ("FROB", 0, ParseKind::Word),
-    ("/HOLD SUBMIT A", 0, ParseKind::Qualifier),
-    ("START/BAD X", 5, ParseKind::Word),
-    ("START/QUEUE/BAD X", 11, ParseKind::Qualifier),
-    ("START X", 7, ParseKind::Missing),
-    ("SET FROB", 4, ParseKind::Word),
-    ("SET QUEUE X", 11, ParseKind::Missing),
-    ("SUBMIT A B", 9, ParseKind::Extra),
-    ("SUBMIT A\"B\"", 8, ParseKind::Form),
-    ("SUBMIT A,B", 8, ParseKind::Form),
-    ("SUBMIT A/BAD/WORSE", 8, ParseKind::Qualifier),
-    ("SUBMIT A/", 8, ParseKind::Qualifier),
-    ("SHOW ENTRY/FORM", 10, ParseKind::Qualifier),
-    ("SUBMIT A/HOLD=5", 14, ParseKind::Value),
-    ("SUBMIT A/HOLD=", 13, ParseKind::Form),
-    ("SUBMIT A/NAME", 13, ParseKind::Missing),
-    ("SUBMIT A/NAME=(B,C)", 17, ParseKind::Value),
-    ("SUBMIT A/NAME=()", 14, ParseKind::Value),
-    ("SUBMIT A/NAME=((B))", 15, ParseKind::Value),
-    ("SUBMIT A/NAME=(B", 16, ParseKind::Missing),
-    ("SUBMIT A/NAME=B=C", 15, ParseKind::Form),
-    ("DELETE/QUEUE/FORM X", 12, ParseKind::Conflict),
-    ("STOP/QUEUE X/NEXT/RESET/NEXT", 23, ParseKind::Conflict),
-    ("SET ENTRY 5/AFTER=X/RELEASE/BAD", 19, ParseKind::Conflict),
-    ("SUBMIT A/BAD/HOLD=5", 8, ParseKind::Qualifier),
-    ("SUBMIT A/NAME=\"B", 14, ParseKind::Form),
-    ("SUBMIT A/BAD \"B", 8, ParseKind::Qualifier),
-    ("SET/RETAIN=UNTIL=TOMORROW", 25, ParseKind::Missing),
-    (
-        "SHOW QUEUE/CHARACTERISTICS/NOCHARACTERISTICS",
-        26,
-        ParseKind::Qualifier,
-    ),
-    (
-        "SHOW QUEUE/FORM/CHARACTERISTICS/NOCHARACTERISTICS",
-        15,
-        ParseKind::Conflict,
-    ),
-    ("SUBMIT A/HOLD=\"B", 14, ParseKind::Form),
-    (
-        "SET/PRIORITY=5/CHARACTERISTICS=(A B) QUEUE X",
-        3,
-        ParseKind::Qualifier,
-    ),
-    ("SUBMIT A/HOLD=(5)", 15, ParseKind::Value),
-    ("DEFINE/FORM A 5/MARGIN=(TOP=(1))", 28, ParseKind::Value),
-    ("S ENTRY", 0, ParseKind::Ambiguous),
-    ("FOO", 0, ParseKind::Word),
-    ("SH", 2, ParseKind::Missing),
-    ("SHOW ENTRY 1 2", 13, ParseKind::Extra),
-    ("SET ENTRY 1", 11, ParseKind::Missing),
-    ("PRINT/FORM \"A", 11, ParseKind::Form),
-    ("SUBMIT/RE J", 6, ParseKind::Ambiguous),
-    ("START/QUEUE/BATCH LP", 11, ParseKind::Qualifier),
-    ("SET ENTRY 1/REL/HOLD", 15, ParseKind::Conflict),
-    ("INIT/QUEUE/BLOCK=(1,2,3) G", 22, ParseKind::Value),
-    ("SHOW QUEUE/FORM/ALL", 15, ParseKind::Qualifier),
-    ("INIT/QUE/B NIGHT", 8, ParseKind::Ambiguous),
-    ("DEFINE/CHARACTERISTIC/W A 1", 21, ParseKind::Qualifier),
-    ("DEFINE/W/CHARACTERISTIC A 1", 6, ParseKind::Qualifier),
-    ("SET/RE", 3, ParseKind::Ambiguous),
-    ("SET/FORM=A", 10, ParseKind::Missing),
-    ("SET QUEUE X/REL", 11, ParseKind::Qualifier),
-    ("START/N/QUEUE X", 5, ParseKind::Ambiguous),
-    ("DELETE/CHARACTERISTICS A", 6, ParseKind::Word),
-    ("\"SUBMIT\" A", 0, ParseKind::Word),
-    ("SUBMIT/\"HOLD\" A", 6, ParseKind::Qualifier),
-    ("DELETE/QU/FO X", 9, ParseKind::Conflict),
-    ("STOP/QUEUE X/N/R", 14, ParseKind::Ambiguous),
-    ("SHOW QUEUE/MAN/FO", 14, ParseKind::Conflict),
-];
+// Texts that are commands, each behind its command.
+const COMMANDS: &str = "Submit|SUBMIT A.COM
+Submit|submit/hold a.com /queue = b ! a job
+Submit|SUBMIT A/NAME=(B)/RETAIN=UNTIL=TOMORROW
+Print|PRINT A/COPIES=2/FORM=DEFAULT
+ShowEntry|SHOW ENTRY 5
+ShowQueue|SHOW/ALL_JOBS QUEUE *
+ShowForms|SHOW QUEUE/FORM
+StartManager|START/MANAGER/QUEUE/ON=(A,B)
+StartQueue|START X/QUEUE/JOB_LIMIT=3
+StopQueue|STOP/QUEUE X/ENTRY=5/REQUEUE
+DeleteEntry|DELETE/ENTRY=5
+DefineForm|DEFINE/FORM A 5/MARGIN=(TOP=1,LEFT=2)
+SetEntry|SET ENTRY 5/AFTER=X/RELEASE/NOAFTER
+Submit|SUBMIT A/RETAIN=UNTIL=(TOMORROW)
+InitializeQueue|INIT/QUEUE/START/BATCH X
+ShowManagers|SHOW QUEUE/MANAGER
+Submit|sub/not a
+InitializeQueue|INI/Q/STAR/ON=PLUTO::LPA0:/FORM=LETTER HALL
+DefineForm|DEF/FO LETTER 1/STO=WHITE/MARG=(TOP=2)
+SetQueue|SET QUEUE X/RET=ALL/FORM=A
+SetQueue|SET/R=ALL QUEUE X
+ShowManagers|SH QUEUE/MAN
+ShowQueue|SHOW Q/A/D
+DeleteEntry|DEL/E=5
+AssignMerge|ASS/M A B
+SetEntry|SET ENTRY 5/AF=X/REL/NOAF
+StartManager|START/QUEUE/MAN/O=*
+StopQueue|STO/Q/REQ X/E=5";
 
-// Texts, with the command that they name, whatever else is wrong with them.
-const NAMED: [(&str, Option<Command>); 7] = [
-    ("SUBMIT", Some(Command::Submit)),
-    ("SUBMIT A/NAME=\"B", Some(Command::Submit)),
-    ("STOP/BAD=(X/QUEUE", Some(Command::StopQueue)),
-    ("STOP \"X/QUEUE", None),
-    ("STOP X", None),
-    ("show entry/bad", Some(Command::ShowEntry)),
-    ("\"SHOW ENTRY", None),
-];
+// Texts that aren't, each behind the byte at which it goes wrong, and how.
+const FAULTS: &str = "0 Missing|
+8 Missing|  SUBMIT
+0 Word|FROB
+0 Qualifier|/HOLD SUBMIT A
+5 Word|START/BAD X
+11 Qualifier|START/QUEUE/BAD X
+7 Missing|START X
+4 Word|SET FROB
+11 Missing|SET QUEUE X
+9 Extra|SUBMIT A B
+8 Form|SUBMIT A\"B\"
+8 Form|SUBMIT A,B
+8 Qualifier|SUBMIT A/BAD/WORSE
+8 Qualifier|SUBMIT A/
+10 Qualifier|SHOW ENTRY/FORM
+14 Value|SUBMIT A/HOLD=5
+13 Form|SUBMIT A/HOLD=
+13 Missing|SUBMIT A/NAME
+17 Value|SUBMIT A/NAME=(B,C)
+14 Value|SUBMIT A/NAME=()
+15 Value|SUBMIT A/NAME=((B))
+16 Missing|SUBMIT A/NAME=(B
+15 Form|SUBMIT A/NAME=B=C
+12 Conflict|DELETE/QUEUE/FORM X
+23 Conflict|STOP/QUEUE X/NEXT/RESET/NEXT
+19 Conflict|SET ENTRY 5/AFTER=X/RELEASE/BAD
+8 Qualifier|SUBMIT A/BAD/HOLD=5
+14 Form|SUBMIT A/NAME=\"B
+8 Qualifier|SUBMIT A/BAD \"B
+25 Missing|SET/RETAIN=UNTIL=TOMORROW
+26 Qualifier|SHOW QUEUE/CHARACTERISTICS/NOCHARACTERISTICS
+15 Conflict|SHOW QUEUE/FORM/CHARACTERISTICS/NOCHARACTERISTICS
+14 Form|SUBMIT A/HOLD=\"B
+3 Qualifier|SET/PRIORITY=5/CHARACTERISTICS=(A B) QUEUE X
+15 Value|SUBMIT A/HOLD=(5)
+28 Value|DEFINE/FORM A 5/MARGIN=(TOP=(1))
+0 Ambiguous|S ENTRY
+0 Word|FOO
+2 Missing|SH
+13 Extra|SHOW ENTRY 1 2
+11 Missing|SET ENTRY 1
+11 Form|PRINT/FORM \"A
+6 Ambiguous|SUBMIT/RE J
+11 Qualifier|START/QUEUE/BATCH LP
+15 Conflict|SET ENTRY 1/REL/HOLD
+22 Value|INIT/QUEUE/BLOCK=(1,2,3) G
+15 Qualifier|SHOW QUEUE/FORM/ALL
+8 Ambiguous|INIT/QUE/B NIGHT
+21 Qualifier|DEFINE/CHARACTERISTIC/W A 1
+6 Qualifier|DEFINE/W/CHARACTERISTIC A 1
+3 Ambiguous|SET/RE
+10 Missing|SET/FORM=A
+11 Qualifier|SET QUEUE X/REL
+5 Ambiguous|START/N/QUEUE X
+6 Word|DELETE/CHARACTERISTICS A
+0 Word|\"SUBMIT\" A
+6 Qualifier|SUBMIT/\"HOLD\" A
+9 Conflict|DELETE/QU/FO X
+14 Ambiguous|STOP/QUEUE X/N/R
+14 Conflict|SHOW QUEUE/MAN/FO";
 
-#[test]
-fn texts_are_commands(rt: HostRuntime) -> Result<(), Fail> {
-    for (text, command) in COMMANDS {
-        let parsed = parse(rt.alloc(), text.as_bytes())?;
-        assert_eq!(rt; parsed.command, Ok(command), "{text}");
+// Texts behind the command that they name, whatever else is wrong with them.
+const NAMED: &str = "Some(Submit)|SUBMIT
+Some(Submit)|SUBMIT A/NAME=\"B
+Some(StopQueue)|STOP/BAD=(X/QUEUE
+None|STOP \"X/QUEUE
+None|STOP X
+Some(ShowEntry)|show entry/bad
+None|\"SHOW ENTRY";
+
+// A text behind its parts in their order.
+const PARTS: &str = "[Qualifier { word: Copies, place: 5 }, \
+    Value { token: Token { kind: Word, start: 13, end: 14 } }, \
+    Parameter { token: Token { kind: Word, start: 15, end: 16 } }, \
+    Qualifier { word: Retain, place: 17 }, \
+    Value { token: Token { kind: Word, start: 25, end: 30 } }, \
+    KeyValue { token: Token { kind: Word, start: 31, end: 35 } }]\
+    |PRINT/COPIES=2 A /RETAIN=UNTIL=+1:0";
+
+fn told_by(alloc: Global, text: &str, parsed: &Parsed, asked: Asked) -> Result<String, AllocError> {
+    match asked {
+        Asked::Command => match parsed.command {
+            Ok(command) => format!(in alloc; "{command:?}"),
+            Err(Fault { place, kind }) => format!(in alloc; "{place} {kind:?}"),
+        },
+        Asked::Name => {
+            let named = named_command(text.as_bytes(), &parsed.tokens);
+            format!(in alloc; "{named:?}")
+        }
+        Asked::Parts => format!(in alloc; "{:?}", parsed.parts),
+    }
+}
+
+fn told_of(alloc: Global, text: &str, asked: Asked) -> Result<String, AllocError> {
+    let parsed = parse(alloc, text.as_bytes())?;
+    told_by(alloc, text, &parsed, asked)
+}
+
+// Each line of a table has, in front of a `|`, what is told of the text behind it.
+fn assert_told<R: Abort>(
+    rt: &R,
+    alloc: Global,
+    table: &str,
+    asked: Asked,
+) -> Result<(), AllocError> {
+    for line in table.lines() {
+        let (wanted, text) = line.split_once("|").unwrap_or((line, ""));
+        let told = told_of(alloc, text, asked)?;
+        assert_eq!(rt; told.as_str(), wanted, "{text}");
     }
     Ok(())
 }
 
 #[test]
-fn a_fault_is_told_at_its_place(rt: HostRuntime) -> Result<(), Fail> {
-    for (text, place, kind) in FAULTS {
-        let parsed = parse(rt.alloc(), text.as_bytes())?;
-        assert_eq!(rt; parsed.command, Err(Fault { place, kind }), "{text}");
-    }
-    Ok(())
+fn texts_are_commands(rt: HostRuntime) -> Result<(), AllocError> {
+    assert_told(&rt, rt.alloc(), COMMANDS, Asked::Command)
 }
 
 #[test]
-fn a_wrong_text_may_name_a_command(rt: HostRuntime) -> Result<(), Fail> {
-    for (text, command) in NAMED {
-        let parsed = parse(rt.alloc(), text.as_bytes())?;
-        assert_eq!(rt;
-            named_command(text.as_bytes(), &parsed.tokens),
-            command,
-            "{text}"
-        );
-    }
-    Ok(())
-}
-
-// A word from one byte to another.
-fn word(start: usize, end: usize) -> Token {
-    Token {
-        kind: TokenKind::Word,
-        start,
-        end,
-    }
+fn a_fault_is_told_at_its_place(rt: HostRuntime) -> Result<(), AllocError> {
+    assert_told(&rt, rt.alloc(), FAULTS, Asked::Command)
 }
 
 #[test]
-fn parts_stand_in_order(rt: HostRuntime) -> Result<(), Fail> {
-    let parsed = parse(rt.alloc(), b"PRINT/COPIES=2 A /RETAIN=UNTIL=+1:0")?;
-    let parts = [
-        Part::Qualifier {
-            word: Word::Copies,
-            place: 5,
-        },
-        Part::Value {
-            token: word(13, 14),
-        },
-        Part::Parameter {
-            token: word(15, 16),
-        },
-        Part::Qualifier {
-            word: Word::Retain,
-            place: 17,
-        },
-        Part::Value {
-            token: word(25, 30),
-        },
-        Part::KeyValue {
-            token: word(31, 35),
-        },
-    ];
-    assert_eq!(rt; parsed.parts.as_slice(), parts.as_slice());
-    Ok(())
+fn a_wrong_text_may_name_a_command(rt: HostRuntime) -> Result<(), AllocError> {
+    assert_told(&rt, rt.alloc(), NAMED, Asked::Name)
+}
+
+#[test]
+fn parts_stand_in_order(rt: HostRuntime) -> Result<(), AllocError> {
+    assert_told(&rt, rt.alloc(), PARTS, Asked::Parts)
 }
