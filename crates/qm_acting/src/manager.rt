@@ -13,6 +13,7 @@ use qm_disk::Disk;
 use qm_kinds::{Duty, Moment, Name, Node, Query, Row};
 use qm_restore::site_files_are_consistent;
 use qm_state::{Image, Refused};
+use qm_view::view;
 use std::alloc::{AllocError, Global};
 
 /// A queue manager at work: the image of its system, and the open database that keeps what it accepted.
@@ -81,7 +82,7 @@ impl<D: Disk> Manager<D> {
         ensures rows { IfOk result (λ rows. view (standing_of self.now).system None query.now ≡ Ok rows.items) }
         ensures refused { Refuses result (view (standing_of self.now).system None query.now) }
     {
-        self.image.view(query)
+        view(self.alloc, &self.image, query)
     }
 
     /// What the node of this place has to do that has the works of the runs of these numbers: its runs by number, whether each

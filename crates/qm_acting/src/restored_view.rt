@@ -7,6 +7,7 @@ use crate::restored::Restored;
 use qm_disk::Disk;
 use qm_kinds::{Query, Row};
 use qm_state::Refused;
+use qm_view::view;
 
 impl<D: Disk> Restored<D> {
     ghost use Rattle.qm_acting.specs.Standing.{restored_standing};
@@ -17,6 +18,6 @@ impl<D: Disk> Restored<D> {
         ensures rows { IfOk result (λ rows. view (restored_standing self.now).system None query.now ≡ Ok rows.items) }
         ensures refused { Refuses result (view (restored_standing self.now).system None query.now) }
     {
-        self.image.view(query)
+        view(self.alloc, &self.image, query)
     }
 }

@@ -37,7 +37,6 @@ mod settings;
 mod settling;
 mod stopping;
 mod submit;
-mod view;
 
 pub use built::is_built;
 pub use image::Image;
