@@ -1,6 +1,7 @@
-ghost use Rattle.std.specs.Prelude.{◌≡◌};
+ghost use Rattle.std.specs.Prelude.{◌≡◌, true};
 ghost use Rattle.std.specs.Char.{is_ascii_digit};
 ghost use Rattle.std.specs.List.{list_all};
+ghost use Rattle.std.specs.Option.{option_map_or};
 ghost use Rattle.qm_model.specs.Built.{is_short, is_definable, is_built};
 
 use qm_kinds::{Form, Name, NewQueue, Request, SHORT_NAME_BYTES};
@@ -33,11 +34,21 @@ pub(crate) fn has_form_names(form: &Form) -> bool
     is_definable(&form.name) && is_short(&form.stock)
 }
 
+// Whether a queue can have the device that is given, if one is.
+fn has_short_device(device: Option<Name>) -> bool
+    ensures { result ≡ option_map_or is_short device true }
+{
+    match device {
+        None => true,
+        Some(device) => is_short(&device),
+    }
+}
+
 /// Whether a queue can be made under its name, and stand at its device.
 pub(crate) fn has_short_names(new: &NewQueue) -> bool
     ensures { result ≡ is_built (Request.InitializeQueue new.now) }
 {
-    is_short(&new.name) && new.device.is_none_or(|device| is_short(&device))
+    is_short(&new.name) && has_short_device(new.device)
 }
 
 /// Whether the request is one of those that can be asked so far.

@@ -1,24 +1,19 @@
 // Characteristics are defined and deleted.
-ghost use Rattle.std.specs.Prelude.{◌≡◌, None};
+ghost use Rattle.std.specs.Prelude.{◌≡◌};
 ghost use Rattle.qm_kinds.specs.declared.request.Request.TheVariants as request;
 ghost use Rattle.qm_model.specs.Characteristics.{is_characteristic_taken, define_characteristic_refusal, characteristic_defined, delete_characteristic_refusal, characteristic_deleted};
-ghost use Rattle.qm_model.specs.Referring.{refused_by_queue};
 ghost use Rattle.qm_model.specs.Replying.{replied};
-ghost use Rattle.qm_state.specs.Deciding.{Prepares, Takes};
+ghost use Rattle.qm_state.specs.Deciding.{Prepares};
 ghost use Rattle.qm_state.specs.Image.{system_of};
-ghost use Rattle.qm_state.specs.Naming.{has_one_of};
 ghost use Rattle.qm_state.specs.Preparing.{CanDefineCharacteristic};
 
 use crate::image::Image;
-use crate::naming::{Named, has_one_of, refused_by_entry};
+use crate::naming::{Named, QueueNamed, refused_by_entry, refused_by_queue};
 use crate::prepared::Change;
 use crate::refusals::{first_refusal, refused_where};
 use crate::refused::Refused;
 use qm_forms::FormTable;
-use qm_kinds::{
-    Act, Characteristic, CharacteristicSet, Holder, LAST_CHARACTERISTIC, Name, NameOrNumber, Queue,
-    Refusal,
-};
+use qm_kinds::{Act, Characteristic, LAST_CHARACTERISTIC, Name, NameOrNumber, Refusal};
 use std::alloc::AllocError;
 
 // Whether a characteristic has the name or the number.
@@ -30,18 +25,6 @@ fn is_characteristic_taken(forms: &FormTable, characteristic: &Characteristic) -
         .characteristic(&NameOrNumber::Name(characteristic.name))
         .is_some()
         || forms.characteristic(&number).is_some()
-}
-
-// The first queue by name that has one of the characteristics makes it stay.
-fn refused_as_set(queues: &[Queue], wanted: CharacteristicSet) -> Option<Refusal>
-    ensures { result ≡ refused_by_queue (λ q. has_one_of wanted.0 q.characteristics.0) queues.now }
-{
-    let queue = queues
-        .iter()
-        .find(|queue| has_one_of(wanted, queue.characteristics))?;
-    Some(Refusal::Referenced {
-        by: Holder::Queue(queue.name),
-    })
 }
 
 impl Image {
@@ -63,22 +46,8 @@ impl Image {
         first_refusal(&refusals)
     }
 
-    // Takes the memory for a characteristic that isn't refused.
-    #[tactic(auto, unfolding(crate::specs::Image::system_of))]
-    fn take_characteristic<'a>(
-        &mut self,
-        characteristic: &Characteristic,
-    ) -> Result<Change<'a>, AllocError>
-        requires { define_characteristic_refusal (system_of self.old) characteristic.now ≡ None }
-        ensures { Takes (request.DefineCharacteristic characteristic.now) self.old self.new result }
-    {
-        self.parts.reserve_characteristic()?;
-        Ok(Change::NewCharacteristic {
-            characteristic: *characteristic,
-        })
-    }
-
     /// Decides on a characteristic that is defined, and takes the memory for it.
+    #[tactic(auto, unfolding(crate::specs::Image::system_of))]
     #[inline(never)]
     pub(crate) fn prepare_define_characteristic<'a>(
         &mut self,
@@ -89,8 +58,10 @@ impl Image {
         if let Some(refusal) = self.define_characteristic_refusal(characteristic) {
             return Err(Refused::By(refusal));
         }
-        match self.take_characteristic(characteristic) {
-            Ok(change) => Ok(change),
+        match self.parts.reserve_characteristic() {
+            Ok(()) => Ok(Change::NewCharacteristic {
+                characteristic: *characteristic,
+            }),
             Err(AllocError) => Err(Refused::NoMemory),
         }
     }
@@ -105,7 +76,10 @@ impl Image {
             return Some(Refusal::NoSuchCharacteristic { wanted });
         }
         let set = self.parts.form_table().set_of(&[wanted]);
-        if let Some(refusal) = refused_as_set(self.parts.queues(), set) {
+        if let Some(refusal) = refused_by_queue(
+            self.parts.queues(),
+            &QueueNamed::Characteristics(set),
+        ) {
             return Some(refusal);
         }
         refused_by_entry(self.parts.entries(), &Named::Characteristics(set))

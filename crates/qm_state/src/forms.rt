@@ -1,20 +1,19 @@
 // Forms are defined and deleted.
-ghost use Rattle.std.specs.Prelude.{◌≡◌, ◌+◌, nat_le, None};
+ghost use Rattle.std.specs.Prelude.{◌≡◌, ◌+◌, nat_le};
 ghost use Rattle.qm_kinds.specs.declared.request.Request.TheVariants as request;
-ghost use Rattle.qm_model.specs.Forms.{is_bad_form, is_form_taken, define_form_refusal, form_defined, is_named, delete_form_refusal, form_deleted};
-ghost use Rattle.qm_model.specs.Referring.{refused_by_queue};
+ghost use Rattle.qm_model.specs.Forms.{is_bad_form, is_form_taken, define_form_refusal, form_defined, delete_form_refusal, form_deleted};
 ghost use Rattle.qm_model.specs.Replying.{replied};
-ghost use Rattle.qm_state.specs.Deciding.{Prepares, Takes};
+ghost use Rattle.qm_state.specs.Deciding.{Prepares};
 ghost use Rattle.qm_state.specs.Image.{system_of};
 ghost use Rattle.qm_state.specs.Preparing.{CanDefineForm};
 
 use crate::image::Image;
-use crate::naming::{Named, is_named, refused_by_entry};
+use crate::naming::{Named, QueueNamed, refused_by_entry, refused_by_queue};
 use crate::prepared::Change;
 use crate::refusals::{first_refusal, refused_where};
 use crate::refused::Refused;
 use qm_forms::FormTable;
-use qm_kinds::{Act, Form, Holder, LAST_FORM, Name, NameOrNumber, Queue, Refusal, default_form};
+use qm_kinds::{Act, Form, Holder, LAST_FORM, Name, NameOrNumber, Refusal, default_form};
 use std::alloc::AllocError;
 
 // Whether margins before and behind leave no room.
@@ -42,16 +41,6 @@ fn is_form_taken(forms: &FormTable, form: &Form) -> bool
         || forms.form(&NameOrNumber::Number(form.number)).is_some()
 }
 
-// The first queue by name that has the form mounted makes it stay.
-fn refused_as_mounted(queues: &[Queue], name: &Name) -> Option<Refusal>
-    ensures { result ≡ refused_by_queue (λ q. is_named name.now q.mounted) queues.now }
-{
-    let queue = queues.iter().find(|queue| is_named(name, queue.mounted))?;
-    Some(Refusal::Referenced {
-        by: Holder::Queue(queue.name),
-    })
-}
-
 impl Image {
     // Why a form can't be defined.
     #[tactic(auto, unfolding(crate::specs::Image::system_of))]
@@ -68,17 +57,8 @@ impl Image {
         first_refusal(&refusals)
     }
 
-    // Takes the memory for a form that isn't refused.
-    #[tactic(auto, unfolding(crate::specs::Image::system_of))]
-    fn take_form<'a>(&mut self, form: &Form) -> Result<Change<'a>, AllocError>
-        requires { define_form_refusal (system_of self.old) form.now ≡ None }
-        ensures { Takes (request.DefineForm form.now) self.old self.new result }
-    {
-        self.parts.reserve_form()?;
-        Ok(Change::NewForm { form: *form })
-    }
-
     /// Decides on a form that is defined, and takes the memory for it.
+    #[tactic(auto, unfolding(crate::specs::Image::system_of))]
     #[inline(never)]
     pub(crate) fn prepare_define_form<'a>(&mut self, form: &Form) -> Result<Change<'a>, Refused>
         ensures { Prepares (request.DefineForm form.now) self.old self.new result }
@@ -86,8 +66,8 @@ impl Image {
         if let Some(refusal) = self.define_form_refusal(form) {
             return Err(Refused::By(refusal));
         }
-        match self.take_form(form) {
-            Ok(change) => Ok(change),
+        match self.parts.reserve_form() {
+            Ok(()) => Ok(Change::NewForm { form: *form }),
             Err(AllocError) => Err(Refused::NoMemory),
         }
     }
@@ -104,7 +84,7 @@ impl Image {
         if *name == default_form() {
             return Some(Refusal::Referenced { by: Holder::Always });
         }
-        if let Some(refusal) = refused_as_mounted(self.parts.queues(), name) {
+        if let Some(refusal) = refused_by_queue(self.parts.queues(), &QueueNamed::Form(name)) {
             return Some(refusal);
         }
         refused_by_entry(self.parts.entries(), &Named::Form(name))

@@ -3,9 +3,10 @@ ghost use Rattle.std.specs.Prelude.{◌≡◌, ◌&&◌, ◌||◌, not, false, i
 ghost use Rattle.std.specs.List.{list_any};
 ghost use Rattle.std.specs.Option.{option_and_then, option_copied, option_map_or, option_or};
 ghost use Rattle.std.specs.Str.{bytes_eq};
+ghost use Rattle.qm_kinds.specs.Names.{default_form};
 ghost use Rattle.qm_kinds.specs.declared.limits.TheConstants.{QUEUES_LIMIT};
 ghost use Rattle.qm_kinds.specs.declared.system.System.{System};
-ghost use Rattle.qm_model.specs.Kinds.{is_generic, is_same_queue_kind};
+ghost use Rattle.qm_model.specs.Kinds.{is_generic, is_print_queue, is_same_queue_kind};
 ghost use Rattle.qm_model.specs.Outcome.{refused_where};
 ghost use Rattle.qm_model.specs.Queues.{has_repeats, is_misplaced, refused_unless_stopped, refused_node, is_target, refused_targets, initialize_refusal, plain_queue};
 ghost use Rattle.qm_model.specs.Settings.{is_bad_change, with_change};
@@ -27,7 +28,7 @@ use std::alloc::{AllocError, Global};
 fn is_one_of(name: &Name, names: &[Name]) -> bool
     ensures { result ≡ list_any (bytes_eq name.now) names.now }
 {
-    names.iter().any(|other| *name == *other)
+    names.contains(name)
 }
 
 // Whether a name stands twice.
@@ -164,32 +165,47 @@ fn own(kind: QueueKind, given: Option<Name>, default: Name) -> Option<Name>
     }
 }
 
+// The state that the queue has first.
+fn first_state(new: &NewQueue) -> QueueState
+    ensures { result ≡ (if new.now.start then QueueState.Started else QueueState.Stopped) }
+{
+    if new.start {
+        QueueState::Started
+    } else {
+        QueueState::Stopped
+    }
+}
+
+// The form that a print queue has mounted first. No other queue has one.
+fn first_form(kind: QueueKind) -> Option<Name>
+    ensures { result ≡ (if is_print_queue kind then Some default_form else None) }
+{
+    if is_print_queue(kind) {
+        Some(default_form())
+    } else {
+        None
+    }
+}
+
 // The queue before any setting is given. It takes memory for the targets.
 fn plain_queue(alloc: Global, node: &Name, new: &NewQueue) -> Result<Queue, AllocError>
     ensures { IfOk result (λ q. q ≡ plain_queue node.now new.now) }
 {
+    let targets = Seq::of(Vec::from_slice(alloc, new.targets.as_slice())?);
     Ok(Queue {
         name: new.name,
         kind: new.kind,
-        state: if new.start {
-            QueueState::Started
-        } else {
-            QueueState::Stopped
-        },
+        state: first_state(new),
         node: own(new.kind, new.node, *node),
         device: own(new.kind, new.device, new.name),
         limit: 1,
         characteristics: CharacteristicSet::new(),
-        mounted: if is_print_queue(new.kind) {
-            Some(default_form())
-        } else {
-            None
-        },
+        mounted: first_form(new.kind),
         lower: 1,
         upper: u32::MAX,
         by_size: true,
         retain: QueueRetain::Nothing,
-        targets: Seq::of(Vec::from_slice(alloc, new.targets.as_slice())?),
+        targets,
     })
 }
 

@@ -1,15 +1,15 @@
-// What names a file, a form or a characteristic.
+// What names a file, a form, a characteristic or a queue.
 ghost use Rattle.std.specs.Prelude.{◌≡◌, find};
 ghost use Rattle.std.specs.Option.{option_copied};
 ghost use Rattle.qm_entries.specs.Boxed.{contents};
 ghost use Rattle.qm_model.specs.Appending.{refused_as_named};
 ghost use Rattle.qm_model.specs.Forms.{is_named};
-ghost use Rattle.qm_model.specs.Referring.{refused_by_entry};
+ghost use Rattle.qm_model.specs.Referring.{refused_by_entry, refused_by_queue};
 ghost use Rattle.qm_state.specs.Image.{system_of};
-ghost use Rattle.qm_state.specs.Naming.{has_one_of, names};
+ghost use Rattle.qm_state.specs.Naming.{has_one_of, names, queue_names};
 
 use crate::image::Image;
-use qm_kinds::{CharacteristicSet, Entry, FileName, Holder, Name, Refusal};
+use qm_kinds::{CharacteristicSet, Entry, FileName, Holder, Name, Queue, Refusal};
 
 /// What an entry may name.
 #[derive(Clone, Copy)]
@@ -22,15 +22,29 @@ pub(crate) enum Named<'a> {
     Characteristics(CharacteristicSet),
 }
 
-/// Whether the form is the one of the name.
-pub(crate) fn is_named(name: &Name, form: Option<Name>) -> bool
-    ensures { result ≡ is_named name.now form }
-{
-    form.is_some_and(|form| *name == form)
+/// What a queue may name.
+#[derive(Clone, Copy)]
+pub(crate) enum QueueNamed<'a> {
+    /// This form, which is mounted.
+    Form(&'a Name),
+    /// One of these characteristics.
+    Characteristics(CharacteristicSet),
+    /// This queue, to which it passes jobs on.
+    Target(&'a Name),
 }
 
-/// Whether one of the characteristics is in the set.
-pub(crate) fn has_one_of(wanted: CharacteristicSet, set: CharacteristicSet) -> bool
+// Whether the form is the one of the name.
+fn is_named(name: &Name, form: Option<Name>) -> bool
+    ensures { result ≡ is_named name.now form }
+{
+    match form {
+        None => false,
+        Some(form) => *name == form,
+    }
+}
+
+// Whether one of the characteristics is in the set.
+fn has_one_of(wanted: CharacteristicSet, set: CharacteristicSet) -> bool
     ensures { result ≡ has_one_of wanted.0 set.0 }
 {
     set.0 & wanted.0 != 0
@@ -68,6 +82,30 @@ pub(crate) fn refused_by_entry(entries: &[Box<Entry>], named: &Named<'_>) -> Opt
     Some(Refusal::Referenced {
         by: Holder::Entry(entry.number),
     })
+}
+
+// Whether a queue names it.
+fn queue_names(named: &QueueNamed<'_>, queue: &Queue) -> bool
+    ensures { result ≡ queue_names named.now queue.now }
+{
+    match named {
+        QueueNamed::Form(name) => is_named(name, queue.mounted),
+        QueueNamed::Characteristics(wanted) => has_one_of(*wanted, queue.characteristics),
+        QueueNamed::Target(name) => queue.targets.as_slice().contains(*name),
+    }
+}
+
+/// The refusal that names the first queue of those that name it, by their names.
+pub(crate) fn refused_by_queue(queues: &[Queue], named: &QueueNamed<'_>) -> Option<Refusal>
+    ensures { result ≡ refused_by_queue (queue_names named.now) queues.now }
+{
+    for queue in queues {
+        if queue_names(named, queue) {
+            let by = Holder::Queue(queue.name);
+            return Some(Refusal::Referenced { by });
+        }
+    }
+    None
 }
 
 impl Image {

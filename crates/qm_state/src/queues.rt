@@ -7,10 +7,11 @@ ghost use Rattle.qm_state.specs.Image.{system_of};
 
 use crate::image::Image;
 use crate::initializing::{initialize_refusal, new_queue};
+use crate::naming::{QueueNamed, refused_by_queue};
 use crate::prepared::Change;
 use crate::refused::Refused;
 use crate::settings::{set_queue_refusal, settings_of};
-use crate::stopping::{delete_queue_refusal, refused_by_queue};
+use crate::stopping::delete_queue_refusal;
 use qm_kinds::{Name, NewQueue, QueueChange, QueueState, Refusal, StopMode};
 use std::alloc::AllocError;
 
@@ -129,7 +130,7 @@ impl Image {
         delete_queue_refusal(
             self.parts.queue_table(),
             name,
-            refused_by_queue(self.parts.queues(), name),
+            refused_by_queue(self.parts.queues(), &QueueNamed::Target(name)),
             self.parts.first_run_for(name),
         )
     }

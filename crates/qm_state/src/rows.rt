@@ -110,6 +110,22 @@ fn restore_entries(
     Ok(())
 }
 
+// The tables of a system, of whose files it is counted which entries name them. (Each large value that is alive where a call may
+// fail makes the proof longer: so the tables don't stand beside the other parts of an image until nothing of them can fail.)
+fn parts_of(alloc: Global, spool: &mut Spool, system: &System) -> Result<Parts, AllocError>
+    requires consistent { IsConsistent system.now }
+    requires files { spool.old.files ≡ system.now.files }
+    requires unnamed { CountsOf [] spool.old.counts }
+    ensures tables { IfOk result (λ parts. with_tables system.now parts ≡ system.now) }
+    ensures files { spool.new.files ≡ spool.old.files }
+    ensures counts { IfOk result (λ parts. CountsOf parts.entries spool.new.counts) }
+    ensures timers { IfOk result (λ parts. AreTimersOf parts.entries parts.timers) }
+{
+    let mut tables = tables_of(alloc, system)?;
+    restore_entries(&mut tables, spool, system)?;
+    Parts::of(alloc, tables)
+}
+
 // The number of the next entry.
 fn next_number(system: &System) -> u32
     ensures { result ≡ system.now.next_entry }
@@ -124,18 +140,18 @@ impl Image {
         requires { IsConsistent system.now }
         ensures { IfOk result (λ image. system_of image ≡ system.now) }
     {
-        let mut tables = tables_of(alloc, system)?;
-        let mut spool = Spool::from_files(alloc, system.files.as_slice())?;
         let may = Seq::of(Vec::from_slice(alloc, system.may.as_slice())?);
-        restore_entries(&mut tables, &mut spool, system)?;
-        let parts = Parts::of(alloc, tables)?;
-        Ok(Image {
-            alloc,
-            parts,
-            spool,
-            may,
-            next_entry: next_number(system),
-            last: system.last,
-        })
+        let mut spool = Spool::from_files(alloc, system.files.as_slice())?;
+        match parts_of(alloc, &mut spool, system) {
+            Ok(parts) => Ok(Image {
+                alloc,
+                parts,
+                spool,
+                may,
+                next_entry: next_number(system),
+                last: system.last,
+            }),
+            Err(AllocError) => Err(AllocError),
+        }
     }
 }

@@ -44,23 +44,6 @@ pub(crate) fn refused_unless_stopped(queue: &Queue) -> Option<Refusal>
     }
 }
 
-// Whether a queue passes its jobs on to the one of this name.
-fn has_target(queue: &Queue, name: &Name) -> bool
-    ensures { result ≡ list_any (bytes_eq name.now) queue.now.targets }
-{
-    queue.targets.as_slice().contains(name)
-}
-
-/// The first queue by name that passes its jobs on to the one of this name makes that stay.
-pub(crate) fn refused_by_queue(queues: &[Queue], name: &Name) -> Option<Refusal>
-    ensures { result ≡ refused_by_queue (λ q. list_any (bytes_eq name.now) q.targets) queues.now }
-{
-    let queue = queues.iter().find(|queue| has_target(queue, name))?;
-    Some(Refusal::Referenced {
-        by: Holder::Queue(queue.name),
-    })
-}
-
 /// Why a queue can't be deleted, where it is known which queue makes it stay, and which is the least entry that runs for it.
 pub(crate) fn delete_queue_refusal(
     queues: &QueueTable,
