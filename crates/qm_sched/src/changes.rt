@@ -186,7 +186,8 @@ impl Parts {
     }
 }
 
-// What changes whole rows: they are built anew.
+// What changes whole rows: they are built anew, by one walk over the entries for each queue that is open. Walks over the entries that a
+// call is said to take come in front of these.
 impl Parts {
     /// Puts a form in its place by number. There is room for it, and no form has its name or its number.
     pub fn define_form(&mut self, form: Form)
@@ -255,7 +256,8 @@ impl Parts {
         refill_all(self.alloc, &self.tables, &mut self.rows);
     }
 
-    /// Takes out the entries that are retained until a moment that has come. It looks at each entry once.
+    /// Takes out the entries that are retained until a moment that has come. It looks at each entry once, and writes the tags of
+    /// those that stay anew in a second walk.
     pub fn remove_over(&mut self, now: Moment)
         ensures { self.new ≡ record self.old { entries = filter (λ e. not (is_over now e.state)) self.old.entries } }
     {
@@ -272,7 +274,7 @@ impl Parts {
     }
 
     /// Gives each job that waits in the queue `from` the home `to`, and tells how many there were. In the rows there is
-    /// room for all jobs of that home. It looks at each entry once.
+    /// room for all jobs of that home. It looks at each entry once, and writes the tags of all anew in a second walk.
     pub fn merge(&mut self, to: &Name, from: &Name) -> usize
         requires { HavePlacesFor to.now (count_by (is_home from.now) self.old.entries) self.old }
         ensures entries { self.new ≡ record self.old { entries = map (moved_to to.now from.now) self.old.entries } }
@@ -284,7 +286,8 @@ impl Parts {
         moved
     }
 
-    /// Takes out the entries that have this queue as their home, none of which has a run. It looks at each entry once.
+    /// Takes out the entries that have this queue as their home, none of which has a run. It looks at each entry once, and
+    /// writes the tags of those that stay anew in a second walk.
     pub fn remove_of_home(&mut self, home: &Name)
         requires { find (runs_for home.now) self.old.entries ≡ None }
         ensures { self.new ≡ record self.old { entries = filter (λ e. not (bytes_eq e.home home.now)) self.old.entries } }

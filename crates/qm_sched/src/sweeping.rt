@@ -9,7 +9,8 @@ use crate::tables::TableSet;
 use qm_kinds::{Moment, Name};
 
 impl TableSet {
-    /// Takes out the entries that are retained until a moment that has come. It looks at each entry once.
+    /// Takes out the entries that are retained until a moment that has come. It looks at each entry once, and writes the tags of
+    /// those that stay anew in a second walk.
     pub fn remove_over(&mut self, now: Moment)
         ensures { self.new ≡ record self.old { entries = filter (λ e. not (is_over now e.state)) self.old.entries } }
     {
@@ -24,7 +25,7 @@ impl TableSet {
     }
 
     /// Gives each job that waits in the queue `from` the home `to`, and tells how many there were. It looks at each entry
-    /// once.
+    /// once, and writes the tags of all anew in a second walk.
     pub fn merge(&mut self, to: &Name, from: &Name) -> usize
         ensures entries { self.new ≡ record self.old { entries = map (moved_to to.now from.now) self.old.entries } }
         ensures moved { result ≡ count_by (waits_in from.now) self.old.entries }
@@ -32,7 +33,8 @@ impl TableSet {
         self.entries.merge(to, from)
     }
 
-    /// Takes out the entries that have this queue as their home, none of which has a run. It looks at each entry once.
+    /// Takes out the entries that have this queue as their home, none of which has a run. It looks at each entry once, and
+    /// writes the tags of those that stay anew in a second walk.
     pub fn remove_of_home(&mut self, home: &Name)
         requires { find (runs_for home.now) self.old.entries ≡ None }
         ensures { self.new ≡ record self.old { entries = filter (λ e. not (bytes_eq e.home home.now)) self.old.entries } }
