@@ -1,24 +1,14 @@
 -- What is known of how many jobs may come to queues.
-use Rattle.std.proofs.Common.{◌≡◌, ◌∙◌, ℕ, ◌+◌, ◌<◌, ◌≤◌, ⊎_elim, Bool, cond, List, [], ◌∷◌, ◌++◌, length, get_or, set, Option, None, Some, sym, subst, arith}
+use Rattle.std.proofs.Common.{◌≡◌, ◌∙◌, ℕ, ◌+◌, ◌<◌, ◌≤◌, ⊎_elim, cond, List, [], ◌∷◌, ◌++◌, length, get_or, set, Option, None, Some, sym, subst, arith}
 use Rattle.std.proofs.lemmas.Bool.{cases_lt}
 use Rattle.std.proofs.lemmas.List.{get_or_default, get_or-set_same, get_or-set_other, get_or_append_left}
 use Rattle.qm_kinds.specs.declared.entry.Entry.{Entry}
 use Rattle.qm_kinds.specs.declared.queue.Queue.{Queue}
 use Rattle.qm_sched.specs.Rooms.{leads_to, reach, IsAtMost, AreBounds}
 
--- one job more of the home may come to the queue at the place, if it may come there
-abbrev pub IsRaised : List Queue → List ℕ → ℕ → Option ℕ → Option ℕ → Type 0
-IsRaised queues home place old new = (n : ℕ) (q : Queue) → IsAtMost n old → IsAtMost (n + cond (leads_to queues (get_or queues place q) home) 1 0) new
-
 pub at_most_more : (n m : ℕ) (bound : Option ℕ) → n ≤ m → IsAtMost m bound → IsAtMost n bound
 at_most_more n m None less is = tt
 at_most_more n m (Some b) less is = omega (arith, less, is)
-
-pub raised_one : (queues : List Queue) (home : List ℕ) (place : ℕ) (p : Queue) (now : List (Option ℕ)) (old new : Option ℕ) (comes : Bool) → place < length queues → place < length now
-    → p ≡ get_or queues place p → old ≡ get_or now place old → comes ≡ leads_to queues p home → ((n : ℕ) → IsAtMost n old → IsAtMost (n + cond comes 1 0) new) → (d : Option ℕ) → IsRaised queues home place (get_or now place d) new
-raised_one queues home place p now old new comes within inside is read leads raise d n q most =
-    subst (λ (x : Queue). IsAtMost (n + cond (leads_to queues x home) 1 0) new) (is ∙ get_or_default queues place p q within)
-    (subst (λ (b : Bool). IsAtMost (n + cond b 1 0) new) leads (raise n (subst (IsAtMost n) (sym (read ∙ get_or_default now place old d inside)) most)))
 
 -- where nothing is known
 pub unknown_bounds : (queues : List Queue) (entries : List Entry) (bounds : List (Option ℕ)) → ((place : ℕ) → get_or bounds place None ≡ None) → AreBounds queues entries bounds

@@ -67,10 +67,6 @@ keys_of : (n : ℕ) (es : List Entry) → key_numbered n (map key_of es) ≡ opt
 keys_of n [] = refl
 keys_of n (e ∷ es) = keys_at n e es (e.number == n) (keys_of n es)
 
-pub row_told : (P : Queue → Row → Type 0) (told : Option Row) (named : Option Queue) (row : Row) (q : Queue) → told ≡ Some row → named ≡ Some q → IfSome told (λ r. IfSome named (λ p. P p r)) → P q row
-row_told P told named row q is there has =
-    subst (λ o. IfSome o (λ p. P p row)) there (subst (λ o. IfSome o (λ r. IfSome named (λ p. P p r))) is has)
-
 module _ (s : System) (t : Tables) (q : Queue) (row : Row) (order : IsInOrder nat_cmp (λ (e : Entry). e.number) t.entries) (is : IsRowOf q (ready_key t q) row) (kept : IsRow row.schedule row.keys) where
   abbrev fit : Entry → Bool
   fit e = fits (with_tables s t) e q

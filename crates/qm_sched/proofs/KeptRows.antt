@@ -1,5 +1,5 @@
 -- Rows that stay kept.
-use Rattle.std.proofs.Common.{◌≡◌, ◌∙◌, ℕ, ◌+◌, ◌-◌, ◌<◌, ◌≤◌, true, false, not, cond, is_some, ⊎_elim, Bool, filter, List, [], ◌∷◌, ◌++◌, length, get_or, set, Option, Some, None, refl, sym, ap, subst, arith}
+use Rattle.std.proofs.Common.{◌≡◌, ◌∙◌, ℕ, ◌+◌, ◌-◌, ◌<◌, ◌≤◌, true, false, not, cond, is_some, ⊎_elim, Bool, List, [], ◌∷◌, ◌++◌, length, get_or, set, Option, Some, None, refl, sym, ap, subst, arith}
 use Rattle.std.proofs.lemmas.Bool.{cases_lt}
 use Rattle.std.specs.Prelude.{IfSome}
 use Rattle.std.specs.Cmp.Lexicographic.{texts_ties}
@@ -10,8 +10,6 @@ use Rattle.qm_queues.proofs.Names.{name_of}
 use Rattle.std.specs.Ordering.{is_lt}
 use Rattle.std.specs.Str.{bytes_eq}
 use Rattle.std.proofs.lemmas.List.{length-append, get_or_append_left, get_or_default, get_or-set_same, get_or-set_other, length-set}
-use Rattle.std.proofs.lemmas.List.Sums.{length-filter, count_by-le-length}
-use Rattle.qm_kinds.specs.declared.entry.Entry.{Entry}
 use Rattle.qm_kinds.specs.declared.queue.Queue.{Queue}
 use Rattle.qm_match.specs.declared.order.Key.{Key}
 use Rattle.qm_model.specs.Find.{name_cmp, queue_named}
@@ -38,10 +36,6 @@ pub keeps_room : (R : ℕ → Row → Row → Type 0) (place : ℕ) (old now : L
 keeps_room R place old now done same =
     same_rooms old now done.count
     (λ k d within. ⊎_elim (λ (less : k < place). same k (get_or old k d) (get_or now k d) (done.changed k d less within)) (λ (past : place ≤ k). ap room_of (done.left k d past within)) (cases_lt k place))
-
--- those that pass are no more than all
-pub filter_le : {X : Type 0} (p : X → Bool) (xs : List X) → length (filter p xs) ≤ length xs
-filter_le p xs = omega (arith, length-filter p xs, count_by-le-length p xs)
 
 -- ---- the same rows for the same keys
 
@@ -81,6 +75,15 @@ module _ (t : Tables) (rows : List Row) (most : List (Option ℕ)) (more : ℕ) 
     -- the rows are those of other tables too
     pub kept_for : more ≤ u.spare_queues → AreReady u rows → AreKept u rows most more
     kept_for queues ready = kept_by rows queues refl refl ready
+
+-- what is seen of tables that changed, where each row keeps its room and the change leaves rooms and places for queues alone
+pub seen_as : (f : Tables → Tables) (u t old : Tables) (queues : ℕ) (rows now : List Row) → u ≡ f t → KeepsRoom rows now → record t { spare_queues = queues; rooms = rooms_of rows } ≡ old
+    → ((v : Tables) (n : ℕ) (rooms : List ℕ) → record (f v) { spare_queues = n; rooms = rooms } ≡ f (record v { spare_queues = n; rooms = rooms })) → record u { spare_queues = queues; rooms = rooms_of now } ≡ f old
+seen_as f u t old queues rows now is room view apart =
+    ap (λ (v : Tables). record v { spare_queues = queues; rooms = rooms_of now }) is
+    ∙ apart t queues (rooms_of now)
+    ∙ ap (λ (rooms : List ℕ). f (record t { spare_queues = queues; rooms = rooms })) room
+    ∙ ap f view
 
 -- ---- more room
 
@@ -138,33 +141,6 @@ kept_wider t rows now most also more kept keeps count bounds = record {
   bounds = bounds;
   ready = same_keys (ready_key t) t.queues rows now (omega (arith, kept.enough)) keeps kept.ready;
 }
-
--- what a row is that is wider
-pub wider_here : (rows : List Row) (place : ℕ) (old new : Row) → place < length rows → old ≡ get_or rows place old → new ≡ record old { spare = new.spare } → old.spare ≤ new.spare
-    → (d : Row) → IsWider place (get_or rows place d) new
-wider_here rows place old new inside read same less d =
-    subst (λ (r : Row). IsWider place r new) (read ∙ get_or_default rows place old d inside)
-    (record { schedule = ap (λ (r : Row). r.schedule) same; keys = ap (λ (r : Row). r.keys) same; more = less })
-
--- where one row more has the room that is asked for
-pub places_more : (queues : List Queue) (entries : List Entry) (taken : Queue → Bool) (more : ℕ) (rows : List Row) (place : ℕ) (q : Queue) (new : Row) → place < length rows → place < length queues → q ≡ get_or queues place q
-    → (taken q ≡ true → reach queues entries q + more ≤ room_of new)
-    → ((k : ℕ) (p : Queue) (row : Row) → k < place → k < length queues → taken (get_or queues k p) ≡ true → reach queues entries (get_or queues k p) + more ≤ room_of (get_or rows k row))
-    → (k : ℕ) (p : Queue) (row : Row) → k < place + 1 → k < length queues → taken (get_or queues k p) ≡ true → reach queues entries (get_or queues k p) + more ≤ room_of (get_or (set rows place new) k row)
-places_more queues entries taken more rows place q new inside within is here before k p row below at takes =
-    ⊎_elim
-    (λ (less : k < place). omega (arith, before k p row less at takes, ap room_of (get_or-set_other rows place k new row (λ same. omega (arith, same, less)))))
-    (λ (past : place ≤ k).
-    let same : place ≡ k = omega (arith, below, past) in
-    let that : get_or queues k p ≡ q = ap (λ (m : ℕ). get_or queues m p) (sym same) ∙ sym (is ∙ get_or_default queues place q p within) in
-    omega (
-      arith,
-      here (ap taken (sym that) ∙ takes),
-      ap (reach queues entries) that,
-      ap (λ (m : ℕ). room_of (get_or (set rows place new) m row)) (sym same),
-      ap room_of (get_or-set_same rows place new row inside),
-    ))
-    (cases_lt k place)
 
 -- one row is wider
 pub wider_set : (rows : List Row) (place : ℕ) (old new : Row) → place < length rows → old ≡ get_or rows place old → IsWider place old new → KeepsKeys rows (set rows place new)

@@ -1,7 +1,11 @@
 -- The least number of a list.
-use Rattle.std.proofs.Common.{◌≡◌, ◌∙◌, ℕ, ◌+◌, ◌≤◌, ◌==◌, nat_lt, min, List, [], ◌∷◌, count_by, None, Some, refl, sym, ap, subst, arith}
+use Rattle.std.proofs.Common.{◌≡◌, ◌∙◌, ℕ, ◌+◌, ◌<◌, ◌≤◌, ◌==◌, nat_lt, min, Bool, true, false, cond, List, [], ◌∷◌, ◌++◌, length, get_or, take, map, filter, count_by, None, Some, refl, sym, ap, subst, arith}
 use Rattle.std.specs.List.{fold, reduce}
+use Rattle.std.specs.Option.{option_map_or}
 use Rattle.std.proofs.lemmas.Bool.Decides.{nat_tests}
+use Rattle.std.proofs.lemmas.List.{append-nil, map-append}
+use Rattle.std.proofs.lemmas.List.Elements.{filter_more}
+use Rattle.std.proofs.lemmas.List.Sums.{fold-append}
 use Rattle.qm_sched.proofs.Counts.{one_if, count_cons}
 
 -- the number stands in the list, and no lesser one
@@ -45,3 +49,22 @@ least_is n (a ∷ ns) is =
 pub none_is_least : (ns : List ℕ) → reduce min ns ≡ None → ns ≡ []
 none_is_least [] is = refl
 none_is_least (a ∷ ns) is = absurd (cc)
+
+-- one number more
+least_behind : (ns : List ℕ) (n : ℕ) → reduce min (ns ++ n ∷ []) ≡ Some (option_map_or (λ m. min m n) (reduce min ns) n)
+least_behind [] n = refl
+least_behind (a ∷ ns) n = ap (λ (k : ℕ). Some k) (fold-append min a ns (n ∷ []))
+
+-- one element more of a walk over those that pass
+module _ {X : Type 0} (number : X → ℕ) (p : X → Bool) (xs : List X) (i : ℕ) (x : X) (within : i < length xs) (is : x ≡ get_or xs i x) where
+  more : filter p (take (i + 1) xs) ≡ filter p (take i xs) ++ cond (p x) (x ∷ []) []
+  more = filter_more p xs i x within ∙ ap (λ (y : X). filter p (take i xs) ++ cond (p y) (y ∷ []) []) (sym is)
+
+  pub least_taken : p x ≡ true → reduce min (map number (filter p (take (i + 1) xs))) ≡ Some (option_map_or (λ m. min m (number x)) (reduce min (map number (filter p (take i xs)))) (number x))
+  least_taken passes =
+      ap (λ (ns : List ℕ). reduce min ns)
+      (ap (map number) (more ∙ ap (λ (b : Bool). filter p (take i xs) ++ cond b (x ∷ []) []) passes) ∙ map-append number (filter p (take i xs)) (x ∷ []))
+      ∙ least_behind (map number (filter p (take i xs))) (number x)
+
+  pub least_passed : p x ≡ false → reduce min (map number (filter p (take (i + 1) xs))) ≡ reduce min (map number (filter p (take i xs)))
+  least_passed fails = ap (λ (ys : List X). reduce min (map number ys)) (more ∙ ap (λ (b : Bool). filter p (take i xs) ++ cond b (x ∷ []) []) fails ∙ append-nil (filter p (take i xs)))

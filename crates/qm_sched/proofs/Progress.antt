@@ -1,5 +1,5 @@
 -- How far settling has come.
-use Rattle.std.proofs.Common.{◌≡◌, ℕ, ◌+◌, ◌<◌, ◌≤◌, Bool, true, false, cond, not, ◌&&◌, List, [], ◌∷◌, ◌++◌, length, refl, sym, ◌∙◌, ap, subst, arith, lit≤, Option, None, Some, All, find}
+use Rattle.std.proofs.Common.{◌≡◌, ℕ, ◌+◌, ◌≤◌, Bool, true, false, cond, not, ◌&&◌, List, [], ◌∷◌, ◌++◌, length, refl, sym, ◌∙◌, ap, subst, arith, lit≤, Option, None, Some, All, find}
 use Rattle.std.specs.Prelude.{count_by}
 use Rattle.std.specs.Ordering.{nat_cmp, is_lt}
 use Rattle.std.specs.declared.cmp.Ordering.{Ordering}
@@ -9,7 +9,7 @@ use Rattle.std.proofs.lemmas.List.Recursion.{is_count_by}
 use Rattle.qm_kinds.specs.declared.queue.Queue.{Queue}
 use Rattle.qm_kinds.specs.declared.run.Start.{Start}
 use Rattle.qm_kinds.specs.declared.system.System.{System}
-use Rattle.qm_model.specs.Find.{name_cmp, queue_named}
+use Rattle.qm_model.specs.Find.{name_cmp}
 use Rattle.qm_model.specs.Consistent.{IsInOrder}
 use Rattle.qm_model.specs.Settling.{AreStarts, start_of, settled}
 use Rattle.qm_model.proofs.SettlingLemmas.{with_queue_of}
@@ -25,7 +25,7 @@ use Rattle.qm_sched.specs.Choosing.{next_start, IsNextStart, takes_jobs, executi
 use Rattle.qm_sched.proofs.FewStarts.{one_if}
 use Rattle.qm_sched.proofs.Steps.{step, pushed, within_settled, all_started}
 use Rattle.qm_sched.proofs.Walk.{IsNext, next_is, ArePassed, starts_at_first, chosen_next, none_behind, goes_on, stays_passed}
-use Rattle.qm_sched.proofs.Starting.{is_next_start, queue_found}
+use Rattle.qm_sched.proofs.Starting.{is_next_start}
 
 -- these starts lead from the one tables to the others, and no queue up to the name can start a job
 pub record Progress (from t : Tables) (out : List Start) (behind : Option (List ℕ)) : Type 0 where
@@ -34,14 +34,6 @@ pub record Progress (from t : Tables) (out : List Start) (behind : Option (List 
 
 pub begun : (t : Tables) → Progress t t [] None
 begun t = record { starts = λ s. refl; passed = λ s. starts_at_first (with_tables s t) }
-
--- what a look behind a name finds
-pub found_behind : (qs : List Queue) {given behind : Option (List ℕ)} {o found : Option Queue} → given ≡ behind → o ≡ queue_after given qs → o ≡ found → queue_after behind qs ≡ found
-found_behind qs name is o = ap (λ g. queue_after g qs) (sym name) ∙ sym is ∙ o
-
-pub behind_is_found : (behind : Option (List ℕ)) (q : Queue) (qs : List Queue) → IsInOrder name_cmp (λ p. p.name) qs → queue_after behind qs ≡ Some q → queue_named q.name qs ≡ Some q
-behind_is_found behind q qs order h =
-    queue_found q qs (pairs_of (λ (a b : Queue). name_cmp a.name b.name ≡ Less) qs order) (find_in (comes_after behind) q qs h)
 
 module _ (from t : Tables) (out : List Start) (behind : Option (List ℕ)) (h : Progress from t out behind) where
   pub ended : queue_after behind t.queues ≡ None → (s : System) → settled (with_tables s from) ≡ record { system = with_tables s t; started = out }
@@ -89,29 +81,14 @@ module _ (from t : Tables) (out : List Start) (behind : Option (List ℕ)) (h : 
 
 -- ---- fewer queues stand behind
 
-abbrev number_behind : Option (List ℕ) → List Queue → ℕ
-number_behind behind [] = 0
-number_behind behind (q ∷ qs) = one_if (comes_after behind q) + number_behind behind qs
-
 one_counted : (b : Bool) (k : ℕ) → one_if b + k ≡ cond b (1 + k) k
 one_counted true k = refl
 one_counted false k = omega arith
-
-number_is : (behind : Option (List ℕ)) (qs : List Queue) → number_behind behind qs ≡ count_by (comes_after behind) qs
-number_is behind qs = is_count_by (number_behind behind) (comes_after behind) refl (λ x xs. one_counted (comes_after behind x) (number_behind behind xs)) qs
 
 less_of : (o : Ordering) → is_lt o ≡ true → o ≡ Less
 less_of Less h = refl
 less_of Equal h = cc
 less_of Greater h = cc
-
-not_less : (b : Bool) → (b ≡ true → ⊥) → one_if b ≡ 0
-not_less true never = absurd (never refl)
-not_less false never = refl
-
-at_most : (a b : Bool) → (a ≡ true → b ≡ true) → one_if a ≤ one_if b
-at_most true b h = rw (h refl) (lit≤ tt)
-at_most false b h = omega arith
 
 module _ (behind : Option (List ℕ)) (q : Queue) where
   -- what comes behind the queue comes behind what the queue comes behind
@@ -120,37 +97,11 @@ module _ (behind : Option (List ℕ)) (q : Queue) where
   behind_both (Some name) x h k =
       ap is_lt (nat_list_cmp_total.trans name q.name x.name (less_of (name_cmp name q.name) h) (less_of (name_cmp q.name x.name) k))
 
-  fewer_all : comes_after behind q ≡ true → (qs : List Queue) → number_behind (Some q.name) qs ≤ number_behind behind qs
-  fewer_all h [] = lit≤ tt
-  fewer_all h (x ∷ xs) = omega (arith, at_most (comes_after (Some q.name) x) (comes_after behind x) (behind_both behind x h), fewer_all h xs)
-
   not_itself : comes_after (Some q.name) q ≡ true → ⊥
   not_itself h = name_not_below q.name q.name refl (less_of (name_cmp q.name q.name) h)
 
   not_before : (x : Queue) → name_cmp x.name q.name ≡ Less → comes_after (Some q.name) x ≡ true → ⊥
   not_before x less h = name_not_below q.name q.name refl (nat_list_cmp_total.trans q.name x.name q.name (less_of (name_cmp q.name x.name) h) less)
-
-  fewer_at : (y : Queue) (ys : List Queue) (b : Bool) → comes_after behind y ≡ b → cond b (Some y) (find (comes_after behind) ys) ≡ Some q
-      → All (λ x. name_cmp y.name x.name ≡ Less) ys → (find (comes_after behind) ys ≡ Some q → number_behind (Some q.name) ys + 1 ≤ number_behind behind ys)
-      → number_behind (Some q.name) (y ∷ ys) + 1 ≤ number_behind behind (y ∷ ys)
-  fewer_at y ys true is h order later =
-      let same : y ≡ q = cc in
-      let here : comes_after behind q ≡ true = ap (comes_after behind) (sym same) ∙ is in
-      let none : one_if (comes_after (Some q.name) y) ≡ 0 = ap (λ (z : Queue). one_if (comes_after (Some q.name) z)) same ∙ not_less (comes_after (Some q.name) q) not_itself in
-      let one : one_if (comes_after behind y) ≡ 1 = ap one_if is in
-      omega (arith, fewer_all here ys)
-  fewer_at y ys false is h order later =
-      let less : name_cmp y.name q.name ≡ Less = in_all (λ (z : Queue). name_cmp y.name z.name ≡ Less) q ys order (find_in (comes_after behind) q ys h) in
-      let none : one_if (comes_after (Some q.name) y) ≡ 0 = not_less (comes_after (Some q.name) y) (not_before y less) in
-      omega (arith, later h)
-
-  fewer : (qs : List Queue) → Pairs (λ a b. name_cmp a.name b.name ≡ Less) qs → find (comes_after behind) qs ≡ Some q → number_behind (Some q.name) qs + 1 ≤ number_behind behind qs
-  fewer [] order h = cc
-  fewer (y ∷ ys) order h = fewer_at y ys (comes_after behind y) refl h order.0 (fewer ys order.1)
-
-  pub fewer_behind : (qs : List Queue) → IsInOrder name_cmp (λ p. p.name) qs → queue_after behind qs ≡ Some q → count_by (comes_after (Some q.name)) qs < count_by (comes_after behind) qs
-  fewer_behind qs order h =
-      omega (arith, fewer qs (pairs_of (λ (a b : Queue). name_cmp a.name b.name ≡ Less) qs order) h, number_is (Some q.name) qs, number_is behind qs)
 
 -- ---- fewer of those queues that pass a test stand behind
 

@@ -1,12 +1,10 @@
 -- Under which numbers keys are ready, once something became of entries or queues.
-use Rattle.std.proofs.Common.{◌≡◌, ◌∙◌, ℕ, ◌<◌, ◌==◌, Bool, true, false, cond, ◌&&◌, List, [], ◌∷◌, ◌++◌, length, map, find, Option, None, Some, refl, sym, ap, arith}
+use Rattle.std.proofs.Common.{◌≡◌, ◌∙◌, ℕ, ◌<◌, ◌==◌, Bool, true, false, cond, ◌&&◌, List, [], ◌∷◌, ◌++◌, map, find, Option, None, Some, refl, sym, ap, arith}
 use Rattle.std.specs.Prelude.{option_to_list}
 use Rattle.std.specs.List.{All}
 use Rattle.std.specs.Option.{option_map, option_and_then}
 use Rattle.std.proofs.lemmas.Bool.Decides.{nat_tests}
-use Rattle.std.proofs.lemmas.List.{length-map}
 use Rattle.std.proofs.lemmas.List.Elements.{All-head, All-tail}
-use Rattle.qm_entries.proofs.Outcomes.{flat_changed}
 use Rattle.qm_kinds.specs.declared.entry.Entry.{Entry}
 use Rattle.qm_kinds.specs.declared.entry.EntryState.{EntryState}
 use Rattle.qm_kinds.specs.declared.entry.EntryState.TheVariants.{Pending, Holding, Timed, Running, Aborting, Retained}
@@ -238,7 +236,3 @@ found_at n e x rest false is found later = later found
 pub number_found : (n : ℕ) (e : Entry) (es : List Entry) → entry_numbered n es ≡ Some e → e.number ≡ n
 number_found n e [] found = absurd (cc)
 number_found n e (x ∷ es) found = found_at n e x (entry_numbered n es) (x.number == n) refl found (number_found n e es)
-
--- an entry that is changed is one still
-pub number_of_changed : (n : ℕ) (f : Entry → Entry) (es : List Entry) → length (with_entry n (λ e. Some (f e)) es) ≡ length es
-number_of_changed n f es = ap (λ (xs : List Entry). length xs) (flat_changed (numbered n) f es) ∙ length-map es _

@@ -1,12 +1,11 @@
 -- The rows of tables in which one entry changed.
-use Rattle.std.proofs.Common.{◌≡◌, ◌∙◌, ℕ, ◌<◌, ◌≤◌, ◌==◌, Bool, true, false, cond, not, List, [], ◌∷◌, ◌++◌, length, map, None, Some, refl, sym, ap, arith}
+use Rattle.std.proofs.Common.{◌≡◌, ◌∙◌, ℕ, ◌<◌, ◌==◌, Bool, true, false, cond, List, [], ◌∷◌, ◌++◌, map, None, Some, refl, sym, ap}
 use Rattle.std.specs.List.{All}
 use Rattle.std.specs.Option.{option_and_then}
 use Rattle.qm_kinds.specs.declared.entry.Entry.{Entry}
 use Rattle.qm_kinds.specs.declared.entry.EntryState.TheVariants.{Running}
 use Rattle.qm_kinds.specs.declared.entry.Fate.{Fate}
 use Rattle.qm_kinds.specs.declared.queue.Queue.{Queue}
-use Rattle.qm_entries.proofs.Outcomes.{flat_gone}
 use Rattle.qm_model.specs.Find.{entry_numbered}
 use Rattle.qm_model.specs.JobStates.{is_pending}
 use Rattle.qm_model.specs.Standing.{with_entry}
@@ -14,8 +13,8 @@ use Rattle.qm_model.specs.Stopping.{with_fate, reset_in}
 use Rattle.qm_ready.specs.Rows.{Row}
 use Rattle.qm_sched.specs.Ready.{key_where_ready, ready_key, without_number, AreReady, AreReadyBut}
 use Rattle.qm_sched.specs.Tables.{Tables}
-use Rattle.qm_sched.proofs.KeptRows.{same_rows, filter_le}
-use Rattle.qm_sched.proofs.ReadyKeys.{ready_with_fate, ready_reset, ready_gone, ready_started, ready_replaced, ready_behind, none_ready, same_number, not_pending}
+use Rattle.qm_sched.proofs.KeptRows.{same_rows}
+use Rattle.qm_sched.proofs.ReadyKeys.{ready_with_fate, ready_reset, ready_gone, ready_started, ready_behind, none_ready, same_number, not_pending}
 
 module _ (t : Tables) (rows : List Row) where
   pub fate_rows : (n : ℕ) (fate : Fate) → AreReady t rows → AreReady (record t { entries = with_entry n (λ e. Some (with_fate fate e)) t.entries }) rows
@@ -63,17 +62,8 @@ module _ (t : Tables) (rows : List Row) where
       (ready_key (record t { entries = with_entry n (λ e. Some (record e { state = Running queue node run })) t.entries; next_run = next; spare_runs = runs })) t.queues rows
       (λ q number. sym (ready_started t q number n queue node run))
 
-  -- changes
-  pub replaced_rows : (new : Entry) (runs : ℕ) → AreReadyBut new.number t rows → AreReadyBut new.number (record t { entries = with_entry new.number (λ e. Some new) t.entries; spare_runs = runs }) rows
-  replaced_rows new runs =
-      same_rows (λ q. without_number new.number (ready_key t q))
-      (λ q. without_number new.number (ready_key (record t { entries = with_entry new.number (λ e. Some new) t.entries; spare_runs = runs }) q)) t.queues rows (λ q number. ready_replaced t q number new)
-
   -- or comes
   pub behind_rows : (new : Entry) (spare : ℕ) → All (λ e. e.number < new.number) t.entries → AreReady t rows
       → AreReadyBut new.number (record t { entries = t.entries ++ new ∷ []; spare_entries = spare }) rows
   behind_rows new spare less =
       same_rows (ready_key t) (λ q. without_number new.number (ready_key (record t { entries = t.entries ++ new ∷ []; spare_entries = spare }) q)) t.queues rows (λ q number. ready_behind t q number new less)
-
-pub gone_le : (n : ℕ) (es : List Entry) → length (with_entry n (λ e. None) es) ≤ length es
-gone_le n es = omega (arith, ap (λ (xs : List Entry). length xs) (flat_gone (λ (e : Entry). e.number == n) es), filter_le (λ (e : Entry). not (e.number == n)) es)

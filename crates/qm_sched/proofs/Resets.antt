@@ -70,13 +70,6 @@ twice_at name e false is = ap (λ (b : Bool). cond b (with_fate (reset_fate e) e
 twice : (name : List ℕ) (e : Entry) → reset_in name (reset_in name e) ≡ reset_in name e
 twice name e = twice_at name e (is_running_in name e.state) refl
 
-number_at : (e : Entry) (b : Bool) → (cond b (with_fate (reset_fate e) e) e).number ≡ e.number
-number_at e true = refl
-number_at e false = refl
-
-number_of_reset : (name : List ℕ) (e : Entry) → (reset_in name e).number ≡ e.number
-number_of_reset name e = number_at e (is_running_in name e.state)
-
 -- ---- run by run
 
 module _ (name : List ℕ) (n : ℕ) where

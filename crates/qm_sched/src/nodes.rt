@@ -7,7 +7,7 @@ ghost use Rattle.qm_sched.specs.Nodes.{changed_node, is_run_on_one};
 
 use crate::parts::Parts;
 use crate::rows::refill_all;
-use crate::running::see_order;
+use crate::running::{lesser, see_order};
 use crate::tables::TableSet;
 use qm_kinds::{Entry, Name, Node, Run};
 
@@ -60,10 +60,13 @@ fn count_on(runs: &[Run], nodes: &[Name]) -> usize
 fn least_on(runs: &[Run], nodes: &[Name]) -> Option<u32>
     ensures { result ≡ reduce min (map (λ r. r.entry) (filter (λ r. is_among nodes.now r.node) runs.now)) }
 {
-    runs.iter()
-        .filter(|run| is_among(nodes, &run.node))
-        .map(|run| run.entry)
-        .min()
+    let mut least = None;
+    for run in runs {
+        if is_among(nodes, &run.node) {
+            least = Some(lesser(least, run.entry));
+        }
+    }
+    least
 }
 
 impl TableSet {

@@ -1,5 +1,5 @@
 // The tables with the rows of ready jobs, and what is asked of them.
-ghost use Rattle.std.specs.Prelude.{◌≡◌, ◌≤◌, ◌<◌, ◌+◌, ◌&&◌, ℕ, List, length, count_by, slice_index_or, None, find, filter, filter_map, is_some, IfOk, IfSome, OnErr, OnOk};
+ghost use Rattle.std.specs.Prelude.{◌≡◌, ◌≤◌, ◌<◌, ◌+◌, ◌&&◌, ℕ, List, length, count_by, slice_index_or, vec_len, vec_capacity, None, find, filter, filter_map, is_some, IfOk, IfSome, OnErr, OnOk};
 ghost use Rattle.std.specs.List.{list_any};
 ghost use Rattle.std.specs.Option.{option_copied, option_map};
 ghost use Rattle.std.specs.Ordering.{nat_cmp};
@@ -105,6 +105,25 @@ fn filled_rows(
     let bounds = no_bounds(alloc, rows.len())?;
     refill_all(alloc, tables, &mut rows);
     Ok((rows, bounds))
+}
+
+// Makes room for one queue more: in the tables, for its row and for its bound.
+fn reserve_one(
+    tables: &mut TableSet,
+    rows: &mut Vec<ReadyRow>,
+    bounds: &mut Vec<Option<usize>>,
+) -> Result<(), AllocError>
+    ensures ok { OnOk result (0 < tables.new.spare_queues) }
+    ensures no_less { tables.old.spare_queues ≤ tables.new.spare_queues }
+    ensures tables { tables.new ≡ record tables.old { spare_queues = tables.new.spare_queues } }
+    ensures row_place { OnOk result (vec_len rows.new < vec_capacity rows.new) }
+    ensures bound_place { OnOk result (vec_len bounds.new < vec_capacity bounds.new) }
+    ensures rows { rows.new.items ≡ rows.old.items }
+    ensures bounds { bounds.new.items ≡ bounds.old.items }
+{
+    tables.reserve_queue()?;
+    rows.reserve(1)?;
+    bounds.reserve(1)
 }
 
 impl Parts {
@@ -338,8 +357,8 @@ impl Parts {
         ensures places { OnOk result (HavePlacesFor home.now 1 self.new) }
         ensures tables { self.new ≡ record self.old { spare_entries = self.new.spare_entries; rooms = self.new.rooms } }
     {
-        self.tables.reserve_entry()?;
-        self.reserve_places(home, 1)
+        self.reserve_places(home, 1)?;
+        self.tables.reserve_entry()
     }
 
     // Makes a row for a queue that comes, where there is none.
@@ -351,10 +370,9 @@ impl Parts {
         if self.queue_room > 0 {
             return Ok(());
         }
-        self.tables.reserve_queue()?;
-        self.bounds.reserve(1)?;
+        reserve_one(&mut self.tables, &mut self.rows, &mut self.bounds)?;
         self.rows
-            .push(ReadyRow::new(self.alloc, Schedule::ByNumber))?;
+            .push_reserved(ReadyRow::new(self.alloc, Schedule::ByNumber));
         self.bounds.push_reserved(None);
         self.queue_room = 1;
         Ok(())
@@ -384,8 +402,7 @@ impl Parts {
     {
         let place = self.tables.queues().len();
         let mut bound = None;
-        widen(&self.tables, queue, &mut self.rows[place], &mut bound, more)?;
-        Ok(())
+        widen(&self.tables, queue, &mut self.rows[place], &mut bound, more)
     }
 
     /// Makes room for a queue, with a row, and in the rows of the queues that it names for the jobs that have it as their home

@@ -1,7 +1,7 @@
 // What is asked of the runs.
 ghost use Rattle.std.specs.Prelude.{◌≡◌, ℕ, List, ◌==◌, ◌&&◌, find, filter, filter_map, map, count_by, min};
 ghost use Rattle.std.specs.List.{list_any, reduce};
-ghost use Rattle.std.specs.Option.{option_copied, option_map};
+ghost use Rattle.std.specs.Option.{option_copied, option_map, option_map_or};
 ghost use Rattle.std.specs.Ordering.{nat_cmp};
 ghost use Rattle.qm_model.specs.Consistent.{IsInOrder};
 ghost use Rattle.qm_model.specs.Duties.{by_run};
@@ -170,6 +170,16 @@ fn is_run_for(entries: &EntryTable, queue: &Name, run: &Run) -> bool
     match entries.get(run.entry) {
         None => false,
         Some(entry) => entry.home == *queue,
+    }
+}
+
+/// The lesser one of a number and the one that is known so far, if there is one.
+pub(crate) fn lesser(least: Option<u32>, number: u32) -> u32
+    ensures { result ≡ option_map_or (λ n. min n number) least number }
+{
+    match least {
+        None => number,
+        Some(least) => least.min(number),
     }
 }
 

@@ -1,8 +1,8 @@
 use Rattle.std.proofs.Common.{◌<◌, List, length, ap, arith}
 use Rattle.qm_kinds.specs.declared.queue.Queue.{Queue}
 use Rattle.qm_sched.specs.Ready.{ready_key, without_number}
-use Rattle.qm_sched.proofs.Each.{one_done}
-use Rattle.qm_sched.proofs.RowLoops.{IsMade, made, room_kept, room_next, row_next}
+use Rattle.qm_sched.proofs.Each.{none_done, one_done}
+use Rattle.qm_sched.proofs.RowLoops.{IsMade, all_made, made, room_kept, room_next, row_next}
 use Rattle.qm_sched.proofs.rows.admit.Goals as goal
 
 pub admit_to-requires-clause-ready : goal.admit_to-requires-clause-ready
@@ -30,3 +30,11 @@ loop-place-preserved c =
 
 pub returns-clause-room : goal.returns-clause-room
 returns-clause-room c = room_kept (ready_key c.args.tables.now) c.args.tables.now.queues c.loop-place.place c.args.rows.now.items c.loop-place.rows.items c.loop-place.invariant
+
+pub loop-place-init : goal.loop-place-init
+loop-place-init c = none_done (IsMade (ready_key c.args.tables.now) c.args.tables.now.queues) c.args.rows.now.items
+
+pub returns-clause-ready : goal.returns-clause-ready
+returns-clause-ready c =
+    all_made (ready_key c.args.tables.now) c.args.tables.now.queues c.loop-place.place c.args.rows.now.items c.loop-place.rows.items c.loop-place.invariant
+    (omega (arith, c.loop-place-test.false, ap (λ (qs : List Queue). length qs) c.queues-place-end.ensures.queues)) c.requires.enough

@@ -1,8 +1,8 @@
 use Rattle.std.proofs.Common.{◌<◌, List, length, ap, arith}
 use Rattle.qm_kinds.specs.declared.queue.Queue.{Queue}
 use Rattle.qm_sched.specs.Ready.{ready_key, without_number}
-use Rattle.qm_sched.proofs.Each.{one_done}
-use Rattle.qm_sched.proofs.RowLoops.{IsMade, forgotten_at, room_kept}
+use Rattle.qm_sched.proofs.Each.{none_done, one_done}
+use Rattle.qm_sched.proofs.RowLoops.{IsMade, all_made, forgotten_at, room_kept}
 use Rattle.qm_sched.proofs.rows.forget.Goals as goal
 
 pub loop-place-preserved : goal.loop-place-preserved
@@ -17,3 +17,11 @@ loop-place-preserved c =
 pub returns-clause-room : goal.returns-clause-room
 returns-clause-room c =
     room_kept (λ q. without_number c.args.entry.now.number (ready_key c.args.tables.now q)) c.args.tables.now.queues c.loop-place.place c.args.rows.now.items c.loop-place.rows.items c.loop-place.invariant
+
+pub loop-place-init : goal.loop-place-init
+loop-place-init c = none_done (IsMade (λ q. without_number c.args.entry.now.number (ready_key c.args.tables.now q)) c.args.tables.now.queues) c.args.rows.now.items
+
+pub returns-clause-ready : goal.returns-clause-ready
+returns-clause-ready c =
+    all_made (λ q. without_number c.args.entry.now.number (ready_key c.args.tables.now q)) c.args.tables.now.queues c.loop-place.place c.args.rows.now.items c.loop-place.rows.items c.loop-place.invariant
+    (omega (arith, c.loop-place-test.false, ap (λ (qs : List Queue). length qs) c.queues-place-end.ensures.queues)) c.requires.enough

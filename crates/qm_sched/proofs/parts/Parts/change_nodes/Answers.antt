@@ -1,7 +1,8 @@
-use Rattle.qm_sched.proofs.KeptRows.{kept_by, enough_for, room_for}
+use Rattle.qm_sched.proofs.KeptRows.{kept_by, enough_for, room_for, seen_as}
 use Rattle.qm_sched.proofs.Reach.{all_stay}
+use Rattle.qm_sched.specs.Nodes.{changed_node}
 use Rattle.qm_sched.specs.Tables.{Tables}
-use Rattle.std.proofs.Common.{ap, arith}
+use Rattle.std.proofs.Common.{ap, arith, map, refl}
 use Rattle.qm_sched.proofs.parts.Parts.change_nodes.Goals as goal
 
 pub refill_all-requires-clause-enough : goal.refill_all-requires-clause-enough
@@ -21,3 +22,8 @@ invariant_of-self c =
     c.refill_all.new.rows.items
     (omega (arith, c.self.invariant.queues, ap (λ (t : Tables). t.spare_queues) c.change_nodes.ensures)) c.refill_all.ensures.count c.refill_all.ensures.room
     c.refill_all.ensures.ready
+
+pub returns : goal.returns
+returns c =
+    seen_as (λ (t : Tables). record t { nodes = map (changed_node c.args.change.now) t.nodes }) c.change_nodes.new.self c.self.inside.tables c.args.self.now c.self.inside.queue_room c.self.inside.rows.items c.refill_all.new.rows.items
+    c.change_nodes.ensures c.refill_all.ensures.room c.self.view_is (λ t n rooms. refl)
