@@ -1,5 +1,5 @@
 -- What is known of how many jobs may come to queues.
-use Rattle.std.proofs.Common.{◌≡◌, ◌∙◌, ℕ, ◌+◌, ◌<◌, ◌≤◌, ⊎_elim, cond, List, [], ◌∷◌, ◌++◌, length, get_or, set, Option, None, Some, sym, subst, arith}
+use Rattle.std.proofs.Common.{◌≡◌, ◌∙◌, ℕ, zero, suc, ◌+◌, ◌<◌, ◌≤◌, ⊎_elim, cond, List, [], ◌∷◌, ◌++◌, length, get_or, set, Option, None, Some, refl, sym, subst, arith}
 use Rattle.std.proofs.lemmas.Bool.{cases_lt}
 use Rattle.std.proofs.lemmas.List.{get_or_default, get_or-set_same, get_or-set_other, get_or_append_left}
 use Rattle.qm_kinds.specs.declared.entry.Entry.{Entry}
@@ -14,6 +14,13 @@ at_most_more n m (Some b) less is = omega (arith, less, is)
 pub unknown_bounds : (queues : List Queue) (entries : List Entry) (bounds : List (Option ℕ)) → ((place : ℕ) → get_or bounds place None ≡ None) → AreBounds queues entries bounds
 unknown_bounds queues entries bounds unknown place q within =
     subst (IsAtMost (reach queues entries (get_or queues place q))) (sym (unknown place)) tt
+
+-- nothing is known of one more
+pub unknown_more : (bounds : List (Option ℕ)) → ((place : ℕ) → get_or bounds place None ≡ None) → (place : ℕ) → get_or (bounds ++ None ∷ []) place None ≡ None
+unknown_more [] unknown zero = refl
+unknown_more [] unknown (suc place) = refl
+unknown_more (b ∷ bounds) unknown zero = unknown 0
+unknown_more (b ∷ bounds) unknown (suc place) = unknown_more bounds (λ k. unknown (suc k)) place
 
 -- where no more jobs may come than were counted
 pub fewer_bounds : (queues : List Queue) (entries also : List Entry) (bounds : List (Option ℕ)) → ((q : Queue) → reach queues also q ≤ reach queues entries q) → AreBounds queues entries bounds → AreBounds queues also bounds

@@ -32,3 +32,4 @@ pub mod ByRun
 pub mod OneQueue
 pub mod KeptTimers
 pub mod Renewed
+pub mod Searches

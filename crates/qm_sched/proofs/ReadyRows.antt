@@ -35,9 +35,6 @@ module _ (t : Tables) (rows : List Row) where
   pub absent_but : (n : ℕ) → entry_numbered n t.entries ≡ None → AreReady t rows → AreReadyBut n t rows
   absent_but n none = same_rows (ready_key t) (λ q. without_number n (ready_key t q)) t.queues rows (but_none n none)
 
-  pub absent_too : (n : ℕ) → entry_numbered n t.entries ≡ None → AreReadyBut n t rows → AreReady t rows
-  absent_too n none = same_rows (λ q. without_number n (ready_key t q)) (ready_key t) t.queues rows (λ q number. sym (but_none n none q number))
-
   -- one that isn't pending is in none either
   idle_none : (n : ℕ) (e : Entry) → entry_numbered n t.entries ≡ Some e → is_pending e.state ≡ false → (q : Queue) (number : ℕ) → ready_key t q number ≡ without_number n (ready_key t q) number
   idle_none n e there idle q number = at_it (n == number) refl

@@ -12,7 +12,7 @@ use Rattle.qm_model.specs.Folding.{no_system}
 use Rattle.qm_model.specs.JobStates.{is_pending}
 use Rattle.qm_model.specs.Standing.{with_entry}
 use Rattle.qm_ready.specs.Rows.{Row, key_numbered}
-use Rattle.qm_sched.specs.Ready.{key_where_ready, pending_key, ready_key, without_number, IsRowOf, IsStale, AreReady, AreStale}
+use Rattle.qm_sched.specs.Ready.{key_where_ready, pending_key, ready_key, without_number, IsRowOf, IsStale, AreReady, AreReadyBut, AreStale}
 use Rattle.qm_sched.specs.Tables.{Tables, with_tables}
 use Rattle.qm_sched.proofs.Each.{AreDone}
 use Rattle.qm_sched.proofs.ReadyKeys.{found_changed, itself, none_ready, not_pending, number_found, ready_replaced, same_number}
@@ -75,6 +75,17 @@ module _ (t : Tables) (rows : List Row) where
         others = λ number other. one.keys number ∙ other_number it new number other;
         stale = subst (λ (o : Option Key). IfSome o (λ key. option_and_then pending_key (entry_numbered new.number t.entries) ≡ Some key)) (sym (one.keys new.number))
             (fits_pending t it (entry_numbered new.number t.entries));
+      }
+
+  -- rows that lack the job have no old key of it
+  pub but_stale : (n : ℕ) → AreReadyBut n t rows → AreStale n None t rows
+  but_stale n but place q row within =
+      let one = but place q row within in
+      let it : Queue = get_or t.queues place q in
+      record {
+        schedule = one.schedule;
+        others = λ number other. one.keys number ∙ ap (λ (b : Bool). cond b None (ready_key t it number)) other;
+        stale = subst (λ (o : Option Key). IfSome o (λ key. None ≡ Some key)) (sym (one.keys n ∙ ap (λ (b : Bool). cond b None (ready_key t it n)) (itself n))) tt;
       }
 
   -- where there is no such job the rows are those of the jobs that are ready

@@ -88,21 +88,8 @@ module _ (t : Tables) (q : Queue) (e : Entry) (there : entry_numbered e.number t
   }
 
   module _ (old : Row) (is : IsRowOf q (without_number e.number (ready_key t q)) old) where
-    -- stays away where the job doesn't fit,
-    pub passed_by : key_where_ready t q e ≡ None → IsRowOf q (ready_key t q) old
-    passed_by none = record { schedule = is.schedule; keys = λ m. is.keys m ∙ sym (none_under none m) }
-
     pub absent : key_numbered e.number old.keys ≡ None
     absent = is.keys e.number ∙ ap (λ (b : Bool). cond b None (ready_key t q e.number)) (itself e.number)
-
-    -- and comes where it does
-    pub admitted : (new : Row) → key_where_ready t q e ≡ Some (key_of e) → new.schedule ≡ old.schedule
-        → ((m : ℕ) → key_numbered m new.keys ≡ cond (e.number == m) (Some (key_of e)) (key_numbered m old.keys)) → IsRowOf q (ready_key t q) new
-    admitted new fits schedule each = record { schedule = schedule ∙ is.schedule; keys = λ m. each m ∙ at_it m (e.number == m) refl }
-      where
-        at_it : (m : ℕ) (c : Bool) → (e.number == m) ≡ c → cond c (Some (key_of e)) (key_numbered m old.keys) ≡ ready_key t q m
-        at_it m true same = sym (ap (ready_key t q) (sym (same_number e.number m same)) ∙ ready_is ∙ fits)
-        at_it m false same = is.keys m ∙ ap (λ (b : Bool). cond b None (ready_key t q m)) same
 
     -- its entry stands in none of the row's places
     others : All (λ k. e.number ≢ k.number) old.keys

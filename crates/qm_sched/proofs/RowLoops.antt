@@ -55,13 +55,6 @@ module _ (wanted : Queue → ℕ → Option Key) (queues : List Queue) where
         ap room_of (read ∙ done.left place row (omega arith) inside),
       )
 
-  -- the row that is next to be changed is as it was
-  pub row_next : (also : Queue → ℕ → Option Key) (place : ℕ) (q : Queue) (row : Row) (old now : List Row) → AreDone (IsMade wanted queues) place old now → AreRowsOf also queues old
-      → place < length queues → length queues ≤ length old → q ≡ get_or queues place q → row ≡ get_or now place row → IsRowOf q (also q) row
-  row_next also place q row old now done are within enough is read =
-      subst (λ (x : Queue). IsRowOf x (also x) row) (sym is)
-      (subst (IsRowOf (get_or queues place q) (also (get_or queues place q))) (sym (read ∙ done.left place row (omega arith) (omega (arith, within, enough)))) (are place q row within))
-
 -- the key of a job goes from the row of the queue at a place
 module _ (t : Tables) (e : Entry) (there : entry_numbered e.number t.entries ≡ Some e) where
   abbrev but : Queue → ℕ → Option Key

@@ -26,7 +26,7 @@ ghost use Rattle.qm_sched.specs.Rooms.{AreBounds, CanPut, HavePlacesFor, is_home
 use crate::parts::Parts;
 use crate::renewing::{key_before, renew_number};
 use crate::rooms::{forget_each, raise_each};
-use crate::rows::{admit_number, close_up, forget_number, make_way, refill_all, refill_for};
+use crate::rows::{close_up, forget_number, make_way, refill_all, refill_for};
 use crate::tables::TableSet;
 use qm_kinds::{Characteristic, Entry, Fate, Form, Moment, Name, Queue, QueueState};
 use qm_queues::Settings;
@@ -85,7 +85,7 @@ impl Parts {
         let number = entry.number;
         raise_each(&self.tables, &mut self.bounds, &entry.home);
         self.tables.insert_entry(entry);
-        admit_number(&self.tables, &mut self.rows, number);
+        renew_number(&self.tables, &mut self.rows, &None, number);
     }
 
     /// Takes out the entry of a number and the run that it may have, and gives the entry. Where there is none, nothing

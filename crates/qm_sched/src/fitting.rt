@@ -24,7 +24,12 @@ fn is_up_as(node: &Node, name: &Name) -> bool
 fn some_up(nodes: &[Node], name: &Name) -> bool
     ensures { result ≡ is_up nodes.now (Some name.now) }
 {
-    nodes.iter().any(|node| is_up_as(node, name))
+    for node in nodes {
+        if is_up_as(node, name) {
+            return true;
+        }
+    }
+    false
 }
 
 // Whether a node is there and up.

@@ -26,7 +26,12 @@ pub enum NodeChange<'a> {
 pub fn is_among(names: &[Name], name: &Name) -> bool
     ensures { result ≡ is_among names.now name.now }
 {
-    names.iter().any(|other| *name == *other)
+    for other in names {
+        if *name == *other {
+            return true;
+        }
+    }
+    false
 }
 
 // The node is up or down as the change has it.
@@ -53,7 +58,13 @@ fn change_each(nodes: &mut [Node], change: &NodeChange<'_>)
 fn count_on(runs: &[Run], nodes: &[Name]) -> usize
     ensures { result ≡ count_by (λ r. is_among nodes.now r.node) runs.now }
 {
-    runs.iter().filter(|run| is_among(nodes, &run.node)).count()
+    let mut count = 0usize;
+    for run in runs {
+        if is_among(nodes, &run.node) {
+            count += 1;
+        }
+    }
+    count
 }
 
 // The least number of an entry that has one of the runs, on one of these nodes.

@@ -1,5 +1,5 @@
 // The tables with the rows of ready jobs, and what is asked of them.
-ghost use Rattle.std.specs.Prelude.{◌≡◌, ◌≤◌, ◌<◌, ◌+◌, ◌&&◌, ℕ, List, length, count_by, slice_index_or, vec_len, vec_capacity, None, find, filter, filter_map, is_some, IfOk, IfSome, OnErr, OnOk};
+ghost use Rattle.std.specs.Prelude.{◌≡◌, ◌≤◌, ◌<◌, ◌+◌, ◌&&◌, ℕ, List, [], length, count_by, slice_index_or, vec_len, vec_capacity, None, find, filter, filter_map, is_some, IfOk, IfSome, OnErr, OnOk};
 ghost use Rattle.std.specs.List.{list_any};
 ghost use Rattle.std.specs.Option.{option_copied, option_map};
 ghost use Rattle.std.specs.Ordering.{nat_cmp};
@@ -20,7 +20,7 @@ ghost use Rattle.qm_kinds.specs.declared.system.System.{System};
 ghost use Rattle.qm_match.specs.Keys.{schedule_of};
 ghost use Rattle.qm_ready.specs.Jobs.{IsRowOf as HasJobs, fitting};
 ghost use Rattle.qm_sched.specs.Ready.{AreKept, IsRowOf, ready_key};
-ghost use Rattle.qm_sched.specs.Rooms.{CanPut, HavePlaces, HavePlacesFor, HaveRoom, is_home, reach, rooms_of};
+ghost use Rattle.qm_sched.specs.Rooms.{CanPut, HavePlaces, HavePlacesFor, HaveRoom, is_home, reach, room_of, rooms_of};
 ghost use Rattle.qm_sched.specs.Tables.{with_tables};
 
 use crate::choosing::see_entries;
@@ -68,43 +68,85 @@ impl Model for Parts {
     ghost invariant = { λ p. AreKept p.tables p.rows.items p.bounds.items p.queue_room };
 }
 
-// A row for each queue and no more, each with room for the jobs that may come there. It looks at each entry once for each queue.
-fn new_rows(alloc: Global, tables: &TableSet) -> Result<Vec<ReadyRow>, AllocError>
-    ensures count { IfOk result (λ rows. length rows.items ≡ length tables.now.queues) }
-    ensures room { IfOk result (λ rows. HaveRoom tables.now.queues tables.now.entries (rooms_of rows.items)) }
+// A row with no key, and room for so many.
+fn new_row(alloc: Global, most: usize) -> Result<ReadyRow, AllocError>
+    ensures { IfOk result (λ row. most ≤ room_of row) }
 {
-    let mut rows = Vec::new(alloc);
-    for queue in tables.queues() {
-        let mut row = ReadyRow::new(alloc, Schedule::ByNumber);
-        row.reserve(reach(tables, queue))?;
-        rows.push(row)?;
-    }
-    Ok(rows)
+    let mut row = ReadyRow::new(alloc, Schedule::ByNumber);
+    row.reserve(most)?;
+    Ok(row)
 }
 
-// So many times that nothing is known of how many jobs may come to a queue.
-fn no_bounds(alloc: Global, count: usize) -> Result<Vec<Option<usize>>, AllocError>
-    ensures count { IfOk result (λ bounds. length bounds.items ≡ count) }
-    ensures unknown { IfOk result (λ bounds. (place : ℕ) → slice_index_or bounds.items place None ≡ None) }
+// Puts a row for each queue where there are none, each with room for the jobs that may come there. It looks at each entry once for
+// each queue.
+fn add_rows(alloc: Global, tables: &TableSet, rows: &mut Vec<ReadyRow>) -> Result<(), AllocError>
+    requires { rows.old.items ≡ [] }
+    ensures count { OnOk result (length rows.new.items ≡ length tables.now.queues) }
+    ensures room { OnOk result (HaveRoom tables.now.queues tables.now.entries (rooms_of rows.new.items)) }
 {
-    let mut bounds = Vec::new(alloc);
+    for queue in tables.queues() {
+        let row = new_row(alloc, reach(tables, queue))?;
+        rows.push(row)?;
+    }
+    Ok(())
+}
+
+// Says so many times, where nothing is said yet, that nothing is known of how many jobs may come to a queue.
+fn add_unknown(bounds: &mut Vec<Option<usize>>, count: usize) -> Result<(), AllocError>
+    requires { bounds.old.items ≡ [] }
+    ensures count { OnOk result (length bounds.new.items ≡ count) }
+    ensures unknown { OnOk result ((place : ℕ) → slice_index_or bounds.new.items place None ≡ None) }
+{
     for _ in 0..count {
         bounds.push(None)?;
     }
-    Ok(bounds)
+    Ok(())
 }
 
-// A row for each queue, with the jobs that are ready, and as often that nothing is known of how many jobs may come to it.
+// Puts a row for each queue, with the jobs that are ready, where there are none, and says as often that nothing is known of how many
+// jobs may come to it.
+fn fill(
+    alloc: Global,
+    tables: &TableSet,
+    rows: &mut Vec<ReadyRow>,
+    bounds: &mut Vec<Option<usize>>,
+) -> Result<(), AllocError>
+    requires rows { rows.old.items ≡ [] }
+    requires bounds { bounds.old.items ≡ [] }
+    ensures { OnOk result (AreKept tables.now rows.new.items bounds.new.items 0) }
+{
+    add_rows(alloc, tables, rows)?;
+    add_unknown(bounds, rows.len())?;
+    refill_all(alloc, tables, rows);
+    Ok(())
+}
+
+// A row for each queue, with the jobs that are ready, and what is known of how many jobs may come to it.
 fn filled_rows(
     alloc: Global,
     tables: &TableSet,
 ) -> Result<(Vec<ReadyRow>, Vec<Option<usize>>), AllocError>
     ensures { IfOk result (λ made. AreKept tables.now made.0.items made.1.items 0) }
 {
-    let mut rows = new_rows(alloc, tables)?;
-    let bounds = no_bounds(alloc, rows.len())?;
-    refill_all(alloc, tables, &mut rows);
+    let mut rows = Vec::new(alloc);
+    let mut bounds = Vec::new(alloc);
+    fill(alloc, tables, &mut rows, &mut bounds)?;
     Ok((rows, bounds))
+}
+
+// The tables with their rows, and with what is known of how many jobs may come to each queue.
+fn with_rows(alloc: Global, tables: TableSet, filled: (Vec<ReadyRow>, Vec<Option<usize>>)) -> Parts
+    requires { AreKept tables filled.0.items filled.1.items 0 }
+    ensures { result ≡ record tables { spare_queues = 0; rooms = result.rooms } }
+{
+    let (rows, bounds) = filled;
+    Parts {
+        alloc,
+        tables,
+        rows,
+        bounds,
+        queue_room: 0,
+    }
 }
 
 // Makes room for one queue more: in the tables, for its row and for its bound.
@@ -132,14 +174,10 @@ impl Parts {
     pub fn of(alloc: Global, tables: TableSet) -> Result<Parts, AllocError>
         ensures { IfOk result (λ parts. parts ≡ record tables { spare_queues = 0; rooms = parts.rooms }) }
     {
-        let (rows, bounds) = filled_rows(alloc, &tables)?;
-        Ok(Parts {
-            alloc,
-            tables,
-            rows,
-            bounds,
-            queue_room: 0,
-        })
+        match filled_rows(alloc, &tables) {
+            Err(AllocError) => Err(AllocError),
+            Ok(filled) => Ok(with_rows(alloc, tables, filled)),
+        }
     }
 
     /// The nodes of the cluster.

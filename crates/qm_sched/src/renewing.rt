@@ -109,9 +109,9 @@ fn renew(tables: &TableSet, rows: &mut Vec<ReadyRow>, old: &Option<Key>, entry: 
     }
 }
 
-/// Puts the key of the job of a number, which changed, into the rows of the queues that it fits, in place of the one that they had,
-/// and takes that out of the others. `old` is the key that rows may have: none, where there is no such job. It asks a logarithm
-/// of the keys of each row, and takes no memory.
+/// Puts the key of the job of a number, which came or changed, into the rows of the queues that it fits, in place of the one that
+/// they had, and takes that out of the others. `old` is the key that rows may have: none, where there is no such job, or it came.
+/// It asks a logarithm of the keys of each row, and takes no memory.
 pub(crate) fn renew_number(
     tables: &TableSet,
     rows: &mut Vec<ReadyRow>,

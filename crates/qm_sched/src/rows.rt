@@ -1,6 +1,5 @@
-// The rows of ready jobs: how one is built anew, and how the key of one job goes or comes.
+// The rows of ready jobs: how one is built anew, and how the key of one job goes.
 ghost use Rattle.std.specs.Prelude.{◌≡◌, ◌≤◌, ◌<◌, ◌+◌, [], ◌∷◌, ◌++◌, length, map, filter, count_by, insert, remove, true, false, IfSome, Some, None, ℕ, slice_index_or};
-ghost use Rattle.std.specs.Option.{option_copied};
 ghost use Rattle.qm_kinds.specs.declared.system.System.{System};
 ghost use Rattle.qm_keyed.specs.Places.{StandsAt};
 ghost use Rattle.qm_kinds.specs.declared.queue.Queue.{Queue as AnyQueue};
@@ -15,12 +14,12 @@ ghost use Rattle.qm_model.specs.Standing.{with_queue};
 ghost use Rattle.qm_model.specs.Fitting.{fits, is_open, stock_of};
 ghost use Rattle.qm_entries.specs.Boxed.{contents};
 ghost use Rattle.qm_ready.specs.Rows.{HasNumbersOnce, Row};
-ghost use Rattle.qm_sched.specs.Ready.{AreReady, AreReadyBut, IsRowOf, KeepsRoom, LeavesKind, ready_key, without_number};
+ghost use Rattle.qm_sched.specs.Ready.{AreReady, AreReadyBut, IsRowOf, KeepsRoom, LeavesKind, ready_key};
 ghost use Rattle.qm_sched.specs.Rooms.{AreMet, HaveRoom, reach, room_of, rooms_of};
 ghost use Rattle.qm_sched.specs.Tables.{Tables, with_tables};
 
 use crate::choosing::is_execution_queue;
-use crate::fitting::{Asked, can_run, fits, is_open, stock_of};
+use crate::fitting::{Asked, can_run, is_open, stock_of};
 use crate::names::place_of;
 use crate::running::see_order;
 use crate::tables::TableSet;
@@ -155,44 +154,6 @@ pub(crate) fn see_row(row: &ReadyRow)
     let _ = row.len();
 }
 
-// Puts the key of a job into the row of a queue, if it fits there. `home` is the queue that is the job's home, if there is one.
-fn admit_to(
-    tables: &TableSet,
-    queue: &Queue,
-    row: &mut ReadyRow,
-    entry: &Entry,
-    home: Option<&Queue>,
-)
-    requires ready { IsRowOf queue.now (without_number entry.now.number (ready_key tables.now queue.now)) row.old }
-    requires room { reach tables.now.queues tables.now.entries queue.now ≤ room_of row.old }
-    requires there { entry_numbered entry.now.number tables.now.entries ≡ Some entry.now }
-    requires home { option_copied home ≡ queue_named entry.now.home tables.now.queues }
-    ensures ready { IsRowOf queue.now (ready_key tables.now queue.now) row.new }
-    ensures room { room_of row.new ≡ room_of row.old }
-{
-    if fits(tables, entry, home, queue) {
-        see_row(row);
-        row.insert(Key::of(entry));
-    }
-}
-
-// Puts the key of a job, which no row has, into the rows of the queues that it fits.
-fn admit(tables: &TableSet, rows: &mut Vec<ReadyRow>, entry: &Entry)
-    requires ready { AreReadyBut entry.now.number tables.now rows.old.items }
-    requires enough { length tables.now.queues ≤ length rows.old.items }
-    requires room { HaveRoom tables.now.queues tables.now.entries (rooms_of rows.old.items) }
-    requires there { entry_numbered entry.now.number tables.now.entries ≡ Some entry.now }
-    ensures ready { AreReady tables.now rows.new.items }
-    ensures count { length rows.new.items ≡ length rows.old.items }
-    ensures room { KeepsRoom rows.old.items rows.new.items }
-{
-    let home = tables.queue(&entry.home);
-    for place in 0..tables.queues().len() {
-        let queue = &tables.queues()[place];
-        admit_to(tables, queue, &mut rows[place], entry, home);
-    }
-}
-
 // Takes the key of a job out of the rows where it stands. One that waits for more than its start, or has a run, stands in none.
 fn forget_pending(tables: &TableSet, rows: &mut Vec<ReadyRow>, entry: &Entry)
     requires ready { AreReady tables.now rows.old.items }
@@ -225,21 +186,6 @@ pub(crate) fn forget_number(tables: &TableSet, rows: &mut Vec<ReadyRow>, number:
 {
     if let Some(entry) = tables.entry(number) {
         forget_pending(tables, rows, entry);
-    }
-}
-
-/// Puts the key of the job of a number, which no row has, into the rows of the queues that it fits, if there is such a job. It
-/// asks a logarithm of the keys of each of these, and takes no memory.
-pub(crate) fn admit_number(tables: &TableSet, rows: &mut Vec<ReadyRow>, number: u32)
-    requires ready { AreReadyBut number tables.now rows.old.items }
-    requires enough { length tables.now.queues ≤ length rows.old.items }
-    requires room { HaveRoom tables.now.queues tables.now.entries (rooms_of rows.old.items) }
-    ensures ready { AreReady tables.now rows.new.items }
-    ensures count { length rows.new.items ≡ length rows.old.items }
-    ensures room { KeepsRoom rows.old.items rows.new.items }
-{
-    if let Some(entry) = tables.entry(number) {
-        admit(tables, rows, entry);
     }
 }
 

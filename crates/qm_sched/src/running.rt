@@ -133,16 +133,25 @@ fn running_numbered<'a>(entries: &'a EntryTable, queue: &Name, number: u32) -> O
 fn count_live(entries: &EntryTable, runs: &[Run], queue: &Name) -> usize
     ensures { result ≡ count_by (is_live_in entries.now.entries queue.now) runs.now }
 {
-    runs.iter()
-        .filter(|run| is_live_in(entries, queue, run))
-        .count()
+    let mut count = 0usize;
+    for run in runs {
+        if is_live_in(entries, queue, run) {
+            count += 1;
+        }
+    }
+    count
 }
 
 // The first run that is in the queue and isn't aborting.
 fn first_live<'a>(entries: &EntryTable, runs: &'a [Run], queue: &Name) -> Option<&'a Run>
     ensures { option_copied result ≡ find (is_live_in entries.now.entries queue.now) runs.now }
 {
-    runs.iter().find(|run| is_live_in(entries, queue, run))
+    for run in runs {
+        if is_live_in(entries, queue, run) {
+            return Some(run);
+        }
+    }
+    None
 }
 
 // The job that runs in the queue and isn't aborting, if there is just one.
@@ -187,8 +196,11 @@ pub(crate) fn lesser(least: Option<u32>, number: u32) -> u32
 fn least_of_runs(entries: &EntryTable, runs: &[Run], queue: &Name) -> Option<u32>
     ensures { result ≡ reduce min (map (λ r. r.entry) (filter (is_run_for entries.now.entries queue.now) runs.now)) }
 {
-    runs.iter()
-        .filter(|run| is_run_for(entries, queue, run))
-        .map(|run| run.entry)
-        .min()
+    let mut least = None;
+    for run in runs {
+        if is_run_for(entries, queue, run) {
+            least = Some(lesser(least, run.entry));
+        }
+    }
+    least
 }

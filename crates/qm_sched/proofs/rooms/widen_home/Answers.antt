@@ -86,3 +86,16 @@ returns-clause-same c =
 
 pub returns-clause-bounded : goal.returns-clause-bounded
 returns-clause-bounded c = c.widen_targets.ensures.bounded ∙ length-set c.args.bounds.now.items c.in-Ok.place c.widen.new.bound
+
+pub widen_targets-requires-clause-enough : goal.widen_targets-requires-clause-enough
+widen_targets-requires-clause-enough c = omega (arith, c.requires.enough, length-set c.args.rows.now.items c.in-Ok.place c.widen.new.row)
+
+pub widen_targets-requires-clause-bounded : goal.widen_targets-requires-clause-bounded
+widen_targets-requires-clause-bounded c =
+    length-set c.args.bounds.now.items c.in-Ok.place c.widen.new.bound ∙ c.requires.bounded ∙ sym (length-set c.args.rows.now.items c.in-Ok.place c.widen.new.row)
+
+pub returns-in_err-widen-clause-bounded : goal.returns-in_err-widen-clause-bounded
+returns-in_err-widen-clause-bounded c = length-set c.args.bounds.now.items c.in-Ok.place c.widen.new.bound
+
+pub returns-clause-bounds : goal.returns-clause-bounds
+returns-clause-bounds c = c.widen_targets.ensures.bounds

@@ -1,4 +1,5 @@
 use Rattle.std.proofs.Common.{◌<◌, List, length, arith, subst}
+use Rattle.std.proofs.lemmas.List.{length-set}
 use Rattle.qm_keyed.specs.Places.{StandsAt, BelongsAt}
 use Rattle.qm_kinds.specs.declared.queue.Queue.{Queue}
 use Rattle.qm_model.specs.Find.{name_cmp}
@@ -46,3 +47,6 @@ returns-clause-bounds c =
     let stands = subst (λ (ps : List Queue). StandsAt name_cmp name_of c.args.name.now ps place) c.queues.ensures.queues c.in-Ok.ensures in
     bounds_set t.queues t.entries c.args.bounds.now.items place c.index-queues-place.result c.widen.new.bound c.requires.bounds stands.within
     (omega (arith, stands.within, c.requires.enough, c.requires.bounded)) (rw c.queues-2.ensures.queues at c.index-queues-place.is) c.widen.ensures.bound
+
+pub returns-clause-bounded : goal.returns-clause-bounded
+returns-clause-bounded c = length-set c.args.bounds.now.items c.in-Ok.place c.widen.new.bound

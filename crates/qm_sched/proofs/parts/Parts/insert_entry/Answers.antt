@@ -1,22 +1,26 @@
-use Rattle.std.proofs.Common.{◌<◌, ◌-◌, ◌++◌, ◌∷◌, [], ap, arith, length, subst, sym, ◌∙◌}
+use Rattle.std.proofs.Common.{◌<◌, ◌-◌, ◌++◌, ◌∷◌, [], List, None, ap, arith, length, subst, sym, ◌∙◌}
 use Rattle.std.specs.List.{All}
-use Rattle.qm_sched.specs.Ready.{AreReadyBut}
+use Rattle.qm_ready.specs.Rows.{Row}
+use Rattle.qm_sched.specs.Ready.{AreStale}
 use Rattle.qm_sched.specs.Rooms.{AreBounds, HavePlacesFor, HaveRoom, leads_to, rooms_of}
 use Rattle.qm_sched.specs.Tables.{Tables}
 use Rattle.qm_sched.proofs.Bounds.{raised_bounds}
 use Rattle.qm_sched.proofs.Reach.{more_room, reach_behind}
 use Rattle.qm_sched.proofs.ReadyRows.{behind_rows}
+use Rattle.qm_sched.proofs.Renewed.{but_stale}
 use Rattle.qm_sched.proofs.parts.Parts.insert_entry.Goals as goal
 
-pub admit_number-requires-clause-ready : goal.admit_number-requires-clause-ready
-admit_number-requires-clause-ready c =
+pub renew_number-requires-clause-stale : goal.renew_number-requires-clause-stale
+renew_number-requires-clause-stale c =
     let t = c.self.inside.tables in
-    let last = subst (λ (u : Tables). All (λ e. e.number < c.args.entry.number) u.entries) (sym c.self.view_is) c.requires.last in
-    subst (λ (u : Tables). AreReadyBut c.args.entry.number u c.self.inside.rows.items) (sym c.insert_entry.ensures)
-    (behind_rows t c.self.inside.rows.items c.args.entry (t.spare_entries - 1) last c.self.invariant.ready)
+    let e = c.args.entry in
+    let rows : List Row = c.self.inside.rows.items in
+    let last = subst (λ (u : Tables). All (λ x. x.number < e.number) u.entries) (sym c.self.view_is) c.requires.last in
+    subst (λ (u : Tables). AreStale e.number None u rows) (sym c.insert_entry.ensures)
+    (but_stale (record t { entries = t.entries ++ e ∷ []; spare_entries = t.spare_entries - 1 }) rows e.number (behind_rows t rows e (t.spare_entries - 1) last c.self.invariant.ready))
 
-pub admit_number-requires-clause-room : goal.admit_number-requires-clause-room
-admit_number-requires-clause-room c =
+pub renew_number-requires-clause-room : goal.renew_number-requires-clause-room
+renew_number-requires-clause-room c =
     let t = c.self.inside.tables in
     let e = c.args.entry in
     let places = subst (HavePlacesFor e.home 1) (sym c.self.view_is) c.requires.places in
@@ -33,10 +37,10 @@ invariant_of-self c =
     (more_room 1 (λ q. leads_to t.queues q e.home) t.queues t.entries (t.entries ++ e ∷ []) (rooms_of c.self.inside.rows.items) (λ q. omega (arith, reach_behind t.queues t.entries e q)) c.self.invariant.room places) in
     record {
       queues = omega (arith, c.self.invariant.queues, ap (λ (u : Tables). u.spare_queues) is);
-      enough = omega (arith, c.self.invariant.enough, ap (λ (u : Tables). length u.queues) is, c.admit_number.ensures.count);
-      bounded = c.raise_each.ensures.count ∙ c.self.invariant.bounded ∙ sym c.admit_number.ensures.count;
-      room = subst (HaveRoom c.insert_entry.new.self.queues c.insert_entry.new.self.entries) (sym c.admit_number.ensures.room) room;
+      enough = omega (arith, c.self.invariant.enough, ap (λ (u : Tables). length u.queues) is, c.renew_number.ensures.count);
+      bounded = c.raise_each.ensures.count ∙ c.self.invariant.bounded ∙ sym c.renew_number.ensures.count;
+      room = subst (HaveRoom c.insert_entry.new.self.queues c.insert_entry.new.self.entries) (sym c.renew_number.ensures.room) room;
       bounds = subst (λ (u : Tables). AreBounds u.queues u.entries c.raise_each.new.bounds.items) (sym is)
           (raised_bounds t.queues t.entries (t.entries ++ e ∷ []) e.home c.self.inside.bounds.items c.raise_each.new.bounds.items (λ q. omega (arith, reach_behind t.queues t.entries e q)) c.raise_each.ensures.raised c.self.invariant.bounds);
-      ready = c.admit_number.ensures.ready;
+      ready = c.renew_number.ensures.ready;
     }

@@ -4,13 +4,13 @@ use Rattle.qm_kinds.specs.declared.queue.Queue.{Queue}
 use Rattle.qm_ready.specs.Rows.{Row}
 use Rattle.qm_sched.specs.Rooms.{reach, rooms_of}
 use Rattle.qm_sched.proofs.RowPlaces.{row_more}
-use Rattle.qm_sched.proofs.parts.new_rows.Goals as goal
+use Rattle.qm_sched.proofs.parts.add_rows.Goals as goal
 
 pub loop-queue-preserved : goal.loop-queue-preserved
 loop-queue-preserved c =
     let t = c.args.tables.now in
     let i = c.loop-queue.queue-index in
-    let row : Row = c.reserve.new.self in
+    let row : Row = c.in_ok-row.row in
     let old : List Row = c.loop-queue.rows.items in
     let pushed : c.push.new.self.items ≡ old ++ row ∷ [] = c.in_ok-push.ensures.items in
     let within = subst (λ (qs : List Queue). i < length qs) c.queues-queue-items.ensures.queues c.loop-queue-test.true in
@@ -20,7 +20,7 @@ loop-queue-preserved c =
       room = λ k q below.
           subst (λ (rows : List Row). reach t.queues t.entries (get_or t.queues k q) ≤ get_or (rooms_of rows) k 0) (sym pushed)
           (row_more (reach t.queues t.entries) t.queues old row i c.loop-queue.invariant.count c.loop-queue.invariant.room
-          (λ p. omega (arith, c.in_ok-reserve.ensures.ok, c.reach.ensures, ap (reach t.queues t.entries) (is ∙ get_or_default t.queues i c.queue-item.result p within))) k q below);
+          (λ p. omega (arith, c.in_ok-row.ensures, c.reach.ensures, ap (reach t.queues t.entries) (is ∙ get_or_default t.queues i c.queue-item.result p within))) k q below);
     }
 
 pub returns-clause-room : goal.returns-clause-room

@@ -1,7 +1,7 @@
 use Rattle.std.proofs.Common.{◌≡◌, ◌<◌, ◌≤◌, length, get_or, ℕ}
 use Rattle.qm_kinds.specs.declared.queue.Queue.{Queue}
 use Rattle.qm_sched.specs.Rooms.{reach, rooms_of}
-use Rattle.qm_sched.proofs.parts.new_rows.Given as goal
+use Rattle.qm_sched.proofs.parts.add_rows.Given as goal
 
 -- there are rows for the queues that were passed
 abbrev pub invariant-loop-queue : goal.invariant-loop-queue
