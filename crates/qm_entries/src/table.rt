@@ -187,7 +187,8 @@ impl EntryTable {
         self.shelf.tags()
     }
 
-    /// Takes out the entries that are retained until a moment that has come. It looks at each entry once.
+    /// Takes out the entries that are retained until a moment that has come. It looks at each entry once, and then once more for
+    /// the tags.
     pub fn remove_over(&mut self, now: Moment)
         ensures { self.new ≡ record self.old { entries = filter (λ e. not (is_over now e.state)) self.old.entries } }
     {
@@ -202,7 +203,7 @@ impl EntryTable {
     }
 
     /// Gives each job that waits in the queue `from` the home `to`, and tells how many there were. It looks at each entry
-    /// once.
+    /// once, and then once more for the tags.
     pub fn merge(&mut self, to: &Name, from: &Name) -> usize
         ensures entries { self.new ≡ record self.old { entries = map (moved_to to.now from.now) self.old.entries } }
         ensures moved { result ≡ count_by (waits_in from.now) self.old.entries }
@@ -210,7 +211,7 @@ impl EntryTable {
         self.shelf.merge(to, from)
     }
 
-    /// Takes out the entries that have this queue as their home. It looks at each entry once.
+    /// Takes out the entries that have this queue as their home. It looks at each entry once, and then once more for the tags.
     pub fn remove_of_home(&mut self, home: &Name)
         ensures { self.new ≡ record self.old { entries = filter (λ e. not (bytes_eq e.home home.now)) self.old.entries } }
     {
