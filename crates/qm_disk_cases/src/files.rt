@@ -1,43 +1,44 @@
 // Files that are logs, and files that are none.
-use crate::crashes::disk_of;
-use qm_disk::MemoryDisk;
-use qm_glog::{GREATEST_CAP, OpenFault};
-use std::alloc::{AllocError, Global};
-use std::test::Fail;
+ghost use Rattle.std.specs.Prelude.{◌≤◌};
+ghost use Rattle.qm_glog.specs.declared.log.TheConstants.{GREATEST_CAP};
 
-// How many records a log has, or why it can't be opened.
-fn logged(alloc: Global, mut disk: MemoryDisk) -> Result<usize, OpenFault> {
-    match qm_glog::open(alloc, &mut disk, 1, GREATEST_CAP) {
+use crate::crashes::disk_of;
+use crate::told::{Cases, assert_told, bytes};
+use qm_disk::MemoryDisk;
+use qm_glog::{GREATEST_CAP, OpenFault, open};
+use std::alloc::{AllocError, Global};
+
+/// How many records a log in file 1 has, or why it can't be opened.
+pub(crate) fn opened(alloc: Global, disk: &mut MemoryDisk, cap: u64) -> Result<usize, OpenFault>
+    requires { cap ≤ GREATEST_CAP }
+{
+    match open(alloc, disk, 1, cap) {
         Ok(log) => Ok(log.count()),
         Err(fault) => Err(fault),
     }
 }
 
-const UNFORMATTED: Result<usize, OpenFault> = Err(OpenFault::Unformatted { byte: 0 });
+// The bytes of files, and what is told of them as logs.
+#[derive(Clone, Copy)]
+struct Files;
 
-const DAMAGED: Result<usize, OpenFault> = Err(OpenFault::Damaged { file: 1, place: 0 });
+impl Cases for Files {
+    fn told_of(&mut self, alloc: Global, text: &str) -> Result<String, AllocError> {
+        let bytes = bytes(alloc, text)?;
+        let mut disk = disk_of(alloc, &bytes, &[])?;
+        format!(in alloc; "{:?}", opened(alloc, &mut disk, GREATEST_CAP))
+    }
+}
 
-const DAMAGED_AT_6: Result<usize, OpenFault> = Err(OpenFault::Damaged { file: 1, place: 6 });
-
-// The bytes of a file, and what is told of it as a log.
-type Case = (&'static [u8], Result<usize, OpenFault>);
-
-const FILES: [Case; 7] = [
-    (b"", UNFORMATTED),
-    (b"\x00", Ok(0)),
-    (b"\x07\x01\x02\x03", Ok(0)),
-    (b"\x01", DAMAGED),
-    (b"\x01\x02\x00\x00\x00\x09", DAMAGED),
-    (b"\x01\x01\x00\x00\x00\x09", DAMAGED_AT_6),
-    (b"\x01\x01\x00\x00\x00\x09\xff", Ok(1)),
-];
+const FILES: &str = "|Err(Unformatted { byte: 0 })
+0|Ok(0)
+7 1 2 3|Ok(0)
+1|Err(Damaged { file: 1, place: 0 })
+1 2 0 0 0 9|Err(Damaged { file: 1, place: 0 })
+1 1 0 0 0 9|Err(Damaged { file: 1, place: 6 })
+1 1 0 0 0 9 255|Ok(1)";
 
 #[test]
-fn files_are_judged_at_their_gates(rt: HostRuntime) -> Result<(), Fail> {
-    let alloc = rt.alloc();
-    for (bytes, found) in FILES {
-        let log = logged(alloc, disk_of(alloc, bytes, &[])?);
-        assert_eq!(rt; log, found, "the log {bytes:?}");
-    }
-    Ok(())
+fn files_are_judged_at_their_gates(rt: HostRuntime) -> Result<(), AllocError> {
+    assert_told(&rt, rt.alloc(), &mut Files, FILES)
 }

@@ -15,3 +15,5 @@ mod site_files;
 mod stops;
 #[cfg(test)]
 mod streams;
+#[cfg(test)]
+mod told;

@@ -9,7 +9,6 @@ use std::fs::{File, Files, Metadata, OpenFile, OpenOptions};
 use std::io::{ErrorKind, Read, Seek, SeekFrom, Write};
 use std::os::fd::AsRawFd;
 use std::os::unix::fs::FileExt;
-use std::test::Fail;
 use std::{fs, io};
 
 // The calls on the files of a folder, a line each, and which of them fail: so many from one on. Calls of a kind in a row
@@ -17,6 +16,7 @@ use std::{fs, io};
 #[derive(Drop)]
 struct Calls {
     lines: String,
+    last: String,
     made: usize,
     failing: usize,
     failures: usize,
@@ -25,40 +25,53 @@ struct Calls {
 }
 
 impl Calls {
-    fn new(rt: &HostRuntime, number: i32) -> RefCell<Calls> {
-        Calls::failing(rt, 0, 0, number)
+    fn new(alloc: Global, number: i32) -> RefCell<Calls> {
+        Calls::failing(alloc, 0, 0, number)
     }
 
-    fn failing(rt: &HostRuntime, failing: usize, failures: usize, number: i32) -> RefCell<Calls> {
+    fn failing(alloc: Global, failing: usize, failures: usize, number: i32) -> RefCell<Calls> {
         RefCell::new(Calls {
-            lines: String::new(rt.alloc()),
+            lines: String::new(alloc),
+            last: String::new(alloc),
             made: 0,
             failing,
             failures,
             number,
         })
     }
+
+    // Writes a call down. It fails where it is one of those that fail.
+    fn note(&mut self, what: &str, name: &str) -> io::Result<()> {
+        self.made = self.made.wrapping_add(1);
+        if self.made.wrapping_sub(self.failing) < self.failures {
+            return Err(ErrorKind::Other.into());
+        }
+        self.last.clear();
+        push_all(&mut self.last, &[what, " ", name, "\n"])?;
+        if !self.lines.as_str().ends_with(self.last.as_str()) {
+            self.lines.push_str(self.last.as_str())?;
+        }
+        Ok(())
+    }
 }
 
-// Writes a call down. It fails where it is one of those that fail.
-fn note(calls: &RefCell<Calls>, what: &str, name: &str) -> io::Result<()> {
-    let Ok(mut calls) = calls.try_borrow_mut() else {
-        return Err(ErrorKind::Other.into());
-    };
-    let calls = &mut *calls;
-    calls.made = calls.made.wrapping_add(1);
-    if calls.made.wrapping_sub(calls.failing) < calls.failures {
-        return Err(ErrorKind::Other.into());
-    }
-    let mut line = calls.lines.clone()?;
-    line.clear();
-    for part in [what, " ", name, "\n"] {
-        line.push_str(part)?;
-    }
-    if !calls.lines.as_str().ends_with(line.as_str()) {
-        calls.lines.push_str(line.as_str())?;
+fn lines_of(calls: RefCell<Calls>) -> String {
+    calls.into_inner().lines
+}
+
+// Adds these texts one behind the other.
+fn push_all(text: &mut String, parts: &[&str]) -> Result<(), AllocError> {
+    for part in parts {
+        text.push_str(part)?;
     }
     Ok(())
+}
+
+fn note(calls: &RefCell<Calls>, what: &str, name: &str) -> io::Result<()> {
+    match calls.try_borrow_mut() {
+        Ok(mut calls) => calls.note(what, name),
+        Err(_) => Err(ErrorKind::Other.into()),
+    }
 }
 
 // Whether this call is interrupted: every second one is.
@@ -81,9 +94,9 @@ fn next_number(calls: &RefCell<Calls>) -> i32 {
 }
 
 // The system's files, whose calls are written down.
-#[derive(Drop)]
+#[derive(Clone, Copy)]
 struct Watched<'a> {
-    rt: HostRuntime,
+    rt: &'a HostRuntime,
     calls: &'a RefCell<Calls>,
 }
 
@@ -231,36 +244,42 @@ impl SiteFile for WatchedFile<'_> {
     }
 }
 
-// The disk over the files of a folder that is made for this.
-fn disk_over<R: Files>(rt: &HostRuntime, files: R) -> Result<FileDisk<R>, AllocError>
-where
-    R::File: SiteFile,
-    R: Drop,
-{
-    let alloc = rt.alloc();
-    Ok(FileDisk::new(
-        files,
-        String::from_str(alloc, "qm_files_test/lock")?,
-        String::from_str(alloc, "qm_files_test/master")?,
-        String::from_str(alloc, "qm_files_test/one")?,
-        String::from_str(alloc, "qm_files_test/two")?,
-    ))
+// The names of the lock and the files in a folder.
+fn names_in(alloc: Global, folder: &str) -> Result<[String; 4], AllocError> {
+    Ok([
+        joined(alloc, &[folder, "lock"])?,
+        joined(alloc, &[folder, "master"])?,
+        joined(alloc, &[folder, "one"])?,
+        joined(alloc, &[folder, "two"])?,
+    ])
 }
 
-fn disk_watched<'a>(
-    rt: &HostRuntime,
-    calls: &'a RefCell<Calls>,
-) -> Result<FileDisk<Watched<'a>>, AllocError> {
-    let files = Watched {
-        rt: rt.clone()?,
-        calls,
-    };
-    disk_over(rt, files)
+// The disk over the files of these names.
+fn disk_over<R: Files>(files: R, names: [String; 4]) -> FileDisk<R>
+where
+    R::File: SiteFile,
+{
+    let [lock, master, one, two] = names;
+    FileDisk::new(files, lock, master, one, two)
 }
+
+// A folder that is made for this.
+const FOLDER: &str = "qm_files_test/";
 
 fn new_folder(rt: &HostRuntime) -> io::Result<()> {
     let _ = fs::remove_dir_all(rt, "qm_files_test");
     fs::create_dir(rt, "qm_files_test")
+}
+
+// Whether three bytes are read.
+fn reads<R: Files>(disk: &mut FileDisk<R>, file: u8) -> bool
+where
+    R::File: SiteFile,
+    requires { file ≤ 2 }
+{
+    let mut read = [0; 3];
+    let held = disk.read(file, 0, &mut read).is_ok();
+    held && read == *b"abc"
 }
 
 // One call of each kind on a file, and whether it held.
@@ -269,22 +288,22 @@ where
     R::File: SiteFile,
     requires { file ≤ 2 }
 {
-    let mut read = [0; 3];
-    [
-        disk.write(file, 0, b"abc").is_ok(),
-        disk.size(file) == Ok(3),
-        disk.read(file, 0, &mut read).is_ok() && read == *b"abc",
-        disk.cut(file, 1).is_ok(),
-        disk.sync(file).is_ok(),
-    ]
+    let is_written = disk.write(file, 0, b"abc").is_ok();
+    let size = disk.size(file).unwrap_or(0);
+    let is_read = reads(disk, file);
+    let is_cut = disk.cut(file, 1).is_ok();
+    let is_synced = disk.sync(file).is_ok();
+    [is_written, size == 3, is_read, is_cut, is_synced]
 }
 
-// The same on file 1.
-fn each_call<R: Files>(disk: &mut FileDisk<R>) -> [bool; 5]
+const ALL: [bool; 5] = [true; 5];
+
+// Whether one call of each kind on file 1 holds.
+fn all_hold<R: Files>(disk: &mut FileDisk<R>) -> bool
 where
     R::File: SiteFile,
 {
-    each_call_on(disk, 1)
+    each_call_on(disk, 1) == ALL
 }
 
 const LOOKED: &str = "open qm_files_test
@@ -341,7 +360,7 @@ sync qm_files_test/one.NEW
 ";
 
 // How the disk is let go.
-#[derive(Clone, Copy, PartialEq, Eq)]
+#[derive(Clone, Copy)]
 enum Leaving {
     Closed,
     Dropped,
@@ -349,62 +368,68 @@ enum Leaving {
 
 const READ: &str = "read qm_files_test/lock\n";
 
-// Runs one behind the other: how each lets the disk go, and what it asks for.
-const RUNS: [(Leaving, &[&str]); 4] = [
-    (
-        Leaving::Closed,
-        &[
-            LOOKED,
-            MARKED,
-            NOTHING_RENEWED,
-            OPENED,
-            CHANGED,
-            SYNCED,
-            MARKED,
-        ],
-    ),
-    (
-        Leaving::Dropped,
-        &[LOOKED, READ, MARKED, OPENED, CHANGED, SYNCED],
-    ),
-    (
-        Leaving::Closed,
-        &[
-            LOOKED,
-            READ,
-            MARKED,
-            MASTER_IS_NOT_THERE,
-            RENEWED,
-            TWO_IS_NOT_THERE,
-            CALLED_ANEW,
-            MARKED,
-        ],
-    ),
-    (
-        Leaving::Closed,
-        &[LOOKED, READ, MARKED, OPENED, CHANGED, SYNCED, MARKED],
-    ),
-];
+// What is told in front of what a run asks for, where it holds and leaves what was written.
+const RUN: &str = "a run that holds\n";
+
+// What a word stands for of what is asked for.
+fn part_of(word: &str) -> &'static str {
+    match word {
+        "run" => RUN,
+        "looked" => LOOKED,
+        "read" => READ,
+        "marked" => MARKED,
+        "nothing_renewed" => NOTHING_RENEWED,
+        "master_is_not_there" => MASTER_IS_NOT_THERE,
+        "renewed" => RENEWED,
+        "two_is_not_there" => TWO_IS_NOT_THERE,
+        "opened" => OPENED,
+        "changed" => CHANGED,
+        "synced" => SYNCED,
+        "called_anew" => CALLED_ANEW,
+        _ => "nothing of that name\n",
+    }
+}
+
+// What these words stand for.
+fn wanted_by(alloc: Global, words: &str) -> Result<String, AllocError> {
+    let mut wanted = String::new(alloc);
+    for word in words.split_whitespace() {
+        wanted.push_str(part_of(word))?;
+    }
+    Ok(wanted)
+}
 
 // These texts one behind the other.
 fn joined(alloc: Global, parts: &[&str]) -> Result<String, AllocError> {
     let mut whole = String::new(alloc);
-    for part in parts {
-        whole.push_str(part)?;
-    }
+    push_all(&mut whole, parts)?;
     Ok(whole)
 }
 
-// Whether one call of each kind holds in a run that lets the disk go so, and what the run asks for.
-fn asked_by(rt: &HostRuntime, leaving: Leaving) -> Result<(bool, String), AllocError> {
-    let calls = Calls::new(rt, 3);
-    let mut disk = disk_watched(rt, &calls)?;
-    let holds = each_call(&mut disk) == [true; 5];
+// Whether one call of each kind holds, before the disk is let go so.
+fn holds_and_leaves<R: Files + Drop>(mut disk: FileDisk<R>, leaving: Leaving) -> bool
+where
+    R::File: SiteFile,
+{
+    let holds = all_hold(&mut disk);
     match leaving {
         Leaving::Closed => disk.close(),
         Leaving::Dropped => drop(disk),
     }
-    Ok((holds, calls.into_inner().lines))
+    holds
+}
+
+// Whether one call of each kind holds in a run that lets the disk of a folder go so, and what the run asks for.
+fn asked_by(
+    rt: &HostRuntime,
+    folder: &str,
+    leaving: Leaving,
+) -> Result<(bool, String), AllocError> {
+    let names = names_in(rt.alloc(), folder)?;
+    let calls = Calls::new(rt.alloc(), 3);
+    let disk = disk_over(Watched { rt, calls: &calls }, names);
+    let holds = holds_and_leaves(disk, leaving);
+    Ok((holds, lines_of(calls)))
 }
 
 // Whether a file of the folder has these bytes.
@@ -415,38 +440,69 @@ fn has(rt: &HostRuntime, path: &str, bytes: &[u8]) -> bool {
     }
 }
 
-#[test]
-fn the_system_is_asked_in_this_order(rt: HostRuntime) -> Result<(), Fail> {
-    new_folder(&rt)?;
-    for (leaving, parts) in RUNS {
-        let (holds, asked) = asked_by(&rt, leaving)?;
-        assert!(rt; holds && has(&rt, "qm_files_test/one", b"a"));
-        assert_eq!(rt; asked.as_str(), joined(rt.alloc(), parts)?.as_str());
+// Adds what a run asks for that lets the disk go so.
+fn tell_run(rt: &HostRuntime, leaving: Leaving, told: &mut String) -> Result<(), AllocError> {
+    let (holds, asked) = asked_by(rt, FOLDER, leaving)?;
+    if holds && has(rt, "qm_files_test/one", b"a") {
+        told.push_str(RUN)?;
     }
+    told.push_str(asked.as_str())
+}
+
+fn tell_runs(rt: &HostRuntime) -> io::Result<String> {
+    new_folder(rt)?;
+    let mut told = String::new(rt.alloc());
+    for leaving in [
+        Leaving::Closed,
+        Leaving::Dropped,
+        Leaving::Closed,
+        Leaving::Closed,
+    ] {
+        tell_run(rt, leaving, &mut told)?;
+    }
+    Ok(told)
+}
+
+// Runs one behind the other, of which the second one drops the disk, and the others close it.
+const RUNS: &str = "
+    run looked marked nothing_renewed opened changed synced marked
+    run looked read marked opened changed synced
+    run looked read marked master_is_not_there renewed two_is_not_there called_anew marked
+    run looked read marked opened changed synced marked";
+
+#[test]
+fn the_system_is_asked_in_this_order(rt: HostRuntime) -> io::Result<()> {
+    let wanted = wanted_by(rt.alloc(), RUNS)?;
+    let told = tell_runs(&rt)?;
+    assert_eq!(rt; told.as_str(), wanted.as_str());
     Ok(())
 }
 
+// Makes a folder in which the lock's file and file 1 hold this, or in which nothing is.
+fn folder_with(rt: &HostRuntime, found: Option<(&str, &str)>) -> io::Result<()> {
+    new_folder(rt)?;
+    match found {
+        Some((mark, one)) => {
+            fs::write(rt, "qm_files_test/lock", mark)?;
+            fs::write(rt, "qm_files_test/one", one)
+        }
+        None => Ok(()),
+    }
+}
+
+// Whether a run that holds, behind one that left this in the lock's file, copies what it opens.
+fn copies_behind(rt: &HostRuntime, mark: &str) -> io::Result<Option<bool>> {
+    folder_with(rt, Some((mark, "a")))?;
+    let (holds, asked) = asked_by(rt, FOLDER, Leaving::Closed)?;
+    let is_copied = asked.as_str().contains("copy qm_files_test/one\n");
+    Ok(if holds { Some(is_copied) } else { None })
+}
+
 #[test]
-fn only_the_mark_of_an_end_spares_the_copy(rt: HostRuntime) -> Result<(), Fail> {
-    // What the lock's file holds, and whether the next run copies what it opens.
-    let table = [
-        ("ended\n", false),
-        ("", true),
-        ("ended", true),
-        ("ended\nx", true),
-        ("ending", true),
-        ("Ended\n", true),
-    ];
-    for (mark, is_copied) in table {
-        new_folder(&rt)?;
-        fs::write(&rt, "qm_files_test/one", "a")?;
-        fs::write(&rt, "qm_files_test/lock", mark)?;
-        let (holds, asked) = asked_by(&rt, Leaving::Closed)?;
-        assert!(rt; holds);
-        assert_eq!(rt;
-            asked.as_str().contains("copy qm_files_test/one\n"),
-            is_copied
-        );
+fn only_the_mark_of_an_end_spares_the_copy(rt: HostRuntime) -> io::Result<()> {
+    assert_eq!(rt; copies_behind(&rt, "ended\n")?, Some(false));
+    for mark in ["", "ended", "ended\nx", "ending", "Ended\n"] {
+        assert_eq!(rt; copies_behind(&rt, mark)?, Some(true), "behind {mark:?}");
     }
     Ok(())
 }
@@ -459,39 +515,17 @@ fn take_away(rt: &HostRuntime) {
 }
 
 #[test]
-fn a_name_without_a_folder_is_made_durable_too(rt: HostRuntime) -> Result<(), Fail> {
-    let alloc = rt.alloc();
+fn a_name_without_a_folder_is_made_durable_too(rt: HostRuntime) -> io::Result<()> {
     take_away(&rt);
-    let calls = Calls::new(&rt, 3);
-    let files = Watched {
-        rt: rt.clone()?,
-        calls: &calls,
-    };
-    let mut disk = FileDisk::new(
-        files,
-        String::from_str(alloc, "lock")?,
-        String::from_str(alloc, "master")?,
-        String::from_str(alloc, "one")?,
-        String::from_str(alloc, "two")?,
-    );
-    let held = each_call(&mut disk);
-    disk.close();
+    let (holds, asked) = asked_by(&rt, "", Leaving::Closed)?;
     take_away(&rt);
-    assert_eq!(rt; held, [true; 5]);
-    assert!(rt;
-        calls
-            .into_inner()
-            .lines
-            .as_str()
-            .contains("open .\nsync all .\n")
-    );
+    assert!(rt; holds && asked.as_str().contains("open .\nsync all .\n"));
     Ok(())
 }
 
 #[test]
-fn a_file_tells_the_number_that_the_system_gave_it(rt: HostRuntime) -> Result<(), Fail> {
-    new_folder(&rt)?;
-    fs::write(&rt, "qm_files_test/one", "a")?;
+fn a_file_tells_the_number_that_the_system_gave_it(rt: HostRuntime) -> io::Result<()> {
+    folder_with(&rt, Some(("", "a")))?;
     let file = File::open(&rt, "qm_files_test/one")?;
     assert_eq!(rt; file.number(), file.as_raw_fd());
     Ok(())
@@ -502,154 +536,255 @@ fn a_file_tells_the_number_that_the_system_gave_it(rt: HostRuntime) -> Result<()
 // the file. Where the last run ended badly, its copy is opened too.
 const FOUND: [(Option<(&str, &str)>, i32); 2] = [(None, 6), (Some(("begun\n", "a")), 7)];
 
-fn folder_with(rt: &HostRuntime, found: Option<(&str, &str)>) -> io::Result<()> {
-    new_folder(rt)?;
-    match found {
-        Some((mark, one)) => {
-            fs::write(rt, "qm_files_test/lock", mark)?;
-            fs::write(rt, "qm_files_test/one", one)
-        }
-        None => Ok(()),
-    }
-}
-
 // How many calls on the files a run makes in which none fails, and how many files it opens.
 fn counts_of_a_run(rt: &HostRuntime, found: Option<(&str, &str)>) -> io::Result<(usize, i32)> {
     folder_with(rt, found)?;
-    let calls = Calls::new(rt, 1);
-    let mut disk = disk_watched(rt, &calls)?;
-    let holds = each_call(&mut disk) == [true; 5];
-    drop(disk);
+    let names = names_in(rt.alloc(), FOLDER)?;
+    let calls = Calls::new(rt.alloc(), 1);
+    let disk = disk_over(Watched { rt, calls: &calls }, names);
+    let holds = holds_and_leaves(disk, Leaving::Dropped);
+    Ok(counts_of(calls, holds))
+}
+
+fn counts_of(calls: RefCell<Calls>, holds: bool) -> (usize, i32) {
     let calls = calls.into_inner();
-    Ok(if holds {
+    if holds {
         (calls.made, calls.number.wrapping_sub(1))
     } else {
         (0, 0)
-    })
+    }
 }
 
 // Whether some of a round of calls fail, and all of a round hold behind so many rounds at most.
-fn goes_on(disk: &mut FileDisk<Watched>, rounds: usize) -> bool {
-    if each_call(disk) == [true; 5] {
+fn goes_on<R: Files>(disk: &mut FileDisk<R>, rounds: usize) -> bool
+where
+    R::File: SiteFile,
+{
+    if all_hold(disk) {
         return false;
     }
     for _ in 0..rounds {
-        if each_call(disk) == [true; 5] {
+        if all_hold(disk) {
             return true;
         }
     }
     false
 }
 
+// Whether failures are told, and the next calls go on; and whether no other process has the folder then.
+fn goes_on_and_closes<R: Files + Drop>(mut disk: FileDisk<R>, failures: usize) -> [bool; 2]
+where
+    R::File: SiteFile,
+{
+    let is_told = goes_on(&mut disk, failures);
+    let is_alone = !disk.is_in_use();
+    disk.close();
+    [is_told, is_alone]
+}
+
+// The same of a run in which so many calls fail from one on; and whether file 1 has what was written then, and the lock's file the
+// mark of the end.
+fn ending_behind(
+    rt: &HostRuntime,
+    found: Option<(&str, &str)>,
+    failing: usize,
+    failures: usize,
+) -> io::Result<[bool; 4]> {
+    folder_with(rt, found)?;
+    let names = names_in(rt.alloc(), FOLDER)?;
+    let calls = Calls::failing(rt.alloc(), failing, failures, 1);
+    let disk = disk_over(Watched { rt, calls: &calls }, names);
+    let [is_told, is_alone] = goes_on_and_closes(disk, failures);
+    let is_written = has(rt, "qm_files_test/one", b"a");
+    let is_marked = has(rt, "qm_files_test/lock", b"ended\n");
+    Ok([is_told, is_alone, is_written, is_marked])
+}
+
+// The first of so many calls from which on one failure, or four, have another end, and how many they are.
+fn first_lost(
+    rt: &HostRuntime,
+    found: Option<(&str, &str)>,
+    count: usize,
+) -> io::Result<Option<(usize, usize)>> {
+    for failing in 1..=count {
+        for failures in [1, 4] {
+            if ending_behind(rt, found, failing, failures)? != [true; 4] {
+                return Ok(Some((failing, failures)));
+            }
+        }
+    }
+    Ok(None)
+}
+
 // No failure is hidden: each call on the files that fails is told. It isn't the end: behind it the files are asked again, and
 // the end is marked once all is on the disk.
 #[test]
-fn a_failed_call_is_told_and_the_next_ones_go_on(rt: HostRuntime) -> Result<(), Fail> {
+fn a_failed_call_is_told_and_the_next_ones_go_on(rt: HostRuntime) -> io::Result<()> {
     for (found, files) in FOUND {
         let (count, opened) = counts_of_a_run(&rt, found)?;
         assert_eq!(rt; opened, files);
-        for (failing, failures) in (1..=count).flat_map(|failing| [(failing, 1), (failing, 4)]) {
-            folder_with(&rt, found)?;
-            let calls = Calls::failing(&rt, failing, failures, 1);
-            let mut disk = disk_watched(&rt, &calls)?;
-            assert!(rt;
-                goes_on(&mut disk, failures),
-                "{failures} calls from {failing} of {count}"
-            );
-            assert!(rt; !disk.is_in_use());
-            disk.close();
-            assert!(rt;
-                has(&rt, "qm_files_test/one", b"a") && has(&rt, "qm_files_test/lock", b"ended\n"),
-                "{failures} calls from {failing}"
-            );
-        }
+        assert_eq!(rt; first_lost(&rt, found, count)?, None);
     }
     Ok(())
 }
+
+// Whether just the sync of a round of calls fails, then one call for each failure but the first, and none of a round behind
+// them.
+fn fails_as_often<R: Files + Drop>(mut disk: FileDisk<R>, failures: usize) -> bool
+where
+    R::File: SiteFile,
+{
+    let mut fails = each_call_on(&mut disk, 1) == [true, true, true, true, false];
+    for _ in 1..failures {
+        fails &= disk.size(1).is_err();
+    }
+    fails &= all_hold(&mut disk);
+    disk.close();
+    fails
+}
+
+// The same of a run in which so many calls fail from one on, and what the run asks for.
+fn asked_behind_a_sync(
+    rt: &HostRuntime,
+    failing: usize,
+    failures: usize,
+) -> io::Result<(bool, String)> {
+    new_folder(rt)?;
+    let names = names_in(rt.alloc(), FOLDER)?;
+    let calls = Calls::failing(rt.alloc(), failing, failures, 1);
+    let disk = disk_over(Watched { rt, calls: &calls }, names);
+    let fails = fails_as_often(disk, failures);
+    Ok((fails, lines_of(calls)))
+}
+
+const BEHIND_A_SYNC: &str =
+    "looked marked nothing_renewed opened changed renewed called_anew marked";
 
 // A sync that failed leaves what no disk may hold: the file is copied before anything is asked of it, and a copy that
 // can't be made is tried again.
 #[test]
-fn what_a_failed_sync_left_is_made_durable_first(rt: HostRuntime) -> Result<(), Fail> {
+fn what_a_failed_sync_left_is_made_durable_first(rt: HostRuntime) -> io::Result<()> {
+    let wanted = wanted_by(rt.alloc(), BEHIND_A_SYNC)?;
     let (count, _) = counts_of_a_run(&rt, None)?;
     for failures in 1..=3 {
-        new_folder(&rt)?;
-        let calls = Calls::failing(&rt, count, failures, 1);
-        let mut disk = disk_watched(&rt, &calls)?;
-        assert!(rt; each_call(&mut disk) == [true, true, true, true, false]);
-        for _ in 1..failures {
-            assert!(rt; disk.size(1).is_err());
-        }
-        assert!(rt; each_call(&mut disk) == [true; 5]);
-        disk.close();
-        let wanted = [
-            LOOKED,
-            MARKED,
-            NOTHING_RENEWED,
-            OPENED,
-            CHANGED,
-            RENEWED,
-            CALLED_ANEW,
-            MARKED,
-        ];
-        assert_eq!(rt;
-            calls.into_inner().lines.as_str(),
-            joined(rt.alloc(), &wanted)?.as_str(),
-            "{failures} failures"
-        );
+        let (fails, asked) = asked_behind_a_sync(&rt, count, failures)?;
+        assert!(rt; fails, "{failures} failures");
+        assert_eq!(rt; asked.as_str(), wanted.as_str(), "{failures} failures");
     }
     Ok(())
 }
 
-// Changes a file, and lets the disk go.
-fn leave_changed(mut disk: FileDisk<Watched>, file: u8) -> bool
+// Whether one call of each kind on a file holds, and a change of it, before the disk is let go.
+fn leaves_changed<R: Files + Drop>(mut disk: FileDisk<R>, file: u8) -> bool
+where
+    R::File: SiteFile,
     requires { file ≤ 2 }
 {
+    let holds = each_call_on(&mut disk, file) == ALL;
     let changed = match file {
         1 => disk.write(file, 0, b"b"),
         _ => disk.cut(file, 0),
     };
     disk.close();
-    changed.is_ok()
+    holds && changed.is_ok()
+}
+
+// The same of a run, and what it asks for.
+fn asked_on(rt: &HostRuntime, file: u8) -> io::Result<(bool, String)>
+    requires { file ≤ 2 }
+{
+    new_folder(rt)?;
+    let names = names_in(rt.alloc(), FOLDER)?;
+    let calls = Calls::new(rt.alloc(), 3);
+    let disk = disk_over(Watched { rt, calls: &calls }, names);
+    let holds = leaves_changed(disk, file);
+    Ok((holds, lines_of(calls)))
+}
+
+// Whether that holds, and these are the last calls. What isn't synced keeps the end from being marked.
+fn is_asked_on(rt: &HostRuntime, file: u8, wanted: &str) -> io::Result<bool>
+    requires { file ≤ 2 }
+{
+    let (holds, asked) = asked_on(rt, file)?;
+    let is_unmarked = has(rt, "qm_files_test/lock", b"begun\n");
+    Ok(holds && is_unmarked && asked.as_str().ends_with(wanted))
 }
 
 // The calls of each kind on a file, and its change, as they are written down.
-fn calls_on(alloc: Global, name: &str, change: &str) -> Result<String, AllocError> {
-    let mut wanted = String::new(alloc);
-    for what in ["write", "size", "read", "cut", "sync", change] {
-        let line = joined(alloc, &[what, " qm_files_test/", name, "\n"])?;
-        wanted.push_str(line.as_str())?;
-    }
-    Ok(wanted)
-}
+const ON_MASTER: &str = "write qm_files_test/master
+size qm_files_test/master
+read qm_files_test/master
+cut qm_files_test/master
+sync qm_files_test/master
+cut qm_files_test/master
+";
+
+const ON_ONE: &str = "write qm_files_test/one
+size qm_files_test/one
+read qm_files_test/one
+cut qm_files_test/one
+sync qm_files_test/one
+write qm_files_test/one
+";
+
+const ON_TWO: &str = "write qm_files_test/two
+size qm_files_test/two
+read qm_files_test/two
+cut qm_files_test/two
+sync qm_files_test/two
+cut qm_files_test/two
+";
 
 #[test]
-fn each_file_is_asked_by_its_own_name_and_has_to_be_synced(rt: HostRuntime) -> Result<(), Fail> {
-    for (file, name, change) in [(0, "master", "cut"), (1, "one", "write"), (2, "two", "cut")] {
-        new_folder(&rt)?;
-        let calls = Calls::new(&rt, 3);
-        let mut disk = disk_watched(&rt, &calls)?;
-        assert_eq!(rt; each_call_on(&mut disk, file), [true; 5]);
-        // What isn't synced keeps the end from being marked.
-        assert!(rt; leave_changed(disk, file) && has(&rt, "qm_files_test/lock", b"begun\n"));
-        let wanted = calls_on(rt.alloc(), name, change)?;
-        assert!(rt; calls.into_inner().lines.as_str().ends_with(wanted.as_str()));
-    }
+fn each_file_is_asked_by_its_own_name_and_has_to_be_synced(rt: HostRuntime) -> io::Result<()> {
+    assert!(rt; is_asked_on(&rt, 0, ON_MASTER)?, "file 0");
+    assert!(rt; is_asked_on(&rt, 1, ON_ONE)?, "file 1");
+    assert!(rt; is_asked_on(&rt, 2, ON_TWO)?, "file 2");
     Ok(())
 }
 
+// Whether a disk fails at each call, as one does whose folder is in use.
+fn is_shut_out<R: Files + Drop>(mut disk: FileDisk<R>) -> bool
+where
+    R::File: SiteFile,
+{
+    let held = each_call_on(&mut disk, 1);
+    let is_in_use = disk.is_in_use();
+    disk.close();
+    held == [false; 5] && is_in_use
+}
+
+// Whether a first disk holds a folder, a second one is shut out, the first one goes on, and a third one has the folder behind it.
+fn keep_apart<R: Files + Drop>(
+    mut first: FileDisk<R>,
+    second: FileDisk<R>,
+    third: FileDisk<R>,
+) -> [bool; 4]
+where
+    R::File: SiteFile,
+{
+    let is_held = all_hold(&mut first);
+    let is_second_out = is_shut_out(second);
+    let goes_on = holds_and_leaves(first, Leaving::Closed);
+    [
+        is_held,
+        is_second_out,
+        goes_on,
+        holds_and_leaves(third, Leaving::Dropped),
+    ]
+}
+
 #[test]
-fn two_disks_over_one_folder_keep_apart(rt: HostRuntime) -> Result<(), Fail> {
+fn two_disks_over_one_folder_keep_apart(rt: HostRuntime) -> io::Result<()> {
     new_folder(&rt)?;
-    let mut first = disk_over(&rt, rt.clone()?)?;
-    assert_eq!(rt; each_call(&mut first), [true; 5]);
-    let mut second = disk_over(&rt, rt.clone()?)?;
-    assert_eq!(rt; each_call(&mut second), [false; 5]);
-    assert!(rt; second.is_in_use());
-    second.close();
-    assert_eq!(rt; each_call(&mut first), [true; 5]);
-    first.close();
-    let mut third = disk_over(&rt, rt.clone()?)?;
-    assert_eq!(rt; each_call(&mut third), [true; 5]);
+    let first = names_in(rt.alloc(), FOLDER)?;
+    let second = names_in(rt.alloc(), FOLDER)?;
+    let third = names_in(rt.alloc(), FOLDER)?;
+    let told = keep_apart(
+        disk_over(&rt, first),
+        disk_over(&rt, second),
+        disk_over(&rt, third),
+    );
+    assert_eq!(rt; told, [true; 4]);
     Ok(())
 }

@@ -1,33 +1,36 @@
 // What the contracts of readers and writers leave open: that memory suffices, and no more is taken than was asked for; and
 // that calls of std's readers and writers that are short, interrupted or failing are gone on with, made again or refused.
+use crate::told::{Cases, assert_told, number};
 use qm_io::{
-    InputSource, MemorySink, MemorySource, OutputSink, ReadEnd, Sink, read_whole, write_whole,
+    InputSource, MemorySink, MemorySource, OutputSink, ReadEnd, Sink, Source, read_whole,
+    write_whole,
 };
+use std::alloc::{AllocError, Global};
 use std::io;
 use std::io::{ErrorKind, Read, Write};
-use std::test::Fail;
 
-#[test]
-fn the_limit_is_the_most_that_is_read(rt: HostRuntime) -> Result<(), Fail> {
-    let alloc = rt.alloc();
+const LIMIT: usize = 6_000;
+
+fn text_of(alloc: Global, length: u64) -> Result<Vec<u8>, AllocError> {
     let mut text = Vec::new(alloc);
-    for length in 0..6_002u32 {
-        if length % 3_000 < 2 {
-            let mut source = MemorySource::new(text.clone()?, Vec::new(alloc));
-            let mut sink = MemorySink::new(alloc, Vec::new(alloc));
-            match read_whole(alloc, &mut source, 6_000) {
-                Ok(bytes) => {
-                    assert!(rt;
-                        bytes.capacity() <= 6_000 && write_whole(&mut sink, &bytes).is_ok()
-                    );
-                }
-                Err(end) => assert!(rt; end == ReadEnd::TooLong && length > 6_000),
-            }
-            assert!(rt; length > 6_000 || sink.held() == text.as_slice());
-        }
-        text.push((length % 251) as u8)?;
+    for place in 0..length {
+        text.push((place % 251) as u8)?;
     }
-    Ok(())
+    Ok(text)
+}
+
+// Whether a text is written as it was, once it is read up to the limit into no more room than that.
+fn is_carried(alloc: Global, text: &Vec<u8>) -> Result<bool, ReadEnd> {
+    let mut source = MemorySource::new(text.clone()?, Vec::new(alloc));
+    let mut sink = MemorySink::new(alloc, Vec::new(alloc));
+    let bytes = read_whole(alloc, &mut source, LIMIT)?;
+    let is_written = write_whole(&mut sink, &bytes).is_ok();
+    Ok(is_written && sink.held() == text.as_slice() && bytes.capacity() <= LIMIT)
+}
+
+fn tell_carried(alloc: Global, length: u64) -> Result<String, AllocError> {
+    let text = text_of(alloc, length)?;
+    format!(in alloc; "{:?}", is_carried(alloc, &text))
 }
 
 // A reader or writer that follows a script, a letter for each call: `i` is interrupted, `f` fails, `0`
@@ -40,6 +43,13 @@ struct Scripted<'a> {
 }
 
 impl Scripted<'_> {
+    fn new(alloc: Global, script: &[u8]) -> Scripted<'_> {
+        Scripted {
+            script,
+            written: Vec::new(alloc),
+        }
+    }
+
     // The letter of this call, or what the call fails with.
     fn next(&mut self) -> io::Result<u8> {
         let Some((letter, rest)) = self.script.split_first() else {
@@ -84,58 +94,125 @@ impl Write for Scripted<'_> {
     }
 }
 
-#[test]
-fn reads_are_made_again_but_not_behind_the_end(rt: HostRuntime) -> Result<(), Fail> {
-    let alloc = rt.alloc();
-    // The reader's calls, what two readings give one after the other, and the calls that are left.
-    let table: [[&str; 4]; 4] = [
-        ["ab", "ab", "", ""],
-        ["aiib0c", "ab", "", "c"],
-        ["0c", "", "", "c"],
-        ["afb0c", "failed", "b", "c"],
-    ];
-    for [script, first, second, left] in table {
-        let mut reader = Scripted {
-            script: script.as_bytes(),
-            written: Vec::new(alloc),
-        };
-        let mut source = InputSource::new(&mut reader);
-        for expected in [first, second] {
-            match read_whole(alloc, &mut source, 9) {
-                Ok(bytes) => assert!(rt; bytes.as_slice() == expected.as_bytes()),
-                Err(end) => assert!(rt; end == ReadEnd::Failed && expected == "failed"),
-            }
-        }
-        drop(source);
-        assert!(rt; reader.script == left.as_bytes());
+fn push_letters(told: &mut String, letters: &[u8]) -> Result<(), AllocError> {
+    for letter in letters {
+        told.push(char::from(*letter))?;
     }
     Ok(())
 }
 
-#[test]
-fn writes_go_on_where_they_stopped_but_not_behind_a_fault(rt: HostRuntime) -> Result<(), Fail> {
-    let alloc = rt.alloc();
-    // The calls of the writer, a write and a flush in turn where none is interrupted; what was written of
-    // three bytes; and the calls that are left behind two tries.
-    let table = [
-        ["wwwwww", "abc", ""],
-        ["iwwiwwiiwiw", "abc", ""],
-        ["wwfwwwwww", "a", "wwwwww"],
-        ["wwwfwwwww", "ab", "wwwww"],
-        ["ww0wwwwww", "a", "wwwwww"],
-    ];
-    for [script, expected, left] in table {
-        let mut writer = Scripted {
-            script: script.as_bytes(),
-            written: Vec::new(alloc),
-        };
-        let mut sink = OutputSink::new(&mut writer);
-        let held = write_whole(&mut sink, b"abc").is_ok();
-        assert!(rt; held == (expected == "abc"));
-        assert!(rt; held || sink.write(b"d").is_err());
-        drop(sink);
-        assert!(rt; writer.written.as_slice() == expected.as_bytes());
-        assert!(rt; writer.script == left.as_bytes());
+// Adds what a reading gives, or how it ends, and a `,`.
+fn tell_reading<S: Source>(
+    alloc: Global,
+    source: &mut S,
+    told: &mut String,
+) -> Result<(), AllocError> {
+    match read_whole(alloc, source, 9) {
+        Ok(bytes) => push_letters(told, &bytes)?,
+        Err(ReadEnd::Failed) => told.push_str("failed")?,
+        Err(_) => told.push_str("ended otherwise")?,
     }
-    Ok(())
+    told.push_str(",")
+}
+
+// Adds what two readings give one after the other, and the reader's calls that are left.
+fn tell_reader(alloc: Global, reader: &mut Scripted, told: &mut String) -> Result<(), AllocError> {
+    let mut source = InputSource::new(&mut *reader);
+    tell_reading(alloc, &mut source, told)?;
+    tell_reading(alloc, &mut source, told)?;
+    drop(source);
+    push_letters(told, reader.script)
+}
+
+fn told_of_reader(alloc: Global, script: &[u8]) -> Result<String, AllocError> {
+    let mut told = String::new(alloc);
+    let mut reader = Scripted::new(alloc, script);
+    tell_reader(alloc, &mut reader, &mut told)?;
+    Ok(told)
+}
+
+// Adds how a write of three bytes ends, and one behind it where it failed.
+fn tell_endings<S: Sink>(sink: &mut S, told: &mut String) -> Result<(), AllocError> {
+    if write_whole(sink, b"abc").is_ok() {
+        return told.push_str("held ");
+    }
+    told.push_str(if sink.write(b"d").is_ok() {
+        "failed and held "
+    } else {
+        "failed twice "
+    })
+}
+
+// Adds how writes end, what was written, and the writer's calls that are left.
+fn tell_writer(writer: &mut Scripted, told: &mut String) -> Result<(), AllocError> {
+    let mut sink = OutputSink::new(&mut *writer);
+    tell_endings(&mut sink, told)?;
+    drop(sink);
+    push_letters(told, &writer.written)?;
+    told.push_str(",")?;
+    push_letters(told, writer.script)
+}
+
+fn told_of_writer(alloc: Global, script: &[u8]) -> Result<String, AllocError> {
+    let mut told = String::new(alloc);
+    let mut writer = Scripted::new(alloc, script);
+    tell_writer(&mut writer, &mut told)?;
+    Ok(told)
+}
+
+// What is done with streams: a text of so many bytes is carried from one to the other, or a reader or writer follows a script.
+#[derive(Clone, Copy)]
+enum Streams {
+    Carry,
+    Read,
+    Write,
+}
+
+impl Cases for Streams {
+    fn told_of(&mut self, alloc: Global, text: &str) -> Result<String, AllocError> {
+        match self {
+            Streams::Carry => tell_carried(alloc, number(text)),
+            Streams::Read => told_of_reader(alloc, text.as_bytes()),
+            Streams::Write => told_of_writer(alloc, text.as_bytes()),
+        }
+    }
+}
+
+// How many bytes there are, and whether they are carried.
+const CARRIED: &str = "0|Ok(true)
+1|Ok(true)
+3000|Ok(true)
+3001|Ok(true)
+6000|Ok(true)
+6001|Err(TooLong)";
+
+#[test]
+fn the_limit_is_the_most_that_is_read(rt: HostRuntime) -> Result<(), AllocError> {
+    assert_told(&rt, rt.alloc(), &mut Streams::Carry, CARRIED)
+}
+
+// The reader's calls; what two readings give one after the other, and the calls that are left.
+const READS: &str = "ab|ab,,
+aiib0c|ab,,c
+0c|,,c
+afb0c|failed,b,c";
+
+#[test]
+fn reads_are_made_again_but_not_behind_the_end(rt: HostRuntime) -> Result<(), AllocError> {
+    assert_told(&rt, rt.alloc(), &mut Streams::Read, READS)
+}
+
+// The calls of the writer, a write and a flush in turn where none is interrupted; how writes end, what was written of three
+// bytes; and the calls that are left behind two tries.
+const WRITES: &str = "wwwwww|held abc,
+iwwiwwiiwiw|held abc,
+wwfwwwwww|failed twice a,wwwwww
+wwwfwwwww|failed twice ab,wwwww
+ww0wwwwww|failed twice a,wwwwww";
+
+#[test]
+fn writes_go_on_where_they_stopped_but_not_behind_a_fault(
+    rt: HostRuntime,
+) -> Result<(), AllocError> {
+    assert_told(&rt, rt.alloc(), &mut Streams::Write, WRITES)
 }
