@@ -6,5 +6,5 @@
 mod plan;
 mod texts;
 
-pub use plan::{Desk, holds, is_told, push_wanted};
+pub use plan::{Desk, follow, holds, is_told, push_wanted};
 pub use texts::{number_and_rest, numbers, push_bytes, push_line, push_times};

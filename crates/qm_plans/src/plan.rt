@@ -1,7 +1,8 @@
 // Plans that are followed.
 use crate::texts::push_bytes;
 use std::alloc::AllocError;
-use std::io;
+use std::process::ExitCode;
+use std::{env, fs, io};
 
 /// What a plan has in work.
 pub trait Desk {
@@ -59,4 +60,29 @@ pub fn holds<D: Desk>(rt: &HostRuntime, desk: &mut D, plan: &str) -> io::Result<
         }
     }
     Ok(is_told(rt, &mut told, &mut wanted, lines)? && holds)
+}
+
+// Whether the plan of this name holds, which is in a file of the folder.
+fn file_holds<D: Desk>(rt: &HostRuntime, desk: &mut D, name: &str) -> io::Result<bool> {
+    let path = format!(in rt.alloc(); "{name}.plan")?;
+    let plan = fs::read_to_string(rt, path.as_str())?;
+    holds(rt, desk, plan.as_str())
+}
+
+/// Follows the plans that the words of the program name, and prints the names of those that don't hold, and how many these are: what a
+/// program does that follows plans and nothing else. It ends well where each plan holds.
+pub fn follow<D: Desk>(rt: &HostRuntime, desk: &mut D) -> io::Result<ExitCode> {
+    let mut failed = 0usize;
+    for name in env::args(rt)?.skip(1) {
+        if !file_holds(rt, desk, name.as_str())? {
+            failed = failed.saturating_add(1);
+            println!(rt; "{name}: failed")?;
+        }
+    }
+    println!(rt; "{failed} plans failed")?;
+    Ok(if failed == 0 {
+        ExitCode::SUCCESS
+    } else {
+        ExitCode::FAILURE
+    })
 }
