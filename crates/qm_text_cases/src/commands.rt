@@ -2,6 +2,7 @@
 ghost use Rattle.std.specs.Prelude.{IsTrue};
 ghost use Rattle.qm_record.specs.Spelling.{AreListsShort, IsShortChange, IsShortEntryChange};
 
+use crate::lines::{push_pieces, tell_bytes, tell_moment, tell_number, tell_pieces};
 use qm_dcl::{DclFault, read_command};
 use qm_kinds::{
     EntryChange, Input, JobRetain, Moment, Name, Query, QueueChange, Request, Seq, system_user,
@@ -78,48 +79,60 @@ pub(crate) fn push_request(
     if !is_short(request) {
         return push_line(told, "no record");
     }
-    told.extend_from_slice(&write_request(alloc, Moment::BASE, node, request)?)?;
-    push_line(told, "")
+    tell_bytes(told, &write_request(alloc, Moment::BASE, node, request)?)
 }
 
-// Tells which rows are asked for: one entry; or the listing, the pattern, the user, the kinds of queue, and whether it is one row.
-fn tell_query(alloc: Global, told: &mut Vec<u8>, query: &Query) -> Result<(), AllocError> {
-    if let Some(number) = query.number {
-        return push_line(told, format!(in alloc; "entry {number}")?.as_str());
-    }
-    let listing = query.listing;
-    told.extend_from_slice(format!(in alloc; "{listing:?} ")?.as_bytes())?;
-    told.extend_from_slice(query.pattern.as_bytes())?;
-    told.extend_from_slice(b" of ")?;
-    match query.user {
-        Some(user) => told.extend_from_slice(user.as_bytes())?,
-        None => told.extend_from_slice(b"all users")?,
-    }
+// A text, where what it names is listed.
+fn where_listed(listed: bool, text: &str) -> &str {
+    if listed { text } else { "" }
+}
+
+// Tells which rows of a listing are asked for: the listing, the pattern, the user, the kinds of queue, and whether it is one row.
+fn tell_listing(alloc: Global, told: &mut Vec<u8>, query: &Query) -> Result<(), AllocError> {
+    let listing = format!(in alloc; "{:?}", query.listing)?;
+    let user = match &query.user {
+        Some(user) => user.as_str(),
+        None => "all users",
+    };
     let kinds = query.kinds;
-    let names: [(bool, &str); 5] = [
-        (kinds.batch, ", batch"),
-        (kinds.print, ", print"),
-        (kinds.generic_batch, ", generic batch"),
-        (kinds.generic_print, ", generic print"),
-        (query.single, ", one row"),
+    let pieces = [
+        listing.as_str(),
+        " ",
+        query.pattern.as_str(),
+        " of ",
+        user,
+        where_listed(kinds.batch, ", batch"),
+        where_listed(kinds.print, ", print"),
+        where_listed(kinds.generic_batch, ", generic batch"),
+        where_listed(kinds.generic_print, ", generic print"),
+        where_listed(query.single, ", one row"),
     ];
-    for (listed, name) in names {
-        if listed {
-            told.extend_from_slice(name.as_bytes())?;
-        }
-    }
-    push_line(told, "")
+    tell_pieces(told, &pieces)
 }
 
-// Tells on which nodes the queue manager may run from now on, where the command says so; an empty list stands for all.
-fn tell_nodes(told: &mut Vec<u8>, on: Option<Seq<Name>>) -> Result<(), AllocError> {
+// Tells which rows are asked for: one entry, or those of a listing.
+fn tell_query(alloc: Global, told: &mut Vec<u8>, query: &Query) -> Result<(), AllocError> {
+    match query.number {
+        Some(number) => tell_number(alloc, told, "entry", u64::from(number)),
+        None => tell_listing(alloc, told, query),
+    }
+}
+
+// Tells the nodes on which the queue manager may run from now on; an empty list stands for all.
+fn push_nodes(told: &mut Vec<u8>, nodes: &[Name]) -> Result<(), AllocError> {
+    told.extend_from_slice(b" on")?;
+    for node in nodes {
+        told.extend_from_slice(b" ")?;
+        told.extend_from_slice(node.as_bytes())?;
+    }
+    Ok(())
+}
+
+// Tells on which nodes the queue manager may run from now on, where the command says so.
+fn tell_nodes(told: &mut Vec<u8>, on: &Option<Seq<Name>>) -> Result<(), AllocError> {
     told.extend_from_slice(b"manager")?;
     if let Some(nodes) = on {
-        told.extend_from_slice(b" on")?;
-        for node in nodes.as_slice() {
-            told.push(b' ')?;
-            told.extend_from_slice(node.as_bytes())?;
-        }
+        push_nodes(told, nodes.as_slice())?;
     }
     push_line(told, "")
 }
@@ -128,53 +141,71 @@ fn tell_nodes(told: &mut Vec<u8>, on: Option<Seq<Name>>) -> Result<(), AllocErro
 pub(crate) fn tell_input(
     alloc: Global,
     told: &mut Vec<u8>,
-    input: Input,
+    input: &Input,
 ) -> Result<(), AllocError> {
     match input {
-        Input::Ask(request) => push_request(alloc, told, 0, &request),
-        Input::Show(query) => tell_query(alloc, told, &query),
+        Input::Ask(request) => push_request(alloc, told, 0, request),
+        Input::Show(query) => tell_query(alloc, told, query),
         Input::TakeManager { on } => tell_nodes(told, on),
-        _other => push_line(told, "another input"),
+        _ => push_line(told, "another input"),
     }
 }
 
-/// Whether a text asks for something, and what is told of it, or of its fault.
-pub(crate) fn answer_to(alloc: Global, text: &[u8]) -> Result<(bool, Vec<u8>), AllocError> {
-    answer_at(alloc, text, now())
+// Tells what is wrong with a text.
+fn tell_fault(alloc: Global, told: &mut Vec<u8>, fault: DclFault) -> Result<(), AllocError> {
+    push_line(told, format!(in alloc; "{fault}")?.as_str())
 }
 
-/// The same of a text that is read at some moment.
-pub(crate) fn answer_at(
+/// Tells what a text asks for that is read at some moment, or what is wrong with it; and says whether it asks for something.
+///
+/// Here and elsewhere an input is lent, and let go by a call of `drop` as soon as it was told: where it goes with the end of its
+/// scope, the proof follows each of its many variants at each end of the function.
+pub(crate) fn tell_typed(
+    alloc: Global,
+    told: &mut Vec<u8>,
+    text: &[u8],
+    now: Moment,
+) -> Result<bool, AllocError> {
+    match read_command(alloc, text, user(), now) {
+        Ok(input) => {
+            let end = tell_input(alloc, told, &input);
+            drop(input);
+            end?;
+            Ok(true)
+        }
+        Err(fault) => {
+            tell_fault(alloc, told, fault)?;
+            Ok(false)
+        }
+    }
+}
+
+/// Whether what is told of a text that is read at some moment is this.
+pub(crate) fn is_told_of(
     alloc: Global,
     text: &[u8],
     now: Moment,
-) -> Result<(bool, Vec<u8>), AllocError> {
+    answer: &[u8],
+) -> Result<bool, AllocError> {
     let mut told = Vec::new(alloc);
-    match read_command(alloc, text, user(), now) {
-        Ok(input) => {
-            tell_input(alloc, &mut told, input)?;
-            Ok((true, told))
-        }
-        Err(fault) => {
-            push_line(&mut told, format!(in alloc; "{fault}")?.as_str())?;
-            Ok((false, told))
-        }
-    }
+    tell_typed(alloc, &mut told, text, now)?;
+    Ok(told.as_slice() == answer)
+}
+
+// Whether this is told of a text behind many spaces too.
+fn is_told_behind_spaces(alloc: Global, text: &[u8], answer: &[u8]) -> Result<bool, AllocError> {
+    let mut long = Vec::new(alloc);
+    push_times(&mut long, 10_000, b" ")?;
+    long.extend_from_slice(text)?;
+    is_told_of(alloc, &long, now(), answer)
 }
 
 /// Tells what a text asks for, or what is wrong with it. What asks for something does so behind many spaces too, since a long
 /// command isn't want of memory.
 pub(crate) fn tell_asked(alloc: Global, told: &mut Vec<u8>, text: &[u8]) -> Result<(), AllocError> {
-    let (asks, answer) = answer_to(alloc, text)?;
-    told.extend_from_slice(&answer)?;
-    if asks {
-        let mut long = Vec::new(alloc);
-        push_times(&mut long, 10_000, b" ")?;
-        long.extend_from_slice(text)?;
-        let (_, behind) = answer_to(alloc, &long)?;
-        if behind.as_slice() != answer.as_slice() {
-            push_line(told, "something else behind spaces")?;
-        }
+    let asks = tell_typed(alloc, told, text, now())?;
+    if asks && !is_told_behind_spaces(alloc, text, told.as_slice())? {
+        push_line(told, "something else behind spaces")?;
     }
     Ok(())
 }
@@ -210,20 +241,80 @@ fn moment_asked(request: &Request) -> Option<Moment> {
     }
 }
 
-// The moment that a text names for a job, in hundredths of a second, or what is wrong with it, told from the byte at which the time
-// stands.
-fn time_asked(alloc: Global, text: &str, front: usize) -> Result<String, AllocError> {
-    match read_command(alloc, text.as_bytes(), user(), now()) {
-        Ok(Input::Ask(request)) => match moment_asked(&request) {
-            Some(moment) => format!(in alloc; "{}", moment.hundredths()),
-            None => String::from_str(alloc, "no moment"),
-        },
-        Ok(_) => String::from_str(alloc, "another input"),
-        Err(DclFault::At { place, kind }) => {
-            format!(in alloc; "byte {}: {kind}", place.wrapping_sub(front))
-        }
-        Err(DclFault::NoMemory) => Err(AllocError),
+// Tells the moment that an input names for a job.
+fn tell_moment_asked(alloc: Global, told: &mut Vec<u8>, input: &Input) -> Result<(), AllocError> {
+    let Input::Ask(request) = input else {
+        return push_line(told, "another input");
+    };
+    match moment_asked(request) {
+        Some(moment) => tell_moment(alloc, told, moment),
+        None => push_line(told, "no moment"),
     }
+}
+
+// A fault, as it is told from the byte at which the time stands.
+fn behind(fault: DclFault, front: usize) -> DclFault {
+    match fault {
+        DclFault::At { place, kind } => DclFault::At {
+            place: place.wrapping_sub(front),
+            kind,
+        },
+        DclFault::NoMemory => DclFault::NoMemory,
+    }
+}
+
+// Tells the moment that a text names for a job, in hundredths of a second, or what is wrong with it, told from the byte at which the
+// time stands.
+fn tell_time_in(
+    alloc: Global,
+    told: &mut Vec<u8>,
+    text: &[u8],
+    front: usize,
+) -> Result<(), AllocError> {
+    match read_command(alloc, text, user(), now()) {
+        Ok(input) => {
+            let end = tell_moment_asked(alloc, told, &input);
+            drop(input);
+            end
+        }
+        Err(fault) => tell_fault(alloc, told, behind(fault, front)),
+    }
+}
+
+// Tells a line that is another than the one before it, whose place it takes.
+fn tell_other(told: &mut Vec<u8>, before: &mut Vec<u8>, line: Vec<u8>) -> Result<(), AllocError> {
+    if line.as_slice() != before.as_slice() {
+        told.extend_from_slice(&line)?;
+    }
+    *before = line;
+    Ok(())
+}
+
+// Tells the moment that a text names, where it is told otherwise than the one before.
+fn tell_other_time(
+    alloc: Global,
+    told: &mut Vec<u8>,
+    before: &mut Vec<u8>,
+    text: &[u8],
+    front: usize,
+) -> Result<(), AllocError> {
+    let mut line = Vec::new(alloc);
+    tell_time_in(alloc, &mut line, text, front)?;
+    tell_other(told, before, line)
+}
+
+// The same of a time between such texts and quotes.
+fn tell_time_between(
+    alloc: Global,
+    told: &mut Vec<u8>,
+    before: &mut Vec<u8>,
+    (front, behind): (&str, &str),
+    quote: &str,
+    time: &str,
+) -> Result<(), AllocError> {
+    let mut text = Vec::new(alloc);
+    push_pieces(&mut text, &[front, quote, time, quote, behind])?;
+    tell_other_time(alloc, told, before, &text, front.len())
 }
 
 /// Tells which moment a time names wherever it may stand, bare or in quotes: once, where it is always the same.
@@ -232,16 +323,10 @@ pub(crate) fn tell_time_asked(
     told: &mut Vec<u8>,
     time: &str,
 ) -> Result<(), AllocError> {
-    let mut before = String::new(alloc);
-    for (front, behind) in TIMED {
-        for quote in ["", "\""] {
-            let text = format!(in alloc; "{front}{quote}{time}{quote}{behind}")?;
-            let answer = time_asked(alloc, text.as_str(), front.len())?;
-            if answer.as_str() != before.as_str() {
-                push_line(told, answer.as_str())?;
-            }
-            before = answer;
-        }
+    let mut before = Vec::new(alloc);
+    for texts in TIMED {
+        tell_time_between(alloc, told, &mut before, texts, "", time)?;
+        tell_time_between(alloc, told, &mut before, texts, "\"", time)?;
     }
     Ok(())
 }

@@ -9,26 +9,35 @@ use qm_kinds::{CharacteristicSet, FileName, Mark, Moment, Name};
 use qm_plans::push_line;
 use std::alloc::{AllocError, Global};
 
-// One field of each kind but the last.
+// One field of each kind up to names.
 #[derive(Drop)]
-struct Fields {
+struct Names {
     truth: bool,
     number: u16,
     file: FileName,
     name: Option<Name>,
+}
+
+// One field of each other kind but the last.
+#[derive(Drop)]
+struct Values {
     other: Option<Moment>,
     moment: Moment,
     set: CharacteristicSet,
     mark: Mark,
 }
 
-// Reads these fields.
-fn read_fields(bytes: &mut &[u8]) -> Result<Fields, BadField> {
-    Ok(Fields {
+fn read_names(bytes: &mut &[u8]) -> Result<Names, BadField> {
+    Ok(Names {
         truth: read_truth(bytes)?,
         number: read_number(bytes, Width::Two)? as u16,
         file: read_file_name(bytes)?,
         name: read_optional_name(bytes)?,
+    })
+}
+
+fn read_values(bytes: &mut &[u8]) -> Result<Values, BadField> {
+    Ok(Values {
         other: read_optional_moment(bytes)?,
         moment: read_moment(bytes)?,
         set: read_set(bytes)?,
@@ -36,16 +45,63 @@ fn read_fields(bytes: &mut &[u8]) -> Result<Fields, BadField> {
     })
 }
 
-// Writes these fields.
-fn put_fields(out: &mut Vec<u8>, fields: &Fields) -> Result<(), AllocError> {
-    put_truth(out, fields.truth)?;
-    put_number(out, Width::Two, u64::from(fields.number))?;
-    put_file_name(out, &fields.file)?;
-    put_optional_name(out, &fields.name)?;
-    put_optional_moment(out, fields.other)?;
-    put_moment(out, fields.moment)?;
-    put_set(out, fields.set)?;
-    put_mark(out, &fields.mark)
+fn put_names(out: &mut Vec<u8>, names: &Names) -> Result<(), AllocError> {
+    put_truth(out, names.truth)?;
+    put_number(out, Width::Two, u64::from(names.number))?;
+    put_file_name(out, &names.file)?;
+    put_optional_name(out, &names.name)
+}
+
+fn put_values(out: &mut Vec<u8>, values: &Values) -> Result<(), AllocError> {
+    put_optional_moment(out, values.other)?;
+    put_moment(out, values.moment)?;
+    put_set(out, values.set)?;
+    put_mark(out, &values.mark)
+}
+
+// Writes the first fields as they are read, and says whether they could be read.
+fn copy_names(bytes: &mut &[u8], out: &mut Vec<u8>) -> Result<bool, AllocError> {
+    match read_names(bytes) {
+        Ok(names) => {
+            put_names(out, &names)?;
+            Ok(true)
+        }
+        Err(_) => Ok(false),
+    }
+}
+
+// The same of the fields behind them.
+fn copy_values(bytes: &mut &[u8], out: &mut Vec<u8>) -> Result<bool, AllocError> {
+    match read_values(bytes) {
+        Ok(values) => {
+            put_values(out, &values)?;
+            Ok(true)
+        }
+        Err(_) => Ok(false),
+    }
+}
+
+// Writes a text of four bytes at most, and says whether it is one.
+fn put_text(out: &mut Vec<u8>, text: &[u8]) -> Result<bool, AllocError> {
+    if text.len() > 4 {
+        return Ok(false);
+    }
+    put_long_bytes(out, text)?;
+    Ok(true)
+}
+
+// The same of the last field, a text.
+fn copy_text(alloc: Global, bytes: &mut &[u8], out: &mut Vec<u8>) -> Result<bool, AllocError> {
+    match read_long_bytes(alloc, bytes) {
+        Ok(Ok(text)) => put_text(out, text.as_slice()),
+        Ok(Err(fault)) => Err(fault),
+        Err(_) => Ok(false),
+    }
+}
+
+// The same of all fields.
+fn copy_fields(alloc: Global, bytes: &mut &[u8], out: &mut Vec<u8>) -> Result<bool, AllocError> {
+    Ok(copy_names(bytes, out)? && copy_values(bytes, out)? && copy_text(alloc, bytes, out)?)
 }
 
 /// Tells whether one field of each kind, one behind the other, is written as it was read.
@@ -55,19 +111,9 @@ pub(crate) fn tell_copied(
     bytes: &[u8],
 ) -> Result<(), AllocError> {
     let mut rest = bytes;
-    let Ok(fields) = read_fields(&mut rest) else {
-        return push_line(told, "no fields");
-    };
-    let Ok(text) = read_long_bytes(alloc, &mut rest) else {
-        return push_line(told, "no text");
-    };
-    let text = text?;
     let mut out = Vec::new(alloc);
-    put_fields(&mut out, &fields)?;
-    if text.len() <= 4 {
-        put_long_bytes(&mut out, text.as_slice())?;
-    }
-    let is_same = out.as_slice() == bytes && rest.is_empty();
+    let are_copied = copy_fields(alloc, &mut rest, &mut out)?;
+    let is_same = are_copied && rest.is_empty() && out.as_slice() == bytes;
     push_line(
         told,
         if is_same {

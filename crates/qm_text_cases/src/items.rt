@@ -1,5 +1,5 @@
 // Calls by item lists, and what each asks for, or what is wrong with it and where.
-use crate::commands::{answer_to, tell_input, user};
+use crate::commands::{now, tell_input, tell_typed, user};
 use qm_item::{ItemFault, read_items};
 use qm_kinds::{Input, ParseKind};
 use qm_plans::{number_and_rest, push_line, push_times};
@@ -20,6 +20,12 @@ enum Change {
     Twice,
 }
 
+const CHANGES: [(&str, Change); 3] = [
+    ("shorter", Change::Shorter),
+    ("longer", Change::Longer),
+    ("twice", Change::Twice),
+];
+
 // Adds the bytes of a word in hexadecimal.
 fn push_word(alloc: Global, bytes: &mut Vec<u8>, word: &str) -> Result<(), AllocError> {
     match hex::decode(alloc, word) {
@@ -28,12 +34,18 @@ fn push_word(alloc: Global, bytes: &mut Vec<u8>, word: &str) -> Result<(), Alloc
     }
 }
 
+// Adds the bytes of words in hexadecimal.
+fn push_words(alloc: Global, bytes: &mut Vec<u8>, words: &str) -> Result<(), AllocError> {
+    for word in words.split_whitespace() {
+        push_word(alloc, bytes, word)?;
+    }
+    Ok(())
+}
+
 /// The bytes of words in hexadecimal.
 pub(crate) fn bytes_of(alloc: Global, words: &str) -> Result<Vec<u8>, AllocError> {
     let mut bytes = Vec::new(alloc);
-    for word in words.split_whitespace() {
-        push_word(alloc, &mut bytes, word)?;
-    }
+    push_words(alloc, &mut bytes, words)?;
     Ok(bytes)
 }
 
@@ -74,7 +86,11 @@ fn tell_call(
     bytes: &[u8],
 ) -> Result<(), AllocError> {
     match asked(alloc, function, bytes) {
-        Ok(input) => tell_input(alloc, told, input),
+        Ok(input) => {
+            let end = tell_input(alloc, told, &input);
+            drop(input);
+            end
+        }
         Err(fault) => tell_fault(alloc, told, fault),
     }
 }
@@ -95,6 +111,25 @@ fn tell_whether(
     }
 }
 
+// Tells whether a call asks for what is typed, of which this is told.
+fn tell_beside_typed(
+    alloc: Global,
+    told: &mut Vec<u8>,
+    function: u16,
+    list: &[u8],
+    asks: bool,
+    typed: &[u8],
+) -> Result<(), AllocError> {
+    let mut called = Vec::new(alloc);
+    tell_call(alloc, &mut called, function, list)?;
+    if asks && called.as_slice() == typed {
+        push_line(told, "the same")
+    } else {
+        told.extend_from_slice(&called)?;
+        told.extend_from_slice(typed)
+    }
+}
+
 // Tells whether a call asks for what a command asks for, which stands behind the list and a `$`.
 fn tell_same(
     alloc: Global,
@@ -103,15 +138,9 @@ fn tell_same(
     text: &str,
 ) -> Result<(), AllocError> {
     let (list, command) = text.split_once(" $ ").unwrap_or((text, ""));
-    let mut called = Vec::new(alloc);
-    tell_call(alloc, &mut called, function, &bytes_of(alloc, list)?)?;
-    let (asks, typed) = answer_to(alloc, command.as_bytes())?;
-    if asks && called.as_slice() == typed.as_slice() {
-        push_line(told, "the same")
-    } else {
-        told.extend_from_slice(&called)?;
-        told.extend_from_slice(&typed)
-    }
+    let mut typed = Vec::new(alloc);
+    let asks = tell_typed(alloc, &mut typed, command.as_bytes(), now())?;
+    tell_beside_typed(alloc, told, function, &bytes_of(alloc, list)?, asks, &typed)
 }
 
 // Tells of a list cut to each length.
@@ -128,6 +157,26 @@ fn tell_cut(
     Ok(())
 }
 
+// Raises the byte at a place by so much.
+fn raise(bytes: &mut Vec<u8>, place: usize, by: u8) {
+    if let Some(byte) = bytes.get_mut(place) {
+        *byte = byte.wrapping_add(by);
+    }
+}
+
+// Tells of a list with the byte at a place raised by one.
+fn tell_raised_at(
+    alloc: Global,
+    told: &mut Vec<u8>,
+    function: u16,
+    bytes: &[u8],
+    place: usize,
+) -> Result<(), AllocError> {
+    let mut other = Vec::from_slice(alloc, bytes)?;
+    raise(&mut other, place, 1);
+    tell_whether(alloc, told, function, &other)
+}
+
 // Tells of a list with each of its bytes raised by one.
 fn tell_raised(
     alloc: Global,
@@ -137,18 +186,9 @@ fn tell_raised(
 ) -> Result<(), AllocError> {
     push_line(told, "raised")?;
     for place in 0..bytes.len() {
-        let mut other = Vec::from_slice(alloc, bytes)?;
-        raise(&mut other, place, 1);
-        tell_whether(alloc, told, function, &other)?;
+        tell_raised_at(alloc, told, function, bytes, place)?;
     }
     Ok(())
-}
-
-// Raises the byte at a place by so much.
-fn raise(bytes: &mut Vec<u8>, place: usize, by: u8) {
-    if let Some(byte) = bytes.get_mut(place) {
-        *byte = byte.wrapping_add(by);
-    }
 }
 
 // Adds an item that is changed.
@@ -158,37 +198,52 @@ fn push_changed(
     word: &str,
     change: Change,
 ) -> Result<(), AllocError> {
-    let mut item = bytes_of(alloc, word)?;
+    let start = bytes.len();
+    push_word(alloc, bytes, word)?;
     match change {
         Change::Shorter => {
-            item.pop();
-            raise(&mut item, 0, 255);
+            bytes.pop();
+            raise(bytes, start, 255);
         }
         Change::Longer => {
-            item.push(0)?;
-            raise(&mut item, 0, 1);
+            bytes.push(0)?;
+            raise(bytes, start, 1);
         }
         Change::Twice => push_word(alloc, bytes, word)?,
     }
-    bytes.extend_from_slice(&item)
+    Ok(())
 }
 
-// A list with one of its items changed.
-fn with_changed(
+// Adds a list with one of its items changed.
+fn push_list_changed(
     alloc: Global,
+    bytes: &mut Vec<u8>,
     list: &str,
     changed: usize,
     change: Change,
-) -> Result<Vec<u8>, AllocError> {
-    let mut bytes = Vec::new(alloc);
+) -> Result<(), AllocError> {
     for (index, word) in list.split_whitespace().enumerate() {
         if index == changed {
-            push_changed(alloc, &mut bytes, word, change)?;
+            push_changed(alloc, bytes, word, change)?;
         } else {
-            push_word(alloc, &mut bytes, word)?;
+            push_word(alloc, bytes, word)?;
         }
     }
-    Ok(bytes)
+    Ok(())
+}
+
+// Tells of a list with one of its items changed.
+fn tell_changed_at(
+    alloc: Global,
+    told: &mut Vec<u8>,
+    function: u16,
+    list: &str,
+    changed: usize,
+    change: Change,
+) -> Result<(), AllocError> {
+    let mut bytes = Vec::new(alloc);
+    push_list_changed(alloc, &mut bytes, list, changed, change)?;
+    tell_whether(alloc, told, function, &bytes)
 }
 
 // Whether a word is an item, and of a value that can get shorter where it is to.
@@ -206,14 +261,26 @@ fn tell_changed(
 ) -> Result<(), AllocError> {
     for (index, word) in list.split_whitespace().enumerate() {
         if can_change(word, change) {
-            let bytes = with_changed(alloc, list, index, change)?;
-            tell_whether(alloc, told, function, &bytes)?;
+            tell_changed_at(alloc, told, function, list, index, change)?;
         }
     }
     Ok(())
 }
 
-// Tells of a list with an item of each code behind the others, of the value `1`.
+// Tells of the items in front of the end of a list, with one of this code and of the value `1` behind them.
+fn tell_beside_code(
+    alloc: Global,
+    told: &mut Vec<u8>,
+    function: u16,
+    front: &[u8],
+    code: u8,
+) -> Result<(), AllocError> {
+    let mut more = Vec::from_slice(alloc, front)?;
+    more.extend_from_slice(&[1, 0, code, 0, b'1', 0, 0, 0, 0])?;
+    tell_whether(alloc, told, function, &more)
+}
+
+// Tells of a list with an item of each code behind the others.
 fn tell_beside(
     alloc: Global,
     told: &mut Vec<u8>,
@@ -223,11 +290,37 @@ fn tell_beside(
     push_line(told, "beside")?;
     let front = bytes.get(..bytes.len().saturating_sub(4)).unwrap_or(b"");
     for code in 0..38u8 {
-        let mut more = Vec::from_slice(alloc, front)?;
-        more.extend_from_slice(&[1, 0, code, 0, b'1', 0, 0, 0, 0])?;
-        tell_whether(alloc, told, function, &more)?;
+        tell_beside_code(alloc, told, function, front, code)?;
     }
     Ok(())
+}
+
+// Tells of a list with each of its items changed in turn, in each way.
+fn tell_all_changed(
+    alloc: Global,
+    told: &mut Vec<u8>,
+    function: u16,
+    list: &str,
+) -> Result<(), AllocError> {
+    for (name, change) in CHANGES {
+        push_line(told, name)?;
+        tell_changed(alloc, told, function, list, change)?;
+    }
+    Ok(())
+}
+
+// Tells of a list, which has these bytes, that is altered in each way.
+fn tell_each_altered(
+    alloc: Global,
+    told: &mut Vec<u8>,
+    function: u16,
+    list: &str,
+    bytes: &[u8],
+) -> Result<(), AllocError> {
+    tell_cut(alloc, told, function, bytes)?;
+    tell_raised(alloc, told, function, bytes)?;
+    tell_all_changed(alloc, told, function, list)?;
+    tell_beside(alloc, told, function, bytes)
 }
 
 // Tells of a list that is altered in each way.
@@ -237,31 +330,54 @@ fn tell_altered(
     function: u16,
     list: &str,
 ) -> Result<(), AllocError> {
-    let bytes = bytes_of(alloc, list)?;
-    tell_cut(alloc, told, function, &bytes)?;
-    tell_raised(alloc, told, function, &bytes)?;
-    push_line(told, "shorter")?;
-    tell_changed(alloc, told, function, list, Change::Shorter)?;
-    push_line(told, "longer")?;
-    tell_changed(alloc, told, function, list, Change::Longer)?;
-    push_line(told, "twice")?;
-    tell_changed(alloc, told, function, list, Change::Twice)?;
-    tell_beside(alloc, told, function, &bytes)
+    tell_each_altered(alloc, told, function, list, &bytes_of(alloc, list)?)
 }
 
-// Tells of a list that has so many times the second word behind the first.
+// Adds a list that has so many times the second word behind the first.
+fn push_many(alloc: Global, bytes: &mut Vec<u8>, text: &str) -> Result<(), AllocError> {
+    let (times, words) = number_and_rest(text);
+    let (front, piece) = words.split_once(" ").unwrap_or((words, ""));
+    push_words(alloc, bytes, front)?;
+    push_times(bytes, times, &bytes_of(alloc, piece)?)?;
+    push_word(alloc, bytes, END)
+}
+
+// Tells of such a list.
 fn tell_many(
     alloc: Global,
     told: &mut Vec<u8>,
     function: u16,
     text: &str,
 ) -> Result<(), AllocError> {
-    let (times, words) = number_and_rest(text);
-    let (front, piece) = words.split_once(" ").unwrap_or((words, ""));
-    let mut bytes = bytes_of(alloc, front)?;
-    push_times(&mut bytes, times, &bytes_of(alloc, piece)?)?;
-    push_word(alloc, &mut bytes, END)?;
+    let mut bytes = Vec::new(alloc);
+    push_many(alloc, &mut bytes, text)?;
     tell_whether(alloc, told, function, &bytes)
+}
+
+/// The number of the function that a text begins with, and the list behind it.
+pub(crate) fn function_and_list(text: &str) -> (u16, &str) {
+    let (number, list) = number_and_rest(text);
+    (u16::try_from(number).unwrap_or(0), list)
+}
+
+// Tells what a call of these words asks for, or what is wrong with it.
+fn tell_words(
+    alloc: Global,
+    told: &mut Vec<u8>,
+    function: u16,
+    list: &str,
+) -> Result<(), AllocError> {
+    tell_call(alloc, told, function, &bytes_of(alloc, list)?)
+}
+
+// Tells whether a call of these words asks for something, or what is wrong with it.
+fn tell_whether_words(
+    alloc: Global,
+    told: &mut Vec<u8>,
+    function: u16,
+    list: &str,
+) -> Result<(), AllocError> {
+    tell_whether(alloc, told, function, &bytes_of(alloc, list)?)
 }
 
 /// Tells of the call of a function what its verb says: what it asks for, or what is wrong with it; whether it asks for what a command
@@ -272,13 +388,12 @@ pub(crate) fn tell_called(
     verb: &str,
     text: &str,
 ) -> Result<(), AllocError> {
-    let (number, list) = text.split_once(" ").unwrap_or((text, ""));
-    let function = number.parse::<u16>().unwrap_or(0);
+    let (function, list) = function_and_list(text);
     match verb {
         "same" => tell_same(alloc, told, function, list),
         "altered" => tell_altered(alloc, told, function, list),
         "many" => tell_many(alloc, told, function, list),
-        "whether" => tell_whether(alloc, told, function, &bytes_of(alloc, list)?),
-        _ => tell_call(alloc, told, function, &bytes_of(alloc, list)?),
+        "whether" => tell_whether_words(alloc, told, function, list),
+        _ => tell_words(alloc, told, function, list),
     }
 }

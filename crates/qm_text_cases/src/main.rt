@@ -6,6 +6,7 @@
 mod commands;
 mod fields;
 mod items;
+mod lines;
 mod records;
 mod shown;
 mod spelled;
@@ -15,12 +16,13 @@ mod tokens;
 use commands::{tell_asked, tell_time_asked};
 use fields::{tell_copied, tell_name_at, tell_number_at, tell_stop};
 use items::tell_called;
-use qm_plans::{Desk, holds, number_and_rest, push_bytes, push_line};
+use qm_plans::{Desk, follow, number_and_rest, push_bytes, push_line};
 use records::tell_record;
 use shown::{tell_answers, tell_row_items, tell_rows};
 use spelled::{tell_called_spelling, tell_spelling};
+use std::alloc::{AllocError, Global};
+use std::io;
 use std::process::ExitCode;
-use std::{env, fs, io};
 use times::{tell_day, tell_time};
 use tokens::tell_tokens;
 
@@ -36,6 +38,74 @@ fn two_numbers(text: &str) -> (usize, usize) {
     (first, number_and_rest(rest).0)
 }
 
+// Tells what a verb asks of calls by item lists, or of rows and answers.
+fn tell_of_calls(
+    alloc: Global,
+    told: &mut Vec<u8>,
+    verb: &str,
+    text: &str,
+) -> Result<(), AllocError> {
+    match verb {
+        "spell-call" => tell_called_spelling(alloc, told, text),
+        "call" | "same" | "whether" | "altered" | "many" => tell_called(alloc, told, verb, text),
+        "row-items" => tell_row_items(alloc, told),
+        "rows" => tell_rows(alloc, told),
+        "answers" => tell_answers(alloc, told),
+        "" | "#" => Ok(()),
+        _ => push_line(told, "no such verb"),
+    }
+}
+
+impl Taken {
+    // Takes fields into work, and tells whether they are written as they were read.
+    fn take(&mut self, alloc: Global, told: &mut Vec<u8>, bytes: &[u8]) -> Result<(), AllocError> {
+        self.bytes.clear();
+        self.bytes.extend_from_slice(bytes)?;
+        tell_copied(alloc, told, bytes)
+    }
+
+    // Tells what a verb asks of bytes on disk, or else of calls and rows.
+    fn tell_of_bytes(
+        &mut self,
+        alloc: Global,
+        told: &mut Vec<u8>,
+        verb: &str,
+        text: &str,
+        bytes: &[u8],
+    ) -> Result<(), AllocError> {
+        match verb {
+            "record" => tell_record(alloc, told, bytes),
+            "fields" => self.take(alloc, told, bytes),
+            "number" => tell_number_at(alloc, told, &self.bytes, two_numbers(text)),
+            "name" => tell_name_at(alloc, told, &self.bytes, number_and_rest(text).0),
+            "name-in" | "moment-in" | "number-in" | "text-in" | "byte-in" => {
+                tell_stop(alloc, told, verb, bytes)
+            }
+            _ => tell_of_calls(alloc, told, verb, text),
+        }
+    }
+
+    // Tells what a verb asks of a text, and of the bytes that it means, or else of other bytes, calls and rows.
+    fn tell(
+        &mut self,
+        alloc: Global,
+        told: &mut Vec<u8>,
+        verb: &str,
+        text: &str,
+        bytes: &[u8],
+    ) -> Result<(), AllocError> {
+        match verb {
+            "ask" => tell_asked(alloc, told, bytes),
+            "spell" => tell_spelling(alloc, told, bytes),
+            "when" => tell_time_asked(alloc, told, text),
+            "tokens" => tell_tokens(alloc, told, bytes),
+            "time" => tell_time(alloc, told, bytes),
+            "day" => tell_day(alloc, told, number_and_rest(text).0 as u64),
+            _ => self.tell_of_bytes(alloc, told, verb, text, bytes),
+        }
+    }
+}
+
 impl Desk for Taken {
     fn act(
         &mut self,
@@ -47,60 +117,14 @@ impl Desk for Taken {
         let alloc = rt.alloc();
         let mut bytes = Vec::new(alloc);
         push_bytes(&mut bytes, text)?;
-        match verb {
-            "ask" => tell_asked(alloc, told, &bytes)?,
-            "spell" => tell_spelling(alloc, told, &bytes)?,
-            "spell-call" => tell_called_spelling(alloc, told, text)?,
-            "when" => tell_time_asked(alloc, told, text)?,
-            "tokens" => tell_tokens(alloc, told, &bytes)?,
-            "time" => tell_time(alloc, told, &bytes)?,
-            "day" => tell_day(alloc, told, number_and_rest(text).0 as u64)?,
-            "record" => tell_record(alloc, told, &bytes)?,
-            "fields" => {
-                tell_copied(alloc, told, &bytes)?;
-                self.bytes = bytes;
-            }
-            "number" => tell_number_at(alloc, told, &self.bytes, two_numbers(text))?,
-            "name" => tell_name_at(alloc, told, &self.bytes, number_and_rest(text).0)?,
-            "name-in" | "moment-in" | "number-in" | "text-in" | "byte-in" => {
-                tell_stop(alloc, told, verb, &bytes)?
-            }
-            "call" | "same" | "whether" | "altered" | "many" => {
-                tell_called(alloc, told, verb, text)?
-            }
-            "row-items" => tell_row_items(alloc, told)?,
-            "rows" => tell_rows(alloc, told)?,
-            "answers" => tell_answers(alloc, told)?,
-            "" | "#" => {}
-            _ => push_line(told, "no such verb")?,
-        }
+        self.tell(alloc, told, verb, text, &bytes)?;
         Ok(())
     }
 }
 
-// How many plans don't hold.
-fn failed(rt: &HostRuntime) -> io::Result<usize> {
-    let mut failed = 0usize;
+fn main(rt: HostRuntime) -> io::Result<ExitCode> {
     let mut taken = Taken {
         bytes: Vec::new(rt.alloc()),
     };
-    for name in env::args(rt)?.skip(1) {
-        let path = format!(in rt.alloc(); "{name}.plan")?;
-        let plan = fs::read_to_string(rt, path.as_str())?;
-        if !holds(rt, &mut taken, plan.as_str())? {
-            failed = failed.saturating_add(1);
-            println!(rt; "{name}: failed")?;
-        }
-    }
-    Ok(failed)
-}
-
-fn main(rt: HostRuntime) -> io::Result<ExitCode> {
-    let failed = failed(&rt)?;
-    println!(rt; "{failed} plans failed")?;
-    Ok(if failed == 0 {
-        ExitCode::SUCCESS
-    } else {
-        ExitCode::FAILURE
-    })
+    follow(&rt, &mut taken)
 }

@@ -34,15 +34,12 @@ fn queue(alloc: Global, queue: &[u8], kind: QueueKind, node: Option<Name>) -> Ro
     })
 }
 
-fn entry(
-    alloc: Global,
-    number: u32,
-    home: &[u8],
-    job: &[u8],
-    size: u32,
-    state: EntryState,
-) -> Result<Row, AllocError> {
-    let entry = Entry {
+fn no_mark() -> Mark {
+    Mark::new(b"").unwrap()
+}
+
+fn entry(number: u32, home: &[u8], job: &[u8], size: u32, state: EntryState) -> Entry {
+    Entry {
         number,
         kind: JobKind::Print,
         home: name(home),
@@ -65,12 +62,7 @@ fn entry(
         mark: no_mark(),
         again: false,
         state,
-    };
-    Ok(Row::Entry(ListedEntry::of(alloc, &entry)?))
-}
-
-fn no_mark() -> Mark {
-    Mark::new(b"").unwrap()
+    }
 }
 
 fn letter() -> Row {
@@ -90,33 +82,41 @@ fn letter() -> Row {
     })
 }
 
-fn manager(alloc: Global) -> Result<Row, AllocError> {
-    let node = name(b"PLUTO");
-    let mut may = Vec::new(alloc);
-    may.push(node)?;
-    may.push(name(b"MARS"))?;
-    Ok(Row::Manager {
-        node,
-        epoch: 2,
-        may: Seq::of(may),
+fn duplex() -> Row {
+    Row::Characteristic(Characteristic {
+        name: name(b"DUPLEX"),
+        number: 7,
     })
 }
 
-fn print_rows(alloc: Global) -> Result<Vec<Row>, AllocError> {
+fn manager(alloc: Global) -> Result<Row, AllocError> {
+    let node = name(b"PLUTO");
+    Ok(Row::Manager {
+        node,
+        epoch: 2,
+        may: Seq::of(Vec::from_array(alloc, [node, name(b"MARS")])?),
+    })
+}
+
+// A row of the cases.
+#[derive(Clone, Copy)]
+enum Case {
+    Queue(&'static [u8], QueueKind, Option<Name>),
+    Entry(Entry),
+    Letter,
+    Duplex,
+    Manager,
+}
+
+// A row of each kind, in the order in which they are listed: of a print queue and of the job that runs there, of a batch queue and of
+// jobs that have ended, or wait, and of the other listings.
+fn cases() -> [Case; 9] {
     let node = name(b"PLUTO");
     let running = EntryState::Running {
         queue: name(b"PLUTO_LP"),
         node,
         run: 1,
     };
-    let mut rows = Vec::new(alloc);
-    rows.push(queue(alloc, b"PLUTO_LP", QueueKind::Print, Some(node)))?;
-    rows.push(entry(alloc, 1, b"LPA", b"REPORT", 13, running)?)?;
-    Ok(rows)
-}
-
-// Adds rows of a batch queue and of jobs that have ended, or wait.
-fn push_batch_rows(alloc: Global, rows: &mut Vec<Row>) -> Result<(), AllocError> {
     let retained = EntryState::Retained {
         status: 1020,
         until: None,
@@ -124,68 +124,97 @@ fn push_batch_rows(alloc: Global, rows: &mut Vec<Row>) -> Result<(), AllocError>
     let timed = EntryState::Timed {
         at: Moment::new(540_021_600_000).unwrap_or(Moment::BASE),
     };
-    let node = name(b"PLUTO");
-    rows.push(queue(alloc, b"SYS$BATCH", QueueKind::Batch, Some(node)))?;
-    rows.push(entry(alloc, 4, b"LPA", b"A_LONG_NAME_OF_A_JOB", 1, retained)?)?;
-    rows.push(entry(alloc, 1234567, b"LPA", b"F", 123456789, timed)?)?;
-    Ok(())
+    [
+        Case::Queue(b"PLUTO_LP", QueueKind::Print, Some(node)),
+        Case::Entry(entry(1, b"LPA", b"REPORT", 13, running)),
+        Case::Queue(b"SYS$BATCH", QueueKind::Batch, Some(node)),
+        Case::Entry(entry(4, b"LPA", b"A_LONG_NAME_OF_A_JOB", 1, retained)),
+        Case::Entry(entry(1234567, b"LPA", b"F", 123456789, timed)),
+        Case::Queue(b"SYS$PRINT", QueueKind::GenericPrint, None),
+        Case::Letter,
+        Case::Duplex,
+        Case::Manager,
+    ]
 }
 
-// Adds the rows of the other listings.
-fn push_other_rows(alloc: Global, rows: &mut Vec<Row>) -> Result<(), AllocError> {
-    rows.push(queue(alloc, b"SYS$PRINT", QueueKind::GenericPrint, None))?;
-    rows.push(letter())?;
-    rows.push(Row::Characteristic(Characteristic {
-        name: name(b"DUPLEX"),
-        number: 7,
-    }))?;
-    rows.push(manager(alloc)?)?;
-    Ok(())
+// A queue, and an entry that waits there.
+fn waiting() -> [Case; 2] {
+    [
+        Case::Queue(b"HALL", QueueKind::Print, Some(name(b"PLUTO"))),
+        Case::Entry(entry(2, b"HALL", b"REPORT", 1, EntryState::Pending)),
+    ]
 }
 
-// Rows of each kind.
-fn all_rows(alloc: Global) -> Result<Vec<Row>, AllocError> {
-    let mut rows = print_rows(alloc)?;
-    push_batch_rows(alloc, &mut rows)?;
-    push_other_rows(alloc, &mut rows)?;
+// The row of a case.
+fn row(alloc: Global, case: &Case) -> Result<Row, AllocError> {
+    match case {
+        Case::Queue(text, kind, node) => Ok(queue(alloc, text, *kind, *node)),
+        Case::Entry(entry) => Ok(Row::Entry(ListedEntry::of(alloc, entry)?)),
+        Case::Letter => Ok(letter()),
+        Case::Duplex => Ok(duplex()),
+        Case::Manager => manager(alloc),
+    }
+}
+
+// The rows of cases.
+fn rows(alloc: Global, cases: &[Case]) -> Result<Vec<Row>, AllocError> {
+    let mut rows = Vec::new(alloc);
+    for case in cases {
+        rows.push(row(alloc, case)?)?;
+    }
     Ok(rows)
 }
 
-/// Tells the items of a queue, of an entry that waits there, and of each kind of row, as lists in hexadecimal.
-pub(crate) fn tell_row_items(alloc: Global, told: &mut Vec<u8>) -> Result<(), AllocError> {
-    let mut rows = all_rows(alloc)?;
-    rows.push(queue(alloc, b"HALL", QueueKind::Print, Some(name(b"PLUTO"))))?;
-    rows.push(entry(alloc, 2, b"HALL", b"REPORT", 1, EntryState::Pending)?)?;
-    for row in &rows {
-        let items = row_items(alloc, row)?;
-        let bytes = write_items(alloc, &items)?;
-        push_line(told, hex::encode(alloc, &bytes)?.as_str())?;
+// The list of the items of a row.
+fn list_of(alloc: Global, row: &Row) -> Result<Vec<u8>, AllocError> {
+    write_items(alloc, &row_items(alloc, row)?)
+}
+
+// Tells the items of a row, as a list in hexadecimal.
+fn tell_list(alloc: Global, told: &mut Vec<u8>, row: &Row) -> Result<(), AllocError> {
+    let list = list_of(alloc, row)?;
+    push_line(told, hex::encode(alloc, &list)?.as_str())
+}
+
+// Tells the items of each row.
+fn tell_lists(alloc: Global, told: &mut Vec<u8>, rows: &[Row]) -> Result<(), AllocError> {
+    for row in rows {
+        tell_list(alloc, told, row)?;
     }
     Ok(())
 }
 
+/// Tells the items of each kind of row, of a queue, and of an entry that waits there, as lists in hexadecimal.
+pub(crate) fn tell_row_items(alloc: Global, told: &mut Vec<u8>) -> Result<(), AllocError> {
+    tell_lists(alloc, told, &rows(alloc, &cases())?)?;
+    tell_lists(alloc, told, &rows(alloc, &waiting())?)
+}
+
 /// Tells a listing of each kind of row.
 pub(crate) fn tell_rows(alloc: Global, told: &mut Vec<u8>) -> Result<(), AllocError> {
-    let rows = all_rows(alloc)?;
     let prefix = Prefix {
         node: name(b"PLUTO"),
         line: Some(16),
     };
-    told.extend_from_slice(&show_rows(alloc, &prefix, &rows)?)
+    tell_shown(told, show_rows(alloc, &prefix, &rows(alloc, &cases())?))
+}
+
+// Tells what was shown, if there was memory for it.
+fn tell_shown(told: &mut Vec<u8>, shown: Result<Vec<u8>, AllocError>) -> Result<(), AllocError> {
+    told.extend_from_slice(&shown?)
 }
 
 // A job that was accepted, and started by that.
 fn submitted(alloc: Global) -> Result<Reply, AllocError> {
     let job = name(b"REPORT");
     let home = name(b"SYS$PRINT");
-    let mut started = Vec::new(alloc);
-    started.push(Start {
+    let start = Start {
         entry: 1,
         name: job,
         home,
         queue: name(b"PLUTO_LP"),
         run: 1,
-    })?;
+    };
     Ok(Reply {
         act: Act::Submitted {
             name: job,
@@ -193,18 +222,15 @@ fn submitted(alloc: Global) -> Result<Reply, AllocError> {
             entry: 1,
             state: EntryState::Pending,
         },
-        started: Seq::of(started),
+        started: Seq::of(Vec::from_array(alloc, [start])?),
     })
 }
 
 // A mark whose first byte is no text.
-fn marked(alloc: Global) -> Reply {
-    Reply {
-        act: Act::Marked {
-            run: 3,
-            value: Mark::new(b"\xff1").unwrap(),
-        },
-        started: Seq::new(alloc),
+fn marked() -> Act {
+    Act::Marked {
+        run: 3,
+        value: Mark::new(b"\xff1").unwrap(),
     }
 }
 
@@ -246,6 +272,20 @@ fn acts() -> [Act; 7] {
     ]
 }
 
+// Tells an act by which no job was started.
+fn tell_act(
+    alloc: Global,
+    told: &mut Vec<u8>,
+    prefix: &Prefix,
+    act: Act,
+) -> Result<(), AllocError> {
+    let reply = Reply {
+        act,
+        started: Seq::new(alloc),
+    };
+    tell_shown(told, show_reply(alloc, prefix, &reply))
+}
+
 // Tells acts and refusals that no script meets.
 fn tell_seldom(alloc: Global, told: &mut Vec<u8>) -> Result<(), AllocError> {
     let prefix = Prefix {
@@ -253,16 +293,29 @@ fn tell_seldom(alloc: Global, told: &mut Vec<u8>) -> Result<(), AllocError> {
         line: Some(1),
     };
     for refusal in &refusals() {
-        told.extend_from_slice(&show_refusal(alloc, &prefix, refusal)?)?;
+        tell_shown(told, show_refusal(alloc, &prefix, refusal))?;
     }
     for act in &acts() {
-        let reply = Reply {
-            act: *act,
-            started: Seq::new(alloc),
-        };
-        told.extend_from_slice(&show_reply(alloc, &prefix, &reply)?)?;
+        tell_act(alloc, told, &prefix, *act)?;
     }
     Ok(())
+}
+
+// Tells replies: to a job that was started, and to a mark.
+fn tell_replies(alloc: Global, told: &mut Vec<u8>, prefix: &Prefix) -> Result<(), AllocError> {
+    tell_shown(told, show_reply(alloc, prefix, &submitted(alloc)?))?;
+    tell_act(alloc, told, prefix, marked())
+}
+
+// Tells a refusal, a full queue file, and runs.
+fn tell_others(alloc: Global, told: &mut Vec<u8>, prefix: &Prefix) -> Result<(), AllocError> {
+    let fault = Refusal::ParseFault {
+        place: 7,
+        kind: ParseKind::Word,
+    };
+    tell_shown(told, show_refusal(alloc, prefix, &fault))?;
+    tell_shown(told, show_full(alloc, prefix, 17, 16))?;
+    tell_shown(told, show_runs(alloc, prefix, 2))
 }
 
 // Tells answers behind the prefix of a node and a line, and of a node alone.
@@ -272,16 +325,9 @@ fn tell_prefixed(alloc: Global, told: &mut Vec<u8>) -> Result<(), AllocError> {
         node,
         line: Some(10),
     };
-    let fault = Refusal::ParseFault {
-        place: 7,
-        kind: ParseKind::Word,
-    };
-    told.extend_from_slice(&show_reply(alloc, &prefix, &submitted(alloc)?)?)?;
-    told.extend_from_slice(&show_reply(alloc, &prefix, &marked(alloc))?)?;
-    told.extend_from_slice(&show_refusal(alloc, &prefix, &fault)?)?;
-    told.extend_from_slice(&show_full(alloc, &prefix, 17, 16)?)?;
-    told.extend_from_slice(&show_runs(alloc, &prefix, 2)?)?;
-    told.extend_from_slice(&show_runs(alloc, &Prefix { node, line: None }, 0)?)?;
+    tell_replies(alloc, told, &prefix)?;
+    tell_others(alloc, told, &prefix)?;
+    tell_shown(told, show_runs(alloc, &Prefix { node, line: None }, 0))?;
     told.extend_from_slice(show_journal(&prefix).as_str().as_bytes())
 }
 

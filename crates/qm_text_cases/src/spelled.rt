@@ -1,6 +1,7 @@
 // The one full spelling of what a command, or a call by an item list, asks for.
-use crate::commands::{answer_at, answer_to, now, user};
-use crate::items::{asked, bytes_of};
+use crate::commands::{is_told_of, now, tell_typed, user};
+use crate::items::{asked, bytes_of, function_and_list};
+use crate::lines::tell_bytes;
 use qm_dcl::read_command;
 use qm_kinds::{Input, Moment};
 use qm_plans::push_line;
@@ -18,15 +19,9 @@ fn spelling(alloc: Global, input: &Input) -> Result<Option<Vec<u8>>, AllocError>
 
 // Whether a text and a spelling, which is read at another moment, ask for the same.
 fn asks_for_the_same(alloc: Global, text: &[u8], spelled: &[u8]) -> Result<bool, AllocError> {
-    let (_, typed) = answer_to(alloc, text)?;
-    let (_, again) = answer_at(alloc, spelled, Moment::BASE)?;
-    Ok(typed.as_slice() == again.as_slice())
-}
-
-// Tells a spelling on a line.
-fn tell(told: &mut Vec<u8>, spelled: &[u8]) -> Result<(), AllocError> {
-    told.extend_from_slice(spelled)?;
-    push_line(told, "")
+    let mut typed = Vec::new(alloc);
+    tell_typed(alloc, &mut typed, text, now())?;
+    is_told_of(alloc, spelled, Moment::BASE, &typed)
 }
 
 // Tells the spelling of what a text asks for, and whether that reads to something else at another moment.
@@ -36,7 +31,7 @@ fn tell_beside(
     text: &[u8],
     spelled: &[u8],
 ) -> Result<(), AllocError> {
-    tell(told, spelled)?;
+    tell_bytes(told, spelled)?;
     if asks_for_the_same(alloc, text, spelled)? {
         Ok(())
     } else {
@@ -64,7 +59,11 @@ pub(crate) fn tell_spelling(
     text: &[u8],
 ) -> Result<(), AllocError> {
     match read_command(alloc, text, user(), now()) {
-        Ok(input) => tell_input(alloc, told, text, &input),
+        Ok(input) => {
+            let end = tell_input(alloc, told, text, &input);
+            drop(input);
+            end
+        }
         Err(_) => push_line(told, "no command"),
     }
 }
@@ -72,8 +71,25 @@ pub(crate) fn tell_spelling(
 // Tells the full spelling of what a call asks for, if some command asks for it too.
 fn tell_called(alloc: Global, told: &mut Vec<u8>, input: &Input) -> Result<(), AllocError> {
     match spelling(alloc, input)? {
-        Some(spelled) => tell(told, &spelled),
+        Some(spelled) => tell_bytes(told, &spelled),
         None => push_line(told, "no spelling"),
+    }
+}
+
+// The same of the call of a function with a list of these bytes.
+fn tell_call(
+    alloc: Global,
+    told: &mut Vec<u8>,
+    function: u16,
+    bytes: &[u8],
+) -> Result<(), AllocError> {
+    match asked(alloc, function, bytes) {
+        Ok(input) => {
+            let end = tell_called(alloc, told, &input);
+            drop(input);
+            end
+        }
+        Err(_) => push_line(told, "no call"),
     }
 }
 
@@ -83,11 +99,6 @@ pub(crate) fn tell_called_spelling(
     told: &mut Vec<u8>,
     text: &str,
 ) -> Result<(), AllocError> {
-    let (number, list) = text.split_once(" ").unwrap_or((text, ""));
-    let function = number.parse::<u16>().unwrap_or(0);
-    let bytes = bytes_of(alloc, list)?;
-    match asked(alloc, function, &bytes) {
-        Ok(input) => tell_called(alloc, told, &input),
-        Err(_) => push_line(told, "no call"),
-    }
+    let (function, list) = function_and_list(text);
+    tell_call(alloc, told, function, &bytes_of(alloc, list)?)
 }

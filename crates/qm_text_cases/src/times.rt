@@ -1,4 +1,5 @@
 // Moments as texts, printed and read.
+use crate::lines::{tell_bytes, tell_moment};
 use qm_kinds::Moment;
 use qm_plans::push_line;
 use qm_time::{print_time, read_time, text_of};
@@ -11,6 +12,14 @@ fn at(hundredths: u64) -> Moment {
     Moment::new(hundredths).unwrap_or(Moment::BASE)
 }
 
+// Tells the text of a moment that was printed, and whether its text in place is another.
+fn tell_printed(told: &mut Vec<u8>, printed: &[u8], moment: Moment) -> Result<(), AllocError> {
+    if printed != text_of(moment).as_str().as_bytes() {
+        push_line(told, "two texts")?;
+    }
+    tell_bytes(told, printed)
+}
+
 /// Tells the text of a moment.
 pub(crate) fn tell_day(
     alloc: Global,
@@ -18,19 +27,13 @@ pub(crate) fn tell_day(
     hundredths: u64,
 ) -> Result<(), AllocError> {
     let moment = at(hundredths);
-    let printed = print_time(alloc, moment)?;
-    if printed.as_slice() != text_of(moment).as_str().as_bytes() {
-        push_line(told, "two texts")?;
-    }
-    told.extend_from_slice(&printed)?;
-    push_line(told, "")
+    tell_printed(told, &print_time(alloc, moment)?, moment)
 }
 
 /// Tells the moment that a text is read as, in hundredths of a second, or its fault.
 pub(crate) fn tell_time(alloc: Global, told: &mut Vec<u8>, text: &[u8]) -> Result<(), AllocError> {
-    let answer = match read_time(text, at(NOW)) {
-        Ok(moment) => format!(in alloc; "{}", moment.hundredths())?,
-        Err(fault) => format!(in alloc; "{fault}")?,
-    };
-    push_line(told, answer.as_str())
+    match read_time(text, at(NOW)) {
+        Ok(moment) => tell_moment(alloc, told, moment),
+        Err(fault) => push_line(told, format!(in alloc; "{fault}")?.as_str()),
+    }
 }

@@ -1,4 +1,5 @@
 // Texts of commands, and their tokens.
+use crate::lines::tell_number;
 use qm_lex::{LexFault, Token, TokenKind, lex};
 use qm_plans::push_line;
 use std::alloc::{AllocError, Global};
@@ -16,6 +17,15 @@ fn letter(kind: TokenKind) -> u8 {
     }
 }
 
+// Tells each token as its letter and its bytes, with a blank in front.
+fn tell_each(told: &mut Vec<u8>, text: &[u8], tokens: &[Token]) -> Result<(), AllocError> {
+    for token in tokens {
+        told.extend_from_slice(&[b' ', letter(token.kind)])?;
+        told.extend_from_slice(text.get(token.start..token.end).unwrap_or(b"none"))?;
+    }
+    push_line(told, "")
+}
+
 /// Tells the tokens of a text, each as its letter and its bytes with a blank in front; or the place of the one that can't be read.
 pub(crate) fn tell_tokens(
     alloc: Global,
@@ -23,16 +33,9 @@ pub(crate) fn tell_tokens(
     text: &[u8],
 ) -> Result<(), AllocError> {
     match lex(alloc, text) {
-        Ok(tokens) => {
-            for Token { kind, start, end } in tokens {
-                told.push(b' ')?;
-                told.push(letter(kind))?;
-                told.extend_from_slice(text.get(start..end).unwrap_or(b"none"))?;
-            }
-            push_line(told, "")
-        }
+        Ok(tokens) => tell_each(told, text, &tokens),
         Err(LexFault::Unreadable { place }) => {
-            push_line(told, format!(in alloc; "unreadable at {place}")?.as_str())
+            tell_number(alloc, told, "unreadable at", place as u64)
         }
         Err(LexFault::NoMemory) => Err(AllocError),
     }
