@@ -19,22 +19,40 @@ fn takes(rt: &HostRuntime, device: &str) -> io::Result<bool> {
     Ok(devices.hand(1, &name(device), b"page").is_ok())
 }
 
-// Tells which of five devices take a block, in the places of whose files no plain file is.
-fn tell_others(rt: &HostRuntime, told: &mut Vec<u8>) -> io::Result<()> {
-    new_folder(rt)?;
-    fs::create_dir(rt, "qm_symbiont_devices/FOLDER.OUT")?;
-    // A pipe whose reader went away: to open it for writing alone would wait for another.
+// Tells whether a block is taken by the device of this name.
+fn tell_taking(rt: &HostRuntime, told: &mut Vec<u8>, device: &str) -> io::Result<()> {
+    push_line(told, if takes(rt, device)? { "takes" } else { "fails" })?;
+    Ok(())
+}
+
+// Devices whose files are links: to a file that lets nobody write, to a device that is full, and to a name that isn't there.
+const LINKS: [(&str, &str); 3] = [
+    ("/proc/version", "qm_symbiont_devices/LOCKED.OUT"),
+    ("/dev/full", "qm_symbiont_devices/FULL.OUT"),
+    ("NONE", "qm_symbiont_devices/NOTHING.OUT"),
+];
+
+fn make_links(rt: &HostRuntime) -> io::Result<()> {
+    for (place, link) in LINKS {
+        symlink(rt, place, link)?;
+    }
+    Ok(())
+}
+
+// A pipe whose reader went away, as a device's file: to open it for writing alone would wait for another. It lasts as long as its writer.
+fn make_pipe(rt: &HostRuntime) -> io::Result<io::PipeWriter> {
     let (reader, writer) = io::pipe(rt)?;
     drop(reader);
     let pipe = format!(in rt.alloc(); "/proc/self/fd/{}", writer.as_raw_fd())?;
     symlink(rt, pipe.as_str(), "qm_symbiont_devices/PIPE.OUT")?;
-    // A file that lets nobody write, a device that is full, and a name that isn't there.
-    symlink(rt, "/proc/version", "qm_symbiont_devices/LOCKED.OUT")?;
-    symlink(rt, "/dev/full", "qm_symbiont_devices/FULL.OUT")?;
-    symlink(rt, "NONE", "qm_symbiont_devices/NOTHING.OUT")?;
+    Ok(writer)
+}
+
+// Tells which of five devices take a block.
+fn tell_five(rt: &HostRuntime, told: &mut Vec<u8>) -> io::Result<()> {
     for device in ["FOLDER", "PIPE", "LOCKED", "FULL", "NOTHING"] {
         push_line(told, device)?;
-        push_line(told, if takes(rt, device)? { "takes" } else { "fails" })?;
+        tell_taking(rt, told, device)?;
     }
     if fs::exists(rt, "qm_symbiont_devices/NONE")? {
         push_line(told, "a file was made")?;
@@ -42,16 +60,40 @@ fn tell_others(rt: &HostRuntime, told: &mut Vec<u8>) -> io::Result<()> {
     Ok(())
 }
 
+// Tells which of five devices take a block, in the places of whose files no plain file is.
+fn tell_others(rt: &HostRuntime, told: &mut Vec<u8>) -> io::Result<()> {
+    new_folder(rt)?;
+    fs::create_dir(rt, "qm_symbiont_devices/FOLDER.OUT")?;
+    make_links(rt)?;
+    let writer = make_pipe(rt)?;
+    let end = tell_five(rt, told);
+    drop(writer);
+    end
+}
+
+// Tells what a plain file holds.
+fn tell_paper(rt: &HostRuntime, told: &mut Vec<u8>) -> io::Result<()> {
+    let paper = fs::read_to_string(rt, "qm_symbiont_devices/PAPER")?;
+    push_line(told, paper.as_str())?;
+    Ok(())
+}
+
+// A plain file, and a link to it in the place of a device's file.
+fn make_paper(rt: &HostRuntime) -> io::Result<()> {
+    new_folder(rt)?;
+    fs::write(rt, "qm_symbiont_devices/PAPER", "old ")?;
+    symlink(rt, "PAPER", "qm_symbiont_devices/LPA0.OUT")
+}
+
+// Tells whether a block is taken behind a link to a plain file, and what that file holds then, to which one was appended.
+fn tell_plain(rt: &HostRuntime, told: &mut Vec<u8>) -> io::Result<()> {
+    make_paper(rt)?;
+    tell_taking(rt, told, "LPA0")?;
+    tell_paper(rt, told)
+}
+
 /// Tells which devices take a block whose file is none, and what a plain file holds behind a link, to which one was appended.
 pub(crate) fn tell_devices(rt: &HostRuntime, told: &mut Vec<u8>) -> io::Result<()> {
     tell_others(rt, told)?;
-    new_folder(rt)?;
-    fs::write(rt, "qm_symbiont_devices/PAPER", "old ")?;
-    symlink(rt, "PAPER", "qm_symbiont_devices/LPA0.OUT")?;
-    push_line(told, if takes(rt, "LPA0")? { "takes" } else { "fails" })?;
-    push_line(
-        told,
-        fs::read_to_string(rt, "qm_symbiont_devices/PAPER")?.as_str(),
-    )?;
-    Ok(())
+    tell_plain(rt, told)
 }

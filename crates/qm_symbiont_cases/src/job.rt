@@ -2,28 +2,29 @@
 ghost use Rattle.std.specs.Prelude.{IsTrue};
 ghost use Rattle.qm_symb.specs.Symbiont.{IsWithinLimits};
 
+use crate::node::tell_two_runs;
 use qm_batch::Standard;
 use qm_kinds::{JobKind, Mark, Name, Report, Seq, Shape, Work, system_user};
-use qm_plans::push_line;
+use qm_plans::{number_and_rest, numbers, push_bytes, push_line, push_times};
 use qm_print::page_blocks;
-use qm_symb::{MemoryDevice, Symbiont, TEXT_BYTES};
+use qm_symb::{HandOver, MemoryDevice, Symbiont, TEXT_BYTES};
 use std::alloc::{AllocError, Global};
 
 /// A job of entry 7, which runs as run 3 on the device LPA0, and the calls at which the device fails.
 #[derive(Drop)]
 pub(crate) struct Job {
     pub(crate) kind: JobKind,
-    pub(crate) shape: Shape,
-    pub(crate) copies: u8,
-    pub(crate) flag: bool,
-    pub(crate) again: bool,
-    pub(crate) mark: Vec<u8>,
-    pub(crate) fails: Vec<u64>,
-    pub(crate) text: Vec<u8>,
-    /// What the device took in the last run.
-    pub(crate) handed: Vec<u8>,
-    /// In how many blocks.
-    pub(crate) blocks: usize,
+    shape: Shape,
+    copies: u8,
+    flag: bool,
+    again: bool,
+    mark: Vec<u8>,
+    fails: Vec<u64>,
+    text: Vec<u8>,
+    // What the device took in the last run.
+    handed: Vec<u8>,
+    // In how many blocks.
+    blocks: usize,
 }
 
 // The most reports that are asked for in a run.
@@ -34,8 +35,8 @@ pub(crate) fn name(text: &str) -> Name {
     Name::read(text.as_bytes()).unwrap_or(system_user())
 }
 
-/// One line of one column.
-pub(crate) const NARROW: Shape = Shape {
+// One line of one column.
+const NARROW: Shape = Shape {
     length: 1,
     width: 1,
     top: 0,
@@ -79,6 +80,59 @@ fn carry_out<S: Symbiont>(
     Ok((REPORTS, 0))
 }
 
+// Puts the bytes that a text means in place of others.
+fn refill(bytes: &mut Vec<u8>, text: &str) -> Result<(), AllocError> {
+    bytes.clear();
+    push_bytes(bytes, text)
+}
+
+// Puts the bytes that a text means in place of others, so many times.
+fn refill_times(alloc: Global, bytes: &mut Vec<u8>, text: &str) -> Result<(), AllocError> {
+    let (times, piece) = number_and_rest(text);
+    let mut more = Vec::new(alloc);
+    push_bytes(&mut more, piece)?;
+    bytes.clear();
+    push_times(bytes, times, &more)
+}
+
+// Tells bytes on a line.
+fn tell_bytes(told: &mut Vec<u8>, bytes: &[u8]) -> Result<(), AllocError> {
+    told.extend_from_slice(bytes)?;
+    push_line(told, "")
+}
+
+fn tell_number(alloc: Global, told: &mut Vec<u8>, number: usize) -> Result<(), AllocError> {
+    push_line(told, format!(in alloc; "{number}")?.as_str())
+}
+
+// Tells how many marks a run had, and its status.
+fn tell_end(alloc: Global, told: &mut Vec<u8>, marks: u32, status: u32) -> Result<(), AllocError> {
+    push_line(
+        told,
+        format!(in alloc; "{marks} marks, status {status}")?.as_str(),
+    )
+}
+
+// Tells where a block was handed over for another run, or to another device.
+fn tell_foreign(told: &mut Vec<u8>, held: &[HandOver]) -> Result<(), AllocError> {
+    for taken in held {
+        if taken.run != 3 || taken.device.as_str() != "LPA0" {
+            push_line(told, "another run or device")?;
+        }
+    }
+    Ok(())
+}
+
+// Tells the pages of a work, one behind the other.
+fn tell_pages_of(alloc: Global, told: &mut Vec<u8>, work: &Work) -> Result<(), AllocError>
+    requires { IsWithinLimits work.now }
+{
+    for block in &page_blocks(alloc, work)? {
+        told.extend_from_slice(block)?;
+    }
+    push_line(told, "")
+}
+
 impl Job {
     /// A print job of no text.
     pub(crate) fn new(alloc: Global) -> Job {
@@ -96,8 +150,8 @@ impl Job {
         }
     }
 
-    /// The shape of these numbers: length, width, top, bottom, left, right, and 1 where lines go on.
-    pub(crate) fn set_shape(&mut self, numbers: &[u64]) {
+    // The shape of these numbers: length, width, top, bottom, left, right, and 1 where lines go on.
+    fn set_shape(&mut self, numbers: &[u64]) {
         if let [length, width, top, bottom, left, right, wrap] = numbers {
             self.shape = Shape {
                 length: (*length % 256) as u8,
@@ -130,57 +184,86 @@ impl Job {
         }
     }
 
-    // The marks of a run with this text, how many they are, and the status of the end; and what the device took.
-    fn run(
-        &mut self,
-        alloc: Global,
-        text: &[u8],
-        told: &mut Vec<u8>,
-    ) -> Result<(u32, u32), AllocError> {
-        let work = self.work(text.to_vec(alloc)?);
-        let mut symbiont = Standard::new(
-            alloc,
-            MemoryDevice::new(alloc, self.fails.to_vec(alloc)?),
-        );
-        self.handed.clear();
-        if !is_within_limits(&work) {
-            return Ok((0, 0));
-        }
-        let end = carry_out(&mut symbiont, &work, told)?;
-        self.blocks = symbiont.device().held().len();
-        for taken in symbiont.device().held() {
-            if taken.run != 3 || taken.device.as_str() != "LPA0" {
-                push_line(told, "another run or device")?;
-            }
+    // Keeps what a device took.
+    fn take(&mut self, held: &[HandOver]) -> Result<(), AllocError> {
+        self.blocks = held.len();
+        for taken in held {
             self.handed.extend_from_slice(taken.block.as_slice())?;
         }
+        Ok(())
+    }
+
+    // The marks of a run of this work by a symbiont, how many they are, and the status of the end; and what the device took.
+    fn run_by(
+        &mut self,
+        symbiont: &mut Standard<MemoryDevice>,
+        work: &Work,
+        told: &mut Vec<u8>,
+    ) -> Result<(u32, u32), AllocError>
+        requires { IsWithinLimits work.now }
+    {
+        let end = carry_out(symbiont, work, told)?;
+        let held = symbiont.device().held();
+        tell_foreign(told, held)?;
+        self.take(held)?;
         Ok(end)
     }
 
-    /// Tells how many marks the run has and its status, and the marks of a batch job.
-    pub(crate) fn tell_run(&mut self, alloc: Global, told: &mut Vec<u8>) -> Result<(), AllocError> {
+    // The same by a symbiont over a device that fails at the calls of the job.
+    fn run_work(
+        &mut self,
+        alloc: Global,
+        work: &Work,
+        told: &mut Vec<u8>,
+    ) -> Result<(u32, u32), AllocError>
+        requires { IsWithinLimits work.now }
+    {
+        let device = MemoryDevice::new(alloc, self.fails.to_vec(alloc)?);
+        let mut symbiont = Standard::new(alloc, device);
+        self.run_by(&mut symbiont, work, told)
+    }
+
+    // The same of a run with this text.
+    fn run(
+        &mut self,
+        alloc: Global,
+        text: Vec<u8>,
+        told: &mut Vec<u8>,
+    ) -> Result<(u32, u32), AllocError> {
+        let work = self.work(text);
+        self.handed.clear();
+        if is_within_limits(&work) {
+            self.run_work(alloc, &work, told)
+        } else {
+            Ok((0, 0))
+        }
+    }
+
+    // Tells how many marks the run has and its status, and the marks of a batch job.
+    fn tell_run(&mut self, alloc: Global, told: &mut Vec<u8>) -> Result<(), AllocError> {
         let mut marked = Vec::new(alloc);
         let text = self.text.to_vec(alloc)?;
-        let (marks, status) = self.run(alloc, &text, &mut marked)?;
-        let line = format!(in alloc; "{marks} marks, status {status}")?;
-        push_line(told, line.as_str())?;
+        let (marks, status) = self.run(alloc, text, &mut marked)?;
+        tell_end(alloc, told, marks, status)?;
         if self.kind == JobKind::Batch {
             told.extend_from_slice(&marked)?;
         }
         Ok(())
     }
 
-    /// Tells the status of the run of each front of the text, from one byte on, where it is another than that of the one before.
-    pub(crate) fn tell_cuts(
-        &mut self,
-        alloc: Global,
-        told: &mut Vec<u8>,
-    ) -> Result<(), AllocError> {
+    // The status of the run of the first bytes of the text, so many.
+    fn status_of_cut(&mut self, alloc: Global, size: usize) -> Result<u32, AllocError> {
+        let mut marked = Vec::new(alloc);
+        let text = self.text.get(..size).unwrap_or(&[]).to_vec(alloc)?;
+        let (_, status) = self.run(alloc, text, &mut marked)?;
+        Ok(status)
+    }
+
+    // Tells the status of the run of each front of the text, from one byte on, where it is another than that of the one before.
+    fn tell_cuts(&mut self, alloc: Global, told: &mut Vec<u8>) -> Result<(), AllocError> {
         let mut before = 0;
-        let text = self.text.to_vec(alloc)?;
-        for size in 1..=text.len() {
-            let mut marked = Vec::new(alloc);
-            let (_, status) = self.run(alloc, text.get(..size).unwrap_or(&[]), &mut marked)?;
+        for size in 1..=self.text.len() {
+            let status = self.status_of_cut(alloc, size)?;
             if status != before {
                 push_line(told, format!(in alloc; "{size}: status {status}")?.as_str())?;
             }
@@ -189,15 +272,78 @@ impl Job {
         Ok(())
     }
 
-    /// Tells the pages of a print job.
-    pub(crate) fn tell_pages(&self, alloc: Global, told: &mut Vec<u8>) -> Result<(), AllocError> {
+    // Tells the pages of a print job.
+    fn tell_pages(&self, alloc: Global, told: &mut Vec<u8>) -> Result<(), AllocError> {
         let work = self.work(self.text.to_vec(alloc)?);
         if is_within_limits(&work) {
-            for block in &page_blocks(alloc, &work)? {
-                told.extend_from_slice(block)?;
-            }
-            told.push(b'\n')?;
+            tell_pages_of(alloc, told, &work)
+        } else {
+            Ok(())
         }
+    }
+
+    // Takes the calls at which the device fails.
+    fn read_fails(&mut self, alloc: Global, text: &str) -> Result<(), AllocError> {
+        self.fails = numbers(alloc, text)?;
         Ok(())
+    }
+
+    // Takes the numbers of the shape.
+    fn read_shape(&mut self, alloc: Global, text: &str) -> Result<(), AllocError> {
+        self.set_shape(&numbers(alloc, text)?);
+        Ok(())
+    }
+
+    // Sets a number, a kind or whether something is so, where a verb says that of the job.
+    fn set(&mut self, verb: &str, text: &str) -> bool {
+        match verb {
+            "print" => self.kind = JobKind::Print,
+            "batch" => self.kind = JobKind::Batch,
+            "copies" => self.copies = text.parse::<u8>().unwrap_or(0),
+            "flag" => self.flag = text == "yes",
+            "again" => self.again = text == "yes",
+            _ => return false,
+        }
+        true
+    }
+
+    // Reads what a verb says of the job, or tells what it asks for.
+    fn read_or_tell(
+        &mut self,
+        alloc: Global,
+        told: &mut Vec<u8>,
+        verb: &str,
+        text: &str,
+    ) -> Result<(), AllocError> {
+        match verb {
+            "shape" => self.read_shape(alloc, text),
+            "mark" => refill(&mut self.mark, text),
+            "fails" => self.read_fails(alloc, text),
+            "text" => refill(&mut self.text, text),
+            "repeat" => refill_times(alloc, &mut self.text, text),
+            "run" => self.tell_run(alloc, told),
+            "handed" => tell_bytes(told, &self.handed),
+            "blocks" => tell_number(alloc, told, self.blocks),
+            "pages" => self.tell_pages(alloc, told),
+            "cuts" => self.tell_cuts(alloc, told),
+            "two-runs" => tell_two_runs(alloc, told, text == "cut short"),
+            "" | "#" => Ok(()),
+            _ => push_line(told, "no such verb"),
+        }
+    }
+
+    /// Sets what a verb says of the job, or tells what it asks for.
+    pub(crate) fn tell(
+        &mut self,
+        alloc: Global,
+        told: &mut Vec<u8>,
+        verb: &str,
+        text: &str,
+    ) -> Result<(), AllocError> {
+        if self.set(verb, text) {
+            Ok(())
+        } else {
+            self.read_or_tell(alloc, told, verb, text)
+        }
     }
 }

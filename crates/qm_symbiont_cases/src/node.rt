@@ -39,6 +39,20 @@ fn learn_two<Y: Symbiont>(
     runs.learn(symbiont, 10, duties)
 }
 
+// Tells which run made a step, and its status if it has ended.
+fn tell_made(
+    alloc: Global,
+    told: &mut Vec<u8>,
+    run: u64,
+    status: Option<u32>,
+) -> Result<(), AllocError> {
+    let line = match status {
+        Some(status) => format!(in alloc; "run {run}: status {status}")?,
+        None => format!(in alloc; "run {run}: mark")?,
+    };
+    push_line(told, line.as_str())
+}
+
 // Makes the next step, whose report is answered as done, and tells its run, and its status if it has ended; or that no run may
 // step.
 fn tell_step<Y: Symbiont>(
@@ -58,24 +72,21 @@ fn tell_step<Y: Symbiont>(
         Report::Done { status } => Some(status),
     };
     runs.told(status.is_none());
-    match status {
-        Some(status) => push_line(
-            told,
-            format!(in alloc; "run {run}: status {status}")?.as_str(),
-        ),
-        None => push_line(told, format!(in alloc; "run {run}: mark")?.as_str()),
-    }
+    tell_made(alloc, told, run, status)
 }
 
-/// Tells the steps of two runs, a print job of two pages and a batch job that ends with status 2, the runs that are known before
-/// and behind them, the steps that are left of ten, and how many blocks were handed over. The first may be cut short; both are paused then.
-pub(crate) fn tell_two_runs(
+// Learns a print job of two pages as run 1, which may be cut short, and a batch job that ends with status 2 as run 2; both are paused
+// where the first is cut short.
+fn learn_both<Y: Symbiont>(
     alloc: Global,
     told: &mut Vec<u8>,
+    runs: &mut NodeRuns<Y>,
+    symbiont: &Y,
     cut_short: bool,
-) -> Result<(), AllocError> {
-    let mut symbiont = Standard::new(alloc, MemoryDevice::new(alloc, Vec::new(alloc)));
-    let mut runs = NodeRuns::new(alloc);
+) -> Result<(), AllocError>
+    requires { runs.old.made ≡ None }
+    ensures { runs.new.made ≡ None }
+{
     let pages = work_of(alloc, 1, JobKind::Print, b"ab")?;
     let lines = work_of(alloc, 2, JobKind::Batch, b"$ EXIT 2")?;
     if !is_within_limits(&pages) || !is_within_limits(&lines) {
@@ -93,15 +104,58 @@ pub(crate) fn tell_two_runs(
         paused: cut_short,
         work: Some(lines),
     };
-    learn_two(alloc, &mut runs, &symbiont, first, second)?;
+    learn_two(alloc, runs, symbiont, first, second)
+}
+
+// Tells the runs that are known.
+fn tell_known<Y: Symbiont>(
+    alloc: Global,
+    told: &mut Vec<u8>,
+    runs: &NodeRuns<Y>,
+) -> Result<(), AllocError> {
     let known = runs.known()?;
-    push_line(told, format!(in alloc; "known {known:?}")?.as_str())?;
-    for _ in 0..4 {
-        tell_step(alloc, &mut runs, &mut symbiont, told)?;
-    }
+    push_line(told, format!(in alloc; "known {known:?}")?.as_str())
+}
+
+// Tells the runs that are known, the steps that are left, and how many blocks were handed over.
+fn tell_left<Y: Symbiont>(
+    alloc: Global,
+    told: &mut Vec<u8>,
+    runs: &NodeRuns<Y>,
+    handed: usize,
+) -> Result<(), AllocError> {
     let known = runs.known()?;
     let left = runs.steps_left();
-    let handed = symbiont.device().held().len();
     let line = format!(in alloc; "known {known:?}, {left} steps left, {handed} blocks")?;
     push_line(told, line.as_str())
+}
+
+// Tells four steps, and the runs that are known before them.
+fn tell_steps<Y: Symbiont>(
+    alloc: Global,
+    told: &mut Vec<u8>,
+    runs: &mut NodeRuns<Y>,
+    symbiont: &mut Y,
+) -> Result<(), AllocError>
+    requires { runs.old.made ≡ None }
+{
+    tell_known(alloc, told, runs)?;
+    for _ in 0..4 {
+        tell_step(alloc, runs, symbiont, told)?;
+    }
+    Ok(())
+}
+
+/// Tells the steps of two runs, a print job of two pages and a batch job that ends with status 2, the runs that are known before
+/// and behind them, the steps that are left of ten, and how many blocks were handed over. The first may be cut short; both are paused then.
+pub(crate) fn tell_two_runs(
+    alloc: Global,
+    told: &mut Vec<u8>,
+    cut_short: bool,
+) -> Result<(), AllocError> {
+    let mut symbiont = Standard::new(alloc, MemoryDevice::new(alloc, Vec::new(alloc)));
+    let mut runs = NodeRuns::new(alloc);
+    learn_both(alloc, told, &mut runs, &symbiont, cut_short)?;
+    tell_steps(alloc, told, &mut runs, &mut symbiont)?;
+    tell_left(alloc, told, &runs, symbiont.device().held().len())
 }
