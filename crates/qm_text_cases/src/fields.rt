@@ -1,4 +1,5 @@
 // Fields, as they stand in bytes.
+use crate::lines::tell_number;
 use qm_bytes::{
     BadField, Width, put_file_name, put_long_bytes, put_mark, put_moment, put_number,
     put_optional_moment, put_optional_name, put_set, put_truth, read_byte, read_file_name,
@@ -124,6 +125,16 @@ pub(crate) fn tell_copied(
     )
 }
 
+// Tells a number that was taken, and the place behind it.
+fn tell_taken(
+    alloc: Global,
+    told: &mut Vec<u8>,
+    number: u64,
+    next: usize,
+) -> Result<(), AllocError> {
+    push_line(told, format!(in alloc; "{number}, then {next}")?.as_str())
+}
+
 /// Tells the number of so many bytes, one or two, that is taken at a place.
 pub(crate) fn tell_number_at(
     alloc: Global,
@@ -133,9 +144,7 @@ pub(crate) fn tell_number_at(
 ) -> Result<(), AllocError> {
     let width = if count == 1 { Width::One } else { Width::Two };
     match take_number(bytes, place, width) {
-        Some((number, next)) => {
-            push_line(told, format!(in alloc; "{number}, then {next}")?.as_str())
-        }
+        Some((number, next)) => tell_taken(alloc, told, number, next),
         None => push_line(told, "none"),
     }
 }
@@ -148,7 +157,7 @@ pub(crate) fn tell_name_at(
     place: usize,
 ) -> Result<(), AllocError> {
     match take_name(bytes, place) {
-        Some((_name, next)) => push_line(told, format!(in alloc; "then {next}")?.as_str()),
+        Some((_name, next)) => tell_number(alloc, told, "then", next as u64),
         None => push_line(told, "none"),
     }
 }

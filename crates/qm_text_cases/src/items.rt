@@ -10,7 +10,7 @@ use std::alloc::{AllocError, Global};
 const END: &str = "00000000";
 
 // What becomes of an item of a list.
-#[derive(Clone, Copy, PartialEq, Eq)]
+#[derive(Clone, Copy)]
 enum Change {
     // Its value loses its last byte.
     Shorter,
@@ -47,6 +47,11 @@ pub(crate) fn bytes_of(alloc: Global, words: &str) -> Result<Vec<u8>, AllocError
     let mut bytes = Vec::new(alloc);
     push_words(alloc, &mut bytes, words)?;
     Ok(bytes)
+}
+
+// What stands in front of a mark, and behind it.
+fn parted<'a>(text: &'a str, mark: &str) -> (&'a str, &'a str) {
+    text.split_once(mark).unwrap_or((text, ""))
 }
 
 // What is wrong with bytes that are no list.
@@ -137,7 +142,7 @@ fn tell_same(
     function: u16,
     text: &str,
 ) -> Result<(), AllocError> {
-    let (list, command) = text.split_once(" $ ").unwrap_or((text, ""));
+    let (list, command) = parted(text, " $ ");
     let mut typed = Vec::new(alloc);
     let asks = tell_typed(alloc, &mut typed, command.as_bytes(), now())?;
     tell_beside_typed(alloc, told, function, &bytes_of(alloc, list)?, asks, &typed)
@@ -222,12 +227,15 @@ fn push_list_changed(
     changed: usize,
     change: Change,
 ) -> Result<(), AllocError> {
-    for (index, word) in list.split_whitespace().enumerate() {
-        if index == changed {
-            push_changed(alloc, bytes, word, change)?;
+    let mut index = 0usize;
+    for word in list.split_whitespace() {
+        let end = if index == changed {
+            push_changed(alloc, bytes, word, change)
         } else {
-            push_word(alloc, bytes, word)?;
-        }
+            push_word(alloc, bytes, word)
+        };
+        end?;
+        index = index.saturating_add(1);
     }
     Ok(())
 }
@@ -248,7 +256,10 @@ fn tell_changed_at(
 
 // Whether a word is an item, and of a value that can get shorter where it is to.
 fn can_change(word: &str, change: Change) -> bool {
-    word != END && (change != Change::Shorter || !word.starts_with("0000"))
+    match change {
+        Change::Shorter => word != END && !word.starts_with("0000"),
+        Change::Longer | Change::Twice => word != END,
+    }
 }
 
 // Tells of a list with each of its items changed in turn.
@@ -259,10 +270,12 @@ fn tell_changed(
     list: &str,
     change: Change,
 ) -> Result<(), AllocError> {
-    for (index, word) in list.split_whitespace().enumerate() {
+    let mut index = 0usize;
+    for word in list.split_whitespace() {
         if can_change(word, change) {
             tell_changed_at(alloc, told, function, list, index, change)?;
         }
+        index = index.saturating_add(1);
     }
     Ok(())
 }
@@ -336,7 +349,7 @@ fn tell_altered(
 // Adds a list that has so many times the second word behind the first.
 fn push_many(alloc: Global, bytes: &mut Vec<u8>, text: &str) -> Result<(), AllocError> {
     let (times, words) = number_and_rest(text);
-    let (front, piece) = words.split_once(" ").unwrap_or((words, ""));
+    let (front, piece) = parted(words, " ");
     push_words(alloc, bytes, front)?;
     push_times(bytes, times, &bytes_of(alloc, piece)?)?;
     push_word(alloc, bytes, END)
