@@ -3,4 +3,4 @@ use Rattle.qm_symbiont_cases.proofs.node.tell_steps.Given as goal
 
 -- the report of the last step is told
 abbrev pub invariant-loop : goal.invariant-loop
-invariant-loop l = l.runs.made ≡ None
+invariant-loop g l = l.runs.made ≡ None
