@@ -21,10 +21,14 @@ maker_of node now asked = record { node = node; why = why_of asked; moment = now
 abbrev pub wanted_by : ℕ → ℕ → Call → Wanted
 wanted_by node now asked = record { maker = maker_of node now asked; input = input_of asked; leaves = is_leave asked }
 
--- the turn of these events, if there are any
+-- the turn of these events
+abbrev pub turn_of : Maker → List Event → Turn
+turn_of maker events = record { node = maker.node; why = maker.why; moment = maker.moment; events = events }
+
+-- the same, if there are any
 abbrev pub turn_made : Maker → List Event → Option Turn
 turn_made maker [] = None
-turn_made maker (e ∷ events) = Some (record { node = maker.node; why = maker.why; moment = maker.moment; events = e ∷ events })
+turn_made maker (e ∷ events) = Some (turn_of maker (e ∷ events))
 
 -- what the call came to, with what the chest then works with
 abbrev pub served_of : {D : Type 0} → State D → Outcome → Served D

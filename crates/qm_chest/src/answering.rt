@@ -14,7 +14,6 @@ use qm_history::{Answer, Event, Takeover};
 use qm_kinds::{Input, Moment, Refusal, Request};
 
 /// What a step of a manager came to, which stays in its place: the step's event, unless memory was short, and its answer.
-#[derive(Drop)]
 pub struct Step {
     pub(crate) event: Option<Event>,
     pub(crate) answer: Answer,

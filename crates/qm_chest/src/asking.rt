@@ -23,7 +23,6 @@ use qm_model::nodes_keep_their_names;
 use qm_restore::site_files_are_accepted;
 
 /// What one step of a call came to: its event, unless memory was short, and its answer.
-#[derive(Drop)]
 pub struct Came<D> {
     pub(crate) desk: Desk<D>,
     pub(crate) event: Option<Event>,

@@ -1,7 +1,8 @@
 // What is kept of the nodes: which are live, the epochs that they hold, and the greatest epoch.
-ghost use Rattle.std.specs.Prelude.{◌≡◌, ◌==◌, ◌&&◌, not, ◌<◌, ◌↔◌, false, map, true, slice_get, unwrap_or, IfOk, Some, vec_len};
+ghost use Rattle.std.specs.Prelude.{◌≡◌, ◌==◌, ◌&&◌, not, ◌<◌, ◌↔◌, false, true, slice_get, unwrap_or, IfOk, Some, vec_len};
 ghost use Rattle.std.specs.List.{list_all};
 
+use crate::nodes::names_of_all;
 use qm_kinds::{Input, Name, Node};
 use std::alloc::{AllocError, Global};
 
@@ -20,13 +21,6 @@ pub struct Book {
     ghost all_held: { vec_len held ≡ vec_len names },
 }
 
-// The names of nodes.
-fn names_of(alloc: Global, nodes: &[Node]) -> Result<Vec<Name>, AllocError>
-    ensures { IfOk result (λ names. names.items ≡ map (λ n. n.name) nodes.now) }
-{
-    nodes.iter().map(|node| node.name).collect(alloc)
-}
-
 impl Book {
     ghost use Rattle.qm_history.specs.Calls.{is_start};
     ghost use Rattle.qm_chest.specs.Checking.{IsFirstBook};
@@ -35,7 +29,7 @@ impl Book {
     pub(crate) fn new(alloc: Global, nodes: &[Node], greatest: u64) -> Result<Book, AllocError>
         ensures { IfOk result (IsFirstBook nodes.now greatest) }
     {
-        let names = names_of(alloc, nodes)?;
+        let names = names_of_all(alloc, nodes)?;
         let live = vec![in alloc; true; nodes.len()]?;
         let held = vec![in alloc; 0; nodes.len()]?;
         Ok(Book {

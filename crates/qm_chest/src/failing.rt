@@ -36,6 +36,18 @@ fn failed<D>(
     }
 }
 
+// What is answered where the files couldn't be read.
+fn unread_answer(live: bool, fault: LoadFault) -> Answer
+    ensures { result ≡ unread_answer live fault }
+{
+    match fault {
+        LoadFault::Disk => Answer::Journal { took: None, live },
+        LoadFault::Unformatted { .. } => Answer::Damaged { file: 0, place: 0 },
+        LoadFault::Damaged { file, place } => Answer::Damaged { file, place },
+        LoadFault::NoMemory => Answer::NoMemory { took: None },
+    }
+}
+
 impl Book {
     // What is told of it.
     fn told(&self, tried: u64, kept: Option<bool>) -> Option<Takeover>
@@ -63,15 +75,7 @@ impl Book {
         ensures { result ≡ failed closed place node self.now.greatest None None
             (unread_answer (unwrap_or (slice_get self.now.live.items node) false) fault) }
     {
-        let answer = match fault {
-            LoadFault::Disk => Answer::Journal {
-                took: None,
-                live: self.is_live(node),
-            },
-            LoadFault::Unformatted { .. } => Answer::Damaged { file: 0, place: 0 },
-            LoadFault::Damaged { file, place } => Answer::Damaged { file, place },
-            LoadFault::NoMemory => Answer::NoMemory { took: None },
-        };
+        let answer = unread_answer(self.is_live(node), fault);
         failed(closed, place, node, self.greatest, None, None, answer)
     }
 

@@ -50,8 +50,8 @@ fn names_where(
     Ok(names)
 }
 
-// The names of all nodes.
-fn names_of_all(alloc: Global, nodes: &[Node]) -> Result<Vec<Name>, AllocError>
+/// The names of all nodes.
+pub(crate) fn names_of_all(alloc: Global, nodes: &[Node]) -> Result<Vec<Name>, AllocError>
     ensures { IfOk result (λ names. names.items ≡ map (λ n. n.name) nodes.now) }
 {
     nodes.iter().map(|node| node.name).collect(alloc)

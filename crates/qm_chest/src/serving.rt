@@ -22,24 +22,11 @@ use qm_model::nodes_keep_their_names;
 use qm_restore::site_files_are_accepted;
 
 /// What a call came to: up to two events, none where memory was short and nothing has changed, and its answer.
-#[derive(Drop)]
 pub struct Served<D> {
     pub(crate) desk: Desk<D>,
     pub(crate) first: Option<Event>,
     pub(crate) second: Option<Event>,
     pub(crate) answer: Answer,
-}
-
-// One event, and its answer.
-fn one<D>(desk: Desk<D>, event: Event, answer: Answer) -> Served<D>
-    ensures { result ≡ record { desk = desk; first = Some event; second = None; answer = answer } }
-{
-    Served {
-        desk,
-        first: Some(event),
-        second: None,
-        answer,
-    }
 }
 
 // A call that is refused before a system is asked: it has the reading's moment.
@@ -52,19 +39,20 @@ fn refused<D>(desk: Desk<D>, node: u8, moment: Moment, input: Input, refusal: Re
     } }
 {
     let told = same(&refusal);
-    one(
+    Served {
         desk,
-        Event::Refused {
+        first: Some(Event::Refused {
             node,
             moment,
             input,
             refusal,
-        },
-        Answer::Refused {
+        }),
+        second: None,
+        answer: Answer::Refused {
             took: None,
             refusal: told,
         },
-    )
+    }
 }
 
 // A call whose line can't be read.

@@ -1,7 +1,7 @@
 // What a call makes of what the chest works with, and how its turn is kept.
-ghost use Rattle.std.specs.Prelude.{◌≡◌, ◌<◌, ◌≤◌, ◌++◌, [], true, None, IfErr, IfOk, OnOk, length, option_to_list, vec_capacity, vec_len};
+ghost use Rattle.std.specs.Prelude.{◌≡◌, ◌<◌, ◌≤◌, ◌++◌, ◌∷◌, [], true, None, IfErr, IfOk, OnOk, length, option_to_list, vec_capacity, vec_len};
 ghost use Rattle.qm_history.specs.Chest.{MayLeaveNone, turns_kept};
-ghost use Rattle.qm_chest.specs.Serving.{CanServe, Serving, is_step_alone, most_events, turn_made};
+ghost use Rattle.qm_chest.specs.Serving.{CanServe, Serving, is_step_alone, most_events, turn_made, turn_of};
 ghost use Rattle.qm_chest.specs.Whole.{both};
 
 use crate::answering::Step;
@@ -142,6 +142,15 @@ pub(crate) fn keep(
     if let Some(second) = second {
         events.push_reserved(second);
     }
+    add(turns, maker, events);
+}
+
+// Adds the turn of these events.
+fn add(turns: &mut Vec<Turn>, maker: Maker, events: Vec<Event>)
+    requires { vec_len turns.old < vec_capacity turns.old }
+    ensures { turns.new.items ≡ turns.old.items ++ turn_of maker events.items ∷ [] }
+{
+    let mut events = events;
     events.shrink_to_fit();
     turns.push_reserved(Turn {
         node: maker.node,

@@ -8,7 +8,6 @@ use qm_history::{Event, Takeover};
 use qm_kinds::{Moment, Name, Reply, Request, Seq, Start};
 
 /// The manager at work behind a takeover, what its record says, what was found of a record in doubt, and the jobs that started.
-#[derive(Drop)]
 pub struct Taken<D> {
     pub(crate) manager: Manager<D>,
     pub(crate) moment: Moment,

@@ -33,7 +33,6 @@ pub struct Wanted {
 }
 
 /// The events of a call, none where memory was short and nothing has changed, and its answer.
-#[derive(Drop)]
 pub struct Outcome {
     pub(crate) first: Option<Event>,
     pub(crate) second: Option<Event>,
