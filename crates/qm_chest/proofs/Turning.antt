@@ -38,7 +38,7 @@ module _ {D : Type 0} (m : Meaning D) (w : World) (node reading : ℕ) (asked : 
 
     nothing_compacted : (file : Option ℕ) → file ≡ None → CompactsFiles IsLog HasSpelling record_text m (after_turn w t) old new file
     nothing_compacted None none = tt
-    nothing_compacted (Some file) none = cc
+    nothing_compacted (Some file) none = absurd cc
 
     pub adds : (told : Answer) → MayAnswer HasSpelling w asked t told → ((file place : ℕ) → told ≡ answer.Damaged file place → ⊥) → (tells_disk_fault events ≡ false → failed ≡ false) → compacted_by events ≡ None
         → AddsTurn IsLog HasSpelling record_text m w old new asked t told
