@@ -1,12 +1,16 @@
 // Entries that come, change and go.
+ghost use Rattle.std.specs.Prelude.{◌≡◌, []};
+
 use crate::rows::job;
 use qm_entries::EntryTable;
 use qm_kinds::{Entry, EntryState, Mark, Moment, batch_queue, print_queue};
+use std::process::Abort;
 use std::test::Fail;
 
-#[test]
-fn entries_stand_by_number(rt: HostRuntime) -> Result<(), Fail> {
-    let mut table = EntryTable::new(rt.alloc());
+// Two entries come, stand by number, change, and one goes.
+fn stand_by_number(rt: &impl Abort, table: &mut EntryTable) -> Result<(), Fail>
+    requires { table.old.entries ≡ [] }
+{
     table.reserve()?;
     table.insert(job(5, 100));
     table.reserve()?;
@@ -31,8 +35,15 @@ fn entries_stand_by_number(rt: HostRuntime) -> Result<(), Fail> {
 }
 
 #[test]
-fn first_entries_go_while_others_come(rt: HostRuntime) -> Result<(), Fail> {
+fn entries_stand_by_number(rt: HostRuntime) -> Result<(), Fail> {
     let mut table = EntryTable::new(rt.alloc());
+    stand_by_number(&rt, &mut table)
+}
+
+// The first entries go, while others come.
+fn come_and_go(rt: &impl Abort, table: &mut EntryTable) -> Result<(), Fail>
+    requires { table.old.entries ≡ [] }
+{
     table.reserve()?;
     table.insert(job(1, 100));
     table.reserve()?;
@@ -59,9 +70,15 @@ fn first_entries_go_while_others_come(rt: HostRuntime) -> Result<(), Fail> {
 }
 
 #[test]
-fn a_moment_a_merge_and_the_end_of_a_queue_sweep_the_entries(rt: HostRuntime) -> Result<(), Fail> {
-    let due = Moment::BASE;
+fn first_entries_go_while_others_come(rt: HostRuntime) -> Result<(), Fail> {
     let mut table = EntryTable::new(rt.alloc());
+    come_and_go(&rt, &mut table)
+}
+
+// A moment, a merge and the end of a queue sweep two entries.
+fn sweep(rt: &impl Abort, table: &mut EntryTable, due: Moment) -> Result<(), Fail>
+    requires { table.old.entries ≡ [] }
+{
     table.reserve()?;
     table.insert(Entry {
         state: EntryState::Timed { at: due },
@@ -85,4 +102,10 @@ fn a_moment_a_merge_and_the_end_of_a_queue_sweep_the_entries(rt: HostRuntime) ->
     table.remove_of_home(&print_queue());
     assert!(rt; table.as_slice().is_empty());
     Ok(())
+}
+
+#[test]
+fn a_moment_a_merge_and_the_end_of_a_queue_sweep_the_entries(rt: HostRuntime) -> Result<(), Fail> {
+    let mut table = EntryTable::new(rt.alloc());
+    sweep(&rt, &mut table, Moment::BASE)
 }

@@ -1,29 +1,47 @@
 // Forms and characteristics that are defined, found and deleted.
+ghost use Rattle.std.specs.Prelude.{◌≡◌, []};
+
 use crate::rows::form;
 use qm_forms::FormTable;
 use qm_kinds::{Characteristic, NameOrNumber, batch_queue, print_queue, system_user};
+use std::alloc::{AllocError, Global};
 use std::test::Fail;
+
+// Defines the form 7 and the characteristic 5, both of the name `SYS$BATCH`, the first ones.
+fn define(table: &mut FormTable) -> Result<(), AllocError>
+    requires forms { table.old.forms ≡ [] }
+    requires characteristics { table.old.characteristics ≡ [] }
+{
+    let name = batch_queue();
+    table.reserve_form()?;
+    table.define_form(form(name, 7));
+    table.reserve_characteristic()?;
+    table.define_characteristic(Characteristic { name, number: 5 });
+    Ok(())
+}
+
+// Whether a copy of the forms has this one.
+fn is_in_copy(alloc: Global, table: &FormTable, form: &NameOrNumber) -> Result<bool, AllocError> {
+    let copy = FormTable::of(alloc, table.forms(), &[])?;
+    Ok(copy.form(form).is_some())
+}
 
 #[test]
 fn forms_are_found(rt: HostRuntime) -> Result<(), Fail> {
     let (name, other) = (batch_queue(), system_user());
     let mut table = FormTable::new(rt.alloc());
-    table.reserve_form()?;
-    table.define_form(form(name, 7));
-    table.reserve_characteristic()?;
-    table.define_characteristic(Characteristic { name, number: 5 });
+    define(&mut table)?;
     let wanted = [NameOrNumber::Name(name), NameOrNumber::Number(5)];
     assert!(rt; table.form(&NameOrNumber::Number(7)).is_some());
     assert!(rt; table.stock_of(&name) == Some(print_queue()));
     assert!(rt; table.characteristic(&wanted[1]).is_some());
     assert!(rt; table.refused_characteristics(&wanted).is_none());
     assert!(rt; table.set_of(&wanted).contains(5));
-    let copy = FormTable::of(rt.alloc(), table.forms(), &[])?;
-    assert!(rt; copy.form(&wanted[0]).is_some());
-    table.delete_form(&other);
-    assert!(rt; table.forms().len() == 1);
-    table.delete_form(&name);
-    assert!(rt; table.forms().is_empty());
+    assert!(rt; is_in_copy(rt.alloc(), &table, &wanted[0])?);
+    for (name, left) in [(other, 1), (name, 0)] {
+        table.delete_form(&name);
+        assert!(rt; table.forms().len() == left);
+    }
     table.delete_characteristic(&name);
     assert!(rt; table.characteristics().is_empty());
     Ok(())

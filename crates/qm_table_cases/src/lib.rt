@@ -24,4 +24,6 @@ mod runs;
 #[cfg(test)]
 mod settling;
 #[cfg(test)]
+mod sites;
+#[cfg(test)]
 mod timers;

@@ -8,15 +8,6 @@ use qm_match::{Key, Schedule, before, is_same_stock, passes_on_to, suits};
 use std::alloc::{AllocError, Global};
 use std::test::Fail;
 
-// A print job of two blocks, with the characteristics of numbers 0 and 2.
-fn job(home: Name) -> Entry {
-    Entry {
-        kind: JobKind::Print,
-        home,
-        ..rows::job(1, 100)
-    }
-}
-
 // A started print queue with the characteristics of numbers 0, 1 and 2, for jobs of one or two blocks.
 fn printer(alloc: Global) -> Queue {
     Queue {
@@ -25,9 +16,34 @@ fn printer(alloc: Global) -> Queue {
     }
 }
 
-// A generic queue that passes its jobs on to the print queue, in this state.
-fn generic(alloc: Global, state: QueueState) -> Result<Queue, AllocError> {
-    Ok(Queue {
+#[test]
+fn jobs_suit_a_queue_by_state_kind_characteristics_and_size(rt: HostRuntime) {
+    let queue = printer(rt.alloc());
+    // A job by its state, its kind, the set of its characteristics and its size, and whether it suits.
+    let cases = [
+        (EntryState::Pending, JobKind::Print, 5, 2, true),
+        (EntryState::Holding, JobKind::Print, 5, 2, false),
+        (EntryState::Pending, JobKind::Batch, 5, 2, false),
+        (EntryState::Pending, JobKind::Print, 8, 2, false),
+        (EntryState::Pending, JobKind::Print, 5, 3, false),
+        (EntryState::Pending, JobKind::Print, 5, 0, false),
+    ];
+    for (state, kind, characteristics, size, expected) in cases {
+        let entry = Entry {
+            kind,
+            home: print_queue(),
+            size,
+            characteristics: CharacteristicSet(characteristics),
+            state,
+            ..rows::job(1, 100)
+        };
+        assert!(rt; suits(&entry, &queue) == expected);
+    }
+}
+
+// Whether a generic queue in this state, which names the print queue, passes jobs on to the queue of a name.
+fn passes(alloc: Global, state: QueueState, name: &Name) -> Result<bool, AllocError> {
+    let generic = Queue {
         name: batch_queue(),
         kind: QueueKind::GenericPrint,
         state,
@@ -36,72 +52,33 @@ fn generic(alloc: Global, state: QueueState) -> Result<Queue, AllocError> {
         mounted: None,
         targets: Seq::of(vec![in alloc; print_queue()]?),
         ..printer(alloc)
-    })
-}
-
-#[test]
-fn jobs_suit_a_queue_by_state_kind_characteristics_and_size(rt: HostRuntime) {
-    let queue = printer(rt.alloc());
-    let cases = [
-        (job(print_queue()), true),
-        (
-            Entry {
-                state: EntryState::Holding,
-                ..job(print_queue())
-            },
-            false,
-        ),
-        (
-            Entry {
-                kind: JobKind::Batch,
-                ..job(print_queue())
-            },
-            false,
-        ),
-        (
-            Entry {
-                characteristics: CharacteristicSet(8),
-                ..job(print_queue())
-            },
-            false,
-        ),
-        (
-            Entry {
-                size: 3,
-                ..job(print_queue())
-            },
-            false,
-        ),
-        (
-            Entry {
-                size: 0,
-                ..job(print_queue())
-            },
-            false,
-        ),
-    ];
-    for (entry, expected) in cases {
-        assert!(rt; suits(&entry, &queue) == expected);
-    }
+    };
+    Ok(passes_on_to(&generic, name))
 }
 
 #[test]
 fn a_started_generic_queue_passes_jobs_on(rt: HostRuntime) -> Result<(), Fail> {
-    let started = generic(rt.alloc(), QueueState::Started)?;
-    let stopped = generic(rt.alloc(), QueueState::Stopped)?;
-    assert!(rt; passes_on_to(&started, &print_queue()));
-    assert!(rt; !passes_on_to(&started, &batch_queue()));
-    assert!(rt; !passes_on_to(&stopped, &print_queue()));
+    for (state, name, expected) in [
+        (QueueState::Started, print_queue(), true),
+        (QueueState::Started, batch_queue(), false),
+        (QueueState::Stopped, print_queue(), false),
+    ] {
+        assert!(rt; passes(rt.alloc(), state, &name)? == expected);
+    }
     Ok(())
 }
 
 #[test]
 fn stocks_are_the_same_where_both_are_there(rt: HostRuntime) {
     let (white, blue) = (Some(default_form()), Some(system_user()));
-    assert!(rt; is_same_stock(&white, &white));
-    assert!(rt; !is_same_stock(&white, &blue));
-    assert!(rt; !is_same_stock(&white, &None));
-    assert!(rt; !is_same_stock(&None, &None));
+    for (wanted, mounted, expected) in [
+        (&white, &white, true),
+        (&white, &blue, false),
+        (&white, &None, false),
+        (&None, &None, false),
+    ] {
+        assert!(rt; is_same_stock(wanted, mounted) == expected);
+    }
 }
 
 #[test]

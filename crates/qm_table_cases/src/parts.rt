@@ -1,71 +1,116 @@
 // A queue and its job, from their coming to their end.
-use crate::rows::{job, queue};
-use qm_forms::FormTable;
-use qm_kinds::{Characteristic, Fate, QueueState, Seq, batch_queue, system_user};
-use qm_queues::QueueTable;
-use qm_sched::{Parts, TableSet};
+ghost use Rattle.std.specs.Prelude.{◌≡◌, []};
+
+use crate::rows::job;
+use crate::sites::{nodes_alone, put_job, put_queue};
+use qm_kinds::{Characteristic, Fate, Name, QueueState, Seq, batch_queue, system_user};
+use qm_sched::Parts;
 use std::alloc::{AllocError, Global};
+use std::process::Abort;
 use std::test::Fail;
 
-// A characteristic, a queue, and a job that runs in it as run 1.
-fn with_a_run(alloc: Global) -> Result<Parts, AllocError> {
-    let tables = TableSet::new(
-        alloc,
-        Seq::new(alloc),
-        FormTable::new(alloc),
-        QueueTable::new(alloc),
-        1,
-    );
-    let mut parts = Parts::of(alloc, tables)?;
+// Defines a characteristic, the first one.
+fn define(parts: &mut Parts) -> Result<(), AllocError>
+    requires { parts.old.characteristics ≡ [] }
+    ensures entries { parts.new.entries ≡ parts.old.entries }
+    ensures next_run { parts.new.next_run ≡ parts.old.next_run }
+{
     parts.reserve_characteristic()?;
     parts.define_characteristic(Characteristic {
         name: batch_queue(),
         number: 127,
     });
-    let new = queue(alloc, batch_queue());
-    parts.reserve_queue(&new)?;
-    parts.put_queue(new);
+    Ok(())
+}
+
+// Starts a job as run 1, the first job of all.
+fn start_first(parts: &mut Parts) -> Result<(), AllocError>
+    requires entries { parts.old.entries ≡ [] }
+    requires next_run { parts.old.next_run ≡ 1 }
+{
+    put_job(parts, job(7, 100))?;
     parts.reserve_runs(1)?;
-    let job = job(7, 100);
-    parts.reserve_entry(&job.home)?;
-    parts.insert_entry(job);
     parts.start(7, batch_queue(), system_user());
+    Ok(())
+}
+
+// Fills empty tables with a characteristic, a queue, and a job that runs in it as run 1.
+fn fill(alloc: Global, parts: &mut Parts) -> Result<(), AllocError>
+    requires characteristics { parts.old.characteristics ≡ [] }
+    requires entries { parts.old.entries ≡ [] }
+    requires next_run { parts.old.next_run ≡ 1 }
+{
+    define(parts)?;
+    put_queue(alloc, parts)?;
+    start_first(parts)
+}
+
+// A characteristic, a queue, and a job that runs in it as run 1.
+fn with_a_run(alloc: Global) -> Result<Parts, AllocError> {
+    let mut parts = nodes_alone(alloc, Seq::new(alloc), 1)?;
+    fill(alloc, &mut parts)?;
     Ok(parts)
 }
 
-#[test]
-fn a_job_runs(rt: HostRuntime) -> Result<(), Fail> {
-    let (name, node) = (batch_queue(), system_user());
-    let mut parts = with_a_run(rt.alloc())?;
+// Moves the jobs that wait in a queue to another one, and tells how many there were.
+fn merge(parts: &mut Parts, to: &Name, from: &Name) -> Result<usize, AllocError> {
+    let jobs = parts.count_at_home(from);
+    parts.reserve_places(to, jobs)?;
+    Ok(parts.merge(to, from))
+}
+
+// Job 7 runs in the batch queue as run 1, the first of all.
+fn show_run(rt: &impl Abort, parts: &Parts, name: &Name, node: &Name) {
     assert!(rt; parts.next_run() == 2);
     assert!(rt; parts.has_run(1));
-    assert!(rt; parts.places_taken(&name) == 1);
-    assert!(rt; parts.entry_of_run(1, &node).is_some());
-    assert!(rt; parts.running_in(&name, None).is_some());
-    assert!(rt; parts.first_run_for(&name) == Some(7));
-    // A job that runs isn't moved.
-    let jobs = parts.count_at_home(&name);
-    parts.reserve_places(&node, jobs)?;
-    assert!(rt; parts.merge(&node, &name) == 0);
+    assert!(rt; parts.places_taken(name) == 1);
+    assert!(rt; parts.entry_of_run(1, node).is_some());
+    assert!(rt; parts.running_in(name, None).is_some());
+    assert!(rt; parts.first_run_for(name) == Some(7));
+}
+
+// The job that runs isn't moved.
+fn show_and_merge(rt: &impl Abort, parts: &mut Parts) -> Result<(), Fail> {
+    let (name, node) = (batch_queue(), system_user());
+    show_run(rt, parts, &name, &node);
+    assert!(rt; merge(parts, &node, &name)? == 0);
     Ok(())
 }
 
 #[test]
-fn a_job_goes(rt: HostRuntime) -> Result<(), Fail> {
-    let name = batch_queue();
+fn a_job_runs(rt: HostRuntime) -> Result<(), Fail> {
     let mut parts = with_a_run(rt.alloc())?;
-    parts.reset_queue(&name);
-    assert!(rt; parts.running_in(&name, Some(7)).is_none());
+    show_and_merge(&rt, &mut parts)
+}
+
+// Takes out an entry, and says whether it was there. Then each queue that is stopping is stopped once it has no run.
+fn remove(parts: &mut Parts, number: u32) -> bool {
+    let removed = parts.remove_entry(number).is_some();
+    parts.stop_idle();
+    removed
+}
+
+// Job 7 goes, and then its queue, which is stopping. It is stopped once it has no run.
+fn let_go(rt: &impl Abort, parts: &mut Parts, name: &Name) {
+    parts.reset_queue(name);
+    assert!(rt; parts.running_in(name, Some(7)).is_none());
     parts.set_fate(7, Fate::Remove);
-    // A queue that is stopping is stopped once it has no run.
-    parts.set_queue_state(&name, QueueState::Stopping);
-    for (number, state) in [(8, QueueState::Stopping), (7, QueueState::Stopped)] {
-        assert!(rt; parts.remove_entry(number).is_some() == (number == 7));
-        parts.stop_idle();
-        assert!(rt; parts.queue(&name).map(|queue| queue.state) == Some(state));
+    parts.set_queue_state(name, QueueState::Stopping);
+    for (number, is_there, state) in [
+        (8, false, QueueState::Stopping),
+        (7, true, QueueState::Stopped),
+    ] {
+        assert!(rt; remove(parts, number) == is_there);
+        assert!(rt; parts.queue(name).map(|queue| queue.state) == Some(state));
     }
-    assert!(rt; !parts.is_occupied(&name));
-    parts.remove_queue(&name);
+    assert!(rt; !parts.is_occupied(name));
+    parts.remove_queue(name);
     assert!(rt; parts.queue_after(None).is_none());
+}
+
+#[test]
+fn a_job_goes(rt: HostRuntime) -> Result<(), Fail> {
+    let mut parts = with_a_run(rt.alloc())?;
+    let_go(&rt, &mut parts, &batch_queue());
     Ok(())
 }

@@ -1,5 +1,5 @@
 // Rows of keys: which job a queue takes first.
-ghost use Rattle.std.specs.Prelude.{◌≡◌, ◌<◌};
+ghost use Rattle.std.specs.Prelude.{◌≡◌, ◌<◌, []};
 
 use qm_match::{Key, Schedule};
 use qm_ready::{ReadyRow, Steps};
@@ -44,14 +44,22 @@ fn three_jobs(alloc: Global) -> Result<ReadyRow, AllocError> {
     Ok(gathering.into_row())
 }
 
-#[test]
-fn another_schedule_has_another_first_job(rt: HostRuntime) -> Result<(), Fail> {
-    let mut row = ReadyRow::new(rt.alloc(), Schedule::BySize);
-    assert!(rt; first(&row).is_none());
+// Puts in the first two jobs, of which the second is the smaller one.
+fn put_two(row: &mut ReadyRow) -> Result<(), AllocError>
+    requires { row.old.keys ≡ [] }
+{
     row.reserve(1)?;
     row.insert(key(100, 9, 1));
     row.reserve(1)?;
     row.insert(key(100, 2, 2));
+    Ok(())
+}
+
+#[test]
+fn another_schedule_has_another_first_job(rt: HostRuntime) -> Result<(), Fail> {
+    let mut row = ReadyRow::new(rt.alloc(), Schedule::BySize);
+    assert!(rt; first(&row).is_none());
+    put_two(&mut row)?;
     assert!(rt; first(&row) == Some(2));
     row.rebuild(Schedule::ByNumber);
     assert!(rt; first(&row) == Some(1));

@@ -1,29 +1,38 @@
 // Runs that begin and end.
-use qm_kinds::{Run, batch_queue, print_queue, system_user};
+use qm_kinds::{Name, Run, batch_queue, print_queue, system_user};
 use qm_runs::Runs;
+use std::alloc::AllocError;
+use std::process::Abort;
 use std::test::Fail;
 
-#[test]
-fn runs_begin_and_end(rt: HostRuntime) -> Result<(), Fail> {
-    let queue = batch_queue();
-    let node = system_user();
-    let mut runs = Runs::new(rt.alloc(), 7);
-    for number in [4, 2, 6] {
-        runs.reserve()?;
-        assert!(rt; number < runs.next());
-        assert!(rt; runs.find(number).is_none());
-        runs.put(Run {
-            run: number,
-            entry: 10,
-            queue,
-            node,
-        });
-    }
+// Puts in a run of a number that was given and has no run, and says whether it was such a one.
+fn put(runs: &mut Runs, number: u64) -> Result<bool, AllocError> {
     runs.reserve()?;
-    assert!(rt; runs.next() == 7);
-    assert!(rt; runs.start(11, print_queue(), node) == 7);
+    if number >= runs.next() || runs.find(number).is_some() {
+        return Ok(false);
+    }
+    runs.put(Run {
+        run: number,
+        entry: 10,
+        queue: batch_queue(),
+        node: system_user(),
+    });
+    Ok(true)
+}
+
+// Begins a run, and gives its number, if it was 7 that came next.
+fn start_seventh(runs: &mut Runs) -> Result<Option<u64>, AllocError> {
+    runs.reserve()?;
+    if runs.next() != 7 {
+        return Ok(None);
+    }
+    Ok(Some(runs.start(11, print_queue(), system_user())))
+}
+
+// Ends each run, of which there are three, and one of them twice.
+fn end_all(rt: &impl Abort, runs: &mut Runs, queue: &Name) {
     assert!(rt; runs.next() == 8);
-    assert!(rt; runs.in_use(&queue) == 3);
+    assert!(rt; runs.in_use(queue) == 3);
     // Each number, and the entry of its run.
     let table = [
         (4, Some(10)),
@@ -34,9 +43,24 @@ fn runs_begin_and_end(rt: HostRuntime) -> Result<(), Fail> {
         (6, Some(10)),
     ];
     for (number, entry) in table {
-        assert!(rt; runs.find(number).map(|run| run.entry) == entry);
-        assert!(rt; runs.end(number) == entry);
+        assert!(rt; runs.find(number).map(|run| run.entry) == entry, "{number}");
+        assert!(rt; runs.end(number) == entry, "{number}");
     }
-    assert!(rt; runs.in_use(&queue) == 0);
+    assert!(rt; runs.in_use(queue) == 0);
+}
+
+// Three runs are put in, one begins, and all end.
+fn begin_and_end(rt: &impl Abort, runs: &mut Runs) -> Result<(), Fail> {
+    for number in [4, 2, 6] {
+        assert!(rt; put(runs, number)?, "{number}");
+    }
+    assert!(rt; start_seventh(runs)? == Some(7));
+    end_all(rt, runs, &batch_queue());
     Ok(())
+}
+
+#[test]
+fn runs_begin_and_end(rt: HostRuntime) -> Result<(), Fail> {
+    let mut runs = Runs::new(rt.alloc(), 7);
+    begin_and_end(&rt, &mut runs)
 }

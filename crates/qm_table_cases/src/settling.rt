@@ -1,14 +1,14 @@
 // Jobs that start.
-ghost use Rattle.std.specs.Prelude.{◌≡◌, ◌<◌};
+ghost use Rattle.std.specs.Prelude.{◌≡◌, ◌<◌, []};
 
-use crate::rows::{job, queue};
-use qm_forms::FormTable;
-use qm_kinds::{Node, Seq, Start, batch_queue, system_user};
-use qm_queues::QueueTable;
+use crate::rows::job;
+use crate::sites::{nodes_alone, put_job, put_queue};
+use qm_kinds::{Node, Seq, Start, system_user};
 use qm_ready::Steps;
-use qm_sched::{Parts, TableSet, settle, starts_are_few};
+use qm_sched::{Parts, settle, starts_are_few};
 use std::alloc::{AllocError, Global};
 use std::marker::Brand;
+use std::process::Abort;
 use std::sync::ledger::{Blank, Ledger};
 use std::test::Fail;
 
@@ -36,47 +36,47 @@ fn settle_all(alloc: Global, parts: &mut Parts) -> Result<Vec<Start>, AllocError
     settle_by::<Brand>(alloc, parts, Blank::new(1))
 }
 
+// Puts in the first three jobs.
+fn put_three(parts: &mut Parts) -> Result<(), AllocError>
+    requires { parts.old.entries ≡ [] }
+{
+    put_job(parts, job(1, 100))?;
+    put_job(parts, job(2, 100))?;
+    put_job(parts, job(3, 101))
+}
+
 // A queue with places for two jobs, and three jobs. The next run is 7.
 fn with_jobs(alloc: Global) -> Result<Parts, AllocError> {
-    let node = system_user();
-    let nodes = Seq::of(vec![in alloc;
-        Node {
-            name: node,
-            up: true
-        },
-    ]?);
-    let tables = TableSet::new(
-        alloc,
-        nodes,
-        FormTable::new(alloc),
-        QueueTable::new(alloc),
-        7,
-    );
-    let mut parts = Parts::of(alloc, tables)?;
-    let new = queue(alloc, batch_queue());
-    parts.reserve_queue(&new)?;
-    parts.put_queue(new);
-    let first = job(1, 100);
-    parts.reserve_entry(&first.home)?;
-    parts.insert_entry(first);
-    let second = job(2, 100);
-    parts.reserve_entry(&second.home)?;
-    parts.insert_entry(second);
-    let third = job(3, 101);
-    parts.reserve_entry(&third.home)?;
-    parts.insert_entry(third);
+    let node = Node {
+        name: system_user(),
+        up: true,
+    };
+    let nodes = Seq::of(vec![in alloc; node]?);
+    let mut parts = nodes_alone(alloc, nodes, 7)?;
+    put_queue(alloc, &mut parts)?;
+    put_three(&mut parts)?;
     Ok(parts)
+}
+
+// Settles, and gives the job and the run of each start.
+fn started(alloc: Global, parts: &mut Parts) -> Result<Vec<(u32, u64)>, AllocError> {
+    let starts = settle_all(alloc, parts)?;
+    starts
+        .iter()
+        .map(|start| (start.entry, start.run))
+        .collect(alloc)
+}
+
+// Two jobs start, and then no more.
+fn start_two(rt: &impl Abort, alloc: Global, parts: &mut Parts) -> Result<(), Fail> {
+    for expected in [[(3, 7), (1, 8)].as_slice(), &[]] {
+        assert!(rt; started(alloc, parts)?.as_slice() == expected);
+    }
+    Ok(())
 }
 
 #[test]
 fn jobs_start_while_there_are_places(rt: HostRuntime) -> Result<(), Fail> {
-    let alloc = rt.alloc();
-    let mut parts = with_jobs(alloc)?;
-    let starts = settle_all(alloc, &mut parts)?;
-    let mut runs = starts.iter().map(|start| (start.entry, start.run));
-    assert!(rt; runs.next() == Some((3, 7)));
-    assert!(rt; runs.next() == Some((1, 8)));
-    assert!(rt; runs.next().is_none());
-    assert!(rt; settle_all(alloc, &mut parts)?.is_empty());
-    Ok(())
+    let mut parts = with_jobs(rt.alloc())?;
+    start_two(&rt, rt.alloc(), &mut parts)
 }
