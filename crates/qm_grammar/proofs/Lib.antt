@@ -4,3 +4,4 @@ pub mod RuleLemmas
 pub mod PartLemmas
 pub mod FewValues
 pub mod NameLemmas
+pub mod VerbLemmas

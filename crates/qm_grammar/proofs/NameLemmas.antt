@@ -1,5 +1,5 @@
 -- Which names are accepted.
-use Rattle.std.proofs.Common.{◌≡◌, ◌⊎◌, inl, inr, ◌↔◌, zero, suc, ℕ, Bool, true, false, cond, ◌&&◌, ◌||◌, not, nat_le, List, [], ◌∷◌, length, map, take, take_all, find, Option, Some, refl, sym, ap, subst, ◌∙◌, arith}
+use Rattle.std.proofs.Common.{◌≡◌, ◌⊎◌, inl, inr, ◌↔◌, zero, suc, ℕ, Bool, true, false, cond, ◌&&◌, ◌||◌, ◌==◌, not, nat_le, List, [], ◌∷◌, length, map, take, take_all, find, Option, Some, refl, sym, ap, subst, ◌∙◌, arith}
 use Rattle.std.specs.Prelude.{Contains, option_map}
 use Rattle.std.specs.List.{list_all}
 use Rattle.std.specs.Char.{to_ascii_uppercase}
@@ -111,6 +111,23 @@ module _ (text : List ℕ) (token : Token) where
   -- a token that doesn't begin a name doesn't mean it
   pub unbegun : (name : List ℕ) (alone : Bool) → begins text name token ≡ false → means text token name alone ≡ false
   unbegun name alone not_begun = unspelled (is_spelled text name token) (begins text name token) alone (whole_begins name) not_begun
+
+  cut : (whole : Bool) → (whole ≡ true → ⊥) → false ≡ whole
+  cut true not_whole = absurd (not_whole refl)
+  cut false not_whole = refl
+
+  whole_or_cut : (name : List ℕ) (same : Bool) → (length (bytes_of text token) == length name) ≡ same → begins text name token ≡ true → same ≡ is_spelled text name token
+  whole_or_cut name true is begun =
+      let long : length (bytes_of text token) ≡ length name = grind (arith, nat_tests, is) in
+      sym (and_of (is_word token.kind) _
+      (both_first (is_word token.kind) _ (both_first (is_word token.kind && nat_le (length (bytes_of text token)) (length name)) _ begun))
+      (subst (λ n. is_raised_to n (bytes_of text token) ≡ true) (all_taken name (length (bytes_of text token)) long)
+      (both_second (is_word token.kind && nat_le (length (bytes_of text token)) (length name)) _ begun)))
+  whole_or_cut name false is begun = cut (is_spelled text name token) (λ whole. let long = as_long name (whole_is name whole) in grind (arith, nat_tests, is, long))
+
+  -- a token that begins a name spells it whole where it is as long
+  pub as_long_whole : (name : List ℕ) → begins text name token ≡ true → (length (bytes_of text token) == length name) ≡ is_spelled text name token
+  as_long_whole name begun = whole_or_cut name (length (bytes_of text token) == length name) refl begun
 
   abbrev spells : List ℕ → Bool
   spells name = is_spelled text name token

@@ -142,12 +142,9 @@ fn conflict_of(
 ) -> Option<usize>
     ensures { result ≡ conflict_of text.now verb row tokens.now pair }
 {
-    let first = counting_place(text, verb, row, tokens, pair.0);
-    let second = counting_place(text, verb, row, tokens, pair.1);
-    match (first, second) {
-        (Some(first), Some(second)) => Some(if first < second { second } else { first }),
-        _ => None,
-    }
+    let first = counting_place(text, verb, row, tokens, pair.0)?;
+    let second = counting_place(text, verb, row, tokens, pair.1)?;
+    Some(if first < second { second } else { first })
 }
 
 // The earlier of two places, or the only one.

@@ -1,22 +1,51 @@
 // Which command the tokens behind a verb make of it.
-ghost use Rattle.std.specs.Prelude.{◌≡◌};
+ghost use Rattle.std.specs.Prelude.{◌≡◌, ◌==◌, find, filter, get_or};
 ghost use Rattle.qm_grammar.specs.Finding.{verb_of, lets_follow, stays_open, first_parameter, has_object, has_option, is_named, row_of, named_command};
+ghost use Rattle.qm_grammar.specs.Names.{is_verb};
+ghost use Rattle.qm_grammar.specs.Table.{verbs};
+ghost use Rattle.qm_grammar.specs.Words.{verb_spelling};
 
 use crate::conflict::counting_place;
 use crate::names::{is_object, is_verb};
 use crate::table::{Command, Row, VERBS, Verb, rows_of};
-use crate::token::is_text;
+use crate::token::{bytes_of, is_text};
 use crate::word::Word;
 use qm_lex::{Token, TokenKind};
+
+// The verbs whose second letter this is. It leaves three of them at most.
+fn verbs_by(second: u8) -> &'static [Verb]
+    ensures { result.now ≡ filter (λ verb. second == get_or (verb_spelling verb) 1 0) verbs }
+{
+    match second {
+        b'E' => &[Verb::Set, Verb::Delete, Verb::Define],
+        b'H' => &[Verb::Show],
+        b'N' => &[Verb::Initialize],
+        b'R' => &[Verb::Print],
+        b'S' => &[Verb::Assign],
+        b'T' => &[Verb::Start, Verb::Stop],
+        b'U' => &[Verb::Submit],
+        _ => &[],
+    }
+}
+
+// The verb among these that a token is.
+fn verb_among(text: &[u8], token: Token, verbs: &[Verb]) -> Option<Verb>
+    ensures { result ≡ find (is_verb text.now token) verbs.now }
+{
+    verbs
+        .iter()
+        .copied()
+        .find(|verb| is_verb(text, token, *verb))
+}
 
 /// The verb that a token is.
 pub(crate) fn verb_of(text: &[u8], token: Token) -> Option<Verb>
     ensures { result ≡ verb_of text.now token }
 {
-    VERBS
-        .iter()
-        .copied()
-        .find(|verb| is_verb(text, token, *verb))
+    match bytes_of(text, token).get(1) {
+        Some(second) => verb_among(text, token, verbs_by(second.to_ascii_uppercase())),
+        None => verb_among(text, token, &VERBS),
+    }
 }
 
 // Whether a word or a quoted string behind this token is a parameter: it is no name behind a `/` and no value.
@@ -94,10 +123,14 @@ pub(crate) fn row_of(text: &[u8], tokens: &[Token], verb: Verb) -> Option<Row>
     ensures { result ≡ row_of text.now tokens.now verb }
 {
     let parameter = first_parameter(tokens);
-    rows_of(verb)
-        .iter()
-        .copied()
-        .find(|row| is_named(text, verb, tokens, parameter, row))
+    let mut rest = rows_of(verb);
+    while let [row, behind @ ..] = rest {
+        if is_named(text, verb, tokens, parameter, row) {
+            return Some(*row);
+        }
+        rest = behind;
+    }
+    None
 }
 
 /// The command that the tokens of a text name, whatever else is wrong with them: its verb, and its option, where it has one.

@@ -1,14 +1,16 @@
 // Names of verbs, options and qualifiers, whole or cut short.
-ghost use Rattle.std.specs.Prelude.{◌≡◌, find, None};
+//
+// What is asked of cut names alone isn't inlined: where a name is sought it would stand in the way of the whole ones.
+ghost use Rattle.std.specs.Prelude.{◌≡◌, true, find, None};
 ghost use Rattle.std.specs.List.{list_all, list_any};
 ghost use Rattle.qm_grammar.specs.Names.{is_no_rival, is_verb_alone, is_verb, begins_verb, is_no_rival_object, is_object_alone, is_object, is_alone, is_name, begins_name, rule_for};
 ghost use Rattle.qm_grammar.specs.Rules.{rules_of};
-ghost use Rattle.qm_grammar.specs.Spelled.{begins};
+ghost use Rattle.qm_grammar.specs.Spelled.{begins, is_spelled};
 ghost use Rattle.qm_grammar.specs.Words.{spelling};
 
 use crate::rules::{Rule, own_rules, settings};
 use crate::table::{Command, Row, VERBS, Verb, rows_of};
-use crate::token::{begins, is_spelled};
+use crate::token::{begins, bytes_of, is_spelled};
 use crate::word::{Word, spelling, verb_spelling};
 use qm_lex::Token;
 
@@ -19,7 +21,15 @@ fn is_no_rival(text: &[u8], token: Token, name: &[u8], other: &[u8]) -> bool
     !begins(text, other, token) || other == name
 }
 
+// Whether a token that begins this name spells it whole.
+fn is_as_long(text: &[u8], name: &[u8], token: Token) -> bool
+    ensures { begins text.now name.now token ≡ true → result ≡ is_spelled text.now name.now token }
+{
+    bytes_of(text, token).len() == name.len()
+}
+
 // Whether no other verb leaves this name in doubt.
+#[inline(never)]
 fn is_verb_alone(text: &[u8], token: Token, name: &[u8]) -> bool
     ensures { result ≡ is_verb_alone text.now token name.now }
 {
@@ -31,7 +41,7 @@ pub(crate) fn is_verb(text: &[u8], token: Token, verb: Verb) -> bool
     ensures { result ≡ is_verb text.now token verb }
 {
     let name = verb_spelling(verb);
-    begins(text, name, token) && (is_spelled(text, name, token) || is_verb_alone(text, token, name))
+    begins(text, name, token) && (is_as_long(text, name, token) || is_verb_alone(text, token, name))
 }
 
 /// Whether some verb begins with a token.
@@ -54,6 +64,7 @@ fn is_no_rival_object(text: &[u8], token: Token, name: &[u8], object: Option<Wor
 }
 
 // Whether no other option of a verb that is the first parameter leaves this name in doubt.
+#[inline(never)]
 fn is_object_alone(text: &[u8], verb: Verb, token: Token, name: &[u8]) -> bool
     ensures { result ≡ is_object_alone text.now verb token name.now }
 {
@@ -68,7 +79,7 @@ pub(crate) fn is_object(text: &[u8], verb: Verb, token: Token, word: Word) -> bo
 {
     let name = spelling(word);
     begins(text, name, token)
-        && (is_spelled(text, name, token) || is_object_alone(text, verb, token, name))
+        && (is_as_long(text, name, token) || is_object_alone(text, verb, token, name))
 }
 
 // Whether no other of these names leaves this one in doubt.
@@ -97,6 +108,7 @@ fn is_alone_in_each(text: &[u8], token: Token, name: &[u8], rows: &[Row]) -> boo
 }
 
 // Whether no other name of the command leaves this one in doubt, or of any command of the verb where none is named.
+#[inline(never)]
 fn is_alone(text: &[u8], verb: Verb, row: Option<Row>, token: Token, name: &[u8]) -> bool
     ensures { result ≡ is_alone text.now verb row token name.now }
 {

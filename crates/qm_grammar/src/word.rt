@@ -62,7 +62,8 @@ pub enum Word {
     Keep,
 }
 
-/// How a verb is spelled.
+/// How a verb is spelled. By itself this is a look into a table, and so it isn't inlined.
+#[inline(never)]
 pub(crate) fn verb_spelling(verb: Verb) -> &'static [u8]
     ensures { result.now ≡ verb_spelling verb }
 {
