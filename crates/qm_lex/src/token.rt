@@ -95,7 +95,7 @@ fn next_token(text: &[u8], from: usize) -> Result<Option<Token>, LexFault>
     Ok(None)
 }
 
-// Whether each token can be read; it takes no memory.
+// Whether each token can be read.
 fn check(text: &[u8]) -> Result<(), LexFault>
     ensures readable { OnOk result (IsOk (tokens_of text.now)) }
     ensures fault { IfErr result (Explains (tokens_of text.now)) }
@@ -110,6 +110,17 @@ fn check(text: &[u8]) -> Result<(), LexFault>
     }
 }
 
+// Why a text hasn't its tokens, where memory ran out for them: a fault of the text goes before that.
+#[cold]
+fn without_memory(text: &[u8]) -> LexFault
+    ensures { Explains (tokens_of text.now) result }
+{
+    match check(text) {
+        Ok(()) => LexFault::NoMemory,
+        Err(fault) => fault,
+    }
+}
+
 /// The tokens of a text, in their order.
 ///
 /// Blanks and tabs part tokens, and an exclamation mark outside quotes begins a comment, which goes to the end of the text.
@@ -121,13 +132,14 @@ pub fn lex(alloc: Global, text: &[u8]) -> Result<Vec<Token>, LexFault>
     ensures tokens { IfOk result (λ tokens. tokens_of text.now ≡ Ok tokens.items) }
     ensures fault { IfErr result (Explains (tokens_of text.now)) }
 {
-    check(text)?;
     let mut tokens = Vec::new(alloc);
     let mut at = 0;
     loop {
         match next_token(text, at) {
             Ok(Some(token)) => {
-                tokens.push(token)?;
+                if tokens.push(token).is_err() {
+                    return Err(without_memory(text));
+                }
                 at = token.end;
             }
             Ok(None) => return Ok(tokens),
