@@ -79,14 +79,14 @@ fn asked(
     }
 }
 
-// What the grammar finds wrong, unless a value in front of that can't be read.
-fn judged(read: Result<Command, Fault>, given: Result<Settings, Fault>) -> Result<Settings, Fault>
-    ensures { result ≡ judged read given }
+// What is told of a value that can't be read: what the grammar finds wrong in front of it, or else the value.
+fn first_fault(read: Result<Command, Fault>, value: Fault) -> Fault
+    ensures { judged read (Err value) ≡ Err result }
 {
-    match (read, given) {
-        (Ok(_), given) => given,
-        (Err(fault), Err(value)) if value.place < fault.place => Err(value),
-        (Err(fault), _) => Err(fault),
+    match read {
+        Ok(_) => value,
+        Err(fault) if value.place < fault.place => value,
+        Err(fault) => fault,
     }
 }
 
@@ -115,17 +115,20 @@ fn meant(
     ensures fault { IfErr result (Explains (meant user now text.now command)) }
 {
     let given = settings_of(text, now, command, &parsed.parts);
-    let s = match judged(parsed.command, given) {
+    let s = match &given {
         Ok(s) => s,
-        Err(fault) => return Err(told(fault)),
+        Err(value) => return Err(told(first_fault(parsed.command, *value))),
     };
+    if let Err(fault) = parsed.command {
+        return Err(told(fault));
+    }
     let Ok(lists) = lists_of(alloc, text, &parsed.parts) else {
         return Err(DclFault::NoMemory);
     };
     let Ok(nodes) = nodes_of(alloc, text, &parsed.parts) else {
         return Err(DclFault::NoMemory);
     };
-    match asked(alloc, user, command, &s, lists, nodes) {
+    match asked(alloc, user, command, s, lists, nodes) {
         Some(input) => Ok(input),
         None => Err(told(NOT_BUILT)),
     }

@@ -1,12 +1,10 @@
-// What a qualifier, its value, or a parameter gives.
-ghost use Rattle.std.specs.Prelude.{◌≡◌};
+// What a qualifier, its value, or a parameter gives. It is set in place, since settings are large, and each part changes little.
+ghost use Rattle.std.specs.Prelude.{◌≡◌, Some, option_map};
 ghost use Rattle.qm_dcl.specs.Forms.{with_default_margins, with_margin};
-ghost use Rattle.qm_dcl.specs.Given.{job_marked, queue_marked, shape_marked, stop_marked, listing_marked, with_word, with_job, with_queue_settings, with_definition, with_shape, queue_given, entry_given, blocks_with, valued, nodes_begun, node_given, schedule_given, queue_retain_given, with_retain, until_given, after_given, margin_given, definable_given, form_given, characteristic_given, merge_given, file_given, pattern_given, parametered};
+ghost use Rattle.qm_dcl.specs.Given.{job_marked, queue_marked, shape_marked, stop_marked, listing_marked, with_word, queue_given, entry_given, blocks_with, valued, nodes_begun, node_given, schedule_given, queue_retain_given, until_given, after_given, margin_given, definable_given, form_given, characteristic_given, merge_given, file_given, pattern_given, parametered};
 ghost use Rattle.qm_dcl.specs.Values.{raised_by};
 
-use crate::settings::{
-    DEFAULT_SHAPE, Definition, JobSettings, ListingSettings, QueueSettings, Settings, Stop,
-};
+use crate::settings::{DEFAULT_SHAPE, JobSettings, ListingSettings, QueueSettings, Settings, Stop};
 use crate::value::{
     Side, are_digits, blocks_said, byte_said, characteristic_said, definable_name_said, entry_said,
     form_number_said, form_said, location_said, node_said, pattern_said, queue_retain_said,
@@ -16,60 +14,33 @@ use qm_grammar::{Command, Word};
 use qm_kinds::{FileName, JobRetain, Moment, Name, QueueRetain, Shape};
 use qm_lex::Token;
 
-// What a qualifier gives of a job.
-fn job_marked(job: JobSettings, word: Word) -> JobSettings
-    ensures { result ≡ job_marked job word }
+// Sets what a qualifier gives of a job.
+fn mark_job(job: &mut JobSettings, word: Word)
+    ensures { job.new ≡ job_marked job.old word }
 {
     match word {
-        Word::Restart => JobSettings {
-            restart: Some(true),
-            ..job
-        },
-        Word::NoRestart => JobSettings {
-            restart: Some(false),
-            ..job
-        },
-        Word::Flag => JobSettings { flag: true, ..job },
-        Word::NoFlag => JobSettings { flag: false, ..job },
-        Word::Hold => JobSettings { hold: true, ..job },
-        Word::Release => JobSettings {
-            release: true,
-            ..job
-        },
-        Word::NoAfter => JobSettings {
-            after: Some(None),
-            ..job
-        },
-        _ => job,
+        Word::Restart => job.restart = Some(true),
+        Word::NoRestart => job.restart = Some(false),
+        Word::Flag => job.flag = true,
+        Word::NoFlag => job.flag = false,
+        Word::Hold => job.hold = true,
+        Word::Release => job.release = true,
+        Word::NoAfter => job.after = Some(None),
+        _ => {}
     }
 }
 
-// What a qualifier gives of a queue. /BLOCK_LIMIT begins without limits.
-fn queue_marked(queue: QueueSettings, word: Word) -> QueueSettings
-    ensures { result ≡ queue_marked queue word }
+// Sets what a qualifier gives of a queue. /BLOCK_LIMIT begins without limits.
+fn mark_queue(queue: &mut QueueSettings, word: Word)
+    ensures { queue.new ≡ queue_marked queue.old word }
 {
     match word {
-        Word::Batch => QueueSettings {
-            batch: true,
-            ..queue
-        },
-        Word::Start => QueueSettings {
-            start: true,
-            ..queue
-        },
-        Word::BlockLimit => QueueSettings {
-            blocks: None,
-            ..queue
-        },
-        Word::NoBlockLimit => QueueSettings {
-            blocks: Some((1, u32::MAX)),
-            ..queue
-        },
-        Word::NoRetain => QueueSettings {
-            retain: Some(QueueRetain::Nothing),
-            ..queue
-        },
-        _ => queue,
+        Word::Batch => queue.batch = true,
+        Word::Start => queue.start = true,
+        Word::BlockLimit => queue.blocks = None,
+        Word::NoBlockLimit => queue.blocks = Some((1, u32::MAX)),
+        Word::NoRetain => queue.retain = Some(QueueRetain::Nothing),
+        _ => {}
     }
 }
 
@@ -85,21 +56,15 @@ fn with_default_margins(shape: Shape) -> Shape
     }
 }
 
-// What a qualifier gives of a form's shape. /MARGIN begins with the margins of a form for which none are given.
-fn shape_marked(shape: Shape, word: Word) -> Shape
-    ensures { result ≡ shape_marked shape word }
+// Sets what a qualifier gives of a form's shape. /MARGIN begins with the margins of a form for which none are given.
+fn mark_shape(shape: &mut Shape, word: Word)
+    ensures { shape.new ≡ shape_marked shape.old word }
 {
     match word {
-        Word::Margin => with_default_margins(shape),
-        Word::Wrap => Shape {
-            wrap: true,
-            ..shape
-        },
-        Word::Truncate => Shape {
-            wrap: false,
-            ..shape
-        },
-        _ => shape,
+        Word::Margin => *shape = with_default_margins(*shape),
+        Word::Wrap => shape.wrap = true,
+        Word::Truncate => shape.wrap = false,
+        _ => {}
     }
 }
 
@@ -116,173 +81,97 @@ fn stop_marked(how: Option<Stop>, word: Word) -> Option<Stop>
     }
 }
 
-// What a qualifier gives of a listing. The kinds of queue that are listed add up.
-fn listing_marked(listing: ListingSettings, word: Word) -> ListingSettings
-    ensures { result ≡ listing_marked listing word }
+// Sets what a qualifier gives of a listing. The kinds of queue that are listed add up.
+fn mark_listing(listing: &mut ListingSettings, word: Word)
+    ensures { listing.new ≡ listing_marked listing.old word }
 {
     match word {
-        Word::AllJobs => ListingSettings {
-            all_jobs: true,
-            ..listing
-        },
-        Word::Batch => ListingSettings {
-            batch: true,
-            ..listing
-        },
-        Word::Device => ListingSettings {
-            device: true,
-            ..listing
-        },
-        Word::Generic => ListingSettings {
-            generic: true,
-            ..listing
-        },
-        _ => listing,
+        Word::AllJobs => listing.all_jobs = true,
+        Word::Batch => listing.batch = true,
+        Word::Device => listing.device = true,
+        Word::Generic => listing.generic = true,
+        _ => {}
     }
 }
 
-/// A qualifier, whose value may come next.
-pub(crate) fn with_word(s: &Settings, word: Word) -> Settings
-    ensures { result ≡ with_word s.now word }
+/// Takes a qualifier, whose value may come next.
+pub(crate) fn take_word(s: &mut Settings, word: Word)
+    ensures { s.new ≡ with_word s.old word }
 {
-    Settings {
-        word: Some(word),
-        has_node: false,
-        stop: stop_marked(s.stop, word),
-        job: job_marked(s.job, word),
-        queue_settings: queue_marked(s.queue_settings, word),
-        definition: Definition {
-            shape: shape_marked(s.definition.shape, word),
-            ..s.definition
-        },
-        listing: listing_marked(s.listing, word),
-        ..*s
-    }
+    s.word = Some(word);
+    s.has_node = false;
+    s.stop = stop_marked(s.stop, word);
+    mark_job(&mut s.job, word);
+    mark_queue(&mut s.queue_settings, word);
+    mark_shape(&mut s.definition.shape, word);
+    mark_listing(&mut s.listing, word);
 }
 
-fn with_job(s: &Settings, job: JobSettings) -> Settings
-    ensures { result ≡ with_job s.now job }
+// Takes the name of a queue, if it can be one.
+fn take_queue(s: &mut Settings, said: &[u8]) -> Option<()>
+    ensures { queue_given s.old said.now ≡ option_map (λ _. s.new) result }
 {
-    Settings { job, ..*s }
+    s.queue = Some(short_name_said(said)?);
+    Some(())
 }
 
-fn with_queue_settings(s: &Settings, queue_settings: QueueSettings) -> Settings
-    ensures { result ≡ with_queue_settings s.now queue_settings }
+// Takes the number of an entry, if it can be one.
+fn take_entry(s: &mut Settings, said: &[u8]) -> Option<()>
+    ensures { entry_given s.old said.now ≡ option_map (λ _. s.new) result }
 {
-    Settings {
-        queue_settings,
-        ..*s
-    }
+    s.entry = Some(entry_said(said)?);
+    Some(())
 }
 
-fn with_definition(s: &Settings, definition: Definition) -> Settings
-    ensures { result ≡ with_definition s.now definition }
-{
-    Settings { definition, ..*s }
-}
-
-fn with_shape(s: &Settings, shape: Shape) -> Settings
-    ensures { result ≡ with_shape s.now shape }
-{
-    with_definition(
-        s,
-        Definition {
-            shape,
-            ..s.definition
-        },
-    )
-}
-
-// The name of a queue, if it can be one.
-fn queue_given(s: &Settings, said: &[u8]) -> Option<Settings>
-    ensures { result ≡ queue_given s.now said.now }
-{
-    let name = short_name_said(said)?;
-    Some(Settings {
-        queue: Some(name),
-        ..*s
-    })
-}
-
-// The number of an entry, if it can be one.
-fn entry_given(s: &Settings, said: &[u8]) -> Option<Settings>
-    ensures { result ≡ entry_given s.now said.now }
-{
-    let number = entry_said(said)?;
-    Some(Settings {
-        entry: Some(number),
-        ..*s
-    })
-}
-
-// The name of a job, if it can be one.
-fn name_given(s: &Settings, said: &[u8]) -> Option<Settings>
-    ensures { result ≡ valued s.now (Some Word.Name) said.now }
+// Takes the name of a job, if it can be one.
+fn take_name(s: &mut Settings, said: &[u8]) -> Option<()>
+    ensures { valued s.old (Some Word.Name) said.now ≡ option_map (λ _. s.new) result }
 {
     let Ok(name) = Name::read(said) else {
         return None;
     };
-    let job = JobSettings {
-        name: Some(name),
-        ..s.job
-    };
-    Some(with_job(s, job))
+    s.job.name = Some(name);
+    Some(())
 }
 
-// The priority of a job, if it can be one.
-fn priority_given(s: &Settings, said: &[u8]) -> Option<Settings>
-    ensures { result ≡ valued s.now (Some Word.Priority) said.now }
+// Takes the priority of a job, if it can be one.
+fn take_priority(s: &mut Settings, said: &[u8]) -> Option<()>
+    ensures { valued s.old (Some Word.Priority) said.now ≡ option_map (λ _. s.new) result }
 {
-    let number = byte_said(said)?;
-    let job = JobSettings {
-        priority: Some(number),
-        ..s.job
-    };
-    Some(with_job(s, job))
+    s.job.priority = Some(byte_said(said)?);
+    Some(())
 }
 
-// The form of a job, if it can be one.
-fn job_form_given(s: &Settings, said: &[u8]) -> Option<Settings>
-    ensures { result ≡ valued s.now (Some Word.Form) said.now }
+// Takes the form of a job, if it can be one.
+fn take_job_form(s: &mut Settings, said: &[u8]) -> Option<()>
+    ensures { valued s.old (Some Word.Form) said.now ≡ option_map (λ _. s.new) result }
 {
-    let form = form_said(said)?;
-    let job = JobSettings {
-        form: Some(form),
-        ..s.job
-    };
-    Some(with_job(s, job))
+    s.job.form = Some(form_said(said)?);
+    Some(())
 }
 
-// How many copies are printed, if it can be so many.
-fn copies_given(s: &Settings, said: &[u8]) -> Option<Settings>
-    ensures { result ≡ valued s.now (Some Word.Copies) said.now }
+// Takes how many copies are printed, if it can be so many.
+fn take_copies(s: &mut Settings, said: &[u8]) -> Option<()>
+    ensures { valued s.old (Some Word.Copies) said.now ≡ option_map (λ _. s.new) result }
 {
-    let copies = byte_said(said)?;
-    Some(with_job(s, JobSettings { copies, ..s.job }))
+    s.job.copies = byte_said(said)?;
+    Some(())
 }
 
-// How many jobs may run at once, if it can be so many.
-fn limit_given(s: &Settings, said: &[u8]) -> Option<Settings>
-    ensures { result ≡ valued s.now (Some Word.JobLimit) said.now }
+// Takes how many jobs may run at once, if it can be so many.
+fn take_limit(s: &mut Settings, said: &[u8]) -> Option<()>
+    ensures { valued s.old (Some Word.JobLimit) said.now ≡ option_map (λ _. s.new) result }
 {
-    let number = byte_said(said)?;
-    let settings = QueueSettings {
-        limit: Some(number),
-        ..s.queue_settings
-    };
-    Some(with_queue_settings(s, settings))
+    s.queue_settings.limit = Some(byte_said(said)?);
+    Some(())
 }
 
-// The form that is mounted, if it can be one.
-fn mounted_given(s: &Settings, said: &[u8]) -> Option<Settings>
-    ensures { result ≡ valued s.now (Some Word.FormMounted) said.now }
+// Takes the form that is mounted, if it can be one.
+fn take_mounted(s: &mut Settings, said: &[u8]) -> Option<()>
+    ensures { valued s.old (Some Word.FormMounted) said.now ≡ option_map (λ _. s.new) result }
 {
-    let form = form_said(said)?;
-    let settings = QueueSettings {
-        form: Some(form),
-        ..s.queue_settings
-    };
-    Some(with_queue_settings(s, settings))
+    s.queue_settings.form = Some(form_said(said)?);
+    Some(())
 }
 
 // One limit is the upper one, and the lower one is then 1; of two the lower one stands first.
@@ -295,322 +184,242 @@ fn blocks_with(so_far: Option<(u32, u32)>, upper: u32) -> (u32, u32)
     }
 }
 
-// A limit of the sizes of jobs, if it can be one.
-fn blocks_given(s: &Settings, said: &[u8]) -> Option<Settings>
-    ensures { result ≡ valued s.now (Some Word.BlockLimit) said.now }
+// Takes a limit of the sizes of jobs, if it can be one.
+fn take_blocks(s: &mut Settings, said: &[u8]) -> Option<()>
+    ensures { valued s.old (Some Word.BlockLimit) said.now ≡ option_map (λ _. s.new) result }
 {
     let number = blocks_said(said)?;
-    let settings = QueueSettings {
-        blocks: Some(blocks_with(s.queue_settings.blocks, number)),
-        ..s.queue_settings
-    };
-    Some(with_queue_settings(s, settings))
+    s.queue_settings.blocks = Some(blocks_with(s.queue_settings.blocks, number));
+    Some(())
 }
 
-// Where a queue stands, if it can stand there.
-fn location_given(s: &Settings, said: &[u8]) -> Option<Settings>
-    ensures { result ≡ valued s.now (Some Word.On) said.now }
+// Takes where a queue stands, if it can stand there.
+fn take_location(s: &mut Settings, said: &[u8]) -> Option<()>
+    ensures { valued s.old (Some Word.On) said.now ≡ option_map (λ _. s.new) result }
 {
-    let location = location_said(said)?;
-    let settings = QueueSettings {
-        location: Some(location),
-        ..s.queue_settings
-    };
-    Some(with_queue_settings(s, settings))
+    s.queue_settings.location = Some(location_said(said)?);
+    Some(())
 }
 
-// The stock of a form, if it can be one.
-fn stock_given(s: &Settings, said: &[u8]) -> Option<Settings>
-    ensures { result ≡ valued s.now (Some Word.Stock) said.now }
+// Takes the stock of a form, if it can be one.
+fn take_stock(s: &mut Settings, said: &[u8]) -> Option<()>
+    ensures { valued s.old (Some Word.Stock) said.now ≡ option_map (λ _. s.new) result }
 {
-    let name = short_name_said(said)?;
-    let definition = Definition {
-        stock: Some(name),
-        ..s.definition
-    };
-    Some(with_definition(s, definition))
+    s.definition.stock = Some(short_name_said(said)?);
+    Some(())
 }
 
-// How many lines a page has, if it can have so many.
-fn length_given(s: &Settings, said: &[u8]) -> Option<Settings>
-    ensures { result ≡ valued s.now (Some Word.Length) said.now }
+// Takes how many lines a page has, if it can have so many.
+fn take_length(s: &mut Settings, said: &[u8]) -> Option<()>
+    ensures { valued s.old (Some Word.Length) said.now ≡ option_map (λ _. s.new) result }
 {
-    let length = byte_said(said)?;
-    let shape = Shape {
-        length,
-        ..s.definition.shape
-    };
-    Some(with_shape(s, shape))
+    s.definition.shape.length = byte_said(said)?;
+    Some(())
 }
 
-// How many columns a page has, if it can have so many.
-fn width_given(s: &Settings, said: &[u8]) -> Option<Settings>
-    ensures { result ≡ valued s.now (Some Word.Width) said.now }
+// Takes how many columns a page has, if it can have so many.
+fn take_width(s: &mut Settings, said: &[u8]) -> Option<()>
+    ensures { valued s.old (Some Word.Width) said.now ≡ option_map (λ _. s.new) result }
 {
-    let width = byte_said(said)?;
-    let shape = Shape {
-        width,
-        ..s.definition.shape
-    };
-    Some(with_shape(s, shape))
+    s.definition.shape.width = byte_said(said)?;
+    Some(())
 }
 
-// A characteristic of a list, if it can be one.
-fn characteristic_listed(s: &Settings, said: &[u8]) -> Option<Settings>
-    ensures { result ≡ valued s.now (Some Word.Characteristics) said.now }
+// Judges whether a value can be a characteristic of a list.
+fn judge_characteristic(s: &mut Settings, said: &[u8]) -> Option<()>
+    ensures { valued s.old (Some Word.Characteristics) said.now ≡ option_map (λ _. s.new) result }
 {
     characteristic_said(said)?;
-    Some(*s)
+    Some(())
 }
 
-// A target of a list, if it can be one.
-fn target_listed(s: &Settings, said: &[u8]) -> Option<Settings>
-    ensures { result ≡ valued s.now (Some Word.Generic) said.now }
+// Judges whether a value can be a target of a list.
+fn judge_target(s: &mut Settings, said: &[u8]) -> Option<()>
+    ensures { valued s.old (Some Word.Generic) said.now ≡ option_map (λ _. s.new) result }
 {
     short_name_said(said)?;
-    Some(*s)
+    Some(())
 }
 
-/// What the value of a qualifier gives, if it can be one.
-pub(crate) fn valued(s: &Settings, said: &[u8]) -> Option<Settings>
-    ensures { result ≡ valued s.now s.now.word said.now }
+/// Takes the value of a qualifier, if it can be one. Those of a list are only judged here.
+pub(crate) fn take_value(s: &mut Settings, said: &[u8]) -> Option<()>
+    ensures { valued s.old s.old.word said.now ≡ option_map (λ _. s.new) result }
 {
     match s.word? {
-        Word::Queue | Word::Requeue => queue_given(s, said),
-        Word::Entry => entry_given(s, said),
-        Word::Name => name_given(s, said),
-        Word::Priority => priority_given(s, said),
-        Word::Form => job_form_given(s, said),
-        Word::Copies => copies_given(s, said),
-        Word::JobLimit => limit_given(s, said),
-        Word::FormMounted => mounted_given(s, said),
-        Word::BlockLimit => blocks_given(s, said),
-        Word::On => location_given(s, said),
-        Word::Stock => stock_given(s, said),
-        Word::Length => length_given(s, said),
-        Word::Width => width_given(s, said),
-        Word::Characteristics => characteristic_listed(s, said),
-        Word::Generic => target_listed(s, said),
+        Word::Queue | Word::Requeue => take_queue(s, said),
+        Word::Entry => take_entry(s, said),
+        Word::Name => take_name(s, said),
+        Word::Priority => take_priority(s, said),
+        Word::Form => take_job_form(s, said),
+        Word::Copies => take_copies(s, said),
+        Word::JobLimit => take_limit(s, said),
+        Word::FormMounted => take_mounted(s, said),
+        Word::BlockLimit => take_blocks(s, said),
+        Word::On => take_location(s, said),
+        Word::Stock => take_stock(s, said),
+        Word::Length => take_length(s, said),
+        Word::Width => take_width(s, said),
+        Word::Characteristics => judge_characteristic(s, said),
+        Word::Generic => judge_target(s, said),
         _ => None,
     }
 }
 
-// All nodes, where they stand alone.
-fn nodes_begun(s: &Settings, alone: bool) -> Option<Settings>
-    ensures { result ≡ nodes_begun s.now alone }
+// Takes all nodes, where they stand alone.
+fn take_all_nodes(s: &mut Settings, alone: bool) -> Option<()>
+    ensures { nodes_begun s.old alone ≡ option_map (λ _. s.new) result }
 {
-    if alone && !s.has_node {
-        Some(Settings {
-            has_node: true,
-            ..*s
-        })
-    } else {
-        None
+    if !alone || s.has_node {
+        return None;
     }
+    s.has_node = true;
+    Some(())
 }
 
-/// A node on which the queue manager may run, if it can be one; or all of them, by a `*` with no other value behind it or in
+/// Takes a node on which the queue manager may run, if it can be one; or all of them, by a `*` with no other value behind it or in
 /// front.
-pub(crate) fn node_given(s: &Settings, alone: bool, said: &[u8]) -> Option<Settings>
-    ensures { result ≡ node_given s.now alone said.now }
+pub(crate) fn take_node(s: &mut Settings, alone: bool, said: &[u8]) -> Option<()>
+    ensures { node_given s.old alone said.now ≡ option_map (λ _. s.new) result }
 {
     if says_all(said) {
-        return nodes_begun(s, alone);
+        return take_all_nodes(s, alone);
     }
     node_said(said)?;
-    Some(Settings {
-        has_node: true,
-        ..*s
-    })
+    s.has_node = true;
+    Some(())
 }
 
-/// The order in which jobs start, if it can be one.
-pub(crate) fn schedule_given(text: &[u8], s: &Settings, token: Token) -> Option<Settings>
-    ensures { result ≡ schedule_given s.now (raised_by text.now token) }
+/// Takes the order in which jobs start, if it can be one.
+pub(crate) fn take_schedule(s: &mut Settings, text: &[u8], token: Token) -> Option<()>
+    ensures { schedule_given s.old (raised_by text.now token) ≡ option_map (λ _. s.new) result }
 {
-    let by_size = schedule_said(text, token)?;
-    let settings = QueueSettings {
-        by_size: Some(by_size),
-        ..s.queue_settings
-    };
-    Some(with_queue_settings(s, settings))
+    s.queue_settings.by_size = Some(schedule_said(text, token)?);
+    Some(())
 }
 
-/// Which jobs a queue keeps, if it can be these.
-pub(crate) fn queue_retain_given(text: &[u8], s: &Settings, token: Token) -> Option<Settings>
-    ensures { result ≡ queue_retain_given s.now (raised_by text.now token) }
+/// Takes which jobs a queue keeps, if it can be these.
+pub(crate) fn take_queue_retain(s: &mut Settings, text: &[u8], token: Token) -> Option<()>
+    ensures { queue_retain_given s.old (raised_by text.now token) ≡ option_map (λ _. s.new) result }
 {
-    let retain = queue_retain_said(text, token)?;
-    let settings = QueueSettings {
-        retain: Some(retain),
-        ..s.queue_settings
-    };
-    Some(with_queue_settings(s, settings))
+    s.queue_settings.retain = Some(queue_retain_said(text, token)?);
+    Some(())
 }
 
-/// Whether a job is kept.
-pub(crate) fn with_retain(s: &Settings, retain: JobRetain) -> Settings
-    ensures { result ≡ with_retain s.now retain }
+/// Takes the moment until which a job is kept, if there is one.
+pub(crate) fn take_until(s: &mut Settings, moment: Option<Moment>) -> Option<()>
+    ensures { until_given s.old moment ≡ option_map (λ _. s.new) result }
 {
-    let job = JobSettings {
-        retain: Some(retain),
-        ..s.job
-    };
-    with_job(s, job)
+    s.job.retain = Some(JobRetain::Until(moment?));
+    Some(())
 }
 
-/// The moment until which a job is kept, if there is one.
-pub(crate) fn until_given(s: &Settings, moment: Option<Moment>) -> Option<Settings>
-    ensures { result ≡ until_given s.now moment }
+/// Takes the moment before which a job doesn't start, if there is one.
+pub(crate) fn take_after(s: &mut Settings, moment: Option<Moment>) -> Option<()>
+    ensures { after_given s.old moment ≡ option_map (λ _. s.new) result }
 {
-    let moment = moment?;
-    Some(with_retain(s, JobRetain::Until(moment)))
+    s.job.after = Some(Some(moment?));
+    Some(())
 }
 
-/// The moment before which a job doesn't start, if there is one.
-pub(crate) fn after_given(s: &Settings, moment: Option<Moment>) -> Option<Settings>
-    ensures { result ≡ after_given s.now moment }
-{
-    let moment = moment?;
-    let job = JobSettings {
-        after: Some(Some(moment)),
-        ..s.job
-    };
-    Some(with_job(s, job))
-}
-
-// The shape with one margin.
-fn with_margin(shape: Shape, side: Side, margin: u8) -> Shape
-    ensures { result ≡ with_margin shape side margin }
+// Sets one margin.
+fn set_margin(shape: &mut Shape, side: Side, margin: u8)
+    ensures { shape.new ≡ with_margin shape.old side margin }
 {
     match side {
-        Side::Top => Shape {
-            top: margin,
-            ..shape
-        },
-        Side::Bottom => Shape {
-            bottom: margin,
-            ..shape
-        },
-        Side::Left => Shape {
-            left: margin,
-            ..shape
-        },
-        Side::Right => Shape {
-            right: margin,
-            ..shape
-        },
+        Side::Top => shape.top = margin,
+        Side::Bottom => shape.bottom = margin,
+        Side::Left => shape.left = margin,
+        Side::Right => shape.right = margin,
     }
 }
 
-/// The margin of a side, if it can be so large.
-pub(crate) fn margin_given(s: &Settings, side: Side, said: &[u8]) -> Option<Settings>
-    ensures { result ≡ margin_given s.now side said.now }
+/// Takes the margin of a side, if it can be so large.
+pub(crate) fn take_margin(s: &mut Settings, side: Side, said: &[u8]) -> Option<()>
+    ensures { margin_given s.old side said.now ≡ option_map (λ _. s.new) result }
 {
     let margin = byte_said(said)?;
-    Some(with_shape(s, with_margin(s.definition.shape, side, margin)))
+    set_margin(&mut s.definition.shape, side, margin);
+    Some(())
 }
 
-// The name of a form or a characteristic, if it can be one.
-fn definable_given(s: &Settings, said: &[u8]) -> Option<Settings>
-    ensures { result ≡ definable_given s.now said.now }
+// Takes the name of a form or a characteristic, if it can be one.
+fn take_definable(s: &mut Settings, said: &[u8]) -> Option<()>
+    ensures { definable_given s.old said.now ≡ option_map (λ _. s.new) result }
 {
-    let name = definable_name_said(said)?;
-    let definition = Definition {
-        name: Some(name),
-        ..s.definition
-    };
-    Some(with_definition(s, definition))
+    s.definition.name = Some(definable_name_said(said)?);
+    Some(())
 }
 
-// The name of a form, and behind it its number, if it can be one.
-fn form_given(s: &Settings, said: &[u8]) -> Option<Settings>
-    ensures { result ≡ form_given s.now s.now.definition.name said.now }
+// Takes the name of a form, and behind it its number, if it can be one.
+fn take_form(s: &mut Settings, said: &[u8]) -> Option<()>
+    ensures { form_given s.old s.old.definition.name said.now ≡ option_map (λ _. s.new) result }
 {
     if s.definition.name.is_none() {
-        return definable_given(s, said);
+        return take_definable(s, said);
     }
-    let number = form_number_said(said)?;
-    let definition = Definition {
-        form_number: Some(number),
-        ..s.definition
-    };
-    Some(with_definition(s, definition))
+    s.definition.form_number = Some(form_number_said(said)?);
+    Some(())
 }
 
-// The name of a characteristic, and behind it its number, if it can be one.
-fn characteristic_given(s: &Settings, said: &[u8]) -> Option<Settings>
-    ensures { result ≡ characteristic_given s.now s.now.definition.name said.now }
+// Takes the name of a characteristic, and behind it its number, if it can be one.
+fn take_characteristic(s: &mut Settings, said: &[u8]) -> Option<()>
+    ensures { characteristic_given s.old s.old.definition.name said.now ≡ option_map (λ _. s.new) result }
 {
     if s.definition.name.is_none() {
-        return definable_given(s, said);
+        return take_definable(s, said);
     }
-    let number = byte_said(said)?;
-    let definition = Definition {
-        characteristic_number: Some(number),
-        ..s.definition
-    };
-    Some(with_definition(s, definition))
+    s.definition.characteristic_number = Some(byte_said(said)?);
+    Some(())
 }
 
-// The name of the target of a merge, and behind it that of its source, if it can be one.
-fn merge_given(s: &Settings, said: &[u8]) -> Option<Settings>
-    ensures { result ≡ merge_given s.now s.now.queue said.now }
+// Takes the name of the target of a merge, and behind it that of its source, if it can be one.
+fn take_merged(s: &mut Settings, said: &[u8]) -> Option<()>
+    ensures { merge_given s.old s.old.queue said.now ≡ option_map (λ _. s.new) result }
 {
     if s.queue.is_none() {
-        return queue_given(s, said);
+        return take_queue(s, said);
     }
-    let name = short_name_said(said)?;
-    Some(Settings {
-        source: Some(name),
-        ..*s
-    })
+    s.source = Some(short_name_said(said)?);
+    Some(())
 }
 
-// The name of a file, if it can be one.
-fn file_given(s: &Settings, said: &[u8]) -> Option<Settings>
-    ensures { result ≡ file_given s.now said.now }
+// Takes the name of a file, if it can be one.
+fn take_file(s: &mut Settings, said: &[u8]) -> Option<()>
+    ensures { file_given s.old said.now ≡ option_map (λ _. s.new) result }
 {
-    let file = FileName::read(said)?;
-    Some(Settings {
-        file: Some(file),
-        ..*s
-    })
+    s.file = Some(FileName::read(said)?);
+    Some(())
 }
 
-// A pattern of names, if it can be one.
-fn pattern_given(s: &Settings, said: &[u8]) -> Option<Settings>
-    ensures { result ≡ pattern_given s.now said.now }
+// Takes a pattern of names, if it can be one.
+fn take_pattern(s: &mut Settings, said: &[u8]) -> Option<()>
+    ensures { pattern_given s.old said.now ≡ option_map (λ _. s.new) result }
 {
-    let pattern = pattern_said(said)?;
-    let listing = ListingSettings {
-        pattern: Some(pattern),
-        ..s.listing
-    };
-    Some(Settings { listing, ..*s })
+    s.listing.pattern = Some(pattern_said(said)?);
+    Some(())
 }
 
-/// What a parameter gives, if it can be one.
-pub(crate) fn parametered(s: &Settings, command: Command, said: &[u8]) -> Option<Settings>
-    ensures { result ≡ parametered s.now command said.now }
+/// Takes a parameter, if it can be one.
+pub(crate) fn take_parameter(s: &mut Settings, command: Command, said: &[u8]) -> Option<()>
+    ensures { parametered s.old command said.now ≡ option_map (λ _. s.new) result }
 {
     match command {
-        Command::Submit | Command::Print => file_given(s, said),
-        Command::SetEntry => entry_given(s, said),
-        Command::ShowEntry if are_digits(said) => entry_given(s, said),
+        Command::Submit | Command::Print => take_file(s, said),
+        Command::SetEntry => take_entry(s, said),
+        Command::ShowEntry if are_digits(said) => take_entry(s, said),
         Command::ShowEntry
         | Command::ShowQueue
         | Command::ShowForms
-        | Command::ShowCharacteristics => pattern_given(s, said),
+        | Command::ShowCharacteristics => take_pattern(s, said),
         Command::InitializeQueue
         | Command::SetQueue
         | Command::StartQueue
         | Command::StopQueue
-        | Command::DeleteQueue => queue_given(s, said),
-        Command::AssignMerge => merge_given(s, said),
-        Command::DefineForm => form_given(s, said),
-        Command::DefineCharacteristic => characteristic_given(s, said),
-        Command::DeleteForm | Command::DeleteCharacteristic => definable_given(s, said),
+        | Command::DeleteQueue => take_queue(s, said),
+        Command::AssignMerge => take_merged(s, said),
+        Command::DefineForm => take_form(s, said),
+        Command::DefineCharacteristic => take_characteristic(s, said),
+        Command::DeleteForm | Command::DeleteCharacteristic => take_definable(s, said),
         _ => None,
     }
 }

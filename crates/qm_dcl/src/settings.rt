@@ -1,11 +1,11 @@
 // What the parts of a command give.
-ghost use Rattle.std.specs.Prelude.{◌≡◌};
-ghost use Rattle.qm_dcl.specs.Settings.{has_object, no_job, no_queue_settings, no_definition, no_listing, nothing_given, or_value_fault, with_parameter, with_key, with_until, with_retain_word, with_job_retain, is_of_queue, with_retained, with_value, inner_value, has_value_ahead, lists_nodes, with_value_of, with_part, settings_of};
+ghost use Rattle.std.specs.Prelude.{◌≡◌, Ok, Err, IfOk, IfErr, ok_or};
+ghost use Rattle.qm_dcl.specs.Settings.{has_object, no_job, no_queue_settings, no_definition, no_listing, nothing_given, with_parameter, with_key, with_until, with_retain_word, with_job_retain, is_of_queue, with_retained, with_value, inner_value, has_value_ahead, lists_nodes, with_value_of, with_part, settings_of};
 ghost use Rattle.qm_dcl.specs.Values.{raised_by, side_said};
 
 use crate::given::{
-    after_given, margin_given, node_given, parametered, queue_retain_given, schedule_given,
-    until_given, valued, with_retain, with_word,
+    take_after, take_margin, take_node, take_parameter, take_queue_retain, take_schedule,
+    take_until, take_value, take_word,
 };
 use crate::value::{
     Location, has_equals, is_until, job_retain_said, moment_said, said_by, side_said,
@@ -199,11 +199,11 @@ fn nothing_given(command: Command) -> Settings
 }
 
 // A value that can't be read is a fault at its first byte.
-fn or_value_fault(token: Token, given: Option<Settings>) -> Result<Settings, Fault>
-    ensures { result ≡ or_value_fault token given }
+fn or_value_fault(token: Token, taken: Option<()>) -> Result<(), Fault>
+    ensures { result ≡ ok_or taken (record { place = token.start; kind = ParseKind.Value }) }
 {
-    match given {
-        Some(s) => Ok(s),
+    match taken {
+        Some(()) => Ok(()),
         None => Err(Fault {
             place: token.start,
             kind: ParseKind::Value,
@@ -211,86 +211,92 @@ fn or_value_fault(token: Token, given: Option<Settings>) -> Result<Settings, Fau
     }
 }
 
-// One more parameter, behind the option where that is one.
-fn with_parameter(
+// Goes on with one more parameter, behind the option where that is one.
+fn read_parameter(
     text: &[u8],
     command: Command,
-    s: &Settings,
+    s: &mut Settings,
     token: Token,
-) -> Result<Settings, Fault>
-    ensures { result ≡ with_parameter text.now command s.now token }
+) -> Result<(), Fault>
+    ensures done { IfOk result (λ _. with_parameter text.now command s.old token ≡ Ok s.new) }
+    ensures fault { IfErr result (λ fault. with_parameter text.now command s.old token ≡ Err fault) }
 {
     if s.awaits_object {
-        return Ok(Settings {
-            awaits_object: false,
-            ..*s
-        });
+        s.awaits_object = false;
+        return Ok(());
     }
-    or_value_fault(token, parametered(s, command, said_by(text, token)))
+    or_value_fault(token, take_parameter(s, command, said_by(text, token)))
 }
 
-// A key of /MARGIN: it must name a side, and a number must stand behind its =. Where that can be no value, it is at fault by the
-// grammar, and not the key.
-fn with_key(text: &[u8], s: &Settings, key: Token, inner: Option<Token>) -> Result<Settings, Fault>
-    ensures { result ≡ with_key text.now s.now key (side_said (raised_by text.now key)) inner }
+// Goes on with a key of /MARGIN: it must name a side, and a number must stand behind its =. Where that can be no value, it is at
+// fault by the grammar, and not the key.
+fn read_key(text: &[u8], s: &mut Settings, key: Token, inner: Option<Token>) -> Result<(), Fault>
+    ensures done { IfOk result (λ _. with_key text.now s.old key (side_said (raised_by text.now key)) inner ≡ Ok s.new) }
+    ensures fault { IfErr result (λ fault. with_key text.now s.old key (side_said (raised_by text.now key)) inner ≡ Err fault) }
 {
     match (side_said(text, key), inner) {
         (Some(side), Some(number)) => {
-            or_value_fault(number, margin_given(s, side, said_by(text, number)))
+            or_value_fault(number, take_margin(s, side, said_by(text, number)))
         }
-        (Some(_), None) if has_equals(text, key) => Ok(*s),
+        (Some(_), None) if has_equals(text, key) => Ok(()),
         _ => or_value_fault(key, None),
     }
 }
 
-// UNTIL, behind whose = the moment stands until which a job is kept. Where that can be no value, it is at fault by the grammar,
-// and not the word.
-fn with_until(
+// Goes on with UNTIL, behind whose = the moment stands until which a job is kept. Where that can be no value, it is at fault by
+// the grammar, and not the word.
+fn read_until(
     text: &[u8],
     now: Moment,
-    s: &Settings,
+    s: &mut Settings,
     token: Token,
     inner: Option<Token>,
-) -> Result<Settings, Fault>
-    ensures { result ≡ with_until now text.now s.now token inner }
+) -> Result<(), Fault>
+    ensures done { IfOk result (λ _. with_until now text.now s.old token inner ≡ Ok s.new) }
+    ensures fault { IfErr result (λ fault. with_until now text.now s.old token inner ≡ Err fault) }
 {
     match inner {
-        Some(time) => or_value_fault(time, until_given(s, moment_said(text, time, now))),
-        None if has_equals(text, token) => Ok(*s),
+        Some(time) => or_value_fault(time, take_until(s, moment_said(text, time, now))),
+        None if has_equals(text, token) => Ok(()),
         None => or_value_fault(token, None),
     }
 }
 
-// A word that says whether a job is kept. It takes no value.
-fn with_retain_word(
-    s: &Settings,
+// Goes on with a word that says whether a job is kept. It takes no value.
+fn read_retain_word(
+    s: &mut Settings,
     token: Token,
     retain: Option<JobRetain>,
     inner: Option<Token>,
-) -> Result<Settings, Fault>
-    ensures { result ≡ with_retain_word s.now token retain inner }
+) -> Result<(), Fault>
+    ensures done { IfOk result (λ _. with_retain_word s.old token retain inner ≡ Ok s.new) }
+    ensures fault { IfErr result (λ fault. with_retain_word s.old token retain inner ≡ Err fault) }
 {
     match (retain, inner) {
-        (Some(retain), None) => Ok(with_retain(s, retain)),
+        (Some(retain), None) => {
+            s.job.retain = Some(retain);
+            Ok(())
+        }
         (Some(_), Some(value)) => or_value_fault(value, None),
         (None, _) => or_value_fault(token, None),
     }
 }
 
-// The value of /RETAIN of a job.
-fn with_job_retain(
+// Goes on with the value of /RETAIN of a job.
+fn read_job_retain(
     text: &[u8],
     now: Moment,
-    s: &Settings,
+    s: &mut Settings,
     token: Token,
     inner: Option<Token>,
-) -> Result<Settings, Fault>
-    ensures { result ≡ with_job_retain now text.now s.now token (raised_by text.now token) inner }
+) -> Result<(), Fault>
+    ensures done { IfOk result (λ _. with_job_retain now text.now s.old token (raised_by text.now token) inner ≡ Ok s.new) }
+    ensures fault { IfErr result (λ fault. with_job_retain now text.now s.old token (raised_by text.now token) inner ≡ Err fault) }
 {
     if is_until(text, token) {
-        with_until(text, now, s, token, inner)
+        read_until(text, now, s, token, inner)
     } else {
-        with_retain_word(s, token, job_retain_said(text, token), inner)
+        read_retain_word(s, token, job_retain_said(text, token), inner)
     }
 }
 
@@ -304,41 +310,43 @@ fn is_of_queue(command: Command) -> bool
     }
 }
 
-// The value of /RETAIN, of a queue or of a job.
-fn with_retained(
+// Goes on with the value of /RETAIN, of a queue or of a job.
+fn read_retained(
     text: &[u8],
     now: Moment,
     command: Command,
-    s: &Settings,
+    s: &mut Settings,
     token: Token,
     inner: Option<Token>,
-) -> Result<Settings, Fault>
-    ensures { result ≡ with_retained now text.now command s.now token (raised_by text.now token) inner }
+) -> Result<(), Fault>
+    ensures done { IfOk result (λ _. with_retained now text.now command s.old token (raised_by text.now token) inner ≡ Ok s.new) }
+    ensures fault { IfErr result (λ fault. with_retained now text.now command s.old token (raised_by text.now token) inner ≡ Err fault) }
 {
     if is_of_queue(command) {
-        or_value_fault(token, queue_retain_given(text, s, token))
+        or_value_fault(token, take_queue_retain(s, text, token))
     } else {
-        with_job_retain(text, now, s, token, inner)
+        read_job_retain(text, now, s, token, inner)
     }
 }
 
-// A value of a qualifier, and the value behind its =, if there is one.
-fn with_value(
+// Goes on with a value of a qualifier, and the value behind its =, if there is one.
+fn read_value(
     text: &[u8],
     now: Moment,
     command: Command,
-    s: &Settings,
+    s: &mut Settings,
     token: Token,
     inner: Option<Token>,
-) -> Result<Settings, Fault>
-    ensures { result ≡ with_value now text.now command s.now s.now.word token inner }
+) -> Result<(), Fault>
+    ensures done { IfOk result (λ _. with_value now text.now command s.old s.old.word token inner ≡ Ok s.new) }
+    ensures fault { IfErr result (λ fault. with_value now text.now command s.old s.old.word token inner ≡ Err fault) }
 {
     match s.word {
-        Some(Word::Margin) => with_key(text, s, token, inner),
-        Some(Word::Schedule) => or_value_fault(token, schedule_given(text, s, token)),
-        Some(Word::After) => or_value_fault(token, after_given(s, moment_said(text, token, now))),
-        Some(Word::Retain) => with_retained(text, now, command, s, token, inner),
-        _ => or_value_fault(token, valued(s, said_by(text, token))),
+        Some(Word::Margin) => read_key(text, s, token, inner),
+        Some(Word::Schedule) => or_value_fault(token, take_schedule(s, text, token)),
+        Some(Word::After) => or_value_fault(token, take_after(s, moment_said(text, token, now))),
+        Some(Word::Retain) => read_retained(text, now, command, s, token, inner),
+        _ => or_value_fault(token, take_value(s, said_by(text, token))),
     }
 }
 
@@ -372,41 +380,46 @@ fn lists_nodes(command: Command, word: Option<Word>) -> bool
     }
 }
 
-// A value of a qualifier, with these parts behind it.
-fn with_value_of(
+// Goes on with a value of a qualifier, with these parts behind it.
+fn read_value_of(
     text: &[u8],
     now: Moment,
     command: Command,
-    s: &Settings,
+    s: &mut Settings,
     token: Token,
     behind: &[Part],
-) -> Result<Settings, Fault>
-    ensures { result ≡ with_value_of now text.now command s.now token behind.now }
+) -> Result<(), Fault>
+    ensures done { IfOk result (λ _. with_value_of now text.now command s.old token behind.now ≡ Ok s.new) }
+    ensures fault { IfErr result (λ fault. with_value_of now text.now command s.old token behind.now ≡ Err fault) }
 {
     if lists_nodes(command, s.word) {
         let alone = !has_value_ahead(behind);
-        or_value_fault(token, node_given(s, alone, said_by(text, token)))
+        or_value_fault(token, take_node(s, alone, said_by(text, token)))
     } else {
-        with_value(text, now, command, s, token, inner_value(behind))
+        read_value(text, now, command, s, token, inner_value(behind))
     }
 }
 
-// One more part, with these behind it.
-fn with_part(
+// Goes on with one more part, with these behind it.
+fn read_part(
     text: &[u8],
     now: Moment,
     command: Command,
-    s: &Settings,
+    s: &mut Settings,
     part: Part,
     behind: &[Part],
-) -> Result<Settings, Fault>
-    ensures { result ≡ with_part now text.now command s.now part behind.now }
+) -> Result<(), Fault>
+    ensures done { IfOk result (λ _. with_part now text.now command s.old part behind.now ≡ Ok s.new) }
+    ensures fault { IfErr result (λ fault. with_part now text.now command s.old part behind.now ≡ Err fault) }
 {
     match part {
-        Part::Parameter { token } => with_parameter(text, command, s, token),
-        Part::Qualifier { word, .. } => Ok(with_word(s, word)),
-        Part::Value { token } => with_value_of(text, now, command, s, token, behind),
-        Part::KeyValue { .. } => Ok(*s),
+        Part::Parameter { token } => read_parameter(text, command, s, token),
+        Part::Qualifier { word, .. } => {
+            take_word(s, word);
+            Ok(())
+        }
+        Part::Value { token } => read_value_of(text, now, command, s, token, behind),
+        Part::KeyValue { .. } => Ok(()),
     }
 }
 
@@ -425,10 +438,7 @@ pub(crate) fn settings_of(
     let mut s = nothing_given(command);
     let mut rest = parts;
     while let [part, behind @ ..] = rest {
-        match with_part(text, now, command, &s, *part, behind) {
-            Ok(next) => s = next,
-            Err(fault) => return Err(fault),
-        }
+        read_part(text, now, command, &mut s, *part, behind)?;
         rest = behind;
     }
     Ok(s)
