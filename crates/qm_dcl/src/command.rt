@@ -22,6 +22,7 @@ const NOT_BUILT: Fault = Fault {
 };
 
 // What a command changes, where this form of it is built.
+#[inline(never)]
 fn request_of(
     alloc: Global,
     user: Name,

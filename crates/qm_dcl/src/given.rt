@@ -1,4 +1,5 @@
-// What a qualifier, its value, or a parameter gives. It is set in place, since settings are large, and each part changes little.
+// What a qualifier, its value, or a parameter gives. It is set in place, since settings are large and each part changes little. What
+// takes a name, a file or a pattern is not inlined, so that no other way clears its locals.
 ghost use Rattle.std.specs.Prelude.{◌≡◌, Some, option_map};
 ghost use Rattle.qm_dcl.specs.Forms.{with_default_margins, with_margin};
 ghost use Rattle.qm_dcl.specs.Given.{job_marked, queue_marked, shape_marked, stop_marked, listing_marked, with_word, queue_given, entry_given, blocks_with, valued, nodes_begun, node_given, schedule_given, queue_retain_given, until_given, after_given, margin_given, definable_given, form_given, characteristic_given, merge_given, file_given, pattern_given, parametered};
@@ -108,6 +109,7 @@ pub(crate) fn take_word(s: &mut Settings, word: Word)
 }
 
 // Takes the name of a queue, if it can be one.
+#[inline(never)]
 fn take_queue(s: &mut Settings, said: &[u8]) -> Option<()>
     ensures { queue_given s.old said.now ≡ option_map (λ _. s.new) result }
 {
@@ -202,6 +204,7 @@ fn take_location(s: &mut Settings, said: &[u8]) -> Option<()>
 }
 
 // Takes the stock of a form, if it can be one.
+#[inline(never)]
 fn take_stock(s: &mut Settings, said: &[u8]) -> Option<()>
     ensures { valued s.old (Some Word.Stock) said.now ≡ option_map (λ _. s.new) result }
 {
@@ -234,6 +237,7 @@ fn judge_characteristic(s: &mut Settings, said: &[u8]) -> Option<()>
 }
 
 // Judges whether a value can be a target of a list.
+#[inline(never)]
 fn judge_target(s: &mut Settings, said: &[u8]) -> Option<()>
     ensures { valued s.old (Some Word.Generic) said.now ≡ option_map (λ _. s.new) result }
 {
@@ -373,6 +377,7 @@ fn take_characteristic(s: &mut Settings, said: &[u8]) -> Option<()>
 }
 
 // Takes the name of the target of a merge, and behind it that of its source, if it can be one.
+#[inline(never)]
 fn take_merged(s: &mut Settings, said: &[u8]) -> Option<()>
     ensures { merge_given s.old s.old.queue said.now ≡ option_map (λ _. s.new) result }
 {
@@ -384,6 +389,7 @@ fn take_merged(s: &mut Settings, said: &[u8]) -> Option<()>
 }
 
 // Takes the name of a file, if it can be one.
+#[inline(never)]
 fn take_file(s: &mut Settings, said: &[u8]) -> Option<()>
     ensures { file_given s.old said.now ≡ option_map (λ _. s.new) result }
 {
@@ -392,6 +398,7 @@ fn take_file(s: &mut Settings, said: &[u8]) -> Option<()>
 }
 
 // Takes a pattern of names, if it can be one.
+#[inline(never)]
 fn take_pattern(s: &mut Settings, said: &[u8]) -> Option<()>
     ensures { pattern_given s.old said.now ≡ option_map (λ _. s.new) result }
 {

@@ -64,6 +64,7 @@ fn behind_last(list: ListOf, parts: &[Part]) -> Option<&[Part]>
 }
 
 // The characteristics that the values say with which parts begin.
+#[inline(never)]
 fn characteristics_ahead(
     alloc: Global,
     text: &[u8],
@@ -83,6 +84,7 @@ fn characteristics_ahead(
 }
 
 // The queues that the values name with which parts begin.
+#[inline(never)]
 fn queues_ahead(alloc: Global, text: &[u8], parts: &[Part]) -> Result<Seq<Name>, AllocError>
     ensures { IfOk result (λ list. list ≡ queues_said text.now (values_ahead parts.now)) }
 {
@@ -98,6 +100,7 @@ fn queues_ahead(alloc: Global, text: &[u8], parts: &[Part]) -> Result<Seq<Name>,
 }
 
 // The nodes that the values name with which parts begin.
+#[inline(never)]
 fn nodes_ahead(alloc: Global, text: &[u8], parts: &[Part]) -> Result<Seq<Name>, AllocError>
     ensures { IfOk result (λ list. list ≡ nodes_said text.now (values_ahead parts.now)) }
 {

@@ -88,6 +88,7 @@ fn abort(queue: Name, entry: Option<u32>, requeue: bool) -> Request
 }
 
 /// What a command of the queue with this name changes.
+#[inline(never)]
 pub(crate) fn queue_request(
     alloc: Global,
     name: Name,

@@ -427,6 +427,7 @@ fn read_part(
 /// from `now`.
 ///
 /// Errors: the first value that can't be read, with the kind `Value` at its first byte.
+#[inline(never)]
 pub(crate) fn settings_of(
     text: &[u8],
     now: Moment,

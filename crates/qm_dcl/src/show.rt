@@ -56,6 +56,7 @@ fn kinds_shown(listing: &ListingSettings) -> Kinds
 }
 
 /// The question for queues, and below them for the user's jobs, or those of all users.
+#[inline(never)]
 pub(crate) fn queues_query(user: Name, listing: &ListingSettings) -> Query
     ensures { result ≡ queues_query user listing.now }
 {
@@ -74,6 +75,7 @@ fn query_of(number: u32) -> Query
 }
 
 /// The question for the entry of a number, or for the user's by the names of their jobs.
+#[inline(never)]
 pub(crate) fn entries_query(user: Name, pattern: Option<Pattern>, number: Option<u32>) -> Query
     ensures { result ≡ entries_query user pattern number }
 {
@@ -84,6 +86,7 @@ pub(crate) fn entries_query(user: Name, pattern: Option<Pattern>, number: Option
 }
 
 /// The question for forms by their names.
+#[inline(never)]
 pub(crate) fn forms_query(pattern: Option<Pattern>) -> Query
     ensures { result ≡ forms_query pattern }
 {
@@ -91,6 +94,7 @@ pub(crate) fn forms_query(pattern: Option<Pattern>) -> Query
 }
 
 /// The question for characteristics by their names.
+#[inline(never)]
 pub(crate) fn characteristics_query(pattern: Option<Pattern>) -> Query
     ensures { result ≡ characteristics_query pattern }
 {
@@ -98,6 +102,7 @@ pub(crate) fn characteristics_query(pattern: Option<Pattern>) -> Query
 }
 
 /// The question for the queue manager.
+#[inline(never)]
 pub(crate) fn manager_query() -> Query
     ensures { result ≡ manager_query }
 {
