@@ -11,7 +11,7 @@ use crate::desk::Desk;
 use qm_acting::{Manager, Replies};
 use qm_disk::Disk;
 use qm_history::{Answer, Event, Takeover};
-use qm_kinds::{Input, Moment, Refusal, Request};
+use qm_kinds::{Boxed, Input, Moment, Refusal, Request};
 
 /// What a step of a manager came to, which stays in its place: the step's event, unless memory was short, and its answer.
 pub struct Step {
@@ -58,7 +58,7 @@ impl Step {
 pub(crate) fn done(
     node: u8,
     moment: Moment,
-    request: Request,
+    request: Boxed<Request>,
     replies: Replies,
     took: Option<Takeover>,
 ) -> Step

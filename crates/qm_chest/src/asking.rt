@@ -18,7 +18,7 @@ use core::mem::drop;
 use qm_acting::{AskFault, Manager, site_files_go_on};
 use qm_disk::Disk;
 use qm_history::{Answer, Event, Takeover};
-use qm_kinds::{Input, Moment, Refusal, Request};
+use qm_kinds::{Boxed, Input, Moment, Refusal, Request};
 use qm_model::nodes_keep_their_names;
 use qm_restore::site_files_are_accepted;
 
@@ -91,7 +91,7 @@ pub(crate) fn ask_step<D: Disk>(
     live: bool,
     node: u8,
     now: Moment,
-    request: Request,
+    request: Boxed<Request>,
     took: Option<Takeover>,
 ) -> Step
     requires ready { IsReady D.meaning manager.old }
@@ -112,7 +112,7 @@ pub(crate) fn ask_step<D: Disk>(
     site_files_are_accepted();
     nodes_keep_their_names();
     let moment = manager.acting(now);
-    match manager.ask(moment, node, &request) {
+    match manager.ask(moment, node, request.get()) {
         Ok(replies) => done(node, moment, request, replies, took),
         Err(AskFault::Refused(refusal)) => {
             refused(node, moment, Input::Ask(request), refusal, took)
@@ -143,7 +143,7 @@ pub(crate) fn ask<D: Disk>(
     live: bool,
     node: u8,
     now: Moment,
-    request: Request,
+    request: Boxed<Request>,
     took: Option<Takeover>,
 ) -> Came<D>
     requires ready { IsReady D.meaning manager }

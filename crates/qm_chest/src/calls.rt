@@ -82,7 +82,9 @@ impl<D: Disk> Chest<D> {
     {
         site_files_are_accepted();
         worlds_stay_sound::<QueueFile>();
-        let wanted = Wanted::by(node, now, call);
+        let Ok(wanted) = Wanted::by(self.alloc, node, now, call) else {
+            return Answer::NoMemory { took: None };
+        };
         let most = self.state.most_events(&wanted);
         match room_for(self.alloc, &mut self.turns, most) {
             Err(told) => {

@@ -2,6 +2,7 @@
 ghost use Rattle.std.specs.Prelude.{◌≡◌, ◌<◌, ℕ, IsTrue, IfOk, List, [], ◌∷◌, Some, ◌≢◌, false, length, slice_get, slice_set};
 ghost use Rattle.qm_kinds.specs.Text.{IsText, is_name_byte};
 ghost use Rattle.qm_kinds.specs.declared.input.Input.TheVariants as input;
+ghost use Rattle.qm_kinds.specs.declared.request.Request.TheVariants as request;
 ghost use Rattle.qm_history.specs.Answers.{plain};
 ghost use Rattle.qm_chest.specs.declared.desk.Desk.TheVariants as desk;
 ghost use Rattle.qm_chest.specs.At.{IsDeskOf};
@@ -17,7 +18,7 @@ use crate::serving::Served;
 use qm_acting::{Files, Manager, own_requests_are_accepted};
 use qm_disk::Disk;
 use qm_history::{Answer, Event};
-use qm_kinds::{Act, Moment, Name, Reply, Request, Seq};
+use qm_kinds::{Act, Boxed, Moment, Name, Reply, Request, Seq};
 use qm_model::nodes_keep_their_names;
 use qm_restore::{site_files_are_accepted, site_files_are_consistent};
 use std::alloc::{AllocError, Global};
@@ -68,18 +69,10 @@ impl Book {
         own_requests_are_accepted();
         nodes_keep_their_names();
         acts_in_time(&manager, now);
-        let Ok(nodes) = self.one(node) else {
+        let Ok(request) = self.loss(node) else {
             return short(None).up(manager, at).alone();
         };
-        let came = ask(
-            manager,
-            at,
-            false,
-            node,
-            now,
-            Request::NodeLost { nodes },
-            None,
-        );
+        let came = ask(manager, at, false, node, now, request, None);
         if !came.lets_go(leaves) {
             return came.alone();
         }
@@ -87,18 +80,23 @@ impl Book {
         came.behind(gone(node, leaves))
     }
 
-    // A list of one node.
-    fn one(&self, node: u8) -> Result<Seq<Name>, AllocError>
+    // The request that tells of the loss of a node.
+    fn loss(&self, node: u8) -> Result<Boxed<Request>, AllocError>
         requires { node < length self.now.names.items }
         ensures one { (name : List ℕ) → slice_get self.now.names.items node ≡ Some name
-            → IfOk result (λ list. list ≡ name ∷ []) }
+            → IfOk result (λ asked. asked ≡ request.NodeLost (name ∷ [])) }
         ensures lawful { (name : List ℕ) → slice_get self.now.names.items node ≡ Some name → IsText is_name_byte name }
     {
         let name = self.name(node);
         name.as_bytes();
         let mut list = Vec::new(self.alloc);
         list.push(name)?;
-        Ok(Seq::of(list))
+        Boxed::new(
+            self.alloc,
+            Request::NodeLost {
+                nodes: Seq::of(list),
+            },
+        )
     }
 
     /// A node goes, and nothing is recorded: no manager is up any more.

@@ -9,7 +9,7 @@ ghost use Rattle.qm_chest.specs.Nodes.{are_called, is_one};
 ghost use Rattle.qm_chest.specs.Taking.{gone_by, up_by, may_by};
 
 use crate::book::Book;
-use qm_kinds::{Input, Name, Node, Request, Seq};
+use qm_kinds::{Boxed, Input, Name, Node, Request, Seq};
 use std::alloc::{AllocError, Global};
 
 /// Nodes of the cluster, told by whether each is live.
@@ -187,17 +187,18 @@ impl Book {
         input: &Input,
         node: u8,
         epoch: u64,
-    ) -> Result<Request, AllocError>
+    ) -> Result<Boxed<Request>, AllocError>
         requires nodes { length nodes.now ≡ vec_len self.now.names }
         requires there { node < vec_len self.now.names }
         ensures { IfOk result (λ asked. asked ≡ request.Took epoch (gone_by self.now.live.items self.now.held.items nodes.now)
             (up_by self.now.live.items node nodes.now) (may_by nodes.now may.now (nodes_on input.now))) }
     {
-        Ok(Request::Took {
+        let request = Request::Took {
             epoch,
             gone: Seq::of(self.nodes_lost(nodes)?),
             up: Seq::of(self.nodes_up(nodes, node)?),
             may: Seq::of(names_that_may(self.alloc, nodes, may, input)?),
-        })
+        };
+        Boxed::new(self.alloc, request)
     }
 }

@@ -20,10 +20,11 @@ use crate::answering::Step;
 use crate::asking::{Came, ask_step};
 use crate::book::Book;
 use crate::showing::fetch;
+use core::mem::drop;
 use qm_acting::Manager;
 use qm_disk::Disk;
 use qm_history::{Answer, Event, Takeover};
-use qm_kinds::{Input, Moment, Request};
+use qm_kinds::{Boxed, Input, Moment, Request};
 use qm_restore::site_files_are_accepted;
 
 impl Book {
@@ -95,7 +96,7 @@ impl Book {
         at: u8,
         node: u8,
         now: Moment,
-        request: Request,
+        request: Boxed<Request>,
         took: Option<Takeover>,
     ) -> Step
         requires desk { IsDeskOf D.meaning self.now.names.items (desk.Up manager.old at) }
@@ -113,9 +114,9 @@ impl Book {
     {
         site_files_are_accepted();
         acts_in_time(manager, now);
-        match request {
-            Request::Tick => self.tick(manager, at, node, now, took),
-            request => {
+        match request.get() {
+            Request::Tick => self.tick(manager, at, node, now, request, took),
+            _ => {
                 let live = self.is_live(node);
                 ask_step(manager, at, live, node, now, request, took)
             }
@@ -129,8 +130,10 @@ impl Book {
         at: u8,
         node: u8,
         now: Moment,
+        asked: Boxed<Request>,
         took: Option<Takeover>,
     ) -> Step
+        requires tick { asked ≡ request.Tick }
         requires ready { IsReady D.meaning manager.old }
         requires can { CanBeAsked (standing_of manager.old).system (acting now (standing_of manager.old).system) node request.Tick }
         requires there { node < length self.now.names.items }
@@ -149,6 +152,7 @@ impl Book {
         let held = self.held_by(node);
         let current = manager.epoch();
         if held != current {
+            drop(asked);
             return Step {
                 event: Some(Event::Fenced {
                     node,
@@ -159,7 +163,7 @@ impl Book {
             };
         }
         let live = self.is_live(node);
-        ask_step(manager, at, live, node, now, Request::Tick, took)
+        ask_step(manager, at, live, node, now, asked, took)
     }
 }
 

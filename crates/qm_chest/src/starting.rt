@@ -8,7 +8,7 @@ ghost use Rattle.qm_chest.specs.At.{IsDeskOf};
 ghost use Rattle.qm_chest.specs.Steps.{start_refusal_of};
 ghost use Rattle.qm_chest.specs.Whole.{Leaves, ServesWhere};
 
-use crate::answering::refused;
+use crate::answering::{refused, short};
 use crate::asking::ask;
 use crate::book::Book;
 use crate::own::acts_in_time;
@@ -16,7 +16,7 @@ use crate::serving::Served;
 use qm_acting::{Manager, own_requests_are_accepted};
 use qm_disk::Disk;
 use qm_history::Event;
-use qm_kinds::{Input, Moment, Refusal, Request};
+use qm_kinds::{Boxed, Input, Moment, Refusal, Request};
 use qm_model::nodes_keep_their_names;
 use qm_restore::site_files_are_accepted;
 
@@ -75,7 +75,10 @@ impl Book {
         own_requests_are_accepted();
         nodes_keep_their_names();
         acts_in_time(&manager, now);
-        let came = ask(manager, at, true, node, now, Request::NodeUp, None);
+        let Ok(request) = Boxed::new(self.alloc, Request::NodeUp) else {
+            return short(None).up(manager, at).alone();
+        };
+        let came = ask(manager, at, true, node, now, request, None);
         if !came.is_recorded() {
             return came.alone();
         }

@@ -5,7 +5,7 @@ ghost use Rattle.qm_chest.specs.Taking.{IsTook, event_of, told_of};
 
 use qm_acting::Manager;
 use qm_history::{Event, Takeover};
-use qm_kinds::{Moment, Name, Reply, Request, Seq, Start};
+use qm_kinds::{Boxed, Moment, Name, Reply, Request, Seq, Start};
 
 /// The manager at work behind a takeover, what its record says, what was found of a record in doubt, and the jobs that started.
 pub struct Taken<D> {
@@ -56,7 +56,7 @@ impl<D> Taken<D> {
 pub(crate) fn taken_by<D>(
     manager: Manager<D>,
     moment: Moment,
-    request: Request,
+    request: Boxed<Request>,
     kept: Option<bool>,
     reply: Reply,
 ) -> Taken<D>
@@ -69,7 +69,7 @@ pub(crate) fn taken_by<D>(
         gone,
         up,
         may,
-    } = request
+    } = request.into_inner()
     else {
         unreachable!()
     };

@@ -222,7 +222,7 @@ impl Book {
         let Ok(request) = self.request(restored.nodes(), restored.may(), input, node, epoch) else {
             return Err(self.short(restored.close(), node, kept));
         };
-        match restored.take_over(tried, moment, node, &request) {
+        match restored.take_over(tried, moment, node, request.get()) {
             Ok((manager, reply)) => {
                 self.greatest += 1;
                 self.held[usize::from(node)] = epoch;

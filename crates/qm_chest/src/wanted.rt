@@ -1,10 +1,11 @@
 // What a call wants of the chest, and what it comes to.
-ghost use Rattle.std.specs.Prelude.{◌≡◌};
+ghost use Rattle.std.specs.Prelude.{◌≡◌, IfOk};
 ghost use Rattle.qm_history.specs.Calls.{request_of_report};
 ghost use Rattle.qm_history.specs.declared.call.Call.{Call as AnyCall};
 
 use qm_history::{Answer, Call, Event, Why};
 use qm_kinds::{Input, Moment, Report, Request};
+use std::alloc::{AllocError, Global};
 
 /// Who makes a turn, why, and what the node's clock told.
 #[derive(Clone, Copy)]
@@ -52,32 +53,37 @@ fn reported(run: u64, report: Report) -> Request
 impl Wanted {
     ghost use Rattle.qm_chest.specs.Serving.{wanted_by};
 
-    /// What the call of a node wants, whose clock told this before.
-    pub(crate) fn by(node: u8, now: Moment, call: Call) -> Wanted
-        ensures { result ≡ wanted_by node now call }
+    /// What the call of a node wants, whose clock told this before. A report takes memory for its request.
+    pub(crate) fn by(
+        alloc: Global,
+        node: u8,
+        now: Moment,
+        call: Call,
+    ) -> Result<Wanted, AllocError>
+        ensures { IfOk result (λ wanted. wanted ≡ wanted_by node now call) }
     {
         // Each arm makes the whole, so that the input is moved once.
         match call {
-            Call::Line { line, input } => Wanted {
+            Call::Line { line, input } => Ok(Wanted {
                 maker: Maker::of(node, Why::Line(line), now),
                 input,
                 leaves: false,
-            },
-            Call::Fetch { known } => Wanted {
+            }),
+            Call::Fetch { known } => Ok(Wanted {
                 maker: Maker::of(node, Why::Fetch, now),
                 input: Input::Fetch { known },
                 leaves: false,
-            },
-            Call::Report { run, report } => Wanted {
+            }),
+            Call::Report { run, report } => Ok(Wanted {
                 maker: Maker::of(node, Why::Report, now),
-                input: Input::Ask(reported(run, report)),
+                input: Input::asking(alloc, reported(run, report))?,
                 leaves: false,
-            },
-            Call::Leave => Wanted {
+            }),
+            Call::Leave => Ok(Wanted {
                 maker: Maker::of(node, Why::Leave, now),
                 input: Input::StopNode,
                 leaves: true,
-            },
+            }),
         }
     }
 }

@@ -1,5 +1,5 @@
 // Commands: what a text asks for.
-ghost use Rattle.std.specs.Prelude.{◌≡◌, Ok, Err, IfOk, IfErr};
+ghost use Rattle.std.specs.Prelude.{◌≡◌, Ok, Err, IfOk, IfErr, option_map};
 ghost use Rattle.qm_grammar.specs.Parsed.{tokens_in, parts_in, command_in};
 ghost use Rattle.qm_dcl.specs.Command.{request_of, asked, judged, meant, unnamed, command_of};
 ghost use Rattle.qm_dcl.specs.Faults.{Explains};
@@ -14,7 +14,7 @@ use crate::show::{characteristics_query, entries_query, forms_query, manager_que
 use crate::submit::job_of;
 use qm_grammar::{Command, Fault, Parsed, named_command, parse};
 use qm_kinds::{Input, JobKind, Moment, Name, ParseKind, Request, Seq};
-use std::alloc::Global;
+use std::alloc::{AllocError, Global};
 
 const NOT_BUILT: Fault = Fault {
     place: 0,
@@ -56,6 +56,16 @@ fn request_of(
     Some(request)
 }
 
+// A request as what is asked for.
+fn asking(alloc: Global, request: Option<Request>) -> Result<Option<Input>, AllocError>
+    ensures { IfOk result (λ input. input ≡ option_map Input.Ask request) }
+{
+    match request {
+        Some(request) => Ok(Some(Input::asking(alloc, request)?)),
+        None => Ok(None),
+    }
+}
+
 // What a command asks for, where this form of it is built.
 fn asked(
     alloc: Global,
@@ -64,20 +74,19 @@ fn asked(
     s: &Settings,
     lists: Lists,
     nodes: Option<Seq<Name>>,
-) -> Option<Input>
-    ensures { result ≡ asked user command s.now lists nodes }
+) -> Result<Option<Input>, AllocError>
+    ensures { IfOk result (λ input. input ≡ asked user command s.now lists nodes) }
 {
-    match command {
-        Command::ShowQueue => Some(Input::Show(queues_query(user, &s.listing))),
-        Command::ShowEntry => { Some(Input::Show(entries_query(user, s.listing.pattern, s.entry))) }
-        Command::ShowForms => Some(Input::Show(forms_query(s.listing.pattern))),
-        Command::ShowCharacteristics => {
-            Some(Input::Show(characteristics_query(s.listing.pattern)))
-        }
-        Command::ShowManagers => Some(Input::Show(manager_query())),
-        Command::StartManager => Some(Input::TakeManager { on: nodes }),
-        _ => Some(Input::Ask(request_of(alloc, user, command, s, lists)?)),
-    }
+    let input = match command {
+        Command::ShowQueue => Input::Show(queues_query(user, &s.listing)),
+        Command::ShowEntry => Input::Show(entries_query(user, s.listing.pattern, s.entry)),
+        Command::ShowForms => Input::Show(forms_query(s.listing.pattern)),
+        Command::ShowCharacteristics => Input::Show(characteristics_query(s.listing.pattern)),
+        Command::ShowManagers => Input::Show(manager_query()),
+        Command::StartManager => Input::TakeManager { on: nodes },
+        _ => return asking(alloc, request_of(alloc, user, command, s, lists)),
+    };
+    Ok(Some(input))
 }
 
 // What is told of a value that can't be read: what the grammar finds wrong in front of it, or else the value.
@@ -130,8 +139,9 @@ fn meant(
         return Err(DclFault::NoMemory);
     };
     match asked(alloc, user, command, s, lists, nodes) {
-        Some(input) => Ok(input),
-        None => Err(told(NOT_BUILT)),
+        Ok(Some(input)) => Ok(input),
+        Ok(None) => Err(told(NOT_BUILT)),
+        Err(AllocError) => Err(DclFault::NoMemory),
     }
 }
 

@@ -1,4 +1,4 @@
-use qm_kinds::{Input, Moment, Name, Refusal, Reply, Request, Seq};
+use qm_kinds::{Boxed, Input, Moment, Name, Refusal, Reply, Request, Seq};
 
 /// What happened in a turn. Each event names its node by its place in the cluster, counted from 0.
 #[derive(Drop)]
@@ -7,7 +7,7 @@ pub enum Event {
     Done {
         node: u8,
         moment: Moment,
-        request: Request,
+        request: Boxed<Request>,
         reply: Reply,
     },
     Refused {
@@ -26,7 +26,7 @@ pub enum Event {
     Doubt {
         node: u8,
         moment: Moment,
-        request: Request,
+        request: Boxed<Request>,
     },
     /// A record or an image has no room: the file would take `need` bytes, more than its `cap`.
     Full {

@@ -2,6 +2,7 @@
 //! that each value of one keeps. What a request does to a system is said in the model, above.
 #![tactic(auto)]
 
+mod boxed;
 mod count;
 mod entry;
 mod fault;
@@ -29,6 +30,7 @@ mod system;
 mod wildcards;
 mod work;
 
+pub use boxed::Boxed;
 pub use count::{blocks, success};
 pub use entry::{Entry, EntryState, Fate, JobKind, JobRetain};
 pub use fault::{MarkFault, NameFault};

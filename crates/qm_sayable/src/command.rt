@@ -66,7 +66,7 @@ pub fn is_command(input: &Input) -> bool
     ensures { result ≡ is_command input.now }
 {
     match input {
-        Input::Ask(request) => is_request(request),
+        Input::Ask(request) => is_request(request.get()),
         Input::Show(query) => is_query(query),
         Input::TakeManager { on } => are_nodes_given(on),
         Input::Compact

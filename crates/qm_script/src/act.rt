@@ -50,20 +50,20 @@ pub(crate) fn is_act_word(word: &[u8]) -> bool
 /// how many steps may be made (1 to 100,000); `MARK`, which takes the number of a run, a blank and the mark that it has
 /// reached (1 to 255 bytes, blanks too); `DONE`, which takes the number of a run that has ended, a blank and its status; and
 /// `TICK`, which takes nothing. Another word isn't built, and what a word doesn't take is a fault of form. Memory is wanted
-/// for the bytes of a `LINE` alone.
+/// for what asks for a request alone.
 pub(crate) fn read_act(alloc: Global, text: &[u8]) -> Result<Input, AllocError>
     ensures input { IfOk result (λ input. input ≡ act_of text.now) }
     ensures no_memory { OnErr result (WantsMemory (act_of text.now)) }
 {
     match cut_at_blank(text) {
-        None if text == TICK => Ok(Input::Ask(Request::Tick)),
+        None if text == TICK => Input::asking(alloc, Request::Tick),
         None => Ok(malformed_act(text)),
         Some((word, rest)) if word == LINE => read_line_act(alloc, rest),
-        Some((word, rest)) if word == FILL => Ok(read_fill_act(rest)),
-        Some((word, rest)) if word == DROP => Ok(read_drop_act(rest)),
+        Some((word, rest)) if word == FILL => read_fill_act(alloc, rest),
+        Some((word, rest)) if word == DROP => read_drop_act(alloc, rest),
         Some((word, rest)) if word == STEP => Ok(step_act(alloc, step_number(rest))),
-        Some((word, rest)) if word == MARK => Ok(read_mark_act(rest)),
-        Some((word, rest)) if word == DONE => Ok(read_done_act(rest)),
+        Some((word, rest)) if word == MARK => read_mark_act(alloc, rest),
+        Some((word, rest)) if word == DONE => read_done_act(alloc, rest),
         Some((word, _)) => Ok(malformed_act(word)),
     }
 }
@@ -80,31 +80,33 @@ fn malformed_act(word: &[u8]) -> Input
 }
 
 // A file's name, a blank and how many lines.
-fn read_fill_act(text: &[u8]) -> Input
-    ensures { result ≡ fill_act (cut_at_blank text.now) }
+fn read_fill_act(alloc: Global, text: &[u8]) -> Result<Input, AllocError>
+    ensures input { IfOk result (λ input. input ≡ fill_act (cut_at_blank text.now)) }
+    ensures no_memory { OnErr result (WantsMemory (fill_act (cut_at_blank text.now))) }
 {
     let Some((file, lines)) = cut_at_blank(text) else {
-        return fault(ParseKind::Form);
+        return Ok(fault(ParseKind::Form));
     };
     let Some(file) = FileName::read(file) else {
-        return fault(ParseKind::Form);
+        return Ok(fault(ParseKind::Form));
     };
     match plain_number_up_to(FILL_LIMIT, lines) {
-        None | Some(0) => fault(ParseKind::Form),
-        Some(lines) => Input::Ask(Request::Fill {
-            file,
-            lines: lines as u16,
-        }),
+        None | Some(0) => Ok(fault(ParseKind::Form)),
+        Some(lines) => {
+            let lines = lines as u16;
+            Input::asking(alloc, Request::Fill { file, lines })
+        }
     }
 }
 
 // A file's name.
-fn read_drop_act(text: &[u8]) -> Input
-    ensures { result ≡ drop_act (file_name_of text.now) }
+fn read_drop_act(alloc: Global, text: &[u8]) -> Result<Input, AllocError>
+    ensures input { IfOk result (λ input. input ≡ drop_act (file_name_of text.now)) }
+    ensures no_memory { OnErr result (WantsMemory (drop_act (file_name_of text.now))) }
 {
     match FileName::read(text) {
-        Some(file) => Input::Ask(Request::Drop { file }),
-        None => fault(ParseKind::Form),
+        Some(file) => Input::asking(alloc, Request::Drop { file }),
+        None => Ok(fault(ParseKind::Form)),
     }
 }
 
@@ -144,38 +146,38 @@ fn read_mark(text: &[u8]) -> Option<Mark>
 }
 
 // The number of a run, a blank and its mark, which is all that stands behind.
-fn read_mark_act(text: &[u8]) -> Input
-    ensures { result ≡ mark_act (cut_at_blank text.now) }
+fn read_mark_act(alloc: Global, text: &[u8]) -> Result<Input, AllocError>
+    ensures input { IfOk result (λ input. input ≡ mark_act (cut_at_blank text.now)) }
+    ensures no_memory { OnErr result (WantsMemory (mark_act (cut_at_blank text.now))) }
 {
     let Some((run, mark)) = cut_at_blank(text) else {
-        return fault(ParseKind::Form);
+        return Ok(fault(ParseKind::Form));
     };
     let Some(run) = plain_number_up_to(u64::MAX, run) else {
-        return fault(ParseKind::Form);
+        return Ok(fault(ParseKind::Form));
     };
     let Some(value) = read_mark(mark) else {
-        return fault(ParseKind::Form);
+        return Ok(fault(ParseKind::Form));
     };
-    Input::Ask(Request::Mark { run, value })
+    Input::asking(alloc, Request::Mark { run, value })
 }
 
 // The number of a run, a blank and its status.
-fn read_done_act(text: &[u8]) -> Input
-    ensures { result ≡ done_act (cut_at_blank text.now) }
+fn read_done_act(alloc: Global, text: &[u8]) -> Result<Input, AllocError>
+    ensures input { IfOk result (λ input. input ≡ done_act (cut_at_blank text.now)) }
+    ensures no_memory { OnErr result (WantsMemory (done_act (cut_at_blank text.now))) }
 {
     let Some((run, status)) = cut_at_blank(text) else {
-        return fault(ParseKind::Form);
+        return Ok(fault(ParseKind::Form));
     };
     let Some(run) = plain_number_up_to(u64::MAX, run) else {
-        return fault(ParseKind::Form);
+        return Ok(fault(ParseKind::Form));
     };
     let Some(status) = plain_number_up_to(u64::from(u32::MAX), status) else {
-        return fault(ParseKind::Form);
+        return Ok(fault(ParseKind::Form));
     };
-    Input::Ask(Request::Done {
-        run,
-        status: status as u32,
-    })
+    let status = status as u32;
+    Input::asking(alloc, Request::Done { run, status })
 }
 
 // A file's name, a blank and a line.
@@ -189,10 +191,8 @@ fn read_line_act(alloc: Global, text: &[u8]) -> Result<Input, AllocError>
     let Some(file) = FileName::read(file) else {
         return Ok(fault(ParseKind::Form));
     };
-    Ok(Input::Ask(Request::Append {
-        file,
-        bytes: Seq::of(ended(alloc, line)?),
-    }))
+    let bytes = Seq::of(ended(alloc, line)?);
+    Input::asking(alloc, Request::Append { file, bytes })
 }
 
 // The line with a line feed.

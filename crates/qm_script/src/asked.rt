@@ -32,19 +32,20 @@ const START: &[u8] = b"START";
 const STOP: &[u8] = b"STOP";
 
 // What a word alone asks for.
-fn word_act(text: &[u8]) -> Input
-    ensures { result ≡ word_act text.now }
+fn word_act(alloc: Global, text: &[u8]) -> Result<Input, AllocError>
+    ensures input { IfOk result (λ input. input ≡ word_act text.now) }
+    ensures no_memory { OnErr result (TakesMemory (word_act text.now)) }
 {
     if text == TICK {
-        Input::Ask(Request::Tick)
+        Input::asking(alloc, Request::Tick)
     } else if text == COMPACT {
-        Input::Compact
+        Ok(Input::Compact)
     } else if text == STOP {
-        Input::StopNode
+        Ok(Input::StopNode)
     } else if text == START {
-        Input::StartNode
+        Ok(Input::StartNode)
     } else {
-        fault(ParseKind::Form)
+        Ok(fault(ParseKind::Form))
     }
 }
 
@@ -69,7 +70,7 @@ fn bytes_for(alloc: Global, file: FileName, digits: &[u8]) -> Result<Input, Allo
     ensures no_memory { OnErr result (TakesMemory (bytes_by (Some file) (hex_bytes digits.now))) }
 {
     match read_bytes(alloc, digits)? {
-        Some(bytes) => Ok(Input::Ask(Request::Append { file, bytes })),
+        Some(bytes) => Input::asking(alloc, Request::Append { file, bytes }),
         None => Ok(fault(ParseKind::Form)),
     }
 }
@@ -99,7 +100,7 @@ fn act_asked(alloc: Global, text: &[u8], known: &[u64]) -> Result<Input, AllocEr
     ensures no_memory { OnErr result (TakesMemory (act_asked known.now text.now)) }
 {
     match cut_at_blank(text) {
-        None => Ok(word_act(text)),
+        None => word_act(alloc, text),
         Some((word, rest)) if word == STEP => step_act(alloc, known, step_number(rest)),
         Some((word, _)) if is_act_word(word) => read_act(alloc, text),
         Some((word, rest)) if word == BYTES => bytes_act(alloc, rest),
@@ -140,8 +141,8 @@ fn read_whole(alloc: Global, text: &[u8], user: Name, now: Moment) -> Result<Inp
 
 /// What a line asks for at a node that has begun these listings and keeps these runs: a command behind a `$`, a call by an item list
 /// behind a `#`, or an act at the site behind a `!`. The clock told this moment before; times of a command that are relative count
-/// from it. A line that can't be read asks for nothing, and tells its fault. Memory may run out, for an act only where it adds bytes
-/// to a file or asks for the node's runs.
+/// from it. A line that can't be read asks for nothing, and tells its fault. Memory may run out, for an act only where it asks for a
+/// request or for the node's runs.
 pub fn read_line(
     alloc: Global,
     line: &UserLine<'_>,

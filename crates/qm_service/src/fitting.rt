@@ -291,7 +291,7 @@ fn look_at_input(node: u8, input: &Input)
     let Input::Ask(request) = input else {
         return;
     };
-    look_at_request(request);
+    look_at_request(request.get());
 }
 
 /// Looks at what a call asks for: it can be asked of the chest.

@@ -1,5 +1,5 @@
 // Calls: what a function asks for with its items.
-ghost use Rattle.std.specs.Prelude.{◌≡◌, ◌<◌, ◌^◌, Ok, IfOk, IfErr, length};
+ghost use Rattle.std.specs.Prelude.{◌≡◌, ◌<◌, ◌^◌, Ok, IfOk, IfErr, length, option_map};
 ghost use Rattle.qm_item.specs.Text.{text};
 ghost use Rattle.qm_sjc.specs.Asked.{listless_of, request_of, asked};
 ghost use Rattle.qm_sjc.specs.Calls.{call_of, Explains};
@@ -18,7 +18,7 @@ use crate::queues::{
 };
 use qm_item::Item;
 use qm_kinds::{Input, Listing, Name, ParseKind, Request};
-use std::alloc::Global;
+use std::alloc::{AllocError, Global};
 
 // What a function changes that takes no list of values, where nothing that it needs is missing.
 fn listless_of(function: Function, items: &[Item]) -> Option<Request>
@@ -61,6 +61,16 @@ fn request_of(
     }
 }
 
+// A request as what is asked for.
+fn asking(alloc: Global, request: Option<Request>) -> Result<Option<Input>, AllocError>
+    ensures { IfOk result (λ input. input ≡ option_map Input.Ask request) }
+{
+    match request {
+        Some(request) => Ok(Some(Input::asking(alloc, request)?)),
+        None => Ok(None),
+    }
+}
+
 // What a function asks for, where nothing that it needs is missing.
 fn asked(
     alloc: Global,
@@ -68,8 +78,8 @@ fn asked(
     function: Function,
     items: &[Item],
     lists: Lists,
-) -> Option<Input>
-    ensures { result ≡ asked user function items.now lists }
+) -> Result<Option<Input>, AllocError>
+    ensures { IfOk result (λ input. input ≡ asked user function items.now lists) }
 {
     let listing = match function {
         Function::DisplayQueue => Listing::Queues,
@@ -79,9 +89,9 @@ fn asked(
         Function::DisplayCharacteristic => Listing::Characteristics,
         Function::DisplayManager => Listing::Manager,
         Function::CancelOperation => Listing::Cancel,
-        _ => return Some(Input::Ask(request_of(alloc, user, function, items, lists)?)),
+        _ => return asking(alloc, request_of(alloc, user, function, items, lists)),
     };
-    Some(Input::Show(query_of(listing, items)))
+    Ok(Some(Input::Show(query_of(listing, items))))
 }
 
 /// What a user asks for who calls the function of this number with these items, which are of a list.
@@ -123,8 +133,9 @@ pub fn read_call(
         return Err(CallFault::NoMemory);
     };
     match asked(alloc, user, function, items, lists) {
-        Some(input) => Ok(input),
-        None => Err(at_once(ParseKind::Missing)),
+        Ok(Some(input)) => Ok(input),
+        Ok(None) => Err(at_once(ParseKind::Missing)),
+        Err(AllocError) => Err(CallFault::NoMemory),
     }
 }
 

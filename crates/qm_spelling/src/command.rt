@@ -98,7 +98,7 @@ impl fmt::Display for CommandText<'_> {
 
     fn fmt<W: fmt::Write>(&self, f: &mut fmt::Formatter<W>) -> fmt::Result {
         match self.0 {
-            Input::Ask(request) => write!(f, "{}", RequestText(request)),
+            Input::Ask(request) => write!(f, "{}", RequestText(request.get())),
             Input::Show(query) => write!(f, "{}", QueryText(query)),
             Input::TakeManager { on } => write!(f, "START/QUEUE/MANAGER{}", NodesText(on)),
             Input::Compact

@@ -144,7 +144,7 @@ pub(crate) fn tell_input(
     input: &Input,
 ) -> Result<(), AllocError> {
     match input {
-        Input::Ask(request) => push_request(alloc, told, 0, request),
+        Input::Ask(request) => push_request(alloc, told, 0, request.get()),
         Input::Show(query) => tell_query(alloc, told, query),
         Input::TakeManager { on } => tell_nodes(told, on),
         _ => push_line(told, "another input"),
@@ -246,7 +246,7 @@ fn tell_moment_asked(alloc: Global, told: &mut Vec<u8>, input: &Input) -> Result
     let Input::Ask(request) = input else {
         return push_line(told, "another input");
     };
-    match moment_asked(request) {
+    match moment_asked(request.get()) {
         Some(moment) => tell_moment(alloc, told, moment),
         None => push_line(told, "no moment"),
     }

@@ -20,12 +20,12 @@ fn step(walker: &mut Walker, event: &Event) -> Result<(), Stop>
             moment,
             request,
             reply,
-        } => walker.done(*node, *moment, request, reply),
+        } => walker.done(*node, *moment, request.get(), reply),
         Event::Doubt {
             node,
             moment,
             request,
-        } => walker.doubted(*node, *moment, request),
+        } => walker.doubted(*node, *moment, request.get()),
         Event::Took {
             node,
             moment,
