@@ -54,12 +54,7 @@ impl Wanted {
     ghost use Rattle.qm_chest.specs.Serving.{wanted_by};
 
     /// What the call of a node wants, whose clock told this before. A report takes memory for its request.
-    pub(crate) fn by(
-        alloc: Global,
-        node: u8,
-        now: Moment,
-        call: Call,
-    ) -> Result<Wanted, AllocError>
+    pub(crate) fn by(alloc: Global, node: u8, now: Moment, call: Call) -> Result<Wanted, AllocError>
         ensures { IfOk result (λ wanted. wanted ≡ wanted_by node now call) }
     {
         // Each arm makes the whole, so that the input is moved once.

@@ -128,6 +128,34 @@ impl ListedEntry {
         }
     }
 
+    /// The job's name.
+    pub fn name(&self) -> &Name
+        ensures { result.now ≡ self.now.name }
+    {
+        &self.name
+    }
+
+    /// Who submitted it.
+    pub fn user(&self) -> &Name
+        ensures { result.now ≡ self.now.user }
+    {
+        &self.user
+    }
+
+    /// Blocks of 512 bytes.
+    pub fn size(&self) -> u32
+        ensures { result ≡ self.now.size }
+    {
+        self.size
+    }
+
+    /// Its state.
+    pub fn state(&self) -> &EntryState
+        ensures { result.now ≡ self.now.state }
+    {
+        &self.state
+    }
+
     /// The entry's number.
     pub fn number(&self) -> u32
         ensures { result ≡ self.now.number }

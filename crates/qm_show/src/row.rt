@@ -6,7 +6,7 @@ ghost use Rattle.qm_show.specs.Behind.{behind_commas};
 
 use crate::act::ManagerText;
 use crate::status::StatusText;
-use qm_kinds::{Characteristic, Entry, Form, Name, Queue, QueueKind, Row, Seq};
+use qm_kinds::{Characteristic, Form, ListedEntry, Name, Queue, QueueKind, Row, Seq};
 use std::fmt;
 
 /// A row of a listing: a queue, an entry, a form, a characteristic or the queue manager.
@@ -15,7 +15,7 @@ pub struct RowText<'a>(pub &'a Row);
 
 // An entry, in columns.
 #[derive(Clone, Copy)]
-struct EntryText<'a>(&'a Entry);
+struct EntryText<'a>(&'a ListedEntry);
 
 #[derive(Clone, Copy)]
 struct QueueText<'a>(&'a Queue);
@@ -89,11 +89,11 @@ impl fmt::Display for EntryText<'_> {
     ghost output = { λ e. Some (entry_text e.0.now) };
 
     fn fmt<W: fmt::Write>(&self, f: &mut fmt::Formatter<W>) -> fmt::Result {
-        let number = self.0.number;
-        let name = characters(&self.0.name);
-        let user = characters(&self.0.user);
-        let size = self.0.size;
-        let status = StatusText(&self.0.state);
+        let number = self.0.number();
+        let name = characters(self.0.name());
+        let user = characters(self.0.user());
+        let size = self.0.size();
+        let status = StatusText(self.0.state());
         write!(f, "{number:>6} {name:<16} {user:<12} {size:>8} {status}")
     }
 }
@@ -158,7 +158,7 @@ impl fmt::Display for RowText<'_> {
     fn fmt<W: fmt::Write>(&self, f: &mut fmt::Formatter<W>) -> fmt::Result {
         match self.0 {
             Row::Queue(queue) => write!(f, "{}", QueueText(queue)),
-            Row::Entry(entry) => write!(f, "{}", EntryText(&entry.entry())),
+            Row::Entry(entry) => write!(f, "{}", EntryText(entry)),
             Row::Form(form) => write!(f, "{}", FormText(form)),
             Row::Characteristic(characteristic) => {
                 write!(f, "{}", CharacteristicText(characteristic))

@@ -41,6 +41,7 @@ fn listless_of(function: Function, items: &[Item]) -> Option<Request>
 }
 
 // What a function changes, where nothing that it needs is missing.
+#[inline(never)]
 fn request_of(
     alloc: Global,
     user: Name,

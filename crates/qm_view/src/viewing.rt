@@ -61,14 +61,15 @@ fn view_entry(alloc: Global, image: &Image, number: u32) -> Result<Vec<Row>, Ref
     match image.parts().entry(number) {
         None => Err(Refused::By(Refusal::NoSuchEntry { number })),
         Some(entry) => {
-            let mut rows = Vec::new(alloc);
-            rows.push(Row::Entry(ListedEntry::of(alloc, entry)?))?;
+            let mut rows = Vec::with_capacity(alloc, 1)?;
+            rows.push_reserved(Row::Entry(ListedEntry::of(alloc, entry)?));
             Ok(rows)
         }
     }
 }
 
 // The next row of a listing that goes on one by one, or all its rows.
+#[inline(never)]
 fn listed(alloc: Global, image: &Image, query: &Query) -> Result<Vec<Row>, Refused>
     ensures rows { IfOk result (λ rows. rows_listed (system_of image.now) query.now ≡ Ok rows.items) }
     ensures refused { Refuses result (rows_listed (system_of image.now) query.now) }
@@ -106,8 +107,8 @@ fn next_listed(alloc: Global, image: &Image, query: &Query) -> Result<Vec<Row>, 
     match next(alloc, image, query)? {
         None => Err(Refused::By(Refusal::NoMore { listing })),
         Some(row) => {
-            let mut rows = Vec::new(alloc);
-            rows.push(row)?;
+            let mut rows = Vec::with_capacity(alloc, 1)?;
+            rows.push_reserved(row);
             Ok(rows)
         }
     }
