@@ -1,5 +1,5 @@
 // What is asked for, as far as it is built, and what is still to be known of it once it is answered.
-ghost use Rattle.std.specs.Prelude.{◌≡◌};
+ghost use Rattle.std.specs.Prelude.{◌≡◌, IsTrue};
 ghost use Rattle.qm_history.specs.Calls.{why_of};
 ghost use Rattle.qm_course.specs.Asking.{built, built_call, gist_of, not_built};
 
@@ -53,10 +53,33 @@ fn built_call(call: Call) -> Call
     }
 }
 
+// Whether an input is built.
+fn is_built(input: &Input) -> bool
+    ensures { IsTrue result → built input.now ≡ input.now }
+{
+    match input {
+        Input::Compact => false,
+        _ => true,
+    }
+}
+
+// Whether a call asks for what is built. Nearly each one does, and so stays where it is.
+fn asks_for_built(call: &Call) -> bool
+    ensures { IsTrue result → built_call call.now ≡ call.now }
+{
+    match call {
+        Call::Line { input, .. } => is_built(input),
+        _ => true,
+    }
+}
+
 /// A call that asks for what is built, at its moment: all but a compaction is.
 pub fn built_asked(asked: Asked) -> Asked
     ensures { result ≡ record { moment = asked.moment; call = built_call asked.call } }
 {
+    if asks_for_built(&asked.call) {
+        return asked;
+    }
     let Asked { moment, call } = asked;
     Asked {
         moment,

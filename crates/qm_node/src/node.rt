@@ -1,7 +1,8 @@
 // Where a node is in its course, and how it goes on.
-ghost use Rattle.std.specs.Prelude.{◌≡◌, [], None, IfOk, IfSome, IsSome, OnErr, OnOk, drop, option_map};
+ghost use Rattle.std.specs.Prelude.{◌≡◌, ℕ, [], None, IfOk, IfSome, IsSome, OnErr, OnOk, drop, option_map};
 ghost use Rattle.qm_history.specs.Course.{at_first, behind_fetch, behind_line, goes_on, is_marked, next_at, own_stage, stage_behind, stage_for};
 ghost use Rattle.qm_history.specs.Script.{steps_asked};
+ghost use Rattle.qm_history.specs.Scans.{Scans as Begun};
 ghost use Rattle.qm_model.specs.Kept.{known, next_kept};
 ghost use Rattle.qm_script.specs.ClusterLines.{user_line_view, user_lines_view};
 ghost use Rattle.qm_script.specs.Asked.{line_with};
@@ -13,7 +14,7 @@ use qm_history::{Answer, Call};
 use qm_io::Clock;
 use qm_kinds::{Act, Duty, Moment, Refusal, Seq};
 use qm_scans::Scans;
-use qm_script::{UserLine, read_line, steps_of};
+use qm_script::{LineSort, UserLine, read_line, steps_of};
 use qm_symb::Symbiont;
 use std::alloc::{AllocError, Global};
 use std::marker::Model;
@@ -208,6 +209,17 @@ impl<'a, Y: Symbiont> NodeState<'a, Y> {
         }
     }
 
+    // The runs of which the reader of a line is told: an act alone may ask for them.
+    fn known_for(&self, line: &UserLine<'_>) -> Result<Vec<u64>, AllocError>
+        ensures { (now : ℕ) (begun : Begun) → IfOk result (λ runs. line_with (user_line_view line.now) now begun runs.items
+            ≡ line_with (user_line_view line.now) now begun (known self.now.state.kept)) }
+    {
+        match line.sort {
+            LineSort::Act => self.runs.known(),
+            LineSort::Command | LineSort::Items => Ok(Vec::new(self.alloc)),
+        }
+    }
+
     // The call of a line, which is read at a moment, where the node has begun these listings.
     fn call_of_line(
         &self,
@@ -217,7 +229,7 @@ impl<'a, Y: Symbiont> NodeState<'a, Y> {
     ) -> Result<Call, AllocError>
         ensures { IfOk result (λ call. call ≡ Call.Line line.now.number (line_with (user_line_view line.now) now begun.now (known self.now.state.kept))) }
     {
-        let known = self.runs.known()?;
+        let known = self.known_for(line)?;
         // A `?` would move what was read once more.
         match read_line(self.alloc, line, now, begun, &known) {
             Ok(input) => Ok(Call::Line {

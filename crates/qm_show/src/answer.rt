@@ -27,11 +27,34 @@ impl fmt::Display for Prefix {
     ghost output = { λ p. Some (prefix_text p.node p.line) };
 
     fn fmt<W: fmt::Write>(&self, f: &mut fmt::Formatter<W>) -> fmt::Result {
-        match self.line {
-            Some(line) => write!(f, "{} {}: ", self.node, line),
-            None => write!(f, "{} -: ", self.node),
-        }
+        f.write_str(front_of(self).as_str())
     }
+}
+
+// Appends the number of a line, or - for none.
+fn push_number(text: &mut ArrayString<68>, line: Option<u32>)
+    requires { length text.old.bytes ≤ 58 }
+    ensures text { text.new.bytes ≡ text.old.bytes ++ number_text line }
+    ensures few { length text.new.bytes ≤ length text.old.bytes + 10 }
+{
+    match line {
+        Some(number) => text.push_str(itoa::Buffer::new().format(number)),
+        None => text.push_str("-"),
+    }
+}
+
+// What stands before each line of an answer: a name of at most 39 bytes, a number of at most ten digits, and 3 bytes beside them. It
+// is made in place, with room for the line that says that the disk failed.
+fn front_of(prefix: &Prefix) -> ArrayString<68>
+    ensures text { result.bytes ≡ prefix_text prefix.now.node prefix.now.line }
+    ensures few { length result.bytes ≤ 52 }
+{
+    let mut text = ArrayString::new();
+    text.push_str(characters(&prefix.node));
+    text.push_str(" ");
+    push_number(&mut text, prefix.line);
+    text.push_str(": ");
+    text
 }
 
 /// The queue file has no room.
@@ -162,27 +185,12 @@ pub fn show_full(alloc: Global, prefix: &Prefix, need: u64, cap: u64) -> Result<
     one_line(alloc, prefix, FullText { need, cap })
 }
 
-// Appends the number of a line, or - for none.
-fn push_number(text: &mut ArrayString<68>, line: Option<u32>)
-    requires { length text.old.bytes ≤ 58 }
-    ensures text { text.new.bytes ≡ text.old.bytes ++ number_text line }
-    ensures few { length text.new.bytes ≤ length text.old.bytes + 10 }
-{
-    match line {
-        Some(number) => text.push_str(itoa::Buffer::new().format(number)),
-        None => text.push_str("-"),
-    }
-}
-
-/// The line that says that the disk failed. It is made in place, so that want of memory never hides it: a name of at most
-/// 39 bytes, a number of at most ten digits, and 19 bytes beside them.
+/// The line that says that the disk failed. It is made in place, so that want of memory never hides it: 16 bytes behind a prefix of
+/// 52 at most.
 pub fn show_journal(prefix: &Prefix) -> ArrayString<68>
     ensures { result.bytes ≡ flat_map (turn_text prefix.now.node prefix.now.line) (journal_line ∷ []) }
 {
-    let mut text = ArrayString::new();
-    text.push_str(characters(&prefix.node));
-    text.push_str(" ");
-    push_number(&mut text, prefix.line);
-    text.push_str(": %QMAN-F-JOURNAL\n");
+    let mut text = front_of(prefix);
+    text.push_str("%QMAN-F-JOURNAL\n");
     text
 }
