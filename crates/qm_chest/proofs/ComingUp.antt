@@ -31,7 +31,7 @@ use Rattle.qm_chest.specs.At.{IsStateAt}
 use Rattle.qm_chest.specs.Books.{IsBookOf}
 use Rattle.qm_chest.specs.Desk.{IsUp, desk_disk}
 use Rattle.qm_chest.specs.Parts.{Part}
-use Rattle.qm_chest.specs.Steps.{Comes, ComesTo, IsStep, is_recorded, is_step, start_refusal_of}
+use Rattle.qm_chest.specs.Steps.{Comes, ComesTo, IsShort, IsStep, is_recorded, is_step, start_refusal_of}
 use Rattle.qm_chest.specs.Whole.{IsServedAs, both}
 use Rattle.qm_chest.proofs.Deciding.{full_alone, recorded_step}
 use Rattle.qm_chest.proofs.Holding.{SiteFilesAreAccepted}
@@ -97,6 +97,10 @@ module _ (accepted : SiteFilesAreAccepted) (names : NodesKeepTheirNames) {D : Ty
         (served_by (e ∷ []) (subst (λ (o : Option Refusal). IsStarted w node (acting now (system_in w)) Nothing o (e ∷ [])) (sym (refusal_is (Some refusal) found))
         (ap (λ (x : ℕ). event.Refused node x input.StartNode refusal ∷ []) moment_there)))
         refl refl state
+
+    -- memory was short before the manager was asked
+    pub start_short : (came : Came D) → IsShort m cap w None old came → IsServedAs m cap w node now asked old (record { book = book; desk = came.desk }) [] came.answer
+    start_short came short = short_served m cap w node now asked there outside accepted only_now (record { book = book; desk = Up manager at }) state came short
 
     module _ (came : Came D) (comes : Comes m manager at true node now request.NodeUp None came)
         (found : None ≡ start_refusal_of (standing_of manager).system (unwrap_or (slice_get book.live.items node) false))

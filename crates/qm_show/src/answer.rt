@@ -43,8 +43,8 @@ fn push_number(text: &mut ArrayString<68>, line: Option<u32>)
     }
 }
 
-// What stands before each line of an answer: a name of at most 39 bytes, a number of at most ten digits, and 3 bytes beside them. It
-// is made in place, with room for the line that says that the disk failed.
+// What stands before each line of an answer, made in place: a name of at most 39 bytes, a number of at most ten digits, and 3 bytes
+// beside them.
 fn front_of(prefix: &Prefix) -> ArrayString<68>
     ensures text { result.bytes ≡ prefix_text prefix.now.node prefix.now.line }
     ensures few { length result.bytes ≤ 52 }
@@ -185,12 +185,15 @@ pub fn show_full(alloc: Global, prefix: &Prefix, need: u64, cap: u64) -> Result<
     one_line(alloc, prefix, FullText { need, cap })
 }
 
-/// The line that says that the disk failed. It is made in place, so that want of memory never hides it: 16 bytes behind a prefix of
-/// 52 at most.
+/// The line that says that the disk failed. It is made in place, so that want of memory never hides it: a name of at most
+/// 39 bytes, a number of at most ten digits, and 19 bytes beside them.
 pub fn show_journal(prefix: &Prefix) -> ArrayString<68>
     ensures { result.bytes ≡ flat_map (turn_text prefix.now.node prefix.now.line) (journal_line ∷ []) }
 {
-    let mut text = front_of(prefix);
-    text.push_str("%QMAN-F-JOURNAL\n");
+    let mut text = ArrayString::new();
+    text.push_str(characters(&prefix.node));
+    text.push_str(" ");
+    push_number(&mut text, prefix.line);
+    text.push_str(": %QMAN-F-JOURNAL\n");
     text
 }

@@ -11,7 +11,7 @@ use Rattle.qm_chest.proofs.asking.ask_step.Goals as goal
 
 pub returns-in-Ok-clause-nodes : goal.returns-in-Ok-clause-nodes
 returns-in-Ok-clause-nodes g c =
-    let does = c.in-Ok.ensures.answer.0 in
+    let does = (rw c.get.ensures at c.in-Ok.ensures).answer.0 in
     subst (λ (step : Step). Behind (IsOfNodes (cluster (standing_of c.args.manager.now).system) c.args.at) c.ask.new.self c.args.at (is_in_doubt step.event)) (sym c.done.ensures) (
       c.nodes_keep_their_names.ensures.names (standing_of c.args.manager.now).system c.acting-moment.result c.args.node c.args.request
           (record { system = (standing_of c.ask.new.self).system; reply = c.in-Ok.replies.kept }) does.accepted,
@@ -20,7 +20,7 @@ returns-in-Ok-clause-nodes g c =
 
 pub returns-in-Ok-clause-comes : goal.returns-in-Ok-clause-comes
 returns-in-Ok-clause-comes g c = λ tells.
-    let e = c.in-Ok.ensures in
+    let e = rw c.get.ensures at c.in-Ok.ensures in
     subst (λ (step : Step). Behind (λ desk. Comes g.D.Disk.meaning c.args.manager.now c.args.at c.args.live c.args.node c.args.now c.args.request c.args.took (came_of step desk)) c.ask.new.self c.args.at (is_in_doubt step.event)) (sym c.done.ensures)
     (λ cap w asked acted small up live own.
     done_comes c.site_files_are_accepted.ensures c.site_files_go_on.ensures g.D.Disk.meaning g.met.D.Disk.only_now g.met.D.Disk.counts_now (λ disk f le. g.met.D.Disk.reads_a_crash_state disk f tells le)
@@ -29,7 +29,7 @@ returns-in-Ok-clause-comes g c = λ tells.
 
 pub returns-in-Err-Refused-clause-comes : goal.returns-in-Err-Refused-clause-comes
 returns-in-Err-Refused-clause-comes g c = λ tells.
-    let e = rw c.in-Err-Refused.field-0-is at c.in-Err-Refused.ensures in
+    let e = rw (c.in-Err-Refused.field-0-is, c.get.ensures) at c.in-Err-Refused.ensures in
     subst (λ (step : Step). Behind (λ desk. Comes g.D.Disk.meaning c.args.manager.now c.args.at c.args.live c.args.node c.args.now c.args.request c.args.took (came_of step desk)) c.ask.new.self c.args.at (is_in_doubt step.event)) (sym c.refused.ensures)
     (λ cap w asked acted small up live own.
     refused_comes c.site_files_are_accepted.ensures c.site_files_go_on.ensures g.D.Disk.meaning g.met.D.Disk.only_now g.met.D.Disk.counts_now (λ disk f le. g.met.D.Disk.reads_a_crash_state disk f tells le)
@@ -38,7 +38,7 @@ returns-in-Err-Refused-clause-comes g c = λ tells.
 
 pub returns-in-Err-Full-clause-comes : goal.returns-in-Err-Full-clause-comes
 returns-in-Err-Full-clause-comes g c = λ tells.
-    let e = rw c.in-Err-Full.field-0-is at c.in-Err-Full.ensures in
+    let e = rw (c.in-Err-Full.field-0-is, c.get.ensures) at c.in-Err-Full.ensures in
     subst (λ (step : Step). Behind (λ desk. Comes g.D.Disk.meaning c.args.manager.now c.args.at c.args.live c.args.node c.args.now c.args.request c.args.took (came_of step desk)) c.ask.new.self c.args.at (is_in_doubt step.event)) (sym c.full.ensures)
     (λ cap w asked acted small up live own.
     full_comes c.site_files_are_accepted.ensures c.site_files_go_on.ensures g.D.Disk.meaning g.met.D.Disk.only_now g.met.D.Disk.counts_now (λ disk f le. g.met.D.Disk.reads_a_crash_state disk f tells le)
@@ -55,7 +55,7 @@ returns-in-Err-NoMemory-clause-comes g c = λ tells.
 
 pub returns-in-Err-Disk-clause-comes : goal.returns-in-Err-Disk-clause-comes
 returns-in-Err-Disk-clause-comes g c = λ tells closed same cap w asked acted small up live own.
-    let e = rw c.in-Err-Disk.field-0-is at c.in-Err-Disk.ensures in
+    let e = rw (c.in-Err-Disk.field-0-is, c.get.ensures) at c.in-Err-Disk.ensures in
     let m = g.D.Disk.meaning in
     let st = standing_of c.args.manager.now in
     let either : CrashState → Type 0 = HoldsEither (m.may_leave (disk_of c.args.manager.now)) st.recorded.says.live st.recorded (with_body st.recorded (text_of c.acting-moment.result c.args.node c.args.request)) in

@@ -17,7 +17,7 @@ pub tick-requires-clause-can : goal.tick-requires-clause-can
 tick-requires-clause-can g c =
     let s = (standing_of c.args.manager.now).system in
     can_ask s c.args.node c.args.now (node_within s c.args.self.now.names.items c.args.node c.requires.desk.1 c.requires.there) c.acts_in_time.ensures request.Tick
-    (subst (λ (r : Request). CanBeRecorded c.args.node r) c.in-Tick.is c.requires.can)
+    (subst (λ (r : Request). CanBeRecorded c.args.node r) (sym c.get.ensures ∙ c.in-Tick.is) c.requires.can)
 
 pub returns-in-Tick-clause-desk : goal.returns-in-Tick-clause-desk
 returns-in-Tick-clause-desk g c =
@@ -28,7 +28,7 @@ returns-in-Tick-clause-desk g c =
 pub returns-in-Tick-clause-comes : goal.returns-in-Tick-clause-comes
 returns-in-Tick-clause-comes g c = λ tells acted beside.
     subst (λ (r : Request). Behind (λ desk. OwnComes g.D.Disk.meaning c.args.self.now c.args.manager.now c.args.at c.args.node c.args.now acted (input.Ask r) beside c.args.took (came_of c.tick.result desk))
-    c.tick.new.manager c.args.at (is_in_doubt c.tick.result.event)) (sym c.in-Tick.is)
+    c.tick.new.manager c.args.at (is_in_doubt c.tick.result.event)) (sym c.in-Tick.is ∙ c.get.ensures)
     (c.tick.ensures.comes tells acted beside)
 
 pub ask_step-requires-clause-can : goal.ask_step-requires-clause-can
@@ -51,6 +51,6 @@ returns-in_default-clause-comes g c = λ tells acted beside.
     (λ desk comes cap w small kept up.
     let live = sym (c.is_live-live.ensures ∙ ap (λ (l : List Bool). unwrap_or (slice_get l c.args.node) false) kept.live) in
     ask_comes c.site_files_are_accepted.ensures m g.met.D.Disk.only_now cap w c.args.manager.now c.args.at up c.args.node c.args.now acted beside c.args.took (acting c.args.now (standing_of c.args.manager.now).system) refl
-    c.args.request (disk_of c.args.manager.now) (came_of c.ask_step.result desk) c.ask_step.result.event (no_fence w c.args.node c.args.request c.in_default.not-Tick)
+    c.args.request (disk_of c.args.manager.now) (came_of c.ask_step.result desk) c.ask_step.result.event (no_fence w c.args.node c.args.request (rw c.get.ensures at c.in_default.not-Tick))
     (comes cap w (input.Ask c.args.request) acted small up live refl))
     (is_in_doubt c.ask_step.result.event) (c.ask_step.ensures.comes tells)

@@ -1,7 +1,7 @@
 use Rattle.std.proofs.Common.{ℕ, ◌∙◌, false, List, ap, arith, refl, sym, subst, None, Some}
 use Rattle.qm_acting.specs.Asking.{CanBeAsked}
 use Rattle.std.specs.Prelude.{slice_set}
-use Rattle.qm_kinds.specs.declared.request.Request.TheVariants as request
+use Rattle.qm_kinds.specs.declared.request.Request.{Request}
 use Rattle.qm_model.specs.Acting.{acting}
 use Rattle.qm_acting.specs.Standing.{disk_of, standing_of}
 use Rattle.qm_history.specs.World.{system_in}
@@ -10,7 +10,7 @@ use Rattle.qm_history.specs.declared.event.Event.{Event}
 use Rattle.qm_chest.specs.declared.answering.Step.{Step}
 use Rattle.qm_chest.specs.declared.asking.Came.{Came}
 use Rattle.qm_chest.specs.declared.desk.Desk.TheVariants.{Up}
-use Rattle.qm_chest.specs.Steps.{Comes, IsOfNodes, came_of}
+use Rattle.qm_chest.specs.Steps.{Comes, IsOfNodes, IsToManager, came_of}
 use Rattle.qm_chest.specs.Whole.{IsServedAs, both}
 use Rattle.qm_chest.proofs.Kept.{alone_leaves, behind_leaves, desk_of, going_some, leaves_as}
 use Rattle.qm_chest.proofs.Names.{name_there, node_within}
@@ -31,9 +31,14 @@ pub ask-came-requires-clause-can : goal.ask-came-requires-clause-can
 ask-came-requires-clause-can g c =
     let st = standing_of c.args.manager in
     let named = name_there c.args.node st.system.nodes c.args.self.now.names.items c.requires.desk.1 c.requires.there in
-    subst (λ (nodes : List (List ℕ)). CanBeAsked st.system (acting c.args.now st.system) c.args.node (request.NodeLost nodes)) (sym (c.in-Ok.ensures.one named.0 named.1))
+    subst (λ (r : Request). CanBeAsked st.system (acting c.args.now st.system) c.args.node r) (sym (c.in-Ok.ensures.one named.0 named.1))
     (can_lose st.system c.args.node c.args.now (node_within st.system c.args.self.now.names.items c.args.node c.requires.desk.1 c.requires.there) c.acts_in_time.ensures (omega (arith, c.ranges.node.fits))
     named.0 (c.in-Ok.ensures.lawful named.0 named.1) named.2 (c.site_files_are_consistent.ensures st.recorded.bodies st.system c.requires.desk.0.file))
+
+pub ask-came-requires-clause-to_manager : goal.ask-came-requires-clause-to_manager
+ask-came-requires-clause-to_manager g c =
+    let named = name_there c.args.node (standing_of c.args.manager).system.nodes c.args.self.now.names.items c.requires.desk.1 c.requires.there in
+    subst IsToManager (sym (c.in-Ok.ensures.one named.0 named.1)) tt
 
 pub returns-then-not-lets_go-clause-leaves : goal.returns-then-not-lets_go-clause-leaves
 returns-then-not-lets_go-clause-leaves g c =
@@ -48,7 +53,7 @@ pub returns-then-not-lets_go-clause-serves : goal.returns-then-not-lets_go-claus
 returns-then-not-lets_go-clause-serves g c = λ tells cap w asked state early asks.
     let there = node_within (system_in w) c.args.self.now.names.items c.args.node state.book.names c.requires.there in
     let named = name_there c.args.node (system_in w).nodes c.args.self.now.names.items state.book.names c.requires.there in
-    let comes = subst (λ (nodes : List (List ℕ)). Comes g.D.Disk.meaning c.args.manager c.args.at false c.args.node c.args.now (request.NodeLost nodes) None c.ask-came.result) (c.in-Ok.ensures.one named.0 named.1)
+    let comes = subst (λ (r : Request). Comes g.D.Disk.meaning c.args.manager c.args.at false c.args.node c.args.now r None c.ask-came.result) (c.in-Ok.ensures.one named.0 named.1)
     (c.ask-came.ensures.comes tells) in
     served_as c.alone-then-not-lets_go.result _ c.alone-then-not-lets_go.ensures
     (loss_stays c.site_files_are_accepted.ensures c.nodes_keep_their_names.ensures.names g.D.Disk.meaning g.met.D.Disk.only_now cap w c.args.manager c.args.at c.args.node c.args.now there c.args.self.now state asked asks.0
@@ -69,7 +74,7 @@ pub returns-clause-serves : goal.returns-clause-serves
 returns-clause-serves g c = λ tells cap w asked state early asks.
     let there = node_within (system_in w) c.args.self.now.names.items c.args.node state.book.names c.requires.there in
     let named = name_there c.args.node (system_in w).nodes c.args.self.now.names.items state.book.names c.requires.there in
-    let comes = subst (λ (nodes : List (List ℕ)). Comes g.D.Disk.meaning c.args.manager c.args.at false c.args.node c.args.now (request.NodeLost nodes) None c.ask-came.result) (c.in-Ok.ensures.one named.0 named.1)
+    let comes = subst (λ (r : Request). Comes g.D.Disk.meaning c.args.manager c.args.at false c.args.node c.args.now r None c.ask-came.result) (c.in-Ok.ensures.one named.0 named.1)
     (c.ask-came.ensures.comes tells) in
     let first = ap (λ (e : Event). record { desk = c.ask-came.result.desk; first = Some e; second = c.ask-came.result.event; answer = c.ask-came.result.answer }) c.gone.ensures in
     served_as c.behind.result _ (c.behind.ensures ∙ first)

@@ -17,7 +17,7 @@ take_over-requires-clause-can g c =
     let st = restored_standing c.args.restored in
     let can = c.requires.can in
     subst (λ (x : Request). CanBeAsked st.system c.acting-moment.result c.args.node x)
-    (sym (c.in-Ok.ensures ∙ request_read c.args.self.now st.system c.args.node c.args.input.now c.next_epoch-epoch.result c.nodes.result.now c.may.result.now c.nodes.ensures c.may.ensures))
+    (sym (c.get.ensures ∙ c.in-Ok.ensures ∙ request_read c.args.self.now st.system c.args.node c.args.input.now c.next_epoch-epoch.result c.nodes.result.now c.may.result.now c.nodes.ensures c.may.ensures))
     (took_can_be_asked c.names_of_files_stay.ensures st.recorded.bodies st.system can.restored.file (c.site_files_are_consistent.ensures st.recorded.bodies st.system can.restored.file) c.args.self.now c.args.node c.args.input.now
     c.acting-moment.result c.next_epoch-epoch.result (node_within st.system c.args.self.now.names.items c.args.node can.nodes can.there) (omega (arith, c.acting-moment.ensures)) (search rules) (search rules))
 
@@ -73,7 +73,7 @@ returns-in-Full-clause-takes g c = λ tells cap w asked old taking read.
     let m = g.D.Disk.meaning in
     let can = c.requires.can in
     let st = restored_standing c.args.restored in
-    let e = rw c.in-Full.is at c.in-Err.ensures.answer in
+    let e = rw (c.in-Full.is, c.get.ensures) at c.in-Err.ensures.answer in
     let run = rw c.in-Full.is at (c.in-Err.ensures.any_moment tells) in
     writing.full_at c.site_files_are_accepted.ensures c.site_files_go_on.ensures c.nodes_keep_their_names.ensures.names m g.met.D.Disk.only_now g.met.D.Disk.counts_now (λ disk f le. g.met.D.Disk.reads_a_crash_state disk f tells le)
     cap w asked c.args.kept old (restored_disk c.args.restored) st read c.args.self.now c.args.node c.args.now c.args.input.now taking can.there c.requires.asks can.nodes c.requires.named
@@ -86,8 +86,8 @@ returns-in-Record-clause-takes g c = λ tells cap w asked old taking read.
     let m = g.D.Disk.meaning in
     let can = c.requires.can in
     let st = restored_standing c.args.restored in
-    let e = rw c.in-Record.is at c.in-Err.ensures.answer in
-    let run = rw c.in-Record.is at (c.in-Err.ensures.any_moment tells) in
+    let e = rw (c.in-Record.is, c.get.ensures) at c.in-Err.ensures.answer in
+    let run = rw (c.in-Record.is, c.get.ensures) at (c.in-Err.ensures.any_moment tells) in
     writing.doubt_at c.site_files_are_accepted.ensures c.site_files_go_on.ensures c.nodes_keep_their_names.ensures.names m g.met.D.Disk.only_now g.met.D.Disk.counts_now (λ disk f le. g.met.D.Disk.reads_a_crash_state disk f tells le)
     cap w asked c.args.kept old (restored_disk c.args.restored) st read c.args.self.now c.args.node c.args.now c.args.input.now taking can.there c.requires.asks can.nodes c.requires.named
     c.acting-moment.result c.acting-moment.ensures c.next_epoch-epoch.result c.next_epoch-epoch.ensures c.in-Ok.request
@@ -103,7 +103,7 @@ returns-in-Ok-take_over-clause-takes g c = λ tells cap w asked old taking read.
     cap w asked c.args.kept old (restored_disk c.args.restored) st read c.args.self.now c.args.node c.args.now c.args.input.now taking can.there c.requires.asks can.nodes c.requires.named
     c.acting-moment.result c.acting-moment.ensures c.next_epoch-epoch.result c.next_epoch-epoch.ensures c.in-Ok.request
     (c.in-Ok.ensures ∙ request_read c.args.self.now st.system c.args.node c.args.input.now c.next_epoch-epoch.result c.nodes.result.now c.may.result.now c.nodes.ensures c.may.ensures)
-    c.in-Ok-take_over.manager c.in-Ok-take_over.reply _ c.taken_by.result tells c.in-Ok-take_over.ensures.answer (c.in-Ok-take_over.ensures.any_moment tells) refl refl
+    c.in-Ok-take_over.manager c.in-Ok-take_over.reply _ c.taken_by.result tells (rw c.get.ensures at c.in-Ok-take_over.ensures.answer) (rw c.get.ensures at (c.in-Ok-take_over.ensures.any_moment tells)) refl refl
     (ap (λ (k : ℕ). slice_set c.args.self.now.held.items k c.next_epoch-epoch.result) c.from.ensures) refl c.taken_by.ensures
 
 pub returns-in-Ok-take_over-clause-leaves : goal.returns-in-Ok-take_over-clause-leaves
@@ -113,4 +113,4 @@ returns-in-Ok-take_over-clause-leaves g c =
     let st = restored_standing c.args.restored in
     let took = c.in-Ok.ensures in
     writing.took_leaves c.nodes_keep_their_names.ensures.names m c.args.self.now _ (restored_disk c.args.restored) c.args.node c.acting-moment.result c.in-Ok.request st c.in-Ok-take_over.manager c.in-Ok-take_over.reply c.taken_by.result
-    can.nodes can.there c.in-Ok-take_over.ensures.answer refl (omega arith) (c.in-Ok-take_over.ensures.faults.quiet (λ no. no)) c.in-Ok-take_over.ensures.spare (ap (λ (t : _). t.manager) (c.taken_by.ensures _ _ _ _ took))
+    can.nodes can.there (rw c.get.ensures at c.in-Ok-take_over.ensures.answer) refl (omega arith) (c.in-Ok-take_over.ensures.faults.quiet (λ no. no)) c.in-Ok-take_over.ensures.spare (ap (λ (t : _). t.manager) (c.taken_by.ensures _ _ _ _ took))

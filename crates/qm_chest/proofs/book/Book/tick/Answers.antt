@@ -1,10 +1,11 @@
-use Rattle.std.proofs.Common.{◌∙◌, ℕ, Bool, false, List, ap, refl, sym}
+use Rattle.std.proofs.Common.{◌∙◌, ℕ, Bool, false, List, ap, refl, subst, sym}
 use Rattle.std.specs.Prelude.{slice_get, unwrap_or}
 use Rattle.qm_kinds.specs.declared.input.Input.TheVariants as input
+use Rattle.qm_kinds.specs.declared.request.Request.{Request}
 use Rattle.qm_kinds.specs.declared.request.Request.TheVariants as request
 use Rattle.qm_model.specs.Acting.{acting}
 use Rattle.qm_acting.specs.Standing.{disk_of, standing_of}
-use Rattle.qm_chest.specs.Steps.{Comes, OwnComes, came_of, is_in_doubt}
+use Rattle.qm_chest.specs.Steps.{Behind, Comes, OwnComes, came_of, is_in_doubt}
 use Rattle.qm_chest.proofs.InPlace.{behind_so}
 use Rattle.qm_chest.proofs.OwnStep.{ask_comes, fence_comes, unfenced}
 use Rattle.qm_chest.proofs.book.Book.tick.Goals as goal
@@ -29,4 +30,6 @@ returns-clause-comes g c = λ tells acted beside.
     (unfenced c.site_files_are_accepted.ensures m g.met.D.Disk.only_now cap w c.args.manager.now c.args.at up c.args.node c.args.now acted beside c.args.took (acting c.args.now (standing_of c.args.manager.now).system) refl
     (sym held ∙ c.if-held-current.false ∙ c.epoch-current.ensures))
     (comes cap w (input.Ask request.Tick) acted small up live refl))
-    (is_in_doubt c.ask_step.result.event) (c.ask_step.ensures.comes tells)
+    (is_in_doubt c.ask_step.result.event)
+    (subst (λ (r : Request). Behind (λ desk. Comes m c.args.manager.now c.args.at c.is_live-live.result c.args.node c.args.now r c.args.took (came_of c.ask_step.result desk))
+    c.ask_step.new.manager c.args.at (is_in_doubt c.ask_step.result.event)) c.requires.tick (c.ask_step.ensures.comes tells))
