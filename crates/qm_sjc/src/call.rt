@@ -113,7 +113,7 @@ fn asked(
 /// Errors: `At` with the fault of the least place, which is that of its item: `Code` for an item that the function doesn't take,
 /// `Value` for a value that isn't one of its code, and for an empty CHARACTERISTIC beside another, `Repeated` for another item of a
 /// code, or the 65,536th CHARACTERISTIC or TARGET; where no item is at fault `Missing` at 0 for one that lacks; and `Form` at 0 for a
-/// number that is no function's. `NoMemory`, where memory for lists ran out.
+/// number that is no function's. `NoMemory`, where memory for lists or for the request ran out.
 pub fn read_call(
     alloc: Global,
     function: u16,
