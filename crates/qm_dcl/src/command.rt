@@ -12,7 +12,7 @@ use crate::queue::queue_request;
 use crate::settings::{Settings, settings_of};
 use crate::show::{characteristics_query, entries_query, forms_query, manager_query, queues_query};
 use crate::submit::job_of;
-use qm_grammar::{Command, Fault, Parsed, named_command, parse};
+use qm_grammar::{Command, Fault, Parsed, parse};
 use qm_kinds::{Input, JobKind, Moment, Name, ParseKind, Request, Seq};
 use std::alloc::{AllocError, Global};
 
@@ -190,7 +190,7 @@ fn unnamed(read: Result<Command, Fault>) -> Fault
 ///
 /// Errors: `At` with the fault of the least place: `NotBuilt` at byte 0 where a form of a command isn't built; `Value` at the first byte of a name, a number, a pattern, a word, a time or a file that can't be read; and those of the
 /// grammar.
-/// `NoMemory`, where memory for the tokens, the parts and the lists ran out.
+/// `NoMemory`, where memory for the tokens, the parts, the lists and the request ran out.
 pub fn read_command(alloc: Global, text: &[u8], user: Name, now: Moment) -> Result<Input, DclFault>
     ensures read { IfOk result (λ input. command_of user now text.now ≡ Ok input) }
     ensures fault { IfErr result (Explains (command_of user now text.now)) }
@@ -198,7 +198,7 @@ pub fn read_command(alloc: Global, text: &[u8], user: Name, now: Moment) -> Resu
     let Ok(parsed) = parse(alloc, text) else {
         return Err(DclFault::NoMemory);
     };
-    match named_command(text, &parsed.tokens) {
+    match parsed.named {
         Some(command) => meant(alloc, text, user, now, command, &parsed),
         None => Err(told(unnamed(parsed.command))),
     }

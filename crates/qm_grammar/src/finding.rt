@@ -1,13 +1,13 @@
 // Which command the tokens behind a verb make of it.
-ghost use Rattle.std.specs.Prelude.{◌≡◌, ◌==◌, find, filter, get_or};
-ghost use Rattle.qm_grammar.specs.Finding.{verb_of, lets_follow, stays_open, first_parameter, has_object, has_option, is_named, row_of, named_command};
+ghost use Rattle.std.specs.Prelude.{◌≡◌, ◌==◌, true, find, filter, get_or};
+ghost use Rattle.qm_grammar.specs.Finding.{verb_of, lets_follow, stays_open, first_parameter, has_object, has_option, is_named, row_of};
 ghost use Rattle.qm_grammar.specs.Names.{is_verb};
 ghost use Rattle.qm_grammar.specs.Table.{verbs};
 ghost use Rattle.qm_grammar.specs.Words.{verb_spelling};
 
 use crate::conflict::counting_place;
 use crate::names::{is_object, is_verb};
-use crate::table::{Command, Row, VERBS, Verb, rows_of};
+use crate::table::{Row, VERBS, Verb, rows_of};
 use crate::token::{bytes_of, is_text};
 use crate::word::Word;
 use qm_lex::{Token, TokenKind};
@@ -108,12 +108,53 @@ fn has_option(text: &[u8], verb: Verb, tokens: &[Token], option: Option<Word>) -
     }
 }
 
-// Whether the tokens behind the verb, of which this is the first parameter, name this command.
-fn is_named(text: &[u8], verb: Verb, tokens: &[Token], parameter: Option<Token>, row: &Row) -> bool
-    requires { parameter ≡ first_parameter tokens.now }
+// An option that is sought as the first parameter, if one is, and whether it is given.
+#[derive(Clone, Copy)]
+struct Sought {
+    object: Option<Word>,
+    is_given: bool,
+}
+
+// Whether these options that may be first parameters are one. There are no others than these.
+fn is_same_object(first: Option<Word>, second: Option<Word>) -> bool
+    ensures { result ≡ true → first ≡ second }
+{
+    match (first, second) {
+        (None, None)
+        | (Some(Word::Queue), Some(Word::Queue))
+        | (Some(Word::Entry), Some(Word::Entry)) => true,
+        _ => false,
+    }
+}
+
+// Whether this option is the first parameter, which is known where it was the last one to be sought.
+fn seek(
+    text: &[u8],
+    verb: Verb,
+    parameter: Option<Token>,
+    last: Sought,
+    object: Option<Word>,
+) -> Sought
+    requires { last.is_given ≡ has_object text.now verb last.object parameter }
+    ensures object { result.object ≡ object }
+    ensures is_given { result.is_given ≡ has_object text.now verb object parameter }
+{
+    if is_same_object(last.object, object) {
+        last
+    } else {
+        Sought {
+            object,
+            is_given: has_object(text, verb, object, parameter),
+        }
+    }
+}
+
+// Whether the tokens behind the verb name this command, of which it is known whether its first parameter is given.
+fn is_named(text: &[u8], verb: Verb, tokens: &[Token], is_given: bool, row: &Row) -> bool
+    requires { is_given ≡ has_object text.now verb row.now.object (first_parameter tokens.now) }
     ensures { result ≡ is_named text.now verb tokens.now row.now }
 {
-    has_object(text, verb, row.object, parameter)
+    is_given
         && has_option(text, verb, tokens, row.option)
         && has_option(text, verb, tokens, row.further)
 }
@@ -123,24 +164,17 @@ pub(crate) fn row_of(text: &[u8], tokens: &[Token], verb: Verb) -> Option<Row>
     ensures { result ≡ row_of text.now tokens.now verb }
 {
     let parameter = first_parameter(tokens);
+    let mut last = Sought {
+        object: None,
+        is_given: true,
+    };
     let mut rest = rows_of(verb);
     while let [row, behind @ ..] = rest {
-        if is_named(text, verb, tokens, parameter, row) {
+        last = seek(text, verb, parameter, last, row.object);
+        if is_named(text, verb, tokens, last.is_given, row) {
             return Some(*row);
         }
         rest = behind;
     }
     None
-}
-
-/// The command that the tokens of a text name, whatever else is wrong with them: its verb, and its option, where it has one.
-pub fn named_command(text: &[u8], tokens: &[Token]) -> Option<Command>
-    ensures { result ≡ named_command text.now tokens.now }
-{
-    let [first, behind @ ..] = tokens else {
-        return None;
-    };
-    let verb = verb_of(text, *first)?;
-    let row = row_of(text, behind, verb)?;
-    Some(row.command)
 }

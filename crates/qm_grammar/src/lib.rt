@@ -19,12 +19,10 @@ mod token;
 mod word;
 
 pub use fault::Fault;
-pub use finding::named_command;
 pub use laws::names_are_whole_or_begun_alone;
-pub use part::{Part, parts_of};
+pub use part::Part;
 pub use place::{Place, State};
 pub use reader::{Parsed, parse};
-pub use reading::command_of;
 pub use rules::{Rule, Takes};
 pub use table::{Command, Row, Verb};
 pub use token::bytes_of;

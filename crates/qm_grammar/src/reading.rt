@@ -1,17 +1,22 @@
 // Tokens, one behind the other.
-ghost use Rattle.std.specs.Prelude.{◌≡◌};
-ghost use Rattle.qm_grammar.specs.Reading.{is_short, whole, ended, read_from, or_conflict, no_verb, command_of};
+ghost use Rattle.std.specs.Prelude.{◌≡◌, [], None, Some, Err, IfOk};
+ghost use Rattle.qm_grammar.specs.Finding.{named_behind, named_command};
+ghost use Rattle.qm_grammar.specs.Parts.{parts_from, parts_behind, parts_of};
+ghost use Rattle.qm_grammar.specs.Places.{begun};
+ghost use Rattle.qm_grammar.specs.Reading.{is_short, whole, ended, read_from, or_conflict, no_verb, command_behind, command_of};
 
 use crate::conflict::first_conflict;
 use crate::fault::{Fault, fault_at};
 use crate::finding::{row_of, verb_of};
 use crate::names::begins_verb;
+use crate::part::{Part, push_part};
 use crate::place::{Place, State, begun};
 use crate::rules::needs_value;
 use crate::step::{is_owing, with_token};
 use crate::table::{Command, Row, Verb};
 use qm_kinds::ParseKind;
 use qm_lex::{Token, TokenKind};
+use std::alloc::{AllocError, Global};
 
 // Whether something that the command needs isn't given.
 fn is_short(row: &Row, s: &State) -> bool
@@ -41,26 +46,48 @@ fn ended(text: &[u8], row: Option<Row>, s: &State) -> Result<Command, Fault>
     }
 }
 
-// The command of the tokens behind a verb, but for conflicts. The first token that is wrong tells what is wrong.
-fn read(
+// The command of the tokens behind a verb, and its parts as far as they are in place.
+#[derive(Drop)]
+struct Walked {
+    // The command, but for conflicts. The first token that is wrong tells what is wrong.
+    read: Result<Command, Fault>,
+    parts: Vec<Part>,
+}
+
+// Goes along the tokens behind a verb.
+fn walk(
+    alloc: Global,
     text: &[u8],
     verb: Verb,
     row: Option<Row>,
-    from: State,
+    first: Token,
     tokens: &[Token],
-) -> Result<Command, Fault>
-    ensures { result ≡ read_from text.now verb row from tokens.now }
+) -> Result<Walked, AllocError>
+    ensures read { IfOk result (λ walked. walked.read ≡ read_from text.now verb row (begun first) tokens.now) }
+    ensures parts { IfOk result (λ walked. walked.parts.items ≡ parts_from text.now verb row (begun first) tokens.now) }
 {
-    let mut s = from;
+    let mut parts = Vec::new(alloc);
+    let mut s = begun(first);
     let mut rest = tokens;
     while let [token, behind @ ..] = rest {
         match with_token(text, verb, row, &s, *token) {
-            Ok(next) => s = next,
-            Err(fault) => return Err(fault),
+            Ok(step) => {
+                push_part(&mut parts, step.part)?;
+                s = step.state;
+            }
+            Err(fault) => {
+                return Ok(Walked {
+                    read: Err(fault),
+                    parts,
+                });
+            }
         }
         rest = behind;
     }
-    ended(text, row, &s)
+    Ok(Walked {
+        read: ended(text, row, &s),
+        parts,
+    })
 }
 
 // A conflict, where nothing is wrong in front of it.
@@ -86,30 +113,64 @@ fn no_verb(text: &[u8], token: Token) -> ParseKind
     }
 }
 
-/// The command that the tokens of a text are.
+/// What the tokens of a text tell.
+#[derive(Drop)]
+pub(crate) struct Told {
+    /// The command that they name, whatever else is wrong with them.
+    pub named: Option<Command>,
+    /// The command that they are, or the fault with the least place.
+    pub command: Result<Command, Fault>,
+    /// The parts of the command in their order, as far as the tokens are in place.
+    pub parts: Vec<Part>,
+}
+
+// What tokens tell whose first one is a verb.
+fn told_behind(
+    alloc: Global,
+    text: &[u8],
+    verb: Verb,
+    first: Token,
+    tokens: &[Token],
+) -> Result<Told, AllocError>
+    ensures named { IfOk result (λ told. told.named ≡ named_behind text.now tokens.now (Some verb)) }
+    ensures command { IfOk result (λ told. told.command ≡ command_behind text.now first tokens.now (Some verb)) }
+    ensures parts { IfOk result (λ told. told.parts.items ≡ parts_behind text.now first tokens.now (Some verb)) }
+{
+    let row = row_of(text, tokens, verb);
+    let walked = walk(alloc, text, verb, row, first, tokens)?;
+    Ok(Told {
+        named: row.map(|row| row.command),
+        command: or_conflict(first_conflict(text, verb, row, tokens), walked.read),
+        parts: walked.parts,
+    })
+}
+
+// What tokens tell that begin with no verb.
+fn told_of_none(alloc: Global, fault: Fault) -> Told
+    ensures named { result.named ≡ None }
+    ensures command { result.command ≡ Err fault }
+    ensures parts { result.parts.items ≡ [] }
+{
+    Told {
+        named: None,
+        command: Err(fault),
+        parts: Vec::new(alloc),
+    }
+}
+
+/// What the tokens of a text tell, by one walk along them.
 ///
-/// Names are spelled in any case, and may be cut to a beginning that no other one has: a verb among the verbs, an option that
-/// names the command among the names of all commands of its verb, and any other name among those of the command, or where none is
-/// named among those of all commands of the verb. One that is spelled whole is that name. Options behind a `/` and qualifiers stand
-/// anywhere behind the verb; the option of `SET` and `SHOW` is the first parameter. What a value says isn't judged here.
-///
-/// Errors: the fault with the least place. `Ambiguous` at a first word with which several verbs begin, and at the `/` of a name with
-/// which several of those begin among which it is judged; `Word` at another first word that is no verb, at a first parameter of
-/// `SET` or `SHOW` that is no option, and at the `/` of a name that the verb hasn't, right behind a verb whose option stands there;
-/// `Qualifier` at the `/` of another name that isn't one of the command, and at a `/` without a name; `Value` at a value that isn't
-/// taken, or is one too many, at an empty list, and at a list in a list; `Form` at a sign, or a word joined to another, that isn't in place; `Extra`
-/// at a parameter too many; `Conflict` at the later of two that exclude each other and both count. Where nothing else is wrong,
-/// `Missing` at the text's end for a verb, an option, a parameter, a qualifier, a value or the end of a list.
-pub fn command_of(text: &[u8], tokens: &[Token]) -> Result<Command, Fault>
-    ensures { result ≡ command_of text.now tokens.now }
+/// Errors: `AllocError`, where memory ran out.
+pub(crate) fn told_of(alloc: Global, text: &[u8], tokens: &[Token]) -> Result<Told, AllocError>
+    ensures named { IfOk result (λ told. told.named ≡ named_command text.now tokens.now) }
+    ensures command { IfOk result (λ told. told.command ≡ command_of text.now tokens.now) }
+    ensures parts { IfOk result (λ told. told.parts.items ≡ parts_of text.now tokens.now) }
 {
     let [first, behind @ ..] = tokens else {
-        return Err(fault_at(text.len(), ParseKind::Missing));
+        return Ok(told_of_none(alloc, fault_at(text.len(), ParseKind::Missing)));
     };
-    let Some(verb) = verb_of(text, *first) else {
-        return Err(fault_at(first.start, no_verb(text, *first)));
-    };
-    let row = row_of(text, behind, verb);
-    let read = read(text, verb, row, begun(*first), behind);
-    or_conflict(first_conflict(text, verb, row, behind), read)
+    match verb_of(text, *first) {
+        Some(verb) => told_behind(alloc, text, verb, *first, behind),
+        None => Ok(told_of_none(alloc, fault_at(first.start, no_verb(text, *first)))),
+    }
 }

@@ -1,15 +1,27 @@
 // One token further.
-ghost use Rattle.std.specs.Prelude.{◌≡◌};
+ghost use Rattle.std.specs.Prelude.{◌≡◌, None, Some, Ok, Err, IfOk, IfErr};
+ghost use Rattle.qm_grammar.specs.Names.{rule_for};
+ghost use Rattle.qm_grammar.specs.Parts.{qualifier_part, text_part, part_of};
 ghost use Rattle.qm_grammar.specs.Places.{is_owing, misplaced, is_joined, one_more};
-ghost use Rattle.qm_grammar.specs.Steps.{unknown_kind, no_name_kind, named_by, with_value, is_no_object, with_parameter, with_name, with_text, with_word, with_slash, with_equals, with_key_open, with_open, with_close, with_comma, with_token};
+ghost use Rattle.qm_grammar.specs.Steps.{unknown_kind, no_name_kind, named_by, with_value, is_no_object, with_parameter, with_name, with_word, with_slash, with_equals, with_key_open, with_open, with_close, with_comma, with_token};
 
 use crate::fault::{Fault, fault_at};
 use crate::names::{begins_name, rule_for};
+use crate::part::{Part, qualifier_part};
 use crate::place::{Place, State, is_awaited, moved};
 use crate::rules::{Rule, Takes, may_have_key, most_values, needs_value};
 use crate::table::{Row, Verb, takes_object, takes_option};
 use qm_kinds::ParseKind;
 use qm_lex::{Token, TokenKind};
+
+/// One token further.
+#[derive(Clone, Copy)]
+pub(crate) struct Step {
+    /// Where one stands behind it.
+    pub state: State,
+    /// Which part of the command it is, if it is one; a sign is none.
+    pub part: Option<Part>,
+}
 
 /// Whether a value, or the end of a list, is missing, if nothing more of this qualifier comes.
 pub(crate) fn is_owing(s: &State) -> bool
@@ -163,6 +175,18 @@ fn with_parameter(verb: Verb, row: Option<Row>, s: &State, token: Token) -> Resu
     }
 }
 
+// One token further, by where one stands behind it, or what is wrong with it.
+fn step_to(state: Result<State, Fault>, part: Option<Part>) -> Result<Step, Fault>
+    ensures state { IfOk result (λ step. state ≡ Ok step.state) }
+    ensures part { IfOk result (λ step. step.part ≡ part) }
+    ensures fault { IfErr result (λ fault. state ≡ Err fault) }
+{
+    match state {
+        Ok(state) => Ok(Step { state, part }),
+        Err(fault) => Err(fault),
+    }
+}
+
 // Behind a name, or what is wrong with it.
 fn with_name(
     text: &[u8],
@@ -170,28 +194,19 @@ fn with_name(
     row: Option<Row>,
     s: &State,
     token: Token,
-) -> Result<State, Fault>
-    ensures { result ≡ with_name text.now verb row s.now token }
+) -> Result<Step, Fault>
+    ensures state { IfOk result (λ step. with_name text.now verb row s.now token ≡ Ok step.state) }
+    ensures part { IfOk result (λ step. step.part ≡ qualifier_part s.now.start (rule_for text.now verb row token)) }
+    ensures fault { IfErr result (λ fault. with_name text.now verb row s.now token ≡ Err fault) }
 {
-    if token.kind == TokenKind::Word {
-        named_by(text, verb, row, s, token, rule_for(text, verb, row, token))
-    } else {
-        Err(misplaced(s, token.start))
+    if token.kind != TokenKind::Word {
+        return Err(misplaced(s, token.start));
     }
-}
-
-// Behind a word or a quoted string that is no name.
-fn with_text(verb: Verb, row: Option<Row>, s: &State, token: Token) -> Result<State, Fault>
-    ensures { result ≡ with_text verb row s.now token s.now.place }
-{
-    match s.place {
-        Place::Equals | Place::Open | Place::Comma => with_value(s, token),
-        Place::Key | Place::KeyOpen => Ok(moved(s, Place::KeyValue, token)),
-        Place::Value | Place::KeyValue if s.in_list => {
-            Err(fault_at(token.start, ParseKind::Form))
-        }
-        _ => with_parameter(verb, row, s, token),
-    }
+    let rule = rule_for(text, verb, row, token);
+    step_to(
+        named_by(text, verb, row, s, token, rule),
+        qualifier_part(s, rule),
+    )
 }
 
 // Behind a word or a quoted string.
@@ -201,12 +216,27 @@ fn with_word(
     row: Option<Row>,
     s: &State,
     token: Token,
-) -> Result<State, Fault>
-    ensures { result ≡ with_word text.now verb row s.now token s.now.place }
+) -> Result<Step, Fault>
+    ensures state { IfOk result (λ step. with_word text.now verb row s.now token s.now.place ≡ Ok step.state) }
+    ensures part { IfOk result (λ step. step.part ≡ text_part s.now.start (rule_for text.now verb row token) token s.now.place) }
+    ensures fault { IfErr result (λ fault. with_word text.now verb row s.now token s.now.place ≡ Err fault) }
 {
     match s.place {
         Place::VerbSlash | Place::Slash => with_name(text, verb, row, s, token),
-        _ => with_text(verb, row, s, token),
+        Place::Equals | Place::Open | Place::Comma => {
+            step_to(with_value(s, token), Some(Part::Value { token }))
+        }
+        Place::Key | Place::KeyOpen => {
+            let state = moved(s, Place::KeyValue, token);
+            step_to(Ok(state), Some(Part::KeyValue { token }))
+        }
+        Place::Value | Place::KeyValue if s.in_list => {
+            Err(fault_at(token.start, ParseKind::Form))
+        }
+        _ => step_to(
+            with_parameter(verb, row, s, token),
+            Some(Part::Parameter { token }),
+        ),
     }
 }
 
@@ -302,22 +332,24 @@ fn with_comma(s: &State, token: Token) -> Result<State, Fault>
     }
 }
 
-/// Behind one more token, or what is wrong with it.
+/// One token further, or what is wrong with it.
 pub(crate) fn with_token(
     text: &[u8],
     verb: Verb,
     row: Option<Row>,
     s: &State,
     token: Token,
-) -> Result<State, Fault>
-    ensures { result ≡ with_token text.now verb row s.now token token.kind }
+) -> Result<Step, Fault>
+    ensures state { IfOk result (λ step. with_token text.now verb row s.now token token.kind ≡ Ok step.state) }
+    ensures part { IfOk result (λ step. step.part ≡ part_of text.now verb row s.now token) }
+    ensures fault { IfErr result (λ fault. with_token text.now verb row s.now token token.kind ≡ Err fault) }
 {
     match token.kind {
         TokenKind::Word | TokenKind::Quoted => with_word(text, verb, row, s, token),
-        TokenKind::Slash => with_slash(s, token),
-        TokenKind::Equals => with_equals(s, token),
-        TokenKind::Open => with_open(s, token),
-        TokenKind::Close => with_close(s, token),
-        TokenKind::Comma => with_comma(s, token),
+        TokenKind::Slash => step_to(with_slash(s, token), None),
+        TokenKind::Equals => step_to(with_equals(s, token), None),
+        TokenKind::Open => step_to(with_open(s, token), None),
+        TokenKind::Close => step_to(with_close(s, token), None),
+        TokenKind::Comma => step_to(with_comma(s, token), None),
     }
 }

@@ -1,5 +1,5 @@
 // What users type, and which command it is, or what is wrong and where.
-use qm_grammar::{Fault, Parsed, named_command, parse};
+use qm_grammar::{Fault, Parsed, parse};
 use std::alloc::{AllocError, Global};
 use std::process::Abort;
 
@@ -129,10 +129,7 @@ fn told_by(alloc: Global, text: &str, parsed: &Parsed, asked: Asked) -> Result<S
             Ok(command) => format!(in alloc; "{command:?}"),
             Err(Fault { place, kind }) => format!(in alloc; "{place} {kind:?}"),
         },
-        Asked::Name => {
-            let named = named_command(text.as_bytes(), &parsed.tokens);
-            format!(in alloc; "{named:?}")
-        }
+        Asked::Name => format!(in alloc; "{:?}", parsed.named),
         Asked::Parts => format!(in alloc; "{:?}", parsed.parts),
     }
 }

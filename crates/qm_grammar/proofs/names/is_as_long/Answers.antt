@@ -1,4 +1,4 @@
-use Rattle.std.proofs.Common.{◌≡◌, ◌==◌, length, ap, ◌∙◌}
+use Rattle.std.proofs.Common.{◌==◌, length, ap, ◌∙◌}
 use Rattle.qm_grammar.proofs.NameLemmas.{as_long_whole}
 use Rattle.qm_grammar.proofs.names.is_as_long.Goals as goal
 
