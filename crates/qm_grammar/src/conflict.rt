@@ -1,5 +1,6 @@
 // Which options and qualifiers exclude each other.
-ghost use Rattle.std.specs.Prelude.{◌≡◌};
+ghost use Rattle.std.specs.Prelude.{◌≡◌, is_some};
+ghost use Rattle.std.specs.List.{list_any};
 ghost use Rattle.qm_grammar.specs.Rules.{exclusions_of};
 ghost use Rattle.qm_grammar.specs.Conflicts.{slash_place, is_word_given, place_with, counting_place, conflict_of, earlier, first_conflict};
 
@@ -158,13 +159,8 @@ fn earlier(first: Option<usize>, second: Option<usize>) -> Option<usize>
     }
 }
 
-/// The first place of a conflict among the qualifiers and options of a command.
-pub(crate) fn first_conflict(
-    text: &[u8],
-    verb: Verb,
-    row: Option<Row>,
-    tokens: &[Token],
-) -> Option<usize>
+// The first place of a conflict, pair by pair.
+fn first_of(text: &[u8], verb: Verb, row: Option<Row>, tokens: &[Token]) -> Option<usize>
     ensures { result ≡ first_conflict text.now verb row tokens.now (exclusions_of verb) }
 {
     let mut place = None;
@@ -174,4 +170,27 @@ pub(crate) fn first_conflict(
         rest = behind;
     }
     place
+}
+
+/// Whether a `/` stands among the tokens.
+pub(crate) fn has_slash(tokens: &[Token]) -> bool
+    ensures { result ≡ list_any (λ token. is_some (slash_place token.kind token.start)) tokens.now }
+{
+    tokens.iter().any(|token| slash_place(*token).is_some())
+}
+
+/// The first place of a conflict among the qualifiers and options of a command. Where no `/` stands there are none.
+pub(crate) fn first_conflict(
+    text: &[u8],
+    verb: Verb,
+    row: Option<Row>,
+    tokens: &[Token],
+) -> Option<usize>
+    ensures { result ≡ first_conflict text.now verb row tokens.now (exclusions_of verb) }
+{
+    if has_slash(tokens) {
+        first_of(text, verb, row, tokens)
+    } else {
+        None
+    }
 }

@@ -5,7 +5,7 @@ ghost use Rattle.qm_grammar.specs.Names.{is_verb};
 ghost use Rattle.qm_grammar.specs.Table.{verbs};
 ghost use Rattle.qm_grammar.specs.Words.{verb_spelling};
 
-use crate::conflict::counting_place;
+use crate::conflict::{counting_place, has_slash};
 use crate::names::{is_object, is_verb};
 use crate::table::{Row, VERBS, Verb, rows_of};
 use crate::token::{bytes_of, is_text};
@@ -104,7 +104,9 @@ fn has_option(text: &[u8], verb: Verb, tokens: &[Token], option: Option<Word>) -
 {
     match option {
         None => true,
-        Some(word) => counting_place(text, verb, None, tokens, word).is_some(),
+        Some(word) => {
+            has_slash(tokens) && counting_place(text, verb, None, tokens, word).is_some()
+        }
     }
 }
 

@@ -1,7 +1,7 @@
 use Rattle.std.proofs.Common.{◌≡◌, length}
 use Rattle.qm_grammar.specs.Rules.{exclusions_of}
 use Rattle.qm_grammar.specs.Conflicts.{earlier, first_conflict}
-use Rattle.qm_grammar.proofs.conflict.first_conflict.Given as goal
+use Rattle.qm_grammar.proofs.conflict.first_of.Given as goal
 
 abbrev pub invariant-loop-rest : goal.invariant-loop-rest
 invariant-loop-rest l = earlier l.place (first_conflict l.text l.verb l.row l.tokens l.rest) ≡ first_conflict l.text l.verb l.row l.tokens (exclusions_of l.fn.verb)
