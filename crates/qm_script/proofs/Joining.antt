@@ -1,11 +1,12 @@
 -- Texts that go on in the next line, joined.
 use Rattle.std.proofs.Common.{◌≡◌, ◌<◌, ◌≤◌, ◌+◌, ◌-◌, ◌==◌, ℕ, suc, Bool, true, false, ◌&&◌, ◌||◌, not, cond, nat_eq, List, [], ◌∷◌, ◌++◌, length, take, drop, take_all, get_or, position, Option, None, Some, Result, arith, refl, sym, ◌∙◌, ap, append_assoc, append-nil, eqb-true, length-append}
-use Rattle.std.specs.List.{list_any, onto_first, slice_split, position_or_len, ends_with}
+use Rattle.std.specs.List.{list_all, list_any, onto_first, slice_split, position_or_len, ends_with}
 use Rattle.std.proofs.lemmas.List.{take-append-drop}
 use Rattle.std.proofs.lemmas.List.Sums.{split_at_first, passes_at_first}
 use Rattle.std.proofs.lemmas.Bool.Decides.{Decides-eqb}
 use Rattle.std.proofs.lemmas.Slice.Eq.{ends_is}
 use Rattle.std.proofs.Math.Seq.{take-append_seam}
+use Rattle.qm_model.specs.Script.{is_line_byte}
 use Rattle.qm_history.specs.Lines.{LineFault, lines_from, without_last, cut_short, line_of, one_more}
 use Rattle.qm_history.specs.Script.{UserLine}
 use Rattle.qm_script.specs.Extents.{is_feed, parts_of, joined, lines_with}
@@ -50,6 +51,28 @@ drop_seam (b ∷ front) text = drop_seam front text
 either_false : (a b : Bool) → a ≡ false → b ≡ false → (a || b) ≡ false
 either_false true b first second = first
 either_false false b first second = second
+
+-- ---- a text whose bytes can all be printed goes on nowhere
+
+both_true : (a b : Bool) → (a && b) ≡ true → (a ≡ true) × (b ≡ true)
+both_true true b h = (refl, h)
+both_true false b h = absurd (cc)
+
+ten_is_no_line_byte : (b : ℕ) → b ≡ 10 → is_line_byte b ≡ false
+ten_is_no_line_byte b ten = rw ten refl
+
+no_feed_byte : (b : ℕ) (is : Bool) → (b == 10) ≡ is → is_line_byte b ≡ true → is ≡ false
+no_feed_byte b false e h = refl
+no_feed_byte b true e h = let no = ten_is_no_line_byte b (eqb-true b 10 e) in absurd (cc)
+
+of_line_plain : (text : List ℕ) → list_all is_line_byte text ≡ true → list_any is_feed text ≡ false
+of_line_plain [] h = refl
+of_line_plain (b ∷ rest) h =
+    let each = both_true (is_line_byte b) (list_all is_line_byte rest) h in
+    either_false (b == 10) (list_any is_feed rest) (no_feed_byte b (b == 10) refl each.0) (of_line_plain rest each.1)
+
+pub joined_of_line : (text : List ℕ) → true ≡ list_all is_line_byte text → joined text ≡ text
+joined_of_line text h = joined_plain text (of_line_plain text (sym h))
 
 place_of : (passes : Bool) (x : ℕ) (rest : List ℕ) → (x == 10) ≡ passes → position_or_len is_feed (x ∷ rest) ≡ cond (not passes) (1 + position_or_len is_feed rest) 0
 place_of passes x rest is = ap (λ (t : Bool). cond (not t) (1 + position_or_len is_feed rest) 0) is

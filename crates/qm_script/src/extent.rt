@@ -92,8 +92,9 @@ pub(crate) fn are_of_line(text: &[u8]) -> bool
     text.iter().all(|b| 32 <= *b && *b <= 126)
 }
 
-/// Whether each byte of a text that may go on can be printed, or is a blank, but for those at which it goes on.
-pub(crate) fn is_of_line(text: &[u8]) -> bool
+// The same of a text that may go on, but for the bytes at which it goes on.
+#[inline(never)]
+fn is_joined_of_line(text: &[u8]) -> bool
     ensures { result ≡ list_all is_line_byte (joined text.now) }
 {
     let mut rest = text;
@@ -109,6 +110,14 @@ pub(crate) fn is_of_line(text: &[u8]) -> bool
         }
     }
     true
+}
+
+/// Whether each byte of a text that may go on can be printed, or is a blank, but for those at which it goes on.
+#[tactic(auto, using(crate::proofs::Joining::joined_of_line))]
+pub(crate) fn is_of_line(text: &[u8]) -> bool
+    ensures { result ≡ list_all is_line_byte (joined text.now) }
+{
+    are_of_line(text) || is_joined_of_line(text)
 }
 
 /// A text without each `-` and line feed at which it goes on. Memory may run out.

@@ -31,7 +31,7 @@ pub fn read_node_name(text: &[u8]) -> Option<Name>
     ensures { result ≡ node_name_of text.now }
 {
     match Name::read(text) {
-        Ok(name) if name.as_str().len() <= NODE_NAME_BYTES => Some(name),
+        Ok(name) if name.as_bytes().len() <= NODE_NAME_BYTES => Some(name),
         _ => None,
     }
 }

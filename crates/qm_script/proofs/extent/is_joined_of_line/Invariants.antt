@@ -2,7 +2,7 @@ use Rattle.std.proofs.Common.{◌≡◌, length}
 use Rattle.std.specs.List.{list_all}
 use Rattle.qm_model.specs.Script.{is_line_byte}
 use Rattle.qm_script.specs.Extents.{joined}
-use Rattle.qm_script.proofs.extent.is_of_line.Given as goal
+use Rattle.qm_script.proofs.extent.is_joined_of_line.Given as goal
 
 -- the bytes so far are of a line
 abbrev pub invariant-loop-rest : goal.invariant-loop-rest
