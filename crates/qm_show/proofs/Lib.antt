@@ -1,3 +1,3 @@
 pub mod Listed
-pub mod Columns
+pub mod Blanks
 pub mod TurnLines

@@ -1,29 +1,42 @@
 -- The lines of a turn, each behind what stands before it.
-use Rattle.std.proofs.Common.{◌≡◌, ℕ, Bool, List, [], ◌∷◌, ◌++◌, flat_map, refl, sym, ◌∙◌, append_assoc}
+use Rattle.std.proofs.Common.{◌≡◌, ℕ, Bool, List, [], ◌∷◌, ◌++◌, flat_map, map, refl, sym, append_assoc, Option}
 use Rattle.std.proofs.lemmas.Grind.{flat_map-append}
-use Rattle.qm_model.specs.Transcript.{turn_text}
-use Rattle.qm_show.specs.declared.answer.Prefix.{Prefix}
+use Rattle.qm_kinds.specs.declared.reply.Reply.{Reply}
+use Rattle.qm_model.specs.Words.{act_text, start_text}
+use Rattle.qm_model.specs.Transcript.{reply_lines, turn_text}
 use Rattle.qm_history.specs.declared.call.Answer.{Answer}
 use Rattle.qm_history.specs.declared.turn.Why.{Why}
 use Rattle.qm_history.specs.declared.turn.Why.TheVariants as why
 use Rattle.qm_history.specs.Text.{answer_lines, behind, first_line_of, line_behind, prefix_of, takeover_lines, told_takeover}
+use Rattle.qm_show.specs.Prefix.{prefix_text}
+use Rattle.qm_show.specs.Turns.{line_of, told_text}
 use Rattle.qm_sjc.specs.Printed.{items_line}
-use Rattle.qm_show.specs.Turns.{line_of, lines_behind, told_text}
 
-line_is : (name : List ℕ) (because : Why) (text : List ℕ) → turn_text name (line_of because) text ≡ line_behind (prefix_of name because) text
-line_is name (why.Line line) text = simp append_assoc
-line_is name why.Fetch text = simp append_assoc
-line_is name why.Report text = simp append_assoc
-line_is name why.Leave text = simp append_assoc
+-- one line
+pub turn_line : (front name : List ℕ) (line : Option ℕ) (text : List ℕ) → front ≡ prefix_text name line → line_behind front text ≡ turn_text name line text
+turn_line front name line text is = rw is (simp append_assoc)
 
-lines_are : (name : List ℕ) (because : Why) (lines : List (List ℕ)) → flat_map (turn_text name (line_of because)) lines ≡ behind (prefix_of name because) lines
-lines_are name because [] = refl
-lines_are name because (line ∷ lines) = rw (line_is name because line, lines_are name because lines) refl
+-- several lines
+pub turn_lines : (front name : List ℕ) (line : Option ℕ) (lines : List (List ℕ)) → front ≡ prefix_text name line
+    → behind front lines ≡ flat_map (turn_text name line) lines
+turn_lines front name line [] is = refl
+turn_lines front name line (text ∷ lines) is = rw (turn_line front name line text is, turn_lines front name line lines is) refl
+
+-- what was done, and the jobs that were started
+pub reply_text : (front name : List ℕ) (line : Option ℕ) (reply : Reply) → front ≡ prefix_text name line
+    → line_behind front (act_text reply.act) ++ behind front (map start_text reply.started) ≡ flat_map (turn_text name line) (reply_lines reply)
+reply_text front name line reply is = turn_lines front name line (reply_lines reply) is
+
+-- what stands before the lines of a turn
+prefix_is : (name : List ℕ) (because : Why) → prefix_text name (line_of because) ≡ prefix_of name because
+prefix_is name (why.Line line) = refl
+prefix_is name why.Fetch = simp append_assoc
+prefix_is name why.Report = simp append_assoc
+prefix_is name why.Leave = simp append_assoc
 
 -- a takeover, and what the call was answered
-pub whole_answer : (prefix : Prefix) (name : List ℕ) (because : Why) (single : Bool) (a : Answer) → prefix.node ≡ name → prefix.line ≡ line_of because
-    → lines_behind prefix (takeover_lines (told_takeover a)) ++ lines_behind prefix (answer_lines items_line (first_line_of because) single a) ≡ told_text name because single a
-whole_answer prefix name because single a node line =
-    rw (node, line)
-    (sym (flat_map-append (turn_text name (line_of because)) (takeover_lines (told_takeover a)) (answer_lines items_line (first_line_of because) single a))
-    ∙ lines_are name because (takeover_lines (told_takeover a) ++ answer_lines items_line (first_line_of because) single a))
+pub whole_answer : (front name : List ℕ) (because : Why) (single : Bool) (a : Answer) → front ≡ prefix_text name (line_of because)
+    → behind front (takeover_lines (told_takeover a)) ++ behind front (answer_lines items_line (first_line_of because) single a) ≡ told_text name because single a
+whole_answer front name because single a is =
+    rw (is, prefix_is name because)
+    (sym (flat_map-append (line_behind (prefix_of name because)) (takeover_lines (told_takeover a)) (answer_lines items_line (first_line_of because) single a)))

@@ -1,4 +1,5 @@
 pub mod ActWords
 pub mod Behind
+pub mod Columns
 pub mod Prefix
 pub mod Turns

@@ -1,7 +1,5 @@
 -- The lines of a turn, and what stands before them.
-use Rattle.std.specs.Prelude.{ℕ, Bool, List, ◌++◌, flat_map, Option, None, Some}
-use Rattle.qm_model.specs.Transcript.{turn_text}
-use Rattle.qm_show.specs.declared.answer.Prefix.{Prefix}
+use Rattle.std.specs.Prelude.{ℕ, Bool, List, ◌++◌, Option, None, Some}
 use Rattle.qm_sjc.specs.Printed.{items_line}
 use Rattle.qm_history.specs.declared.call.Answer.{Answer}
 use Rattle.qm_history.specs.declared.turn.Why.{Why}
@@ -14,10 +12,6 @@ line_of (why.Line line) = Some line
 line_of why.Fetch = None
 line_of why.Report = None
 line_of why.Leave = None
-
--- lines, each behind the same
-abbrev pub lines_behind : Prefix → List (List ℕ) → List ℕ
-lines_behind prefix lines = flat_map (turn_text prefix.node prefix.line) lines
 
 -- what is printed of a turn: its takeover, and its answer, where the call asked for one row by an item list or didn't
 abbrev pub told_text : List ℕ → Why → Bool → Answer → List ℕ

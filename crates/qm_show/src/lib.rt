@@ -5,6 +5,7 @@
 
 mod act;
 mod answer;
+mod columns;
 mod refusal;
 mod row;
 mod status;

@@ -1,10 +1,10 @@
 // What is printed of the rows of a listing.
-ghost use Rattle.std.specs.Prelude.{◌≡◌, Some};
-ghost use Rattle.qm_kinds.specs.Text.{IsText, is_name_byte};
+ghost use Rattle.std.specs.Prelude.{Some};
 ghost use Rattle.qm_model.specs.Words.{listed, name_text, entry_text, place_text, queue_text, form_text, characteristic_text, row_text};
 ghost use Rattle.qm_show.specs.Behind.{behind_commas};
 
 use crate::act::ManagerText;
+use crate::columns::columns_of;
 use crate::status::StatusText;
 use qm_kinds::{Characteristic, Form, ListedEntry, Name, Queue, QueueKind, Row, Seq};
 use std::fmt;
@@ -76,25 +76,12 @@ impl fmt::Display for ListedText<'_> {
     }
 }
 
-// The name as text. Each of its bytes is a character, so that the formatter fills it up by its length.
-pub(crate) fn characters(name: &Name) -> &str
-    ensures value { result.now ≡ name.now }
-    ensures lawful { IsText is_name_byte name.now }
-{
-    let _bytes = name.as_bytes();
-    name.as_str()
-}
-
 impl fmt::Display for EntryText<'_> {
     ghost output = { λ e. Some (entry_text e.0.now) };
 
     fn fmt<W: fmt::Write>(&self, f: &mut fmt::Formatter<W>) -> fmt::Result {
-        let number = self.0.number();
-        let name = characters(self.0.name());
-        let user = characters(self.0.user());
-        let size = self.0.size();
-        let status = StatusText(self.0.state());
-        write!(f, "{number:>6} {name:<16} {user:<12} {size:>8} {status}")
+        f.write_str(columns_of(self.0).as_str())?;
+        StatusText(self.0.state()).fmt(f)
     }
 }
 
@@ -158,7 +145,7 @@ impl fmt::Display for RowText<'_> {
     fn fmt<W: fmt::Write>(&self, f: &mut fmt::Formatter<W>) -> fmt::Result {
         match self.0 {
             Row::Queue(queue) => write!(f, "{}", QueueText(queue)),
-            Row::Entry(entry) => write!(f, "{}", EntryText(entry)),
+            Row::Entry(entry) => EntryText(entry).fmt(f),
             Row::Form(form) => write!(f, "{}", FormText(form)),
             Row::Characteristic(characteristic) => {
                 write!(f, "{}", CharacteristicText(characteristic))

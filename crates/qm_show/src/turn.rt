@@ -4,10 +4,12 @@ ghost use Rattle.std.specs.Option.{option_copied};
 ghost use Rattle.qm_model.specs.Words.{act_text, start_text};
 ghost use Rattle.qm_model.specs.Transcript.{runs_line};
 ghost use Rattle.qm_sjc.specs.Printed.{items_line};
-ghost use Rattle.qm_history.specs.Text.{answer_lines, fenced_line, first_line_of, if_printed, kept_lines, no_manager_line, shown_lines, takeover_lines, told_takeover};
-ghost use Rattle.qm_show.specs.Turns.{line_of, lines_behind, told_text};
+ghost use Rattle.qm_history.specs.Text.{answer_lines, behind, fenced_line, first_line_of, if_printed, kept_lines, no_manager_line, shown_lines, takeover_lines, told_takeover};
+ghost use Rattle.qm_show.specs.Turns.{line_of, told_text};
 
-use crate::answer::{FullText, Prefix, push_act, push_line, push_rows, push_starts};
+use crate::answer::{
+    FullText, Prefix, front_of, push_act, push_line, push_rows, push_runs, push_starts, push_text,
+};
 use crate::refusal::RefusalText;
 use qm_history::{Answer, Takeover, Why};
 use qm_kinds::{Act, Name, Reply, Row};
@@ -67,72 +69,63 @@ fn told_takeover(answer: &Answer) -> Option<&Takeover>
 }
 
 // Appends what became of a record in doubt, where one was.
-fn push_kept(out: &mut Vec<u8>, prefix: &Prefix, kept: Option<bool>) -> Result<(), AllocError>
-    ensures { OnOk result (out.new.items ≡ out.old.items ++ lines_behind prefix.now (kept_lines kept)) }
+fn push_kept(out: &mut Vec<u8>, front: &str, kept: Option<bool>) -> Result<(), AllocError>
+    ensures { OnOk result (out.new.items ≡ out.old.items ++ behind front.now (kept_lines kept)) }
 {
     match kept {
         None => Ok(()),
-        Some(true) => push_line(out, prefix, "%QMAN-I-KEPT"),
-        Some(false) => push_line(out, prefix, "%QMAN-I-NOTKEPT"),
+        Some(true) => push_text(out, front, "%QMAN-I-KEPT"),
+        Some(false) => push_text(out, front, "%QMAN-I-NOTKEPT"),
     }
 }
 
 // Appends the lines of a takeover.
-fn push_takeover(
-    out: &mut Vec<u8>,
-    prefix: &Prefix,
-    took: Option<&Takeover>,
-) -> Result<(), AllocError>
-    ensures { OnOk result (out.new.items ≡ out.old.items ++ lines_behind prefix.now (takeover_lines (option_copied took.entry))) }
+fn push_takeover(out: &mut Vec<u8>, front: &str, took: Option<&Takeover>) -> Result<(), AllocError>
+    ensures { OnOk result (out.new.items ≡ out.old.items ++ behind front.now (takeover_lines (option_copied took.entry))) }
 {
     let Some(took) = took else {
         return Ok(());
     };
-    push_kept(out, prefix, took.kept)?;
-    push_starts(out, prefix, took.started.as_slice())
+    push_kept(out, front, took.kept)?;
+    push_starts(out, front, took.started.as_slice())
 }
 
 // Appends what was done, where the turn tells of it.
-fn push_first_act(out: &mut Vec<u8>, prefix: &Prefix, why: Why, act: &Act) -> Result<(), AllocError>
-    ensures { OnOk result (out.new.items ≡ out.old.items ++ lines_behind prefix.now (if_printed (first_line_of why) (act_text act.now))) }
+fn push_first_act(out: &mut Vec<u8>, front: &str, why: Why, act: &Act) -> Result<(), AllocError>
+    ensures { OnOk result (out.new.items ≡ out.old.items ++ behind front.now (if_printed (first_line_of why) (act_text act.now))) }
 {
     match why {
-        Why::Line(_) | Why::Report => push_act(out, prefix, act),
+        Why::Line(_) | Why::Report => push_act(out, front, act),
         Why::Fetch | Why::Leave => Ok(()),
     }
 }
 
 // Appends what was done, where the turn tells of it, and the jobs that were started.
-fn push_reply(out: &mut Vec<u8>, prefix: &Prefix, why: Why, reply: &Reply) -> Result<(), AllocError>
-    ensures { OnOk result (out.new.items ≡ out.old.items ++ lines_behind prefix.now
+fn push_reply(out: &mut Vec<u8>, front: &str, why: Why, reply: &Reply) -> Result<(), AllocError>
+    ensures { OnOk result (out.new.items ≡ out.old.items ++ behind front.now
         (if_printed (first_line_of why) (act_text reply.now.act) ++ map start_text reply.now.started)) }
 {
-    push_first_act(out, prefix, why, &reply.act)?;
-    push_starts(out, prefix, reply.started.as_slice())
+    push_first_act(out, front, why, &reply.act)?;
+    push_starts(out, front, reply.started.as_slice())
 }
 
 // Appends how many runs the node was shown, where the turn tells of it.
-fn push_runs(out: &mut Vec<u8>, prefix: &Prefix, why: Why, count: usize) -> Result<(), AllocError>
-    ensures { OnOk result (out.new.items ≡ out.old.items ++ lines_behind prefix.now (if_printed (first_line_of why) (runs_line count))) }
+fn push_duties(out: &mut Vec<u8>, front: &str, why: Why, count: usize) -> Result<(), AllocError>
+    ensures { OnOk result (out.new.items ≡ out.old.items ++ behind front.now (if_printed (first_line_of why) (runs_line count))) }
 {
     match why {
-        Why::Line(_) | Why::Report => push_line(out, prefix, format_args!("runs: {count}")),
+        Why::Line(_) | Why::Report => push_runs(out, front, count),
         Why::Fetch | Why::Leave => Ok(()),
     }
 }
 
 // Appends the items of each row.
-fn push_items(
-    alloc: Global,
-    out: &mut Vec<u8>,
-    prefix: &Prefix,
-    rows: &[Row],
-) -> Result<(), AllocError>
-    ensures { OnOk result (out.new.items ≡ out.old.items ++ lines_behind prefix.now (map items_line rows.now)) }
+fn push_items(alloc: Global, out: &mut Vec<u8>, front: &str, rows: &[Row]) -> Result<(), AllocError>
+    ensures { OnOk result (out.new.items ≡ out.old.items ++ behind front.now (map items_line rows.now)) }
 {
     for row in rows {
         let line = row_line(alloc, row)?;
-        push_line(out, prefix, line.as_str())?;
+        push_text(out, front, line.as_str())?;
     }
     Ok(())
 }
@@ -141,63 +134,63 @@ fn push_items(
 fn push_shown(
     alloc: Global,
     out: &mut Vec<u8>,
-    prefix: &Prefix,
+    front: &str,
     single: bool,
     rows: &[Row],
 ) -> Result<(), AllocError>
-    ensures { OnOk result (out.new.items ≡ out.old.items ++ lines_behind prefix.now (shown_lines items_line single rows.now)) }
+    ensures { OnOk result (out.new.items ≡ out.old.items ++ behind front.now (shown_lines items_line single rows.now)) }
 {
     match rows {
-        [_, ..] if single => push_items(alloc, out, prefix, rows),
-        _ => push_rows(out, prefix, rows),
+        [_, ..] if single => push_items(alloc, out, front, rows),
+        _ => push_rows(out, front, rows),
     }
 }
 
 // Appends the line of a node that may not be queue manager.
-fn push_no_manager(out: &mut Vec<u8>, prefix: &Prefix, node: &Name) -> Result<(), AllocError>
-    ensures { OnOk result (out.new.items ≡ out.old.items ++ lines_behind prefix.now (no_manager_line node.now ∷ [])) }
+fn push_no_manager(out: &mut Vec<u8>, front: &str, node: &Name) -> Result<(), AllocError>
+    ensures { OnOk result (out.new.items ≡ out.old.items ++ behind front.now (no_manager_line node.now ∷ [])) }
 {
-    push_line(out, prefix, format_args!("%QMAN-E-NOMANAGER, {node}"))
+    push_line(out, front, format_args!("%QMAN-E-NOMANAGER, {node}"))
 }
 
 // Appends the lines of an answer, behind its takeover.
 fn push_answer(
     alloc: Global,
     out: &mut Vec<u8>,
-    prefix: &Prefix,
+    front: &str,
     why: Why,
     single: bool,
     answer: &Answer,
 ) -> Result<(), AllocError>
-    ensures { OnOk result (out.new.items ≡ out.old.items ++ lines_behind prefix.now (answer_lines items_line (first_line_of why) single answer.now)) }
+    ensures { OnOk result (out.new.items ≡ out.old.items ++ behind front.now (answer_lines items_line (first_line_of why) single answer.now)) }
 {
     match answer {
-        Answer::Done { reply, .. } => push_reply(out, prefix, why, reply),
-        Answer::Shown { rows, .. } => push_shown(alloc, out, prefix, single, rows.as_slice()),
-        Answer::Duties { duties, .. } => push_runs(out, prefix, why, duties.as_slice().len()),
+        Answer::Done { reply, .. } => push_reply(out, front, why, reply),
+        Answer::Shown { rows, .. } => push_shown(alloc, out, front, single, rows.as_slice()),
+        Answer::Duties { duties, .. } => push_duties(out, front, why, duties.as_slice().len()),
         Answer::Refused { refusal, .. } => push_line(
             out,
-            prefix,
+            front,
             format_args!("%QMAN-E-{}", RefusalText(refusal)),
         ),
         Answer::Full { need, cap, .. } => push_line(
             out,
-            prefix,
+            front,
             FullText {
                 need: *need,
                 cap: *cap,
             },
         ),
-        Answer::Journal { .. } => push_line(out, prefix, "%QMAN-F-JOURNAL"),
+        Answer::Journal { .. } => push_text(out, front, "%QMAN-F-JOURNAL"),
         Answer::Fenced { held, current } => push_line(
             out,
-            prefix,
+            front,
             FencedText {
                 held: *held,
                 current: *current,
             },
         ),
-        Answer::NoManager { node, .. } => push_no_manager(out, prefix, node),
+        Answer::NoManager { node, .. } => push_no_manager(out, front, node),
         Answer::Damaged { .. } | Answer::HistoryFull | Answer::NoMemory { .. } => Ok(()),
     }
 }
@@ -217,9 +210,10 @@ pub fn show_answer(
 ) -> Result<Vec<u8>, AllocError>
     ensures { IfOk result (λ text. text.items ≡ told_text node.now why single answer.now) }
 {
-    let prefix = prefix_of(node, why);
+    let made = front_of(&prefix_of(node, why));
+    let front = made.as_str();
     let mut text = Vec::with_capacity(alloc, MOST_TEXTS)?;
-    push_takeover(&mut text, &prefix, told_takeover(answer))?;
-    push_answer(alloc, &mut text, &prefix, why, single, answer)?;
+    push_takeover(&mut text, front, told_takeover(answer))?;
+    push_answer(alloc, &mut text, front, why, single, answer)?;
     Ok(text)
 }
