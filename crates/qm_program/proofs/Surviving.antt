@@ -1,6 +1,6 @@
 -- What is left of a run: by a crash, and at the devices.
 use Rattle.std.proofs.Common.{◌≡◌, ◌≢◌, ◌⊎◌, inl, inr, ⊎_elim, ℕ, List, [], ◌∷◌, ◌++◌, slice_get, Option, None, Some, Contains, IsTrue, option_to_list, sym, ◌∙◌, ap, subst}
-use Rattle.std.proofs.lemmas.List.{append-nil}
+use Rattle.std.specs.List.{AllByRecursion}
 use Rattle.std.proofs.lemmas.List.Elements.{Contains-append_left}
 use Rattle.qm_cluster.specs.Serving.{ServesAtOnce}
 use Rattle.qm_cluster.specs.Serving as at_once
@@ -11,18 +11,19 @@ use Rattle.qm_disk.specs.Disk.{CrashState, IsLeft, LeavesOnly, Meaning}
 use Rattle.qm_disk.proofs.Moments.{goes_further, started, weaker}
 use Rattle.qm_glog.specs.Records.{IsLog}
 use Rattle.qm_history.specs.Accepted.{cluster}
-use Rattle.qm_history.specs.Blocks.{ComeInStretches, all_steps}
+use Rattle.qm_history.specs.Blocks.{ComeInStretches, IsGiven, all_steps}
 use Rattle.qm_history.specs.Chest.{StandsFor}
 use Rattle.qm_history.specs.Contents.{HoldIn, HoldWithin, HoldWorld, Keeps}
-use Rattle.qm_history.specs.Course.{Extent, IsCourse, Whole}
+use Rattle.qm_history.specs.Course.{Extent, IsCourse, MadeStep, Whole}
 use Rattle.qm_history.specs.Ends.{ServingEnd}
 use Rattle.qm_history.specs.Ends as serving
 use Rattle.qm_history.specs.Happening.{acknowledged, events_of}
-use Rattle.qm_history.specs.Leaving.{MayBeLeft, MayBeLeftBehind}
+use Rattle.qm_history.specs.Leaving.{IsLeftWithin, MayBeLeft, MayBeLeftBehind, MayBeLeftIn}
 use Rattle.qm_history.specs.Legal.{after_turns}
 use Rattle.qm_history.specs.Script.{UserLine, lines_of}
 use Rattle.qm_history.specs.Start.{Hold, Starts}
 use Rattle.qm_history.specs.Step.{after_events}
+use Rattle.qm_history.specs.Visits.{visits_of}
 use Rattle.qm_history.specs.World.{IsSound, system_in}
 use Rattle.qm_history.specs.declared.event.Event.{Event}
 use Rattle.qm_history.specs.declared.turn.Turn.{Turn}
@@ -37,7 +38,7 @@ use Rattle.qm_service.specs.Serving.{Outside, Serves}
 use Rattle.qm_service.specs.Value.{meaning_of}
 use Rattle.qm_symb.specs.Device as symb
 use Rattle.qm_program.specs.Running.{ServesScript, ServesTo, Stays, TouchesNothing}
-use Rattle.qm_program.specs.Surviving.{GoesOnFrom, HasAcknowledged, TakesInStretches}
+use Rattle.qm_program.specs.Surviving.{GoesOnBehind, GoesOnFrom, GoesOnIn, GoesOnWithin, HasAcknowledged, TakesInStretches}
 use Rattle.qm_program.specs.declared.outcome.End.{End}
 use Rattle.qm_program.specs.declared.outcome.End.TheVariants as ends
 
@@ -123,13 +124,20 @@ module _ {D Y : Type 0} (m : Meaning D)
     ]
 
     -- behind turns that were made
-    pub served_behind : (end : End) → ServesTo m S left turns old new end → turns ≢ [] → (crashed : CrashState) → IsLeft (m.may_leave new.disk) crashed
-        → InWorld (after_turns w turns) crashed
-    served_behind end runs some crashed is_left = elim (parted end runs) [
+    kept_behind : (files : CrashState) → Keeps IsLog HasSpelling record_text m (after_turns w turns) new.disk
+        → (files ≡ m.seen new.disk) ⊎ IsLeft (m.may_leave new.disk) files → InWorld (after_turns w turns) files
+    kept_behind files keeps are = elim are [
+      | inl seen ↦ subst (InWorld (after_turns w turns)) (sym seen) keeps.reads
+      | inr is_left ↦ keeps.crash files is_left
+    ]
+
+    pub served_behind : (end : End) → ServesTo m S left turns old new end → turns ≢ [] → (files : CrashState)
+        → (files ≡ m.seen new.disk) ⊎ IsLeft (m.may_leave new.disk) files → InWorld (after_turns w turns) files
+    served_behind end runs some files are = elim (parted end runs) [
       | inl stays ↦ absurd (some stays.1)
       | inr more ↦ elim more [
         | inl touches ↦ absurd (some touches.none)
-        | inr served ↦ (served_stands served.0 served.1).1.crash crashed is_left
+        | inr served ↦ kept_behind files (served_stands served.0 served.1).1 are
       ]
     ]
 
@@ -137,38 +145,42 @@ module _ {D Y : Type 0} (m : Meaning D)
 
   module _ (y : symb.Meaning Y) (w : World) (tells : IsTrue m.tells) (begins : MayBegin m old.disk w)
       (stretches : (extent : Extent) (node : ℕ) (lines : List UserLine) (faults : ℕ) (h : IsCourse HasSpelling read_built extent w turns node lines faults) → ComeInStretches [] (all_steps h.steps h.broken))
+      (given : (extent : Extent) (node : ℕ) (lines : List UserLine) (faults : ℕ) (h : IsCourse HasSpelling read_built extent w turns node lines faults)
+      → AllByRecursion (λ (m : MadeStep). IsGiven (visits_of node w turns) m.run) (all_steps h.steps h.broken))
       (node : ℕ) (name : List ℕ) (was now : Side Y) (called : slice_get (cluster (system_in w)) node ≡ Some name)
       (before : slice_get old.sides node ≡ Some was) (after : slice_get new.sides node ≡ Some now)
       (taken : (opened : D) (names : List (List ℕ)) (lines : List UserLine) (end : ServingEnd) → slice_get names node ≡ Some name
       → S old.disk names lines (record old { disk = opened }) new turns end → TakesCourse y w turns node was now) where
+    abbrev Takes : Type 0
+    Takes = TakesInStretches y w turns node was.symbiont now.symbiont
+
     -- nothing was taken
-    none_taken : new.sides ≡ old.sides → TakesInStretches y was.symbiont now.symbiont
-    none_taken same = by (same_side (slice_get old.sides node) before (subst (λ (sides : List (Side Y)). slice_get sides node ≡ Some now) same after))
+    none_taken : turns ≡ [] → new.sides ≡ old.sides → Takes
+    none_taken none same =
+        inl (none, by (same_side (slice_get old.sides node) before (subst (λ (sides : List (Side Y)). slice_get sides node ≡ Some now) same after)))
       where
         same_side : (o : Option (Side Y)) → o ≡ Some was → o ≡ Some now → was ≡ now
         same_side o a b = cc
 
-        by : was ≡ now → TakesInStretches y was.symbiont now.symbiont
-        by is = record {
-          steps = [];
-          broken = None;
-          stretches = tt;
-          taken = record { handed = []; are_handed = tt; taken = λ told. ap (λ (side : Side Y). y.taken side.symbiont) (sym is) ∙ sym (append-nil (y.taken was.symbiont)) };
-        }
+        by : was ≡ now → was.symbiont ≡ now.symbiont
+        by is = ap (λ (side : Side Y). side.symbiont) is
 
-    course_taken : TakesCourse y w turns node was now → TakesInStretches y was.symbiont now.symbiont
-    course_taken takes = record {
-      steps = takes.3.steps;
-      broken = takes.3.broken;
+    course_taken : TakesCourse y w turns node was now → Takes
+    course_taken takes = inr (record {
+      extent = takes.0;
+      lines = takes.1;
+      faults = takes.2;
+      course = takes.3;
+      given = given takes.0 node takes.1 takes.2 takes.3;
       stretches = stretches takes.0 node takes.1 takes.2 takes.3;
       taken = takes.4;
-    }
+    })
 
-    pub served_taken : (end : End) → ServesTo m S left turns old new end → TakesInStretches y was.symbiont now.symbiont
+    pub served_taken : (end : End) → ServesTo m S left turns old new end → Takes
     served_taken end runs = elim (parted end runs) [
-      | inl stays ↦ none_taken (ap (λ (o : Outside D Y). o.sides) stays.0)
+      | inl stays ↦ none_taken stays.1 (ap (λ (o : Outside D Y). o.sides) stays.0)
       | inr more ↦ elim more [
-        | inl touches ↦ none_taken touches.sides
+        | inl touches ↦ none_taken touches.none touches.sides
         | inr served ↦
             let s = served.1 in
             let names : cluster (system_in w) ≡ s.names = (s.cluster tells).names_are w begins.starts in
@@ -214,30 +226,56 @@ Begins = (files : CrashState) (log : List Record) → Hold IsLog HasSpelling rec
     → (w : World) × Starts IsLog HasSpelling record_text files w × IsSound HasSpelling w × (system_in w ≡ system_of log)
 
 module _ (begins : Begins) where
-  goes_on : (turns : List Turn) (files : CrashState) (log : List Record) → Hold IsLog HasSpelling record_text files log → HasAcknowledged turns log → GoesOnFrom turns files
-  goes_on turns files log holds has = by (begins files log holds)
+  goes_on : (MayStand : List Record → Type 0) (turns : List Turn) (files : CrashState) (log : List Record) → Hold IsLog HasSpelling record_text files log → MayStand log
+      → HasAcknowledged turns log → GoesOnFrom MayStand turns files
+  goes_on MayStand turns files log holds stands has = by (begins files log holds)
     where
-      by : (w : World) × Starts IsLog HasSpelling record_text files w × IsSound HasSpelling w × (system_in w ≡ system_of log) → GoesOnFrom turns files
-      by begun = record { log = log; acknowledged = has; world = begun.0; starts = begun.1; sound = begun.2; system = begun.3 }
+      by : (w : World) × Starts IsLog HasSpelling record_text files w × IsSound HasSpelling w × (system_in w ≡ system_of log) → GoesOnFrom MayStand turns files
+      by begun = record { log = log; stands = stands; acknowledged = has; world = begun.0; starts = begun.1; sound = begun.2; system = begun.3 }
 
-  pub goes_on_within : ((w : World) (before : List Turn) (t : Turn) (log : List Record) (some : List Event) (e : Event) (others : List Event) (r : Record)
-      → MayBeLeft (after_turns w before) t log → events_of before ≡ some ++ e ∷ others → acknowledged e ≡ Some r → Contains log r)
-      → (w : World) (before : List Turn) (t : Turn) (crashed : CrashState) → HoldWithin IsLog HasSpelling record_text crashed (after_turns w before) t → GoesOnFrom before crashed
-  goes_on_within stay w before t crashed held =
-      goes_on before crashed held.log held.holds (λ some e others r is noted. stay w before t held.log some e others r held.left is noted)
+  abbrev StayWithin : Type 0
+  StayWithin = (w : World) (before : List Turn) (t : Turn) (log : List Record) (some : List Event) (e : Event) (others : List Event) (r : Record)
+      → MayBeLeft (after_turns w before) t log → events_of before ≡ some ++ e ∷ others → acknowledged e ≡ Some r → Contains log r
 
-  pub goes_on_behind : ((w : World) (before : List Event) (e : Event) (behind : List Event) (r : Record) → acknowledged e ≡ Some r → Contains (after_events w (before ++ e ∷ behind)).log r)
-      → ((w : World) (turns : List Turn) → after_turns w turns ≡ after_events w (events_of turns))
-      → (w : World) (turns : List Turn) (crashed : CrashState) → HoldWorld IsLog HasSpelling record_text crashed (after_turns w turns) → GoesOnFrom turns crashed
-  goes_on_behind stay are_events w turns crashed held = goes_on turns crashed held.log held.holds has
+  abbrev StayBehind : Type 0
+  StayBehind = (w : World) (before : List Event) (e : Event) (behind : List Event) (r : Record) → acknowledged e ≡ Some r → Contains (after_events w (before ++ e ∷ behind)).log r
+
+  abbrev AreEvents : Type 0
+  AreEvents = (w : World) (turns : List Turn) → after_turns w turns ≡ after_events w (events_of turns)
+
+  left_within : StayWithin → (w : World) (before : List Turn) (t : Turn) (crashed : CrashState) (log : List Record) → Hold IsLog HasSpelling record_text crashed log
+      → MayBeLeft (after_turns w before) t log → GoesOnWithin w before t crashed
+  left_within stay w before t crashed log holds left =
+      goes_on (MayBeLeft (after_turns w before) t) before crashed log holds left (λ some e others r is noted. stay w before t log some e others r left is noted)
+
+  pub goes_on_within : StayWithin → (w : World) (before : List Turn) (t : Turn) (crashed : CrashState) → HoldWithin IsLog HasSpelling record_text crashed (after_turns w before) t
+      → GoesOnWithin w before t crashed
+  goes_on_within stay w before t crashed held = left_within stay w before t crashed held.log held.holds held.left
+
+  left_behind : StayBehind → AreEvents → (w : World) (turns : List Turn) (crashed : CrashState) (log : List Record) → Hold IsLog HasSpelling record_text crashed log
+      → MayBeLeftBehind (after_turns w turns) log → GoesOnBehind w turns crashed
+  left_behind stay are_events w turns crashed log holds left = goes_on (MayBeLeftBehind (after_turns w turns)) turns crashed log holds left has
     where
-      in_log : (behind : World) (log : List Record) (r : Record) → MayBeLeftBehind behind log → Contains behind.log r → Contains log r
-      in_log behind log r left there = elim left [
+      in_log : (behind : World) (r : Record) → MayBeLeftBehind behind log → Contains behind.log r → Contains log r
+      in_log behind r may there = elim may [
         | inl is ↦ subst (λ (l : List Record). Contains l r) (sym is) there
         | inr more ↦ subst (λ (l : List Record). Contains l r) (sym more) (Contains-append_left behind.log (option_to_list behind.doubt) r there)
       ]
 
-      has : HasAcknowledged turns held.log
+      has : HasAcknowledged turns log
       has some e others r is noted =
           let events : after_turns w turns ≡ after_events w (some ++ e ∷ others) = are_events w turns ∙ ap (after_events w) is in
-          in_log (after_turns w turns) held.log r held.left (subst (λ (v : World). Contains v.log r) (sym events) (stay w some e others r noted))
+          in_log (after_turns w turns) r left (subst (λ (v : World). Contains v.log r) (sym events) (stay w some e others r noted))
+
+  pub goes_on_behind : StayBehind → AreEvents → (w : World) (turns : List Turn) (crashed : CrashState) → HoldWorld IsLog HasSpelling record_text crashed (after_turns w turns)
+      → GoesOnBehind w turns crashed
+  goes_on_behind stay are_events w turns crashed held = left_behind stay are_events w turns crashed held.log held.holds held.left
+
+  -- at some moment
+  pub goes_on_in : StayWithin → StayBehind → AreEvents
+      → ((w : World) (turns : List Turn) (log : List Record) → MayBeLeftIn w turns log → IsLeftWithin w turns log ⊎ MayBeLeftBehind (after_turns w turns) log)
+      → (w : World) (turns : List Turn) (crashed : CrashState) → HoldIn IsLog HasSpelling record_text crashed w turns → GoesOnIn w turns crashed
+  goes_on_in within behind are_events moment w turns crashed held = elim (moment w turns held.log held.left) [
+    | inl at ↦ inl (at.before, at.turn, at.behind, at.turns_are, left_within within w at.before at.turn crashed held.log held.holds at.left)
+    | inr left ↦ inr (left_behind behind are_events w turns crashed held.log held.holds left)
+  ]

@@ -17,20 +17,23 @@ ghost use Rattle.qm_kinds.specs.declared.limits.TheConstants.{NODES_LIMIT};
 ghost use Rattle.qm_kinds.specs.declared.moment.TheConstants.{LAST_MOMENT};
 ghost use Rattle.qm_kinds.specs.declared.name.TheConstants.{NODE_NAME_BYTES, SHORT_NAME_BYTES};
 ghost use Rattle.qm_record.specs.Spelling.{HasSpelling, record_text};
+ghost use Rattle.qm_script.specs.declared.sites.TheConstants.{GREATEST_CAP, LEAST_CAP};
 ghost use Rattle.qm_service.specs.Opening.{MayBegin};
 ghost use Rattle.qm_service.specs.Serving.{Outside};
 ghost use Rattle.qm_program.specs.Causes.{Counts, HasCause};
 ghost use Rattle.qm_program.specs.Doing.{HasSoundScript, IsWithoutFault};
 ghost use Rattle.qm_program.specs.Running.{RunsAtOnce, RunsTo};
-ghost use Rattle.qm_program.specs.Surviving.{GoesOnFrom, TakesInStretches};
+ghost use Rattle.qm_program.specs.Surviving.{GoesOnBehind, GoesOnIn, GoesOnWithin, TakesInStretches};
+ghost use Rattle.qm_program.specs.declared.task.TheConstants.{USUAL_CAP};
 ghost use Rattle.qm_program.specs.declared.outcome.End.{End};
 
 use qm_chest::sites_begin_one_world;
 use qm_database::{held_files_load, one_content};
 use qm_disk::Disk;
 use qm_history::{
-    QueueFile, acknowledged_records_stay, files_that_hold_a_log_begin_a_world,
-    histories_are_events, programs_go_on_after_crashes, steps_come_in_stretches,
+    QueueFile, acknowledged_records_stay, crashes_of_histories_are_of_turns,
+    files_that_hold_a_log_begin_a_world, histories_are_events, programs_go_on_after_crashes,
+    steps_come_in_stretches,
 };
 use qm_symb::Symbiont;
 
@@ -47,43 +50,49 @@ pub fn a_crash_leaves_a_moment_of_the_run<D: Disk, Y: Symbiont>()
         (λ crashed. IsLeft (D.meaning.may_leave old.disk) crashed ⊎ HoldIn IsLog HasSpelling record_text crashed w turns) }
 {}
 
-/// A program goes on from each such log, in a sound world: within a turn from one with each record that was acknowledged in the turns
-/// before it, and behind turns from one with each record that was acknowledged in them.
+/// A program goes on from each such log, in a sound world: within a turn from one that may be left there, with each record that was
+/// acknowledged in the turns before it; behind turns from their log, with or without the record that is in doubt then, and with each
+/// record that was acknowledged in them; and at any moment of turns in one of these two ways.
 pub fn programs_go_on_with_what_was_acknowledged()
     ensures within { (w : World) (before : List Turn) (t : Turn) (crashed : CrashState)
-        → HoldWithin IsLog HasSpelling record_text crashed (after_turns w before) t → GoesOnFrom before crashed }
+        → HoldWithin IsLog HasSpelling record_text crashed (after_turns w before) t → GoesOnWithin w before t crashed }
     ensures behind { (w : World) (turns : List Turn) (crashed : CrashState)
-        → HoldWorld IsLog HasSpelling record_text crashed (after_turns w turns) → GoesOnFrom turns crashed }
+        → HoldWorld IsLog HasSpelling record_text crashed (after_turns w turns) → GoesOnBehind w turns crashed }
+    ensures moment { (w : World) (turns : List Turn) (crashed : CrashState)
+        → HoldIn IsLog HasSpelling record_text crashed w turns → GoesOnIn w turns crashed }
 {
     files_that_hold_a_log_begin_a_world::<QueueFile>();
     programs_go_on_after_crashes::<QueueFile>();
     histories_are_events::<QueueFile>();
     acknowledged_records_stay();
+    crashes_of_histories_are_of_turns::<QueueFile>();
 }
 
-/// So it does behind a run that made turns, whatever a crash makes of the files.
+/// So it does behind a run that made turns, on the files as they read and whatever a crash makes of them.
 pub fn programs_go_on_behind_runs<D: Disk, Y: Symbiont>()
     ensures run { (left : Option (List ℕ)) (turns : List Turn) (old new : Outside D Y) (end : End) (w : World)
         → RunsTo D.meaning Y.meaning left turns old new end → IsTrue D.meaning.tells → MayBegin D.meaning old.disk w → turns ≢ []
-        → (crashed : CrashState) → IsLeft (D.meaning.may_leave new.disk) crashed → GoesOnFrom turns crashed }
+        → (files : CrashState) → (files ≡ D.meaning.seen new.disk) ⊎ IsLeft (D.meaning.may_leave new.disk) files
+        → GoesOnBehind w turns files }
     ensures cluster { (left : Option (List ℕ)) (turns : List Turn) (old new : Outside D Y) (end : End) (w : World)
         → RunsAtOnce D.meaning Y.meaning left turns old new end → IsTrue D.meaning.tells → MayBegin D.meaning old.disk w → turns ≢ []
-        → (crashed : CrashState) → IsLeft (D.meaning.may_leave new.disk) crashed → GoesOnFrom turns crashed }
+        → (files : CrashState) → (files ≡ D.meaning.seen new.disk) ⊎ IsLeft (D.meaning.may_leave new.disk) files
+        → GoesOnBehind w turns files }
 {
     programs_go_on_with_what_was_acknowledged();
 }
 
-/// What the devices of each node of the cluster took in a run is the blocks of its steps, which come in stretches, one for each fetch that
-/// gave a run to the node.
+/// What the devices of each node of the cluster took in a run is the blocks of the steps of its course, which come in stretches, one for
+/// each fetch that gave a run to the node. In a run without a turn they took nothing.
 pub fn blocks_come_in_stretches<D: Disk, Y: Symbiont>()
     ensures run { (left : Option (List ℕ)) (turns : List Turn) (old new : Outside D Y) (end : End) (w : World)
         → RunsTo D.meaning Y.meaning left turns old new end → IsTrue D.meaning.tells → MayBegin D.meaning old.disk w
         → (node : ℕ) (name : List ℕ) (was now : Side Y) → slice_get (cluster (system_in w)) node ≡ Some name
-        → slice_get old.sides node ≡ Some was → slice_get new.sides node ≡ Some now → TakesInStretches Y.meaning was.symbiont now.symbiont }
+        → slice_get old.sides node ≡ Some was → slice_get new.sides node ≡ Some now → TakesInStretches Y.meaning w turns node was.symbiont now.symbiont }
     ensures cluster { (left : Option (List ℕ)) (turns : List Turn) (old new : Outside D Y) (end : End) (w : World)
         → RunsAtOnce D.meaning Y.meaning left turns old new end → IsTrue D.meaning.tells → MayBegin D.meaning old.disk w
         → (node : ℕ) (name : List ℕ) (was now : Side Y) → slice_get (cluster (system_in w)) node ≡ Some name
-        → slice_get old.sides node ≡ Some was → slice_get new.sides node ≡ Some now → TakesInStretches Y.meaning was.symbiont now.symbiont }
+        → slice_get old.sides node ≡ Some was → slice_get new.sides node ≡ Some now → TakesInStretches Y.meaning w turns node was.symbiont now.symbiont }
 {
     steps_come_in_stretches::<QueueFile>();
 }
@@ -120,4 +129,12 @@ pub fn names_have_limits()
     ensures node { NODE_NAME_BYTES ≡ 6 }
     ensures short { SHORT_NAME_BYTES ≡ 31 }
     ensures nodes { NODES_LIMIT ≡ 8 }
+{}
+
+/// What a queue file may take at most is 4,096 to 268,435,456 bytes, and 134,217,728 where `init` is told nothing. Definitions cite the
+/// numbers by their names, so here they are said.
+pub fn queue_files_have_limits()
+    ensures least { LEAST_CAP ≡ 4096 }
+    ensures most { GREATEST_CAP ≡ 268435456 }
+    ensures usual { USUAL_CAP ≡ 134217728 }
 {}

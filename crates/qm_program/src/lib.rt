@@ -14,7 +14,7 @@ mod top_call;
 pub use laws::{
     a_crash_leaves_a_moment_of_the_run, blocks_come_in_stretches,
     listings_are_of_the_world_of_a_run, moments_have_a_last_one, names_have_limits,
-    programs_go_on_behind_runs, programs_go_on_with_what_was_acknowledged,
+    programs_go_on_behind_runs, programs_go_on_with_what_was_acknowledged, queue_files_have_limits,
 };
 pub use making::new_sites_begin_one_world;
 pub use outcome::{End, Outcome};
