@@ -20,7 +20,7 @@ pub(crate) fn advice(end: End, folder: Folder) -> &'static str {
             ": `qman init NODES` makes a site of one node or several, as in `qman init A,B`; `qman run <SCRIPT` serves a script; `qman show` lists queues and jobs"
         }
         End::Script { .. } => {
-            ": nothing was served; a line is a node of the site, a blank, $ or !, a blank and a command"
+            ": nothing was served; a line is a node of the site, a blank, $, # or !, a blank and what is asked for"
         }
         End::Read => ": nothing was served; give the script as the input, as in `qman run <SCRIPT`",
         End::Write => {
