@@ -113,9 +113,10 @@ fn folder(rt: &HostRuntime, is_in_use: bool) -> Folder {
     }
 }
 
-// Prints the one line of an end. Where nobody reads it, the status says the same.
+// Prints the one line of an end. That another run has the folder is the cause of a failed disk alone. Where nobody reads the line, the
+// status says the same.
 fn tell(rt: &HostRuntime, end: End, is_in_use: bool) {
-    let cause = if is_in_use {
+    let cause = if is_in_use && end == End::Journal {
         ", the folder is in use"
     } else {
         ""
