@@ -2,6 +2,7 @@
 ghost use Rattle.std.specs.Prelude.{IsTrue};
 ghost use Rattle.qm_symb.specs.Symbiont.{IsWithinLimits};
 
+use crate::moments::tell_moment;
 use crate::node::tell_two_runs;
 use qm_batch::Standard;
 use qm_kinds::{JobKind, Mark, Name, Report, Seq, Shape, Work, system_user};
@@ -327,6 +328,7 @@ impl Job {
             "pages" => self.tell_pages(alloc, told),
             "cuts" => self.tell_cuts(alloc, told),
             "two-runs" => tell_two_runs(alloc, told, text == "cut short"),
+            "moment" => tell_moment(alloc, told),
             "" | "#" => Ok(()),
             _ => push_line(told, "no such verb"),
         }

@@ -1,9 +1,11 @@
 //! Worked cases of what jobs print and do, as plans: the pages of print jobs, the lines of batch jobs, where both go on behind a
-//! mark, what a device that fails leaves, what lies in the place of a device's file, and what a node keeps of its runs.
+//! mark, what a device that fails leaves, what lies in the place of a device's file, what a node keeps of its runs, and which moment
+//! it tells with a report.
 #![tactic(auto)]
 
 mod devices;
 mod job;
+mod moments;
 mod node;
 
 use devices::tell_devices;

@@ -10,8 +10,13 @@ use qm_plans::push_line;
 use qm_symb::{MemoryDevice, Symbiont};
 use std::alloc::{AllocError, Global};
 
-// The work of a run of a job of this kind and text.
-fn work_of(alloc: Global, run: u64, kind: JobKind, text: &[u8]) -> Result<Work, AllocError> {
+/// The work of a run of a job of this kind and text.
+pub(crate) fn work_of(
+    alloc: Global,
+    run: u64,
+    kind: JobKind,
+    text: &[u8],
+) -> Result<Work, AllocError> {
     let mut job = Job::new(alloc);
     job.kind = kind;
     let mut work = job.work(text.to_vec(alloc)?);
