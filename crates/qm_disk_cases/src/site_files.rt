@@ -8,7 +8,7 @@ use std::cell::RefCell;
 use std::fs::{File, Files, Metadata, OpenFile, OpenOptions};
 use std::io::{ErrorKind, Read, Seek, SeekFrom, Write};
 use std::os::fd::AsRawFd;
-use std::os::unix::fs::FileExt;
+use std::os::unix::fs::{FileExt, symlink};
 use std::{fs, io};
 
 // The calls on the files of a folder, a line each, and which of them fail: so many from one on. Calls of a kind in a row
@@ -151,8 +151,9 @@ impl<'a> Files for Watched<'a> {
         Err(ErrorKind::Unsupported.into())
     }
 
-    fn remove_file(&self, _path: &str) -> io::Result<()> {
-        Err(ErrorKind::Unsupported.into())
+    fn remove_file(&self, path: &str) -> io::Result<()> {
+        note(self.calls, "remove", path)?;
+        self.rt.remove_file(path)
     }
 
     fn create_dir(&self, _path: &str) -> io::Result<()> {
@@ -328,6 +329,7 @@ const TWO_IS_NOT_THERE: &str = "open qm_files_test/two\n";
 
 const RENEWED: &str = "open qm_files_test/one
 lock qm_files_test/one
+remove qm_files_test/one.NEW
 copy qm_files_test/one
 open qm_files_test/one.NEW
 lock qm_files_test/one.NEW
@@ -504,6 +506,27 @@ fn only_the_mark_of_an_end_spares_the_copy(rt: HostRuntime) -> io::Result<()> {
     for mark in ["", "ended", "ended\nx", "ending", "Ended\n"] {
         assert_eq!(rt; copies_behind(&rt, mark)?, Some(true), "behind {mark:?}");
     }
+    Ok(())
+}
+
+// Whether a run behind one that ended badly reads the bytes of file 1, and leaves them, and no copy beside it.
+fn is_kept(rt: &HostRuntime) -> io::Result<bool> {
+    let names = names_in(rt.alloc(), FOLDER)?;
+    let mut disk = disk_over(rt, names);
+    let is_read = reads(&mut disk, 1);
+    disk.close();
+    let is_alone = fs::symlink_metadata(rt, "qm_files_test/one.NEW").is_err();
+    Ok(is_read && is_alone && has(rt, "qm_files_test/one", b"abc"))
+}
+
+#[test]
+fn a_link_where_the_copy_will_stand_is_not_written_through(rt: HostRuntime) -> io::Result<()> {
+    folder_with(&rt, Some(("begun\n", "abc")))?;
+    fs::hard_link(&rt, "qm_files_test/one", "qm_files_test/one.NEW")?;
+    assert!(rt; is_kept(&rt)?, "a hard link");
+    folder_with(&rt, Some(("begun\n", "abc")))?;
+    symlink(&rt, "one", "qm_files_test/one.NEW")?;
+    assert!(rt; is_kept(&rt)?, "a symbolic link");
     Ok(())
 }
 

@@ -61,6 +61,7 @@ where
         old.lock_now()?;
         let mut beside = self.name.clone()?;
         beside.push_str(".NEW")?;
+        clear(rt, beside.as_str())?;
         fs::copy(rt, name, beside.as_str())?;
         let new = open_existing(rt, beside.as_str())?;
         new.lock_now()?;
@@ -109,5 +110,13 @@ where
         self.opened(rt)?.sync_data()?;
         self.is_synced = true;
         Ok(())
+    }
+}
+
+// What lies where the copy will stand goes first: it isn't written through.
+fn clear<R: Files>(rt: &R, beside: &str) -> io::Result<()> {
+    match fs::remove_file(rt, beside) {
+        Err(error) if error.kind() != ErrorKind::NotFound => Err(error),
+        _ => Ok(()),
     }
 }
