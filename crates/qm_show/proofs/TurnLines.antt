@@ -1,9 +1,6 @@
 -- The lines of a turn, each behind what stands before it.
 use Rattle.std.proofs.Common.{◌≡◌, ℕ, Bool, List, [], ◌∷◌, ◌++◌, flat_map, map, refl, sym, append_assoc, Option}
 use Rattle.std.proofs.lemmas.Grind.{flat_map-append}
-use Rattle.qm_kinds.specs.declared.reply.Reply.{Reply}
-use Rattle.qm_model.specs.Words.{act_text, start_text}
-use Rattle.qm_model.specs.Transcript.{reply_lines, turn_text}
 use Rattle.qm_history.specs.declared.call.Answer.{Answer}
 use Rattle.qm_history.specs.declared.turn.Why.{Why}
 use Rattle.qm_history.specs.declared.turn.Why.TheVariants as why
@@ -11,21 +8,6 @@ use Rattle.qm_history.specs.Text.{answer_lines, behind, first_line_of, line_behi
 use Rattle.qm_show.specs.Prefix.{prefix_text}
 use Rattle.qm_show.specs.Turns.{line_of, told_text}
 use Rattle.qm_sjc.specs.Printed.{items_line}
-
--- one line
-pub turn_line : (front name : List ℕ) (line : Option ℕ) (text : List ℕ) → front ≡ prefix_text name line → line_behind front text ≡ turn_text name line text
-turn_line front name line text is = rw is (simp append_assoc)
-
--- several lines
-pub turn_lines : (front name : List ℕ) (line : Option ℕ) (lines : List (List ℕ)) → front ≡ prefix_text name line
-    → behind front lines ≡ flat_map (turn_text name line) lines
-turn_lines front name line [] is = refl
-turn_lines front name line (text ∷ lines) is = rw (turn_line front name line text is, turn_lines front name line lines is) refl
-
--- what was done, and the jobs that were started
-pub reply_text : (front name : List ℕ) (line : Option ℕ) (reply : Reply) → front ≡ prefix_text name line
-    → line_behind front (act_text reply.act) ++ behind front (map start_text reply.started) ≡ flat_map (turn_text name line) (reply_lines reply)
-reply_text front name line reply is = turn_lines front name line (reply_lines reply) is
 
 -- what stands before the lines of a turn
 prefix_is : (name : List ℕ) (because : Why) → prefix_text name (line_of because) ≡ prefix_of name because

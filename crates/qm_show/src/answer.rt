@@ -1,35 +1,26 @@
 // The lines of a transcript that answer a line of a script.
-ghost use Rattle.std.specs.Prelude.{◌≡◌, ◌≤◌, ◌+◌, length, ◌++◌, ◌∷◌, [], decimal, flat_map, map, IfOk, IfSome, OnOk, Some};
-ghost use Rattle.qm_model.specs.Words.{act_text, refusal_line, start_text};
-ghost use Rattle.qm_model.specs.Transcript.{full_line, journal_line, number_text, reply_lines, row_lines, runs_line, turn_text};
+ghost use Rattle.std.specs.Prelude.{◌≡◌, ◌≤◌, ◌+◌, length, ◌++◌, decimal, map, IfSome, OnOk, Some};
+ghost use Rattle.qm_model.specs.Words.{act_text, start_text};
+ghost use Rattle.qm_model.specs.Transcript.{full_line, number_text, row_lines, runs_line};
 ghost use Rattle.qm_history.specs.Text.{behind, line_behind};
 ghost use Rattle.qm_show.specs.Prefix.{prefix_text};
 
 use crate::act::{ActWords, StartText, mark_value};
 use crate::columns::characters;
-use crate::refusal::RefusalText;
 use crate::row::RowText;
 use arrayvec::ArrayString;
-use qm_kinds::{Act, Name, Refusal, Reply, Row, Start};
+use qm_kinds::{Act, Name, Row, Start};
 use std::alloc::{AllocError, Global};
 use std::fmt;
 use std::io::Write;
 
 /// What stands before each line of an answer, as `A 3: `, or `A -: ` where no line of the script asked.
 #[derive(Clone, Copy)]
-pub struct Prefix {
+pub(crate) struct Prefix {
     /// The node that answers.
-    pub node: Name,
+    pub(crate) node: Name,
     /// The line of the script that is answered, counted from 1; none where the node asked of itself.
-    pub line: Option<u32>,
-}
-
-impl fmt::Display for Prefix {
-    ghost output = { λ p. Some (prefix_text p.node p.line) };
-
-    fn fmt<W: fmt::Write>(&self, f: &mut fmt::Formatter<W>) -> fmt::Result {
-        f.write_str(front_of(self).as_str())
-    }
+    pub(crate) line: Option<u32>,
 }
 
 // Appends the number of a line, or - for none.
@@ -153,84 +144,4 @@ pub(crate) fn push_rows(out: &mut Vec<u8>, front: &str, rows: &[Row]) -> Result<
         push_line(out, front, RowText(row))?;
     }
     Ok(())
-}
-
-// The one line of an answer.
-fn one_line<T: fmt::Display + Drop>(
-    alloc: Global,
-    prefix: &Prefix,
-    text: T,
-) -> Result<Vec<u8>, AllocError>
-    ensures { IfOk result (λ line. IfSome (T.output text) (λ bytes. line.items ≡ flat_map (turn_text prefix.now.node prefix.now.line) (bytes ∷ []))) }
-{
-    let mut line = Vec::new(alloc);
-    push_line(&mut line, front_of(prefix).as_str(), text)?;
-    Ok(line)
-}
-
-/// The lines of a reply: what was done, and the jobs that were started. Memory may run out.
-#[tactic(auto, using(crate::proofs::TurnLines::reply_text))]
-pub fn show_reply(alloc: Global, prefix: &Prefix, reply: &Reply) -> Result<Vec<u8>, AllocError>
-    ensures { IfOk result (λ text. text.items ≡ flat_map (turn_text prefix.now.node prefix.now.line) (reply_lines reply.now)) }
-{
-    let mut text = Vec::new(alloc);
-    let front = front_of(prefix);
-    push_act(&mut text, front.as_str(), &reply.act)?;
-    push_starts(&mut text, front.as_str(), reply.started.as_slice())?;
-    Ok(text)
-}
-
-/// The lines of a listing: how many rows there are, and the rows. Memory may run out.
-#[tactic(auto, using(crate::proofs::TurnLines::turn_lines))]
-pub fn show_rows(alloc: Global, prefix: &Prefix, rows: &[Row]) -> Result<Vec<u8>, AllocError>
-    ensures { IfOk result (λ text. text.items ≡ flat_map (turn_text prefix.now.node prefix.now.line) (row_lines rows.now)) }
-{
-    let mut text = Vec::new(alloc);
-    push_rows(&mut text, front_of(prefix).as_str(), rows)?;
-    Ok(text)
-}
-
-/// The line that says how many runs a node was shown. Memory may run out.
-pub fn show_runs(alloc: Global, prefix: &Prefix, count: usize) -> Result<Vec<u8>, AllocError>
-    ensures { IfOk result (λ text. text.items ≡ flat_map (turn_text prefix.now.node prefix.now.line) (runs_line count ∷ [])) }
-{
-    let mut text = Vec::new(alloc);
-    push_runs(&mut text, front_of(prefix).as_str(), count)?;
-    Ok(text)
-}
-
-/// The line of a refusal. Memory may run out.
-pub fn show_refusal(
-    alloc: Global,
-    prefix: &Prefix,
-    refusal: &Refusal,
-) -> Result<Vec<u8>, AllocError>
-    ensures { IfOk result (λ text. text.items ≡ flat_map (turn_text prefix.now.node prefix.now.line) (refusal_line refusal.now ∷ [])) }
-{
-    one_line(
-        alloc,
-        prefix,
-        format_args!("%QMAN-E-{}", RefusalText(refusal)),
-    )
-}
-
-/// The line that says that the queue file has no room: the bytes that it would need, and those that it may have. Memory
-/// may run out.
-pub fn show_full(alloc: Global, prefix: &Prefix, need: u64, cap: u64) -> Result<Vec<u8>, AllocError>
-    ensures { IfOk result (λ text. text.items ≡ flat_map (turn_text prefix.now.node prefix.now.line) (full_line need cap ∷ [])) }
-{
-    one_line(alloc, prefix, FullText { need, cap })
-}
-
-/// The line that says that the disk failed. It is made in place, so that want of memory never hides it: a name of at most
-/// 39 bytes, a number of at most ten digits, and 19 bytes beside them.
-pub fn show_journal(prefix: &Prefix) -> ArrayString<68>
-    ensures { result.bytes ≡ flat_map (turn_text prefix.now.node prefix.now.line) (journal_line ∷ []) }
-{
-    let mut text = ArrayString::new();
-    text.push_str(characters(&prefix.node));
-    text.push_str(" ");
-    push_number(&mut text, prefix.line);
-    text.push_str(": %QMAN-F-JOURNAL\n");
-    text
 }

@@ -76,17 +76,24 @@ fn make<R: Files>(rt: &R, path: &str) -> io::Result<()> {
     }
 }
 
-// Opens a plain file, made empty where nothing is there. What is there is looked at first, since opening a device may
-// wait, and again when it is open. It is opened for reading too: to open a pipe for writing alone waits for a reader.
-fn open_plain<R: Files>(rt: &R, path: &str) -> io::Result<R::File> {
-    match fs::metadata(rt, path) {
-        Ok(found) => must_be_plain(&found)?,
-        Err(error) if error.kind() == ErrorKind::NotFound => make(rt, path)?,
-        Err(error) => return Err(error),
-    }
+// Opens a plain file that is there. It is looked at first, since opening a device may wait, and again when it is open. It is
+// opened for reading too: to open a pipe for writing alone waits for a reader.
+fn open_found<R: Files>(rt: &R, path: &str) -> io::Result<R::File> {
+    must_be_plain(&fs::metadata(rt, path)?)?;
     let file = OpenOptions::new().read(true).append(true).open(rt, path)?;
     must_be_plain(&file.metadata()?)?;
     Ok(file)
+}
+
+// Opens a plain file, made empty where nothing is there, also where it was taken away since it was looked at.
+fn open_plain<R: Files>(rt: &R, path: &str) -> io::Result<R::File> {
+    match open_found(rt, path) {
+        Err(error) if error.kind() == ErrorKind::NotFound => {
+            make(rt, path)?;
+            open_found(rt, path)
+        }
+        opened => opened,
+    }
 }
 
 // Appends a block to the file of this path.

@@ -1,12 +1,13 @@
 // What is printed of rows, replies and refusals, and the items of rows.
+use qm_history::{Answer, Why};
 use qm_item::write_items;
 use qm_kinds::{
-    Act, Characteristic, CharacteristicSet, Entry, EntryState, FileName, Form, JobKind, JobRetain,
-    ListedEntry, Listing, Mark, Moment, Name, ParseKind, Queue, QueueKind, QueueRetain, QueueState,
-    Refusal, Reply, Row, Seq, Shape, Start, batch_queue,
+    Act, Characteristic, CharacteristicSet, Duty, Entry, EntryState, FileName, Form, JobKind,
+    JobRetain, ListedEntry, Listing, Mark, Moment, Name, ParseKind, Queue, QueueKind, QueueRetain,
+    QueueState, Refusal, Reply, Row, Seq, Shape, Start, batch_queue,
 };
 use qm_plans::push_line;
-use qm_show::{Prefix, show_full, show_journal, show_refusal, show_reply, show_rows, show_runs};
+use qm_show::show_answer;
 use qm_sjc::row_items;
 use std::alloc::{AllocError, Global};
 
@@ -192,16 +193,24 @@ pub(crate) fn tell_row_items(alloc: Global, told: &mut Vec<u8>) -> Result<(), Al
 
 /// Tells a listing of each kind of row.
 pub(crate) fn tell_rows(alloc: Global, told: &mut Vec<u8>) -> Result<(), AllocError> {
-    let prefix = Prefix {
-        node: name(b"PLUTO"),
-        line: Some(16),
+    let answer = Answer::Shown {
+        took: None,
+        moment: Moment::BASE,
+        rows: Seq::of(rows(alloc, &cases())?),
     };
-    tell_shown(told, show_rows(alloc, &prefix, &rows(alloc, &cases())?))
+    tell_shown(alloc, told, &name(b"PLUTO"), Why::Line(16), &answer)
 }
 
-// Tells what was shown, if there was memory for it.
-fn tell_shown(told: &mut Vec<u8>, shown: Result<Vec<u8>, AllocError>) -> Result<(), AllocError> {
-    told.extend_from_slice(&shown?)
+// Tells the lines of a turn of a node.
+fn tell_shown(
+    alloc: Global,
+    told: &mut Vec<u8>,
+    node: &Name,
+    why: Why,
+    answer: &Answer,
+) -> Result<(), AllocError> {
+    let shown = show_answer(alloc, node, why, false, answer)?;
+    told.extend_from_slice(&shown)
 }
 
 // A job that was accepted, and started by that.
@@ -272,67 +281,100 @@ fn acts() -> [Act; 7] {
     ]
 }
 
-// Tells an act by which no job was started.
-fn tell_act(
-    alloc: Global,
-    told: &mut Vec<u8>,
-    prefix: &Prefix,
-    act: Act,
-) -> Result<(), AllocError> {
-    let reply = Reply {
-        act,
-        started: Seq::new(alloc),
-    };
-    tell_shown(told, show_reply(alloc, prefix, &reply))
+// What is answered to a request that was carried out.
+fn done(act: Act, started: Seq<Start>) -> Answer {
+    Answer::Done {
+        took: None,
+        moment: Moment::BASE,
+        reply: Reply { act, started },
+    }
+}
+
+// What is answered to a request that was refused.
+fn refused(refusal: Refusal) -> Answer {
+    Answer::Refused {
+        took: None,
+        refusal,
+    }
+}
+
+// A run that goes on.
+fn duty(run: u64) -> Duty {
+    Duty {
+        run,
+        aborting: false,
+        paused: false,
+        work: None,
+    }
+}
+
+// What a node is answered to a fetch.
+fn duties(duties: Vec<Duty>) -> Answer {
+    Answer::Duties {
+        took: None,
+        moment: Moment::BASE,
+        duties: Seq::of(duties),
+    }
 }
 
 // Tells acts and refusals that no script meets.
 fn tell_seldom(alloc: Global, told: &mut Vec<u8>) -> Result<(), AllocError> {
-    let prefix = Prefix {
-        node: name(b"A"),
-        line: Some(1),
-    };
+    let (node, why) = (name(b"A"), Why::Line(1));
     for refusal in &refusals() {
-        tell_shown(told, show_refusal(alloc, &prefix, refusal))?;
+        tell_shown(alloc, told, &node, why, &refused(*refusal))?;
     }
     for act in &acts() {
-        tell_act(alloc, told, &prefix, *act)?;
+        tell_shown(alloc, told, &node, why, &done(*act, Seq::new(alloc)))?;
     }
     Ok(())
 }
 
 // Tells replies: to a job that was started, and to a mark.
-fn tell_replies(alloc: Global, told: &mut Vec<u8>, prefix: &Prefix) -> Result<(), AllocError> {
-    tell_shown(told, show_reply(alloc, prefix, &submitted(alloc)?))?;
-    tell_act(alloc, told, prefix, marked())
+fn tell_replies(alloc: Global, told: &mut Vec<u8>, node: &Name) -> Result<(), AllocError> {
+    let why = Why::Line(10);
+    let Reply { act, started } = submitted(alloc)?;
+    tell_shown(alloc, told, node, why, &done(act, started))?;
+    tell_shown(alloc, told, node, why, &done(marked(), Seq::new(alloc)))
 }
 
-// Tells a refusal, a full queue file, and runs.
-fn tell_others(alloc: Global, told: &mut Vec<u8>, prefix: &Prefix) -> Result<(), AllocError> {
-    let fault = Refusal::ParseFault {
+// Tells a refusal, and a full queue file.
+fn tell_refusals(alloc: Global, told: &mut Vec<u8>, node: &Name) -> Result<(), AllocError> {
+    let why = Why::Line(10);
+    let fault = refused(Refusal::ParseFault {
         place: 7,
         kind: ParseKind::Word,
+    });
+    tell_shown(alloc, told, node, why, &fault)?;
+    let full = Answer::Full {
+        took: None,
+        need: 17,
+        cap: 16,
     };
-    tell_shown(told, show_refusal(alloc, prefix, &fault))?;
-    tell_shown(told, show_full(alloc, prefix, 17, 16))?;
-    tell_shown(told, show_runs(alloc, prefix, 2))
+    tell_shown(alloc, told, node, why, &full)
 }
 
-// Tells answers behind the prefix of a node and a line, and of a node alone.
-fn tell_prefixed(alloc: Global, told: &mut Vec<u8>) -> Result<(), AllocError> {
-    let node = name(b"MARS");
-    let prefix = Prefix {
-        node,
-        line: Some(10),
+// Tells that a disk failed.
+fn tell_journal(alloc: Global, told: &mut Vec<u8>, node: &Name) -> Result<(), AllocError> {
+    let journal = Answer::Journal {
+        took: None,
+        live: true,
     };
-    tell_replies(alloc, told, &prefix)?;
-    tell_others(alloc, told, &prefix)?;
-    tell_shown(told, show_runs(alloc, &Prefix { node, line: None }, 0))?;
-    told.extend_from_slice(show_journal(&prefix).as_str().as_bytes())
+    tell_shown(alloc, told, node, Why::Line(10), &journal)
+}
+
+// Tells the runs that a node was shown, for a line and for a report of its own.
+fn tell_runs(alloc: Global, told: &mut Vec<u8>, node: &Name) -> Result<(), AllocError> {
+    let two = duties(Vec::from_array(alloc, [duty(1), duty(2)])?);
+    tell_shown(alloc, told, node, Why::Line(10), &two)?;
+    tell_shown(alloc, told, node, Why::Report, &duties(Vec::new(alloc)))
 }
 
 /// Tells answers of each kind, and acts and refusals that no script meets.
 pub(crate) fn tell_answers(alloc: Global, told: &mut Vec<u8>) -> Result<(), AllocError> {
-    tell_prefixed(alloc, told)?;
+    let node = name(b"MARS");
+    tell_replies(alloc, told, &node)?;
+    tell_refusals(alloc, told, &node)?;
+    tell_runs(alloc, told, &node)?;
+    tell_journal(alloc, told, &node)?;
     tell_seldom(alloc, told)
 }
