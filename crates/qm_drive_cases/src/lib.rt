@@ -1,5 +1,6 @@
 //! Worked cases of nodes with threads of their own, as tests, over a value in memory that records what it was asked: nodes that wait
-//! for each other within their jobs, full histories, nodes without lines, and what is printed of the turns of all.
+//! for each other within their jobs, full histories, nodes without lines, and what is printed of the turns of all. Beside them stand
+//! those of what such nodes stand on: threads that take turns on one number, and work at places.
 #![tactic(auto)]
 
 #[cfg(test)]
@@ -14,3 +15,5 @@ mod nodes;
 mod places;
 #[cfg(test)]
 mod recorder;
+#[cfg(test)]
+mod turnstile;

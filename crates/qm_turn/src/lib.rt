@@ -12,6 +12,3 @@ pub use pass::{Pass, PassOf, TurnsSpent};
 pub use told::{Task, Told};
 pub use turnstile::Turnstile;
 pub use view::{Phase, View};
-
-#[cfg(test)]
-mod tests;

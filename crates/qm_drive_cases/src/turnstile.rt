@@ -2,10 +2,11 @@
 ghost use Rattle.std.specs.Prelude.{◌≡◌, ℕ, ◌<◌, ◌≤◌, map, length, slice_index_or, IfSome, All};
 ghost use Rattle.std.specs.List.{range_with_len};
 
-use super::*;
+use qm_turn::{PassOf, Task, Told, Turnstile};
 use std::alloc::Global;
+use std::marker::Sync;
 use std::sync::Wait;
-use std::test::*;
+use std::test::Fail;
 use std::thread;
 use std::thread::Threads;
 
