@@ -1,6 +1,7 @@
 // The image of the system for which a log stands.
-ghost use Rattle.std.specs.Prelude.{◌≡◌, ◌++◌, ◌∷◌, [], ℕ, true, IfOk, OnOk};
+ghost use Rattle.std.specs.Prelude.{◌≡◌, ◌++◌, ◌∷◌, [], ℕ, take, true, IfOk, OnOk};
 ghost use Rattle.std.specs.List.{All, prefix_len};
+ghost use Rattle.qm_model.specs.Consistent.{IsConsistent};
 ghost use Rattle.qm_model.specs.Folding.{after_body, no_system, system_of as system_of_log};
 ghost use Rattle.qm_record.specs.Spelling.{HasSpelling, is_row};
 ghost use Rattle.qm_history.specs.Accepted.{IsAccepted};
@@ -71,13 +72,20 @@ fn begin(
       last = last;
     }) }
 {
-    let mut system = no_system(alloc);
-    system.nodes = Seq::of(Vec::from_slice(alloc, nodes)?);
-    system.may = Seq::of(Vec::from_slice(alloc, may)?);
-    system.next_entry = next_entry;
-    system.next_run = next_run;
-    system.last = last;
-    Ok(system)
+    let nodes = Seq::of(Vec::from_slice(alloc, nodes)?);
+    let may = Seq::of(Vec::from_slice(alloc, may)?);
+    Ok(System {
+        nodes,
+        may,
+        forms: Seq::new(alloc),
+        characteristics: Seq::new(alloc),
+        files: Seq::new(alloc),
+        queues: Seq::new(alloc),
+        entries: Seq::new(alloc),
+        next_entry,
+        next_run,
+        last,
+    })
 }
 
 fn copy_file(alloc: Global, file: &File) -> Result<File, AllocError>
@@ -132,7 +140,7 @@ fn add_row(alloc: Global, system: &mut System, row: &Body) -> Result<(), AllocEr
             next_run,
             last,
         } => {
-            *system = begin(
+            let begun = begin(
                 alloc,
                 nodes.as_slice(),
                 may.as_slice(),
@@ -140,6 +148,7 @@ fn add_row(alloc: Global, system: &mut System, row: &Body) -> Result<(), AllocEr
                 *next_run,
                 *last,
             )?;
+            drop(mem::replace(system, begun));
             Ok(())
         }
         Body::Form(form) => put(alloc, &mut system.forms, *form),
@@ -165,18 +174,47 @@ fn system_of_rows(alloc: Global, rows: &[Record]) -> Result<System, AllocError>
     Ok(system)
 }
 
+// The image of the system for which rows stand, whatever that is.
+fn image_of_rows(alloc: Global, rows: &[Record]) -> Result<Image, AllocError>
+    requires rows { All (λ r. is_row r.body ≡ true) rows.now }
+    requires consistent { IsConsistent (system_of_log rows.now) }
+    ensures { IfOk result (λ image. system_of image ≡ system_of_log rows.now) }
+{
+    let system = system_of_rows(alloc, rows)?;
+    let image = Image::from_rows(alloc, &system);
+    drop(system);
+    Ok(image?)
+}
+
+// Makes the changes of all requests that stand behind the rows of an accepted log.
+fn replay_from(image: &mut Image, log: &[Record], rows: usize) -> Result<(), AllocError>
+    requires accepted { IsAccepted HasSpelling log.now }
+    requires rows { rows ≡ prefix_len (λ r. is_row r.body) log.now }
+    requires begun { system_of image.old ≡ system_of_log (take rows log.now) }
+    ensures { OnOk result (system_of image.new ≡ system_of_log log.now) }
+{
+    requests_keep_consistent();
+    for what in &log[rows..] {
+        replay(image, what)?;
+    }
+    Ok(())
+}
+
 /// The image of the system for which an accepted log stands: its rows make a system, whatever that is, and each request behind
 /// them changes it.
+///
+/// An image is let go by a call of `drop`: where a function ends it would be let go field by field, at each of its ends.
 pub(crate) fn image_of_log(alloc: Global, log: &[Record]) -> Result<Image, AllocError>
     requires { IsAccepted HasSpelling log.now }
     ensures { IfOk result (λ image. system_of image ≡ system_of_log log.now) }
 {
-    requests_keep_consistent();
     let rows = count_rows(log);
-    let system = system_of_rows(alloc, &log[..rows])?;
-    let mut image = Image::from_rows(alloc, &system)?;
-    for what in &log[rows..] {
-        replay(&mut image, what)?;
+    let mut image = image_of_rows(alloc, &log[..rows])?;
+    match replay_from(&mut image, log, rows) {
+        Ok(()) => Ok(image),
+        Err(AllocError) => {
+            drop(image);
+            Err(AllocError)
+        }
     }
-    Ok(image)
 }

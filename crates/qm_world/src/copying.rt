@@ -42,7 +42,7 @@ pub(crate) fn set<T: Drop>(alloc: Global, list: &mut Seq<T>, place: u8, element:
 pub(crate) fn put_doubt(doubt: &mut Option<Record>, next: Option<Record>)
     ensures { doubt.new ≡ next }
 {
-    *doubt = next;
+    drop(mem::replace(doubt, next));
 }
 
 // A copy of a record.
@@ -83,13 +83,17 @@ pub(crate) fn copy_world(alloc: Global, world: &World) -> Result<World, AllocErr
     requires { IsSound HasSpelling world.now }
     ensures { IfOk result (λ copy. copy ≡ world.now) }
 {
+    let live = Seq::of(Vec::from_slice(alloc, world.live.as_slice())?);
+    let held = Seq::of(Vec::from_slice(alloc, world.held.as_slice())?);
+    let log = Seq::of(copy_records(alloc, world.log.as_slice())?);
+    let doubt = copy_doubt(alloc, &world.doubt)?;
     Ok(World {
-        log: Seq::of(copy_records(alloc, world.log.as_slice())?),
-        doubt: copy_doubt(alloc, &world.doubt)?,
+        log,
+        doubt,
         manager: world.manager,
         greatest: world.greatest,
-        live: Seq::of(Vec::from_slice(alloc, world.live.as_slice())?),
-        held: Seq::of(Vec::from_slice(alloc, world.held.as_slice())?),
+        live,
+        held,
     })
 }
 

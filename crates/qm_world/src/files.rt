@@ -43,7 +43,9 @@ fn count_nodes<B: Bodies>(alloc: Global, file: &B) -> Result<usize, RestoreFault
     ensures judged { IfErr result (Judges (B.bodies file.now)) }
 {
     let image = restore(alloc, file)?;
-    Ok(image.nodes().len())
+    let count = image.nodes().len();
+    drop(image);
+    Ok(count)
 }
 
 // The world of a log in which each node is live, and none was manager.

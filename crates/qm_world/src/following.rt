@@ -66,8 +66,14 @@ pub(crate) fn judge<'a>(
     };
     match image.prepare(moment, node, request) {
         Ok(prepared) => Ok(Next { record, prepared }),
-        Err(Refused::By(_)) => Err(Stop::Illegal),
-        Err(Refused::NoMemory) => Err(Stop::NoMemory),
+        Err(Refused::By(_)) => {
+            drop(record);
+            Err(Stop::Illegal)
+        }
+        Err(Refused::NoMemory) => {
+            drop(record);
+            Err(Stop::NoMemory)
+        }
     }
 }
 

@@ -5,7 +5,7 @@ ghost use Rattle.qm_state.specs.Image.{system_of};
 
 use crate::copying::{put, put_doubt};
 use crate::end::Stop;
-use crate::following::{follow, judge};
+use crate::following::{Next, follow, judge};
 use crate::nodes::names_nodes;
 use crate::walker::Walker;
 use qm_history::{Event, QueueFile, sound_worlds_are_consistent};
@@ -54,6 +54,7 @@ impl Walker {
         }
         let followed = follow(self.alloc, &mut self.image, moment, node, request)?;
         if !is_same(reply, &followed.reply) {
+            drop(followed);
             return Err(Stop::Illegal);
         }
         put(self.alloc, &mut self.world.log, followed.record)?;
@@ -118,8 +119,9 @@ impl Walker {
         if !self.has_node(node) || !self.may_be_in_doubt(node, request)? {
             return Err(Stop::Illegal);
         }
-        let next = judge(self.alloc, &mut self.image, moment, node, request)?;
-        put_doubt(&mut self.world.doubt, Some(next.record));
+        let Next { record, prepared } = judge(self.alloc, &mut self.image, moment, node, request)?;
+        drop(prepared);
+        put_doubt(&mut self.world.doubt, Some(record));
         self.world.manager = None;
         Ok(())
     }

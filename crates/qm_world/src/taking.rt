@@ -57,7 +57,9 @@ fn take_over(
         return Err(Stop::Illegal);
     }
     let request = request_of(alloc, epoch, gone, up, may)?;
-    follow(alloc, image, moment, node, &request)
+    let followed = follow(alloc, image, moment, node, &request);
+    drop(request);
+    followed
 }
 
 impl Walker {

@@ -27,11 +27,18 @@ impl Walker {
         ensures at { IfOk result IsAt }
         ensures start { IfOk result (λ walker. walker.world ≡ start.now) }
     {
-        Ok(Walker {
-            alloc,
-            image: image_of_log(alloc, start.log.as_slice())?,
-            world: copy_world(alloc, start)?,
-        })
+        let world = copy_world(alloc, start)?;
+        match image_of_log(alloc, start.log.as_slice()) {
+            Ok(image) => Ok(Walker {
+                alloc,
+                image,
+                world,
+            }),
+            Err(AllocError) => {
+                drop(world);
+                Err(AllocError)
+            }
+        }
     }
 
     /// Whether a manager is up.

@@ -1,5 +1,5 @@
 // The way along events, one behind the other.
-ghost use Rattle.std.specs.Prelude.{◌≡◌, IfErr, IfOk};
+ghost use Rattle.std.specs.Prelude.{IfErr, IfOk, OnOk};
 ghost use Rattle.qm_record.specs.Spelling.{HasSpelling};
 ghost use Rattle.qm_history.specs.World.{IsSound};
 ghost use Rattle.qm_world.specs.Walking.{IsAt, IsEndOf, LeadTo, StepsOrStops};
@@ -53,6 +53,24 @@ fn step(walker: &mut Walker, event: &Event) -> Result<(), Stop>
     }
 }
 
+// Goes along events, one behind the other.
+fn go_along(walker: &mut Walker, steps: &[Event]) -> Result<(), WalkEnd>
+    requires { IsAt walker.old }
+    ensures at { OnOk result (IsAt walker.new) }
+    ensures led { OnOk result (LeadTo walker.old.world steps.now walker.new.world) }
+    ensures end { IfErr result (IsEndOf walker.old.world steps.now) }
+{
+    worlds_stay_sound::<QueueFile>();
+    for (index, event) in steps.iter().enumerate() {
+        match step(walker, event) {
+            Ok(()) => {}
+            Err(Stop::Illegal) => return Err(WalkEnd::Illegal { index }),
+            Err(Stop::NoMemory) => return Err(WalkEnd::NoMemory),
+        }
+    }
+    Ok(())
+}
+
 /// The world behind events, from a sound one on: or the first of them that can't come where it stands. What the log holds, in
 /// front of the first request an image of any system, is taken over; each request is made anew by an image of the system. So it
 /// takes memory for the log, for that system and for each record that comes; that may run out at any event.
@@ -62,17 +80,18 @@ pub fn walk(alloc: Global, start: &World, steps: &[Event]) -> Result<World, Walk
     ensures sound { IfOk result (IsSound HasSpelling) }
     ensures end { IfErr result (IsEndOf start.now steps.now) }
 {
-    worlds_stay_sound::<QueueFile>();
     let mut walker = match Walker::new(alloc, start) {
         Ok(walker) => walker,
         Err(AllocError) => return Err(WalkEnd::NoMemory),
     };
-    for (index, event) in steps.iter().enumerate() {
-        match step(&mut walker, event) {
-            Ok(()) => {}
-            Err(Stop::Illegal) => return Err(WalkEnd::Illegal { index }),
-            Err(Stop::NoMemory) => return Err(WalkEnd::NoMemory),
+    let went = go_along(&mut walker, steps);
+    let Walker { image, world, .. } = walker;
+    drop(image);
+    match went {
+        Ok(()) => Ok(world),
+        Err(end) => {
+            drop(world);
+            Err(end)
         }
     }
-    Ok(walker.world)
 }

@@ -13,11 +13,11 @@ returns c =
     let w = c.args.self.now.world in
     let s = system_of c.args.self.now.image in
     let may : MayBeInDoubt w s c.args.node c.args.request.now = c.in_ok-may_be_in_doubt.ensures.0 c.if-not-branch.false in
-    let next = c.in_ok-next.ensures.judged in
+    let next = c.in_ok-record.ensures.judged in
     record {
       can =
           doubt_can w c.args.node c.args.moment c.args.request.now (subst (λ (x : System). MayBeInDoubt w x c.args.node c.args.request.now) c.requires.image may)
           (subst (λ (x : System). CanFollow HasSpelling x c.args.moment c.args.node c.args.request.now) c.requires.image next.follows);
       after = ap (λ d. record w { doubt = d; manager = None }) (c.put_doubt.ensures ∙ ap (λ (r : Record). Some r) next.record_is);
-      image = c.in_ok-next.ensures.rows ∙ c.requires.image;
+      image = c.in_ok-record.ensures.rows ∙ c.requires.image;
     }

@@ -1,6 +1,6 @@
 use Rattle.qm_state.specs.Image.{system_of}
 use Rattle.qm_world.proofs.Rows.{Begun}
-use Rattle.qm_world.proofs.beginning.image_of_log.Given as goal
+use Rattle.qm_world.proofs.beginning.replay_from.Given as goal
 
 abbrev pub invariant-loop-what : goal.invariant-loop-what
 invariant-loop-what l = Begun l.log l.what-items l.rows l.what-index (system_of l.image)
