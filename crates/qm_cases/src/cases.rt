@@ -2,9 +2,12 @@
 use crate::courses::go_by_lines;
 use crate::either::Either;
 use crate::files::Files;
-use crate::run::{MemoryStation, Ran, Site, empty_site, outside_of, run, words_of};
+use crate::run::{
+    MemoryStation, Outside, Ran, Site, empty_disk, empty_site, outside_of, run, words_of,
+};
 use crate::walks::lead_on;
 use qm_disk::MemoryDisk;
+use qm_history::Turn;
 use qm_kinds::Moment;
 use qm_program::End;
 use qm_time::read_time;
@@ -12,9 +15,10 @@ use std::alloc::{AllocError, Global};
 use std::marker::Sync;
 use std::sync::Wait;
 use std::thread::Threads;
-use std::{fs, io, str};
+use std::{fs, io, mem, str};
 
-type MemorySite = Site<MemoryDisk>;
+/// A site on a disk in memory.
+pub(crate) type MemorySite = Site<MemoryDisk>;
 
 // What the clock of a case tells that has no moments of its own.
 const STANDING: &[u8] = b"1-JAN-2030 10:00:00.00";
@@ -134,6 +138,40 @@ fn is_transcript(rt: &HostRuntime, name: &str, printed: &[u8]) -> io::Result<boo
     Ok(either.settled(printed)? == either.settled(&transcript)?)
 }
 
+// What a run over a site told.
+#[derive(Drop)]
+struct Told {
+    end: End,
+    printed: Vec<u8>,
+    turns: Vec<Turn>,
+}
+
+// Runs the program over a site, which is then what the run left. At want of memory it is empty.
+fn run_at<R: Threads + Wait + Sync>(
+    threads: &R,
+    alloc: Global,
+    words: &[String],
+    outside: Outside,
+    site: &mut MemorySite,
+) -> Result<Told, AllocError> {
+    let empty = Site {
+        disk: empty_disk(alloc),
+        stations: Vec::new(alloc),
+    };
+    let Ran {
+        end,
+        printed,
+        turns,
+        site: left,
+    } = run(threads, alloc, words, outside, mem::replace(site, empty))?;
+    drop(mem::replace(site, left));
+    Ok(Told {
+        end,
+        printed,
+        turns,
+    })
+}
+
 // Serves a case over a site by the program of this word, and tells whether it printed its transcript, and its turns lead to what it
 // left; and where nodes work at once, whether they are of the lines of each.
 fn prints<R: Threads + Wait + Sync>(
@@ -141,23 +179,22 @@ fn prints<R: Threads + Wait + Sync>(
     threads: &R,
     word: &str,
     name: &str,
-    site: MemorySite,
-) -> io::Result<(bool, MemorySite)> {
+    site: &mut MemorySite,
+) -> io::Result<bool> {
     let alloc = rt.alloc();
     let script = file_of(rt, name, "qman")?;
     let before = Files::of(alloc, &site.disk)?;
     let outside = outside_of(alloc, script.to_vec(alloc)?, moments_of(rt, name)?);
-    let Ran {
+    let Told {
         end,
         printed,
         turns,
-        site,
-    } = run(threads, alloc, &words_of(alloc, word)?, outside, site)?;
+    } = run_at(threads, alloc, &words_of(alloc, word)?, outside, site)?;
     let goes = word == RUN || go_by_lines(alloc, &before, &script, &turns, &printed, end)?;
     let behind = [Files::of(alloc, &site.disk)?];
     let leads = lead_on(alloc, &before, turns, &behind)?;
     let is_told = is_transcript(rt, name, &printed)?;
-    Ok((end == End::Ok && is_told && goes && leads, site))
+    Ok(end == End::Ok && is_told && goes && leads)
 }
 
 // Whether `show` lists a site as the case says, where it says it.
@@ -165,21 +202,16 @@ fn lists<R: Threads + Wait + Sync>(
     rt: &HostRuntime,
     threads: &R,
     name: &str,
-    site: MemorySite,
-) -> io::Result<(bool, MemorySite)> {
+    site: &mut MemorySite,
+) -> io::Result<bool> {
     let Some(listing) = found(rt, name, "listing")? else {
-        return Ok((true, site));
+        return Ok(true);
     };
     let alloc = rt.alloc();
     let outside = outside_of(alloc, Vec::new(alloc), Vec::new(alloc));
     let words = words_of(alloc, "\"show\"")?;
-    let Ran {
-        end,
-        printed,
-        site,
-        ..
-    } = run(threads, alloc, &words, outside, site)?;
-    Ok((end == End::Ok && printed == listing, site))
+    let Told { end, printed, .. } = run_at(threads, alloc, &words, outside, site)?;
+    Ok(end == End::Ok && printed == listing)
 }
 
 // Serves the case of this name by the program of this word, and lists the site behind it.
@@ -188,11 +220,11 @@ fn serves<R: Threads + Wait + Sync>(
     threads: &R,
     word: &str,
     name: &str,
-    site: MemorySite,
-) -> io::Result<(bool, MemorySite)> {
-    let (prints, left) = prints(rt, threads, word, name, site)?;
-    let (lists, left) = lists(rt, threads, name, left)?;
-    Ok((prints && lists, left))
+    site: &mut MemorySite,
+) -> io::Result<bool> {
+    let prints = prints(rt, threads, word, name, site)?;
+    let lists = lists(rt, threads, name, site)?;
+    Ok(prints && lists)
 }
 
 // The word of the program that serves a case, and the case without its mark.
@@ -208,29 +240,30 @@ fn passes<R: Threads + Wait + Sync>(
     rt: &HostRuntime,
     threads: &R,
     case: &str,
-    site: MemorySite,
-) -> io::Result<(bool, MemorySite)> {
+    site: &mut MemorySite,
+) -> io::Result<bool> {
     let (word, case) = word_and_case(case);
     match case.split_once("=") {
         None => serves(rt, threads, word, case, site),
         Some((name, device)) => {
-            let (serves, left) = serves(rt, threads, word, name, site)?;
-            Ok((serves && is_output(rt, name, device, &left)?, left))
+            let serves = serves(rt, threads, word, name, site)?;
+            Ok(serves && is_output(rt, name, device, site)?)
         }
     }
 }
 
 /// Serves the case that a word names: over a new site of the nodes in front of a `:`, or of the node A; or behind a `+` over the
-/// site that the case before it left.
+/// site that the case before it left. The site is then what this case left.
 pub(crate) fn serve_case<R: Threads + Wait + Sync>(
     rt: &HostRuntime,
     threads: &R,
     word: &str,
-    before: MemorySite,
-) -> io::Result<(bool, MemorySite)> {
+    site: &mut MemorySite,
+) -> io::Result<bool> {
     if let Some(case) = word.strip_prefix("+") {
-        return passes(rt, threads, case, before);
+        return passes(rt, threads, case, site);
     }
     let (nodes, case) = word.split_once(":").unwrap_or((NODE, word));
-    passes(rt, threads, case, new_site(threads, rt.alloc(), nodes)?)
+    drop(mem::replace(site, new_site(threads, rt.alloc(), nodes)?));
+    passes(rt, threads, case, site)
 }

@@ -78,6 +78,13 @@ pub(crate) enum Failures {
     FromThereOn,
 }
 
+// What was told of the run before, and what was found behind it.
+#[derive(Drop)]
+struct Before {
+    told: Vec<u8>,
+    found: Vec<u8>,
+}
+
 /// What a plan has in work.
 #[derive(Drop)]
 pub(crate) struct Desk {
@@ -170,11 +177,27 @@ impl Desk {
         let outside = self.outside(asked.script)?;
         let site = self.site(files.disk(self.alloc, failing)?)?;
         let mut ran = run(threads, self.alloc, asked.words, outside, site)?;
-        self.push_told(told, asked, files, &ran)?;
-        let turns = mem::replace(&mut ran.turns, Vec::new(self.alloc));
+        match self.tell_of(told, asked, files, &mut ran) {
+            Ok(()) => Ok(ran),
+            Err(AllocError) => {
+                drop(ran);
+                Err(AllocError)
+            }
+        }
+    }
+
+    // Tells of a run over files, and takes its turns, which are walked along.
+    fn tell_of(
+        &self,
+        told: &mut Vec<u8>,
+        asked: &Asked<'_, '_>,
+        files: &Files,
+        ran: &mut Ran<MemoryDisk>,
+    ) -> Result<(), AllocError> {
+        self.push_told(told, asked, files, ran)?;
         let behind = self.left(&ran.site.disk, asked.behind)?;
-        push_walk(self.alloc, told, asked, files, turns, &behind)?;
-        Ok(ran)
+        let turns = mem::replace(&mut ran.turns, Vec::new(self.alloc));
+        push_walk(self.alloc, told, asked, files, turns, &behind)
     }
 
     /// Tells the last lines that a run over files printed, but for what may stand in place of something else, and how it ended where it
@@ -246,15 +269,26 @@ impl Desk {
     ) -> Result<MemoryDisk, AllocError> {
         let ran = self.run_once(threads, told, words)?;
         self.last = usize::MAX;
-        let Ran { site, .. } = ran;
-        self.keep_handed(&site)?;
+        let kept = self.keep_left(told, &ran.site);
+        let disk = disk_of(ran);
+        match kept {
+            Ok(()) => Ok(disk),
+            Err(AllocError) => {
+                drop(disk);
+                Err(AllocError)
+            }
+        }
+    }
+
+    // Keeps what a run left: what the devices took, and the files.
+    fn keep_left(&mut self, told: &mut Vec<u8>, site: &Site<MemoryDisk>) -> Result<(), AllocError> {
+        self.keep_handed(site)?;
         let left = Files::of(self.alloc, &site.disk)?;
-        self.before = mem::replace(&mut self.files, left);
+        drop(mem::replace(&mut self.before, mem::replace(&mut self.files, left)));
         if self.before.get(2) != self.files.get(2) {
             told.extend_from_slice(b"queue file 2 changed\n")?;
         }
-        let Site { disk, .. } = site;
-        Ok(disk)
+        Ok(())
     }
 
     // Runs the program over the files, where these calls of the disk fail, and tells of the run: of nodes at once how many of their
@@ -272,11 +306,65 @@ impl Desk {
             asked.behind = Behind::Crashed;
         }
         let ran = self.run_over(threads, told, &asked, &self.files, failing)?;
-        if asked.is_at_once() {
-            let line = format!(in self.alloc; "failed turns: {}", count_failed(&ran.printed))?;
-            push_line(told, line.as_str())?;
+        let counted = self.push_failed(told, &asked, &ran.printed);
+        match counted {
+            Ok(()) => Ok(ran),
+            Err(AllocError) => {
+                drop(ran);
+                Err(AllocError)
+            }
         }
-        Ok(ran)
+    }
+
+    // Tells in how many turns of nodes at once the disk failed.
+    fn push_failed(
+        &self,
+        told: &mut Vec<u8>,
+        asked: &Asked<'_, '_>,
+        printed: &[u8],
+    ) -> Result<(), AllocError> {
+        if !asked.is_at_once() {
+            return Ok(());
+        }
+        let line = format!(in self.alloc; "failed turns: {}", count_failed(printed))?;
+        push_line(told, line.as_str())
+    }
+
+    // The same, and what is found behind the run. Gives its end.
+    fn run_and_look<R: Threads + Wait + Sync>(
+        &self,
+        threads: &R,
+        told: &mut Vec<u8>,
+        found: &mut Vec<u8>,
+        words: &[String],
+        failing: &[u64],
+    ) -> Result<End, AllocError> {
+        let ran = self.run_failing_at(threads, told, words, failing)?;
+        let looked = self.look_behind(threads, found, &ran.site.disk);
+        let end = ran.end;
+        drop(ran);
+        looked?;
+        Ok(end)
+    }
+
+    // Runs the program once with failures from this call on, and tells of it where that is news. Whether the run ended well.
+    fn run_with_failures<R: Threads + Wait + Sync>(
+        &self,
+        threads: &R,
+        told: &mut Vec<u8>,
+        words: &[String],
+        failing: &[u64],
+        before: &mut Before,
+    ) -> Result<bool, AllocError> {
+        let mut now = Vec::new(self.alloc);
+        let mut found = Vec::new(self.alloc);
+        let end = self.run_and_look(threads, &mut now, &mut found, words, failing)?;
+        if now != before.told || found != before.found {
+            push_line(told, "--")?;
+        }
+        push_news(told, &mut before.told, now)?;
+        push_news(told, &mut before.found, found)?;
+        Ok(end == End::Ok)
     }
 
     /// Runs the program over the files once for each of its calls on the disk, which fails, or from which on each one does, and
@@ -289,20 +377,13 @@ impl Desk {
         words: &[String],
         failures: Failures,
     ) -> Result<(), AllocError> {
-        let mut before = vec![in self.alloc; b'?']?;
-        let mut found_before = vec![in self.alloc; b'?']?;
+        let mut before = Before {
+            told: vec![in self.alloc; b'?']?,
+            found: vec![in self.alloc; b'?']?,
+        };
         for number in 1..CALLS {
             let failing = numbers_from(self.alloc, number, failures)?;
-            let mut now = Vec::new(self.alloc);
-            let ran = self.run_failing_at(threads, &mut now, words, &failing)?;
-            let mut found = Vec::new(self.alloc);
-            self.look_behind(threads, &mut found, &ran.site.disk)?;
-            if now != before || found != found_before {
-                push_line(told, "--")?;
-            }
-            push_news(told, &mut before, now)?;
-            push_news(told, &mut found_before, found)?;
-            if ran.end == End::Ok {
+            if self.run_with_failures(threads, told, words, &failing, &mut before)? {
                 return Ok(());
             }
         }
@@ -316,7 +397,8 @@ impl Desk {
             2 => 2,
             _ => 0,
         };
-        self.files = Files::of(self.alloc, &self.stopped.after_crash(pick)?)?;
+        let left = Files::of(self.alloc, &self.stopped.after_crash(pick)?)?;
+        drop(mem::replace(&mut self.files, left));
         Ok(())
     }
 
@@ -332,7 +414,7 @@ impl Desk {
         let words = words_of(self.alloc, RUN)?;
         let mut found = Vec::new(self.alloc);
         let asked = Asked::all(&words, &self.look);
-        let _ = self.run_over(threads, &mut found, &asked, files, &[])?;
+        drop(self.run_over(threads, &mut found, &asked, files, &[])?);
         if found.as_slice() != before.as_slice() {
             told.extend_from_slice(head.as_bytes())?;
         }
@@ -373,6 +455,13 @@ impl Desk {
         }
         Ok(())
     }
+}
+
+// The disk that a run left.
+fn disk_of(ran: Ran<MemoryDisk>) -> MemoryDisk {
+    let Ran { site, .. } = ran;
+    let Site { disk, .. } = site;
+    disk
 }
 
 // The numbers of the calls that fail, from one on.

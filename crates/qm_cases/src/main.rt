@@ -58,9 +58,7 @@ fn serve_cases<R: Threads + Wait + Sync>(rt: &HostRuntime, threads: &R) -> io::R
         let passes = if let Some(name) = word.as_str().strip_prefix("@") {
             plan_holds(rt, threads, &mut desk, name)?
         } else {
-            let (passes, left) = serve_case(rt, threads, word.as_str(), site)?;
-            site = left;
-            passes
+            serve_case(rt, threads, word.as_str(), &mut site)?
         };
         if passes {
             passed = passed.saturating_add(1);

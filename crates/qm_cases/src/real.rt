@@ -3,6 +3,7 @@ use crate::desk::{Asked, Desk, push_walk};
 use crate::files::Files;
 use crate::run::{Ran, Site, run};
 use qm_files::FileDisk;
+use qm_history::Turn;
 use std::alloc::AllocError;
 use std::marker::Sync;
 use std::sync::Wait;
@@ -30,6 +31,40 @@ pub(crate) fn new_folder(rt: &HostRuntime) -> io::Result<()> {
     fs::create_dir(rt, FOLDER)
 }
 
+// The master and the first queue file of the folder.
+fn files_left(rt: &HostRuntime) -> io::Result<Files> {
+    let mut left = Files::new(rt.alloc());
+    *left.get_mut(0) = fs::read(rt, "files/master")?;
+    *left.get_mut(1) = fs::read(rt, "files/one")?;
+    Ok(left)
+}
+
+// Gives back the files of a run, and keeps its turns.
+fn turns_of(ran: Ran<FileDisk<HostRuntime>>) -> Vec<Turn> {
+    let Ran { site, turns, .. } = ran;
+    let Site { disk, .. } = site;
+    disk.close();
+    turns
+}
+
+// Runs the program over the files of the folder, and tells of the run. Gives its turns.
+fn turns_told<R: Threads + Wait + Sync>(
+    rt: &HostRuntime,
+    threads: &R,
+    desk: &Desk,
+    told: &mut Vec<u8>,
+    asked: &Asked<'_, '_>,
+    words: &[String],
+) -> io::Result<Vec<Turn>> {
+    let outside = desk.outside(&desk.script)?;
+    let site = desk.site(files(rt)?)?;
+    let ran = run(threads, rt.alloc(), words, outside, site)?;
+    let is_told = desk.push_told(told, asked, &desk.files, &ran);
+    let turns = turns_of(ran);
+    is_told?;
+    Ok(turns)
+}
+
 // Runs the program over the files of the folder, and tells of the run. Gives the master and the first queue file that it left; the
 // second one was asked for nothing, and so wasn't made.
 fn run_once<R: Threads + Wait + Sync>(
@@ -39,20 +74,11 @@ fn run_once<R: Threads + Wait + Sync>(
     told: &mut Vec<u8>,
     words: &[String],
 ) -> io::Result<Files> {
-    let alloc = rt.alloc();
-    let outside = desk.outside(&desk.script)?;
-    let site = desk.site(files(rt)?)?;
-    let ran = run(threads, alloc, words, outside, site)?;
     let asked = Asked::all(words, &desk.script);
-    desk.push_told(told, &asked, &desk.files, &ran)?;
-    let Ran { site, turns, .. } = ran;
-    let Site { disk, .. } = site;
-    disk.close();
-    let mut left = Files::new(alloc);
-    *left.get_mut(0) = fs::read(rt, "files/master")?;
-    *left.get_mut(1) = fs::read(rt, "files/one")?;
+    let turns = turns_told(rt, threads, desk, told, &asked, words)?;
+    let left = files_left(rt)?;
     let behind = slice::from_ref(&left);
-    push_walk(alloc, told, &asked, &desk.files, turns, behind)?;
+    push_walk(rt.alloc(), told, &asked, &desk.files, turns, behind)?;
     Ok(left)
 }
 

@@ -9,6 +9,7 @@ use qm_disk::MemoryDisk;
 use qm_history::{Event, Turn, World};
 use qm_kinds::Name;
 use qm_restore::{Bodies, restore};
+use qm_state::Image;
 use qm_world::{WalkEnd, first_world, texts_of, walk};
 use std::alloc::{AllocError, Global};
 
@@ -38,11 +39,17 @@ fn live_file(alloc: Global, files: &Files) -> Result<Option<LiveFile>, AllocErro
     }
 }
 
+// The events of a turn.
+fn events_in(turn: Turn) -> Vec<Event> {
+    let Turn { events, .. } = turn;
+    events.into_vec()
+}
+
 // The events of turns, one behind another.
 fn events_of(alloc: Global, turns: Vec<Turn>) -> Result<Vec<Event>, AllocError> {
     let mut events = Vec::new(alloc);
     for turn in turns {
-        for event in turn.events.into_vec() {
+        for event in events_in(turn) {
             events.push(event)?;
         }
     }
@@ -60,6 +67,14 @@ fn holds(file: &LiveFile, texts: &[Vec<u8>], least: usize) -> bool {
     least <= count && count <= texts.len()
 }
 
+// Whether a file holds the log of a world, and perhaps the record in doubt behind it.
+fn holds_log(alloc: Global, file: &LiveFile, world: &World) -> Result<bool, AllocError>
+    requires { IsSound HasSpelling world.now }
+{
+    let texts = texts_of(alloc, world)?;
+    Ok(holds(file, &texts, world.log.as_slice().len()))
+}
+
 // Whether files hold the log of a world, and perhaps the record in doubt behind it.
 fn hold_log(alloc: Global, files: &Files, world: &World) -> Result<bool, AllocError>
     requires { IsSound HasSpelling world.now }
@@ -67,8 +82,9 @@ fn hold_log(alloc: Global, files: &Files, world: &World) -> Result<bool, AllocEr
     let Some(file) = live_file(alloc, files)? else {
         return Ok(false);
     };
-    let texts = texts_of(alloc, world)?;
-    Ok(holds(&file, &texts, world.log.as_slice().len()))
+    let held = holds_log(alloc, &file, world);
+    drop(file);
+    held
 }
 
 // Whether all of these files hold it.
@@ -83,19 +99,69 @@ fn all_hold_log(alloc: Global, all: &[Files], world: &World) -> Result<bool, All
     Ok(true)
 }
 
+// Adds the names of the nodes of an image.
+fn push_names(names: &mut Vec<Name>, image: &Image) -> Result<(), AllocError> {
+    for node in image.nodes() {
+        names.push(node.name)?;
+    }
+    Ok(())
+}
+
+// Adds the names of the nodes of a file, if it is a site's.
+fn push_names_in(alloc: Global, names: &mut Vec<Name>, file: &LiveFile) -> Result<(), AllocError> {
+    let Ok(image) = restore(alloc, file) else {
+        return Ok(());
+    };
+    let pushed = push_names(names, &image);
+    drop(image);
+    pushed
+}
+
 /// The names of the site's nodes in the cluster's order; none where the files are no site's.
 pub(crate) fn names_of(alloc: Global, files: &Files) -> Result<Vec<Name>, AllocError> {
     let mut names = Vec::new(alloc);
     let Some(file) = live_file(alloc, files)? else {
         return Ok(names);
     };
-    let Ok(image) = restore(alloc, &file) else {
-        return Ok(names);
-    };
-    for node in image.nodes() {
-        names.push(node.name)?;
-    }
+    let pushed = push_names_in(alloc, &mut names, &file);
+    drop(file);
+    pushed?;
     Ok(names)
+}
+
+// Whether events lead from a world to one whose log is what each of these files hold.
+fn lead_behind(
+    alloc: Global,
+    start: &World,
+    events: &[Event],
+    behind: &[Files],
+) -> Result<bool, AllocError>
+    requires { IsSound HasSpelling start.now }
+{
+    match walk(alloc, start, events) {
+        Ok(world) => {
+            let hold = all_hold_log(alloc, behind, &world);
+            drop(world);
+            hold
+        }
+        Err(WalkEnd::Illegal { .. }) => Ok(false),
+        Err(WalkEnd::NoMemory) => Err(AllocError),
+    }
+}
+
+// Whether events lead there from the world with which a program begins on a file, if it is a site's.
+fn lead_from(
+    alloc: Global,
+    file: &LiveFile,
+    events: &[Event],
+    behind: &[Files],
+) -> Result<bool, AllocError> {
+    let Ok(start) = first_world(alloc, file, file.loaded.epoch()) else {
+        return Ok(events.is_empty());
+    };
+    let lead = lead_behind(alloc, &start, events, behind);
+    drop(start);
+    lead
 }
 
 /// Whether turns lead from the world with which a program begins on the files to one whose log is what each of these files hold that
@@ -110,12 +176,7 @@ pub(crate) fn lead_on(
     let Some(file) = live_file(alloc, before)? else {
         return Ok(events.is_empty());
     };
-    let Ok(start) = first_world(alloc, &file, file.loaded.epoch()) else {
-        return Ok(events.is_empty());
-    };
-    match walk(alloc, &start, &events) {
-        Ok(world) => all_hold_log(alloc, behind, &world),
-        Err(WalkEnd::Illegal { .. }) => Ok(false),
-        Err(WalkEnd::NoMemory) => Err(AllocError),
-    }
+    let lead = lead_from(alloc, &file, &events, behind);
+    drop(file);
+    lead
 }
