@@ -50,7 +50,10 @@ fn duties_in(answer: Answer) -> Option<Vec<Duty>>
 {
     match answer {
         Answer::Duties { duties, .. } => Some(duties.into_vec()),
-        _ => None,
+        other => {
+            drop(other);
+            None
+        }
     }
 }
 
@@ -133,14 +136,13 @@ fn hear_steps<Y: Symbiont>(
     ensures heard { OnOk result (runs.new ≡ record runs.old { kept = kept_heard turns runs.old.kept steps answer }) }
     ensures no_memory { OnErr result (runs.new ≡ runs.old) }
 {
-    match steps {
-        Some(steps) => match duties_in(answer) {
-            Some(duties) => runs.learn_by(symbiont, turns, steps, duties),
-            None => {
-                runs.read_on();
-                Ok(())
-            }
-        },
+    let Some(steps) = steps else {
+        drop(answer);
+        runs.read_on();
+        return Ok(());
+    };
+    match duties_in(answer) {
+        Some(duties) => runs.learn_by(symbiont, turns, steps, duties),
         None => {
             runs.read_on();
             Ok(())
@@ -362,10 +364,12 @@ impl<'a, Y: Symbiont> NodeState<'a, Y> {
             Next::Line(line) => self.hear_line(line, turns, answer, symbiont),
             Next::Step(_) => {
                 self.hear_report(&answer);
+                drop(answer);
                 Ok(())
             }
             Next::Fetch => self.hear_fetch(turns, answer, symbiont),
             Next::Leave => {
+                drop(answer);
                 self.stage = Stage::Over;
                 Ok(())
             }
