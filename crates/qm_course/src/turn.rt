@@ -102,11 +102,15 @@ fn serve_call<'a, S: Serve, O: Sink, Y: Symbiont>(
     let gist = gist_of(&call);
     let answer = server.serve(node, moment, call);
     if let Some(end) = stop_of(&answer) {
+        drop(answer);
         return Err(end);
     }
     match print_answer(alloc, sink, &name, &gist, &answer) {
         Ok(()) => {}
-        Err(end) => return Err(end),
+        Err(end) => {
+            drop(answer);
+            return Err(end);
+        }
     }
     match seat.take_in(next, &gist, answer, symbiont) {
         Ok(()) => Ok(()),

@@ -83,9 +83,11 @@ fn hear<'a, Y: Symbiont>(
     ensures ends { (asked : AnyCall) → gist.now ≡ gist_of asked → IfErr result (λ end. EndsBy name.now end asked answer text.old.items text.new.items) }
 {
     if let Some(end) = ending_of(&answer) {
+        drop(answer);
         return Err(end);
     }
     let Ok(()) = print_answer(alloc, name, gist, &answer, text) else {
+        drop(answer);
         return Err(DriveEnd::NoMemory);
     };
     match seat.take_in(next, gist, answer, symbiont) {
