@@ -1,8 +1,8 @@
 // The lines of a transcript that answer a line of a script.
-ghost use Rattle.std.specs.Prelude.{◌≡◌, ◌≤◌, ◌+◌, length, ◌++◌, decimal, map, IfSome, OnOk, Some};
+ghost use Rattle.std.specs.Prelude.{◌≡◌, ◌≤◌, ◌+◌, length, ◌++◌, ◌∷◌, [], decimal, map, IfSome, OnOk, Some};
 ghost use Rattle.qm_model.specs.Words.{act_text, start_text};
 ghost use Rattle.qm_model.specs.Transcript.{full_line, number_text, row_lines, runs_line};
-ghost use Rattle.qm_history.specs.Text.{behind, line_behind};
+ghost use Rattle.qm_history.specs.Text.{behind};
 ghost use Rattle.qm_show.specs.Prefix.{prefix_text};
 
 use crate::act::{ActWords, StartText, mark_value};
@@ -70,7 +70,7 @@ pub(crate) fn push_line<T: fmt::Display + Drop>(
     front: &str,
     text: T,
 ) -> Result<(), AllocError>
-    ensures { OnOk result (IfSome (T.output text) (λ bytes. out.new.items ≡ out.old.items ++ line_behind front.now bytes)) }
+    ensures { OnOk result (IfSome (T.output text) (λ bytes. out.new.items ≡ out.old.items ++ behind front.now (bytes ∷ []))) }
 {
     out.extend_from_slice(front.as_bytes())?;
     let Ok(()) = out.write_fmt(text) else {
@@ -82,7 +82,7 @@ pub(crate) fn push_line<T: fmt::Display + Drop>(
 
 /// Appends a line of an answer whose text is there.
 pub(crate) fn push_text(out: &mut Vec<u8>, front: &str, text: &str) -> Result<(), AllocError>
-    ensures { OnOk result (out.new.items ≡ out.old.items ++ line_behind front.now text.now) }
+    ensures { OnOk result (out.new.items ≡ out.old.items ++ behind front.now (text.now ∷ [])) }
 {
     out.extend_from_slice(front.as_bytes())?;
     out.extend_from_slice(text.as_bytes())?;
@@ -103,14 +103,14 @@ fn count_text(word: &str, count: usize) -> ArrayString<32>
 
 /// Appends how many runs a node was shown.
 pub(crate) fn push_runs(out: &mut Vec<u8>, front: &str, count: usize) -> Result<(), AllocError>
-    ensures { OnOk result (out.new.items ≡ out.old.items ++ line_behind front.now (runs_line count)) }
+    ensures { OnOk result (out.new.items ≡ out.old.items ++ behind front.now (runs_line count ∷ [])) }
 {
     push_text(out, front, count_text("runs: ", count).as_str())
 }
 
 /// Appends the first line of a reply. The value of a mark may be any bytes.
 pub(crate) fn push_act(out: &mut Vec<u8>, front: &str, act: &Act) -> Result<(), AllocError>
-    ensures { OnOk result (out.new.items ≡ out.old.items ++ line_behind front.now (act_text act.now)) }
+    ensures { OnOk result (out.new.items ≡ out.old.items ++ behind front.now (act_text act.now ∷ [])) }
 {
     out.extend_from_slice(front.as_bytes())?;
     let Ok(()) = out.write_fmt(ActWords(act)) else {

@@ -1,6 +1,7 @@
 // What is printed of a refusal.
-ghost use Rattle.std.specs.Prelude.{◌≡◌, Some};
-ghost use Rattle.qm_model.specs.Words.{wanted_text, holder_text, no_more_text, refusal_text};
+ghost use Rattle.std.specs.Prelude.{◌≡◌, ◌++◌, Some};
+ghost use Rattle.qm_model.specs.Words.{no_more_text, refusal_text};
+ghost use Rattle.qm_show.specs.Refusals.{refusal_detail};
 
 use crate::status::StatusText;
 use qm_kinds::{Holder, Listing, NameOrNumber, Refusal};
@@ -10,13 +11,9 @@ use std::fmt;
 #[derive(Clone, Copy)]
 pub struct RefusalText<'a>(pub &'a Refusal);
 
-// A form or a characteristic, by its name or its number.
+// What a refusal tells behind its words.
 #[derive(Clone, Copy)]
-struct WantedText<'a>(&'a NameOrNumber);
-
-// What still names a thing.
-#[derive(Clone, Copy)]
-struct HolderText<'a>(&'a Holder);
+struct DetailText<'a>(&'a Refusal);
 
 // A listing has no more rows.
 fn no_more(listing: &Listing) -> &'static str
@@ -33,25 +30,75 @@ fn no_more(listing: &Listing) -> &'static str
     }
 }
 
-impl fmt::Display for WantedText<'_> {
-    ghost output = { λ w. Some (wanted_text w.0.now) };
-
-    fn fmt<W: fmt::Write>(&self, f: &mut fmt::Formatter<W>) -> fmt::Result {
-        match self.0 {
-            NameOrNumber::Name(name) => write!(f, "{name}"),
-            NameOrNumber::Number(number) => write!(f, "{number}"),
-        }
+// The words of a refusal, up to what it tells.
+fn words_of(refusal: &Refusal) -> &'static str
+    ensures { result.now ++ refusal_detail refusal.now ≡ refusal_text refusal.now }
+{
+    match refusal {
+        Refusal::NoSuchQueue { .. } => "NOSUCHQUE, ",
+        Refusal::NoSuchEntry { .. } => "NOSUCHENT, ",
+        Refusal::NoSuchForm { .. } => "NOSUCHFORM, ",
+        Refusal::NoSuchCharacteristic { .. } => "NOSUCHCHAR, ",
+        Refusal::DuplicateQueue => "DUPQUE",
+        Refusal::DuplicateForm => "DUPFORM",
+        Refusal::DuplicateCharacteristic => "DUPCHAR",
+        Refusal::QueueNotStopped { .. } => "QUENOTSTOP, ",
+        Refusal::Referenced { .. } => "REFERENCED, ",
+        Refusal::WrongKind => "WRONGKIND",
+        Refusal::NotRunning => "NOTRUNNING",
+        Refusal::StaleRun { .. } => "STALERUN, next run ",
+        Refusal::NoSuchFile => "NOSUCHFILE",
+        Refusal::SpoolFull => "SPOOLFULL",
+        Refusal::EntriesFull => "ENTRIESFULL",
+        Refusal::QueuesFull => "QUEUESFULL",
+        Refusal::NumbersSpent => "NUMBERSSPENT",
+        Refusal::NotHeld => "NOTHELD",
+        Refusal::GenericTarget { .. } => "TARGET, ",
+        Refusal::BadValue => "INVPARVAL",
+        Refusal::NodeDown => "NODEDOWN",
+        Refusal::NoSuchNode { .. } => "NOSUCHNODE, ",
+        Refusal::NotRestartable => "NORESTART",
+        Refusal::ParseFault { .. } => "PARSE, byte ",
+        Refusal::EntryBusy { .. } => "ENTRYBUSY, ",
+        Refusal::NoContext => "NOCONTEXT",
+        Refusal::NoMore { .. } => "",
     }
 }
 
-impl fmt::Display for HolderText<'_> {
-    ghost output = { λ h. Some (holder_text h.0.now) };
+impl fmt::Display for DetailText<'_> {
+    ghost output = { λ d. Some (refusal_detail d.0.now) };
 
     fn fmt<W: fmt::Write>(&self, f: &mut fmt::Formatter<W>) -> fmt::Result {
         match self.0 {
-            Holder::Queue(name) => write!(f, "{name}"),
-            Holder::Entry(number) => write!(f, "{number}"),
-            Holder::Always => f.write_str("ALWAYS"),
+            Refusal::NoSuchQueue { name }
+            | Refusal::NoSuchForm {
+                wanted: NameOrNumber::Name(name),
+            }
+            | Refusal::NoSuchCharacteristic {
+                wanted: NameOrNumber::Name(name),
+            }
+            | Refusal::Referenced {
+                by: Holder::Queue(name),
+            }
+            | Refusal::GenericTarget { name }
+            | Refusal::NoSuchNode { name } => name.fmt(f),
+            Refusal::NoSuchEntry { number }
+            | Refusal::Referenced {
+                by: Holder::Entry(number),
+            } => number.fmt(f),
+            Refusal::NoSuchForm {
+                wanted: NameOrNumber::Number(number),
+            }
+            | Refusal::NoSuchCharacteristic {
+                wanted: NameOrNumber::Number(number),
+            } => number.fmt(f),
+            Refusal::Referenced { by: Holder::Always } => f.write_str("ALWAYS"),
+            Refusal::QueueNotStopped { state } => state.fmt(f),
+            Refusal::StaleRun { next } => next.fmt(f),
+            Refusal::ParseFault { place, kind } => write!(f, "{place}: {kind}"),
+            Refusal::EntryBusy { state } => StatusText(state).fmt(f),
+            Refusal::NoMore { listing } => f.write_str(no_more(listing)),
+            _ => Ok(()),
         }
     }
 }
@@ -60,36 +107,6 @@ impl fmt::Display for RefusalText<'_> {
     ghost output = { λ r. Some (refusal_text r.0.now) };
 
     fn fmt<W: fmt::Write>(&self, f: &mut fmt::Formatter<W>) -> fmt::Result {
-        match self.0 {
-            Refusal::NoSuchQueue { name } => write!(f, "NOSUCHQUE, {name}"),
-            Refusal::NoSuchEntry { number } => write!(f, "NOSUCHENT, {number}"),
-            Refusal::NoSuchForm { wanted } => write!(f, "NOSUCHFORM, {}", WantedText(wanted)),
-            Refusal::NoSuchCharacteristic { wanted } => {
-                write!(f, "NOSUCHCHAR, {}", WantedText(wanted))
-            }
-            Refusal::DuplicateQueue => f.write_str("DUPQUE"),
-            Refusal::DuplicateForm => f.write_str("DUPFORM"),
-            Refusal::DuplicateCharacteristic => f.write_str("DUPCHAR"),
-            Refusal::QueueNotStopped { state } => write!(f, "QUENOTSTOP, {state}"),
-            Refusal::Referenced { by } => write!(f, "REFERENCED, {}", HolderText(by)),
-            Refusal::WrongKind => f.write_str("WRONGKIND"),
-            Refusal::NotRunning => f.write_str("NOTRUNNING"),
-            Refusal::StaleRun { next } => write!(f, "STALERUN, next run {next}"),
-            Refusal::NoSuchFile => f.write_str("NOSUCHFILE"),
-            Refusal::SpoolFull => f.write_str("SPOOLFULL"),
-            Refusal::EntriesFull => f.write_str("ENTRIESFULL"),
-            Refusal::QueuesFull => f.write_str("QUEUESFULL"),
-            Refusal::NumbersSpent => f.write_str("NUMBERSSPENT"),
-            Refusal::NotHeld => f.write_str("NOTHELD"),
-            Refusal::GenericTarget { name } => write!(f, "TARGET, {name}"),
-            Refusal::BadValue => f.write_str("INVPARVAL"),
-            Refusal::NodeDown => f.write_str("NODEDOWN"),
-            Refusal::NoSuchNode { name } => write!(f, "NOSUCHNODE, {name}"),
-            Refusal::NotRestartable => f.write_str("NORESTART"),
-            Refusal::ParseFault { place, kind } => write!(f, "PARSE, byte {place}: {kind}"),
-            Refusal::EntryBusy { state } => write!(f, "ENTRYBUSY, {}", StatusText(state)),
-            Refusal::NoContext => f.write_str("NOCONTEXT"),
-            Refusal::NoMore { listing } => f.write_str(no_more(listing)),
-        }
+        write!(f, "{}{}", words_of(self.0), DetailText(self.0))
     }
 }

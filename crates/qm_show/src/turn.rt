@@ -1,8 +1,8 @@
 // The lines of a transcript that tell of a turn: one call for whatever a call of a node is answered.
 ghost use Rattle.std.specs.Prelude.{◌≡◌, ◌++◌, ◌∷◌, [], map, Some, IfOk, OnOk};
 ghost use Rattle.std.specs.Option.{option_copied};
-ghost use Rattle.qm_model.specs.Words.{act_text, start_text};
-ghost use Rattle.qm_model.specs.Transcript.{runs_line};
+ghost use Rattle.qm_model.specs.Words.{act_text, refusal_line, start_text};
+ghost use Rattle.qm_model.specs.Transcript.{journal_line, runs_line};
 ghost use Rattle.qm_sjc.specs.Printed.{items_line};
 ghost use Rattle.qm_history.specs.Text.{answer_lines, behind, fenced_line, first_line_of, if_printed, kept_lines, no_manager_line, shown_lines, takeover_lines, told_takeover};
 ghost use Rattle.qm_show.specs.Turns.{line_of, told_text};
@@ -12,7 +12,7 @@ use crate::answer::{
 };
 use crate::refusal::RefusalText;
 use qm_history::{Answer, Takeover, Why};
-use qm_kinds::{Act, Name, Reply, Row};
+use qm_kinds::{Act, Name, Refusal, Reply, Row};
 use qm_sjc::row_line;
 use std::alloc::{AllocError, Global};
 use std::fmt;
@@ -68,14 +68,24 @@ fn told_takeover(answer: &Answer) -> Option<&Takeover>
     }
 }
 
+// What became of a record in doubt.
+fn kept_text(kept: bool) -> &'static str
+    ensures { result.now ∷ [] ≡ kept_lines (Some kept) }
+{
+    if kept {
+        "%QMAN-I-KEPT"
+    } else {
+        "%QMAN-I-NOTKEPT"
+    }
+}
+
 // Appends what became of a record in doubt, where one was.
 fn push_kept(out: &mut Vec<u8>, front: &str, kept: Option<bool>) -> Result<(), AllocError>
     ensures { OnOk result (out.new.items ≡ out.old.items ++ behind front.now (kept_lines kept)) }
 {
     match kept {
         None => Ok(()),
-        Some(true) => push_text(out, front, "%QMAN-I-KEPT"),
-        Some(false) => push_text(out, front, "%QMAN-I-NOTKEPT"),
+        Some(kept) => push_text(out, front, kept_text(kept)),
     }
 }
 
@@ -146,6 +156,20 @@ fn push_shown(
     }
 }
 
+// Appends the line of a refusal.
+fn push_refusal(out: &mut Vec<u8>, front: &str, refusal: &Refusal) -> Result<(), AllocError>
+    ensures { OnOk result (out.new.items ≡ out.old.items ++ behind front.now (refusal_line refusal.now ∷ [])) }
+{
+    push_line(out, front, format_args!("%QMAN-E-{}", RefusalText(refusal)))
+}
+
+// Appends the line of a disk that failed.
+fn push_journal(out: &mut Vec<u8>, front: &str) -> Result<(), AllocError>
+    ensures { OnOk result (out.new.items ≡ out.old.items ++ behind front.now (journal_line ∷ [])) }
+{
+    push_text(out, front, "%QMAN-F-JOURNAL")
+}
+
 // Appends the line of a node that may not be queue manager.
 fn push_no_manager(out: &mut Vec<u8>, front: &str, node: &Name) -> Result<(), AllocError>
     ensures { OnOk result (out.new.items ≡ out.old.items ++ behind front.now (no_manager_line node.now ∷ [])) }
@@ -168,11 +192,7 @@ fn push_answer(
         Answer::Done { reply, .. } => push_reply(out, front, why, reply),
         Answer::Shown { rows, .. } => push_shown(alloc, out, front, single, rows.as_slice()),
         Answer::Duties { duties, .. } => push_duties(out, front, why, duties.as_slice().len()),
-        Answer::Refused { refusal, .. } => push_line(
-            out,
-            front,
-            format_args!("%QMAN-E-{}", RefusalText(refusal)),
-        ),
+        Answer::Refused { refusal, .. } => push_refusal(out, front, refusal),
         Answer::Full { need, cap, .. } => push_line(
             out,
             front,
@@ -181,7 +201,7 @@ fn push_answer(
                 cap: *cap,
             },
         ),
-        Answer::Journal { .. } => push_text(out, front, "%QMAN-F-JOURNAL"),
+        Answer::Journal { .. } => push_journal(out, front),
         Answer::Fenced { held, current } => push_line(
             out,
             front,
