@@ -111,7 +111,8 @@ fn restore_entries(
 }
 
 // The tables of a system, of whose files it is counted which entries name them. (Each large value that is alive where a call may
-// fail makes the proof longer: so the tables don't stand beside the other parts of an image until nothing of them can fail.)
+// fail makes the proof longer: so the tables don't stand beside the other parts of an image until nothing of them can fail, and
+// they go by a call.)
 fn parts_of(alloc: Global, spool: &mut Spool, system: &System) -> Result<Parts, AllocError>
     requires consistent { IsConsistent system.now }
     requires files { spool.old.files ≡ system.now.files }
@@ -122,8 +123,13 @@ fn parts_of(alloc: Global, spool: &mut Spool, system: &System) -> Result<Parts, 
     ensures timers { IfOk result (λ parts. AreTimersOf parts.entries parts.timers) }
 {
     let mut tables = tables_of(alloc, system)?;
-    restore_entries(&mut tables, spool, system)?;
-    Parts::of(alloc, tables)
+    match restore_entries(&mut tables, spool, system) {
+        Ok(()) => Parts::of(alloc, tables),
+        Err(AllocError) => {
+            drop(tables);
+            Err(AllocError)
+        }
+    }
 }
 
 // The number of the next entry.
