@@ -1,5 +1,5 @@
 -- Elements one after the other, as loops read and write them.
-use Rattle.std.proofs.Common.{◌≡◌, ℕ, suc, ◌-◌, ◌+◌, ◌≤◌, ◌<◌, List, [], ◌∷◌, ◌++◌, length, take, get_or, Option, None, Some, Result, Ok, Err, refl, sym, ap, ◌∙◌, append_assoc, arith}
+use Rattle.std.proofs.Common.{◌≡◌, ℕ, suc, ◌-◌, ◌+◌, ◌≤◌, ◌<◌, List, [], ◌∷◌, ◌++◌, length, take, get_or, Option, None, Some, Result, Ok, Err, refl, sym, ap, ◌∙◌, append_assoc, take_all, arith}
 use Rattle.std.specs.List.{AllByRecursion}
 use Rattle.std.proofs.lemmas.List.{append-nil, take_more}
 use Rattle.qm_bytes.specs.Reading.{Reader, onward, pure, repeat_at, IsThere, GivesKept}
@@ -97,6 +97,15 @@ all_more Fits (y ∷ xs) x all fits = (all.0, all_more Fits xs x all.1 fits)
 pub record Written {A : Type 0} (Fits : A → Type 0) (spelling : A → List ℕ) (old new : List ℕ) (xs : List A) : Type 0 where
   pub text : new ≡ old ++ each spelling xs
   pub all : AllByRecursion Fits xs
+
+pub written_none : {A : Type 0} (Fits : A → Type 0) (spelling : A → List ℕ) (old : List ℕ) (xs : List A)
+    → Written Fits spelling old old (take 0 xs)
+written_none Fits spelling old xs = record { text = sym (append-nil old); all = tt }
+
+pub written_all : {A : Type 0} (Fits : A → Type 0) (spelling : A → List ℕ) (old new : List ℕ) (xs : List A) {i : ℕ}
+    → length xs ≤ i → Written Fits spelling old new (take i xs) → Written Fits spelling old new xs
+written_all Fits spelling old new xs {i} le so_far =
+    rw (take_all i xs le) at so_far
 
 pub written_more : {A : Type 0} (Fits : A → Type 0) (spelling : A → List ℕ) (old new newer : List ℕ) (xs : List A) (i : ℕ) (x : A)
     → i < length xs → x ≡ get_or xs i x → Written Fits spelling old new (take i xs) → newer ≡ new ++ spelling x → Fits x
