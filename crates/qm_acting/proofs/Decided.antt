@@ -5,13 +5,14 @@ use Rattle.qm_database.specs.Recorded.{with_body}
 use Rattle.qm_history.specs.Accepted.{CanFollow}
 use Rattle.qm_kinds.specs.declared.reply.Reply.{Reply}
 use Rattle.qm_kinds.specs.declared.request.Request.{Request}
+use Rattle.qm_kinds.specs.declared.system.System.{System}
 use Rattle.qm_record.specs.Spelling.{HasSpelling}
 use Rattle.qm_restore.specs.QueueFile.{IsSiteFile}
 use Rattle.qm_state.specs.Preparing.{made}
 use Rattle.qm_state.specs.declared.image.Image.{Image}
 use Rattle.qm_acting.specs.Asking.{text_of, need_with, CanBeAsked, Does, Lacks, IsInDoubt, Writes}
 use Rattle.qm_acting.specs.Deciding.{standing_with, Decides, Records}
-use Rattle.qm_acting.specs.Standing.{Standing}
+use Rattle.qm_acting.specs.Standing.{Standing, StandsFor}
 use Rattle.qm_acting.specs.declared.decision.Decision.{Decision}
 use Rattle.qm_acting.specs.declared.fault.RecordFault.TheVariants.{Full, Disk}
 use Rattle.qm_acting.proofs.Following.{follows, goes_on_so}
@@ -56,8 +57,22 @@ module _ (old : Standing) (moment node : ℕ) (asked : Request) (image : Image) 
     writes_so m before after writes = subst (λ (t : List ℕ). Writes m old.recorded t before after) text_is writes
 
     -- and so they do where memory was taken meanwhile
-    pub site_behind : (mid : Standing) → mid.system ≡ old.system → mid.recorded ≡ old.recorded → IsSiteFile old.recorded.bodies old.system
+    pub site_behind : (mid : Standing) → mid ≡ old → IsSiteFile old.recorded.bodies old.system
         → IsSiteFile (standing_with mid decision).recorded.bodies (standing_with mid decision).system
-    site_behind mid system_is recorded_is site =
-        let same : mid ≡ old = λ i. record { system = system_is i; recorded = recorded_is i } in
+    site_behind mid same site =
         subst (λ (st : Standing). IsSiteFile (standing_with st decision).recorded.bodies (standing_with st decision).system) (sym same) (site_with site)
+
+    pub writes_behind : {D : Type 0} (m : Meaning D) (mid : Standing) (before between after : D) → mid ≡ old → between ≡ before
+        → Writes m mid.recorded decision.body.items between after → Writes m old.recorded (text_of moment node asked) before after
+    writes_behind m mid before between after same same_disk writes =
+        writes_so m before after
+        (subst (λ d. Writes m old.recorded decision.body.items d after) same_disk (subst (λ (st : Standing). Writes m st.recorded decision.body.items between after) same writes))
+
+-- an image with the same rows stands for the same
+pub same_system : (old : Standing) (s : System) → s ≡ old.system → record { system = s; recorded = old.recorded } ≡ old
+same_system old s same = ap (λ (x : System). record { system = x; recorded = old.recorded }) same
+
+-- what was ready is, where nothing has changed
+pub ready_on : {D : Type 0} (m : Meaning D) (old new : Standing) (before after : D) → new ≡ old → after ≡ before → StandsFor m old before → StandsFor m new after
+ready_on m old new before after same same_disk ready =
+    subst (λ d. StandsFor m new d) (sym same_disk) (subst (λ (st : Standing). StandsFor m st before) (sym same) ready)

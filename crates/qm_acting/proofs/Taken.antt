@@ -117,7 +117,7 @@ module _ {D : Type 0} (m : Meaning D) (tried moment node : ℕ) (asked : Request
 
 -- ---- how many calls failed
 
-full_is : (need cap : ℕ) → IsErrOf {T = Reply} (Err (recording.Full need cap)) recording.Disk → ⊥
+pub full_is : (need cap : ℕ) → IsErrOf {T = Reply} (Err (recording.Full need cap)) recording.Disk → ⊥
 full_is need cap same = cc
 
 pub done_is : (reply : Reply) → IsErrOf (Ok reply) recording.Disk → ⊥

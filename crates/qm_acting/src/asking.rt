@@ -1,9 +1,9 @@
 // How a request is done: decided, written down, and only then made and answered.
-ghost use Rattle.std.specs.Prelude.{◌<◌, length, IsErrOf, IsTrue};
+ghost use Rattle.std.specs.Prelude.{◌≡◌, ◌<◌, ◌≤◌, [], length, vec_capacity, IfOk, IsErrOf, IsTrue};
 ghost use Rattle.qm_database.specs.Database.{spare_of};
 ghost use Rattle.qm_disk.specs.Disk.{TellsFaults};
 ghost use Rattle.qm_restore.specs.QueueFile.{IsSiteFile};
-ghost use Rattle.qm_state.specs.Preparing.{IsPrepared};
+ghost use Rattle.qm_state.specs.Preparing.{made, IsPrepared};
 ghost use Rattle.qm_acting.specs.Asking.{text_of, Answers, CanBeAsked, LeavesDevice, Writes};
 ghost use Rattle.qm_acting.specs.Deciding.{standing_with, Records, LeavesFull};
 ghost use Rattle.qm_acting.specs.Spare.{KeepsSpare};
@@ -14,9 +14,10 @@ use crate::manager::Manager;
 use crate::replies::{Replies, copy_of};
 use qm_database::AppendFault;
 use qm_disk::Disk;
-use qm_kinds::{Moment, Reply, Request};
+use qm_kinds::{Moment, Reply, Request, Start};
 use qm_restore::site_files_are_consistent;
 use qm_state::Refused;
+use std::alloc::AllocError;
 
 impl<D: Disk> Manager<D> {
     ghost use Rattle.qm_acting.specs.Standing.{standing_of, disk_of, IsReady};
@@ -45,8 +46,9 @@ impl<D: Disk> Manager<D> {
             Err(Refused::By(refusal)) => return Err(AskFault::Refused(refusal)),
             Err(Refused::NoMemory) => return Err(AskFault::NoMemory),
         };
-        let room = Vec::with_capacity(self.alloc, decision.prepared.most_started())?;
-        self.store.reserve(decision.body.len())?;
+        let Ok(room) = self.take_room(&decision) else {
+            return Err(AskFault::NoMemory);
+        };
         match self.record(decision) {
             Ok(reply) => Ok(Replies {
                 told: copy_of(&reply, room),
@@ -55,6 +57,21 @@ impl<D: Disk> Manager<D> {
             Err(RecordFault::Full { need, cap }) => Err(AskFault::Full { need, cap }),
             Err(RecordFault::Disk) => Err(AskFault::Disk),
         }
+    }
+
+    // Takes the memory for a second reply and for the record of a request that was decided on.
+    fn take_room(&mut self, decision: &Decision<'_>) -> Result<Vec<Start>, AllocError>
+        requires prepared { IsPrepared self.old.image decision.now.prepared }
+        ensures standing { standing_of self.new ≡ standing_of self.old }
+        ensures disk { disk_of self.new ≡ disk_of self.old }
+        ensures prepared { IsPrepared self.new.image decision.now.prepared }
+        ensures spare { IfOk result (λ room. length decision.now.body.items < spare_of self.new.store) }
+        ensures empty { IfOk result (λ room. room.items ≡ []) }
+        ensures room { IfOk result (λ room. length (made decision.now.prepared (standing_of self.old).system).reply.started ≤ vec_capacity room) }
+    {
+        let room = Vec::with_capacity(self.alloc, decision.prepared.most_started())?;
+        self.store.reserve(decision.body.len())?;
+        Ok(room)
     }
 
     // Writes the record of a request that was decided on, for which there is memory, and makes its change.

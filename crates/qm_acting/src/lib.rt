@@ -9,6 +9,7 @@ mod decision;
 mod fault;
 mod files;
 mod laws;
+mod letting_go;
 mod manager;
 mod reading;
 mod replies;

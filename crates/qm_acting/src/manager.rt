@@ -8,6 +8,7 @@ ghost use Rattle.qm_model.specs.Rows.{view};
 ghost use Rattle.qm_model.specs.Standing.{node_at};
 ghost use Rattle.qm_state.specs.Refusing.{Refuses};
 
+use crate::letting_go::let_go;
 use qm_database::{Closed, Open};
 use qm_disk::Disk;
 use qm_kinds::{Duty, Moment, Name, Node, Query, Row};
@@ -112,7 +113,8 @@ impl<D: Disk> Manager<D> {
     pub fn close(self) -> Closed<D>
         ensures { closed_disk result ≡ disk_of self }
     {
-        let Manager { store, .. } = self;
+        let Manager { image, store, .. } = self;
+        let_go(image);
         store.close()
     }
 }

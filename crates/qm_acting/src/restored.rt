@@ -5,6 +5,7 @@ ghost use Rattle.qm_database.specs.Recorded.{epoch_behind};
 ghost use Rattle.qm_glog.specs.Records.{size_of};
 ghost use Rattle.qm_model.specs.Acting.{acting};
 
+use crate::letting_go::let_go;
 use qm_database::{Closed, Loaded};
 use qm_disk::Disk;
 use qm_kinds::{Moment, Name, Node};
@@ -91,7 +92,8 @@ impl<D: Disk> Restored<D> {
     pub fn close(self) -> Closed<D>
         ensures { closed_disk result ≡ restored_disk self }
     {
-        let Restored { loaded, .. } = self;
+        let Restored { image, loaded, .. } = self;
+        let_go(image);
         loaded.close()
     }
 }

@@ -13,6 +13,7 @@ ghost use Rattle.qm_acting.specs.Taking.{taking_fault, recording_fault, Opens, O
 
 use crate::decision::{Decision, decide};
 use crate::fault::{RecordFault, TakeFault};
+use crate::letting_go::let_go;
 use crate::manager::Manager;
 use crate::restored::Restored;
 use qm_database::{Closed, WriteFault};
@@ -73,7 +74,10 @@ impl<D: Disk> Restored<D> {
                 image,
                 store,
             }),
-            Err(failed) => Err(failed),
+            Err(failed) => {
+                let_go(image);
+                Err(failed)
+            }
         }
     }
 

@@ -1,8 +1,13 @@
-use Rattle.qm_database.specs.Database.{open_disk, open_record}
-use Rattle.qm_state.specs.Image.{system_of}
+use Rattle.std.proofs.Common.{length, vec_capacity, ◌≤◌, ◌≡◌, ◌∙◌, Ok, Err, refl, sym, ap, subst}
+use Rattle.qm_disk.specs.Disk.{OneFailed, IsQuiet}
+use Rattle.qm_model.specs.Outcome.{Accepted}
+use Rattle.qm_state.specs.Preparing.{made}
+use Rattle.qm_acting.specs.Deciding.{Records}
 use Rattle.qm_acting.specs.Standing.{Standing, disk_of, standing_of}
-use Rattle.qm_acting.proofs.Decided.{site_behind}
-use Rattle.qm_acting.proofs.Spare.{record_keeps}
+use Rattle.qm_acting.specs.declared.fault.RecordFault.TheVariants as recording
+use Rattle.qm_acting.proofs.Decided.{ready_on, same_system, site_behind, done_so, doubt_so, lacks_so, writes_behind}
+use Rattle.qm_acting.proofs.Spare.{keeps_at, keeps_same, record_keeps}
+use Rattle.qm_acting.proofs.Taken.{done_is, full_is}
 use Rattle.qm_acting.proofs.manager.Manager.ask.Goals as goal
 
 pub decide-requires-clause-sound : goal.decide-requires-clause-sound
@@ -10,19 +15,175 @@ decide-requires-clause-sound g c =
     let st = standing_of c.args.self.now in
     c.site_files_are_consistent.ensures st.recorded.bodies st.system c.requires.ready.file
 
+pub decide-requires-clause-can : goal.decide-requires-clause-can
+decide-requires-clause-can g c = c.requires.can
+
+-- ---- it isn't accepted, or memory is wanted
+
+pub returns-in-Err-By-clause-answer : goal.returns-in-Err-By-clause-answer
+returns-in-Err-By-clause-answer g c =
+    let e = rw c.in-Err-By.field-0-is at c.in-Err-By.ensures in
+    (e.refused, same_system (standing_of c.args.self.now) _ c.decide.ensures.rows)
+
+pub returns-in-Err-By-clause-ready : goal.returns-in-Err-By-clause-ready
+returns-in-Err-By-clause-ready g c = λ no.
+    let st = standing_of c.args.self.now in
+    ready_on g.D.Disk.meaning st _ (disk_of c.args.self.now) (disk_of c.args.self.now) (same_system st _ c.decide.ensures.rows) refl c.requires.ready
+
+pub returns-in-Err-By-clause-device : goal.returns-in-Err-By-clause-device
+returns-in-Err-By-clause-device g c = refl
+
+pub returns-in-Err-By-clause-spare : goal.returns-in-Err-By-clause-spare
+returns-in-Err-By-clause-spare g c = λ tells. keeps_same g.D.Disk.meaning (disk_of c.args.self.now)
+
+pub returns-in-Err-NoMemory-clause-answer : goal.returns-in-Err-NoMemory-clause-answer
+returns-in-Err-NoMemory-clause-answer g c =
+    let e = rw c.in-Err-NoMemory.field-0-is at c.in-Err-NoMemory.ensures in
+    (e.refused, same_system (standing_of c.args.self.now) _ c.decide.ensures.rows)
+
+pub returns-in-Err-NoMemory-clause-ready : goal.returns-in-Err-NoMemory-clause-ready
+returns-in-Err-NoMemory-clause-ready g c = λ no.
+    let st = standing_of c.args.self.now in
+    ready_on g.D.Disk.meaning st _ (disk_of c.args.self.now) (disk_of c.args.self.now) (same_system st _ c.decide.ensures.rows) refl c.requires.ready
+
+pub returns-in-Err-NoMemory-clause-device : goal.returns-in-Err-NoMemory-clause-device
+returns-in-Err-NoMemory-clause-device g c = refl
+
+pub returns-in-Err-NoMemory-clause-spare : goal.returns-in-Err-NoMemory-clause-spare
+returns-in-Err-NoMemory-clause-spare g c = λ tells. keeps_same g.D.Disk.meaning (disk_of c.args.self.now)
+
+pub take_room-requires : goal.take_room-requires
+take_room-requires g c = record { prepared = c.in-Ok.ensures.decides.prepared }
+
+pub returns-in_default-clause-answer : goal.returns-in_default-clause-answer
+returns-in_default-clause-answer g c = (c.in-Ok.ensures.refused, c.take_room.ensures.standing ∙ same_system (standing_of c.args.self.now) _ c.decide.ensures.rows)
+
+pub returns-in_default-clause-ready : goal.returns-in_default-clause-ready
+returns-in_default-clause-ready g c = λ no.
+    let st = standing_of c.args.self.now in
+    ready_on g.D.Disk.meaning st (standing_of c.take_room.new.self) (disk_of c.args.self.now) (disk_of c.take_room.new.self)
+    (c.take_room.ensures.standing ∙ same_system st _ c.decide.ensures.rows) c.take_room.ensures.disk c.requires.ready
+
+pub returns-in_default-clause-device : goal.returns-in_default-clause-device
+returns-in_default-clause-device g c = c.take_room.ensures.disk
+
+pub returns-in_default-clause-spare : goal.returns-in_default-clause-spare
+returns-in_default-clause-spare g c = λ tells. keeps_at g.D.Disk.meaning (disk_of c.args.self.now) (disk_of c.take_room.new.self) c.take_room.ensures.disk
+
+-- ---- the record is written
+
+pub record-requires-clause-ready : goal.record-requires-clause-ready
+record-requires-clause-ready g c =
+    let st = standing_of c.args.self.now in
+    ready_on g.D.Disk.meaning st (standing_of c.take_room.new.self) (disk_of c.args.self.now) (disk_of c.take_room.new.self)
+    (c.take_room.ensures.standing ∙ same_system st _ c.decide.ensures.rows) c.take_room.ensures.disk c.requires.ready
+
+pub record-requires-clause-prepared : goal.record-requires-clause-prepared
+record-requires-clause-prepared g c = c.take_room.ensures.prepared
+
 pub record-requires-clause-goes_on : goal.record-requires-clause-goes_on
 record-requires-clause-goes_on g c =
     let st = standing_of c.args.self.now in
-    let mid : Standing = record { system = system_of c.decide.new.image; recorded = open_record c.reserve.new.self } in
-    site_behind st c.args.moment c.args.node c.args.request.now c.decide.new.image c.in-Ok.decision c.requires.can c.in-Ok.ensures.decides mid
-    c.decide.ensures.rows c.reserve.ensures.recorded c.requires.ready.file
+    site_behind st c.args.moment c.args.node c.args.request.now c.decide.new.image c.in-Ok.decision c.requires.can c.in-Ok.ensures.decides (standing_of c.take_room.new.self)
+    (c.take_room.ensures.standing ∙ same_system st _ c.decide.ensures.rows) c.requires.ready.file
+
+pub record-requires-clause-room : goal.record-requires-clause-room
+record-requires-clause-room g c = c.in-Ok-take_room.ensures.spare
+
+pub copy_of-requires-clause-empty : goal.copy_of-requires-clause-empty
+copy_of-requires-clause-empty g c = c.in-Ok-take_room.ensures.empty
+
+pub copy_of-requires-clause-room : goal.copy_of-requires-clause-room
+copy_of-requires-clause-room g c =
+    let p = c.in-Ok.decision.prepared in
+    let within = c.in-Ok-take_room.ensures.room in
+    subst (λ (done : Accepted). length done.reply.started ≤ vec_capacity c.in-Ok-take_room.room) c.in-Ok-record.ensures.answer.1
+    (subst (λ (x : Standing). length (made p x.system).reply.started ≤ vec_capacity c.in-Ok-take_room.room) (sym c.take_room.ensures.standing) within)
+
+pub returns-in-Ok-record-clause-answer : goal.returns-in-Ok-record-clause-answer
+returns-in-Ok-record-clause-answer g c =
+    let st = standing_of c.args.self.now in
+    let is = c.take_room.ensures.standing ∙ same_system st _ c.decide.ensures.rows in (
+      done_so st c.args.moment c.args.node c.args.request.now c.decide.new.image c.in-Ok.decision c.requires.can c.in-Ok.ensures.decides (standing_of c.record.new.self) c.in-Ok-record.reply
+          (subst (λ (x : Standing). Records c.in-Ok.decision x (standing_of c.record.new.self) (Ok c.in-Ok-record.reply)) is c.in-Ok-record.ensures.answer),
+      c.copy_of.ensures,
+    )
+
+pub returns-in-Ok-record-clause-ready : goal.returns-in-Ok-record-clause-ready
+returns-in-Ok-record-clause-ready g c = λ no. c.in-Ok-record.ensures.ready (done_is c.in-Ok-record.reply)
+
+pub returns-in-Ok-record-clause-device : goal.returns-in-Ok-record-clause-device
+returns-in-Ok-record-clause-device g c =
+    let m = g.D.Disk.meaning in
+    let st = standing_of c.args.self.now in
+    let after = disk_of c.record.new.self in
+    let is = c.take_room.ensures.standing ∙ same_system st _ c.decide.ensures.rows in (
+      subst (λ d. IsQuiet m d after) c.take_room.ensures.disk (c.in-Ok-record.ensures.faults.quiet (done_is c.in-Ok-record.reply)),
+      writes_behind st c.args.moment c.args.node c.args.request.now c.decide.new.image c.in-Ok.decision c.requires.can c.in-Ok.ensures.decides m
+          (standing_of c.take_room.new.self) (disk_of c.args.self.now) (disk_of c.take_room.new.self) after is c.take_room.ensures.disk c.record.ensures.writes,
+    )
 
 pub returns-in-Ok-record-clause-spare : goal.returns-in-Ok-record-clause-spare
 returns-in-Ok-record-clause-spare g c = λ tells.
-    record_keeps g.D.Disk.meaning (standing_of c.args.self.now).recorded (open_record c.reserve.new.self) (disk_of c.args.self.now) (open_disk c.reserve.new.self) (disk_of c.record.new.self)
-    c.reserve.ensures.recorded c.reserve.ensures.disk (c.requires.ready.at_rest tells).holds c.record.ensures.writes.others
+    let m = g.D.Disk.meaning in
+    let st = standing_of c.args.self.now in
+    record_keeps m st.recorded (standing_of c.take_room.new.self).recorded (disk_of c.args.self.now) (disk_of c.take_room.new.self) (disk_of c.record.new.self)
+    (ap (λ (x : Standing). x.recorded) c.take_room.ensures.standing) c.take_room.ensures.disk (c.requires.ready.at_rest tells).holds c.record.ensures.writes.others
+
+pub returns-in-Err-Full-clause-answer : goal.returns-in-Err-Full-clause-answer
+returns-in-Err-Full-clause-answer g c =
+    let st = standing_of c.args.self.now in
+    let is = c.take_room.ensures.standing ∙ same_system st _ c.decide.ensures.rows in
+    let e = rw c.in-Err-Full.field-0-is at c.in-Err-Full.ensures in (
+      lacks_so st c.args.moment c.args.node c.args.request.now c.decide.new.image c.in-Ok.decision c.requires.can c.in-Ok.ensures.decides (standing_of c.record.new.self)
+          c.in-Err-Full.need c.in-Err-Full.cap
+          (subst (λ (x : Standing). Records c.in-Ok.decision x (standing_of c.record.new.self) (Err (recording.Full c.in-Err-Full.need c.in-Err-Full.cap))) is e.answer),
+      e.answer.3 ∙ is,
+    )
+
+pub returns-in-Err-Full-clause-ready : goal.returns-in-Err-Full-clause-ready
+returns-in-Err-Full-clause-ready g c = λ no.
+    let e = rw c.in-Err-Full.field-0-is at c.in-Err-Full.ensures in
+    e.ready (full_is c.in-Err-Full.need c.in-Err-Full.cap)
+
+pub returns-in-Err-Full-clause-device : goal.returns-in-Err-Full-clause-device
+returns-in-Err-Full-clause-device g c =
+    let e = rw c.in-Err-Full.field-0-is at c.in-Err-Full.ensures in
+    e.full ∙ c.take_room.ensures.disk
+
+pub returns-in-Err-Full-clause-spare : goal.returns-in-Err-Full-clause-spare
+returns-in-Err-Full-clause-spare g c = λ tells.
+    let e = rw c.in-Err-Full.field-0-is at c.in-Err-Full.ensures in
+    keeps_at g.D.Disk.meaning (disk_of c.args.self.now) (disk_of c.record.new.self) (e.full ∙ c.take_room.ensures.disk)
+
+pub returns-clause-answer : goal.returns-clause-answer
+returns-clause-answer g c =
+    let st = standing_of c.args.self.now in
+    let is = c.take_room.ensures.standing ∙ same_system st _ c.decide.ensures.rows in
+    let e = rw c.in-Err-Disk.field-0-is at c.in-Err-Disk.ensures in (
+      doubt_so st c.args.moment c.args.node c.args.request.now c.decide.new.image c.in-Ok.decision c.requires.can c.in-Ok.ensures.decides (standing_of c.record.new.self)
+          (subst (λ (x : Standing). Records c.in-Ok.decision x (standing_of c.record.new.self) (Err recording.Disk)) is e.answer),
+      e.answer.1 ∙ is,
+    )
+
+pub returns-clause-ready : goal.returns-clause-ready
+returns-clause-ready g c = λ no. absurd (no refl)
+
+pub returns-clause-device : goal.returns-clause-device
+returns-clause-device g c =
+    let m = g.D.Disk.meaning in
+    let st = standing_of c.args.self.now in
+    let after = disk_of c.record.new.self in
+    let is = c.take_room.ensures.standing ∙ same_system st _ c.decide.ensures.rows in
+    let e = rw c.in-Err-Disk.field-0-is at c.in-Err-Disk.ensures in (
+      subst (λ d. OneFailed m d after) c.take_room.ensures.disk (e.faults.fault refl),
+      writes_behind st c.args.moment c.args.node c.args.request.now c.decide.new.image c.in-Ok.decision c.requires.can c.in-Ok.ensures.decides m
+          (standing_of c.take_room.new.self) (disk_of c.args.self.now) (disk_of c.take_room.new.self) after is c.take_room.ensures.disk c.record.ensures.writes,
+    )
 
 pub returns-clause-spare : goal.returns-clause-spare
 returns-clause-spare g c = λ tells.
-    record_keeps g.D.Disk.meaning (standing_of c.args.self.now).recorded (open_record c.reserve.new.self) (disk_of c.args.self.now) (open_disk c.reserve.new.self) (disk_of c.record.new.self)
-    c.reserve.ensures.recorded c.reserve.ensures.disk (c.requires.ready.at_rest tells).holds c.record.ensures.writes.others
+    let m = g.D.Disk.meaning in
+    let st = standing_of c.args.self.now in
+    record_keeps m st.recorded (standing_of c.take_room.new.self).recorded (disk_of c.args.self.now) (disk_of c.take_room.new.self) (disk_of c.record.new.self)
+    (ap (λ (x : Standing). x.recorded) c.take_room.ensures.standing) c.take_room.ensures.disk (c.requires.ready.at_rest tells).holds c.record.ensures.writes.others

@@ -1,15 +1,71 @@
-use Rattle.std.proofs.Common.{◌≡◌, ◌∙◌, ◌≤◌, sym, ap, subst}
+use Rattle.std.proofs.Common.{◌≡◌, ◌∙◌, ◌≤◌, ◌<◌, ◌^◌, length, sym, ap, subst}
 use Rattle.qm_database.specs.Database.{disk_of as closed_disk}
 use Rattle.qm_database.specs.Opening.{next_need}
+use Rattle.qm_database.specs.Recorded.{epoch_behind}
 use Rattle.qm_database.specs.declared.files.TheConstants.{MASTER_CAP}
 use Rattle.qm_faults.specs.Faults.{Tells}
+use Rattle.qm_state.specs.Preparing.{IsPrepared}
+use Rattle.qm_state.specs.declared.image.Image.{Image}
 use Rattle.qm_acting.specs.Asking.{text_of}
 use Rattle.qm_acting.specs.Standing.{Standing, standing_of, disk_of, restored_standing, restored_disk}
 use Rattle.qm_acting.specs.Taking.{in_next, IsDiskFault, FailLeaves, TakesNot}
 use Rattle.qm_acting.specs.Spare.{KeepsSpare}
-use Rattle.qm_acting.proofs.Spare.{append_keeps, keeps_on}
+use Rattle.qm_acting.proofs.Decided.{ready_on}
+use Rattle.qm_acting.proofs.Spare.{append_keeps, keeps_at, keeps_on}
 use Rattle.qm_acting.proofs.Taken.{epoch_faults, epoch_moments, moments_before, site_in_next, does_in_next, taken_moments, record_moments, record_told, record_faults, faults_behind, done_is}
 use Rattle.qm_acting.proofs.restored.Restored.take_over.Goals as goal
+
+pub decide-requires-clause-restored : goal.decide-requires-clause-restored
+decide-requires-clause-restored g c = c.requires.restored
+
+pub decide-requires-clause-can : goal.decide-requires-clause-can
+decide-requires-clause-can g c = c.requires.can
+
+pub decide-requires-clause-accepted : goal.decide-requires-clause-accepted
+decide-requires-clause-accepted g c = c.requires.accepted
+
+pub returns-in_default-clause-answer : goal.returns-in_default-clause-answer
+returns-in_default-clause-answer g c = c.close.ensures ∙ c.decide.ensures.disk
+
+pub returns-in_default-clause-any_moment : goal.returns-in_default-clause-any_moment
+returns-in_default-clause-any_moment g c = λ told. tt
+
+pub returns-in_default-clause-spare : goal.returns-in_default-clause-spare
+returns-in_default-clause-spare g c = λ told.
+    keeps_at g.D.Disk.meaning (restored_disk c.args.self) (closed_disk c.close.result) (c.close.ensures ∙ c.decide.ensures.disk)
+
+pub returns-in_default-clause-faults : goal.returns-in_default-clause-faults
+returns-in_default-clause-faults g c = record { fault = λ is. absurd is; quiet = λ not. ap g.D.Disk.meaning.faults (c.close.ensures ∙ c.decide.ensures.disk) }
+
+pub open-requires-clause-tried : goal.open-requires-clause-tried
+open-requires-clause-tried g c = c.requires.tried
+
+pub open-requires-clause-restored : goal.open-requires-clause-restored
+open-requires-clause-restored g c =
+    ready_on g.D.Disk.meaning (restored_standing c.args.self) (restored_standing c.decide.new.self) (restored_disk c.args.self) (restored_disk c.decide.new.self)
+    c.decide.ensures.standing c.decide.ensures.disk c.requires.restored
+
+pub open-requires-clause-early : goal.open-requires-clause-early
+open-requires-clause-early g c = λ tells. subst (λ (x : Standing). epoch_behind x.recorded c.args.tried < 2 ^ 62) (sym c.decide.ensures.standing) (c.requires.early tells)
+
+pub record-requires-clause-ready : goal.record-requires-clause-ready
+record-requires-clause-ready g c = c.in-Ok-open.ensures.answer.ready
+
+pub record-requires-clause-prepared : goal.record-requires-clause-prepared
+record-requires-clause-prepared g c =
+    subst (λ (x : Image). IsPrepared x c.in-Ok.decision.prepared) (sym c.in-Ok-open.ensures.answer.image) c.in-Ok.ensures.decides.prepared
+
+pub record-requires-clause-room : goal.record-requires-clause-room
+record-requires-clause-room g c =
+    subst (λ n. length c.in-Ok.decision.body.items < n) (sym c.in-Ok-open.ensures.answer.spare) c.in-Ok.ensures.room
+
+pub returns-in-Ok-record-clause-faults : goal.returns-in-Ok-record-clause-faults
+returns-in-Ok-record-clause-faults g c =
+    record {
+      fault = λ is. absurd is;
+      quiet = λ not.
+          c.in-Ok-record.ensures.faults.quiet (done_is c.in-Ok-record.reply) ∙ (c.in-Ok-open.ensures.faults.quiet (λ no. no) ∙ ap g.D.Disk.meaning.faults c.decide.ensures.disk);
+    }
 
 pub returns-in-Err-clause-any_moment : goal.returns-in-Err-clause-any_moment
 returns-in-Err-clause-any_moment g c = λ told.
