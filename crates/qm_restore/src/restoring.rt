@@ -94,7 +94,9 @@ fn restore_record<B: Bodies>(
     ensures refused { IfErr result (λ fault. OfBody (B.bodies log.now) index (λ body. IsRefused index body (system_of image.old) fault)) }
 {
     let read = read_record(alloc, log.body(index));
-    replay_read(image, index, &read)
+    let done = replay_read(image, index, &read);
+    drop(read);
+    done
 }
 
 // Does what the records behind the rows say, one after the other.

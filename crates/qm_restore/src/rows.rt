@@ -72,8 +72,14 @@ pub fn read_nodes<B: Bodies>(alloc: Global, log: &B) -> Result<Vec<Node>, Restor
             flaw: Flaw::NoRow,
         });
     }
-    let record = read_at(alloc, log, 0)?;
-    nodes_in(alloc, &record.body)
+    // (not by `?`, which moves the record from place to place: it is large)
+    let record = match read_at(alloc, log, 0) {
+        Ok(record) => record,
+        Err(fault) => return Err(fault),
+    };
+    let nodes = nodes_in(alloc, &record.body);
+    drop(record);
+    nodes
 }
 
 // Whether the record of this index is this one.

@@ -1,6 +1,7 @@
 // A new site, and the records with which its queue file begins.
 ghost use Rattle.std.specs.Prelude.{◌≡◌, ◌<◌, ◌^◌, length, All, IfOk};
 ghost use Rattle.qm_history.specs.Site.{first_name};
+ghost use Rattle.qm_kinds.specs.declared.record.Body.TheVariants.{Head};
 ghost use Rattle.qm_model.specs.First.{first_form, first_queue};
 ghost use Rattle.qm_model.specs.Log.{row};
 ghost use Rattle.qm_record.specs.Spelling.{CanBeWritten};
@@ -100,6 +101,20 @@ fn row(body: Body) -> Record
     }
 }
 
+// The first row of a new site, with what of its system stands in no other row.
+fn new_head(alloc: Global, nodes: &[Node]) -> Result<Record, AllocError>
+    ensures { IfOk result (λ head. head ≡ row (Head nodes.now (names_of nodes.now) 1 1 0)) }
+{
+    let may = Seq::of(names_of(alloc, nodes)?);
+    Ok(row(Body::Head {
+        nodes: Seq::of(Vec::from_slice(alloc, nodes)?),
+        may,
+        next_entry: 1,
+        next_run: 1,
+        last: Moment::BASE,
+    }))
+}
+
 /// The rows with which the queue file of a new site of these nodes begins: its head, the form and the queue that are always
 /// there. They can be written.
 pub fn new_rows(alloc: Global, nodes: &[Node]) -> Result<Vec<Record>, AllocError>
@@ -108,14 +123,7 @@ pub fn new_rows(alloc: Global, nodes: &[Node]) -> Result<Vec<Record>, AllocError
     ensures rows { IfOk result (λ rows. rows.items ≡ new_rows nodes.now) }
     ensures can_be_written { IfOk result (λ rows. All CanBeWritten rows.items) }
 {
-    let system = new_system(alloc, nodes)?;
-    let head = row(Body::Head {
-        nodes: system.nodes,
-        may: system.may,
-        next_entry: system.next_entry,
-        next_run: system.next_run,
-        last: system.last,
-    });
+    let head = new_head(alloc, nodes)?;
     let form = row(Body::Form(first_form()));
     let queue = row(Body::Queue(first_queue(alloc, first_name(nodes))));
     Ok(vec![in alloc; head, form, queue]?)
