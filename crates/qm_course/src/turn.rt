@@ -72,7 +72,8 @@ fn print_answer<O: Sink>(
     }
 }
 
-// Serves a call of what comes next in a node, prints its answer, and lets the node take it in.
+// Serves a call of what comes next in a node, prints its answer, and lets the node take it in. An answer that isn't taken in is let
+// go by a call of `drop`: it is large.
 fn serve_call<'a, S: Serve, O: Sink, Y: Symbiont>(
     alloc: Global,
     server: &mut S,

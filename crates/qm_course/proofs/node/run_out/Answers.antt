@@ -74,3 +74,36 @@ returns-in-Err-clause-stops g c =
 pub returns-in-Err-clause-sink : goal.returns-in-Err-clause-sink
 returns-in-Err-clause-sink g c =
     stop_on c.in-Err.end (g.O.Sink.faults c.args.sink.now) (g.O.Sink.faults c.turns.sink) (g.O.Sink.faults c.make_turn.new.sink) c.turns.invariant.sink c.in-Err.ensures.sink
+
+pub returns-clause-goes : goal.returns-clause-goes
+returns-clause-goes g c = c.turns.invariant.goes
+
+pub returns-clause-stops : goal.returns-clause-stops
+returns-clause-stops g c = tt
+
+pub returns-clause-can : goal.returns-clause-can
+returns-clause-can g c = c.turns.invariant.can
+
+pub returns-clause-name : goal.returns-clause-name
+returns-clause-name g c = c.turns.invariant.name
+
+pub returns-clause-sink : goal.returns-clause-sink
+returns-clause-sink g c = c.turns.invariant.sink
+
+pub returns-clause-undamaged : goal.returns-clause-undamaged
+returns-clause-undamaged g c = λ tells. tt
+
+pub returns-in-Err-clause-goes : goal.returns-in-Err-clause-goes
+returns-in-Err-clause-goes g c = tt
+
+pub returns-in-Err-clause-can : goal.returns-in-Err-clause-can
+returns-in-Err-clause-can g c = tt
+
+pub returns-in-Err-clause-name : goal.returns-in-Err-clause-name
+returns-in-Err-clause-name g c = tt
+
+pub returns-in-Err-clause-over : goal.returns-in-Err-clause-over
+returns-in-Err-clause-over g c = tt
+
+pub returns-in-Err-clause-undamaged : goal.returns-in-Err-clause-undamaged
+returns-in-Err-clause-undamaged g c = c.in-Err.ensures.undamaged

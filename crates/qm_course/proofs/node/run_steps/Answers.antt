@@ -73,3 +73,36 @@ returns-in-Err-clause-stops g c =
 pub returns-in-Err-clause-sink : goal.returns-in-Err-clause-sink
 returns-in-Err-clause-sink g c =
     stop_on c.in-Err.end (g.O.Sink.faults c.args.sink.now) (g.O.Sink.faults c.steps.sink) (g.O.Sink.faults c.make_turn.new.sink) c.steps.invariant.sink c.in-Err.ensures.sink
+
+pub returns-clause-goes : goal.returns-clause-goes
+returns-clause-goes g c = c.steps.invariant.goes
+
+pub returns-clause-stops : goal.returns-clause-stops
+returns-clause-stops g c = tt
+
+pub returns-clause-can : goal.returns-clause-can
+returns-clause-can g c = c.steps.invariant.can
+
+pub returns-clause-reads : goal.returns-clause-reads
+returns-clause-reads g c = c.steps.invariant.reads
+
+pub returns-clause-sink : goal.returns-clause-sink
+returns-clause-sink g c = c.steps.invariant.sink
+
+pub returns-clause-undamaged : goal.returns-clause-undamaged
+returns-clause-undamaged g c = λ tells. tt
+
+pub returns-in-Err-clause-goes : goal.returns-in-Err-clause-goes
+returns-in-Err-clause-goes g c = tt
+
+pub returns-in-Err-clause-can : goal.returns-in-Err-clause-can
+returns-in-Err-clause-can g c = tt
+
+pub returns-in-Err-clause-reads : goal.returns-in-Err-clause-reads
+returns-in-Err-clause-reads g c = tt
+
+pub returns-in-Err-clause-waits : goal.returns-in-Err-clause-waits
+returns-in-Err-clause-waits g c = tt
+
+pub returns-in-Err-clause-undamaged : goal.returns-in-Err-clause-undamaged
+returns-in-Err-clause-undamaged g c = c.in-Err.ensures.undamaged

@@ -77,3 +77,18 @@ nodes-preserved g c =
 pub returns-in-Err-clause-sink : goal.returns-in-Err-clause-sink
 returns-in-Err-clause-sink g c =
     stop_on c.in-Err.end (g.O.Sink.faults c.args.sink.now) (g.O.Sink.faults c.nodes.sink) (g.O.Sink.faults c.work_on.new.sink) c.nodes.invariant.sink c.in-Err.ensures.sink
+
+pub returns-clause-stops : goal.returns-clause-stops
+returns-clause-stops g c = tt
+
+pub returns-clause-sink : goal.returns-clause-sink
+returns-clause-sink g c = c.nodes.invariant.sink
+
+pub returns-clause-undamaged : goal.returns-clause-undamaged
+returns-clause-undamaged g c = λ tells. tt
+
+pub returns-in-Err-clause-runs : goal.returns-in-Err-clause-runs
+returns-in-Err-clause-runs g c = tt
+
+pub returns-in-Err-clause-undamaged : goal.returns-in-Err-clause-undamaged
+returns-in-Err-clause-undamaged g c = c.in-Err.ensures.undamaged

@@ -124,3 +124,18 @@ returns-clause-serves g c =
 pub returns-in-Err-clause-sink : goal.returns-in-Err-clause-sink
 returns-in-Err-clause-sink g c =
     stop_on c.in-Err.end (g.O.Sink.faults c.args.sink.now) (g.O.Sink.faults c.lines.sink) (g.O.Sink.faults c.serve_line.new.sink) c.lines.invariant.sink c.in-Err.ensures.sink
+
+pub returns-clause-stops : goal.returns-clause-stops
+returns-clause-stops g c = tt
+
+pub returns-clause-sink : goal.returns-clause-sink
+returns-clause-sink g c = c.lines.invariant.sink
+
+pub returns-clause-undamaged : goal.returns-clause-undamaged
+returns-clause-undamaged g c = λ tells. tt
+
+pub returns-in-Err-clause-serves : goal.returns-in-Err-clause-serves
+returns-in-Err-clause-serves g c = tt
+
+pub returns-in-Err-clause-undamaged : goal.returns-in-Err-clause-undamaged
+returns-in-Err-clause-undamaged g c = c.in-Err.ensures.undamaged
