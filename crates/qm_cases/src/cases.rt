@@ -15,7 +15,7 @@ use std::alloc::{AllocError, Global};
 use std::marker::Sync;
 use std::sync::Wait;
 use std::thread::Threads;
-use std::{fs, io, mem, str};
+use std::{fs, io, mem, slice, str};
 
 /// A site on a disk in memory.
 pub(crate) type MemorySite = Site<MemoryDisk>;
@@ -31,16 +31,23 @@ const RUN: &str = "\"run\"";
 
 const CLUSTER: &str = "\"cluster\"";
 
+// The words that ask for a new site of these nodes.
+fn init_words(alloc: Global, nodes: &str) -> Result<Vec<String>, AllocError> {
+    let mut words = words_of(alloc, "\"init\"")?;
+    words.push(String::from_str(alloc, nodes)?)?;
+    Ok(words)
+}
+
 // A new site of nodes, with commas between their names.
 fn new_site<R: Threads + Wait + Sync>(
     threads: &R,
     alloc: Global,
     nodes: &str,
 ) -> Result<MemorySite, AllocError> {
+    let words = init_words(alloc, nodes)?;
+    let empty = empty_site(alloc)?;
     let outside = outside_of(alloc, Vec::new(alloc), Vec::new(alloc));
-    let mut words = words_of(alloc, "\"init\"")?;
-    words.push(String::from_str(alloc, nodes)?)?;
-    let Ran { site, .. } = run(threads, alloc, &words, outside, empty_site(alloc)?)?;
+    let Ran { site, .. } = run(threads, alloc, &words, outside, empty)?;
     Ok(site)
 }
 
@@ -172,6 +179,51 @@ fn run_at<R: Threads + Wait + Sync>(
     })
 }
 
+// Serves a script over a site by the program of this word, with the clock of a case.
+fn run_script<R: Threads + Wait + Sync>(
+    rt: &HostRuntime,
+    threads: &R,
+    word: &str,
+    name: &str,
+    script: &[u8],
+    site: &mut MemorySite,
+) -> io::Result<Told> {
+    let alloc = rt.alloc();
+    let words = words_of(alloc, word)?;
+    let moments = moments_of(rt, name)?;
+    let outside = outside_of(alloc, script.to_vec(alloc)?, moments);
+    Ok(run_at(threads, alloc, &words, outside, site)?)
+}
+
+// Whether a case printed its transcript; and where nodes worked at once, whether their turns are of the lines of each.
+fn is_told(
+    rt: &HostRuntime,
+    word: &str,
+    name: &str,
+    script: &[u8],
+    before: &Files,
+    told: &Told,
+) -> io::Result<bool> {
+    let Told {
+        end,
+        printed,
+        turns,
+    } = told;
+    let goes = word == RUN || go_by_lines(rt.alloc(), before, script, turns, printed, *end)?;
+    Ok(is_transcript(rt, name, printed)? && goes && *end == End::Ok)
+}
+
+// Whether turns lead from these files to what a site holds.
+fn leads_to(
+    alloc: Global,
+    before: &Files,
+    turns: Vec<Turn>,
+    site: &MemorySite,
+) -> Result<bool, AllocError> {
+    let behind = Files::of(alloc, &site.disk)?;
+    lead_on(alloc, before, turns, slice::from_ref(&behind))
+}
+
 // Serves a case over a site by the program of this word, and tells whether it printed its transcript, and its turns lead to what it
 // left; and where nodes work at once, whether they are of the lines of each.
 fn prints<R: Threads + Wait + Sync>(
@@ -181,20 +233,12 @@ fn prints<R: Threads + Wait + Sync>(
     name: &str,
     site: &mut MemorySite,
 ) -> io::Result<bool> {
-    let alloc = rt.alloc();
     let script = file_of(rt, name, "qman")?;
-    let before = Files::of(alloc, &site.disk)?;
-    let outside = outside_of(alloc, script.to_vec(alloc)?, moments_of(rt, name)?);
-    let Told {
-        end,
-        printed,
-        turns,
-    } = run_at(threads, alloc, &words_of(alloc, word)?, outside, site)?;
-    let goes = word == RUN || go_by_lines(alloc, &before, &script, &turns, &printed, end)?;
-    let behind = [Files::of(alloc, &site.disk)?];
-    let leads = lead_on(alloc, &before, turns, &behind)?;
-    let is_told = is_transcript(rt, name, &printed)?;
-    Ok(end == End::Ok && is_told && goes && leads)
+    let before = Files::of(rt.alloc(), &site.disk)?;
+    let told = run_script(rt, threads, word, name, &script, site)?;
+    let is_told = is_told(rt, word, name, &script, &before, &told);
+    let leads = leads_to(rt.alloc(), &before, told.turns, site);
+    Ok(is_told? && leads?)
 }
 
 // Whether `show` lists a site as the case says, where it says it.

@@ -33,6 +33,18 @@ pub(crate) struct Failing {
     pub(crate) devices: Vec<u64>,
 }
 
+impl Failing {
+    /// The numbers that a verb of this name says.
+    pub(crate) fn of(&mut self, verb: &str) -> &mut Vec<u64> {
+        match verb {
+            "reads" => &mut self.reads,
+            "writes" => &mut self.writes,
+            "calls" => &mut self.calls,
+            _ => &mut self.devices,
+        }
+    }
+}
+
 /// Which files behind a run its turns are to lead to: those that are read, or also those that each kind of crash leaves.
 #[derive(Clone, Copy, PartialEq, Eq)]
 enum Behind {
@@ -421,6 +433,20 @@ impl Desk {
         push_news(told, before, found)
     }
 
+    // Asks what is there on a disk that a crash of this kind left.
+    fn look_behind_crash<R: Threads + Wait + Sync>(
+        &self,
+        threads: &R,
+        told: &mut Vec<u8>,
+        disk: &MemoryDisk,
+        pick: u8,
+        before: &mut Vec<u8>,
+    ) -> Result<(), AllocError> {
+        let left = Files::of(self.alloc, disk)?;
+        let head = format!(in self.alloc; "crash {pick}:\n")?;
+        self.look_over(threads, told, head.as_str(), &left, before)
+    }
+
     /// Asks what is there behind a crash of each kind of this disk, and without a crash.
     pub(crate) fn look_behind<R: Threads + Wait + Sync>(
         &self,
@@ -430,9 +456,8 @@ impl Desk {
     ) -> Result<(), AllocError> {
         let mut before = vec![in self.alloc; b'?']?;
         for pick in 0..3u8 {
-            let left = Files::of(self.alloc, &disk.after_crash(pick)?)?;
-            let head = format!(in self.alloc; "crash {pick}:\n")?;
-            self.look_over(threads, told, head.as_str(), &left, &mut before)?;
+            let crashed = disk.after_crash(pick)?;
+            self.look_behind_crash(threads, told, &crashed, pick, &mut before)?;
         }
         let left = Files::of(self.alloc, disk)?;
         self.look_over(threads, told, "no crash:\n", &left, &mut before)

@@ -26,7 +26,7 @@ mod run;
 mod verbs;
 mod walks;
 
-use cases::serve_case;
+use cases::{MemorySite, serve_case};
 use desk::Desk;
 use run::empty_site;
 use std::marker::Sync;
@@ -48,19 +48,31 @@ fn plan_holds<R: Threads + Wait + Sync>(
     holds(rt, threads, desk, text.as_str())
 }
 
+// Serves a case or follows a plan, as its word says, and tells whether it passes.
+fn passes<R: Threads + Wait + Sync>(
+    rt: &HostRuntime,
+    threads: &R,
+    word: &str,
+    site: &mut MemorySite,
+    desk: &mut Desk,
+) -> io::Result<bool> {
+    match word.strip_prefix("@") {
+        Some(name) => plan_holds(rt, threads, desk, name),
+        None => serve_case(rt, threads, word, site),
+    }
+}
+
 // Serves the cases, and counts those that pass and those that don't.
-fn serve_cases<R: Threads + Wait + Sync>(rt: &HostRuntime, threads: &R) -> io::Result<(u32, u32)> {
+fn count_cases<R: Threads + Wait + Sync>(
+    rt: &HostRuntime,
+    threads: &R,
+    site: &mut MemorySite,
+    desk: &mut Desk,
+) -> io::Result<(u32, u32)> {
     let mut passed = 0u32;
     let mut failed = 0u32;
-    let mut site = empty_site(rt.alloc())?;
-    let mut desk = Desk::new(rt.alloc());
     for word in env::args(rt)?.skip(1) {
-        let passes = if let Some(name) = word.as_str().strip_prefix("@") {
-            plan_holds(rt, threads, &mut desk, name)?
-        } else {
-            serve_case(rt, threads, word.as_str(), &mut site)?
-        };
-        if passes {
+        if passes(rt, threads, word.as_str(), site, desk)? {
             passed = passed.saturating_add(1);
         } else {
             failed = failed.saturating_add(1);
@@ -68,6 +80,16 @@ fn serve_cases<R: Threads + Wait + Sync>(rt: &HostRuntime, threads: &R) -> io::R
         }
     }
     Ok((passed, failed))
+}
+
+// The same, from an empty site and an empty desk on.
+fn serve_cases<R: Threads + Wait + Sync>(rt: &HostRuntime, threads: &R) -> io::Result<(u32, u32)> {
+    let mut site = empty_site(rt.alloc())?;
+    let mut desk = Desk::new(rt.alloc());
+    let counts = count_cases(rt, threads, &mut site, &mut desk);
+    drop(desk);
+    drop(site);
+    counts
 }
 
 fn main(rt: HostRuntime) -> io::Result<ExitCode> {

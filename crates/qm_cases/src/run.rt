@@ -61,6 +61,18 @@ pub(crate) struct Ran<D: Disk + Drop> {
     pub(crate) site: Site<D>,
 }
 
+// Begins the clocks of a site anew.
+fn set_clocks(
+    alloc: Global,
+    stations: &mut [MemoryStation],
+    moments: &[Moment],
+) -> Result<(), AllocError> {
+    for station in stations {
+        station.clock = clock_of(alloc, moments)?;
+    }
+    Ok(())
+}
+
 /// The program with these words. The clocks begin anew.
 pub(crate) fn run<R: Threads + Wait + Sync, D: Disk + Drop + Send>(
     threads: &R,
@@ -70,10 +82,11 @@ pub(crate) fn run<R: Threads + Wait + Sync, D: Disk + Drop + Send>(
     site: Site<D>,
 ) -> Result<Ran<D>, AllocError> {
     let Site { disk, mut stations } = site;
-    for station in &mut stations {
-        station.clock = clock_of(alloc, &outside.moments)?;
-    }
-    if stations.len() < NODES_LIMIT {
+    let set = set_clocks(alloc, &mut stations, &outside.moments);
+    if set.is_err() || stations.len() < NODES_LIMIT {
+        drop(disk);
+        drop(stations);
+        drop(outside);
         return Err(AllocError);
     }
     let Outcome {
@@ -90,12 +103,22 @@ pub(crate) fn run<R: Threads + Wait + Sync, D: Disk + Drop + Send>(
         disk,
         &mut stations,
     );
-    Ok(Ran {
-        end,
-        printed: outside.sink.held().to_vec(alloc)?,
-        turns,
-        site: Site { disk, stations },
-    })
+    let printed = outside.sink.held().to_vec(alloc);
+    drop(outside);
+    let site = Site { disk, stations };
+    match printed {
+        Ok(printed) => Ok(Ran {
+            end,
+            printed,
+            turns,
+            site,
+        }),
+        Err(error) => {
+            drop(turns);
+            drop(site);
+            Err(error)
+        }
+    }
 }
 
 /// A text to be read, and clocks that tell these moments; the base of the system time where there is none. Nothing fails.

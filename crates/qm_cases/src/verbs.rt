@@ -33,10 +33,10 @@ use qm_kinds::Moment;
 use qm_plans::{is_told, number_and_rest, numbers, push_bytes, push_line, push_times, push_wanted};
 use qm_program::End;
 use std::alloc::{AllocError, Global};
-use std::io;
 use std::marker::Sync;
 use std::sync::Wait;
 use std::thread::Threads;
+use std::{io, mem};
 
 // The moments that a text names, in hundredths of a second from the base of the system time.
 fn moments(alloc: Global, text: &str) -> Result<Vec<Moment>, AllocError> {
@@ -158,10 +158,9 @@ fn act_on_outside(desk: &mut Desk, verb: &str, text: &str) -> Result<bool, Alloc
             desk.look.clear();
             push_bytes(&mut desk.look, text)?;
         }
-        "reads" => desk.failing.reads = numbers(alloc, text)?,
-        "writes" => desk.failing.writes = numbers(alloc, text)?,
-        "calls" => desk.failing.calls = numbers(alloc, text)?,
-        "devices" => desk.failing.devices = numbers(alloc, text)?,
+        "reads" | "writes" | "calls" | "devices" => {
+            *desk.failing.of(verb) = numbers(alloc, text)?;
+        }
         "either" => say_either(desk, text)?,
         "clock" => desk.moments = moments(alloc, text)?,
         "last" => desk.last = number_and_rest(text).0,
@@ -170,8 +169,30 @@ fn act_on_outside(desk: &mut Desk, verb: &str, text: &str) -> Result<bool, Alloc
     Ok(true)
 }
 
-// What makes a run, or more.
-fn run_by<R: Threads + Wait + Sync>(
+// What makes a run with these words, or more.
+fn run_with<R: Threads + Wait + Sync>(
+    rt: &HostRuntime,
+    threads: &R,
+    desk: &mut Desk,
+    told: &mut Vec<u8>,
+    verb: &str,
+    words: &[String],
+) -> io::Result<()> {
+    match verb {
+        "run" => drop(desk.run(threads, told, words)?),
+        "stop" => {
+            let stopped = desk.run(threads, told, words)?;
+            drop(mem::replace(&mut desk.stopped, stopped));
+        }
+        "once" => desk.run_failing(threads, told, words, Failures::Once)?,
+        "from-there-on" => desk.run_failing(threads, told, words, Failures::FromThereOn)?,
+        _ => run_over_files(rt, threads, desk, told, words)?,
+    }
+    Ok(())
+}
+
+// What tells something, or makes the folder anew.
+fn tell_by<R: Threads + Wait + Sync>(
     rt: &HostRuntime,
     threads: &R,
     desk: &mut Desk,
@@ -180,20 +201,7 @@ fn run_by<R: Threads + Wait + Sync>(
     text: &str,
 ) -> io::Result<()> {
     match verb {
-        "run" => {
-            let _ = desk.run(threads, told, &words_of(desk.alloc, text)?)?;
-        }
-        "stop" => desk.stopped = desk.run(threads, told, &words_of(desk.alloc, text)?)?,
         "looks" => desk.look_behind(threads, told, &desk.stopped)?,
-        "once" => desk.run_failing(threads, told, &words_of(desk.alloc, text)?, Failures::Once)?,
-        "from-there-on" => {
-            desk.run_failing(
-                threads,
-                told,
-                &words_of(desk.alloc, text)?,
-                Failures::FromThereOn,
-            )?;
-        }
         "cuts" | "raises" => {
             let (first, last) = number_and_rest(text);
             let spoil = if verb == "cuts" {
@@ -213,11 +221,28 @@ fn run_by<R: Threads + Wait + Sync>(
             push_end(desk.alloc, told, End::HistoryFull)?;
         }
         "folder" => new_folder(rt)?,
-        "over-files" => run_over_files(rt, threads, desk, told, &words_of(desk.alloc, text)?)?,
         "" | "#" => {}
         _ => push_line(told, "no such verb")?,
     }
     Ok(())
+}
+
+// What makes a run, or more, or tells something.
+fn run_by<R: Threads + Wait + Sync>(
+    rt: &HostRuntime,
+    threads: &R,
+    desk: &mut Desk,
+    told: &mut Vec<u8>,
+    verb: &str,
+    text: &str,
+) -> io::Result<()> {
+    match verb {
+        "run" | "stop" | "once" | "from-there-on" | "over-files" => {
+            let words = words_of(desk.alloc, text)?;
+            run_with(rt, threads, desk, told, verb, &words)
+        }
+        _ => tell_by(rt, threads, desk, told, verb, text),
+    }
 }
 
 // Does what a verb of a plan says, and adds what it tells.
