@@ -5,6 +5,7 @@ use crate::rows::form;
 use qm_forms::FormTable;
 use qm_kinds::{Characteristic, NameOrNumber, batch_queue, print_queue, system_user};
 use std::alloc::{AllocError, Global};
+use std::process::Abort;
 use std::test::Fail;
 
 // Defines the form 7 and the characteristic 5, both of the name `SYS$BATCH`, the first ones.
@@ -26,23 +27,45 @@ fn is_in_copy(alloc: Global, table: &FormTable, form: &NameOrNumber) -> Result<b
     Ok(copy.form(form).is_some())
 }
 
-#[test]
-fn forms_are_found(rt: HostRuntime) -> Result<(), Fail> {
-    let (name, other) = (batch_queue(), system_user());
-    let mut table = FormTable::new(rt.alloc());
-    define(&mut table)?;
+// The form and the characteristic are found by name and by number.
+fn show(rt: &impl Abort, alloc: Global, table: &FormTable) -> Result<(), Fail> {
+    let name = batch_queue();
     let wanted = [NameOrNumber::Name(name), NameOrNumber::Number(5)];
     assert!(rt; table.form(&NameOrNumber::Number(7)).is_some());
     assert!(rt; table.stock_of(&name) == Some(print_queue()));
     assert!(rt; table.characteristic(&wanted[1]).is_some());
     assert!(rt; table.refused_characteristics(&wanted).is_none());
     assert!(rt; table.set_of(&wanted).contains(5));
-    assert!(rt; is_in_copy(rt.alloc(), &table, &wanted[0])?);
-    for (name, left) in [(other, 1), (name, 0)] {
-        table.delete_form(&name);
-        assert!(rt; table.forms().len() == left);
-    }
+    assert!(rt; is_in_copy(alloc, table, &wanted[0])?);
+    Ok(())
+}
+
+// Deletes the form and the characteristic by their name. By another name nothing is deleted.
+fn delete(rt: &impl Abort, table: &mut FormTable) {
+    let name = batch_queue();
+    table.delete_form(&system_user());
+    assert!(rt; table.forms().len() == 1);
+    table.delete_form(&name);
+    assert!(rt; table.forms().is_empty());
     table.delete_characteristic(&name);
     assert!(rt; table.characteristics().is_empty());
+}
+
+// A form and a characteristic are defined, found and deleted.
+fn come_and_go(rt: &impl Abort, alloc: Global, table: &mut FormTable) -> Result<(), Fail>
+    requires forms { table.old.forms ≡ [] }
+    requires characteristics { table.old.characteristics ≡ [] }
+{
+    define(table)?;
+    show(rt, alloc, table)?;
+    delete(rt, table);
     Ok(())
+}
+
+#[test]
+fn forms_are_found(rt: HostRuntime) -> Result<(), Fail> {
+    let mut table = FormTable::new(rt.alloc());
+    let end = come_and_go(&rt, rt.alloc(), &mut table);
+    drop(table);
+    end
 }

@@ -45,13 +45,6 @@ fn fill(alloc: Global, parts: &mut Parts) -> Result<(), AllocError>
     start_first(parts)
 }
 
-// A characteristic, a queue, and a job that runs in it as run 1.
-fn with_a_run(alloc: Global) -> Result<Parts, AllocError> {
-    let mut parts = nodes_alone(alloc, Seq::new(alloc), 1)?;
-    fill(alloc, &mut parts)?;
-    Ok(parts)
-}
-
 // Moves the jobs that wait in a queue to another one, and tells how many there were.
 fn merge(parts: &mut Parts, to: &Name, from: &Name) -> Result<usize, AllocError> {
     let jobs = parts.count_at_home(from);
@@ -69,8 +62,13 @@ fn show_run(rt: &impl Abort, parts: &Parts, name: &Name, node: &Name) {
     assert!(rt; parts.first_run_for(name) == Some(7));
 }
 
-// The job that runs isn't moved.
-fn show_and_merge(rt: &impl Abort, parts: &mut Parts) -> Result<(), Fail> {
+// A job runs. It isn't moved.
+fn show_and_merge(rt: &impl Abort, alloc: Global, parts: &mut Parts) -> Result<(), Fail>
+    requires characteristics { parts.old.characteristics ≡ [] }
+    requires entries { parts.old.entries ≡ [] }
+    requires next_run { parts.old.next_run ≡ 1 }
+{
+    fill(alloc, parts)?;
     let (name, node) = (batch_queue(), system_user());
     show_run(rt, parts, &name, &node);
     assert!(rt; merge(parts, &node, &name)? == 0);
@@ -79,8 +77,10 @@ fn show_and_merge(rt: &impl Abort, parts: &mut Parts) -> Result<(), Fail> {
 
 #[test]
 fn a_job_runs(rt: HostRuntime) -> Result<(), Fail> {
-    let mut parts = with_a_run(rt.alloc())?;
-    show_and_merge(&rt, &mut parts)
+    let mut parts = nodes_alone(rt.alloc(), Seq::new(rt.alloc()), 1)?;
+    let end = show_and_merge(&rt, rt.alloc(), &mut parts);
+    drop(parts);
+    end
 }
 
 // Takes out an entry, and says whether it was there. Then each queue that is stopping is stopped once it has no run.
@@ -108,9 +108,21 @@ fn let_go(rt: &impl Abort, parts: &mut Parts, name: &Name) {
     assert!(rt; parts.queue_after(None).is_none());
 }
 
+// A job comes, runs, and goes.
+fn come_and_go(rt: &impl Abort, alloc: Global, parts: &mut Parts) -> Result<(), Fail>
+    requires characteristics { parts.old.characteristics ≡ [] }
+    requires entries { parts.old.entries ≡ [] }
+    requires next_run { parts.old.next_run ≡ 1 }
+{
+    fill(alloc, parts)?;
+    let_go(rt, parts, &batch_queue());
+    Ok(())
+}
+
 #[test]
 fn a_job_goes(rt: HostRuntime) -> Result<(), Fail> {
-    let mut parts = with_a_run(rt.alloc())?;
-    let_go(&rt, &mut parts, &batch_queue());
-    Ok(())
+    let mut parts = nodes_alone(rt.alloc(), Seq::new(rt.alloc()), 1)?;
+    let end = come_and_go(&rt, rt.alloc(), &mut parts);
+    drop(parts);
+    end
 }

@@ -43,17 +43,18 @@ fn put_three(rt: &impl Abort, alloc: Global, table: &mut QueueTable) -> Result<(
     Ok(())
 }
 
+// The name of the first queue behind this name.
+fn name_after(table: &QueueTable, name: Option<Name>) -> Option<Name> {
+    table.after(name.as_ref()).map(|queue| queue.name)
+}
+
 // The three stand by name.
 fn stand_by_name(rt: &impl Abort, table: &QueueTable, [batch, print, other]: [Name; 3]) {
     assert!(rt; table.as_slice().len() == 3);
-    for (name, expected) in [
-        (None, Some(batch)),
-        (Some(&batch), Some(print)),
-        (Some(&print), Some(other)),
-        (Some(&other), None),
-    ] {
-        assert!(rt; table.after(name).map(|queue| queue.name) == expected);
-    }
+    assert!(rt; name_after(table, None) == Some(batch));
+    assert!(rt; name_after(table, Some(batch)) == Some(print));
+    assert!(rt; name_after(table, Some(print)) == Some(other));
+    assert!(rt; name_after(table, Some(other)).is_none());
 }
 
 // `SYS$PRINT` is set, and goes.

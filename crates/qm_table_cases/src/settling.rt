@@ -45,17 +45,21 @@ fn put_three(parts: &mut Parts) -> Result<(), AllocError>
     put_job(parts, job(3, 101))
 }
 
-// A queue with places for two jobs, and three jobs. The next run is 7.
-fn with_jobs(alloc: Global) -> Result<Parts, AllocError> {
+// Puts in a queue with places for two jobs, and three jobs.
+fn fill(alloc: Global, parts: &mut Parts) -> Result<(), AllocError>
+    requires { parts.old.entries ≡ [] }
+{
+    put_queue(alloc, parts)?;
+    put_three(parts)
+}
+
+// A node that is up.
+fn one_node(alloc: Global) -> Result<Seq<Node>, AllocError> {
     let node = Node {
         name: system_user(),
         up: true,
     };
-    let nodes = Seq::of(vec![in alloc; node]?);
-    let mut parts = nodes_alone(alloc, nodes, 7)?;
-    put_queue(alloc, &mut parts)?;
-    put_three(&mut parts)?;
-    Ok(parts)
+    Ok(Seq::of(vec![in alloc; node]?))
 }
 
 // Settles, and gives the job and the run of each start.
@@ -67,8 +71,11 @@ fn started(alloc: Global, parts: &mut Parts) -> Result<Vec<(u32, u64)>, AllocErr
         .collect(alloc)
 }
 
-// Two jobs start, and then no more.
-fn start_two(rt: &impl Abort, alloc: Global, parts: &mut Parts) -> Result<(), Fail> {
+// Two jobs start, and then no more. The next run is 7.
+fn start_two(rt: &impl Abort, alloc: Global, parts: &mut Parts) -> Result<(), Fail>
+    requires { parts.old.entries ≡ [] }
+{
+    fill(alloc, parts)?;
     for expected in [[(3, 7), (1, 8)].as_slice(), &[]] {
         assert!(rt; started(alloc, parts)?.as_slice() == expected);
     }
@@ -77,6 +84,8 @@ fn start_two(rt: &impl Abort, alloc: Global, parts: &mut Parts) -> Result<(), Fa
 
 #[test]
 fn jobs_start_while_there_are_places(rt: HostRuntime) -> Result<(), Fail> {
-    let mut parts = with_jobs(rt.alloc())?;
-    start_two(&rt, rt.alloc(), &mut parts)
+    let mut parts = nodes_alone(rt.alloc(), one_node(rt.alloc())?, 7)?;
+    let end = start_two(&rt, rt.alloc(), &mut parts);
+    drop(parts);
+    end
 }
