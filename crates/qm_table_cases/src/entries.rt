@@ -6,7 +6,6 @@ use crate::rows::job;
 use qm_entries::EntryTable;
 use qm_kinds::{Entry, EntryState, Mark, Moment, Name, batch_queue, print_queue};
 use std::alloc::AllocError;
-use std::process::Abort;
 use std::test::Fail;
 
 // Puts in an entry, behind the others.
@@ -52,80 +51,97 @@ fn set_each(table: &mut EntryTable, mark: Mark) -> [bool; 5] {
     ]
 }
 
-// The first numbers behind 0, 5, 6 and 7.
-fn numbers_after(table: &EntryTable) -> [Option<u32>; 4] {
+// Whether the entries 5 and 7 stand by number, and 7 has this checkpoint and another home.
+fn are_found(table: &EntryTable, mark: Mark) -> [bool; 6] {
     [
-        number_after(table, 0),
-        number_after(table, 5),
-        number_after(table, 6),
-        number_after(table, 7),
+        number_after(table, 0) == Some(5),
+        number_after(table, 5) == Some(7),
+        number_after(table, 6) == Some(7),
+        number_after(table, 7).is_none(),
+        table.get(7).map(|entry| entry.mark) == Some(mark),
+        home_of(table, 7) == Some(print_queue()),
     ]
 }
 
-// Entry 7 is replaced and goes.
-fn replace_and_remove(rt: &impl Abort, table: &mut EntryTable) {
-    assert!(rt; table.replace(job(7, 100)).is_some());
-    assert!(rt; table.replace(job(6, 100)).is_none());
-    assert!(rt; table.get(7).map(|entry| entry.again) == Some(false));
-    assert!(rt; remove(table, 7));
-    assert!(rt; !remove(table, 7));
+// Replaces and takes out entry 7, and another one that isn't there, and says each time whether it was there. What stands then
+// is as it was put there.
+fn replace_and_remove(table: &mut EntryTable) -> [bool; 6] {
+    [
+        table.replace(job(7, 100)).is_some(),
+        table.replace(job(6, 100)).is_some(),
+        table.get(7).map(|entry| entry.again) == Some(false),
+        remove(table, 7),
+        remove(table, 7),
+        state_of(table, 5) == Some(EntryState::Holding),
+    ]
 }
 
-// Two entries come, stand by number, change, and one goes.
-fn stand_by_number(rt: &impl Abort, table: &mut EntryTable) -> Result<(), Fail>
+// Two entries come, change, stand by number, and one is replaced and goes.
+fn stand_by_number(
+    table: &mut EntryTable,
+    mark: Mark,
+) -> Result<([bool; 5], [bool; 6], [bool; 6]), AllocError>
     requires { table.old.entries ≡ [] }
 {
     put(table, job(5, 100))?;
     put(table, job(7, 100))?;
-    let mark = Mark::new(b"page 2")?;
-    assert_eq!(rt; set_each(table, mark), [true, true, true, true, false]);
-    assert_eq!(rt; numbers_after(table), [Some(5), Some(7), Some(7), None]);
-    assert!(rt; table.get(7).map(|entry| entry.mark) == Some(mark));
-    assert!(rt; home_of(table, 7) == Some(print_queue()));
-    replace_and_remove(rt, table);
-    assert!(rt; state_of(table, 5) == Some(EntryState::Holding));
-    Ok(())
+    let set = set_each(table, mark);
+    let found = are_found(table, mark);
+    Ok((set, found, replace_and_remove(table)))
 }
 
 #[test]
 fn entries_stand_by_number(rt: HostRuntime) -> Result<(), Fail> {
+    let mark = Mark::new(b"page 2")?;
     let mut table = EntryTable::new(rt.alloc());
-    stand_by_number(&rt, &mut table)
+    let end = stand_by_number(&mut table, mark);
+    drop(table);
+    let (set, found, gone) = end?;
+    assert!(rt; set == [true, true, true, true, false]);
+    assert!(rt; found == [true; 6]);
+    assert!(rt; gone == [true, false, true, true, false, true]);
+    Ok(())
 }
 
-// The first entries go, while others come.
-fn come_and_go(rt: &impl Abort, table: &mut EntryTable) -> Result<(), Fail>
+// The last two entries, of the numbers 4 and 5, go.
+fn go(table: &mut EntryTable) -> [bool; 7] {
+    [
+        table.get(1).is_none(),
+        table.as_slice().len() == 2,
+        home_of(table, 4) == Some(print_queue()),
+        remove(table, 4),
+        number_after(table, 0) == Some(5),
+        remove(table, 5),
+        table.as_slice().is_empty(),
+    ]
+}
+
+// The first entries go, while others come, and then these.
+fn come_and_go(table: &mut EntryTable) -> Result<([bool; 5], [bool; 7]), AllocError>
     requires { table.old.entries ≡ [] }
 {
     put(table, job(1, 100))?;
     put(table, job(2, 100))?;
     put(table, job(3, 100))?;
-    assert!(rt; remove(table, 1));
+    let first = remove(table, 1);
     put(table, job(4, 100))?;
-    assert!(rt; number_after(table, 0) == Some(2));
-    assert!(rt; table.set_home(4, print_queue()));
-    assert!(rt; remove(table, 3));
-    assert!(rt; remove(table, 2));
+    let is_next = number_after(table, 0) == Some(2);
+    let is_set = table.set_home(4, print_queue());
+    let third = remove(table, 3);
+    let second = remove(table, 2);
     put(table, job(5, 100))?;
-    go(rt, table);
-    Ok(())
-}
-
-// The last two entries, of the numbers 4 and 5, go.
-fn go(rt: &impl Abort, table: &mut EntryTable) {
-    assert!(rt; table.get(1).is_none());
-    assert!(rt; table.as_slice().len() == 2);
-    assert!(rt; home_of(table, 4) == Some(print_queue()));
-    assert!(rt; remove(table, 4));
-    assert!(rt; number_after(table, 0) == Some(5));
-    assert!(rt; remove(table, 5));
-    assert!(rt; table.as_slice().is_empty());
+    Ok(([first, is_next, is_set, third, second], go(table)))
 }
 
 #[test]
 fn first_entries_go_while_others_come(rt: HostRuntime) -> Result<(), Fail> {
     let mut table = EntryTable::new(rt.alloc());
-    come_and_go(&rt, &mut table)
+    let end = come_and_go(&mut table);
+    drop(table);
+    let (first, last) = end?;
+    assert!(rt; first == [true; 5]);
+    assert!(rt; last == [true; 7]);
+    Ok(())
 }
 
 // A job in this state.
@@ -151,24 +167,27 @@ fn put_two(table: &mut EntryTable, due: Moment) -> Result<(), AllocError>
 }
 
 // A moment, a merge and the end of a queue sweep two entries.
-fn sweep(rt: &impl Abort, table: &mut EntryTable, due: Moment) -> Result<(), Fail>
+fn sweep(table: &mut EntryTable, due: Moment) -> Result<[bool; 5], AllocError>
     requires { table.old.entries ≡ [] }
 {
     put_two(table, due)?;
     table.remove_over(due);
     table.wake(due);
-    assert!(rt; state_of(table, 1) == Some(EntryState::Pending));
-    assert!(rt; table.as_slice().len() == 1);
-    assert!(rt; table.merge(&print_queue(), &batch_queue()) == 1);
+    let is_woken = state_of(table, 1) == Some(EntryState::Pending);
+    let is_alone = table.as_slice().len() == 1;
+    let is_moved = table.merge(&print_queue(), &batch_queue()) == 1;
     table.remove_of_home(&batch_queue());
-    assert!(rt; table.as_slice().len() == 1);
+    let is_left = table.as_slice().len() == 1;
     table.remove_of_home(&print_queue());
-    assert!(rt; table.as_slice().is_empty());
-    Ok(())
+    let is_gone = table.as_slice().is_empty();
+    Ok([is_woken, is_alone, is_moved, is_left, is_gone])
 }
 
 #[test]
 fn a_moment_a_merge_and_the_end_of_a_queue_sweep_the_entries(rt: HostRuntime) -> Result<(), Fail> {
     let mut table = EntryTable::new(rt.alloc());
-    sweep(&rt, &mut table, Moment::BASE)
+    let end = sweep(&mut table, Moment::BASE);
+    drop(table);
+    assert!(rt; end? == [true; 5]);
+    Ok(())
 }

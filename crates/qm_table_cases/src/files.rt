@@ -6,21 +6,23 @@ use crate::rows::file;
 use qm_kinds::FileName;
 use qm_spool::Spool;
 use std::alloc::{AllocError, Global};
-use std::process::Abort;
 use std::test::Fail;
 
-// A file comes with three bytes, and grows by two.
-fn fill(rt: &impl Abort, alloc: Global, spool: &mut Spool, name: &FileName) -> Result<(), Fail>
+// Puts in a file of three bytes and adds two, and says whether there was room for both and no such file.
+fn fill(alloc: Global, spool: &mut Spool, name: &FileName) -> Result<bool, AllocError>
     requires { spool.old.files ≡ [] }
 {
     spool.reserve_file()?;
-    assert!(rt; !spool.is_full_for(name, 3));
-    assert!(rt; spool.bytes(name).is_none());
+    if spool.is_full_for(name, 3) || spool.bytes(name).is_some() {
+        return Ok(false);
+    }
     spool.insert_file(*name, vec![in alloc; b'a', b'b', b'c']?);
     spool.reserve_bytes(name, 2)?;
-    assert!(rt; !spool.is_full_for(name, 2));
+    if spool.is_full_for(name, 2) {
+        return Ok(false);
+    }
     spool.append(name, b"de");
-    Ok(())
+    Ok(true)
 }
 
 // How often a file is named in a copy of the files.
@@ -32,39 +34,37 @@ fn count_in_copy(alloc: Global, spool: &Spool, name: &FileName) -> Result<u32, A
     Ok(copy.count(name))
 }
 
-// The file is named, which a copy doesn't keep, and goes.
-fn name_and_remove(
-    rt: &impl Abort,
-    alloc: Global,
-    spool: &mut Spool,
-    name: &FileName,
-) -> Result<(), Fail> {
-    assert!(rt; spool.bytes(name).is_some());
-    assert!(rt; spool.count(name) == 0);
+// Names the file, which a copy doesn't keep, and removes it, and says whether it was there, was named once, and has gone.
+fn name_and_remove(alloc: Global, spool: &mut Spool, name: &FileName) -> Result<bool, AllocError> {
+    if spool.bytes(name).is_none() || spool.count(name) != 0 {
+        return Ok(false);
+    }
     spool.enter(name);
-    assert!(rt; count_in_copy(alloc, spool, name)? == 0);
-    assert!(rt; spool.count(name) == 1);
+    let copied = count_in_copy(alloc, spool, name)?;
+    let named = spool.count(name);
     spool.leave(name);
     spool.remove(name);
-    assert!(rt; spool.size() == 0);
-    Ok(())
+    Ok([copied, named, spool.size()] == [0, 1, 0])
 }
 
 // A file comes, grows, is named and goes.
-fn come_and_go(rt: &impl Abort, alloc: Global, spool: &mut Spool) -> Result<(), Fail>
+fn come_and_go(alloc: Global, spool: &mut Spool) -> Result<[bool; 4], AllocError>
     requires { spool.old.files ≡ [] }
 {
     let name = file();
-    fill(rt, alloc, spool, &name)?;
-    assert!(rt; spool.bytes(&name) == Some(b"abcde"));
-    assert!(rt; spool.size() == 5);
-    name_and_remove(rt, alloc, spool, &name)
+    Ok([
+        fill(alloc, spool, &name)?,
+        spool.bytes(&name) == Some(b"abcde"),
+        spool.size() == 5,
+        name_and_remove(alloc, spool, &name)?,
+    ])
 }
 
 #[test]
 fn a_file_is_filled_and_named(rt: HostRuntime) -> Result<(), Fail> {
     let mut spool = Spool::new(rt.alloc());
-    let end = come_and_go(&rt, rt.alloc(), &mut spool);
+    let end = come_and_go(rt.alloc(), &mut spool);
     drop(spool);
-    end
+    assert!(rt; end? == [true; 4]);
+    Ok(())
 }

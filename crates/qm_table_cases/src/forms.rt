@@ -5,7 +5,6 @@ use crate::rows::form;
 use qm_forms::FormTable;
 use qm_kinds::{Characteristic, NameOrNumber, batch_queue, print_queue, system_user};
 use std::alloc::{AllocError, Global};
-use std::process::Abort;
 use std::test::Fail;
 
 // Defines the form 7 and the characteristic 5, both of the name `SYS$BATCH`, the first ones.
@@ -27,45 +26,48 @@ fn is_in_copy(alloc: Global, table: &FormTable, form: &NameOrNumber) -> Result<b
     Ok(copy.form(form).is_some())
 }
 
-// The form and the characteristic are found by name and by number.
-fn show(rt: &impl Abort, alloc: Global, table: &FormTable) -> Result<(), Fail> {
+// Whether the form and the characteristic are found by name and by number.
+fn are_found(alloc: Global, table: &FormTable) -> Result<[bool; 6], AllocError> {
     let name = batch_queue();
     let wanted = [NameOrNumber::Name(name), NameOrNumber::Number(5)];
-    assert!(rt; table.form(&NameOrNumber::Number(7)).is_some());
-    assert!(rt; table.stock_of(&name) == Some(print_queue()));
-    assert!(rt; table.characteristic(&wanted[1]).is_some());
-    assert!(rt; table.refused_characteristics(&wanted).is_none());
-    assert!(rt; table.set_of(&wanted).contains(5));
-    assert!(rt; is_in_copy(alloc, table, &wanted[0])?);
-    Ok(())
+    Ok([
+        table.form(&NameOrNumber::Number(7)).is_some(),
+        table.stock_of(&name) == Some(print_queue()),
+        table.characteristic(&wanted[1]).is_some(),
+        table.refused_characteristics(&wanted).is_none(),
+        table.set_of(&wanted).contains(5),
+        is_in_copy(alloc, table, &wanted[0])?,
+    ])
 }
 
 // Deletes the form and the characteristic by their name. By another name nothing is deleted.
-fn delete(rt: &impl Abort, table: &mut FormTable) {
+fn delete(table: &mut FormTable) -> [bool; 3] {
     let name = batch_queue();
     table.delete_form(&system_user());
-    assert!(rt; table.forms().len() == 1);
+    let is_left = table.forms().len() == 1;
     table.delete_form(&name);
-    assert!(rt; table.forms().is_empty());
+    let is_deleted = table.forms().is_empty();
     table.delete_characteristic(&name);
-    assert!(rt; table.characteristics().is_empty());
+    [is_left, is_deleted, table.characteristics().is_empty()]
 }
 
 // A form and a characteristic are defined, found and deleted.
-fn come_and_go(rt: &impl Abort, alloc: Global, table: &mut FormTable) -> Result<(), Fail>
+fn come_and_go(alloc: Global, table: &mut FormTable) -> Result<([bool; 6], [bool; 3]), AllocError>
     requires forms { table.old.forms ≡ [] }
     requires characteristics { table.old.characteristics ≡ [] }
 {
     define(table)?;
-    show(rt, alloc, table)?;
-    delete(rt, table);
-    Ok(())
+    let found = are_found(alloc, table)?;
+    Ok((found, delete(table)))
 }
 
 #[test]
 fn forms_are_found(rt: HostRuntime) -> Result<(), Fail> {
     let mut table = FormTable::new(rt.alloc());
-    let end = come_and_go(&rt, rt.alloc(), &mut table);
+    let end = come_and_go(rt.alloc(), &mut table);
     drop(table);
-    end
+    let (found, deleted) = end?;
+    assert!(rt; found == [true; 6]);
+    assert!(rt; deleted == [true; 3]);
+    Ok(())
 }

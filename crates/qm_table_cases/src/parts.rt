@@ -6,7 +6,6 @@ use crate::sites::{nodes_alone, put_job, put_queue};
 use qm_kinds::{Characteristic, Fate, Name, QueueState, Seq, batch_queue, system_user};
 use qm_sched::Parts;
 use std::alloc::{AllocError, Global};
-use std::process::Abort;
 use std::test::Fail;
 
 // Defines a characteristic, the first one.
@@ -52,77 +51,77 @@ fn merge(parts: &mut Parts, to: &Name, from: &Name) -> Result<usize, AllocError>
     Ok(parts.merge(to, from))
 }
 
-// Job 7 runs in the batch queue as run 1, the first of all.
-fn show_run(rt: &impl Abort, parts: &Parts, name: &Name, node: &Name) {
-    assert!(rt; parts.next_run() == 2);
-    assert!(rt; parts.has_run(1));
-    assert!(rt; parts.places_taken(name) == 1);
-    assert!(rt; parts.entry_of_run(1, node).is_some());
-    assert!(rt; parts.running_in(name, None).is_some());
-    assert!(rt; parts.first_run_for(name) == Some(7));
+// Whether job 7 runs in the batch queue as run 1, the first of all.
+fn shows_run(parts: &Parts, name: &Name, node: &Name) -> [bool; 6] {
+    [
+        parts.next_run() == 2,
+        parts.has_run(1),
+        parts.places_taken(name) == 1,
+        parts.entry_of_run(1, node).is_some(),
+        parts.running_in(name, None).is_some(),
+        parts.first_run_for(name) == Some(7),
+    ]
 }
 
-// A job runs. It isn't moved.
-fn show_and_merge(rt: &impl Abort, alloc: Global, parts: &mut Parts) -> Result<(), Fail>
+// Starts a job and merges its queue into another. It tells whether the job runs, and how many jobs were moved.
+fn run_and_merge(alloc: Global, parts: &mut Parts) -> Result<([bool; 6], usize), AllocError>
     requires characteristics { parts.old.characteristics ≡ [] }
     requires entries { parts.old.entries ≡ [] }
     requires next_run { parts.old.next_run ≡ 1 }
 {
     fill(alloc, parts)?;
     let (name, node) = (batch_queue(), system_user());
-    show_run(rt, parts, &name, &node);
-    assert!(rt; merge(parts, &node, &name)? == 0);
-    Ok(())
+    let shown = shows_run(parts, &name, &node);
+    Ok((shown, merge(parts, &node, &name)?))
 }
 
 #[test]
 fn a_job_runs(rt: HostRuntime) -> Result<(), Fail> {
     let mut parts = nodes_alone(rt.alloc(), Seq::new(rt.alloc()), 1)?;
-    let end = show_and_merge(&rt, rt.alloc(), &mut parts);
+    let end = run_and_merge(rt.alloc(), &mut parts);
     drop(parts);
-    end
+    assert!(rt; end? == ([true; 6], 0));
+    Ok(())
 }
 
-// Takes out an entry, and says whether it was there. Then each queue that is stopping is stopped once it has no run.
-fn remove(parts: &mut Parts, number: u32) -> bool {
+// Takes out an entry, and stops each queue that is stopping once it has no run. It tells whether the entry was there, and the
+// state of a queue.
+fn remove(parts: &mut Parts, number: u32, name: &Name) -> (bool, Option<QueueState>) {
     let removed = parts.remove_entry(number).is_some();
     parts.stop_idle();
-    removed
+    (removed, parts.queue(name).map(|queue| queue.state))
 }
 
-// Job 7 goes, and then its queue, which is stopping. It is stopped once it has no run.
-fn let_go(rt: &impl Abort, parts: &mut Parts, name: &Name) {
+// Lets job 7 go, which runs, and then its queue, which is stopping. It tells whether no other job runs, whether the queue is
+// still stopping where another job is taken out and stopped where this one is, and whether it is free then and goes.
+fn let_go(parts: &mut Parts, name: &Name) -> [bool; 5] {
     parts.reset_queue(name);
-    assert!(rt; parts.running_in(name, Some(7)).is_none());
+    let is_alone = parts.running_in(name, Some(7)).is_none();
     parts.set_fate(7, Fate::Remove);
     parts.set_queue_state(name, QueueState::Stopping);
-    for (number, is_there, state) in [
-        (8, false, QueueState::Stopping),
-        (7, true, QueueState::Stopped),
-    ] {
-        assert!(rt; remove(parts, number) == is_there);
-        assert!(rt; parts.queue(name).map(|queue| queue.state) == Some(state));
-    }
-    assert!(rt; !parts.is_occupied(name));
+    let is_stopping = remove(parts, 8, name) == (false, Some(QueueState::Stopping));
+    let is_stopped = remove(parts, 7, name) == (true, Some(QueueState::Stopped));
+    let is_free = !parts.is_occupied(name);
     parts.remove_queue(name);
-    assert!(rt; parts.queue_after(None).is_none());
+    let is_gone = parts.queue_after(None).is_none();
+    [is_alone, is_stopping, is_stopped, is_free, is_gone]
 }
 
 // A job comes, runs, and goes.
-fn come_and_go(rt: &impl Abort, alloc: Global, parts: &mut Parts) -> Result<(), Fail>
+fn come_and_go(alloc: Global, parts: &mut Parts) -> Result<[bool; 5], AllocError>
     requires characteristics { parts.old.characteristics ≡ [] }
     requires entries { parts.old.entries ≡ [] }
     requires next_run { parts.old.next_run ≡ 1 }
 {
     fill(alloc, parts)?;
-    let_go(rt, parts, &batch_queue());
-    Ok(())
+    Ok(let_go(parts, &batch_queue()))
 }
 
 #[test]
 fn a_job_goes(rt: HostRuntime) -> Result<(), Fail> {
     let mut parts = nodes_alone(rt.alloc(), Seq::new(rt.alloc()), 1)?;
-    let end = come_and_go(&rt, rt.alloc(), &mut parts);
+    let end = come_and_go(rt.alloc(), &mut parts);
     drop(parts);
-    end
+    assert!(rt; end? == [true; 5]);
+    Ok(())
 }

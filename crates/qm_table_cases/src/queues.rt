@@ -3,7 +3,6 @@ use crate::rows::queue;
 use qm_kinds::{Name, QueueState, batch_queue, print_queue, system_user};
 use qm_queues::{QueueTable, Settings};
 use std::alloc::{AllocError, Global};
-use std::process::Abort;
 use std::test::Fail;
 
 // Puts in a queue of this name, and says whether it replaces another.
@@ -30,17 +29,14 @@ fn remove_twice(table: &mut QueueTable, name: &Name) -> [bool; 2] {
     [table.remove(name).is_some(), table.remove(name).is_some()]
 }
 
-// Puts in `SYS$PRINT`, `SYS$BATCH` and `SYSTEM`, and one of them again, which replaces the first.
-fn put_three(rt: &impl Abort, alloc: Global, table: &mut QueueTable) -> Result<(), AllocError> {
-    for (name, is_there) in [
-        (print_queue(), false),
-        (system_user(), false),
-        (batch_queue(), false),
-        (system_user(), true),
-    ] {
-        assert!(rt; put(alloc, table, name)? == is_there);
-    }
-    Ok(())
+// Puts in `SYS$PRINT`, `SYSTEM` and `SYS$BATCH`, and one of them again, which replaces the first.
+fn put_three(alloc: Global, table: &mut QueueTable) -> Result<[bool; 4], AllocError> {
+    Ok([
+        put(alloc, table, print_queue())?,
+        put(alloc, table, system_user())?,
+        put(alloc, table, batch_queue())?,
+        put(alloc, table, system_user())?,
+    ])
 }
 
 // The name of the first queue behind this name.
@@ -48,36 +44,51 @@ fn name_after(table: &QueueTable, name: Option<Name>) -> Option<Name> {
     table.after(name.as_ref()).map(|queue| queue.name)
 }
 
-// The three stand by name.
-fn stand_by_name(rt: &impl Abort, table: &QueueTable, [batch, print, other]: [Name; 3]) {
-    assert!(rt; table.as_slice().len() == 3);
-    assert!(rt; name_after(table, None) == Some(batch));
-    assert!(rt; name_after(table, Some(batch)) == Some(print));
-    assert!(rt; name_after(table, Some(print)) == Some(other));
-    assert!(rt; name_after(table, Some(other)).is_none());
+// Whether the three stand by name.
+fn stand_by_name(table: &QueueTable, [batch, print, other]: [Name; 3]) -> [bool; 5] {
+    [
+        table.as_slice().len() == 3,
+        name_after(table, None) == Some(batch),
+        name_after(table, Some(batch)) == Some(print),
+        name_after(table, Some(print)) == Some(other),
+        name_after(table, Some(other)).is_none(),
+    ]
 }
 
-// `SYS$PRINT` is set, and goes.
-fn set_and_remove(rt: &impl Abort, table: &mut QueueTable, print: &Name) {
-    assert!(rt; table.set_state(print, QueueState::Paused));
-    assert!(rt; set_sizes(table, print, (2, 9)));
-    assert!(rt; table.get(print).map(|queue| queue.upper) == Some(9));
-    assert!(rt; table.get(print).map(|queue| queue.state) == Some(QueueState::Paused));
-    assert!(rt; remove_twice(table, print) == [true, false]);
-    assert!(rt; !table.set_state(print, QueueState::Stopped));
+// Whether `SYS$PRINT` is set, and goes, and whether it can be set then.
+fn set_and_remove(table: &mut QueueTable, print: &Name) -> [bool; 5] {
+    let is_state_set = table.set_state(print, QueueState::Paused);
+    let are_sizes_set = set_sizes(table, print, (2, 9));
+    let set = table.get(print).map(|queue| (queue.upper, queue.state));
+    [
+        is_state_set,
+        are_sizes_set,
+        set == Some((9, QueueState::Paused)),
+        remove_twice(table, print) == [true, false],
+        table.set_state(print, QueueState::Stopped),
+    ]
 }
 
-// Three queues come, and one is set and goes.
-fn come_and_go(rt: &impl Abort, alloc: Global, table: &mut QueueTable) -> Result<(), Fail> {
-    put_three(rt, alloc, table)?;
-    stand_by_name(rt, table, [batch_queue(), print_queue(), system_user()]);
-    set_and_remove(rt, table, &print_queue());
-    assert!(rt; table.get(&system_user()).is_some());
-    Ok(())
+// Three queues come, and one is set and goes. It tells which of them that come replaced others.
+fn come_and_go(
+    alloc: Global,
+    table: &mut QueueTable,
+) -> Result<([bool; 4], [bool; 5], [bool; 5]), AllocError> {
+    let replaced = put_three(alloc, table)?;
+    let stand = stand_by_name(table, [batch_queue(), print_queue(), system_user()]);
+    Ok((replaced, stand, set_and_remove(table, &print_queue())))
 }
 
 #[test]
 fn queues_stand_by_name(rt: HostRuntime) -> Result<(), Fail> {
     let mut table = QueueTable::new(rt.alloc());
-    come_and_go(&rt, rt.alloc(), &mut table)
+    let end = come_and_go(rt.alloc(), &mut table);
+    let is_left = table.get(&system_user()).is_some();
+    drop(table);
+    let (replaced, stand, set) = end?;
+    assert!(rt; replaced == [false, false, false, true]);
+    assert!(rt; stand == [true; 5]);
+    assert!(rt; set == [true, true, true, true, false]);
+    assert!(rt; is_left);
+    Ok(())
 }
