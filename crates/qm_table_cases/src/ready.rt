@@ -5,7 +5,6 @@ use qm_match::{Key, Schedule};
 use qm_ready::{ReadyRow, Steps};
 use std::alloc::{AllocError, Global};
 use std::marker::Brand;
-use std::process::Abort;
 use std::sync::ledger::{Blank, Ledger};
 use std::test::Fail;
 
@@ -67,27 +66,18 @@ fn another_schedule_has_another_first_job(rt: HostRuntime) -> Result<(), Fail> {
     Ok(())
 }
 
-// Takes out the three jobs, each of which is the first one then.
-fn take_all(rt: &impl Abort, row: &mut ReadyRow) {
-    for (size, number) in [(5, 3), (6, 2), (7, 1)] {
-        assert!(rt; first(row) == Some(number));
-        assert!(rt; row.remove(&key(100, size, number)));
-    }
-    assert!(rt; first(row).is_none());
-}
-
-// The three jobs go in the order of their sizes. A key that isn't the job's takes nothing out.
-fn show_and_take_all(rt: &impl Abort, row: &mut ReadyRow) {
-    assert!(rt; matches!(row.schedule(), Schedule::BySize));
-    assert!(rt; !row.remove(&key(100, 9, 3)));
-    assert!(rt; row.len() == 3);
-    assert!(rt; row.get(1).map(|key| key.number) == Some(2));
-    take_all(rt, row);
-}
-
 #[test]
 fn jobs_go_in_the_order_of_starts(rt: HostRuntime) -> Result<(), Fail> {
     let mut row = three_jobs(rt.alloc())?;
-    show_and_take_all(&rt, &mut row);
+    assert!(rt; matches!(row.schedule(), Schedule::BySize));
+    // A key that isn't the job's takes nothing out.
+    assert!(rt; !row.remove(&key(100, 9, 3)));
+    assert!(rt; row.len() == 3);
+    assert!(rt; row.get(1).map(|key| key.number) == Some(2));
+    for (size, number) in [(5, 3), (6, 2), (7, 1)] {
+        assert!(rt; first(&row) == Some(number));
+        assert!(rt; row.remove(&key(100, size, number)));
+    }
+    assert!(rt; first(&row).is_none());
     Ok(())
 }
