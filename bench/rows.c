@@ -1,5 +1,5 @@
 /*
- * What a row of a listing costs at least: a walk over entries of the size that they have in a site, which stand in 255 queues in turn, and
+ * What a row of a listing costs at least: a walk over entries of about the size that they have in a site, which stand in 255 queues in turn, and
  * a line of text for each, queue by queue. No search, no names to compare, nothing asked.
  *
  *   rows WAY COUNT
