@@ -99,12 +99,22 @@ pub fn read_whole<S: Source>(
         let asked = room.min(PIECE - 1) + 1;
         let count = source.read(&mut piece[..asked])?;
         if count == 0 {
-            return Ok(bytes);
+            return Ok(fitted(alloc, bytes));
         }
         if count > room {
             return Err(ReadEnd::TooLong);
         }
         bytes.extend_from_slice(&piece[..count]).unwrap();
+    }
+}
+
+// The bytes in memory of just their size, and the room for the longest script given back; or as they are, if there is no memory for that.
+fn fitted(alloc: Global, bytes: Vec<u8>) -> Vec<u8>
+    ensures { result.items ≡ bytes.items }
+{
+    match Vec::from_slice(alloc, &bytes) {
+        Ok(fitted) => fitted,
+        Err(_) => bytes,
     }
 }
 

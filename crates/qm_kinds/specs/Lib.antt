@@ -6,3 +6,4 @@ pub mod Sizes
 pub mod Files
 pub mod MatchRows
 pub mod Words
+pub mod Listed

@@ -53,35 +53,35 @@ pub enum EntryState {
 }
 
 /// A job in a queue. It stands in its home, the queue to which it was submitted or moved, or, while its run lasts,
-/// in the queue where it runs.
+/// in the queue where it runs. What listings ask of each entry stands in front, and the mark, which they don't ask, at the end.
 #[derive(Clone, Copy)]
 pub struct Entry {
     /// Entries are numbered from 1 on, and no number is used again.
     pub number: u32,
-    pub kind: JobKind,
-    pub home: Name,
-    pub name: Name,
-    pub user: Name,
-    pub file: FileName,
     /// Blocks of 512 bytes.
     pub size: u32,
+    pub home: Name,
+    pub state: EntryState,
+    pub name: Name,
+    pub user: Name,
+    pub kind: JobKind,
     /// 0 to 255, the greater first.
     pub priority: u8,
-    /// The moment before which the job doesn't start.
-    pub after: Option<Moment>,
     pub held: bool,
-    pub retain: JobRetain,
     /// Whether the job may start again after its run was cut short.
     pub restart: bool,
-    pub characteristics: CharacteristicSet,
-    /// The form of a print job.
-    pub form: Option<Name>,
     pub copies: u8,
     /// Whether a page that names the job stands before its text.
     pub flag: bool,
-    /// The last checkpoint that was recorded.
-    pub mark: Mark,
     /// Whether the job was put back into its queue after a run.
     pub again: bool,
-    pub state: EntryState,
+    /// The moment before which the job doesn't start.
+    pub after: Option<Moment>,
+    pub retain: JobRetain,
+    pub characteristics: CharacteristicSet,
+    pub file: FileName,
+    /// The form of a print job.
+    pub form: Option<Name>,
+    /// The last checkpoint that was recorded.
+    pub mark: Mark,
 }

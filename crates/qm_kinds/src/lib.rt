@@ -3,6 +3,7 @@
 #![tactic(auto)]
 
 mod boxed;
+mod compact;
 mod count;
 mod entry;
 mod fault;
@@ -16,6 +17,7 @@ mod mark;
 mod moment;
 mod name;
 mod pattern;
+mod plain;
 mod query;
 mod queue;
 mod record;

@@ -1,165 +1,115 @@
+// The rows of entries in listings.
 ghost use Rattle.std.specs.Prelude.{◌≡◌, IfOk};
+ghost use Rattle.qm_kinds.specs.Text.{IsText, is_name_byte};
 
-use crate::entry::{Entry, EntryState, JobKind, JobRetain};
-use crate::file::FileName;
-use crate::form::CharacteristicSet;
-use crate::mark::Mark;
-use crate::moment::Moment;
+use crate::entry::{Entry, EntryState};
 use crate::name::Name;
-use crate::seq::Seq;
+use crate::plain::PlainEntry;
 use std::alloc::{AllocError, Global};
 use std::marker::Model;
 
-/// An entry as the row of a listing. Contracts see the entry. Of its mark it keeps the bytes that there are, in memory of their own:
-/// most entries have none, and a long listing so takes two thirds of what the entries themselves would.
+/// An entry as the row of a listing. Contracts see the entry. Where its job doesn't run, has short names and no setting that is rare, the
+/// row takes a quarter of what the entry would, and no memory; else the entry stands in memory of its own.
 #[derive(Drop)]
 pub struct ListedEntry {
-    number: u32,
-    kind: JobKind,
-    home: Name,
-    name: Name,
-    user: Name,
-    file: FileName,
-    size: u32,
-    priority: u8,
-    after: Option<Moment>,
-    held: bool,
-    retain: JobRetain,
-    restart: bool,
-    characteristics: CharacteristicSet,
-    form: Option<Name>,
-    copies: u8,
-    flag: bool,
-    mark: Seq<u8>,
-    again: bool,
-    state: EntryState,
+    kept: Kept,
+}
+
+#[derive(Drop)]
+pub(crate) enum Kept {
+    Plain(PlainEntry),
+    Whole(Box<Entry>),
 }
 
 impl Model for ListedEntry {
-    ghost use Rattle.std.specs.Prelude.{◌≤◌, length};
+    ghost use Rattle.qm_kinds.specs.Listed.{entry_kept};
     ghost use Rattle.qm_kinds.specs.declared.entry.Entry.{Entry as AnyEntry};
 
     ghost Value = { AnyEntry };
 
-    ghost view = { λ e. record {
-      number = e.number;
-      kind = e.kind;
-      home = e.home;
-      name = e.name;
-      user = e.user;
-      file = e.file;
-      size = e.size;
-      priority = e.priority;
-      after = e.after;
-      held = e.held;
-      retain = e.retain;
-      restart = e.restart;
-      characteristics = e.characteristics;
-      form = e.form;
-      copies = e.copies;
-      flag = e.flag;
-      mark = e.mark;
-      again = e.again;
-      state = e.state;
-    } };
+    ghost view = { λ e. entry_kept e.kept };
+}
 
-    ghost invariant = { λ e. length e.mark ≤ 255 };
+// A name as text.
+fn text_of(name: &Name) -> &str
+    ensures value { result.now ≡ name.now }
+    ensures lawful { IsText is_name_byte name.now }
+{
+    let _bytes = name.as_bytes();
+    name.as_str()
 }
 
 impl ListedEntry {
-    /// The row of an entry. It takes as much memory as the entry's mark has bytes.
+    /// The row of an entry.
     pub fn of(alloc: Global, entry: &Entry) -> Result<ListedEntry, AllocError>
         ensures { IfOk result (λ listed. listed ≡ entry.now) }
     {
-        Ok(ListedEntry {
-            number: entry.number,
-            kind: entry.kind,
-            home: entry.home,
-            name: entry.name,
-            user: entry.user,
-            file: entry.file,
-            size: entry.size,
-            priority: entry.priority,
-            after: entry.after,
-            held: entry.held,
-            retain: entry.retain,
-            restart: entry.restart,
-            characteristics: entry.characteristics,
-            form: entry.form,
-            copies: entry.copies,
-            flag: entry.flag,
-            mark: Seq::of(Vec::from_slice(alloc, entry.mark.as_bytes())?),
-            again: entry.again,
-            state: entry.state,
-        })
-    }
-
-    // The mark of the entry.
-    fn mark(&self) -> Mark
-        ensures { result ≡ self.now.mark }
-    {
-        Mark::new(self.mark.as_slice()).unwrap()
+        let kept = match PlainEntry::of(entry) {
+            Some(plain) => Kept::Plain(plain),
+            None => Kept::Whole(Box::new(alloc, *entry)?),
+        };
+        Ok(ListedEntry { kept })
     }
 
     /// The entry.
     pub fn entry(&self) -> Entry
         ensures { result ≡ self.now }
     {
-        Entry {
-            number: self.number,
-            kind: self.kind,
-            home: self.home,
-            name: self.name,
-            user: self.user,
-            file: self.file,
-            size: self.size,
-            priority: self.priority,
-            after: self.after,
-            held: self.held,
-            retain: self.retain,
-            restart: self.restart,
-            characteristics: self.characteristics,
-            form: self.form,
-            copies: self.copies,
-            flag: self.flag,
-            mark: self.mark(),
-            again: self.again,
-            state: self.state,
+        match &self.kept {
+            Kept::Plain(plain) => plain.entry(),
+            Kept::Whole(entry) => **entry,
         }
     }
 
     /// The job's name.
-    pub fn name(&self) -> &Name
-        ensures { result.now ≡ self.now.name }
+    pub fn name(&self) -> &str
+        ensures value { result.now ≡ self.now.name }
+        ensures lawful { IsText is_name_byte self.now.name }
     {
-        &self.name
+        match &self.kept {
+            Kept::Plain(plain) => plain.name.as_str(),
+            Kept::Whole(entry) => text_of(&entry.name),
+        }
     }
 
     /// Who submitted it.
-    pub fn user(&self) -> &Name
-        ensures { result.now ≡ self.now.user }
+    pub fn user(&self) -> &str
+        ensures value { result.now ≡ self.now.user }
+        ensures lawful { IsText is_name_byte self.now.user }
     {
-        &self.user
+        match &self.kept {
+            Kept::Plain(plain) => plain.user.as_str(),
+            Kept::Whole(entry) => text_of(&entry.user),
+        }
     }
 
     /// Blocks of 512 bytes.
     pub fn size(&self) -> u32
         ensures { result ≡ self.now.size }
     {
-        self.size
+        match &self.kept {
+            Kept::Plain(plain) => plain.size,
+            Kept::Whole(entry) => entry.size,
+        }
     }
 
     /// Its state.
-    pub fn state(&self) -> &EntryState
-        ensures { result.now ≡ self.now.state }
+    pub fn state(&self) -> EntryState
+        ensures { result ≡ self.now.state }
     {
-        &self.state
+        match &self.kept {
+            Kept::Plain(plain) => plain.state.state(),
+            Kept::Whole(entry) => entry.state,
+        }
     }
 
     /// The entry's number.
     pub fn number(&self) -> u32
         ensures { result ≡ self.now.number }
     {
-        self.number
+        match &self.kept {
+            Kept::Plain(plain) => plain.number,
+            Kept::Whole(entry) => entry.number,
+        }
     }
 }

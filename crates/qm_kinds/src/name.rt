@@ -62,6 +62,15 @@ impl Name {
         })
     }
 
+    /// The bytes of the name with room for fewer than 39, if they fit.
+    pub(crate) fn shortened<const CAP: usize>(&self) -> Option<ShortBytes<CAP>>
+        requires { CAP ≤ 39 }
+        ensures short { IfSome result (λ short. short ≡ self.now) }
+        ensures lawful { IsText is_name_byte self.now }
+    {
+        self.text.shortened()
+    }
+
     /// The bytes of the name.
     pub fn as_bytes(&self) -> &[u8]
         ensures value { result.now ≡ self.now }

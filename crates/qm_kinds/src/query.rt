@@ -1,3 +1,4 @@
+use crate::boxed::Boxed;
 use crate::form::{Characteristic, Form};
 use crate::listed::ListedEntry;
 use crate::name::Name;
@@ -55,7 +56,7 @@ pub struct Query {
 /// A row of a listing.
 #[derive(Drop)]
 pub enum Row {
-    Queue(Queue),
+    Queue(Boxed<Queue>),
     Entry(ListedEntry),
     Form(Form),
     Characteristic(Characteristic),

@@ -1,5 +1,5 @@
 // Bytes that lie in the value itself, so that a name or a mark takes no memory and can be copied.
-ghost use Rattle.std.specs.Prelude.{◌≡◌, ◌≤◌, ◌<◌, length, map};
+ghost use Rattle.std.specs.Prelude.{IfSome, ◌≡◌, ◌≤◌, ◌<◌, length, map};
 ghost use Rattle.std.specs.Char.{to_ascii_uppercase};
 ghost use Rattle.qm_kinds.specs.Text.{text_unless};
 
@@ -14,7 +14,7 @@ pub(crate) struct ShortBytes<const CAP: usize> {
 }
 
 impl<const CAP: usize> Model for ShortBytes<CAP> {
-    ghost use Rattle.std.specs.Prelude.{◌≡◌, ◌≤◌, ◌-◌, ◌++◌, List, ℕ, length, take, drop, replicate};
+    ghost use Rattle.std.specs.Prelude.{IfSome, ◌≡◌, ◌≤◌, ◌-◌, ◌++◌, List, ℕ, length, take, drop, replicate};
     ghost use Rattle.qm_kinds.specs.Padding.{padded_bytes, padded_size};
 
     ghost Value = { List ℕ };
@@ -54,6 +54,22 @@ impl<const CAP: usize> ShortBytes<CAP> {
             raised[i] = b.to_ascii_uppercase();
         }
         ShortBytes::new(&raised[..text.len()])
+    }
+
+    /// These bytes with room for fewer, if they fit. What is copied has always the same size.
+    pub(crate) fn shortened<const LESS: usize>(&self) -> Option<ShortBytes<LESS>>
+        requires { LESS ≤ CAP }
+        ensures { IfSome result (λ short. short ≡ self.now) }
+    {
+        if self.size as usize > LESS {
+            return None;
+        }
+        let mut bytes = [0; LESS];
+        bytes.copy_from_slice(&self.bytes[..LESS]);
+        Some(ShortBytes {
+            bytes,
+            size: self.size,
+        })
     }
 
     /// The bytes.

@@ -14,15 +14,17 @@ ghost use Rattle.qm_scan.specs.Listed.{AreBelow, is_entry_listed, is_queue_liste
 use crate::below::groups_below;
 use crate::lent::Lent;
 use crate::listed::{is_entry_listed, is_named, is_queue_listed};
-use qm_kinds::{Characteristic, Entry, Form, Listing, Name, Pattern, Query, Queue, Row, Seq};
+use qm_kinds::{
+    Boxed, Characteristic, Entry, Form, Listing, Name, Pattern, Query, Queue, Row, Seq,
+};
 use qm_sched::Parts;
 use std::alloc::{AllocError, Global};
 
 /// A copy of a queue.
-pub(crate) fn copy_of(alloc: Global, queue: &Queue) -> Result<Queue, AllocError>
+pub(crate) fn copy_of(alloc: Global, queue: &Queue) -> Result<Boxed<Queue>, AllocError>
     ensures { IfOk result (λ copy. copy ≡ queue.now) }
 {
-    Ok(Queue {
+    let copy = Queue {
         name: queue.name,
         kind: queue.kind,
         state: queue.state,
@@ -36,7 +38,8 @@ pub(crate) fn copy_of(alloc: Global, queue: &Queue) -> Result<Queue, AllocError>
         by_size: queue.by_size,
         retain: queue.retain,
         targets: Seq::of(Vec::from_slice(alloc, queue.targets.as_slice())?),
-    })
+    };
+    Boxed::new(alloc, copy)
 }
 
 // How many rows the listed queues have, with those below them.

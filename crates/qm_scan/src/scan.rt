@@ -55,7 +55,7 @@ fn place_behind(row: &Row) -> Option<After>
     ensures { result ≡ place_behind row.now }
 {
     match row {
-        Row::Queue(queue) => Some(After::Name(queue.name)),
+        Row::Queue(queue) => Some(After::Name(queue.get().name)),
         Row::Entry(entry) => Some(After::Number(entry.number())),
         Row::Form(form) => Some(After::Number(u32::from(form.number))),
         Row::Characteristic(one) => Some(After::Number(u32::from(one.number))),

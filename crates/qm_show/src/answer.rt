@@ -135,10 +135,14 @@ pub(crate) fn push_starts(
     Ok(())
 }
 
+// Room for the line of a row, in bytes, that is seldom exceeded: so the text of a long listing is moved nowhere as it grows.
+const MOST_OF_ROW: usize = 80;
+
 /// Appends the lines of a listing: how many rows there are, and the rows.
 pub(crate) fn push_rows(out: &mut Vec<u8>, front: &str, rows: &[Row]) -> Result<(), AllocError>
     ensures { OnOk result (out.new.items ≡ out.old.items ++ behind front.now (row_lines rows.now)) }
 {
+    out.reserve(rows.len().saturating_mul(MOST_OF_ROW))?;
     push_text(out, front, count_text("rows: ", rows.len()).as_str())?;
     for row in rows {
         push_line(out, front, RowText(row))?;

@@ -42,15 +42,15 @@ fn push_number(text: &mut ArrayString<112>, number: u32, width: usize)
 }
 
 // Appends a name at the left of so many places, and a blank.
-fn push_name(text: &mut ArrayString<112>, name: &Name, width: usize)
+fn push_name(text: &mut ArrayString<112>, name: &str, width: usize)
+    requires lawful { IsText is_name_byte name.now }
     requires room { length text.old.bytes ≤ 72 }
     requires narrow { width ≤ 16 }
     ensures text { text.new.bytes ≡ text.old.bytes ++ at_left width name.now ++ codes " " }
     ensures few { length text.new.bytes ≤ length text.old.bytes + 40 }
 {
-    let word = characters(name);
-    text.push_str(word);
-    text.push_str(blanks_beside(width, word.len()));
+    text.push_str(name);
+    text.push_str(blanks_beside(width, name.len()));
     text.push_str(" ");
 }
 

@@ -81,7 +81,7 @@ impl fmt::Display for EntryText<'_> {
 
     fn fmt<W: fmt::Write>(&self, f: &mut fmt::Formatter<W>) -> fmt::Result {
         f.write_str(columns_of(self.0).as_str())?;
-        StatusText(self.0.state()).fmt(f)
+        StatusText(&self.0.state()).fmt(f)
     }
 }
 
@@ -144,7 +144,7 @@ impl fmt::Display for RowText<'_> {
 
     fn fmt<W: fmt::Write>(&self, f: &mut fmt::Formatter<W>) -> fmt::Result {
         match self.0 {
-            Row::Queue(queue) => write!(f, "{}", QueueText(queue)),
+            Row::Queue(queue) => write!(f, "{}", QueueText(queue.get())),
             Row::Entry(entry) => EntryText(entry).fmt(f),
             Row::Form(form) => write!(f, "{}", FormText(form)),
             Row::Characteristic(characteristic) => {

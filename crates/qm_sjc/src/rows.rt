@@ -141,7 +141,7 @@ pub fn row_items(alloc: Global, row: &Row) -> Result<Vec<Item>, AllocError>
     ensures stand { IfOk result (λ items. All CanStand items.items) }
 {
     match row {
-        Row::Queue(queue) => queue_items(alloc, queue),
+        Row::Queue(queue) => queue_items(alloc, queue.get()),
         Row::Entry(entry) => entry_items(alloc, &entry.entry()),
         Row::Form(form) => form_items(alloc, form),
         Row::Characteristic(one) => characteristic_items(alloc, &one.name, one.number),

@@ -2,9 +2,9 @@
 use qm_history::{Answer, Why};
 use qm_item::write_items;
 use qm_kinds::{
-    Act, Characteristic, CharacteristicSet, Duty, Entry, EntryState, FileName, Form, JobKind,
-    JobRetain, ListedEntry, Listing, Mark, Moment, Name, ParseKind, Queue, QueueKind, QueueRetain,
-    QueueState, Refusal, Reply, Row, Seq, Shape, Start, batch_queue,
+    Act, Boxed, Characteristic, CharacteristicSet, Duty, Entry, EntryState, FileName, Form,
+    JobKind, JobRetain, ListedEntry, Listing, Mark, Moment, Name, ParseKind, Queue, QueueKind,
+    QueueRetain, QueueState, Refusal, Reply, Row, Seq, Shape, Start, batch_queue,
 };
 use qm_plans::push_line;
 use qm_show::show_answer;
@@ -17,8 +17,13 @@ fn name(text: &[u8]) -> Name {
 }
 
 // A started queue, on a device of a node with a form, or on a node, or on none.
-fn queue(alloc: Global, queue: &[u8], kind: QueueKind, node: Option<Name>) -> Row {
-    Row::Queue(Queue {
+fn queue(
+    alloc: Global,
+    queue: &[u8],
+    kind: QueueKind,
+    node: Option<Name>,
+) -> Result<Row, AllocError> {
+    let queue = Queue {
         name: name(queue),
         kind,
         state: QueueState::Started,
@@ -32,7 +37,8 @@ fn queue(alloc: Global, queue: &[u8], kind: QueueKind, node: Option<Name>) -> Ro
         by_size: false,
         retain: QueueRetain::Nothing,
         targets: Seq::new(alloc),
-    })
+    };
+    Ok(Row::Queue(Boxed::new(alloc, queue)?))
 }
 
 fn no_mark() -> Mark {
@@ -149,7 +155,7 @@ fn waiting() -> [Case; 2] {
 // The row of a case.
 fn row(alloc: Global, case: &Case) -> Result<Row, AllocError> {
     match case {
-        Case::Queue(text, kind, node) => Ok(queue(alloc, text, *kind, *node)),
+        Case::Queue(text, kind, node) => queue(alloc, text, *kind, *node),
         Case::Entry(entry) => Ok(Row::Entry(ListedEntry::of(alloc, entry)?)),
         Case::Letter => Ok(letter()),
         Case::Duplex => Ok(duplex()),
