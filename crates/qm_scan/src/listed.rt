@@ -72,8 +72,8 @@ pub(crate) fn is_entry_listed(query: &Query, queue: &Option<Name>, entry: &Entry
     stands_there(queue, entry) && is_of_user(query, entry) && is_named(&query.pattern, &entry.name)
 }
 
-/// Whether an entry is listed among those of a queue, and has it as its home. That is asked first, and of most entries nothing else: an
-/// entry's home lies beside its number, and its state far behind.
+/// Whether an entry is listed among those of a queue, and has it as its home. That is asked first, and of most entries nothing else: a
+/// walk to the next entry of a queue passes by those of all others.
 pub(crate) fn is_listed_at_home(query: &Query, queue: &Name, entry: &Entry) -> bool
     ensures { result ≡ is_listed_at_home query.now queue.now entry.now }
 {
