@@ -5,7 +5,8 @@
  *   rows WAY COUNT
  *
  * COUNT entries are listed over and over, about a million rows in all. WAY is how their rows are made before they are printed: `copy`,
- * as rows of their own; `share`, as pointers with a count in the entry; `none`, printed where the entries are. Prints the nanoseconds
+ * as rows of their own; `pack`, as such rows with names in 16 bytes each; `share`, as pointers with a count in the entry; `none`,
+ * printed where the entries are. Prints the nanoseconds
  * of a row in the quickest listing and on an average. Build it with -O2.
  */
 #include <stdatomic.h>
@@ -16,7 +17,7 @@
 #include <time.h>
 
 enum { QUEUES = 255, LINE = 80, ROWS = 1000000 };
-enum way { COPY, SHARE, NONE };
+enum way { COPY, PACK, SHARE, NONE };
 
 struct name {
 	uint8_t length;
@@ -30,6 +31,19 @@ struct job {
 	char file[48];
 	uint64_t state[12];
 	uint64_t others[8];
+};
+
+struct short_name {
+	uint8_t length;
+	char bytes[15];
+};
+
+/* The same in less room. */
+struct packed {
+	uint32_t number, size;
+	struct short_name home, name, user, file, form;
+	uint64_t state[3];
+	uint64_t others[5];
 };
 
 struct entry {
@@ -77,22 +91,41 @@ static char *put_number(char *at, uint32_t number, int width)
 	return at;
 }
 
-static char *put_name(char *at, const struct name *name, int width)
+static char *put_name(char *at, const char *bytes, int length, int width)
 {
-	memcpy(at, name->bytes, name->length);
-	memset(at + name->length, ' ', width - name->length + 1);
+	memcpy(at, bytes, length);
+	memset(at + length, ' ', width - length + 1);
 	return at + width + 1;
 }
 
-static char *put_line(char *at, const struct job *job)
+/* A line of a row of any form that has these fields. */
+#define PUT_LINE(at, row) \
+	do { \
+		memcpy(at, "A 1: ", 5); \
+		at = put_number(at + 5, (row)->number, 6); \
+		at = put_name(at, (row)->name.bytes, (row)->name.length, 16); \
+		at = put_name(at, (row)->user.bytes, (row)->user.length, 12); \
+		at = put_number(at, (row)->size, 8); \
+		memcpy(at, (row)->state[0] == 0 ? "pending\n" : "holding\n", 8); \
+		at += 8; \
+	} while (0)
+
+static struct short_name shortened(const struct name *name)
 {
-	memcpy(at, "A 1: ", 5);
-	at = put_number(at + 5, job->number, 6);
-	at = put_name(at, &job->name, 16);
-	at = put_name(at, &job->user, 12);
-	at = put_number(at, job->size, 8);
-	memcpy(at, job->state[0] == 0 ? "pending\n" : "holding\n", 8);
-	return at + 8;
+	struct short_name result = { .length = name->length };
+
+	memcpy(result.bytes, name->bytes, sizeof result.bytes);
+	return result;
+}
+
+static struct packed pack(const struct job *job)
+{
+	struct packed packed = { .number = job->number, .size = job->size, .home = shortened(&job->home), .name = shortened(&job->name), .user = shortened(&job->user) };
+
+	memcpy(&packed.file, job->file, sizeof packed.file);
+	memcpy(packed.state, job->state, sizeof packed.state);
+	memcpy(packed.others, job->others, sizeof packed.others);
+	return packed;
 }
 
 /* Puts each entry into the group of its queue. */
@@ -111,6 +144,7 @@ static void fill(struct group *groups, struct entry **entries, size_t count)
 static char *list(enum way way, const struct group *groups, size_t count, char *at)
 {
 	struct job *rows = way == COPY ? got(malloc(count * sizeof *rows)) : NULL;
+	struct packed *packed = way == PACK ? got(malloc(count * sizeof *packed)) : NULL;
 	struct entry **shared = way == SHARE ? got(malloc(count * sizeof *shared)) : NULL;
 	size_t made = 0;
 
@@ -120,32 +154,39 @@ static char *list(enum way way, const struct group *groups, size_t count, char *
 
 			if (way == COPY) {
 				rows[made++] = entry->job;
+			} else if (way == PACK) {
+				packed[made++] = pack(&entry->job);
 			} else if (way == SHARE) {
 				entry->rows++;
 				shared[made++] = entry;
 			} else {
-				at = put_line(at, &entry->job);
+				PUT_LINE(at, &entry->job);
 			}
 		}
-	for (size_t i = 0; i < made; i++)
-		at = put_line(at, way == COPY ? &rows[i] : &shared[i]->job);
+	for (size_t i = 0; way == COPY && i < made; i++)
+		PUT_LINE(at, &rows[i]);
+	for (size_t i = 0; way == PACK && i < made; i++)
+		PUT_LINE(at, &packed[i]);
+	for (size_t i = 0; way == SHARE && i < made; i++)
+		PUT_LINE(at, &shared[i]->job);
 	for (size_t i = 0; way == SHARE && i < made; i++)
 		shared[i]->rows--;
 	free(rows);
+	free(packed);
 	free(shared);
 	return at;
 }
 
 int main(int words, char **word)
 {
-	static const char *const ways[] = { "copy", "share", "none" };
+	static const char *const ways[] = { "copy", "pack", "share", "none" };
 	enum way way = COPY;
 	size_t count = words == 3 ? strtoul(word[2], NULL, 10) : 0;
 
 	while (words == 3 && way <= NONE && strcmp(word[1], ways[way]) != 0)
 		way++;
 	if (words != 3 || way > NONE || count == 0 || count > ROWS) {
-		fputs("rows copy|share|none COUNT\n", stderr);
+		fputs("rows copy|pack|share|none COUNT\n", stderr);
 		return 2;
 	}
 	struct entry **entries = got(malloc(count * sizeof *entries));
