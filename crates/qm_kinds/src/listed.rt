@@ -8,8 +8,8 @@ use crate::plain::PlainEntry;
 use std::alloc::{AllocError, Global};
 use std::marker::Model;
 
-/// An entry as the row of a listing. Contracts see the entry. Where its job doesn't run, has short names and no setting that is rare, the
-/// row takes a quarter of what the entry would, and no memory; else the entry stands in memory of its own.
+/// An entry as the row of a listing. Contracts see the entry. Where its job doesn't run and has nothing that is rare, the row takes a third
+/// of what the entry would, and no memory; else the entry stands in memory of its own.
 #[derive(Drop)]
 pub struct ListedEntry {
     kept: Kept,
@@ -40,7 +40,7 @@ fn text_of(name: &Name) -> &str
 }
 
 impl ListedEntry {
-    /// The row of an entry.
+    /// The row of an entry. It takes memory for one that isn't plain.
     pub fn of(alloc: Global, entry: &Entry) -> Result<ListedEntry, AllocError>
         ensures { IfOk result (λ listed. listed ≡ entry.now) }
     {

@@ -19,17 +19,18 @@ pub(crate) enum PlainState {
     Retained { status: u32, until: Option<Moment> },
 }
 
-/// An entry whose job doesn't run, under short names, that asks for no characteristics, has no mark, and is kept as its queue says.
+/// An entry whose job doesn't run, that asks for no characteristics, has no mark, and is kept as its queue says. Names of jobs and of files
+/// have all the room that they may take, and so have those of queues; users, forms and extensions have what they take in most sites.
 #[derive(Drop)]
 pub(crate) struct PlainEntry {
     pub(crate) after: Option<Moment>,
     pub(crate) state: PlainState,
     pub(crate) number: u32,
     pub(crate) size: u32,
-    pub(crate) home: CompactName<15>,
-    pub(crate) name: CompactName<15>,
+    pub(crate) home: CompactName<31>,
+    pub(crate) name: CompactName<39>,
     pub(crate) user: CompactName<15>,
-    pub(crate) file: CompactName<15>,
+    pub(crate) file: CompactName<39>,
     pub(crate) extension: Option<CompactName<7>>,
     pub(crate) form: Option<CompactName<15>>,
     pub(crate) kind: JobKind,

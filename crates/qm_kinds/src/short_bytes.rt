@@ -9,8 +9,8 @@ use std::marker::Model;
 /// At most `CAP` bytes, and at most 255.
 #[derive(Clone, Copy)]
 pub(crate) struct ShortBytes<const CAP: usize> {
-    bytes: [u8; CAP],
     size: u8,
+    bytes: [u8; CAP],
 }
 
 impl<const CAP: usize> Model for ShortBytes<CAP> {
