@@ -40,17 +40,30 @@ fn request_of(
             entry: s.entry?,
             change: entry_change_of(&s.job, s.queue, lists.characteristics),
         },
-        Command::DeleteEntry => Request::DeleteEntry { entry: s.entry? },
-        Command::DefineForm => Request::DefineForm(form_of(definition)?),
+        Command::DeleteEntry => {
+            drop(lists);
+            Request::DeleteEntry { entry: s.entry? }
+        }
+        Command::DefineForm => {
+            drop(lists);
+            Request::DefineForm(form_of(definition)?)
+        }
         Command::DefineCharacteristic => {
+            drop(lists);
             Request::DefineCharacteristic(characteristic_of(definition)?)
         }
-        Command::DeleteForm => Request::DeleteForm {
-            name: definition.name?,
-        },
-        Command::DeleteCharacteristic => Request::DeleteCharacteristic {
-            name: definition.name?,
-        },
+        Command::DeleteForm => {
+            drop(lists);
+            Request::DeleteForm {
+                name: definition.name?,
+            }
+        }
+        Command::DeleteCharacteristic => {
+            drop(lists);
+            Request::DeleteCharacteristic {
+                name: definition.name?,
+            }
+        }
         _ => queue_request(alloc, s.queue?, command, s, lists)?,
     };
     Some(request)
