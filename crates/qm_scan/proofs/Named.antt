@@ -1,5 +1,5 @@
 -- What the place of a name says of each queue.
-use Rattle.std.proofs.Common.{◌≡◌, ◌∙◌, ℕ, ◌==◌, ◌<◌, true, false, inl, inr, List, length, get_or, Some, refl, sym, ap, arith}
+use Rattle.std.proofs.Common.{◌≡◌, ◌∙◌, ℕ, ◌==◌, ◌<◌, true, false, inl, inr, List, length, get_or, Some, Ok, refl, sym, ap, arith}
 use Rattle.std.specs.List.{slice_get}
 use Rattle.std.specs.Ordering.{is_eq, ordering_reverse}
 use Rattle.std.specs.Str.{bytes_eq}
@@ -11,8 +11,10 @@ use Rattle.std.proofs.lemmas.Cmp.{nat_list_cmp_total}
 use Rattle.std.proofs.lemmas.Map.Text.{is_eq-slice_cmp}
 use Rattle.std.proofs.lemmas.Option.{slice_get_cases, get_or_from_slice_get}
 use Rattle.qm_kinds.specs.declared.queue.Queue.{Queue}
+use Rattle.qm_model.specs.Consistent.{IsInOrder}
 use Rattle.qm_model.specs.Find.{name_cmp}
 use Rattle.qm_keyed.specs.Places.{StandsAt, BelongsAt}
+use Rattle.qm_keyed.proofs.Searches.{place_from_search}
 
 name_of : Queue → List ℕ
 name_of q = q.name
@@ -66,3 +68,17 @@ module _ (queues : List Queue) (name : List ℕ) (k : ℕ) (q : Queue) (there : 
     | inl less ↦ told Less (belongs.before k q (omega arith) less)
     | inr more ↦ told Greater (belongs.behind k q (omega (arith, more)) (place_within queues k q there))
   ]
+
+is_equal : (o : Ordering) → is_eq o ≡ true → o ≡ Equal
+is_equal Less is = let clash : false ≡ true = is in cc
+is_equal Equal is = refl
+is_equal Greater is = let clash : false ≡ true = is in cc
+
+-- where the queue of a name is found, each other queue has another name
+module _ (queues : List Queue) (name : List ℕ) (order : IsInOrder name_cmp (λ (p : Queue). p.name) queues) (i : ℕ) (within : i < length queues)
+    (found : (d : Queue) → bytes_eq (get_or queues i d).name name ≡ true) where
+  equal : (d : Queue) → name_cmp (get_or queues i d).name name ≡ Equal
+  equal d = is_equal (name_cmp (get_or queues i d).name name) (is_eq-slice_cmp (get_or queues i d).name name ∙ found d)
+
+  pub named_at : (k : ℕ) (q : Queue) → slice_get queues k ≡ Some q → bytes_eq name q.name ≡ (k == i)
+  named_at k q there = named_there queues name k q there i (place_from_search nat_list_cmp_total (λ (p : Queue). p.name) name queues order (Ok i) within equal)

@@ -31,10 +31,11 @@ is_below q queue e = stands_there queue.name e && is_of_user q.user e
 abbrev pub rows_below : Query → List Entry → Queue → List Row
 rows_below q entries queue = row.Queue queue ∷ map (λ e. row.Entry e) (filter (is_below q queue) entries)
 
--- of each queue the entries of a list that are listed below it
-abbrev pub AreBelow : Query → List Queue → List Entry → List (List Entry) → Type 0
+-- of each queue that is listed the rows of the entries of a list that are listed below it
+abbrev pub AreBelow : Query → List Queue → List Entry → List (List Row) → Type 0
 AreBelow q queues entries groups =
-    (place : ℕ) (queue : Queue) → slice_get queues place ≡ Some queue → slice_index_or groups place [] ≡ filter (is_below q queue) entries
+    (place : ℕ) (queue : Queue) → slice_get queues place ≡ Some queue → is_queue_listed q queue ≡ true
+        → slice_index_or groups place [] ≡ map (λ e. row.Entry e) (filter (is_below q queue) entries)
 
 -- the row stands behind the one that was given last, if one was
 abbrev pub is_behind : Option After → Row → Bool

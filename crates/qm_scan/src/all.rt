@@ -12,6 +12,7 @@ ghost use Rattle.qm_sched.specs.Tables.{with_tables};
 ghost use Rattle.qm_scan.specs.Listed.{AreBelow, is_entry_listed, is_queue_listed, rows_below};
 
 use crate::below::groups_below;
+use crate::group::Group;
 use crate::lent::Lent;
 use crate::listed::{is_entry_listed, is_named, is_queue_listed};
 use qm_kinds::{
@@ -43,7 +44,7 @@ pub(crate) fn copy_of(alloc: Global, queue: &Queue) -> Result<Boxed<Queue>, Allo
 }
 
 // How many rows the listed queues have, with those below them.
-fn count_rows(query: &Query, queues: &[Queue], groups: &[Lent<'_>]) -> usize
+fn count_rows(query: &Query, queues: &[Queue], groups: &[Group]) -> usize
     requires { length groups.now ≡ length queues.now }
 {
     let mut count = 0usize;
@@ -61,16 +62,15 @@ fn push_queue(
     query: &Query,
     rows: &mut Vec<Row>,
     queue: &Queue,
-    below: &Lent<'_>,
+    below: &mut Group,
 ) -> Result<(), AllocError>
-    ensures { OnOk result (rows.new.items
-        ≡ rows.old.items ++ (if is_queue_listed query.now queue.now then row.Queue queue.now ∷ map (λ e. row.Entry e) below.now else [])) }
+    ensures { OnOk result (rows.new.items ≡ rows.old.items ++ (if is_queue_listed query.now queue.now then row.Queue queue.now ∷ below.old else [])) }
 {
     if !is_queue_listed(query, queue) {
         return Ok(());
     }
     rows.push(Row::Queue(copy_of(alloc, queue)?))?;
-    below.push_rows(alloc, rows)
+    below.move_to(rows)
 }
 
 // The rows of the listed queues, below each the entries of its group.
@@ -78,15 +78,15 @@ fn grouped_rows(
     alloc: Global,
     query: &Query,
     queues: &[Queue],
-    groups: &[Lent<'_>],
+    groups: &mut [Group],
 ) -> Result<Vec<Row>, AllocError>
-    requires { length groups.now ≡ length queues.now }
-    ensures { (entries : List AnyEntry) → AreBelow query.now queues.now entries groups.now → IfOk result (λ rows. rows.items
+    requires { length groups.old ≡ length queues.now }
+    ensures { (entries : List AnyEntry) → AreBelow query.now queues.now entries groups.old → IfOk result (λ rows. rows.items
         ≡ flat_map (rows_below query.now entries) (filter (is_queue_listed query.now) queues.now)) }
 {
     let mut rows = Vec::with_capacity(alloc, count_rows(query, queues, groups))?;
     for place in 0..queues.len() {
-        push_queue(alloc, query, &mut rows, &queues[place], &groups[place])?;
+        push_queue(alloc, query, &mut rows, &queues[place], &mut groups[place])?;
     }
     Ok(rows)
 }
@@ -97,13 +97,14 @@ fn queue_rows(
     query: &Query,
     queues: &[Queue],
     entries: &[Box<Entry>],
+    tags: &[u16],
 ) -> Result<Vec<Row>, AllocError>
     requires { IsInOrder name_cmp (λ q. q.name) queues.now }
     ensures { IfOk result (λ rows. rows.items
         ≡ flat_map (rows_below query.now (contents entries.now)) (filter (is_queue_listed query.now) queues.now)) }
 {
-    let groups = groups_below(alloc, queues, query, entries)?;
-    grouped_rows(alloc, query, queues, &groups)
+    let mut groups = groups_below(alloc, queues, query, entries, tags)?;
+    grouped_rows(alloc, query, queues, &mut groups)
 }
 
 // Puts an entry behind the others, if it is listed.
@@ -192,7 +193,13 @@ pub fn all_rows(alloc: Global, parts: &Parts, query: &Query) -> Result<Vec<Row>,
     ensures { (s : System) → IfOk result (λ rows. rows.items ≡ all_rows (with_tables s parts.now) query.now query.now.listing) }
 {
     match query.listing {
-        Listing::Queues => queue_rows(alloc, query, parts.queues(), parts.entries()),
+        Listing::Queues => queue_rows(
+            alloc,
+            query,
+            parts.queues(),
+            parts.entries(),
+            parts.tags(),
+        ),
         Listing::Jobs => entry_rows(alloc, query, &query.queue, parts.entries()),
         Listing::Entries => entry_rows(alloc, query, &None, parts.entries()),
         Listing::Forms => form_rows(alloc, &query.pattern, parts.forms()),

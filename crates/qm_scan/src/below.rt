@@ -1,17 +1,38 @@
-// The entries below each queue of a listing.
-ghost use Rattle.std.specs.Prelude.{◌≡◌, ◌++◌, ◌∷◌, ◌<◌, [], ℕ, length, slice_get, slice_set, slice_index_or, Some, if◌then◌else◌, IfOk, IfSome, OnOk};
+// The rows below each queue of a listing.
+ghost use Rattle.std.specs.Prelude.{◌≡◌, ◌++◌, ◌∷◌, ◌<◌, [], ℕ, length, slice_get, slice_set, slice_index_or, map, true, Some, if◌then◌else◌, IfOk, IfSome, IsTrue, OnOk};
 ghost use Rattle.std.specs.Str.{bytes_eq};
 ghost use Rattle.qm_entries.specs.Boxed.{contents};
+ghost use Rattle.qm_kinds.specs.declared.query.Row.TheVariants as row;
 ghost use Rattle.qm_kinds.specs.declared.queue.Queue.{Queue as AnyQueue};
 ghost use Rattle.qm_model.specs.Consistent.{IsInOrder};
 ghost use Rattle.qm_model.specs.Find.{name_cmp};
-ghost use Rattle.qm_scan.specs.Listed.{AreBelow, is_below, is_place};
+ghost use Rattle.qm_scan.specs.Listed.{AreBelow, is_below, is_place, is_queue_listed};
 
-use crate::lent::Lent;
-use crate::listed::{is_of_user, stands_in};
+use crate::group::Group;
+use crate::listed::{is_of_user, is_queue_listed, stands_in};
+use qm_entries::home_tag;
 use qm_keyed::place_of;
 use qm_kinds::{Entry, Name, Query, Queue};
 use std::alloc::{AllocError, Global};
+
+// So many names can be told apart by what their tags leave when they are divided by it.
+const SLOTS: usize = 2048;
+
+// The slot of a tag.
+fn slot_of(tag: u16) -> usize
+    ensures { result < SLOTS }
+{
+    usize::from(tag) % SLOTS
+}
+
+// Whether the queue of a name stands at a place.
+fn is_there(queues: &[Queue], name: &Name, place: usize) -> bool
+    requires { IsInOrder name_cmp (λ q. q.name) queues.now }
+    ensures within { IsTrue result → place < length queues.now }
+    ensures named { IsTrue result → (there : ℕ) (queue : AnyQueue) → slice_get queues.now there ≡ Some queue → bytes_eq name.now queue.name ≡ is_place there (Some place) }
+{
+    place < queues.len() && queues[place].name == *name
+}
 
 // The place of the queue of a name, if there is one. It asks a logarithm of the queues.
 fn place_named(queues: &[Queue], name: &Name) -> Option<usize>
@@ -25,63 +46,163 @@ fn place_named(queues: &[Queue], name: &Name) -> Option<usize>
     }
 }
 
-// Puts an entry behind the others of a group.
-fn put_in<'a>(groups: &mut Vec<Lent<'a>>, place: usize, entry: &'a Entry) -> Result<(), AllocError>
-    requires { place < length groups.old.items }
-    ensures count { length groups.new.items ≡ length groups.old.items }
-    ensures put { OnOk result (groups.new.items ≡ slice_set groups.old.items place (slice_index_or groups.old.items place [] ++ entry.now ∷ [])) }
+// The same, where the place at which a name in the same slot was found last is tried first. Where it is the right one, as for most
+// entries, no search waits for the entry's name to come from memory.
+fn place_tried(
+    queues: &[Queue],
+    name: &Name,
+    tried: &mut [usize; SLOTS],
+    slot: usize,
+) -> Option<usize>
+    requires in_order { IsInOrder name_cmp (λ q. q.name) queues.now }
+    requires slot { slot < SLOTS }
+    ensures within { IfSome result (λ place. place < length queues.now) }
+    ensures named { (place : ℕ) (queue : AnyQueue) → slice_get queues.now place ≡ Some queue → bytes_eq name.now queue.name ≡ is_place place result }
 {
-    groups[place].push(entry)
+    let place = tried[slot];
+    if is_there(queues, name, place) {
+        return Some(place);
+    }
+    let found = place_named(queues, name);
+    if let Some(place) = found {
+        tried[slot] = place;
+    }
+    found
 }
 
-// Puts an entry below the queue in which it stands, if it is listed there.
-fn put_below<'a>(
+// Puts the row of an entry behind the others of a group.
+fn put_in(
+    alloc: Global,
+    groups: &mut Vec<Group>,
+    place: usize,
+    entry: &Entry,
+) -> Result<(), AllocError>
+    requires { place < length groups.old.items }
+    ensures count { length groups.new.items ≡ length groups.old.items }
+    ensures put { OnOk result (groups.new.items ≡ slice_set groups.old.items place (slice_index_or groups.old.items place [] ++ row.Entry entry.now ∷ [])) }
+{
+    groups[place].push(alloc, entry)
+}
+
+// Puts the row of an entry below the queue in which it stands, if it is listed there and the queue is listed.
+fn put_below(
+    alloc: Global,
     queues: &[Queue],
     query: &Query,
-    groups: &mut Vec<Lent<'a>>,
-    entry: &'a Entry,
+    shown: &[bool],
+    groups: &mut Vec<Group>,
+    entry: &Entry,
+    tried: &mut [usize; SLOTS],
+    slot: usize,
 ) -> Result<(), AllocError>
     requires in_order { IsInOrder name_cmp (λ q. q.name) queues.now }
+    requires shown { shown.now ≡ map (is_queue_listed query.now) queues.now }
     requires count { length groups.old.items ≡ length queues.now }
+    requires slot { slot < SLOTS }
     ensures count { length groups.new.items ≡ length queues.now }
-    ensures put { OnOk result ((place : ℕ) (queue : AnyQueue) → slice_get queues.now place ≡ Some queue → slice_index_or groups.new.items place []
-        ≡ slice_index_or groups.old.items place [] ++ (if is_below query.now queue entry.now then entry.now ∷ [] else [])) }
+    ensures put { OnOk result ((place : ℕ) (queue : AnyQueue) → slice_get queues.now place ≡ Some queue → is_queue_listed query.now queue ≡ true
+        → slice_index_or groups.new.items place []
+            ≡ slice_index_or groups.old.items place [] ++ (if is_below query.now queue entry.now then row.Entry entry.now ∷ [] else [])) }
 {
     if !is_of_user(query, entry) {
         return Ok(());
     }
-    match place_named(queues, stands_in(entry)) {
+    match place_tried(queues, stands_in(entry), tried, slot) {
         None => Ok(()),
-        Some(place) => put_in(groups, place, entry),
+        Some(place) => {
+            if shown[place] {
+                put_in(alloc, groups, place, entry)
+            } else {
+                Ok(())
+            }
+        }
     }
 }
 
-// So many groups with no entry.
-fn empty_groups<'a>(alloc: Global, count: usize) -> Result<Vec<Lent<'a>>, AllocError>
-    ensures count { IfOk result (λ groups. length groups.items ≡ count) }
+// Which queues are listed.
+fn shown_queues(alloc: Global, queues: &[Queue], query: &Query) -> Result<Vec<bool>, AllocError>
+    ensures { IfOk result (λ shown. shown.items ≡ map (is_queue_listed query.now) queues.now) }
+{
+    let mut shown = Vec::with_capacity(alloc, queues.len())?;
+    for queue in queues {
+        shown.push(is_queue_listed(query, queue))?;
+    }
+    Ok(shown)
+}
+
+// How many tags are in each slot.
+fn counts_of(tags: &[u16]) -> [usize; SLOTS] {
+    let mut counts = [0usize; SLOTS];
+    for tag in tags {
+        let slot = slot_of(*tag);
+        counts[slot] = counts[slot].saturating_add(1);
+    }
+    counts
+}
+
+// A group with no row for each queue. Those of queues that are listed have room for as many entries as there are whose homes' tags are in
+// the slot of the queue's: these are its own entries, but for those that run elsewhere and some queues whose tags fall together.
+fn empty_groups(
+    alloc: Global,
+    queues: &[Queue],
+    shown: &[bool],
+    tags: &[u16],
+) -> Result<Vec<Group>, AllocError>
+    requires { length shown.now ≡ length queues.now }
+    ensures count { IfOk result (λ groups. length groups.items ≡ length queues.now) }
     ensures empty { IfOk result (λ groups. (place : ℕ) → slice_index_or groups.items place [] ≡ []) }
 {
-    let mut groups = Vec::with_capacity(alloc, count)?;
-    for _ in 0..count {
-        groups.push(Lent::new(alloc))?;
+    let counts = counts_of(tags);
+    let mut groups = Vec::with_capacity(alloc, queues.len())?;
+    for place in 0..queues.len() {
+        let slot = slot_of(home_tag(&queues[place].name));
+        let room = if shown[place] { counts[slot] } else { 0 };
+        groups.push(Group::new(alloc, room)?)?;
     }
     Ok(groups)
 }
 
-/// The entries that are listed below each queue. Each entry is looked at once, for which it asks a logarithm of the queues.
-pub(crate) fn groups_below<'a>(
+// The slot of the tag at a place.
+fn slot_at(tags: &[u16], place: usize) -> usize
+    ensures { result < SLOTS }
+{
+    match tags.get(place) {
+        None => 0,
+        Some(tag) => slot_of(*tag),
+    }
+}
+
+/// The rows of the entries that are listed below each queue that is listed. Each entry is looked at once, in order, so that memory is read
+/// in order too; for its queue it asks at most a logarithm of the queues. The tags of the entries' homes tell how much room is wanted, and
+/// where to look first.
+pub(crate) fn groups_below(
     alloc: Global,
     queues: &[Queue],
     query: &Query,
-    entries: &'a [Box<Entry>],
-) -> Result<Vec<Lent<'a>>, AllocError>
+    entries: &[Box<Entry>],
+    tags: &[u16],
+) -> Result<Vec<Group>, AllocError>
     requires { IsInOrder name_cmp (λ q. q.name) queues.now }
     ensures count { IfOk result (λ groups. length groups.items ≡ length queues.now) }
     ensures below { IfOk result (λ groups. AreBelow query.now queues.now (contents entries.now) groups.items) }
 {
-    let mut groups = empty_groups(alloc, queues.len())?;
+    let shown = shown_queues(alloc, queues, query)?;
+    let mut groups = empty_groups(alloc, queues, &shown, tags)?;
+    let mut tried = [0usize; SLOTS];
+    let mut place = 0usize;
     for boxed in entries {
-        put_below(queues, query, &mut groups, boxed.as_ref())?;
+        let slot = slot_at(tags, place);
+        put_below(
+            alloc,
+            queues,
+            query,
+            &shown,
+            &mut groups,
+            boxed.as_ref(),
+            &mut tried,
+            slot,
+        )?;
+        place = place.wrapping_add(1);
     }
     Ok(groups)
 }

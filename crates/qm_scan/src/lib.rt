@@ -4,6 +4,7 @@
 
 mod all;
 mod below;
+mod group;
 mod laws;
 mod lent;
 mod listed;
