@@ -35,7 +35,7 @@ rows_below q entries queue = row.Queue queue ∷ map (λ e. row.Entry e) (filter
 abbrev pub AreBelow : Query → List Queue → List Entry → List (List Row) → Type 0
 AreBelow q queues entries groups =
     (place : ℕ) (queue : Queue) → slice_get queues place ≡ Some queue → is_queue_listed q queue ≡ true
-        → slice_index_or groups place [] ≡ map (λ e. row.Entry e) (filter (is_below q queue) entries)
+    → slice_index_or groups place [] ≡ map (λ e. row.Entry e) (filter (is_below q queue) entries)
 
 -- the row stands behind the one that was given last, if one was
 abbrev pub is_behind : Option After → Row → Bool

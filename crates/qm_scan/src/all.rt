@@ -13,10 +13,9 @@ ghost use Rattle.qm_scan.specs.Listed.{AreBelow, is_entry_listed, is_queue_liste
 
 use crate::below::groups_below;
 use crate::group::Group;
-use crate::lent::Lent;
 use crate::listed::{is_entry_listed, is_named, is_queue_listed};
 use qm_kinds::{
-    Boxed, Characteristic, Entry, Form, Listing, Name, Pattern, Query, Queue, Row, Seq,
+    Boxed, Characteristic, Entry, Form, ListedEntry, Listing, Name, Pattern, Query, Queue, Row, Seq,
 };
 use qm_sched::Parts;
 use std::alloc::{AllocError, Global};
@@ -107,38 +106,30 @@ fn queue_rows(
     grouped_rows(alloc, query, queues, &mut groups)
 }
 
-// Puts an entry behind the others, if it is listed.
-fn push_listed<'a>(
+// Whether all entries are listed.
+fn are_all_listed(query: &Query, queue: &Option<Name>) -> bool {
+    queue.is_none() && query.user.is_none() && query.pattern.as_bytes() == b"*".as_slice()
+}
+
+// Puts the row of an entry behind the others, if it is listed.
+fn push_listed(
+    alloc: Global,
     query: &Query,
     queue: &Option<Name>,
-    listed: &mut Lent<'a>,
-    entry: &'a Entry,
+    rows: &mut Vec<Row>,
+    entry: &Entry,
 ) -> Result<(), AllocError>
-    ensures { OnOk result (listed.new ≡ listed.old ++ (if is_entry_listed query.now queue.now entry.now then entry.now ∷ [] else [])) }
+    ensures { OnOk result (rows.new.items
+        ≡ rows.old.items ++ (if is_entry_listed query.now queue.now entry.now then row.Entry entry.now ∷ [] else [])) }
 {
     if !is_entry_listed(query, queue, entry) {
         return Ok(());
     }
-    listed.push(entry)
+    rows.push(Row::Entry(ListedEntry::of(alloc, entry)?))?;
+    Ok(())
 }
 
-// The entries that are listed, of all queues or of one. It looks at each entry once.
-fn listed_entries<'a>(
-    alloc: Global,
-    query: &Query,
-    queue: &Option<Name>,
-    entries: &'a [Box<Entry>],
-) -> Result<Lent<'a>, AllocError>
-    ensures { IfOk result (λ listed. listed ≡ filter (is_entry_listed query.now queue.now) (contents entries.now)) }
-{
-    let mut listed = Lent::new(alloc);
-    for boxed in entries {
-        push_listed(query, queue, &mut listed, boxed.as_ref())?;
-    }
-    Ok(listed)
-}
-
-// The rows of the entries that are listed, of all queues or of one.
+// The rows of the entries that are listed, of all queues or of one. Where all are, their room is taken at once.
 fn entry_rows(
     alloc: Global,
     query: &Query,
@@ -147,9 +138,15 @@ fn entry_rows(
 ) -> Result<Vec<Row>, AllocError>
     ensures { IfOk result (λ rows. rows.items ≡ map (λ e. row.Entry e) (filter (is_entry_listed query.now queue.now) (contents entries.now))) }
 {
-    let listed = listed_entries(alloc, query, queue, entries)?;
-    let mut rows = Vec::with_capacity(alloc, listed.len())?;
-    listed.push_rows(alloc, &mut rows)?;
+    let room = if are_all_listed(query, queue) {
+        entries.len()
+    } else {
+        0
+    };
+    let mut rows = Vec::with_capacity(alloc, room)?;
+    for boxed in entries {
+        push_listed(alloc, query, queue, &mut rows, boxed.as_ref())?;
+    }
     Ok(rows)
 }
 
@@ -187,19 +184,13 @@ fn characteristic_rows(
 /// All rows of a listing but those of the queue manager: of queues each with the entries below it, and of entries, forms and
 /// characteristics those that are listed. Below a queue its entries stand by number.
 ///
-/// It walks over the entries once, and takes memory for each row and for each entry that is listed: no more than 1 KiB a row, and
-/// what the names of a generic queue's targets take.
+/// It walks over the entries once, in order, and takes memory for each row, below queues for a while twice: no more than 1 KiB a row, and what
+/// the names of a generic queue's targets take.
 pub fn all_rows(alloc: Global, parts: &Parts, query: &Query) -> Result<Vec<Row>, AllocError>
     ensures { (s : System) → IfOk result (λ rows. rows.items ≡ all_rows (with_tables s parts.now) query.now query.now.listing) }
 {
     match query.listing {
-        Listing::Queues => queue_rows(
-            alloc,
-            query,
-            parts.queues(),
-            parts.entries(),
-            parts.tags(),
-        ),
+        Listing::Queues => queue_rows(alloc, query, parts.queues(), parts.entries(), parts.tags()),
         Listing::Jobs => entry_rows(alloc, query, &query.queue, parts.entries()),
         Listing::Entries => entry_rows(alloc, query, &None, parts.entries()),
         Listing::Forms => form_rows(alloc, &query.pattern, parts.forms()),

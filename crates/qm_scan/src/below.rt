@@ -102,7 +102,7 @@ fn put_below(
     ensures count { length groups.new.items ≡ length queues.now }
     ensures put { OnOk result ((place : ℕ) (queue : AnyQueue) → slice_get queues.now place ≡ Some queue → is_queue_listed query.now queue ≡ true
         → slice_index_or groups.new.items place []
-            ≡ slice_index_or groups.old.items place [] ++ (if is_below query.now queue entry.now then row.Entry entry.now ∷ [] else [])) }
+        ≡ slice_index_or groups.old.items place [] ++ (if is_below query.now queue entry.now then row.Entry entry.now ∷ [] else [])) }
 {
     if !is_of_user(query, entry) {
         return Ok(());

@@ -6,7 +6,6 @@ mod all;
 mod below;
 mod group;
 mod laws;
-mod lent;
 mod listed;
 mod next;
 mod places;

@@ -1,8 +1,0 @@
-use Rattle.std.proofs.Common.{◌≡◌, take}
-use Rattle.std.specs.List.{filter}
-use Rattle.qm_entries.specs.Boxed.{contents}
-use Rattle.qm_scan.specs.Listed.{is_entry_listed}
-use Rattle.qm_scan.proofs.all.listed_entries.Given as goal
-
-abbrev pub invariant-loop-boxed : goal.invariant-loop-boxed
-invariant-loop-boxed l = l.listed ≡ filter (is_entry_listed l.query l.queue) (take l.boxed-index (contents l.entries))
