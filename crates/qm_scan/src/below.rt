@@ -173,8 +173,8 @@ fn slot_at(tags: &[u16], place: usize) -> usize
 }
 
 /// The rows of the entries that are listed below each queue that is listed. Each entry is looked at once, in order, so that memory is read
-/// in order too; for its queue it asks at most a logarithm of the queues. The tags of the entries' homes tell how much room is wanted, and
-/// where to look first.
+/// in order too; for its queue it asks at most a logarithm of the queues. The tags of the entries' homes tell how much room is wanted, where
+/// the entries aren't those of one user, and where to look first.
 pub(crate) fn groups_below(
     alloc: Global,
     queues: &[Queue],
@@ -187,7 +187,8 @@ pub(crate) fn groups_below(
     ensures below { IfOk result (λ groups. AreBelow query.now queues.now (contents entries.now) groups.items) }
 {
     let shown = shown_queues(alloc, queues, query)?;
-    let mut groups = empty_groups(alloc, queues, &shown, tags)?;
+    let counted: &[u16] = if query.user.is_none() { tags } else { &[] };
+    let mut groups = empty_groups(alloc, queues, &shown, counted)?;
     let mut tried = [0usize; SLOTS];
     let mut place = 0usize;
     for boxed in entries {
