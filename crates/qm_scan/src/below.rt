@@ -140,8 +140,8 @@ fn counts_of(tags: &[u16]) -> [usize; SLOTS] {
     counts
 }
 
-// A group with no row for each queue. Those of queues that are listed have room for as many entries as there are whose homes' tags are in
-// the slot of the queue's: these are its own entries, but for those that run elsewhere and some queues whose tags fall together.
+// A group with no row for each queue. The first listed one in each slot has room for all entries whose homes' tags are there, so that no
+// more is taken than for all entries: mostly these are its own. Groups with less room than they need grow.
 fn empty_groups(
     alloc: Global,
     queues: &[Queue],
@@ -152,11 +152,15 @@ fn empty_groups(
     ensures count { IfOk result (λ groups. length groups.items ≡ length queues.now) }
     ensures empty { IfOk result (λ groups. (place : ℕ) → slice_index_or groups.items place [] ≡ []) }
 {
-    let counts = counts_of(tags);
+    let mut counts = counts_of(tags);
     let mut groups = Vec::with_capacity(alloc, queues.len())?;
     for place in 0..queues.len() {
         let slot = slot_of(home_tag(&queues[place].name));
-        let room = if shown[place] { counts[slot] } else { 0 };
+        let mut room = 0;
+        if shown[place] {
+            room = counts[slot];
+            counts[slot] = 0;
+        }
         groups.push(Group::new(alloc, room)?)?;
     }
     Ok(groups)
