@@ -9,7 +9,7 @@ use qm_drive::DriveEnd;
 use qm_history::{Turn, Why};
 use qm_io::{Clock, MemorySink};
 use qm_kinds::{Moment, NODES_LIMIT, Name, Seq};
-use qm_nodes::{LeftText, MadeTurns, make_turns, print_all};
+use qm_program::{LeftText, MadeTurns, make_turns, print_all};
 use qm_script::UserLine;
 use qm_symb::{Device, MemoryDevice};
 use std::alloc::Global;

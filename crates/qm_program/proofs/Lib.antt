@@ -6,3 +6,20 @@ pub mod Listing
 pub mod NewSite
 pub mod Reasons
 pub mod Surviving
+mod Places
+mod Gathering
+mod Driven
+mod Together
+mod Writing
+mod Words
+mod Closing
+mod Sequences
+mod Numbers
+mod Whole
+mod AllTurns
+mod Naming
+mod Texts
+mod Worst
+mod Told
+mod ClusterServing
+mod Begun

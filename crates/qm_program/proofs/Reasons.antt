@@ -1,7 +1,7 @@
 -- What the serving of lines says of its end: by one thread, and by a thread for each node.
 use Rattle.std.proofs.Common.{ℕ, List, length}
-use Rattle.qm_cluster.specs.Serving.{ServesAtOnce}
-use Rattle.qm_cluster.specs.Serving as at_once
+use Rattle.qm_program.specs.ClusterServing.{ServesAtOnce}
+use Rattle.qm_program.specs.ClusterServing as at_once
 use Rattle.qm_disk.specs.Disk.{Meaning}
 use Rattle.qm_history.specs.Ends.{ServingEnd}
 use Rattle.qm_history.specs.Ends as serving

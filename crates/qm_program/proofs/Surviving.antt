@@ -2,8 +2,8 @@
 use Rattle.std.proofs.Common.{◌≡◌, ◌≢◌, ◌⊎◌, inl, inr, ⊎_elim, ℕ, List, [], ◌∷◌, ◌++◌, slice_get, Option, None, Some, Contains, IsTrue, option_to_list, sym, ◌∙◌, ap, subst}
 use Rattle.std.specs.List.{AllByRecursion}
 use Rattle.std.proofs.lemmas.List.Elements.{Contains-append_left}
-use Rattle.qm_cluster.specs.Serving.{ServesAtOnce}
-use Rattle.qm_cluster.specs.Serving as at_once
+use Rattle.qm_program.specs.ClusterServing.{ServesAtOnce}
+use Rattle.qm_program.specs.ClusterServing as at_once
 use Rattle.qm_course.specs.Asking.{read_built}
 use Rattle.qm_course.specs.Runs.{IsNodeOf, Side}
 use Rattle.qm_course.specs.Taken.{AreTaken}

@@ -7,3 +7,11 @@ pub mod Causes
 pub mod Running
 pub mod Doing
 pub mod Surviving
+pub mod Through
+pub mod Gathered
+pub mod Served
+pub mod AllTurns
+pub mod Printing
+pub mod ClusterEnding
+pub mod ClusterServing
+pub mod ClusterRunning

@@ -2,7 +2,7 @@
 use Rattle.std.specs.Prelude.{◌≡◌, ◌⊎◌, ℕ, List, [], Option, Some, None, IsTrue}
 use Rattle.qm_acting.specs.Reading.{IsRestoreFault}
 use Rattle.qm_acting.specs.Spare.{KeepsSpare}
-use Rattle.qm_cluster.specs.Serving.{ServesAtOnce}
+use Rattle.qm_program.specs.ClusterServing.{ServesAtOnce}
 use Rattle.qm_disk.specs.Disk.{Meaning, IsQuiet, OnlyLooks}
 use Rattle.qm_glog.specs.declared.fault.OpenFault.TheVariants as opening
 use Rattle.qm_history.specs.Ends.{ServingEnd}

@@ -1,5 +1,5 @@
 -- What is left of a run: by a crash, and at the devices.
-use Rattle.std.specs.Prelude.{◌≡◌, ◌⊎◌, ℕ, List, [], ◌∷◌, ◌++◌, Option, Some, Contains}
+use Rattle.std.specs.Prelude.{◌≡◌, ◌⊎◌, ℕ, List, [], ◌∷◌, ◌++◌, Some, Contains}
 use Rattle.std.specs.List.{AllByRecursion}
 use Rattle.qm_course.specs.Asking.{read_built}
 use Rattle.qm_course.specs.Taken.{AreTaken}

@@ -1,16 +1,30 @@
 //! The top call: what the program does between its words and its status, over any source of bytes, any sink and any disk
 //! with the files of a site. What it writes is the transcript of the turns of the site's nodes, by the script that it reads.
+//!
+//! Where the nodes work at once, each serves its own lines and carries out its own jobs by a thread of its own, and they ask one queue
+//! manager, in turns. What they leave is what one queue system leaves that is asked one call at a time: it is said of the history of
+//! all, in which each node's turns are its course, and what it printed is their text. For the turns of all nodes the queue manager is
+//! whatever keeps the contract of `qm_drive`'s `Serve`.
 #![tactic(auto)]
 
+mod cluster_ending;
+mod cluster_running;
+mod cluster_serving;
+mod driver;
+mod joining;
 mod laws;
 mod making;
 mod outcome;
+mod printing;
 mod running;
+mod seat;
 mod serving;
 mod showing;
 mod task;
 mod top_call;
+mod turns;
 
+pub use joining::LeftText;
 pub use laws::{
     a_crash_leaves_a_moment_of_the_run, blocks_come_in_stretches,
     listings_are_of_the_world_of_a_run, moments_have_a_last_one, names_have_limits,
@@ -18,5 +32,7 @@ pub use laws::{
 };
 pub use making::new_sites_begin_one_world;
 pub use outcome::{End, Outcome};
+pub use printing::print_all;
 pub use qm_course::Station;
 pub use top_call::{alone, qman};
+pub use turns::{MadeTurns, make_turns};

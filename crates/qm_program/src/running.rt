@@ -10,16 +10,16 @@ ghost use Rattle.qm_service.specs.Ends.{serving_end};
 ghost use Rattle.qm_service.specs.Opening.{IsOpened};
 ghost use Rattle.qm_service.specs.Serving.{outside};
 ghost use Rattle.qm_service.specs.Value.{service_names};
-ghost use Rattle.qm_cluster.specs.Serving.{ServesAtOnce};
+ghost use Rattle.qm_program.specs.ClusterServing.{ServesAtOnce};
 ghost use Rattle.qm_service.specs.Serving.{Serves};
 ghost use Rattle.qm_program.specs.Causes.{HasCause};
 ghost use Rattle.qm_program.specs.Ends.{EndsUnopened, EndsUnserved, end_of_lines, end_of_opening, end_of_reading, end_of_serving, status_of};
 ghost use Rattle.qm_program.specs.Reading.{Reads};
 ghost use Rattle.qm_program.specs.Running.{EndsBehind, RunsAtOnce, RunsTo};
 
+use crate::cluster_serving::serve_nodes;
 use crate::outcome::{End, Outcome};
 use crate::serving::{AtOnce, InOrder, Way};
-use qm_cluster::serve_nodes;
 use qm_course::Station;
 use qm_database::LoadFault;
 use qm_disk::Disk;

@@ -1,6 +1,6 @@
 // How the lines of a script are served.
 ghost use Rattle.std.specs.Prelude.{ℕ, List};
-ghost use Rattle.qm_cluster.specs.Serving.{ServesAtOnce};
+ghost use Rattle.qm_program.specs.ClusterServing.{ServesAtOnce};
 ghost use Rattle.qm_history.specs.Ends.{ServingEnd};
 ghost use Rattle.qm_history.specs.Script.{UserLine};
 ghost use Rattle.qm_history.specs.declared.turn.Turn.{Turn};

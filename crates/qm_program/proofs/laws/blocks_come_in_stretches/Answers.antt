@@ -1,4 +1,4 @@
-use Rattle.qm_cluster.specs.Serving.{ServesAtOnce}
+use Rattle.qm_program.specs.ClusterServing.{ServesAtOnce}
 use Rattle.qm_course.specs.Asking.{read_built}
 use Rattle.qm_service.specs.Serving.{Serves}
 use Rattle.qm_program.proofs.Surviving.{nodes_taken, one_taken, served_taken}

@@ -1,5 +1,5 @@
 use Rattle.std.proofs.Common.{map}
-use Rattle.qm_cluster.specs.Serving.{ServesAtOnce}
+use Rattle.qm_program.specs.ClusterServing.{ServesAtOnce}
 use Rattle.qm_course.specs.Runs.{side_of}
 use Rattle.qm_script.specs.ClusterLines.{user_lines_view}
 use Rattle.qm_service.specs.Ends.{serving_end}

@@ -1,6 +1,0 @@
-mod Naming
-mod Texts
-mod Worst
-mod Told
-mod Left
-mod Begun

@@ -1,0 +1,16 @@
+use Rattle.std.proofs.Common.{ap, length}
+use Rattle.qm_course.specs.Fresh.{own_view}
+use Rattle.qm_course.specs.Runs.{side_of}
+use Rattle.qm_program.specs.Through.{is_at}
+use Rattle.qm_program.proofs.Together.{all_ready, all_through}
+use Rattle.qm_program.proofs.driver.drive_all.Goals as goal
+
+pub returns : goal.returns
+returns g c =
+    all_through g.Y.Symbiont.meaning g.S.Serve.tells g.S.Serve.may_begin g.S.Serve.most is_at (side_of g.C.Clock.told) c.args.turnstile.now.place c.args.names.now (own_view c.args.lines.now)
+    c.args.seats.now c.work_on_each.new.firsts c.args.stations.now c.work_on_each.new.seconds c.work_on_each.ensures c.requires.seats c.requires.new
+
+pub work_on_each-requires-clause-can : goal.work_on_each-requires-clause-can
+work_on_each-requires-clause-can g c κs within =
+    all_ready g.S.Serve.tells g.S.Serve.may_begin g.S.Serve.most g.S.Serve.can_ask (λ seat. seat.pass) (λ seat. seat.text.items) c.args.turnstile.now.place (length c.args.names.now) (length c.args.lines.now) c.args.seats.now c.args.stations.now
+    c.requires.seats c.requires.stations c.requires.few c.requires.lines (λ k seat at. (ap (λ a. a.known) (c.requires.new k seat at), ap (λ a. a.text) (c.requires.new k seat at))) c.requires.most c.requires.asks c.requires.sound

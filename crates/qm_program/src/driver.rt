@@ -1,0 +1,119 @@
+// The nodes at their turns, each by a thread of its own.
+ghost use Rattle.std.specs.Prelude.{◌≡◌, ◌<◌, ◌≤◌, ℕ, length, map, slice_get, true, IsTrue, Some};
+ghost use Rattle.qm_record.specs.Spelling.{HasSpelling};
+ghost use Rattle.qm_history.specs.declared.world.World.{World};
+ghost use Rattle.qm_history.specs.Chest.{turns_kept};
+ghost use Rattle.qm_history.specs.World.{IsSound, is_live};
+ghost use Rattle.qm_kinds.specs.declared.limits.TheConstants.{NODES_LIMIT};
+ghost use Rattle.qm_course.specs.Fresh.{own_view};
+ghost use Rattle.qm_course.specs.Runs.{side_of};
+ghost use Rattle.qm_drive.specs.Allowed.{CanAskAll};
+ghost use Rattle.qm_turn.specs.Turns.{fresh};
+ghost use Rattle.qm_program.specs.Through.{AllAreThrough, first_at, is_at};
+
+use crate::seat::Seat;
+use qm_course::Station;
+use qm_drive::{OpenGate, Serve, Shared, drive};
+use qm_io::Clock;
+use qm_kinds::Name;
+use qm_pairs::{Work, work_on_each};
+use qm_script::UserLine;
+use qm_symb::Symbiont;
+use qm_turn::Turnstile;
+use std::alloc::Global;
+use std::marker::{Send, Sync};
+use std::sync::Wait;
+use std::thread::Threads;
+
+/// What the nodes share: the turnstile, their names, and the lines of each.
+#[derive(Drop)]
+struct Driver<'a, R, S: Serve> {
+    rt: &'a R,
+    alloc: Global,
+    turnstile: &'a Turnstile<Shared<S>>,
+    names: &'a [Name],
+    lines: &'a [Vec<UserLine<'a>>],
+}
+
+impl<'a, R: Wait + Sync, S: Serve + Send, C: Clock + Send, Y: Symbiont + Send> Work<
+    Seat<S>,
+    Station<C, Y>,
+> for Driver<'a, R, S>
+where
+    Y::Cursor: Send,
+{
+    ghost use Rattle.std.specs.Prelude.{◌≡◌, ◌<◌, ◌≤◌, [], length, ℕ, List, slice_get, true, IsTrue, Some};
+    ghost use Rattle.qm_record.specs.Spelling.{HasSpelling};
+    ghost use Rattle.qm_history.specs.Chest.{turns_kept};
+    ghost use Rattle.qm_history.specs.Script.{UserLine as AnyLine};
+    ghost use Rattle.qm_history.specs.World.{IsSound, is_live};
+    ghost use Rattle.qm_kinds.specs.declared.limits.TheConstants.{NODES_LIMIT};
+    ghost use Rattle.qm_course.specs.Fresh.{own_view};
+    ghost use Rattle.qm_course.specs.Runs.{side_of};
+    ghost use Rattle.qm_drive.specs.Allowed.{CanAskAll};
+    ghost use Rattle.qm_turn.specs.Turns.{fresh};
+    ghost use Rattle.qm_program.specs.Through.{CanBeDriven, IsThrough, is_at};
+
+    ghost can_work = { λ driver node seat station.
+        CanBeDriven S.tells S.may_begin S.most S.can_ask (length driver.names.now) (length driver.lines.now) node
+        × (seat.pass ≡ fresh driver.turnstile.now.place node) × (seat.text.items ≡ []) };
+
+    ghost works = { λ driver node seat station seat' station'.
+        (name : List ℕ) (own : List AnyLine) → slice_get driver.names.now node ≡ Some name → slice_get (own_view driver.lines.now) node ≡ Some own
+        → IsThrough Y.meaning S.tells S.may_begin S.most node name own (is_at seat) (is_at seat') (side_of C.told station) (side_of C.told station') };
+
+    fn work(&self, node: usize, seat: &mut Seat<S>, station: &mut Station<C, Y>) {
+        seat.end = drive(
+            self.rt,
+            self.alloc,
+            self.turnstile,
+            &mut seat.pass,
+            node as u8,
+            &self.names[node],
+            &self.lines[node],
+            station,
+            &mut OpenGate,
+            &mut seat.text,
+        );
+    }
+}
+
+/// Lets each node make its turns, by a thread of its own where one can be made. The node of each place has the lines, the seat and
+/// the station of that place.
+pub(crate) fn drive_all<
+    'a,
+    R: Threads + Wait + Sync,
+    S: Serve + Send,
+    C: Clock + Send,
+    Y: Symbiont + Send,
+>(
+    rt: &'a R,
+    alloc: Global,
+    turnstile: &'a Turnstile<Shared<S>>,
+    names: &'a [Name],
+    lines: &'a [Vec<UserLine<'a>>],
+    seats: &mut [Seat<S>],
+    stations: &mut [Station<C, Y>],
+)
+where
+    Y::Cursor: Send,
+    requires few { length names.now ≤ NODES_LIMIT }
+    requires lines { length lines.now ≡ length names.now }
+    requires seats { length seats.old ≡ length names.now }
+    requires stations { length stations.old ≡ length names.now }
+    requires new { (node : ℕ) (seat : Seat S) → slice_get seats.old node ≡ Some seat → is_at seat ≡ first_at (fresh turnstile.now.place node) }
+    requires most { S.most ≤ turns_kept }
+    requires asks { (node : ℕ) → node < length names.now → CanAskAll S.can_ask node }
+    requires sound { IsTrue S.tells → (w : World) → S.may_begin w → (node : ℕ) → node < length names.now → IsSound HasSpelling w × (is_live w node ≡ true) }
+    ensures { AllAreThrough Y.meaning S.tells S.may_begin S.most turnstile.now.place names.now (own_view lines.now) (map is_at seats.new)
+        (map (side_of C.told) stations.old) (map (side_of C.told) stations.new) }
+{
+    let driver = Driver {
+        rt,
+        alloc,
+        turnstile,
+        names,
+        lines,
+    };
+    work_on_each(rt, &driver, 0, seats, stations);
+}
