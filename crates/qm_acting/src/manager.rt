@@ -11,8 +11,9 @@ ghost use Rattle.qm_state.specs.Refusing.{Refuses};
 use crate::letting_go::let_go;
 use qm_database::{Closed, Open};
 use qm_disk::Disk;
-use qm_kinds::{Duty, Moment, Name, Node, Query, Row};
+use qm_kinds::{Duty, Moment, Name, Node, Query};
 use qm_restore::site_files_are_consistent;
+use qm_rows::Rows;
 use qm_state::{Image, Refused};
 use qm_view::view;
 use std::alloc::{AllocError, Global};
@@ -79,8 +80,8 @@ impl<D: Disk> Manager<D> {
 
     /// The rows that a query asks for, but none of the queue manager itself. It is refused where the entry that is asked for isn't
     /// there, where no queue is named whose entries are asked for, and where rows are asked for one by one and none is left.
-    pub fn view(&self, query: &Query) -> Result<Vec<Row>, Refused>
-        ensures rows { IfOk result (λ rows. view (standing_of self.now).system None query.now ≡ Ok rows.items) }
+    pub fn view(&self, query: &Query) -> Result<Rows, Refused>
+        ensures rows { IfOk result (λ rows. view (standing_of self.now).system None query.now ≡ Ok rows) }
         ensures refused { Refuses result (view (standing_of self.now).system None query.now) }
     {
         view(self.alloc, &self.image, query)

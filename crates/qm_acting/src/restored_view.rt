@@ -5,7 +5,8 @@ ghost use Rattle.qm_state.specs.Refusing.{Refuses};
 
 use crate::restored::Restored;
 use qm_disk::Disk;
-use qm_kinds::{Query, Row};
+use qm_kinds::Query;
+use qm_rows::Rows;
 use qm_state::Refused;
 use qm_view::view;
 
@@ -14,8 +15,8 @@ impl<D: Disk> Restored<D> {
 
     /// The rows that a query asks for, but none of the queue manager: no node is. It is refused where the entry that is asked for
     /// isn't there, where no queue is named whose entries are asked for, and where rows are asked for one by one and none is left.
-    pub fn view(&self, query: &Query) -> Result<Vec<Row>, Refused>
-        ensures rows { IfOk result (λ rows. view (restored_standing self.now).system None query.now ≡ Ok rows.items) }
+    pub fn view(&self, query: &Query) -> Result<Rows, Refused>
+        ensures rows { IfOk result (λ rows. view (restored_standing self.now).system None query.now ≡ Ok rows) }
         ensures refused { Refuses result (view (restored_standing self.now).system None query.now) }
     {
         view(self.alloc, &self.image, query)

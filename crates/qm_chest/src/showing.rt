@@ -16,6 +16,7 @@ use qm_disk::Disk;
 use qm_history::{Answer, Takeover};
 use qm_kinds::{Input, Listing, Moment, Query, Row, Seq};
 use qm_restore::{site_files_are_accepted, site_files_are_consistent};
+use qm_rows::Rows;
 use qm_scan::the_manager_shows_in_its_listing;
 use qm_state::Refused;
 use std::alloc::AllocError;
@@ -84,11 +85,7 @@ impl Book {
                 node,
                 moment,
                 Input::Show(query),
-                Answer::Shown {
-                    took,
-                    moment,
-                    rows: Seq::of(rows),
-                },
+                Answer::Shown { took, moment, rows },
             ),
             Err(Refused::By(refusal)) => refused(node, moment, Input::Show(query), refusal, took),
             Err(Refused::NoMemory) => short(took),
@@ -96,15 +93,10 @@ impl Book {
     }
 
     // The row of the manager, or those of the image, which knows of no manager.
-    fn rows<D: Disk>(
-        &self,
-        manager: &Manager<D>,
-        at: u8,
-        query: &Query,
-    ) -> Result<Vec<Row>, Refused>
+    fn rows<D: Disk>(&self, manager: &Manager<D>, at: u8, query: &Query) -> Result<Rows, Refused>
         requires there { at < length self.now.names.items }
         ensures rows { (name : List ℕ) → slice_get self.now.names.items at ≡ Some name
-            → IfOk result (λ rows. rows_of manager.now name query.now ≡ Ok rows.items) }
+            → IfOk result (λ rows. rows_of manager.now name query.now ≡ Ok rows) }
         ensures refused { (name : List ℕ) → slice_get self.now.names.items at ≡ Some name
             → Refuses result (rows_of manager.now name query.now) }
     {
@@ -117,7 +109,7 @@ impl Book {
                     epoch: manager.epoch(),
                     may: Seq::of(Vec::from_slice(self.alloc, manager.may())?),
                 })?;
-                Ok(rows)
+                Ok(Rows::of(self.alloc, rows)?)
             }
             _ => manager.view(query),
         }

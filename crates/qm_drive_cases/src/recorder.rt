@@ -9,6 +9,7 @@ ghost use Rattle.qm_symb.specs.Symbiont.{IsWithinLimits};
 use qm_drive::Serve;
 use qm_history::{Answer, Call, Turn, Why};
 use qm_kinds::{Duty, JobKind, Mark, Moment, Seq, Shape, Work, system_user};
+use qm_rows::Rows;
 use qm_symb::TEXT_BYTES;
 use std::alloc::{AllocError, Global};
 
@@ -115,7 +116,7 @@ fn answer_to(alloc: Global, job: bool, node: u8, moment: Moment, call: &Call) ->
         return Answer::Shown {
             took,
             moment,
-            rows: Seq::new(alloc),
+            rows: Rows::new(alloc),
         };
     };
     if !job {

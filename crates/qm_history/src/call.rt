@@ -1,4 +1,5 @@
-use qm_kinds::{Duty, Input, Moment, Name, Refusal, Reply, Report, Row, Seq, Start};
+use qm_kinds::{Duty, Input, Moment, Name, Refusal, Reply, Report, Seq, Start};
+use qm_rows::Rows;
 
 /// What a node asks of the queue manager in one turn.
 #[derive(Drop)]
@@ -35,7 +36,7 @@ pub enum Answer {
     Shown {
         took: Option<Takeover>,
         moment: Moment,
-        rows: Seq<Row>,
+        rows: Rows,
     },
     Duties {
         took: Option<Takeover>,

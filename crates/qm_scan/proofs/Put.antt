@@ -1,12 +1,19 @@
 -- Entries that are put below their queues.
-use Rattle.std.proofs.Common.{◌≡◌, ◌∙◌, ℕ, ◌+◌, ◌==◌, ◌<◌, Bool, true, false, if◌then◌else◌, List, [], ◌∷◌, ◌++◌, length, get_or, set, take, map, refl, sym, ap, arith}
+use Rattle.std.proofs.Common.{◌≡◌, ◌∙◌, ℕ, suc, ◌+◌, ◌==◌, ◌&&◌, ◌<◌, Bool, true, false, if◌then◌else◌, List, [], ◌∷◌, ◌++◌, length, get_or, set, take, map, refl, sym, ap, arith}
 use Rattle.std.specs.List.{filter, flat_map, slice_get}
-use Rattle.std.proofs.lemmas.Grind.{flat_map-append}
 use Rattle.std.specs.Prelude.{Result, Ok, Err, OnErr, OnOk, Some}
 use Rattle.std.proofs.lemmas.Bool.Decides.{nat_tests}
 use Rattle.std.proofs.lemmas.List.{get_or-set_same, get_or-set_other, get_or-map, append-nil, map-append}
 use Rattle.std.proofs.lemmas.List.Elements.{filter_more}
 use Rattle.std.proofs.lemmas.Option.{get_or_from_slice_get}
+use Rattle.std.specs.Str.{bytes_eq}
+use Rattle.std.proofs.Math.Bool.{and-true}
+use Rattle.qm_kinds.specs.declared.entry.Entry.{Entry}
+use Rattle.qm_kinds.specs.declared.query.Query.{Query}
+use Rattle.qm_kinds.specs.declared.queue.Queue.{Queue}
+use Rattle.qm_model.specs.Rows.{is_of_user}
+use Rattle.qm_model.specs.Standing.{stands_in}
+use Rattle.qm_scan.specs.Listed.{is_below}
 use Rattle.qm_scan.proofs.Named.{place_within}
 
 -- an element behind the others of the list at a place
@@ -41,32 +48,65 @@ pub not_put : {X : Type 0} (xs : List X) (x : X) (b : Bool) → b ≡ false → 
 not_put xs x true is = let clash : true ≡ false = is in cc
 not_put xs x false is = sym (append-nil xs)
 
--- a flag that was read is the one of the element at its place
-pub flag_at : {X : Type 0} (f : X → Bool) (xs : List X) (flags : List Bool) → flags ≡ map f xs → (k : ℕ) (x : X) (flag : Bool) → slice_get xs k ≡ Some x
-    → flag ≡ get_or flags k flag → flag ≡ f x
-flag_at f xs flags are k x flag there read =
-    read ∙ ap (λ (bs : List Bool). get_or bs k flag) are ∙ get_or-map f xs k x flag (place_within xs k x there) ∙ ap f (get_or_from_slice_get xs k x x there)
-
--- what stands only where a flag is set
-pub where_set : {X : Type 0} (b : Bool) (xs ys : List X) → (b ≡ true → xs ≡ ys) → (if b then xs else []) ≡ (if b then ys else [])
-where_set true xs ys same = same refl
-where_set false xs ys same = refl
+-- what the element at a place became
+pub mapped_at : {X Y : Type 0} (f : X → Y) (xs : List X) (ys : List Y) → ys ≡ map f xs → (k : ℕ) (x : X) (y : Y) → slice_get xs k ≡ Some x → get_or ys k y ≡ f x
+mapped_at f xs ys are k x y there =
+    ap (λ zs. get_or zs k y) are ∙ get_or-map f xs k x y (place_within xs k x there) ∙ ap f (get_or_from_slice_get xs k x x there)
 
 -- what is so where there is a value
 pub where_ok : {T E P Q : Type 0} (r : Result T E) → (P → Q) → OnOk r P → OnOk r Q
 where_ok (Ok x) next is = next is
 where_ok (Err e) next is = tt
 
--- one element more makes its rows, if it is listed
-pub rows_more : {X Y : Type 0} (f : X → List Y) (p : X → Bool) (xs : List X) (i : ℕ) (x : X) → i < length xs → x ≡ get_or xs i x
-    → flat_map f (filter p (take i xs)) ++ (if p x then f x else []) ≡ flat_map f (filter p (take (i + 1) xs))
-rows_more f p xs i x within is =
-    sym (ap (flat_map f) (sym (one_more p xs i x within is)) ∙ flat_map-append f (filter p (take i xs)) (if p x then x ∷ [] else [])
-    ∙ ap (λ ys. flat_map f (filter p (take i xs)) ++ ys) (last (p x)))
+-- one entry more, below a queue
+pub queue_more : {X Y : Type 0} (top : Y) (f : X → Y) (p : X → Bool) (listed : Bool) (xs : List X) (i : ℕ) (x : X) → i < length xs → x ≡ get_or xs i x
+    → (if listed then top ∷ map f (filter p (take i xs)) else []) ++ (if listed && p x then f x ∷ [] else [])
+    ≡ (if listed then top ∷ map f (filter p (take (i + 1) xs)) else [])
+queue_more top f p true xs i x within is = ap (λ ys. top ∷ ys) (row_more f p xs i x within is)
+queue_more top f p false xs i x within is = refl
+
+-- what is put at a place alone, where its element is listed
+pub put_there : (at listed below : Bool) → at ≡ below → (at ≡ true → listed ≡ true) → at ≡ (listed && below)
+put_there true true below is so = is
+put_there true false below is so = let clash : false ≡ true = so refl in cc
+put_there false true below is so = is
+put_there false false below is so = refl
+
+-- what is put nowhere, where the element of its place isn't listed
+pub put_nowhere : (at listed below : Bool) → at ≡ below → (at ≡ true → listed ≡ false) → (listed && below) ≡ false
+put_nowhere true true below is so = let clash : true ≡ false = so refl in cc
+put_nowhere true false below is so = refl
+put_nowhere false true below is so = sym is
+put_nowhere false false below is so = refl
+
+-- what stands only where an element is listed
+pub listed_alone : {X Y : Type 0} (f : X → List Y) (p : X → Bool) (xs : List X) → flat_map (λ x. if p x then f x else []) xs ≡ flat_map f (filter p xs)
+listed_alone f p [] = refl
+listed_alone f p (x ∷ xs) = told (p x) refl (listed_alone f p xs)
   where
-    last : (b : Bool) → flat_map f (if b then x ∷ [] else []) ≡ (if b then f x else [])
-    last true = append-nil (f x)
-    last false = refl
+    told : (b : Bool) → p x ≡ b → flat_map (λ y. if p y then f y else []) xs ≡ flat_map f (filter p xs)
+        → flat_map (λ y. if p y then f y else []) (x ∷ xs) ≡ flat_map f (filter p (x ∷ xs))
+    told true is others = rw is (ap (λ ys. f x ++ ys) others)
+    told false is others = rw is others
+
+-- lists of which each is what the element at its place makes
+pub joined : {X Y : Type 0} (f : X → List Y) (xs : List X) (groups : List (List Y)) → length groups ≡ length xs
+    → ((k : ℕ) (x : X) → slice_get xs k ≡ Some x → get_or groups k [] ≡ f x) → flat_map (λ g. g) groups ≡ flat_map f xs
+joined f [] [] same each = refl
+joined f [] (g ∷ gs) same each = absurd (omega (arith, same))
+joined f (x ∷ xs) [] same each = absurd (omega (arith, same))
+joined f (x ∷ xs) (g ∷ gs) same each =
+    ap (λ ys. ys ++ flat_map (λ g. g) gs) (each 0 x refl)
+    ∙ ap (λ ys. f x ++ ys) (joined f xs gs (omega (arith, same)) (λ k y there. each (suc k) y there))
+
+-- an entry of a listed user is listed below the queue of the name where it stands
+pub below_there : (q : Query) (e : Entry) (queue : Queue) (name : List ℕ) (at : Bool) → is_of_user q.user e ≡ true → name ≡ stands_in e → bytes_eq name queue.name ≡ at
+    → at ≡ is_below q queue e
+below_there q e queue name at of_user named is =
+    sym (ap (λ (u : Bool). bytes_eq (stands_in e) queue.name && u) of_user
+    ∙ and-true (bytes_eq (stands_in e) queue.name)
+    ∙ ap (λ (n : List ℕ). bytes_eq n queue.name) (sym named)
+    ∙ is)
 
 -- what is so anyway
 pub anyway : {T E P : Type 0} (r : Result T E) → P → OnErr r P

@@ -1,5 +1,5 @@
 -- What is listed, row by row.
-use Rattle.std.specs.Prelude.{◌≡◌, ℕ, ◌==◌, Bool, true, false, ◌&&◌, List, [], ◌∷◌, filter, map, slice_get, slice_index_or, Option, Some}
+use Rattle.std.specs.Prelude.{◌≡◌, ℕ, ◌==◌, Bool, true, false, ◌&&◌, if◌then◌else◌, List, [], ◌∷◌, filter, map, slice_get, slice_index_or, Option, Some}
 use Rattle.std.specs.Option.{option_map_or}
 use Rattle.std.specs.Str.{bytes_eq}
 use Rattle.qm_kinds.specs.Wildcards.{matches}
@@ -31,11 +31,14 @@ is_below q queue e = stands_there queue.name e && is_of_user q.user e
 abbrev pub rows_below : Query → List Entry → Queue → List Row
 rows_below q entries queue = row.Queue queue ∷ map (λ e. row.Entry e) (filter (is_below q queue) entries)
 
--- of each queue that is listed the rows of the entries of a list that are listed below it
+-- those of a queue that is listed, and of any other one none
+abbrev pub rows_of_queue : Query → List Entry → Queue → List Row
+rows_of_queue q entries queue = if is_queue_listed q queue then rows_below q entries queue else []
+
+-- these are the rows of each queue
 abbrev pub AreBelow : Query → List Queue → List Entry → List (List Row) → Type 0
 AreBelow q queues entries groups =
-    (place : ℕ) (queue : Queue) → slice_get queues place ≡ Some queue → is_queue_listed q queue ≡ true
-    → slice_index_or groups place [] ≡ map (λ e. row.Entry e) (filter (is_below q queue) entries)
+    (place : ℕ) (queue : Queue) → slice_get queues place ≡ Some queue → slice_index_or groups place [] ≡ rows_of_queue q entries queue
 
 -- the row stands behind the one that was given last, if one was
 abbrev pub is_behind : Option After → Row → Bool

@@ -11,12 +11,13 @@ ghost use Rattle.qm_model.specs.Rows.{all_rows};
 ghost use Rattle.qm_sched.specs.Tables.{with_tables};
 ghost use Rattle.qm_scan.specs.Listed.{AreBelow, is_entry_listed, is_queue_listed, rows_below};
 
-use crate::below::groups_below;
+use crate::below::groups_of;
 use crate::group::Group;
 use crate::listed::{is_entry_listed, is_named, is_queue_listed};
 use qm_kinds::{
     Boxed, Characteristic, Entry, Form, ListedEntry, Listing, Name, Pattern, Query, Queue, Row, Seq,
 };
+use qm_rows::{Part, Rows};
 use qm_sched::Parts;
 use std::alloc::{AllocError, Global};
 
@@ -42,52 +43,15 @@ pub(crate) fn copy_of(alloc: Global, queue: &Queue) -> Result<Boxed<Queue>, Allo
     Boxed::new(alloc, copy)
 }
 
-// How many rows the listed queues have, with those below them.
-fn count_rows(query: &Query, queues: &[Queue], groups: &[Group]) -> usize
-    requires { length groups.now ≡ length queues.now }
+// The rows of groups, as the parts of a listing.
+fn parts_of(alloc: Global, groups: Vec<Group>) -> Result<Vec<Part>, AllocError>
+    ensures { IfOk result (λ parts. parts.items ≡ groups.items) }
 {
-    let mut count = 0usize;
-    for place in 0..queues.len() {
-        if is_queue_listed(query, &queues[place]) {
-            count = count.saturating_add(1).saturating_add(groups[place].len());
-        }
+    let mut parts = Vec::with_capacity(alloc, groups.len())?;
+    for group in groups {
+        parts.push(group.into_part()?)?;
     }
-    count
-}
-
-// Puts the rows of a queue behind the others, if it is listed.
-fn push_queue(
-    alloc: Global,
-    query: &Query,
-    rows: &mut Vec<Row>,
-    queue: &Queue,
-    below: &mut Group,
-) -> Result<(), AllocError>
-    ensures { OnOk result (rows.new.items ≡ rows.old.items ++ (if is_queue_listed query.now queue.now then row.Queue queue.now ∷ below.old else [])) }
-{
-    if !is_queue_listed(query, queue) {
-        return Ok(());
-    }
-    rows.push(Row::Queue(copy_of(alloc, queue)?))?;
-    below.move_to(rows)
-}
-
-// The rows of the listed queues, below each the entries of its group.
-fn grouped_rows(
-    alloc: Global,
-    query: &Query,
-    queues: &[Queue],
-    groups: &mut [Group],
-) -> Result<Vec<Row>, AllocError>
-    requires { length groups.old ≡ length queues.now }
-    ensures { (entries : List AnyEntry) → AreBelow query.now queues.now entries groups.old → IfOk result (λ rows. rows.items
-        ≡ flat_map (rows_below query.now entries) (filter (is_queue_listed query.now) queues.now)) }
-{
-    let mut rows = Vec::with_capacity(alloc, count_rows(query, queues, groups))?;
-    for place in 0..queues.len() {
-        push_queue(alloc, query, &mut rows, &queues[place], &mut groups[place])?;
-    }
-    Ok(rows)
+    Ok(parts)
 }
 
 // The rows of the listed queues, below each the entries that are listed there.
@@ -97,13 +61,14 @@ fn queue_rows(
     queues: &[Queue],
     entries: &[Box<Entry>],
     tags: &[u16],
-) -> Result<Vec<Row>, AllocError>
+) -> Result<Rows, AllocError>
     requires { IsInOrder name_cmp (λ q. q.name) queues.now }
-    ensures { IfOk result (λ rows. rows.items
+    ensures { IfOk result (λ rows. rows
         ≡ flat_map (rows_below query.now (contents entries.now)) (filter (is_queue_listed query.now) queues.now)) }
 {
-    let mut groups = groups_below(alloc, queues, query, entries, tags)?;
-    grouped_rows(alloc, query, queues, &mut groups)
+    let groups = groups_of(alloc, queues, query, entries, tags)?;
+    let parts = parts_of(alloc, groups)?;
+    Ok(Rows::of_parts(parts))
 }
 
 // Whether all entries are listed.
@@ -184,19 +149,22 @@ fn characteristic_rows(
 /// All rows of a listing but those of the queue manager: of queues each with the entries below it, and of entries, forms and
 /// characteristics those that are listed. Below a queue its entries stand by number.
 ///
-/// It walks over the entries once, in order, and takes memory for each row, below queues for a while twice: no more than 1 KiB a row, and what
-/// the names of a generic queue's targets take.
-pub fn all_rows(alloc: Global, parts: &Parts, query: &Query) -> Result<Vec<Row>, AllocError>
-    ensures { (s : System) → IfOk result (λ rows. rows.items ≡ all_rows (with_tables s parts.now) query.now query.now.listing) }
+/// It walks over the entries once, in order, and takes memory for each row: no more than 1 KiB a row, and what the names of a generic
+/// queue's targets take.
+pub fn all_rows(alloc: Global, parts: &Parts, query: &Query) -> Result<Rows, AllocError>
+    ensures { (s : System) → IfOk result (λ rows. rows ≡ all_rows (with_tables s parts.now) query.now query.now.listing) }
 {
-    match query.listing {
-        Listing::Queues => queue_rows(alloc, query, parts.queues(), parts.entries(), parts.tags()),
-        Listing::Jobs => entry_rows(alloc, query, &query.queue, parts.entries()),
-        Listing::Entries => entry_rows(alloc, query, &None, parts.entries()),
-        Listing::Forms => form_rows(alloc, &query.pattern, parts.forms()),
-        Listing::Characteristics => {
-            characteristic_rows(alloc, &query.pattern, parts.characteristics())
+    let rows = match query.listing {
+        Listing::Queues => {
+            return queue_rows(alloc, query, parts.queues(), parts.entries(), parts.tags());
         }
-        Listing::Manager | Listing::Cancel => Ok(Vec::new(alloc)),
-    }
+        Listing::Jobs => entry_rows(alloc, query, &query.queue, parts.entries())?,
+        Listing::Entries => entry_rows(alloc, query, &None, parts.entries())?,
+        Listing::Forms => form_rows(alloc, &query.pattern, parts.forms())?,
+        Listing::Characteristics => {
+            characteristic_rows(alloc, &query.pattern, parts.characteristics())?
+        }
+        Listing::Manager | Listing::Cancel => return Ok(Rows::new(alloc)),
+    };
+    Rows::of(alloc, rows)
 }

@@ -1,18 +1,19 @@
 // The rows below each queue of a listing.
-ghost use Rattle.std.specs.Prelude.{◌≡◌, ◌++◌, ◌∷◌, ◌<◌, [], ℕ, length, slice_get, slice_set, slice_index_or, map, true, Some, if◌then◌else◌, IfOk, IfSome, IsTrue, OnOk};
+ghost use Rattle.std.specs.Prelude.{◌≡◌, ◌&&◌, ◌++◌, ◌∷◌, ◌<◌, [], ℕ, length, slice_get, slice_set, slice_index_or, map, Some, if◌then◌else◌, IfOk, IfSome, IsTrue, OnOk};
 ghost use Rattle.std.specs.Str.{bytes_eq};
 ghost use Rattle.qm_entries.specs.Boxed.{contents};
 ghost use Rattle.qm_kinds.specs.declared.query.Row.TheVariants as row;
 ghost use Rattle.qm_kinds.specs.declared.queue.Queue.{Queue as AnyQueue};
 ghost use Rattle.qm_model.specs.Consistent.{IsInOrder};
 ghost use Rattle.qm_model.specs.Find.{name_cmp};
-ghost use Rattle.qm_scan.specs.Listed.{AreBelow, is_below, is_place, is_queue_listed};
+ghost use Rattle.qm_scan.specs.Listed.{AreBelow, is_below, is_place, is_queue_listed, rows_of_queue};
 
+use crate::all::copy_of;
 use crate::group::Group;
 use crate::listed::{is_of_user, is_queue_listed, stands_in};
 use qm_entries::home_tag;
 use qm_keyed::place_of;
-use qm_kinds::{Entry, Name, Query, Queue};
+use qm_kinds::{Entry, ListedEntry, Name, Query, Queue, Row};
 use std::alloc::{AllocError, Global};
 
 // So many names can be told apart by what their tags leave when they are divided by it.
@@ -81,7 +82,8 @@ fn put_in(
     ensures count { length groups.new.items ≡ length groups.old.items }
     ensures put { OnOk result (groups.new.items ≡ slice_set groups.old.items place (slice_index_or groups.old.items place [] ++ row.Entry entry.now ∷ [])) }
 {
-    groups[place].push(alloc, entry)
+    let row = Row::Entry(ListedEntry::of(alloc, entry)?);
+    groups[place].push(row)
 }
 
 // Puts the row of an entry below the queue in which it stands, if it is listed there and the queue is listed.
@@ -100,9 +102,8 @@ fn put_below(
     requires count { length groups.old.items ≡ length queues.now }
     requires slot { slot < SLOTS }
     ensures count { length groups.new.items ≡ length queues.now }
-    ensures put { OnOk result ((place : ℕ) (queue : AnyQueue) → slice_get queues.now place ≡ Some queue → is_queue_listed query.now queue ≡ true
-        → slice_index_or groups.new.items place []
-        ≡ slice_index_or groups.old.items place [] ++ (if is_below query.now queue entry.now then row.Entry entry.now ∷ [] else [])) }
+    ensures put { OnOk result ((place : ℕ) (queue : AnyQueue) → slice_get queues.now place ≡ Some queue → slice_index_or groups.new.items place []
+        ≡ slice_index_or groups.old.items place [] ++ (if is_queue_listed query.now queue && is_below query.now queue entry.now then row.Entry entry.now ∷ [] else [])) }
 {
     if !is_of_user(query, entry) {
         return Ok(());
@@ -140,28 +141,41 @@ fn counts_of(tags: &[u16]) -> [usize; SLOTS] {
     counts
 }
 
-// A group with no row for each queue. The first listed one in each slot has room for all entries whose homes' tags are there, so that no
-// more is taken than for all entries: mostly these are its own. Groups with less room than they need grow.
-fn empty_groups(
+// The rows of a queue before any entry: its own one, if it is listed. The first listed queue in each slot has room for all entries whose
+// homes' tags are there, so that no more is taken than for all entries: mostly these are its own. Groups with less room than they need
+// grow.
+fn begun_group(
+    alloc: Global,
+    query: &Query,
+    queue: &Queue,
+    counts: &mut [usize; SLOTS],
+) -> Result<Group, AllocError>
+    ensures { IfOk result (λ group. group ≡ rows_of_queue query.now [] queue.now) }
+{
+    if !is_queue_listed(query, queue) {
+        return Ok(Group::new(alloc));
+    }
+    let slot = slot_of(home_tag(&queue.name));
+    let room = counts[slot];
+    counts[slot] = 0;
+    let mut group = Group::with_capacity(alloc, room.saturating_add(1))?;
+    group.push(Row::Queue(copy_of(alloc, queue)?))?;
+    Ok(group)
+}
+
+// The rows of each queue before any entry.
+fn begun_groups(
     alloc: Global,
     queues: &[Queue],
-    shown: &[bool],
+    query: &Query,
     tags: &[u16],
 ) -> Result<Vec<Group>, AllocError>
-    requires { length shown.now ≡ length queues.now }
-    ensures count { IfOk result (λ groups. length groups.items ≡ length queues.now) }
-    ensures empty { IfOk result (λ groups. (place : ℕ) → slice_index_or groups.items place [] ≡ []) }
+    ensures { IfOk result (λ groups. groups.items ≡ map (rows_of_queue query.now []) queues.now) }
 {
     let mut counts = counts_of(tags);
     let mut groups = Vec::with_capacity(alloc, queues.len())?;
-    for place in 0..queues.len() {
-        let slot = slot_of(home_tag(&queues[place].name));
-        let mut room = 0;
-        if shown[place] {
-            room = counts[slot];
-            counts[slot] = 0;
-        }
-        groups.push(Group::new(alloc, room)?)?;
+    for queue in queues {
+        groups.push(begun_group(alloc, query, queue, &mut counts)?)?;
     }
     Ok(groups)
 }
@@ -176,10 +190,10 @@ fn slot_at(tags: &[u16], place: usize) -> usize
     }
 }
 
-/// The rows of the entries that are listed below each queue that is listed. Each entry is looked at once, in order, so that memory is read
-/// in order too; for its queue it asks at most a logarithm of the queues. The tags of the entries' homes tell how much room is wanted, where
-/// the entries aren't those of one user, and where to look first.
-pub(crate) fn groups_below(
+/// The rows of each queue that is listed, and below it those of the entries that are listed there; none of any other queue. Each entry is
+/// looked at once, in order, so that memory is read in order too; for its queue it asks at most a logarithm of the queues. The tags of the
+/// entries' homes tell how much room is wanted, where the entries aren't those of one user, and where to look first.
+pub(crate) fn groups_of(
     alloc: Global,
     queues: &[Queue],
     query: &Query,
@@ -192,7 +206,7 @@ pub(crate) fn groups_below(
 {
     let shown = shown_queues(alloc, queues, query)?;
     let counted: &[u16] = if query.user.is_none() { tags } else { &[] };
-    let mut groups = empty_groups(alloc, queues, &shown, counted)?;
+    let mut groups = begun_groups(alloc, queues, query, counted)?;
     let mut tried = [0usize; SLOTS];
     let mut place = 0usize;
     for boxed in entries {

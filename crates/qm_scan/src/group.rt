@@ -1,57 +1,84 @@
-// The rows below a queue.
-ghost use Rattle.std.specs.Prelude.{◌≡◌, ◌++◌, ◌∷◌, [], length, IfOk, OnOk, OnErr};
-ghost use Rattle.qm_kinds.specs.declared.query.Row.TheVariants as row;
+// The rows of a queue, as they come.
+ghost use Rattle.std.specs.Prelude.{◌≡◌, ◌++◌, ◌∷◌, [], IfOk, OnOk};
 
-use qm_kinds::{Entry, ListedEntry, Row};
+use qm_kinds::Row;
+use qm_rows::Part;
 use std::alloc::{AllocError, Global};
 use std::marker::Model;
 
-/// The rows of entries, in the order in which they came. Contracts see just their list.
+// So many rows are put behind the others at once.
+const RUN: usize = 8;
+
+/// Rows in the order in which they came. Contracts see just their list.
+///
+/// The last few rows stand apart, close to those of other groups, and are brought behind the others all at once: so memory is written in
+/// runs where rows of many groups come in turn.
 #[derive(Drop)]
 pub(crate) struct Group {
-    rows: Vec<Row>,
+    first: Vec<Row>,
+    last: Vec<Row>,
 }
 
 impl Model for Group {
-    ghost use Rattle.std.specs.Prelude.{List};
+    ghost use Rattle.std.specs.Prelude.{List, ◌++◌};
     ghost use Rattle.qm_kinds.specs.declared.query.Row.{Row as AnyRow};
 
     ghost Value = { List AnyRow };
 
-    ghost view = { λ g. g.rows.items };
+    ghost view = { λ g. g.first.items ++ g.last.items };
 }
 
 impl Group {
+    /// No row. It takes no memory.
+    pub(crate) fn new(alloc: Global) -> Group
+        ensures { result ≡ [] }
+    {
+        Group {
+            first: Vec::new(alloc),
+            last: Vec::new(alloc),
+        }
+    }
+
     /// No row, and room for so many.
-    pub(crate) fn new(alloc: Global, room: usize) -> Result<Group, AllocError>
+    pub(crate) fn with_capacity(alloc: Global, room: usize) -> Result<Group, AllocError>
         ensures { IfOk result (λ group. group ≡ []) }
     {
-        Ok(Group {
-            rows: Vec::with_capacity(alloc, room)?,
-        })
+        if room <= RUN {
+            Ok(Group {
+                first: Vec::new(alloc),
+                last: Vec::with_capacity(alloc, room)?,
+            })
+        } else {
+            Ok(Group {
+                first: Vec::with_capacity(alloc, room)?,
+                last: Vec::with_capacity(alloc, RUN)?,
+            })
+        }
     }
 
-    /// How many rows there are.
-    pub(crate) fn len(&self) -> usize
-        ensures { result ≡ length self.now }
+    /// Puts a row behind the others.
+    pub(crate) fn push(&mut self, row: Row) -> Result<(), AllocError>
+        ensures { OnOk result (self.new ≡ self.old ++ row ∷ []) }
     {
-        self.rows.len()
-    }
-
-    /// Puts the row of an entry behind the others.
-    pub(crate) fn push(&mut self, alloc: Global, entry: &Entry) -> Result<(), AllocError>
-        ensures ok { OnOk result (self.new ≡ self.old ++ row.Entry entry.now ∷ []) }
-        ensures err { OnErr result (self.new ≡ self.old) }
-    {
-        let listed = ListedEntry::of(alloc, entry)?;
-        self.rows.push(Row::Entry(listed))?;
+        if self.last.len() >= RUN {
+            self.first.append(&mut self.last)?;
+        }
+        self.last.push(row)?;
         Ok(())
     }
 
-    /// Moves the rows behind others.
-    pub(crate) fn move_to(&mut self, rows: &mut Vec<Row>) -> Result<(), AllocError>
-        ensures { OnOk result (rows.new.items ≡ rows.old.items ++ self.old) }
+    /// The rows, as a part of a listing.
+    pub(crate) fn into_part(self) -> Result<Part, AllocError>
+        ensures { IfOk result (λ part. part ≡ self) }
     {
-        rows.append(&mut self.rows)
+        let Group {
+            mut first,
+            mut last,
+        } = self;
+        if first.is_empty() {
+            return Ok(Part::of(last));
+        }
+        first.append(&mut last)?;
+        Ok(Part::of(first))
     }
 }

@@ -26,7 +26,7 @@ use Rattle.qm_history.specs.declared.turn.Why.{Why}
 use Rattle.qm_history.specs.declared.turn.Why.TheVariants as why
 use Rattle.qm_history.specs.declared.world.Role.{Role}
 use Rattle.qm_history.specs.declared.world.World.{World}
-use Rattle.qm_history.specs.Answers.{answer_of, events_answer, last_moment, taken_answer, takeover_of}
+use Rattle.qm_history.specs.Answers.{events_answer, last_moment, taken_answer, takeover_of}
 use Rattle.qm_history.specs.Calls.{input_of, request_of_report}
 use Rattle.qm_history.specs.Scans.{Scans, behind_event, rows_of}
 use Rattle.qm_history.specs.Step.{after_event}
@@ -36,7 +36,7 @@ use Rattle.qm_history.specs.Turn.{ATakeover, Beside, FencedOr, IsAsked, IsBehind
 use Rattle.qm_history.specs.World.{held_by, role_in, system_in}
 use Rattle.qm_scans.specs.declared.step.ScanStep.{ScanStep}
 use Rattle.qm_scans.specs.declared.step.ScanStep.TheVariants.{Lists, Stops, Stays}
-use Rattle.qm_scans.specs.Behind.{behind_answer, behind_query, is_single, step_of, step_of_input}
+use Rattle.qm_scans.specs.Behind.{behind_answer, is_single, step_of, step_of_input}
 
 -- What is claimed of the events of a call, from a world on: what they leave of the listings is told by the answer, and so is how its
 -- rows are printed.

@@ -1,7 +1,7 @@
 -- What a call leaves of the listings that its node has begun, by what it was answered.
 -- OpenVMS System Services Reference Manual, $GETQUI, on the calls that go on with a wildcard search.
 -- This site's own: that a node which stops ends its listings.
-use Rattle.std.specs.Prelude.{Bool, true, false}
+use Rattle.std.specs.Prelude.{Bool, false}
 use Rattle.qm_kinds.specs.declared.input.Input.{Input}
 use Rattle.qm_kinds.specs.declared.input.Input.TheVariants as input
 use Rattle.qm_kinds.specs.declared.query.Query.{Query}

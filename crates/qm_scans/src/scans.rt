@@ -6,6 +6,7 @@ ghost use Rattle.qm_scans.specs.Behind.{behind_answer, behind_query, behind_stop
 use crate::step::ScanStep;
 use qm_history::Answer;
 use qm_kinds::{After, Listing, Name, Query, Refusal, Row};
+use qm_rows::Rows;
 use std::marker::Model;
 
 /// The listings that a node has begun by item lists, one for each function, each behind the last row that it gave; and the queue
@@ -133,10 +134,10 @@ impl Scans {
     }
 
     // A listing gave the first of these rows, if there is one.
-    fn go_behind(&mut self, query: &Query, rows: &[Row])
+    fn go_behind(&mut self, query: &Query, rows: &Rows)
         ensures { self.new ≡ behind_rows self.old query.now rows.now }
     {
-        if let [row, ..] = rows {
+        if let Some(row) = rows.first() {
             let behind = Query {
                 after: place_behind(row),
                 ..*query
@@ -147,7 +148,7 @@ impl Scans {
     }
 
     // A query of an item list was shown.
-    fn hear_shown(&mut self, query: &Query, rows: &[Row])
+    fn hear_shown(&mut self, query: &Query, rows: &Rows)
         ensures { self.new ≡ behind_shown self.old query.now query.now.listing rows.now }
     {
         match query.listing {
@@ -174,7 +175,7 @@ impl Scans {
             return;
         }
         match answer {
-            Answer::Shown { rows, .. } => self.hear_shown(query, rows.as_slice()),
+            Answer::Shown { rows, .. } => self.hear_shown(query, rows),
             Answer::Refused { refusal, .. } => self.hear_refusal(query, refusal),
             _ => {}
         }

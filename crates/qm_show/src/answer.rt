@@ -1,6 +1,6 @@
 // The lines of a transcript that answer a line of a script.
 ghost use Rattle.std.specs.Prelude.{◌≡◌, ◌≤◌, ◌+◌, length, ◌++◌, ◌∷◌, [], decimal, map, IfSome, OnOk, Some};
-ghost use Rattle.qm_model.specs.Words.{act_text, start_text};
+ghost use Rattle.qm_model.specs.Words.{act_text, row_text, start_text};
 ghost use Rattle.qm_model.specs.Transcript.{full_line, number_text, row_lines, runs_line};
 ghost use Rattle.qm_history.specs.Text.{behind};
 ghost use Rattle.qm_show.specs.Prefix.{prefix_text};
@@ -10,6 +10,7 @@ use crate::columns::characters;
 use crate::row::RowText;
 use arrayvec::ArrayString;
 use qm_kinds::{Act, Name, Row, Start};
+use qm_rows::Rows;
 use std::alloc::{AllocError, Global};
 use std::fmt;
 use std::io::Write;
@@ -138,14 +139,27 @@ pub(crate) fn push_starts(
 // Room for the line of a row, in bytes, that is seldom exceeded: so the text of a long listing is moved nowhere as it grows.
 const MOST_OF_ROW: usize = 80;
 
-/// Appends the lines of a listing: how many rows there are, and the rows.
-pub(crate) fn push_rows(out: &mut Vec<u8>, front: &str, rows: &[Row]) -> Result<(), AllocError>
-    ensures { OnOk result (out.new.items ≡ out.old.items ++ behind front.now (row_lines rows.now)) }
+// Appends the lines of rows.
+fn push_row_texts(out: &mut Vec<u8>, front: &str, rows: &[Row]) -> Result<(), AllocError>
+    ensures { OnOk result (out.new.items ≡ out.old.items ++ behind front.now (map row_text rows.now)) }
 {
-    out.reserve(rows.len().saturating_mul(MOST_OF_ROW))?;
-    push_text(out, front, count_text("rows: ", rows.len()).as_str())?;
     for row in rows {
         push_line(out, front, RowText(row))?;
+    }
+    Ok(())
+}
+
+/// Appends the lines of a listing: how many rows there are, and the rows.
+pub(crate) fn push_rows(out: &mut Vec<u8>, front: &str, rows: &Rows) -> Result<(), AllocError>
+    ensures { OnOk result (out.new.items ≡ out.old.items ++ behind front.now (row_lines rows.now)) }
+{
+    let Some(count) = rows.count() else {
+        return Err(AllocError);
+    };
+    out.reserve(count.saturating_mul(MOST_OF_ROW))?;
+    push_text(out, front, count_text("rows: ", count).as_str())?;
+    for part in rows.parts() {
+        push_row_texts(out, front, part.as_slice())?;
     }
     Ok(())
 }

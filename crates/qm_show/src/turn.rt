@@ -13,6 +13,7 @@ use crate::answer::{
 use crate::refusal::RefusalText;
 use qm_history::{Answer, Takeover, Why};
 use qm_kinds::{Act, Name, Refusal, Reply, Row};
+use qm_rows::Rows;
 use qm_sjc::row_line;
 use std::alloc::{AllocError, Global};
 use std::fmt;
@@ -129,13 +130,28 @@ fn push_duties(out: &mut Vec<u8>, front: &str, why: Why, count: usize) -> Result
     }
 }
 
-// Appends the items of each row.
-fn push_items(alloc: Global, out: &mut Vec<u8>, front: &str, rows: &[Row]) -> Result<(), AllocError>
+// Appends the items of rows.
+fn push_part_items(
+    alloc: Global,
+    out: &mut Vec<u8>,
+    front: &str,
+    rows: &[Row],
+) -> Result<(), AllocError>
     ensures { OnOk result (out.new.items ≡ out.old.items ++ behind front.now (map items_line rows.now)) }
 {
     for row in rows {
         let line = row_line(alloc, row)?;
         push_text(out, front, line.as_str())?;
+    }
+    Ok(())
+}
+
+// Appends the items of each row.
+fn push_items(alloc: Global, out: &mut Vec<u8>, front: &str, rows: &Rows) -> Result<(), AllocError>
+    ensures { OnOk result (out.new.items ≡ out.old.items ++ behind front.now (map items_line rows.now)) }
+{
+    for part in rows.parts() {
+        push_part_items(alloc, out, front, part.as_slice())?;
     }
     Ok(())
 }
@@ -146,13 +162,14 @@ fn push_shown(
     out: &mut Vec<u8>,
     front: &str,
     single: bool,
-    rows: &[Row],
+    rows: &Rows,
 ) -> Result<(), AllocError>
     ensures { OnOk result (out.new.items ≡ out.old.items ++ behind front.now (shown_lines items_line single rows.now)) }
 {
-    match rows {
-        [_, ..] if single => push_items(alloc, out, front, rows),
-        _ => push_rows(out, front, rows),
+    if single && rows.first().is_some() {
+        push_items(alloc, out, front, rows)
+    } else {
+        push_rows(out, front, rows)
     }
 }
 
@@ -190,7 +207,7 @@ fn push_answer(
 {
     match answer {
         Answer::Done { reply, .. } => push_reply(out, front, why, reply),
-        Answer::Shown { rows, .. } => push_shown(alloc, out, front, single, rows.as_slice()),
+        Answer::Shown { rows, .. } => push_shown(alloc, out, front, single, rows),
         Answer::Duties { duties, .. } => push_duties(out, front, why, duties.as_slice().len()),
         Answer::Refused { refusal, .. } => push_refusal(out, front, refusal),
         Answer::Full { need, cap, .. } => push_line(

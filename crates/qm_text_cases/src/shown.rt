@@ -7,6 +7,7 @@ use qm_kinds::{
     QueueRetain, QueueState, Refusal, Reply, Row, Seq, Shape, Start, batch_queue,
 };
 use qm_plans::push_line;
+use qm_rows::Rows;
 use qm_show::show_answer;
 use qm_sjc::row_items;
 use std::alloc::{AllocError, Global};
@@ -202,7 +203,7 @@ pub(crate) fn tell_rows(alloc: Global, told: &mut Vec<u8>) -> Result<(), AllocEr
     let answer = Answer::Shown {
         took: None,
         moment: Moment::BASE,
-        rows: Seq::of(rows(alloc, &cases())?),
+        rows: Rows::of(alloc, rows(alloc, &cases())?)?,
     };
     tell_shown(alloc, told, &name(b"PLUTO"), Why::Line(16), &answer)
 }

@@ -7,6 +7,7 @@ ghost use Rattle.qm_state.specs.Image.{system_of};
 ghost use Rattle.qm_state.specs.Refusing.{Refuses};
 
 use qm_kinds::{ListedEntry, Listing, Query, Refusal, Row};
+use qm_rows::Rows;
 use qm_scan::{all_rows, next_row};
 use qm_state::{Image, Refused};
 use std::alloc::{AllocError, Global};
@@ -18,21 +19,21 @@ use std::alloc::{AllocError, Global};
 /// An entry is found by its number by a logarithm of the entries; so is the place behind the last row, where rows are asked for
 /// one by one. All rows of a listing take one walk over the entries, and no more than 1 KiB a row, but for the targets of generic
 /// queues.
-pub fn view(alloc: Global, image: &Image, query: &Query) -> Result<Vec<Row>, Refused>
-    ensures rows { IfOk result (λ rows. view (system_of image.now) None query.now ≡ Ok rows.items) }
+pub fn view(alloc: Global, image: &Image, query: &Query) -> Result<Rows, Refused>
+    ensures rows { IfOk result (λ rows. view (system_of image.now) None query.now ≡ Ok rows) }
     ensures refused { Refuses result (view (system_of image.now) None query.now) }
 {
     match query.listing {
         Listing::Queues | Listing::Forms | Listing::Characteristics => listed(alloc, image, query),
         Listing::Jobs => view_jobs(alloc, image, query),
         Listing::Entries => view_entries(alloc, image, query),
-        Listing::Manager | Listing::Cancel => Ok(Vec::new(alloc)),
+        Listing::Manager | Listing::Cancel => Ok(Rows::new(alloc)),
     }
 }
 
 // The entries of the queue that is named.
-fn view_jobs(alloc: Global, image: &Image, query: &Query) -> Result<Vec<Row>, Refused>
-    ensures rows { IfOk result (λ rows. rows_of_jobs (system_of image.now) query.now query.now.queue ≡ Ok rows.items) }
+fn view_jobs(alloc: Global, image: &Image, query: &Query) -> Result<Rows, Refused>
+    ensures rows { IfOk result (λ rows. rows_of_jobs (system_of image.now) query.now query.now.queue ≡ Ok rows) }
     ensures refused { Refuses result (rows_of_jobs (system_of image.now) query.now query.now.queue) }
 {
     match query.queue {
@@ -42,8 +43,8 @@ fn view_jobs(alloc: Global, image: &Image, query: &Query) -> Result<Vec<Row>, Re
 }
 
 // The entry of a number, or a listing of entries.
-fn view_entries(alloc: Global, image: &Image, query: &Query) -> Result<Vec<Row>, Refused>
-    ensures rows { IfOk result (λ rows. rows_of_entries (system_of image.now) query.now query.now.number ≡ Ok rows.items) }
+fn view_entries(alloc: Global, image: &Image, query: &Query) -> Result<Rows, Refused>
+    ensures rows { IfOk result (λ rows. rows_of_entries (system_of image.now) query.now query.now.number ≡ Ok rows) }
     ensures refused { Refuses result (rows_of_entries (system_of image.now) query.now query.now.number) }
 {
     match query.number {
@@ -54,8 +55,8 @@ fn view_entries(alloc: Global, image: &Image, query: &Query) -> Result<Vec<Row>,
 
 // The entry of a number.
 #[tactic(auto, unfolding(qm_state::specs::Image::system_of))]
-fn view_entry(alloc: Global, image: &Image, number: u32) -> Result<Vec<Row>, Refused>
-    ensures rows { IfOk result (λ rows. entry_row number (entry_numbered number (system_of image.now).entries) ≡ Ok rows.items) }
+fn view_entry(alloc: Global, image: &Image, number: u32) -> Result<Rows, Refused>
+    ensures rows { IfOk result (λ rows. entry_row number (entry_numbered number (system_of image.now).entries) ≡ Ok rows) }
     ensures refused { Refuses result (entry_row number (entry_numbered number (system_of image.now).entries)) }
 {
     match image.parts().entry(number) {
@@ -63,15 +64,15 @@ fn view_entry(alloc: Global, image: &Image, number: u32) -> Result<Vec<Row>, Ref
         Some(entry) => {
             let mut rows = Vec::with_capacity(alloc, 1)?;
             rows.push_reserved(Row::Entry(ListedEntry::of(alloc, entry)?));
-            Ok(rows)
+            Ok(Rows::of(alloc, rows)?)
         }
     }
 }
 
 // The next row of a listing that goes on one by one, or all its rows.
 #[inline(never)]
-fn listed(alloc: Global, image: &Image, query: &Query) -> Result<Vec<Row>, Refused>
-    ensures rows { IfOk result (λ rows. rows_listed (system_of image.now) query.now ≡ Ok rows.items) }
+fn listed(alloc: Global, image: &Image, query: &Query) -> Result<Rows, Refused>
+    ensures rows { IfOk result (λ rows. rows_listed (system_of image.now) query.now ≡ Ok rows) }
     ensures refused { Refuses result (rows_listed (system_of image.now) query.now) }
 {
     if query.single {
@@ -82,8 +83,8 @@ fn listed(alloc: Global, image: &Image, query: &Query) -> Result<Vec<Row>, Refus
 }
 
 // All rows of a listing.
-fn all_listed(alloc: Global, image: &Image, query: &Query) -> Result<Vec<Row>, AllocError>
-    ensures { IfOk result (λ rows. rows.items ≡ all_rows (system_of image.now) query.now query.now.listing) }
+fn all_listed(alloc: Global, image: &Image, query: &Query) -> Result<Rows, AllocError>
+    ensures { IfOk result (λ rows. rows ≡ all_rows (system_of image.now) query.now query.now.listing) }
 {
     all_rows(alloc, image.parts(), query)
 }
@@ -97,9 +98,9 @@ fn next(alloc: Global, image: &Image, query: &Query) -> Result<Option<Row>, Allo
 }
 
 // The next row of a listing, or its end.
-fn next_listed(alloc: Global, image: &Image, query: &Query) -> Result<Vec<Row>, Refused>
+fn next_listed(alloc: Global, image: &Image, query: &Query) -> Result<Rows, Refused>
     ensures rows { IfOk result (λ rows. one_row query.now.listing
-        (next_row query.now.after (single_rows (system_of image.now) query.now query.now.listing)) ≡ Ok rows.items) }
+        (next_row query.now.after (single_rows (system_of image.now) query.now query.now.listing)) ≡ Ok rows) }
     ensures refused { Refuses result (one_row query.now.listing
         (next_row query.now.after (single_rows (system_of image.now) query.now query.now.listing))) }
 {
@@ -109,7 +110,7 @@ fn next_listed(alloc: Global, image: &Image, query: &Query) -> Result<Vec<Row>, 
         Some(row) => {
             let mut rows = Vec::with_capacity(alloc, 1)?;
             rows.push_reserved(row);
-            Ok(rows)
+            Ok(Rows::of(alloc, rows)?)
         }
     }
 }

@@ -1,4 +1,4 @@
-use Rattle.std.proofs.Common.{length, vec_capacity, ◌≤◌, ◌≡◌, ◌∙◌, Ok, Err, refl, sym, ap, subst}
+use Rattle.std.proofs.Common.{length, vec_capacity, ◌≤◌, ◌∙◌, Ok, Err, refl, sym, ap, subst}
 use Rattle.qm_disk.specs.Disk.{OneFailed, IsQuiet}
 use Rattle.qm_model.specs.Outcome.{Accepted}
 use Rattle.qm_state.specs.Preparing.{made}

@@ -9,7 +9,7 @@ use Rattle.qm_chest.proofs.book.Book.rows.Goals as goal
 pub returns-in_default-clause-rows : goal.returns-in_default-clause-rows
 returns-in_default-clause-rows g c = λ name named.
     let st = standing_of c.args.manager.now in
-    subst (λ (r : Result (List Row) Refusal). IfOk c.view.result (λ rows. r ≡ Ok rows.items))
+    subst (λ (r : Result (List Row) Refusal). IfOk c.view.result (λ rows. r ≡ Ok rows))
     (c.the_manager_shows_in_its_listing.ensures st.system None (Some (record { node = name; epoch = st.recorded.says.epoch })) c.args.query.now c.in_default.not-Manager)
     c.view.ensures.rows
 

@@ -1,7 +1,7 @@
 use Rattle.std.proofs.Common.{◌≡◌, length, take}
 use Rattle.qm_entries.specs.Boxed.{contents}
 use Rattle.qm_scan.specs.Listed.{AreBelow}
-use Rattle.qm_scan.proofs.below.groups_below.Given as goal
+use Rattle.qm_scan.proofs.below.groups_of.Given as goal
 
 abbrev pub invariant-loop-boxed : goal.invariant-loop-boxed
 invariant-loop-boxed l = record {
