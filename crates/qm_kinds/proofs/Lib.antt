@@ -1,3 +1,4 @@
 pub mod Ascii
 pub mod Reading
 pub mod MatchTable
+pub mod Packing

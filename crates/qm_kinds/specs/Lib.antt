@@ -6,4 +6,5 @@ pub mod Sizes
 pub mod Files
 pub mod MatchRows
 pub mod Words
+pub mod Packed
 pub mod Listed

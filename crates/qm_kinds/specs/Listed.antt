@@ -28,10 +28,10 @@ abbrev pub entry_of_plain : PlainEntry → Entry
 entry_of_plain p = record {
   number = p.number;
   kind = p.kind;
-  home = p.home;
-  name = p.name;
-  user = p.user;
-  file = record { name = p.file; extension = p.extension };
+  home = p.names.home;
+  name = p.names.name;
+  user = p.names.user;
+  file = p.names.file;
   size = p.size;
   priority = p.priority;
   after = p.after;
@@ -39,7 +39,7 @@ entry_of_plain p = record {
   retain = retain.Default;
   restart = p.restart;
   characteristics = record { 0 = 0 };
-  form = p.form;
+  form = p.names.form;
   copies = p.copies;
   flag = p.flag;
   mark = [];

@@ -1,7 +1,7 @@
 -- Bytes behind which only zeros stand are given back by those bytes.
-use Rattle.std.proofs.Common.{◌≡◌, ℕ, ◌+◌, ◌-◌, ◌≤◌, ◌++◌, List, length, take, drop, replicate, arith, ap, sym, ◌∙◌, take-append-drop, length-take-le, length-append, length-drop}
-use Rattle.std.proofs.Math.Seq.{drop-append_seam, take-add, take-append_seam}
-use Rattle.std.proofs.lemmas.List.{drop-replicate, drop-take, length-replicate, take-replicate}
+use Rattle.std.proofs.Common.{◌≡◌, ℕ, ◌-◌, ◌≤◌, ◌++◌, List, length, take, drop, replicate, arith, ap, sym, ◌∙◌, take-append-drop, length-take-le, length-append, length-drop}
+use Rattle.std.proofs.Math.Seq.{drop-append_seam, take-append_seam}
+use Rattle.std.proofs.lemmas.List.{drop-replicate, length-replicate}
 
 pub padded_size : (cap size : ℕ) (bytes : List ℕ) → size ≤ cap → length bytes ≡ cap → length (take size bytes) ≡ size
 padded_size cap size bytes fits all = length-take-le size bytes (omega (arith, fits, all))
@@ -22,23 +22,3 @@ padded cap bytes fits = (
 -- the bytes stand in front
 pub front_of_padded : (cap : ℕ) (bytes : List ℕ) → take (length bytes) (bytes ++ drop (length bytes) (replicate cap 0)) ≡ bytes
 front_of_padded cap bytes = take-append_seam bytes (drop (length bytes) (replicate cap 0))
-
--- bytes in front of zeros, with fewer of these
-module _ (cap less size : ℕ) (bytes : List ℕ) (fits : size ≤ less) (fewer : less ≤ cap) (all : length bytes ≡ cap) (rest : drop size bytes ≡ replicate (cap - size) 0) where
-  split : less ≡ size + (less - size)
-  split = omega (arith, fits)
-
-  pub shortened : (size ≤ less) × (length (take less bytes) ≡ less) × (drop size (take less bytes) ≡ replicate (less - size) 0)
-  shortened = (
-    fits,
-    length-take-le less bytes (omega (arith, fewer, all)),
-    ap (λ n. drop size (take n bytes)) split ∙ drop-take size (less - size) bytes
-        ∙ ap (take (less - size)) rest ∙ take-replicate (less - size) (cap - size) 0 (omega (arith, fits, fewer)),
-  )
-
-  -- the bytes in front are the same
-  pub front_of_shortened : take size (take less bytes) ≡ take size bytes
-  front_of_shortened =
-      ap (λ n. take size (take n bytes)) split ∙ ap (take size) (take-add size (less - size) bytes)
-      ∙ sym (ap (λ n. take n (take size bytes ++ take (less - size) (drop size bytes))) (length-take-le size bytes (omega (arith, fits, fewer, all))))
-      ∙ take-append_seam (take size bytes) (take (less - size) (drop size bytes))

@@ -3,7 +3,6 @@
 #![tactic(auto)]
 
 mod boxed;
-mod compact;
 mod count;
 mod entry;
 mod fault;
@@ -16,6 +15,7 @@ mod listed;
 mod mark;
 mod moment;
 mod name;
+mod packed;
 mod pattern;
 mod plain;
 mod query;

@@ -8,7 +8,7 @@ use crate::plain::PlainEntry;
 use std::alloc::{AllocError, Global};
 use std::marker::Model;
 
-/// An entry as the row of a listing. Contracts see the entry. Where its job doesn't run and has nothing that is rare, the row takes a third
+/// An entry as the row of a listing. Contracts see the entry. Where its job doesn't run and has nothing that is rare, the row takes a fourth
 /// of what the entry would, and no memory; else the entry stands in memory of its own.
 #[derive(Drop)]
 pub struct ListedEntry {
@@ -67,7 +67,7 @@ impl ListedEntry {
         ensures lawful { IsText is_name_byte self.now.name }
     {
         match &self.kept {
-            Kept::Plain(plain) => plain.name.as_str(),
+            Kept::Plain(plain) => plain.names.name_text(),
             Kept::Whole(entry) => text_of(&entry.name),
         }
     }
@@ -78,7 +78,7 @@ impl ListedEntry {
         ensures lawful { IsText is_name_byte self.now.user }
     {
         match &self.kept {
-            Kept::Plain(plain) => plain.user.as_str(),
+            Kept::Plain(plain) => plain.names.user_text(),
             Kept::Whole(entry) => text_of(&entry.user),
         }
     }

@@ -1,5 +1,5 @@
 ghost use Rattle.std.specs.Char.{to_ascii_uppercase};
-ghost use Rattle.std.specs.Prelude.{position, not, ◌≡◌, ◌≤◌, ◌<◌, length, Some, true, IfSome, IfNone};
+ghost use Rattle.std.specs.Prelude.{position, not, ◌≡◌, ◌<◌, length, take, Some, true, IfSome, IfNone};
 ghost use Rattle.std.specs.List.{list_all};
 ghost use Rattle.std.specs.Ordering.{nat_cmp};
 ghost use Rattle.std.specs.Cmp.{partial_equiv_from_equiv};
@@ -13,6 +13,9 @@ use crate::short_bytes::{ShortBytes, read_text};
 use std::cmp::Ordering;
 use std::fmt;
 use std::marker::Model;
+
+/// The most bytes of a name.
+pub(crate) const NAME_BYTES: usize = 39;
 
 /// The most bytes of a name of a node.
 pub const NODE_NAME_BYTES: usize = 6;
@@ -62,13 +65,12 @@ impl Name {
         })
     }
 
-    /// The bytes of the name with room for fewer than 39, if they fit.
-    pub(crate) fn shortened<const CAP: usize>(&self) -> Option<ShortBytes<CAP>>
-        requires { CAP ≤ 39 }
-        ensures short { IfSome result (λ short. short ≡ self.now) }
-        ensures lawful { IsText is_name_byte self.now }
+    /// The bytes of the name, and behind them as many others as 39 leave.
+    pub(crate) fn padded(&self) -> &[u8]
+        ensures front { take (length self.now) result.now ≡ self.now }
+        ensures size { length result.now ≡ NAME_BYTES }
     {
-        self.text.shortened()
+        self.text.padded()
     }
 
     /// The bytes of the name.

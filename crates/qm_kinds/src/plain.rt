@@ -2,13 +2,11 @@
 ghost use Rattle.std.specs.Prelude.{◌≡◌, ◌≤◌, IfSome, IsTrue};
 ghost use Rattle.qm_kinds.specs.Listed.{IsUsual, entry_of_plain, state_of_plain};
 
-use crate::compact::CompactName;
 use crate::entry::{Entry, EntryState, JobKind, JobRetain};
-use crate::file::FileName;
 use crate::form::CharacteristicSet;
 use crate::mark::Mark;
 use crate::moment::Moment;
-use crate::name::Name;
+use crate::packed::PackedNames;
 
 /// The state of a job that doesn't run.
 #[derive(Clone, Copy)]
@@ -19,20 +17,15 @@ pub(crate) enum PlainState {
     Retained { status: u32, until: Option<Moment> },
 }
 
-/// An entry whose job doesn't run, that asks for no characteristics, has no mark, and is kept as its queue says. Names of jobs and of files
-/// have all the room that they may take, and so have those of queues; users, forms and extensions have what they take in most sites.
+/// An entry whose job doesn't run, that asks for no characteristics, has no mark, and is kept as its queue says. Its names take no more
+/// room together than those of most entries do.
 #[derive(Drop)]
 pub(crate) struct PlainEntry {
     pub(crate) after: Option<Moment>,
     pub(crate) state: PlainState,
     pub(crate) number: u32,
     pub(crate) size: u32,
-    pub(crate) home: CompactName<31>,
-    pub(crate) name: CompactName<39>,
-    pub(crate) user: CompactName<15>,
-    pub(crate) file: CompactName<39>,
-    pub(crate) extension: Option<CompactName<7>>,
-    pub(crate) form: Option<CompactName<15>>,
+    pub(crate) names: PackedNames,
     pub(crate) kind: JobKind,
     pub(crate) priority: u8,
     pub(crate) held: bool,
@@ -75,28 +68,7 @@ impl PlainState {
     }
 }
 
-// A name that may be left out, if it isn't too long.
-fn compact<const CAP: usize>(name: &Option<Name>) -> Option<Option<CompactName<CAP>>>
-    requires { CAP ≤ 39 }
-    ensures { IfSome result (λ compact. compact ≡ name.now) }
-{
-    match name {
-        None => Some(None),
-        Some(name) => Some(Some(CompactName::of(name)?)),
-    }
-}
-
-// The name, if there is one.
-fn name<const CAP: usize>(compact: &Option<CompactName<CAP>>) -> Option<Name>
-    ensures { result ≡ compact.now }
-{
-    match compact {
-        None => None,
-        Some(compact) => Some(compact.name()),
-    }
-}
-
-// Whether an entry has nothing of what a plain one leaves out, but for its state and the lengths of its names.
+// Whether an entry has nothing of what a plain one leaves out, but for its state and the length of its names.
 fn is_usual(entry: &Entry) -> bool
     ensures { IsTrue result → IsUsual entry.now }
 {
@@ -118,12 +90,7 @@ impl PlainEntry {
             state: PlainState::of(&entry.state)?,
             number: entry.number,
             size: entry.size,
-            home: CompactName::of(&entry.home)?,
-            name: CompactName::of(&entry.name)?,
-            user: CompactName::of(&entry.user)?,
-            file: CompactName::of(&entry.file.name)?,
-            extension: compact(&entry.file.extension)?,
-            form: compact(&entry.form)?,
+            names: PackedNames::of(entry)?,
             kind: entry.kind,
             priority: entry.priority,
             held: entry.held,
@@ -134,16 +101,6 @@ impl PlainEntry {
         })
     }
 
-    // The name of its file.
-    fn file(&self) -> FileName
-        ensures { result ≡ record { name = self.now.file; extension = self.now.extension } }
-    {
-        FileName {
-            name: self.file.name(),
-            extension: name(&self.extension),
-        }
-    }
-
     /// The entry.
     pub(crate) fn entry(&self) -> Entry
         ensures { result ≡ entry_of_plain self.now }
@@ -151,10 +108,10 @@ impl PlainEntry {
         Entry {
             number: self.number,
             kind: self.kind,
-            home: self.home.name(),
-            name: self.name.name(),
-            user: self.user.name(),
-            file: self.file(),
+            home: self.names.home(),
+            name: self.names.name(),
+            user: self.names.user(),
+            file: self.names.file(),
             size: self.size,
             priority: self.priority,
             after: self.after,
@@ -162,7 +119,7 @@ impl PlainEntry {
             retain: JobRetain::Default,
             restart: self.restart,
             characteristics: CharacteristicSet::new(),
-            form: name(&self.form),
+            form: self.names.form(),
             copies: self.copies,
             flag: self.flag,
             mark: Mark::new(&[]).unwrap(),

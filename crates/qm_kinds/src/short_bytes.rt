@@ -1,5 +1,5 @@
 // Bytes that lie in the value itself, so that a name or a mark takes no memory and can be copied.
-ghost use Rattle.std.specs.Prelude.{IfSome, ◌≡◌, ◌≤◌, ◌<◌, length, map};
+ghost use Rattle.std.specs.Prelude.{◌≡◌, ◌≤◌, ◌<◌, length, map, take};
 ghost use Rattle.std.specs.Char.{to_ascii_uppercase};
 ghost use Rattle.qm_kinds.specs.Text.{text_unless};
 
@@ -56,20 +56,12 @@ impl<const CAP: usize> ShortBytes<CAP> {
         ShortBytes::new(&raised[..text.len()])
     }
 
-    /// These bytes with room for fewer, if they fit. What is copied has always the same size.
-    pub(crate) fn shortened<const LESS: usize>(&self) -> Option<ShortBytes<LESS>>
-        requires { LESS ≤ CAP }
-        ensures { IfSome result (λ short. short ≡ self.now) }
+    /// The bytes, and behind them zeros up to `CAP`.
+    pub(crate) fn padded(&self) -> &[u8]
+        ensures front { take (length self.now) result.now ≡ self.now }
+        ensures size { length result.now ≡ CAP }
     {
-        if self.size as usize > LESS {
-            return None;
-        }
-        let mut bytes = [0; LESS];
-        bytes.copy_from_slice(&self.bytes[..LESS]);
-        Some(ShortBytes {
-            bytes,
-            size: self.size,
-        })
+        &self.bytes
     }
 
     /// The bytes.
