@@ -6,9 +6,9 @@ ghost use Rattle.qm_node.specs.Duties.{AreLearnable};
 ghost use Rattle.qm_node.specs.Node.{CanBeHeard};
 ghost use Rattle.qm_symb.specs.Symbiont.{IsWithinLimits};
 
-use qm_drive::Serve;
 use qm_history::{Answer, Call, Turn, Why};
 use qm_kinds::{Duty, JobKind, Mark, Moment, Seq, Shape, Work, system_user};
+use qm_program::Serve;
 use qm_rows::Rows;
 use qm_symb::TEXT_BYTES;
 use std::alloc::{AllocError, Global};

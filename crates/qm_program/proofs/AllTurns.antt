@@ -15,11 +15,11 @@ use Rattle.qm_history.specs.Script.{UserLine}
 use Rattle.qm_course.specs.Runs.{Side}
 use Rattle.qm_turn.specs.History.{Agrees, notes, notes_by}
 use Rattle.qm_turn.specs.Turns.{Known, fresh}
-use Rattle.qm_drive.specs.declared.noted.Noted.{Noted}
-use Rattle.qm_drive.specs.Driving.{hidden_by}
-use Rattle.qm_drive.specs.Passes.{IsOfNode, turns_in, unread_in, unread_known}
-use Rattle.qm_drive.proofs.Hiding.{driven_hides, hidden_known}
-use Rattle.qm_drive.proofs.Owning.{turns_in_append}
+use Rattle.qm_program.specs.declared.noted.Noted.{Noted}
+use Rattle.qm_program.specs.Driving.{hidden_by}
+use Rattle.qm_program.specs.Passes.{IsOfNode, turns_in, unread_in, unread_known}
+use Rattle.qm_program.proofs.Hiding.{driven_hides, hidden_known}
+use Rattle.qm_program.proofs.Owning.{turns_in_append}
 use Rattle.qm_program.specs.Gathered.{AreGathered, pair_of, text_at}
 use Rattle.qm_program.specs.AllTurns.{AreFull, HaveMadeTurns, NoneDamaged}
 use Rattle.qm_program.specs.Served.{AllHaveServed, HasServed}

@@ -5,10 +5,10 @@ use Rattle.qm_disk.specs.Disk.{Meaning}
 use Rattle.qm_history.specs.declared.world.World.{World}
 use Rattle.qm_history.specs.Chest.{Note}
 use Rattle.qm_history.specs.World.{IsSound, is_live}
-use Rattle.qm_drive.specs.Sharing.{StandsFor}
+use Rattle.qm_program.specs.Sharing.{StandsFor}
 use Rattle.qm_service.specs.Value.{service_disk, service_turns}
 use Rattle.qm_service.specs.declared.service.Service.{Service}
-use Rattle.qm_shared.specs.Standing.{HasStood, MayBeginOn}
+use Rattle.qm_program.specs.SiteStanding.{HasStood, MayBeginOn}
 
 module _ {D S : Type 0} (m : Meaning D) (service_of : S → Service D) (device : List D) (called names : List (List ℕ)) (site : S) (on : device ≡ service_disk (service_of site) ∷ []) (same_names : called ≡ names) where
   -- it stands for no notes

@@ -4,8 +4,8 @@ use Rattle.std.specs.List.{AllByRecursion, range_with_len}
 use Rattle.std.proofs.lemmas.List.{append-nil, length-map}
 use Rattle.std.proofs.lemmas.List.FromFn.{length-range_with_len}
 use Rattle.qm_turn.specs.Turns.{Closed, IsLast, Known}
-use Rattle.qm_drive.specs.declared.noted.Noted.{Noted}
-use Rattle.qm_drive.specs.Passes.{TakesIn}
+use Rattle.qm_program.specs.declared.noted.Noted.{Noted}
+use Rattle.qm_program.specs.Passes.{TakesIn}
 use Rattle.qm_program.specs.Gathered.{AreGathered}
 use Rattle.qm_program.proofs.Gathering.{gathered, is_last}
 use Rattle.qm_program.proofs.Places.{mapped}

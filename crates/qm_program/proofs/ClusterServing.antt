@@ -33,12 +33,12 @@ use Rattle.qm_service.specs.Serving.{Outside, outside}
 use Rattle.qm_service.specs.Value.{service_disk, service_names, service_turns}
 use Rattle.qm_service.specs.declared.service.Service.{Service}
 use Rattle.qm_turn.specs.History.{notes}
-use Rattle.qm_drive.specs.declared.ending.DriveEnd.{DriveEnd}
-use Rattle.qm_drive.specs.declared.ending.DriveEnd.TheVariants as end
-use Rattle.qm_drive.specs.Driving.{node_end, text_told}
-use Rattle.qm_drive.specs.Sharing.{StandsFor, note_view}
-use Rattle.qm_shared.specs.Serving.{ServesNodes}
-use Rattle.qm_shared.specs.Standing.{HasStood, MayBeginOn}
+use Rattle.qm_program.specs.declared.node_ending.DriveEnd.{DriveEnd}
+use Rattle.qm_program.specs.declared.node_ending.DriveEnd.TheVariants as end
+use Rattle.qm_program.specs.Driving.{node_end, text_told}
+use Rattle.qm_program.specs.Sharing.{StandsFor, note_view}
+use Rattle.qm_program.specs.SiteServing.{ServesNodes}
+use Rattle.qm_program.specs.SiteStanding.{HasStood, MayBeginOn}
 use Rattle.qm_program.specs.declared.joining.LeftText.{LeftText}
 use Rattle.qm_program.specs.Gathered.{text_left}
 use Rattle.qm_program.specs.AllTurns.{AreFull, HaveMadeTurns}

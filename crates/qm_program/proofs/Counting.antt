@@ -8,7 +8,7 @@ use Rattle.qm_faults.specs.Faults.{counted}
 use Rattle.qm_history.specs.Faults.{faults_told, tells_disk_fault}
 use Rattle.qm_history.specs.declared.turn.Turn.{Turn}
 use Rattle.qm_service.specs.Ends.{some_disk_failed}
-use Rattle.qm_shared.specs.Serving.{IsToldBut}
+use Rattle.qm_program.specs.SiteServing.{IsToldBut}
 use Rattle.qm_program.specs.Causes.{Counts, DiskFails}
 use Rattle.qm_program.specs.Doing.{IsWithoutFault}
 

@@ -6,10 +6,10 @@ use Rattle.qm_history.specs.declared.world.World.{World}
 use Rattle.qm_history.specs.Ends.{FileDamaged, NodeEnd}
 use Rattle.qm_history.specs.Script.{UserLine}
 use Rattle.qm_course.specs.Runs.{Side}
-use Rattle.qm_drive.specs.declared.ending.DriveEnd.{DriveEnd}
-use Rattle.qm_drive.specs.declared.ending.DriveEnd.TheVariants as end
-use Rattle.qm_drive.specs.Driving.{HasDriven, IsDriven, IsUndamaged, node_end}
-use Rattle.qm_drive.specs.Passes.{AreOwn, turns_in}
+use Rattle.qm_program.specs.declared.node_ending.DriveEnd.{DriveEnd}
+use Rattle.qm_program.specs.declared.node_ending.DriveEnd.TheVariants as end
+use Rattle.qm_program.specs.Driving.{HasDriven, IsDriven, IsUndamaged, node_end}
+use Rattle.qm_program.specs.Passes.{AreOwn, turns_in}
 use Rattle.qm_program.specs.Through.{AtTurnstile, IsThrough}
 
 undamaged_end : (r : Result (Unit {0}) DriveEnd) (file place : ℕ) → IfErr r IsUndamaged → node_end r ≡ FileDamaged file place → ⊥

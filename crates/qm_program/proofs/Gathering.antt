@@ -6,9 +6,9 @@ use mathlib.Core.List.{IsPrefix}
 use Rattle.qm_turn.specs.History.{Agrees, numbers_of, times}
 use Rattle.qm_turn.specs.Turns.{Closed, IsLast, Known, own}
 use Rattle.qm_turn.proofs.Gathering.{all_there}
-use Rattle.qm_drive.specs.declared.noted.Noted.{Noted}
-use Rattle.qm_drive.specs.Passes.{TakesIn}
-use Rattle.qm_drive.proofs.Joins.{has_all, has_seen, have_seen, through}
+use Rattle.qm_program.specs.declared.noted.Noted.{Noted}
+use Rattle.qm_program.specs.Passes.{TakesIn}
+use Rattle.qm_program.proofs.Joins.{has_all, has_seen, have_seen, through}
 use Rattle.qm_program.specs.Gathered.{AreGathered, pair_of}
 use Rattle.qm_program.proofs.Places.{mapped}
 

@@ -6,6 +6,20 @@ pub mod Listing
 pub mod NewSite
 pub mod Reasons
 pub mod Surviving
+pub mod CallServing
+mod Joins
+mod Owning
+mod Standing
+mod Made
+mod Lives
+mod Hearing
+mod Onward
+mod Underway
+mod Undamaged
+mod Hiding
+mod Called
+mod Opened
+mod Left
 mod Places
 mod Gathering
 mod Driven

@@ -3,9 +3,9 @@ use Rattle.std.proofs.Common.{◌≡◌, ◌+◌, ◌<◌, List, [], ◌∷◌, 
 use Rattle.std.specs.Prelude.{slice_index_or}
 use Rattle.std.proofs.lemmas.List.{map-append}
 use Rattle.qm_turn.specs.Turns.{Joined, Known}
-use Rattle.qm_drive.specs.declared.noted.Noted.{Noted}
-use Rattle.qm_drive.specs.Passes.{TakesIn}
-use Rattle.qm_drive.proofs.Joins.{one_more}
+use Rattle.qm_program.specs.declared.noted.Noted.{Noted}
+use Rattle.qm_program.specs.Passes.{TakesIn}
+use Rattle.qm_program.proofs.Joins.{one_more}
 
 module _ {X : Type 0} where
   -- the first element was taken

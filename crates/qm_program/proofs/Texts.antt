@@ -21,7 +21,7 @@ use Rattle.qm_history.specs.Text.{behind, cluster_text, prefix_of, text_of_node,
 use Rattle.qm_history.specs.Visits.{visits_of}
 use Rattle.qm_history.specs.World.{IsSound, system_in}
 use Rattle.qm_sjc.specs.Printed.{items_line}
-use Rattle.qm_drive.specs.Driving.{text_told, visit_told}
+use Rattle.qm_program.specs.Driving.{text_told, visit_told}
 use Rattle.qm_program.specs.Printing.{name_at, turns_line, words_of}
 use Rattle.qm_program.specs.ClusterEnding.{ends_of}
 use Rattle.qm_program.proofs.Naming.{name_there, turn_names_stay, turn_sound}

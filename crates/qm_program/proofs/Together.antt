@@ -13,8 +13,8 @@ use Rattle.qm_history.specs.declared.world.World.{World}
 use Rattle.qm_history.specs.Script.{UserLine}
 use Rattle.qm_course.specs.Runs.{Side}
 use Rattle.qm_turn.specs.Turns.{Known, fresh}
-use Rattle.qm_drive.specs.Allowed.{CanAskAll}
-use Rattle.qm_drive.specs.declared.noted.Noted.{Noted}
+use Rattle.qm_program.specs.Allowed.{CanAskAll}
+use Rattle.qm_program.specs.declared.noted.Noted.{Noted}
 use Rattle.qm_pairs.specs.Each.{CanBeWorkedOn, IsWorkedOn}
 use Rattle.qm_program.specs.Through.{AllAreThrough, AtTurnstile, CanBeDriven, IsThrough, first_at}
 use Rattle.qm_program.proofs.Places.{get_below, made_from, there}

@@ -21,11 +21,11 @@ use Rattle.qm_course.specs.Asking.{read_built}
 use Rattle.qm_course.specs.Runs.{Side}
 use Rattle.qm_turn.specs.History.{Agrees, notes_by, numbers_of, times}
 use Rattle.qm_turn.specs.Turns.{Known}
-use Rattle.qm_drive.specs.declared.noted.Noted.{Noted}
-use Rattle.qm_drive.specs.Driving.{HasDriven, IsHeard, IsLastOf, readings, text_told}
-use Rattle.qm_drive.specs.Passes.{AreOfTheirNodes, IsOfNode, KnowOwnTurns, turns_in}
-use Rattle.qm_drive.specs.Sharing.{turns_of}
-use Rattle.qm_drive.proofs.Owning.{of_their_nodes, own_begins, own_of_each, own_turns, turns_from, visits_whole}
+use Rattle.qm_program.specs.declared.noted.Noted.{Noted}
+use Rattle.qm_program.specs.Driving.{HasDriven, IsHeard, IsLastOf, readings, text_told}
+use Rattle.qm_program.specs.Passes.{AreOfTheirNodes, IsOfNode, KnowOwnTurns, turns_in}
+use Rattle.qm_program.specs.Sharing.{turns_of}
+use Rattle.qm_program.proofs.Owning.{of_their_nodes, own_begins, own_of_each, own_turns, turns_from, visits_whole}
 use Rattle.qm_program.specs.Gathered.{pair_of, text_at}
 use Rattle.qm_program.specs.Served.{HasServed}
 use Rattle.qm_program.specs.Through.{AtTurnstile, IsThrough}

@@ -4,7 +4,7 @@ use Rattle.std.specs.Prelude.{slice_get, sum_by}
 use Rattle.std.specs.List.{AllByRecursion}
 use Rattle.std.proofs.lemmas.List.{take_all}
 use Rattle.std.proofs.lemmas.List.Sums.{sum_by-cons}
-use Rattle.qm_drive.specs.Driving.{hidden_by}
+use Rattle.qm_program.specs.Driving.{hidden_by}
 use Rattle.qm_history.specs.Ends.{BrokenOff, Damaged, DiskFailed, Ended, FileDamaged, HistoryFull, MemoryShort, NoMemory, NodeEnd, NodeText, Served, ServingEnd, SinkFailed, TurnsSpent, cuts_text, end_of, end_of_node, worse}
 use Rattle.qm_program.specs.ClusterEnding.{ends_of, worst_of}
 

@@ -9,10 +9,10 @@ use Rattle.qm_history.specs.Ends.{FileDamaged, NodeText, TurnsSpent}
 use Rattle.qm_history.specs.Script.{UserLine}
 use Rattle.qm_symb.specs.Device.{Meaning}
 use Rattle.qm_turn.specs.History.{notes}
-use Rattle.qm_drive.specs.declared.noted.Noted.{Noted}
-use Rattle.qm_drive.specs.Driving.{hidden_by}
-use Rattle.qm_drive.specs.Passes.{AreOfTheirNodes, turns_in}
-use Rattle.qm_drive.specs.Sharing.{note_view}
+use Rattle.qm_program.specs.declared.noted.Noted.{Noted}
+use Rattle.qm_program.specs.Driving.{hidden_by}
+use Rattle.qm_program.specs.Passes.{AreOfTheirNodes, turns_in}
+use Rattle.qm_program.specs.Sharing.{note_view}
 use Rattle.qm_program.specs.Served.{AllHaveServed}
 
 -- no node's end tells of a damaged file

@@ -3,7 +3,7 @@
 use Rattle.std.specs.Prelude.{◌≡◌, ◌≤◌, ℕ, IsTrue, List, [], ◌∷◌, length, sum_by}
 use Rattle.qm_course.specs.Runs.{Side}
 use Rattle.qm_disk.specs.Disk.{Meaning}
-use Rattle.qm_drive.specs.Driving.{hidden_by}
+use Rattle.qm_program.specs.Driving.{hidden_by}
 use Rattle.qm_history.specs.declared.world.World.{World}
 use Rattle.qm_history.specs.Chest.{Note, turns_kept, unread_of}
 use Rattle.qm_history.specs.Ends.{NodeText}
@@ -13,7 +13,7 @@ use Rattle.qm_program.specs.Served.{AllHaveServed}
 use Rattle.qm_service.specs.Opening.{MayBegin}
 use Rattle.qm_service.specs.Value.{service_disk, service_turns}
 use Rattle.qm_service.specs.declared.service.Service.{Service}
-use Rattle.qm_shared.specs.Standing.{HasStood}
+use Rattle.qm_program.specs.SiteStanding.{HasStood}
 use Rattle.qm_symb.specs.Device as symb
 
 -- Nodes of these names made their turns for these lines on a site, and these are their ends and texts. The site stands for the notes of

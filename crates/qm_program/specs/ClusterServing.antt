@@ -20,7 +20,7 @@ use Rattle.qm_record.specs.Spelling.{HasSpelling}
 use Rattle.qm_service.specs.Ends.{EndsBy, IsUndamaged, TakesTo, stop_of}
 use Rattle.qm_service.specs.Opening.{MayBegin}
 use Rattle.qm_service.specs.Serving.{Outside}
-use Rattle.qm_shared.specs.Serving.{IsToldBut, ServesNodesIn}
+use Rattle.qm_program.specs.SiteServing.{IsToldBut, ServesNodesIn}
 use Rattle.qm_sjc.specs.Printed.{items_line}
 use Rattle.qm_symb.specs.Device as symb
 

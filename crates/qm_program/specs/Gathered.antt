@@ -5,8 +5,8 @@ use Rattle.std.specs.List.{AllByRecursion}
 use mathlib.Core.List.{IsPrefix}
 use Rattle.qm_turn.specs.History.{Agrees, notes, notes_by}
 use Rattle.qm_turn.specs.Turns.{Known}
-use Rattle.qm_drive.specs.Driving.{node_end}
-use Rattle.qm_drive.specs.declared.noted.Noted.{Noted}
+use Rattle.qm_program.specs.Driving.{node_end}
+use Rattle.qm_program.specs.declared.noted.Noted.{Noted}
 use Rattle.qm_history.specs.Ends.{NodeText}
 use Rattle.qm_program.specs.Through.{AtTurnstile}
 use Rattle.qm_program.specs.declared.joining.LeftText.{LeftText}

@@ -7,6 +7,14 @@ pub mod Causes
 pub mod Running
 pub mod Doing
 pub mod Surviving
+pub mod CallServing
+pub mod Sharing
+pub mod Passes
+pub mod Turning
+pub mod Allowed
+pub mod Driving
+pub mod SiteStanding
+pub mod SiteServing
 pub mod Through
 pub mod Gathered
 pub mod Served

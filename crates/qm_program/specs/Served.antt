@@ -13,7 +13,7 @@ use Rattle.qm_history.specs.Visits.{visits_of}
 use Rattle.qm_course.specs.Asking.{read_built}
 use Rattle.qm_course.specs.Runs.{Side}
 use Rattle.qm_course.specs.Taken.{AreTaken, AreTold, Rises}
-use Rattle.qm_drive.specs.Driving.{text_told}
+use Rattle.qm_program.specs.Driving.{text_told}
 
 module _ {Y : Type 0} (y : Meaning Y) (w : World) (turns : List Turn) where
   -- The node's turns among these are a course of its lines, by its symbiont's count of faults and the moments that its clock told; its

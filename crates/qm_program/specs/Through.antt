@@ -12,11 +12,11 @@ use Rattle.qm_history.specs.Ends.{NodeEnd, Ended, FileDamaged}
 use Rattle.qm_history.specs.Script.{UserLine}
 use Rattle.qm_history.specs.World.{IsSound, is_live}
 use Rattle.qm_course.specs.Runs.{Side}
-use Rattle.qm_drive.specs.Allowed.{CanAskAll}
+use Rattle.qm_program.specs.Allowed.{CanAskAll}
 use Rattle.qm_turn.specs.Turns.{Known, fresh}
-use Rattle.qm_drive.specs.declared.noted.Noted.{Noted}
-use Rattle.qm_drive.specs.Driving.{HasDriven, IsDriven, node_end}
-use Rattle.qm_drive.specs.Passes.{AreOwn, turns_in}
+use Rattle.qm_program.specs.declared.noted.Noted.{Noted}
+use Rattle.qm_program.specs.Driving.{HasDriven, IsDriven, node_end}
+use Rattle.qm_program.specs.Passes.{AreOwn, turns_in}
 use Rattle.qm_program.specs.declared.seat.Seat.{Seat}
 
 -- a node at the turnstile: what its pass knows, how its turns ended, and their text

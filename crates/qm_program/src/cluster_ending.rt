@@ -1,6 +1,6 @@
 // How serving ended, by how the turns of each node did.
 ghost use Rattle.std.specs.Prelude.{◌≡◌, map};
-ghost use Rattle.qm_drive.specs.Driving.{node_end};
+ghost use Rattle.qm_program.specs.Driving.{node_end};
 ghost use Rattle.qm_history.specs.Ends.{end_of_node, texts_printed, worse};
 ghost use Rattle.qm_service.specs.Ends.{serving_end};
 ghost use Rattle.qm_program.specs.ClusterEnding.{IsToldBy, lacks_text, worst_of};
@@ -8,8 +8,8 @@ ghost use Rattle.qm_program.specs.Gathered.{text_left};
 ghost use Rattle.qm_program.specs.Printing.{turns_line};
 
 use crate::joining::LeftText;
+use crate::node_ending::DriveEnd;
 use crate::printing::print_all;
-use qm_drive::DriveEnd;
 use qm_history::Turn;
 use qm_io::{Failed, Sink};
 use qm_kinds::Name;

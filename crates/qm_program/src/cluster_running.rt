@@ -8,7 +8,10 @@ ghost use Rattle.qm_service.specs.Opening.{IsOpened};
 ghost use Rattle.qm_service.specs.Value.{service_disk, service_names};
 ghost use Rattle.qm_program.specs.ClusterRunning.{HaveRun};
 
+use crate::begins::Begins;
 use crate::joining::LeftText;
+use crate::site::Site;
+use crate::site_laws::{nodes_begin_live, opened_sites_stand_for_no_notes};
 use crate::turns::make_turns;
 use qm_course::Station;
 use qm_disk::Disk;
@@ -16,7 +19,6 @@ use qm_io::Clock;
 use qm_kinds::Name;
 use qm_script::UserLine;
 use qm_service::Service;
-use qm_shared::{Begins, Site, nodes_begin_live, opened_sites_stand_for_no_notes};
 use qm_symb::Symbiont;
 use std::alloc::Global;
 use std::marker::{PhantomData, Send, Sync};

@@ -17,6 +17,10 @@ ghost use Rattle.qm_program.specs.ClusterServing.{ServesAtOnce};
 
 use crate::cluster_ending::print_texts;
 use crate::cluster_running::{Ran, run_nodes};
+use crate::site_laws::{
+    nodes_begin_live, nodes_leave_what_is_noted, opened_sites_stand_for_no_notes,
+    openings_keep_worlds,
+};
 use qm_course::{Station, own_lines};
 use qm_disk::Disk;
 use qm_io::{Clock, Sink};
@@ -24,10 +28,6 @@ use qm_kinds::Name;
 use qm_model::nodes_keep_their_names;
 use qm_script::UserLine;
 use qm_service::{ServeEnd, Served, Service};
-use qm_shared::{
-    nodes_begin_live, nodes_leave_what_is_noted, opened_sites_stand_for_no_notes,
-    openings_keep_worlds,
-};
 use qm_symb::Symbiont;
 use std::alloc::{AllocError, Global};
 use std::marker::{Brand, Send, Sync};

@@ -7,13 +7,16 @@ ghost use Rattle.qm_history.specs.World.{IsSound, is_live};
 ghost use Rattle.qm_kinds.specs.declared.limits.TheConstants.{NODES_LIMIT};
 ghost use Rattle.qm_course.specs.Fresh.{own_view};
 ghost use Rattle.qm_course.specs.Runs.{side_of};
-ghost use Rattle.qm_drive.specs.Allowed.{CanAskAll};
+ghost use Rattle.qm_program.specs.Allowed.{CanAskAll};
 ghost use Rattle.qm_turn.specs.Turns.{fresh};
 ghost use Rattle.qm_program.specs.Through.{AllAreThrough, first_at, is_at};
 
+use crate::gate::OpenGate;
+use crate::node_course::drive;
 use crate::seat::Seat;
+use crate::serve::Serve;
+use crate::shared::Shared;
 use qm_course::Station;
-use qm_drive::{OpenGate, Serve, Shared, drive};
 use qm_io::Clock;
 use qm_kinds::Name;
 use qm_pairs::{Work, work_on_each};
@@ -50,7 +53,7 @@ where
     ghost use Rattle.qm_kinds.specs.declared.limits.TheConstants.{NODES_LIMIT};
     ghost use Rattle.qm_course.specs.Fresh.{own_view};
     ghost use Rattle.qm_course.specs.Runs.{side_of};
-    ghost use Rattle.qm_drive.specs.Allowed.{CanAskAll};
+    ghost use Rattle.qm_program.specs.Allowed.{CanAskAll};
     ghost use Rattle.qm_turn.specs.Turns.{fresh};
     ghost use Rattle.qm_program.specs.Through.{CanBeDriven, IsThrough, is_at};
 

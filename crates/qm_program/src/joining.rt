@@ -1,12 +1,14 @@
 // The end of the nodes' turns: their passes are joined, and the turnstile is closed.
 ghost use Rattle.std.specs.Prelude.{◌≡◌, ◌≤◌, [], length, map, vec_capacity};
 ghost use Rattle.std.specs.List.{AllByRecursion, range_with_len};
-ghost use Rattle.qm_drive.specs.Sharing.{StandsFor};
+ghost use Rattle.qm_program.specs.Sharing.{StandsFor};
 ghost use Rattle.qm_program.specs.Gathered.{AreGathered, text_at, text_left};
 ghost use Rattle.qm_program.specs.Through.{is_at};
 
+use crate::node_ending::DriveEnd;
 use crate::seat::Seat;
-use qm_drive::{DriveEnd, Serve, Shared};
+use crate::serve::Serve;
+use crate::shared::Shared;
 use qm_turn::Turnstile;
 
 /// What is left of a node: how its turns ended, and their text.

@@ -1,15 +1,15 @@
 // What is printed behind the turns: the texts of the nodes, and whose turn each was.
 ghost use Rattle.std.specs.Prelude.{◌≡◌, ◌+◌, ◌≤◌, ◌++◌, codes, length, map, true, false};
 ghost use Rattle.arrayvec.specs.ArrayVec.{array_vec_len};
-ghost use Rattle.qm_drive.specs.Driving.{node_end};
+ghost use Rattle.qm_program.specs.Driving.{node_end};
 ghost use Rattle.qm_history.specs.Ends.{cuts_text, texts_printed};
 ghost use Rattle.qm_program.specs.Gathered.{text_left};
 ghost use Rattle.qm_program.specs.declared.printing.TheConstants.{PIECE_BYTES, PIECE_TURNS};
 ghost use Rattle.qm_program.specs.Printing.{Writes, name_at, turns_line, words_of};
 
 use crate::joining::LeftText;
+use crate::node_ending::DriveEnd;
 use arrayvec::ArrayVec;
-use qm_drive::DriveEnd;
 use qm_history::Turn;
 use qm_io::{Failed, Sink, write_whole};
 use qm_kinds::Name;

@@ -2,7 +2,10 @@
 ghost use Rattle.std.specs.Prelude.{◌≡◌, ◌≤◌, [], length, map, vec_capacity};
 ghost use Rattle.qm_program.specs.Through.{first_at, is_at};
 
-use qm_drive::{DriveEnd, Noted, Serve, Shared};
+use crate::node_ending::DriveEnd;
+use crate::noted::Noted;
+use crate::serve::Serve;
+use crate::shared::Shared;
 use qm_turn::{Pass, PassOf};
 use std::alloc::Global;
 

@@ -1,5 +1,5 @@
 use Rattle.std.proofs.Common.{◌∙◌, ap}
-use Rattle.qm_drive.specs.Driving.{node_end}
+use Rattle.qm_program.specs.Driving.{node_end}
 use Rattle.qm_history.specs.Ends.{end_of_node, worse}
 use Rattle.qm_program.specs.Gathered.{text_left}
 use Rattle.qm_service.specs.Ends.{serving_end}

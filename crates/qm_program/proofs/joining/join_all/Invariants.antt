@@ -1,7 +1,7 @@
 use Rattle.std.proofs.Common.{◌≡◌, ◌+◌, ◌≤◌, ◌++◌, List, [], map, vec_len}
 use Rattle.std.specs.Prelude.{vec_capacity}
 use Rattle.std.specs.List.{AllByRecursion}
-use Rattle.qm_drive.specs.Passes.{TakesIn}
+use Rattle.qm_program.specs.Passes.{TakesIn}
 use Rattle.qm_program.specs.Gathered.{text_at, text_left}
 use Rattle.qm_program.specs.Through.{is_at}
 use Rattle.qm_program.proofs.joining.join_all.Given as goal

@@ -2,7 +2,7 @@ use Rattle.std.proofs.Common.{◌∙◌, drop, map, subst, sym}
 use Rattle.std.specs.Io.KnownBytes.{Appends}
 use Rattle.qm_course.proofs.Fronts.{front_of_prefix}
 use Rattle.qm_history.specs.Ends.{cuts_text, texts_printed}
-use Rattle.qm_drive.specs.Driving.{node_end}
+use Rattle.qm_program.specs.Driving.{node_end}
 use Rattle.qm_program.specs.Gathered.{text_left}
 use Rattle.qm_program.specs.Printing.{Writes, turns_line}
 use Rattle.qm_program.proofs.Writing.{behind_first, failed, front_of_first, printed_from, rest_whole, then_writes}

@@ -3,7 +3,7 @@ use Rattle.std.specs.List.{AllByRecursion, range_with_len}
 use Rattle.std.proofs.lemmas.List.{length-map}
 use Rattle.qm_course.specs.Fresh.{own_view}
 use Rattle.qm_course.specs.Runs.{side_of}
-use Rattle.qm_drive.specs.Sharing.{StandsFor}
+use Rattle.qm_program.specs.Sharing.{StandsFor}
 use Rattle.qm_program.specs.Gathered.{AreGathered, text_at, text_left}
 use Rattle.qm_program.specs.Through.{is_at}
 use Rattle.qm_program.proofs.AllTurns.{all_made, are_here, are_numbered, as_many}

@@ -1,0 +1,43 @@
+// What a site stands for that was just opened, and what its nodes leave of it.
+ghost use Rattle.std.specs.Prelude.{◌≡◌, ◌<◌, ◌∷◌, [], ℕ, List, true, length, IsTrue};
+ghost use Rattle.qm_chest.specs.Noting.{StartsEarly};
+ghost use Rattle.qm_history.specs.declared.world.World.{World};
+ghost use Rattle.qm_history.specs.Chest.{Note, unread_of};
+ghost use Rattle.qm_history.specs.World.{IsSound, is_live};
+ghost use Rattle.qm_record.specs.Spelling.{HasSpelling};
+ghost use Rattle.qm_service.specs.Opening.{IsOpened, MayBegin};
+ghost use Rattle.qm_service.specs.Value.{service_disk, service_names, service_turns};
+ghost use Rattle.qm_service.specs.declared.service.Service.{Service};
+ghost use Rattle.qm_program.specs.SiteServing.{ServesNodes};
+ghost use Rattle.qm_program.specs.SiteStanding.{HasStood, MayBeginOn};
+
+use qm_disk::Disk;
+
+/// A site that was just opened stands for no notes, since it was opened.
+pub(crate) fn opened_sites_stand_for_no_notes<D: Disk>()
+    ensures { (disk : D) (service : Service D) → IsOpened D.meaning disk service
+        → HasStood D.meaning (service_disk service ∷ []) (service_names service) service [] }
+{}
+
+/// The world with which a program begins on a site that was opened is sound, and each node is live there.
+pub(crate) fn nodes_begin_live<D: Disk>()
+    ensures sound { (disk : D) (service : Service D) (w : World) → IsOpened D.meaning disk service → IsTrue D.meaning.tells → StartsEarly (D.meaning.seen disk) w → IsSound HasSpelling w }
+    ensures live { (disk : D) (service : Service D) (w : World) → IsOpened D.meaning disk service → IsTrue D.meaning.tells → StartsEarly (D.meaning.seen disk) w
+        → (node : ℕ) → node < length (service_names service) → is_live w node ≡ true }
+    ensures begins { (disk : D) (service : Service D) (w : World) → IsOpened D.meaning disk service → IsTrue D.meaning.tells
+        → MayBeginOn D.meaning (service_disk service ∷ []) w → (node : ℕ) → node < length (service_names service)
+        → IsSound HasSpelling w × (is_live w node ≡ true) }
+{}
+
+/// Opening a site leaves it the worlds with which a program can begin on its device.
+pub(crate) fn openings_keep_worlds<D: Disk>()
+    ensures { (disk : D) (service : Service D) (w : World) → IsOpened D.meaning disk service → MayBegin D.meaning disk w
+        → MayBegin D.meaning (service_disk service) w }
+{}
+
+/// What nodes leave of a site that they shared since it was opened is said by what it stands for: by the notes of all calls.
+pub(crate) fn nodes_leave_what_is_noted<D: Disk>()
+    ensures { (disk : D) (service then : Service D) (names : List (List ℕ)) (notes : List Note) → IsOpened D.meaning disk service
+        → HasStood D.meaning (service_disk service ∷ []) names then notes
+        → ServesNodes D.meaning disk (service_disk service) (service_disk then) (service_turns then) (unread_of notes) }
+{}
