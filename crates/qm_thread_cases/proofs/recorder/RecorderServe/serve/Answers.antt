@@ -4,7 +4,7 @@ use Rattle.qm_history.specs.declared.call.Answer.TheVariants as answer
 use Rattle.qm_history.specs.declared.turn.Turn.{Turn}
 use Rattle.qm_program.specs.CallServing.{LeavesOne}
 use Rattle.qm_program.proofs.CallServing.{leaves_none, leaves_some}
-use Rattle.qm_drive_cases.proofs.recorder.RecorderServe.serve.Goals as goal
+use Rattle.qm_thread_cases.proofs.recorder.RecorderServe.serve.Goals as goal
 
 pub returns-then-len-eq-TURNS-clause-one : goal.returns-then-len-eq-TURNS-clause-one
 returns-then-len-eq-TURNS-clause-one c =

@@ -2,7 +2,7 @@ use Rattle.std.proofs.Common.{◌≡◌, ℕ, ◌<◌, ◌≤◌, ◌+◌, map, 
 use Rattle.std.specs.Prelude.{All}
 use Rattle.qm_turn.specs.History.{numbers_of, times}
 use Rattle.qm_turn.specs.Turns.{own}
-use Rattle.qm_drive_cases.proofs.turnstile.close_all.Given as goal
+use Rattle.qm_thread_cases.proofs.turnstile.close_all.Given as goal
 
 abbrev pub invariant-loop-worked : goal.invariant-loop-worked
 invariant-loop-worked l =

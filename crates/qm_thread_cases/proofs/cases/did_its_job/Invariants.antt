@@ -1,5 +1,5 @@
 use Rattle.std.proofs.Common.{◌≤◌}
-use Rattle.qm_drive_cases.proofs.cases.did_its_job.Given as goal
+use Rattle.qm_thread_cases.proofs.cases.did_its_job.Given as goal
 
 -- so many turns of the node were as they are to be
 abbrev pub invariant-loop-turn : goal.invariant-loop-turn

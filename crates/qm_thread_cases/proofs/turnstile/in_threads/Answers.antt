@@ -1,9 +1,9 @@
 use Rattle.std.proofs.Common.{◌≡◌, ℕ, ◌∙◌, map, sym, ap, subst, arith}
 use Rattle.std.specs.List.{range_with_len, All}
-use Rattle.qm_drive_cases.specs.declared.turnstile.Worked.{Worked}
+use Rattle.qm_thread_cases.specs.declared.turnstile.Worked.{Worked}
 use Rattle.qm_turn.specs.Turns.{Known}
 use Rattle.qm_turn.proofs.Gathering.{fresh_places, fresh_numbers, same_numbers}
-use Rattle.qm_drive_cases.proofs.turnstile.in_threads.Goals as goal
+use Rattle.qm_thread_cases.proofs.turnstile.in_threads.Goals as goal
 
 pub work-requires-after_bounds : goal.work-requires-after_bounds
 work-requires-after_bounds g c = λ _ _. subst (λ ps. All (λ (p : Known ℕ). p.place ≡ c.in-Ok.turnstile.place) ps) (sym c.in-Ok.ensures.opened.1) (fresh_places c.in-Ok.turnstile.place (range_with_len 0 c.args.passes))

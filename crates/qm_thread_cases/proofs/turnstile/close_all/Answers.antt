@@ -1,10 +1,10 @@
 use Rattle.std.proofs.Common.{◌≡◌, ◌∙◌, map, arith, Some}
 use Rattle.std.proofs.lemmas.List.Elements.{All-pop}
-use Rattle.qm_drive_cases.specs.declared.turnstile.Worked.{Worked}
+use Rattle.qm_thread_cases.specs.declared.turnstile.Worked.{Worked}
 use Rattle.qm_turn.proofs.Counts.{times_pop}
 use Rattle.qm_turn.proofs.Gathering.{all_there}
 use Rattle.qm_turn.proofs.Telling.{joined_numbers}
-use Rattle.qm_drive_cases.proofs.turnstile.close_all.Goals as goal
+use Rattle.qm_thread_cases.proofs.turnstile.close_all.Goals as goal
 
 pub loop-worked-init : goal.loop-worked-init
 loop-worked-init c =
