@@ -3,7 +3,6 @@
 #![tactic(auto)]
 
 mod laws;
-mod lines;
 mod listing;
 
 pub use laws::all_jobs_are_what_a_command_shows;

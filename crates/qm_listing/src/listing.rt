@@ -7,11 +7,11 @@ ghost use Rattle.qm_glog.specs.declared.fault.OpenFault.TheVariants as fault;
 ghost use Rattle.qm_history.specs.Ends.{all_jobs, show_text};
 ghost use Rattle.qm_listing.specs.Listing.{IsListingOf};
 
-use crate::lines::rows_as_lines;
 use qm_acting::{Restored, restore};
 use qm_database::{Closed, LoadFault, held_files_load};
 use qm_disk::Disk;
 use qm_kinds::{Kinds, Listing, Pattern, Query};
+use qm_show::show_rows;
 use qm_state::Refused;
 use std::alloc::{AllocError, Global};
 
@@ -48,7 +48,7 @@ fn listing_of<D: Disk>(alloc: Global, restored: &Restored<D>) -> Result<Vec<u8>,
     ensures { IfOk result (λ text. text.items ≡ show_text (restored_standing restored.now).system) }
 {
     match restored.view(&all_jobs()) {
-        Ok(rows) => rows_as_lines(alloc, &rows),
+        Ok(rows) => show_rows(alloc, &rows),
         Err(Refused::NoMemory) => Err(AllocError),
         // All rows of queues are never refused.
         Err(Refused::By(_)) => unreachable!(),

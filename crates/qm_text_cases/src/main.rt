@@ -18,7 +18,7 @@ use fields::{tell_copied, tell_name_at, tell_number_at, tell_stop};
 use items::tell_called;
 use qm_plans::{Desk, follow, number_and_rest, push_bytes, push_line};
 use records::tell_record;
-use shown::{tell_answers, tell_row_items, tell_rows};
+use shown::{tell_answers, tell_listing, tell_row_items, tell_rows};
 use spelled::{tell_called_spelling, tell_spelling};
 use std::alloc::{AllocError, Global};
 use std::io;
@@ -50,6 +50,7 @@ fn tell_of_calls(
         "call" | "same" | "whether" | "altered" | "many" => tell_called(alloc, told, verb, text),
         "row-items" => tell_row_items(alloc, told),
         "rows" => tell_rows(alloc, told),
+        "listing" => tell_listing(alloc, told),
         "answers" => tell_answers(alloc, told),
         "" | "#" => Ok(()),
         _ => push_line(told, "no such verb"),

@@ -8,7 +8,7 @@ use qm_kinds::{
 };
 use qm_plans::push_line;
 use qm_rows::Rows;
-use qm_show::show_answer;
+use qm_show::{show_answer, show_rows};
 use qm_sjc::row_items;
 use std::alloc::{AllocError, Global};
 
@@ -206,6 +206,13 @@ pub(crate) fn tell_rows(alloc: Global, told: &mut Vec<u8>) -> Result<(), AllocEr
         rows: Rows::of(alloc, rows(alloc, &cases())?)?,
     };
     tell_shown(alloc, told, &name(b"PLUTO"), Why::Line(16), &answer)
+}
+
+/// Tells the same listing, without a turn.
+pub(crate) fn tell_listing(alloc: Global, told: &mut Vec<u8>) -> Result<(), AllocError> {
+    let rows = Rows::of(alloc, rows(alloc, &cases())?)?;
+    let shown = show_rows(alloc, &rows)?;
+    told.extend_from_slice(&shown)
 }
 
 // Tells the lines of a turn of a node.
