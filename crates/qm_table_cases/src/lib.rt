@@ -1,6 +1,7 @@
 //! Worked cases of the tables of the image and of timers, as tests: that memory suffices where it is ample, that rows come,
 //! change and go, which jobs fit a queue and which it takes first, also by a row of keys, that a job's run comes and goes
-//! with it, and that jobs start while there are places.
+//! with it, that jobs start while there are places, and which row a scan
+//! gives next.
 #![tactic(auto)]
 
 #[cfg(test)]
@@ -21,6 +22,8 @@ mod ready;
 mod rows;
 #[cfg(test)]
 mod runs;
+#[cfg(test)]
+mod scans;
 #[cfg(test)]
 mod settling;
 #[cfg(test)]
