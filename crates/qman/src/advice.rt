@@ -17,7 +17,12 @@ pub(crate) fn advice(end: End, folder: Folder) -> &'static str {
     match end {
         End::Ok => "",
         End::Usage => {
-            ": `qman init NODES` makes a site of one node or several, as in `qman init A,B`; `qman run <SCRIPT` serves a script; `qman show` lists queues and jobs"
+            ":\n  \
+             qman init NODES [CAP]   makes the site of this folder anew, as in `qman init A,B`; CAP bounds its queue file, in bytes\n  \
+             qman run <SCRIPT        serves a script, line by line, and carries out its jobs\n  \
+             qman cluster <SCRIPT    the same, each node's lines by a thread of its own\n  \
+             qman show               lists queues and jobs, and changes nothing\n\
+             What a script can say is in docs/USING.md of qman's own folder, and in `man ./qman.1` there"
         }
         End::Script { .. } => {
             ": nothing was served; a line is a node of the site, a blank, $, # or !, a blank and what is asked for"
