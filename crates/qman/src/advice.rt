@@ -18,10 +18,10 @@ pub(crate) fn advice(end: End, folder: Folder) -> &'static str {
         End::Ok => "",
         End::Usage => {
             ":\n  \
-             qman init NODES [CAP]   makes the site of this folder anew, as in `qman init A,B`; CAP bounds its queue file, in bytes\n  \
+             qman init NODES [CAP]   makes this folder's site anew, as in `qman init A,B`; CAP bounds its queue file, in bytes\n  \
              qman run <SCRIPT        serves a script, line by line, and carries out its jobs\n  \
              qman cluster <SCRIPT    the same, each node's lines by a thread of its own\n  \
-             qman show               lists queues and jobs, and changes nothing\n\
+             qman show               lists queues and jobs\n\
              What a script can say is in docs/USING.md of qman's own folder, and in `man ./qman.1` there"
         }
         End::Script { .. } => {
