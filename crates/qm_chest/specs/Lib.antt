@@ -1,3 +1,5 @@
+pub mod Boxed
+pub mod Files
 pub mod Holding
 pub mod Parts
 pub mod Turns
