@@ -1,6 +1,6 @@
 use Rattle.std.proofs.Common.{◌≡◌, ◌++◌, length}
-use Rattle.qm_sjc.specs.Looking.{characteristics_in}
-use Rattle.qm_sjc.proofs.looking.characteristics_in.Given as goal
+use Rattle.qm_values.specs.Looking.{characteristics_in}
+use Rattle.qm_values.proofs.looking.characteristics_in.Given as goal
 
 abbrev pub invariant-loop-rest : goal.invariant-loop-rest
 invariant-loop-rest l = l.found.items ++ characteristics_in l.rest ≡ characteristics_in l.items

@@ -1,7 +1,7 @@
 // The items of a code.
 ghost use Rattle.std.specs.Prelude.{◌≡◌, IfOk};
 ghost use Rattle.std.specs.Option.{option_copied};
-ghost use Rattle.qm_sjc.specs.Looking.{value_in, is_given, characteristic_of, characteristics_in, target_of, targets_in, lists_in};
+ghost use Rattle.qm_values.specs.Looking.{value_in, is_given, characteristic_of, characteristics_in, target_of, targets_in, lists_in};
 
 use crate::codes::{BYTES, CHARACTERISTIC, TARGET};
 use crate::value::{reference_said, short_name_said};
@@ -11,13 +11,13 @@ use std::alloc::{AllocError, Global};
 
 /// What takes memory of the items of a call.
 #[derive(Drop)]
-pub(crate) struct Lists {
+pub struct Lists {
     /// The characteristics, where some are given, or where an empty item takes them away.
-    pub(crate) characteristics: Option<Seq<NameOrNumber>>,
+    pub characteristics: Option<Seq<NameOrNumber>>,
     /// The queues to which a generic queue passes its jobs on.
-    pub(crate) targets: Seq<Name>,
+    pub targets: Seq<Name>,
     /// What is added to a file.
-    pub(crate) bytes: Option<Seq<u8>>,
+    pub bytes: Option<Seq<u8>>,
 }
 
 /// The value of the first item of a code.
@@ -35,7 +35,7 @@ pub(crate) fn value_in(items: &[Item], code: u16) -> Option<&[u8]>
 }
 
 /// Whether there is an item of a code.
-pub(crate) fn is_given(items: &[Item], code: u16) -> bool
+pub fn is_given(items: &[Item], code: u16) -> bool
     ensures { result ≡ is_given code items.now }
 {
     value_in(items, code).is_some()
@@ -120,7 +120,7 @@ fn bytes_given(alloc: Global, items: &[Item]) -> Result<Option<Seq<u8>>, AllocEr
 /// What takes memory of the items of a call: in proportion to their bytes.
 ///
 /// Errors: `AllocError`, where memory ran out.
-pub(crate) fn lists_in(alloc: Global, items: &[Item]) -> Result<Lists, AllocError>
+pub fn lists_in(alloc: Global, items: &[Item]) -> Result<Lists, AllocError>
     ensures { IfOk result (λ lists. lists ≡ lists_in items.now) }
 {
     Ok(Lists {

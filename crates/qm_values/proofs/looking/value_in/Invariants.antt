@@ -1,6 +1,6 @@
 use Rattle.std.proofs.Common.{◌≡◌, length}
-use Rattle.qm_sjc.specs.Looking.{value_in}
-use Rattle.qm_sjc.proofs.looking.value_in.Given as goal
+use Rattle.qm_values.specs.Looking.{value_in}
+use Rattle.qm_values.proofs.looking.value_in.Given as goal
 
 abbrev pub invariant-loop-rest : goal.invariant-loop-rest
 invariant-loop-rest l = value_in l.code l.rest ≡ value_in l.code l.items

@@ -1,7 +1,7 @@
 // Requests for queues.
 ghost use Rattle.std.specs.Prelude.{◌≡◌, option_map};
-ghost use Rattle.qm_sjc.specs.Values.{short_name_said};
-ghost use Rattle.qm_sjc.specs.Asked.{read_in, blocks_of, change_of, initialize_of, has_more, set_queue, start_queue, stop_queue, abort_job, merge_of};
+ghost use Rattle.qm_values.specs.Values.{short_name_said};
+ghost use Rattle.qm_values.specs.Asked.{read_in, blocks_of, change_of, initialize_of, has_more, set_queue, start_queue, stop_queue, abort_job, merge_of};
 
 use crate::codes::*;
 use crate::looking::{Lists, is_given};
@@ -39,7 +39,7 @@ fn change_of(items: &[Item], characteristics: Option<Seq<NameOrNumber>>) -> Queu
 }
 
 /// A new queue.
-pub(crate) fn initialize_of(items: &[Item], lists: Lists) -> Option<Request>
+pub fn initialize_of(items: &[Item], lists: Lists) -> Option<Request>
     ensures { result ≡ initialize_of items.now lists }
 {
     let name = short_name_in(items, QUEUE)?;
@@ -68,7 +68,7 @@ pub(crate) fn has_more(items: &[Item]) -> bool
 }
 
 /// Other settings of a queue, one at least.
-pub(crate) fn set_queue(items: &[Item], lists: Lists) -> Option<Request>
+pub fn set_queue(items: &[Item], lists: Lists) -> Option<Request>
     ensures { result ≡ set_queue items.now lists }
 {
     if !has_more(items) {
@@ -82,7 +82,7 @@ pub(crate) fn set_queue(items: &[Item], lists: Lists) -> Option<Request>
 }
 
 /// A queue is started, with other settings perhaps.
-pub(crate) fn start_queue(items: &[Item], lists: Lists) -> Option<Request>
+pub fn start_queue(items: &[Item], lists: Lists) -> Option<Request>
     ensures { result ≡ start_queue items.now lists }
 {
     let name = short_name_in(items, QUEUE)?;

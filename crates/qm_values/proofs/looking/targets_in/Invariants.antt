@@ -1,6 +1,6 @@
 use Rattle.std.proofs.Common.{◌≡◌, ◌++◌, length}
-use Rattle.qm_sjc.specs.Looking.{targets_in}
-use Rattle.qm_sjc.proofs.looking.targets_in.Given as goal
+use Rattle.qm_values.specs.Looking.{targets_in}
+use Rattle.qm_values.proofs.looking.targets_in.Given as goal
 
 abbrev pub invariant-loop-rest : goal.invariant-loop-rest
 invariant-loop-rest l = l.found.items ++ targets_in l.rest ≡ targets_in l.items

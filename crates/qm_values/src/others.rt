@@ -1,8 +1,8 @@
 // Requests for files, forms and characteristics, and listings.
 ghost use Rattle.std.specs.Prelude.{◌≡◌, ◌∷◌, [], option_map};
 ghost use Rattle.qm_kinds.specs.Files.{file_name_of};
-ghost use Rattle.qm_sjc.specs.Asked.{read_in, append_of, fill_of, form_of, define_form, define_characteristic, query_of};
-ghost use Rattle.qm_sjc.specs.Values.{definable_name_said};
+ghost use Rattle.qm_values.specs.Asked.{read_in, append_of, fill_of, form_of, define_form, define_characteristic, query_of};
+ghost use Rattle.qm_values.specs.Values.{definable_name_said};
 
 use crate::codes::*;
 use crate::reading::{
@@ -12,7 +12,7 @@ use qm_item::Item;
 use qm_kinds::{Characteristic, Form, Kinds, Listing, Pattern, Query, Request, Seq, Shape};
 
 /// Bytes are added to a file.
-pub(crate) fn append_of(items: &[Item], bytes: Option<Seq<u8>>) -> Option<Request>
+pub fn append_of(items: &[Item], bytes: Option<Seq<u8>>) -> Option<Request>
     ensures { result ≡ append_of items.now bytes }
 {
     let file = file_in(items, FILE)?;
@@ -102,7 +102,7 @@ fn any_name() -> Pattern
 }
 
 /// The question for a listing, row by row, whatever its user and kind.
-pub(crate) fn query_of(listing: Listing, items: &[Item]) -> Query
+pub fn query_of(listing: Listing, items: &[Item]) -> Query
     ensures { result ≡ query_of listing items.now }
 {
     Query {

@@ -24,12 +24,12 @@ use Rattle.qm_kinds.specs.declared.request.Request.{Request}
 use Rattle.qm_kinds.specs.declared.request.Request.TheVariants as request
 use Rattle.qm_kinds.specs.declared.request.StopMode.TheVariants.{Pause}
 use Rattle.qm_item.specs.declared.item.Item.{Item}
-use Rattle.qm_sjc.specs.declared.codes.TheConstants.{QUEUE, FILE, JOB_NAME, PRIORITY, AFTER, HOLD, RETAIN, RESTART, FORM, COPIES, FLAG, KIND, NODE, DEVICE, JOB_LIMIT, BLOCK_LOWER, BLOCK_UPPER, BY_SIZE, QUEUE_RETAIN, START, ENTRY, HOW, REQUEUE, TO_QUEUE, NAME, NUMBER, STOCK, SHAPE, LINES, SEARCH, RELEASE}
-use Rattle.qm_sjc.specs.declared.function.Function.{Function}
-use Rattle.qm_sjc.specs.declared.function.Function.TheVariants as function
-use Rattle.qm_sjc.specs.declared.looking.Lists.{Lists}
-use Rattle.qm_sjc.specs.Looking.{value_in, is_given}
-use Rattle.qm_sjc.specs.Values.{name_said, short_name_said, definable_name_said, node_said, pattern_said, reference_said, byte_said, short_said, long_said, small_said, after_said, truth_said, queue_kind_said, job_kind_said, queue_retain_said, job_retain_said, how_said, shape_said}
+use Rattle.qm_values.specs.declared.codes.TheConstants.{QUEUE, FILE, JOB_NAME, PRIORITY, AFTER, HOLD, RETAIN, RESTART, FORM, COPIES, FLAG, KIND, NODE, DEVICE, JOB_LIMIT, BLOCK_LOWER, BLOCK_UPPER, BY_SIZE, QUEUE_RETAIN, START, ENTRY, HOW, REQUEUE, TO_QUEUE, NAME, NUMBER, STOCK, SHAPE, LINES, SEARCH, RELEASE}
+use Rattle.qm_values.specs.declared.function.Function.{Function}
+use Rattle.qm_values.specs.declared.function.Function.TheVariants as function
+use Rattle.qm_values.specs.declared.looking.Lists.{Lists}
+use Rattle.qm_values.specs.Looking.{value_in, is_given}
+use Rattle.qm_values.specs.Values.{name_said, short_name_said, definable_name_said, node_said, pattern_said, reference_said, byte_said, short_said, long_said, small_said, after_said, truth_said, queue_kind_said, job_kind_said, queue_retain_said, job_retain_said, how_said, shape_said}
 
 -- what the item of a code says
 abbrev pub read_in : {X : Type 0} → (List ℕ → Option X) → ℕ → List Item → Option X

@@ -3,9 +3,9 @@ ghost use Rattle.std.specs.Prelude.{◌≡◌, ◌==◌, ◌≤◌, IfSome, leng
 ghost use Rattle.std.specs.List.{list_all};
 ghost use Rattle.std.specs.Char.{is_ascii_digit};
 ghost use Rattle.qm_model.specs.Built.{is_definable};
-ghost use Rattle.qm_sjc.specs.Values.{short_name_said, definable_name_said, node_said, are_digits, number_to, reference_said, byte_said, truth_of, truth_said, short_said, long_said, small_said, moment_said, after_said, queue_kind_said, job_kind_said, queue_retain_said, retain_of, job_retain_said, how_said, shape_said, pattern_said, name_said, is_held};
+ghost use Rattle.qm_values.specs.Values.{short_name_said, definable_name_said, node_said, are_digits, number_to, reference_said, byte_said, truth_of, truth_said, short_said, long_said, small_said, moment_said, after_said, queue_kind_said, job_kind_said, queue_retain_said, retain_of, job_retain_said, how_said, shape_said, pattern_said, name_said, is_held};
 
-use crate::fields::Holds;
+use crate::holds::Holds;
 use qm_digits::number_up_to;
 use qm_kinds::{
     FileName, JobKind, JobRetain, Moment, NODE_NAME_BYTES, Name, NameOrNumber, Pattern, QueueKind,
@@ -280,7 +280,7 @@ pub(crate) fn pattern_said(value: &[u8]) -> Option<Pattern>
 }
 
 /// Whether bytes are a value of this form.
-pub(crate) fn is_held(holds: Holds, value: &[u8]) -> bool
+pub fn is_held(holds: Holds, value: &[u8]) -> bool
     ensures { result ≡ is_held holds value.now }
 {
     match holds {

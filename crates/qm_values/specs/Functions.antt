@@ -1,8 +1,8 @@
 -- The functions that a program calls, by their numbers.
 -- OpenVMS System Services Reference Manual, $SNDJBC and $GETQUI, on functions. This site's own: the numbers.
 use Rattle.std.specs.Prelude.{ℕ, ◌==◌, if◌then◌else◌, Option, None, Some}
-use Rattle.qm_sjc.specs.declared.function.Function.{Function}
-use Rattle.qm_sjc.specs.declared.function.Function.TheVariants as function
+use Rattle.qm_values.specs.declared.function.Function.{Function}
+use Rattle.qm_values.specs.declared.function.Function.TheVariants as function
 
 abbrev pub function_of : ℕ → Option Function
 function_of n =

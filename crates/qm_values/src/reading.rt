@@ -1,8 +1,8 @@
 // What the item of a code says, where there is one and it says that.
 ghost use Rattle.std.specs.Prelude.{◌≡◌};
 ghost use Rattle.qm_kinds.specs.Files.{file_name_of};
-ghost use Rattle.qm_sjc.specs.Asked.{read_in};
-ghost use Rattle.qm_sjc.specs.Values.{name_said, short_name_said, definable_name_said, node_said, pattern_said, reference_said, byte_said, short_said, long_said, small_said, after_said, truth_said, queue_kind_said, job_kind_said, queue_retain_said, job_retain_said, how_said, shape_said};
+ghost use Rattle.qm_values.specs.Asked.{read_in};
+ghost use Rattle.qm_values.specs.Values.{name_said, short_name_said, definable_name_said, node_said, pattern_said, reference_said, byte_said, short_said, long_said, small_said, after_said, truth_said, queue_kind_said, job_kind_said, queue_retain_said, job_retain_said, how_said, shape_said};
 
 use crate::looking::value_in;
 use crate::value::{
@@ -16,19 +16,22 @@ use qm_kinds::{
     Shape, StopMode,
 };
 
-pub(crate) fn file_in(items: &[Item], code: u16) -> Option<FileName>
+/// The name of a file, which an item of this code says.
+pub fn file_in(items: &[Item], code: u16) -> Option<FileName>
     ensures { result ≡ read_in file_name_of code items.now }
 {
     FileName::read(value_in(items, code)?)
 }
 
-pub(crate) fn name_in(items: &[Item], code: u16) -> Option<Name>
+/// The name that an item of this code says.
+pub fn name_in(items: &[Item], code: u16) -> Option<Name>
     ensures { result ≡ read_in name_said code items.now }
 {
     name_said(value_in(items, code)?)
 }
 
-pub(crate) fn short_name_in(items: &[Item], code: u16) -> Option<Name>
+/// The name of at most 31 bytes that an item of this code says.
+pub fn short_name_in(items: &[Item], code: u16) -> Option<Name>
     ensures { result ≡ read_in short_name_said code items.now }
 {
     short_name_said(value_in(items, code)?)
@@ -52,13 +55,15 @@ pub(crate) fn pattern_in(items: &[Item], code: u16) -> Option<Pattern>
     pattern_said(value_in(items, code)?)
 }
 
-pub(crate) fn reference_in(items: &[Item], code: u16) -> Option<NameOrNumber>
+/// The form or the characteristic, by its name or its number, that an item of this code says.
+pub fn reference_in(items: &[Item], code: u16) -> Option<NameOrNumber>
     ensures { result ≡ read_in reference_said code items.now }
 {
     reference_said(value_in(items, code)?)
 }
 
-pub(crate) fn byte_in(items: &[Item], code: u16) -> Option<u8>
+/// The number of 8 bits that an item of this code says.
+pub fn byte_in(items: &[Item], code: u16) -> Option<u8>
     ensures { result ≡ read_in byte_said code items.now }
 {
     byte_said(value_in(items, code)?)
@@ -82,13 +87,15 @@ pub(crate) fn long_in(items: &[Item], code: u16) -> Option<u32>
     long_said(value_in(items, code)?)
 }
 
-pub(crate) fn truth_in(items: &[Item], code: u16) -> Option<bool>
+/// No, or yes, as an item of this code says.
+pub fn truth_in(items: &[Item], code: u16) -> Option<bool>
     ensures { result ≡ read_in truth_said code items.now }
 {
     truth_said(value_in(items, code)?)
 }
 
-pub(crate) fn after_in(items: &[Item], code: u16) -> Option<Option<Moment>>
+/// The moment that an item of this code says, or that there is none.
+pub fn after_in(items: &[Item], code: u16) -> Option<Option<Moment>>
     ensures { result ≡ read_in after_said code items.now }
 {
     after_said(value_in(items, code)?)
@@ -100,7 +107,8 @@ pub(crate) fn queue_kind_in(items: &[Item], code: u16) -> Option<QueueKind>
     queue_kind_said(value_in(items, code)?)
 }
 
-pub(crate) fn job_kind_in(items: &[Item], code: u16) -> Option<JobKind>
+/// Which kind of job an item of this code says.
+pub fn job_kind_in(items: &[Item], code: u16) -> Option<JobKind>
     ensures { result ≡ read_in job_kind_said code items.now }
 {
     job_kind_said(value_in(items, code)?)
@@ -112,7 +120,8 @@ pub(crate) fn queue_retain_in(items: &[Item], code: u16) -> Option<QueueRetain>
     queue_retain_said(value_in(items, code)?)
 }
 
-pub(crate) fn job_retain_in(items: &[Item], code: u16) -> Option<JobRetain>
+/// Whether a job is kept, as an item of this code says.
+pub fn job_retain_in(items: &[Item], code: u16) -> Option<JobRetain>
     ensures { result ≡ read_in job_retain_said code items.now }
 {
     job_retain_said(value_in(items, code)?)

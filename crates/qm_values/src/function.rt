@@ -1,38 +1,62 @@
 // The functions that a program calls.
 ghost use Rattle.std.specs.Prelude.{◌≡◌};
-ghost use Rattle.qm_sjc.specs.Functions.{function_of};
+ghost use Rattle.qm_values.specs.Functions.{function_of};
 
 /// What a program asks for.
 #[derive(Clone, Copy)]
-pub(crate) enum Function {
+pub enum Function {
+    /// Bytes are added to a file.
     Append,
+    /// Lines are added to a file.
     Fill,
+    /// A file is deleted.
     Drop,
+    /// A form is defined.
     DefineForm,
+    /// A form is deleted.
     DeleteForm,
+    /// A characteristic is defined.
     DefineCharacteristic,
+    /// A characteristic is deleted.
     DeleteCharacteristic,
+    /// A queue is made, or made anew.
     InitializeQueue,
+    /// Other settings of a queue.
     SetQueue,
+    /// A queue is started.
     StartQueue,
+    /// A queue is stopped.
     StopQueue,
+    /// A job of a queue is cut short.
     AbortJob,
+    /// A queue is deleted.
     DeleteQueue,
+    /// The jobs that wait in a queue go to another.
     Merge,
+    /// A job is submitted.
     Submit,
+    /// An entry is changed.
     SetEntry,
+    /// An entry is deleted.
     DeleteEntry,
+    /// The queues, one by one.
     DisplayQueue,
+    /// The jobs of queues, one by one.
     DisplayJob,
+    /// The entries, one by one.
     DisplayEntry,
+    /// The forms, one by one.
     DisplayForm,
+    /// The characteristics, one by one.
     DisplayCharacteristic,
+    /// The queue manager.
     DisplayManager,
+    /// What was asked for one by one is ended.
     CancelOperation,
 }
 
 /// The function of a number.
-pub(crate) fn function_of(number: u16) -> Option<Function>
+pub fn function_of(number: u16) -> Option<Function>
     ensures { result ≡ function_of number }
 {
     match number {

@@ -24,8 +24,8 @@ use Rattle.qm_kinds.specs.declared.request.StopMode.{StopMode}
 use Rattle.qm_kinds.specs.declared.request.StopMode.TheVariants as mode
 use Rattle.qm_model.specs.Built.{is_short, is_definable}
 use Rattle.qm_model.specs.Texts.{value_of}
-use Rattle.qm_sjc.specs.declared.fields.Holds.{Holds}
-use Rattle.qm_sjc.specs.declared.fields.Holds.TheVariants as holds
+use Rattle.qm_values.specs.declared.holds.Holds.{Holds}
+use Rattle.qm_values.specs.declared.holds.Holds.TheVariants as holds
 
 -- ---- names
 
