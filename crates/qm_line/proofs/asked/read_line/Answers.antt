@@ -1,7 +1,7 @@
 use Rattle.std.proofs.Common.{◌≡◌, IfOk, sym, subst}
 use Rattle.qm_kinds.specs.declared.input.Input.{Input}
-use Rattle.qm_script.proofs.Serving.{act_line, act_takes, on_err}
-use Rattle.qm_script.proofs.asked.read_line.Goals as goal
+use Rattle.qm_line.proofs.Serving.{act_line, act_takes, on_err}
+use Rattle.qm_line.proofs.asked.read_line.Goals as goal
 
 pub returns-in-Act-clause-input : goal.returns-in-Act-clause-input
 returns-in-Act-clause-input c =
