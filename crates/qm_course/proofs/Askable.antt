@@ -14,7 +14,7 @@ use Rattle.qm_kinds.specs.declared.work.Report.{Report}
 use Rattle.qm_kinds.specs.declared.work.Report.TheVariants as report
 use Rattle.qm_bytes.specs.Spelling.{AllOf}
 use Rattle.qm_record.specs.Spelling.{IsShortChange}
-use Rattle.qm_grammar.specs.declared.fault.Fault.{Fault as TextFault}
+use Rattle.qm_commands.specs.declared.fault.Fault.{Fault as TextFault}
 use Rattle.qm_model.specs.Batch.{is_mark}
 use Rattle.qm_model.specs.Script.{act_from, act_number, act_of, append_to, done_act, done_by, drop_act, fill_act, filled_by, is_act_word, line_act, malformed_act, mark_act, marked_by, step_act, step_number, steps_in}
 use Rattle.qm_model.specs.Texts.{cut_at_blank}

@@ -17,9 +17,9 @@ use Rattle.qm_kinds.specs.declared.request.Job.{Job}
 use Rattle.qm_kinds.specs.declared.request.Request.TheVariants.{DefineForm, DeleteForm, DefineCharacteristic, DeleteCharacteristic, InitializeQueue, SetQueue, StartQueue, StopQueue, AbortJob, DeleteQueue, Merge, Submit, SetEntry, DeleteEntry}
 use Rattle.qm_kinds.specs.declared.request.StopMode.{StopMode}
 use Rattle.qm_kinds.specs.declared.request.StopMode.TheVariants as mode
-use Rattle.qm_grammar.specs.declared.fault.Fault.{Fault}
-use Rattle.qm_grammar.specs.declared.table.Command.{Command}
-use Rattle.qm_grammar.specs.declared.table.Command.TheVariants as command
+use Rattle.qm_commands.specs.declared.fault.Fault.{Fault}
+use Rattle.qm_commands.specs.declared.table.Command.{Command}
+use Rattle.qm_commands.specs.declared.table.Command.TheVariants as command
 use Rattle.qm_grammar.specs.Finding.{named_command}
 use Rattle.qm_grammar.specs.Parsed.{tokens_in, parts_in, command_in}
 use Rattle.qm_model.specs.Built.{is_short, is_built as is_built_request}

@@ -5,11 +5,11 @@ use Rattle.qm_kinds.specs.Files.{name_of, file_name_of}
 use Rattle.qm_kinds.specs.declared.entry.JobRetain.{JobRetain}
 use Rattle.qm_kinds.specs.declared.entry.JobRetain.TheVariants.{Until}
 use Rattle.qm_lex.specs.declared.token.Token.{Token}
-use Rattle.qm_grammar.specs.declared.fault.Fault.{Fault}
-use Rattle.qm_grammar.specs.declared.table.Command.{Command}
-use Rattle.qm_grammar.specs.declared.table.Command.TheVariants as command
-use Rattle.qm_grammar.specs.declared.word.Word.{Word}
-use Rattle.qm_grammar.specs.declared.word.Word.TheVariants as words
+use Rattle.qm_commands.specs.declared.fault.Fault.{Fault}
+use Rattle.qm_commands.specs.declared.table.Command.{Command}
+use Rattle.qm_commands.specs.declared.table.Command.TheVariants as command
+use Rattle.qm_commands.specs.declared.word.Word.{Word}
+use Rattle.qm_commands.specs.declared.word.Word.TheVariants as words
 use Rattle.qm_grammar.specs.declared.part.Part.{Part}
 use Rattle.qm_grammar.specs.declared.part.Part.TheVariants.{Parameter, Qualifier, Value, KeyValue}
 use Rattle.qm_model.specs.Built.{is_short, is_definable}

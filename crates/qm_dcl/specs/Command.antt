@@ -8,9 +8,9 @@ use Rattle.qm_kinds.specs.declared.refusal.ParseKind.TheVariants as fault
 use Rattle.qm_kinds.specs.declared.entry.JobKind.TheVariants.{Batch, Print}
 use Rattle.qm_kinds.specs.declared.request.Request.{Request}
 use Rattle.qm_kinds.specs.declared.request.Request.TheVariants.{DefineForm, DeleteForm, DefineCharacteristic, DeleteCharacteristic, Submit, SetEntry, DeleteEntry}
-use Rattle.qm_grammar.specs.declared.fault.Fault.{Fault}
-use Rattle.qm_grammar.specs.declared.table.Command.{Command}
-use Rattle.qm_grammar.specs.declared.table.Command.TheVariants as command
+use Rattle.qm_commands.specs.declared.fault.Fault.{Fault}
+use Rattle.qm_commands.specs.declared.table.Command.{Command}
+use Rattle.qm_commands.specs.declared.table.Command.TheVariants as command
 use Rattle.qm_grammar.specs.Finding.{named_command}
 use Rattle.qm_grammar.specs.Parsed.{tokens_in, parts_in, command_in}
 use Rattle.qm_dcl.specs.declared.lists.Lists.{Lists}

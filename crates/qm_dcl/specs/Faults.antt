@@ -1,7 +1,7 @@
 -- What a fault says of a text.
 use Rattle.std.specs.Prelude.{◌≡◌, Result, Err}
 use Rattle.qm_kinds.specs.declared.input.Input.{Input}
-use Rattle.qm_grammar.specs.declared.fault.Fault.{Fault}
+use Rattle.qm_commands.specs.declared.fault.Fault.{Fault}
 use Rattle.qm_dcl.specs.declared.fault.DclFault.{DclFault}
 use Rattle.qm_dcl.specs.declared.fault.DclFault.TheVariants.{At, NoMemory}
 

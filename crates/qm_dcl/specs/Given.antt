@@ -6,10 +6,10 @@ use Rattle.qm_kinds.specs.declared.entry.JobRetain.{JobRetain}
 use Rattle.qm_kinds.specs.declared.entry.JobRetain.TheVariants.{Until}
 use Rattle.qm_kinds.specs.declared.form.Shape.{Shape}
 use Rattle.qm_kinds.specs.declared.queue.QueueRetain.TheVariants.{Nothing}
-use Rattle.qm_grammar.specs.declared.table.Command.{Command}
-use Rattle.qm_grammar.specs.declared.table.Command.TheVariants as command
-use Rattle.qm_grammar.specs.declared.word.Word.{Word}
-use Rattle.qm_grammar.specs.declared.word.Word.TheVariants as words
+use Rattle.qm_commands.specs.declared.table.Command.{Command}
+use Rattle.qm_commands.specs.declared.table.Command.TheVariants as command
+use Rattle.qm_commands.specs.declared.word.Word.{Word}
+use Rattle.qm_commands.specs.declared.word.Word.TheVariants as words
 use Rattle.qm_dcl.specs.declared.settings.Settings.{Settings}
 use Rattle.qm_dcl.specs.declared.settings.JobSettings.{JobSettings}
 use Rattle.qm_dcl.specs.declared.settings.ListingSettings.{ListingSettings}

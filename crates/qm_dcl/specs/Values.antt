@@ -16,7 +16,7 @@ use Rattle.qm_kinds.specs.declared.queue.QueueRetain.TheVariants.{Failed, All}
 use Rattle.qm_kinds.specs.declared.request.NameOrNumber.{NameOrNumber}
 use Rattle.qm_kinds.specs.declared.request.NameOrNumber.TheVariants.{Name, Number}
 use Rattle.qm_lex.specs.declared.token.Token.{Token}
-use Rattle.qm_grammar.specs.Spelled.{is_word, bytes_of}
+use Rattle.qm_commands.specs.Spelled.{is_word, bytes_of}
 use Rattle.qm_model.specs.Built.{is_short, is_definable}
 use Rattle.qm_model.specs.Texts.{value_of}
 use Rattle.qm_time.specs.Moments.{moment_at}

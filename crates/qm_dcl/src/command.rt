@@ -12,7 +12,8 @@ use crate::queue::queue_request;
 use crate::settings::{Settings, settings_of};
 use crate::show::{characteristics_query, entries_query, forms_query, manager_query, queues_query};
 use crate::submit::job_of;
-use qm_grammar::{Command, Fault, Parsed, parse};
+use qm_commands::{Command, Fault};
+use qm_grammar::{Parsed, parse};
 use qm_kinds::{Input, JobKind, Moment, Name, ParseKind, Request, Seq};
 use std::alloc::{AllocError, Global};
 

@@ -11,7 +11,7 @@ use crate::value::{
     form_number_said, form_said, location_said, node_said, pattern_said, queue_retain_said,
     says_all, schedule_said, short_name_said,
 };
-use qm_grammar::{Command, Word};
+use qm_commands::{Command, Word};
 use qm_kinds::{FileName, JobRetain, Moment, Name, QueueRetain, Shape};
 use qm_lex::Token;
 

@@ -1,6 +1,6 @@
 // Laws of what texts ask for.
 ghost use Rattle.std.specs.Prelude.{◌≡◌, ◌≤◌, ℕ, List, Err, IsOk, IfOk};
-ghost use Rattle.qm_grammar.specs.declared.fault.Fault.{Fault};
+ghost use Rattle.qm_commands.specs.declared.fault.Fault.{Fault};
 ghost use Rattle.qm_grammar.specs.Parsed.{command_in};
 ghost use Rattle.qm_dcl.specs.Command.{command_of};
 

@@ -4,7 +4,8 @@ ghost use Rattle.std.specs.Option.{option_copied};
 ghost use Rattle.qm_dcl.specs.Lists.{gives, begins_list, behind_last, values_ahead, listed, characteristics_said, queues_said, nodes_said, lists_of, nodes_of};
 
 use crate::value::{characteristic_said, node_said, said_by, short_name_said};
-use qm_grammar::{Part, Word};
+use qm_commands::Word;
+use qm_grammar::Part;
 use qm_kinds::{Name, NameOrNumber, Seq};
 use std::alloc::{AllocError, Global};
 

@@ -4,7 +4,7 @@ ghost use Rattle.qm_dcl.specs.Queues.{change_of, kind_of, new_queue_of, stop_of,
 
 use crate::lists::Lists;
 use crate::settings::{QueueSettings, Settings, Stop};
-use qm_grammar::Command;
+use qm_commands::Command;
 use qm_kinds::{Name, NameOrNumber, NewQueue, QueueChange, QueueKind, Request, Seq, StopMode};
 use std::alloc::Global;
 

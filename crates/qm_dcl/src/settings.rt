@@ -10,7 +10,8 @@ use crate::given::{
 use crate::value::{
     Location, has_equals, is_until, job_retain_said, moment_said, said_by, side_said,
 };
-use qm_grammar::{Command, Fault, Part, Word};
+use qm_commands::{Command, Fault, Word};
+use qm_grammar::Part;
 use qm_kinds::{
     FileName, JobRetain, Moment, Name, NameOrNumber, ParseKind, Pattern, QueueRetain, Shape,
 };

@@ -6,25 +6,26 @@ use Rattle.qm_kinds.specs.declared.refusal.ParseKind.TheVariants as fault
 use Rattle.qm_lex.specs.declared.token.Token.{Token}
 use Rattle.qm_lex.specs.declared.token.TokenKind.{TokenKind}
 use Rattle.qm_lex.specs.declared.token.TokenKind.TheVariants as kinds
-use Rattle.qm_grammar.specs.declared.fault.Fault.{Fault}
+use Rattle.qm_commands.specs.declared.fault.Fault.{Fault}
 use Rattle.qm_grammar.specs.declared.part.Part.{Part}
 use Rattle.qm_grammar.specs.declared.part.Part.TheVariants as part
 use Rattle.qm_grammar.specs.declared.place.Place.{Place}
 use Rattle.qm_grammar.specs.declared.place.Place.TheVariants as place
 use Rattle.qm_grammar.specs.declared.place.State.{State}
-use Rattle.qm_grammar.specs.declared.rules.Takes.{Takes}
-use Rattle.qm_grammar.specs.declared.rules.Takes.TheVariants as takes
-use Rattle.qm_grammar.specs.declared.table.Row.{Row}
-use Rattle.qm_grammar.specs.declared.table.Verb.{Verb}
-use Rattle.qm_grammar.specs.declared.word.Word.{Word}
-use Rattle.qm_grammar.specs.Names.{rule_for}
+use Rattle.qm_commands.specs.declared.rules.Takes.{Takes}
+use Rattle.qm_commands.specs.declared.rules.Takes.TheVariants as takes
+use Rattle.qm_commands.specs.declared.table.Row.{Row}
+use Rattle.qm_commands.specs.declared.table.Verb.{Verb}
+use Rattle.qm_commands.specs.declared.word.Word.{Word}
+use Rattle.qm_commands.specs.Names.{rule_for}
 use Rattle.qm_grammar.specs.Finding.{verb_of, row_of}
 use Rattle.qm_grammar.specs.Parsed.{tokens_in, parts_in}
 use Rattle.qm_grammar.specs.Parts.{qualifier_part, text_part, part_of, on_next, parts_from, parts_behind, parts_of}
 use Rattle.qm_grammar.specs.Places.{begun, misplaced, is_joined, one_more, moved}
-use Rattle.qm_grammar.specs.Rules.{most_values, may_have_key, needs_value}
-use Rattle.qm_grammar.specs.Spelled.{is_text, is_word}
-use Rattle.qm_grammar.specs.Steps.{fault_at, named_by, is_no_object, counted, with_parameter, with_text, with_word, with_next, with_slash, with_equals, with_open, with_close, with_comma, with_token}
+use Rattle.qm_commands.specs.Rules.{most_values, may_have_key, needs_value}
+use Rattle.qm_commands.specs.Spelled.{is_text, is_word}
+use Rattle.qm_commands.specs.Faults.{fault_at}
+use Rattle.qm_grammar.specs.Steps.{named_by, is_no_object, counted, with_parameter, with_text, with_word, with_next, with_slash, with_equals, with_open, with_close, with_comma, with_token}
 
 -- ---- one token counts a value, where it is one
 

@@ -2,13 +2,13 @@
 use Rattle.std.proofs.Common.{◌≡◌, ◌==◌, ℕ, Bool, true, false, cond, ◌&&◌, nat_le, nat_lt, find, filter, get_or, List, [], ◌∷◌, length, take, Option, Some, refl, sym, ap, ◌∙◌}
 use Rattle.std.specs.Char.{to_ascii_uppercase}
 use Rattle.qm_lex.specs.declared.token.Token.{Token}
-use Rattle.qm_grammar.specs.declared.table.Verb.{Verb}
+use Rattle.qm_commands.specs.declared.table.Verb.{Verb}
 use Rattle.qm_grammar.specs.Finding.{verb_of}
-use Rattle.qm_grammar.specs.Names.{is_verb, is_verb_alone}
-use Rattle.qm_grammar.specs.Spelled.{is_word, bytes_of, is_raised_to}
-use Rattle.qm_grammar.specs.Table.{verbs}
-use Rattle.qm_grammar.specs.Words.{verb_spelling}
-use Rattle.qm_grammar.proofs.NameLemmas.{unbegun}
+use Rattle.qm_commands.specs.Names.{is_verb, is_verb_alone}
+use Rattle.qm_commands.specs.Spelled.{is_word, bytes_of, is_raised_to}
+use Rattle.qm_commands.specs.Table.{verbs}
+use Rattle.qm_commands.specs.Words.{verb_spelling}
+use Rattle.qm_commands.proofs.NameLemmas.{unbegun}
 
 module _ {X : Type 0} (p q : X → Bool) where
   found_or_not : (x : X) (xs : List X) (b : Bool) → q x ≡ b → (q x ≡ false → p x ≡ false) → find p (filter q xs) ≡ find p xs

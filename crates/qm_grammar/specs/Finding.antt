@@ -4,14 +4,14 @@ use Rattle.std.specs.Option.{option_map}
 use Rattle.qm_lex.specs.declared.token.Token.{Token}
 use Rattle.qm_lex.specs.declared.token.TokenKind.{TokenKind}
 use Rattle.qm_lex.specs.declared.token.TokenKind.TheVariants as kinds
-use Rattle.qm_grammar.specs.declared.table.Verb.{Verb}
-use Rattle.qm_grammar.specs.declared.table.Command.{Command}
-use Rattle.qm_grammar.specs.declared.table.Row.{Row}
-use Rattle.qm_grammar.specs.declared.word.Word.{Word}
-use Rattle.qm_grammar.specs.Spelled.{is_text}
-use Rattle.qm_grammar.specs.Table.{rows_of, verbs}
-use Rattle.qm_grammar.specs.Names.{is_verb, is_object}
-use Rattle.qm_grammar.specs.Conflicts.{counting_place}
+use Rattle.qm_commands.specs.declared.table.Verb.{Verb}
+use Rattle.qm_commands.specs.declared.table.Command.{Command}
+use Rattle.qm_commands.specs.declared.table.Row.{Row}
+use Rattle.qm_commands.specs.declared.word.Word.{Word}
+use Rattle.qm_commands.specs.Spelled.{is_text}
+use Rattle.qm_commands.specs.Table.{rows_of, verbs}
+use Rattle.qm_commands.specs.Names.{is_verb, is_object}
+use Rattle.qm_names.specs.Conflicts.{counting_place}
 
 -- the verb that a token is
 abbrev pub verb_of : List ℕ → Token → Option Verb

@@ -1,10 +1,3 @@
-pub mod Words
-pub mod Spelled
-pub mod Table
-pub mod Rules
-pub mod Names
-pub mod Naming
-pub mod Conflicts
 pub mod Finding
 pub mod Places
 pub mod Steps

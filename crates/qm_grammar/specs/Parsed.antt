@@ -4,10 +4,10 @@ use Rattle.qm_kinds.specs.declared.refusal.ParseKind.TheVariants.{Form}
 use Rattle.qm_lex.specs.declared.token.Token.{Token}
 use Rattle.qm_lex.specs.declared.token.TokenKind.TheVariants.{Quoted}
 use Rattle.qm_lex.specs.Tokens.{tokens_of}
-use Rattle.qm_grammar.specs.declared.fault.Fault.{Fault}
+use Rattle.qm_commands.specs.declared.fault.Fault.{Fault}
 use Rattle.qm_grammar.specs.declared.part.Part.{Part}
-use Rattle.qm_grammar.specs.declared.table.Command.{Command}
-use Rattle.qm_grammar.specs.Steps.{fault_at}
+use Rattle.qm_commands.specs.declared.table.Command.{Command}
+use Rattle.qm_commands.specs.Faults.{fault_at}
 use Rattle.qm_grammar.specs.Reading.{command_of}
 use Rattle.qm_grammar.specs.Parts.{parts_of}
 

@@ -2,18 +2,18 @@
 use Rattle.std.specs.Prelude.{ℕ, if◌then◌else◌, List, [], ◌∷◌, ◌++◌, Option, None, Some, Result, Ok, Err}
 use Rattle.std.specs.Option.{option_to_list}
 use Rattle.qm_lex.specs.declared.token.Token.{Token}
-use Rattle.qm_grammar.specs.declared.fault.Fault.{Fault}
+use Rattle.qm_commands.specs.declared.fault.Fault.{Fault}
 use Rattle.qm_grammar.specs.declared.part.Part.{Part}
 use Rattle.qm_grammar.specs.declared.part.Part.TheVariants.{Parameter, Qualifier, Value, KeyValue}
-use Rattle.qm_grammar.specs.declared.table.Verb.{Verb}
-use Rattle.qm_grammar.specs.declared.table.Row.{Row}
-use Rattle.qm_grammar.specs.declared.rules.Takes.{Takes}
-use Rattle.qm_grammar.specs.declared.word.Word.{Word}
+use Rattle.qm_commands.specs.declared.table.Verb.{Verb}
+use Rattle.qm_commands.specs.declared.table.Row.{Row}
+use Rattle.qm_commands.specs.declared.rules.Takes.{Takes}
+use Rattle.qm_commands.specs.declared.word.Word.{Word}
 use Rattle.qm_grammar.specs.declared.place.Place.{Place}
 use Rattle.qm_grammar.specs.declared.place.Place.TheVariants as place
 use Rattle.qm_grammar.specs.declared.place.State.{State}
-use Rattle.qm_grammar.specs.Spelled.{is_text}
-use Rattle.qm_grammar.specs.Names.{rule_for}
+use Rattle.qm_commands.specs.Spelled.{is_text}
+use Rattle.qm_commands.specs.Names.{rule_for}
 use Rattle.qm_grammar.specs.Finding.{verb_of, row_of}
 use Rattle.qm_grammar.specs.Places.{begun}
 use Rattle.qm_grammar.specs.Steps.{with_token}

@@ -2,14 +2,14 @@
 use Rattle.std.specs.Prelude.{ℕ, ◌+◌, ◌==◌, Bool, true, false, ◌||◌, if◌then◌else◌, nat_lt, Option, None, Some}
 use Rattle.qm_kinds.specs.declared.refusal.ParseKind.TheVariants as fault
 use Rattle.qm_lex.specs.declared.token.Token.{Token}
-use Rattle.qm_grammar.specs.declared.fault.Fault.{Fault}
-use Rattle.qm_grammar.specs.declared.table.Row.{Row}
-use Rattle.qm_grammar.specs.declared.rules.Takes.{Takes}
-use Rattle.qm_grammar.specs.declared.rules.Takes.TheVariants as takes
+use Rattle.qm_commands.specs.declared.fault.Fault.{Fault}
+use Rattle.qm_commands.specs.declared.table.Row.{Row}
+use Rattle.qm_commands.specs.declared.rules.Takes.{Takes}
+use Rattle.qm_commands.specs.declared.rules.Takes.TheVariants as takes
 use Rattle.qm_grammar.specs.declared.place.Place.{Place}
 use Rattle.qm_grammar.specs.declared.place.Place.TheVariants.{Verb, Parameter, VerbSlash, Slash, Name, Equals, Open, Comma, Value, Key, KeyOpen, KeyValue, Close}
 use Rattle.qm_grammar.specs.declared.place.State.{State}
-use Rattle.qm_grammar.specs.Rules.{needs_value}
+use Rattle.qm_commands.specs.Rules.{needs_value}
 
 -- behind the verb
 abbrev pub begun : Token → State

@@ -6,19 +6,20 @@ use Rattle.qm_kinds.specs.declared.refusal.ParseKind.TheVariants as fault
 use Rattle.qm_lex.specs.declared.token.Token.{Token}
 use Rattle.qm_lex.specs.declared.token.TokenKind.{TokenKind}
 use Rattle.qm_lex.specs.declared.token.TokenKind.TheVariants as kinds
-use Rattle.qm_grammar.specs.declared.fault.Fault.{Fault}
-use Rattle.qm_grammar.specs.declared.table.Verb.{Verb}
-use Rattle.qm_grammar.specs.declared.table.Command.{Command}
-use Rattle.qm_grammar.specs.declared.table.Row.{Row}
+use Rattle.qm_commands.specs.declared.fault.Fault.{Fault}
+use Rattle.qm_commands.specs.declared.table.Verb.{Verb}
+use Rattle.qm_commands.specs.declared.table.Command.{Command}
+use Rattle.qm_commands.specs.declared.table.Row.{Row}
 use Rattle.qm_grammar.specs.declared.place.Place.{Place}
 use Rattle.qm_grammar.specs.declared.place.Place.TheVariants as place
 use Rattle.qm_grammar.specs.declared.place.State.{State}
-use Rattle.qm_grammar.specs.Rules.{exclusions_of, needs_value}
-use Rattle.qm_grammar.specs.Names.{begins_verb}
-use Rattle.qm_grammar.specs.Conflicts.{first_conflict}
+use Rattle.qm_commands.specs.Rules.{exclusions_of, needs_value}
+use Rattle.qm_commands.specs.Names.{begins_verb}
+use Rattle.qm_names.specs.Conflicts.{first_conflict, or_conflict}
 use Rattle.qm_grammar.specs.Finding.{verb_of, row_of}
 use Rattle.qm_grammar.specs.Places.{begun, is_owing}
-use Rattle.qm_grammar.specs.Steps.{fault_at, with_token}
+use Rattle.qm_commands.specs.Faults.{fault_at}
+use Rattle.qm_grammar.specs.Steps.{with_token}
 
 -- something that the command needs isn't given
 abbrev pub is_short : Row → State → Bool
@@ -44,12 +45,6 @@ on_state (Err f) go_on = Err f
 abbrev pub read_from : List ℕ → Verb → Option Row → State → List Token → Result Command Fault
 read_from text verb row s [] = ended text row s s.place
 read_from text verb row s (token ∷ tokens) = on_state (with_token text verb row s token token.kind) (λ t. read_from text verb row t tokens)
-
--- a conflict, where nothing is wrong in front of it
-abbrev pub or_conflict : Option ℕ → Result Command Fault → Result Command Fault
-or_conflict None read = read
-or_conflict (Some at) (Ok command) = Err (fault_at at fault.Conflict)
-or_conflict (Some at) (Err f) = if nat_lt at f.place then Err (fault_at at fault.Conflict) else Err f
 
 -- what a text that begins with no verb has wrong: several verbs begin with its first word, or none does
 abbrev pub no_verb : List ℕ → Token → TokenKind → ParseKind

@@ -6,23 +6,21 @@ use Rattle.qm_kinds.specs.declared.refusal.ParseKind.TheVariants as fault
 use Rattle.qm_lex.specs.declared.token.Token.{Token}
 use Rattle.qm_lex.specs.declared.token.TokenKind.{TokenKind}
 use Rattle.qm_lex.specs.declared.token.TokenKind.TheVariants as kinds
-use Rattle.qm_grammar.specs.declared.fault.Fault.{Fault}
-use Rattle.qm_grammar.specs.declared.table.Verb.{Verb}
-use Rattle.qm_grammar.specs.declared.table.Row.{Row}
-use Rattle.qm_grammar.specs.declared.rules.Takes.{Takes}
-use Rattle.qm_grammar.specs.declared.rules.Takes.TheVariants.{One}
-use Rattle.qm_grammar.specs.declared.word.Word.{Word}
+use Rattle.qm_commands.specs.declared.fault.Fault.{Fault}
+use Rattle.qm_commands.specs.declared.table.Verb.{Verb}
+use Rattle.qm_commands.specs.declared.table.Row.{Row}
+use Rattle.qm_commands.specs.declared.rules.Takes.{Takes}
+use Rattle.qm_commands.specs.declared.rules.Takes.TheVariants.{One}
+use Rattle.qm_commands.specs.declared.word.Word.{Word}
 use Rattle.qm_grammar.specs.declared.place.Place.{Place}
 use Rattle.qm_grammar.specs.declared.place.Place.TheVariants as place
 use Rattle.qm_grammar.specs.declared.place.State.{State}
-use Rattle.qm_grammar.specs.Spelled.{is_word}
-use Rattle.qm_grammar.specs.Table.{takes_option, takes_object}
-use Rattle.qm_grammar.specs.Rules.{most_values, may_have_key, needs_value}
-use Rattle.qm_grammar.specs.Names.{begins_name, rule_for}
+use Rattle.qm_commands.specs.Spelled.{is_word}
+use Rattle.qm_commands.specs.Table.{takes_option, takes_object}
+use Rattle.qm_commands.specs.Rules.{most_values, may_have_key, needs_value}
+use Rattle.qm_commands.specs.Names.{begins_name, rule_for}
+use Rattle.qm_commands.specs.Faults.{fault_at}
 use Rattle.qm_grammar.specs.Places.{moved, is_owing, misplaced, is_joined, one_more}
-
-abbrev pub fault_at : ℕ → ParseKind → Fault
-fault_at at kind = record { place = at; kind = kind }
 
 -- a name behind a / with which none of the command begins: where none of the verb does, right behind a verb that needs an option, it is no option
 abbrev pub unknown_kind : List ℕ → Verb → Token → Place → ParseKind

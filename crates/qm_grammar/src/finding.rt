@@ -1,16 +1,13 @@
 // Which command the tokens behind a verb make of it.
 ghost use Rattle.std.specs.Prelude.{◌≡◌, ◌==◌, true, find, filter, get_or};
 ghost use Rattle.qm_grammar.specs.Finding.{verb_of, lets_follow, stays_open, first_parameter, has_object, has_option, is_named, row_of};
-ghost use Rattle.qm_grammar.specs.Names.{is_verb};
-ghost use Rattle.qm_grammar.specs.Table.{verbs};
-ghost use Rattle.qm_grammar.specs.Words.{verb_spelling};
+ghost use Rattle.qm_commands.specs.Names.{is_verb};
+ghost use Rattle.qm_commands.specs.Table.{verbs};
+ghost use Rattle.qm_commands.specs.Words.{verb_spelling};
 
-use crate::conflict::{counting_place, has_slash};
-use crate::names::{is_object, is_verb};
-use crate::table::{Row, VERBS, Verb, rows_of};
-use crate::token::{bytes_of, is_text};
-use crate::word::Word;
+use qm_commands::{Row, VERBS, Verb, Word, bytes_of, is_text, rows_of};
 use qm_lex::{Token, TokenKind};
+use qm_names::{counting_place, has_slash, is_object, is_verb};
 
 // The verbs whose second letter this is. It leaves three of them at most.
 fn verbs_by(second: u8) -> &'static [Verb]

@@ -4,8 +4,7 @@ ghost use Rattle.std.specs.Option.{option_to_list};
 ghost use Rattle.qm_grammar.specs.Parts.{qualifier_part};
 
 use crate::place::State;
-use crate::rules::Rule;
-use crate::word::Word;
+use qm_commands::{Rule, Word};
 use qm_lex::Token;
 use std::alloc::AllocFailed;
 

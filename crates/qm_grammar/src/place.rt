@@ -2,7 +2,7 @@
 ghost use Rattle.std.specs.Prelude.{◌≡◌};
 ghost use Rattle.qm_grammar.specs.Places.{begun, moved, is_awaited};
 
-use crate::rules::{Takes, needs_value};
+use qm_commands::{Takes, needs_value};
 use qm_lex::Token;
 
 /// Behind which token one stands.

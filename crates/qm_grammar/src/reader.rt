@@ -4,10 +4,9 @@ ghost use Rattle.qm_lex.specs.Tokens.{tokens_of};
 ghost use Rattle.qm_grammar.specs.Finding.{named_command};
 ghost use Rattle.qm_grammar.specs.Parsed.{unreadable, readable, tokens_in, or_unreadable, command_in, parts_in};
 
-use crate::fault::{Fault, fault_at};
 use crate::part::Part;
 use crate::reading::told_of;
-use crate::table::Command;
+use qm_commands::{Command, Fault, fault_at};
 use qm_kinds::ParseKind;
 use qm_lex::{LexFault, Token, TokenKind, lex};
 use std::alloc::{AllocError, Global};

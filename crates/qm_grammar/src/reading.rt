@@ -3,19 +3,16 @@ ghost use Rattle.std.specs.Prelude.{◌≡◌, [], None, Some, Err, IfOk};
 ghost use Rattle.qm_grammar.specs.Finding.{named_behind, named_command};
 ghost use Rattle.qm_grammar.specs.Parts.{parts_from, parts_behind, parts_of};
 ghost use Rattle.qm_grammar.specs.Places.{begun};
-ghost use Rattle.qm_grammar.specs.Reading.{is_short, whole, ended, read_from, or_conflict, no_verb, command_behind, command_of};
+ghost use Rattle.qm_grammar.specs.Reading.{is_short, whole, ended, read_from, no_verb, command_behind, command_of};
 
-use crate::conflict::first_conflict;
-use crate::fault::{Fault, fault_at};
 use crate::finding::{row_of, verb_of};
-use crate::names::begins_verb;
 use crate::part::{Part, push_part};
 use crate::place::{Place, State, begun};
-use crate::rules::needs_value;
 use crate::step::{is_owing, with_token};
-use crate::table::{Command, Row, Verb};
+use qm_commands::{Command, Fault, Row, Verb, begins_verb, fault_at, needs_value};
 use qm_kinds::ParseKind;
 use qm_lex::{Token, TokenKind};
+use qm_names::{first_conflict, or_conflict};
 use std::alloc::{AllocError, Global};
 
 // Whether something that the command needs isn't given.
@@ -88,17 +85,6 @@ fn walk(
         read: ended(text, row, &s),
         parts,
     })
-}
-
-// A conflict, where nothing is wrong in front of it.
-fn or_conflict(conflict: Option<usize>, read: Result<Command, Fault>) -> Result<Command, Fault>
-    ensures { result ≡ or_conflict conflict read }
-{
-    match (conflict, read) {
-        (Some(at), Err(fault)) if fault.place <= at => Err(fault),
-        (Some(at), _) => Err(fault_at(at, ParseKind::Conflict)),
-        (None, read) => read,
-    }
 }
 
 // What a text that begins with no verb has wrong.

@@ -1,16 +1,17 @@
 // One token further.
 ghost use Rattle.std.specs.Prelude.{◌≡◌, None, Some, Ok, Err, IfOk, IfErr};
-ghost use Rattle.qm_grammar.specs.Names.{rule_for};
+ghost use Rattle.qm_commands.specs.Names.{rule_for};
 ghost use Rattle.qm_grammar.specs.Parts.{qualifier_part, text_part, part_of};
 ghost use Rattle.qm_grammar.specs.Places.{is_owing, misplaced, is_joined, one_more};
 ghost use Rattle.qm_grammar.specs.Steps.{unknown_kind, no_name_kind, named_by, with_value, is_no_object, with_parameter, with_name, with_word, with_slash, with_equals, with_key_open, with_open, with_close, with_comma, with_token};
 
-use crate::fault::{Fault, fault_at};
-use crate::names::{begins_name, rule_for};
 use crate::part::{Part, qualifier_part};
 use crate::place::{Place, State, is_awaited, moved};
-use crate::rules::{Rule, Takes, may_have_key, most_values, needs_value};
-use crate::table::{Row, Verb, takes_object, takes_option};
+use crate::rule::rule_for;
+use qm_commands::{
+    Fault, Row, Rule, Takes, Verb, begins_name, fault_at, may_have_key, most_values, needs_value,
+    takes_object, takes_option,
+};
 use qm_kinds::ParseKind;
 use qm_lex::{Token, TokenKind};
 

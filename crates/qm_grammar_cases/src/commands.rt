@@ -1,5 +1,6 @@
 // What users type, and which command it is, or what is wrong and where.
-use qm_grammar::{Fault, Parsed, parse};
+use qm_commands::Fault;
+use qm_grammar::{Parsed, parse};
 use std::alloc::{AllocError, Global};
 use std::process::Abort;
 

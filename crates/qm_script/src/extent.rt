@@ -121,7 +121,7 @@ pub(crate) fn is_of_line(text: &[u8]) -> bool
 }
 
 /// A text without each `-` and line feed at which it goes on. Memory may run out.
-pub(crate) fn joined(alloc: Global, text: &[u8]) -> Result<Vec<u8>, AllocError>
+pub fn joined(alloc: Global, text: &[u8]) -> Result<Vec<u8>, AllocError>
     ensures { IfOk result (λ whole. whole.items ≡ joined text.now) }
 {
     let mut whole = Vec::new(alloc);

@@ -62,7 +62,7 @@ fn items_by(
 
 /// What the text of a call by an item list asks for: a function number, a blank and the bytes in hexadecimal, at a node that has begun
 /// these listings. It takes memory in proportion to the text.
-pub(crate) fn items_asked(
+pub fn items_asked(
     alloc: Global,
     text: &[u8],
     user: Name,

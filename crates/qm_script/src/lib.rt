@@ -1,7 +1,7 @@
-//! What a script is, and what its lines ask for: the lines of a text in order, each of a user at a node, of which a command may go
-//! on; and of each line, read at a moment, the command behind a `$`, the call by an item list behind a `#`, or the act at the site
-//! behind a `!`. No line is served here. `read_lines` reads a script, `read_line` a line, and `read_nodes` and `read_cap` the words
-//! with which a site is made.
+//! What a script is, and what its lines are made of: the lines of a text in order, each of a user at a node, of which a command
+//! may go on; what a call by an item list and an act at the site ask for; and the words with which a site is made. `read_lines`
+//! reads a script, `items_asked` and `act_asked` the text of a line, and `read_nodes` and `read_cap` those words. No line is
+//! served here.
 #![tactic(auto)]
 
 mod act;
@@ -15,7 +15,9 @@ mod script;
 mod served;
 mod sites;
 
-pub use asked::{read_line, steps_of};
+pub use asked::{act_asked, steps_of};
+pub use extent::joined;
+pub use items::items_asked;
 pub use laws::{a_script_has_a_limit, lines_ask_by_listings};
 pub use lines::{LineSort, LinesEnd, UserLine, read_lines};
 pub use script::{SCRIPT_BYTES, read_node_name};

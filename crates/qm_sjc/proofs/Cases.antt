@@ -11,7 +11,7 @@ use Rattle.qm_kinds.specs.declared.request.Request.TheVariants.{Submit, DeleteEn
 use Rattle.qm_kinds.specs.declared.request.StopMode.TheVariants.{Pause}
 use Rattle.qm_item.specs.declared.item.Item.{Item}
 use Rattle.qm_sjc.specs.declared.fault.Fault.{Fault}
-use Rattle.qm_sjc.specs.Asked.{query_of}
+use Rattle.qm_values.specs.Asked.{query_of}
 use Rattle.qm_sjc.specs.Calls.{call_of}
 
 abbrev item : ℕ → List ℕ → Item

@@ -27,19 +27,19 @@ use Rattle.qm_kinds.specs.declared.request.Request.TheVariants as request
 use Rattle.qm_kinds.specs.declared.request.StopMode.{StopMode}
 use Rattle.qm_item.specs.declared.item.Item.{Item}
 use Rattle.qm_model.specs.Built.{is_built, is_definable, is_short}
-use Rattle.qm_sjc.specs.declared.codes.TheConstants.{CHARACTERISTIC, DEVICE, FILE, KIND, LINES, NAME, NUMBER, QUEUE, STOCK, TARGET, TO_QUEUE}
+use Rattle.qm_values.specs.declared.codes.TheConstants.{CHARACTERISTIC, DEVICE, FILE, KIND, LINES, NAME, NUMBER, QUEUE, STOCK, TARGET, TO_QUEUE}
 use Rattle.qm_sjc.specs.declared.fault.Fault.{Fault}
-use Rattle.qm_sjc.specs.declared.fields.Holds.{Holds}
-use Rattle.qm_sjc.specs.declared.function.Function.{Function}
-use Rattle.qm_sjc.specs.declared.function.Function.TheVariants as function
-use Rattle.qm_sjc.specs.declared.looking.Lists.{Lists}
-use Rattle.qm_sjc.specs.Asked.{asked, change_of, entry_change, form_of, has_more, job_of, new_queue, read_in}
+use Rattle.qm_values.specs.declared.holds.Holds.{Holds}
+use Rattle.qm_values.specs.declared.function.Function.{Function}
+use Rattle.qm_values.specs.declared.function.Function.TheVariants as function
+use Rattle.qm_values.specs.declared.looking.Lists.{Lists}
+use Rattle.qm_values.specs.Asked.{asked, change_of, entry_change, form_of, has_more, job_of, new_queue, read_in}
 use Rattle.qm_sjc.specs.Calls.{at_once, called, judged}
-use Rattle.qm_sjc.specs.Functions.{function_of}
+use Rattle.qm_values.specs.Functions.{function_of}
 use Rattle.qm_sjc.specs.Judging.{count_in, fault_behind, fault_in, field_in, first_fault, is_repeatable, is_spent, kind_of}
-use Rattle.qm_sjc.specs.Looking.{characteristic_of, characteristics_in, is_given, lists_in, target_of, targets_in, value_in}
+use Rattle.qm_values.specs.Looking.{characteristic_of, characteristics_in, is_given, lists_in, target_of, targets_in, value_in}
 use Rattle.qm_sjc.specs.Meant.{items_mean, items_read, meant, or_fault}
-use Rattle.qm_sjc.specs.Values.{definable_name_said, if_passes, job_kind_said, queue_kind_said, reference_said, short_name_said, short_said, small_said}
+use Rattle.qm_values.specs.Values.{definable_name_said, if_passes, job_kind_said, queue_kind_said, reference_said, short_name_said, short_said, small_said}
 
 -- ---- how many items of a code there are
 

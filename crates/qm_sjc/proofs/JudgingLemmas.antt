@@ -9,7 +9,7 @@ use Rattle.qm_item.specs.declared.item.Item.{Item}
 use Rattle.qm_item.specs.Text.{item_text, text}
 use Rattle.qm_item.proofs.Texts.{length-item_text, text_more}
 use Rattle.qm_sjc.specs.declared.fault.Fault.{Fault}
-use Rattle.qm_sjc.specs.declared.function.Function.{Function}
+use Rattle.qm_values.specs.declared.function.Function.{Function}
 use Rattle.qm_sjc.specs.Judging.{field_in, count_in, kind_of, fault_behind}
 
 text-append : (a b : List Item) → text (a ++ b) ≡ text a ++ text b

@@ -7,11 +7,11 @@ use Rattle.qm_item.specs.declared.item.Item.{Item}
 use Rattle.qm_sjc.specs.declared.fault.CallFault.{CallFault}
 use Rattle.qm_sjc.specs.declared.fault.CallFault.TheVariants.{At, NoMemory}
 use Rattle.qm_sjc.specs.declared.fault.Fault.{Fault}
-use Rattle.qm_sjc.specs.declared.function.Function.{Function}
-use Rattle.qm_sjc.specs.Asked.{asked}
-use Rattle.qm_sjc.specs.Functions.{function_of}
+use Rattle.qm_values.specs.declared.function.Function.{Function}
+use Rattle.qm_values.specs.Asked.{asked}
+use Rattle.qm_values.specs.Functions.{function_of}
 use Rattle.qm_sjc.specs.Judging.{first_fault}
-use Rattle.qm_sjc.specs.Looking.{lists_in}
+use Rattle.qm_values.specs.Looking.{lists_in}
 
 -- a fault of the whole call
 abbrev pub at_once : ParseKind → Fault

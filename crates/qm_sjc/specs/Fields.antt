@@ -1,11 +1,11 @@
 -- Which items a function takes, and what value each has.
 -- OpenVMS System Services Reference Manual, $SNDJBC and $GETQUI, on item codes. This site's own: the codes, and what bytes a value has.
 use Rattle.std.specs.Prelude.{ℕ, List, [], ◌∷◌}
-use Rattle.qm_sjc.specs.declared.codes.TheConstants.{QUEUE, FILE, JOB_NAME, PRIORITY, AFTER, HOLD, RETAIN, RESTART, CHARACTERISTIC, FORM, COPIES, FLAG, KIND, NODE, DEVICE, TARGET, JOB_LIMIT, BLOCK_LOWER, BLOCK_UPPER, BY_SIZE, QUEUE_RETAIN, START, ENTRY, HOW, REQUEUE, TO_QUEUE, NAME, NUMBER, STOCK, SHAPE, BYTES, LINES, SEARCH, RELEASE}
-use Rattle.qm_sjc.specs.declared.fields.Holds.{Holds}
-use Rattle.qm_sjc.specs.declared.fields.Holds.TheVariants as holds
-use Rattle.qm_sjc.specs.declared.function.Function.{Function}
-use Rattle.qm_sjc.specs.declared.function.Function.TheVariants as function
+use Rattle.qm_values.specs.declared.codes.TheConstants.{QUEUE, FILE, JOB_NAME, PRIORITY, AFTER, HOLD, RETAIN, RESTART, CHARACTERISTIC, FORM, COPIES, FLAG, KIND, NODE, DEVICE, TARGET, JOB_LIMIT, BLOCK_LOWER, BLOCK_UPPER, BY_SIZE, QUEUE_RETAIN, START, ENTRY, HOW, REQUEUE, TO_QUEUE, NAME, NUMBER, STOCK, SHAPE, BYTES, LINES, SEARCH, RELEASE}
+use Rattle.qm_values.specs.declared.holds.Holds.{Holds}
+use Rattle.qm_values.specs.declared.holds.Holds.TheVariants as holds
+use Rattle.qm_values.specs.declared.function.Function.{Function}
+use Rattle.qm_values.specs.declared.function.Function.TheVariants as function
 
 abbrev pub fields_of : Function → List (ℕ × Holds)
 fields_of function.Append = (FILE, holds.File) ∷ (BYTES, holds.Bytes) ∷ []

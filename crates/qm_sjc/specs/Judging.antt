@@ -7,12 +7,12 @@ use Rattle.qm_kinds.specs.declared.refusal.ParseKind.{ParseKind}
 use Rattle.qm_kinds.specs.declared.refusal.ParseKind.TheVariants.{Code, Value, Repeated}
 use Rattle.qm_item.specs.declared.item.Item.{Item}
 use Rattle.qm_item.specs.Text.{text}
-use Rattle.qm_sjc.specs.declared.codes.TheConstants.{CHARACTERISTIC, TARGET}
+use Rattle.qm_values.specs.declared.codes.TheConstants.{CHARACTERISTIC, TARGET}
 use Rattle.qm_sjc.specs.declared.fault.Fault.{Fault}
-use Rattle.qm_sjc.specs.declared.fields.Holds.{Holds}
-use Rattle.qm_sjc.specs.declared.function.Function.{Function}
+use Rattle.qm_values.specs.declared.holds.Holds.{Holds}
+use Rattle.qm_values.specs.declared.function.Function.{Function}
 use Rattle.qm_sjc.specs.Fields.{fields_of}
-use Rattle.qm_sjc.specs.Values.{is_held}
+use Rattle.qm_values.specs.Values.{is_held}
 
 -- what value the item of a code has, where the function takes it
 abbrev pub field_in : Function → ℕ → Option Holds

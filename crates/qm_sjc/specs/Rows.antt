@@ -12,7 +12,7 @@ use Rattle.qm_kinds.specs.declared.queue.QueueKind.TheVariants as kind
 use Rattle.qm_kinds.specs.declared.queue.QueueState.{QueueState}
 use Rattle.qm_kinds.specs.declared.queue.QueueState.TheVariants as state
 use Rattle.qm_model.specs.Standing.{stands_in}
-use Rattle.qm_sjc.specs.declared.codes.TheConstants.{QUEUE, JOB_NAME, PRIORITY, KIND, NODE, ENTRY, NAME, NUMBER, STOCK, STATE, EPOCH}
+use Rattle.qm_values.specs.declared.codes.TheConstants.{QUEUE, JOB_NAME, PRIORITY, KIND, NODE, ENTRY, NAME, NUMBER, STOCK, STATE, EPOCH}
 
 abbrev pub item : ℕ → List ℕ → Item
 item code value = record { code = code; value = value }

@@ -1,44 +1,19 @@
 // Calls: what a function asks for with its items.
 ghost use Rattle.std.specs.Prelude.{◌≡◌, ◌<◌, ◌^◌, Ok, IfOk, IfErr, length, option_map};
 ghost use Rattle.qm_item.specs.Text.{text};
-ghost use Rattle.qm_sjc.specs.Asked.{listless_of, request_of, asked};
+ghost use Rattle.qm_values.specs.Asked.{request_of, asked};
 ghost use Rattle.qm_sjc.specs.Calls.{call_of, Explains};
 
 use crate::fault::{CallFault, Fault};
-use crate::function::{Function, function_of};
-use crate::jobs::{delete_entry, set_entry, submit_of};
+use crate::jobs::submit_of;
 use crate::judging::first_fault;
-use crate::looking::{Lists, lists_in};
-use crate::others::{
-    append_of, define_characteristic, define_form, delete_characteristic, delete_form, drop_of,
-    fill_of, query_of,
-};
-use crate::queues::{
-    abort_job, delete_queue, initialize_of, merge_of, set_queue, start_queue, stop_queue,
-};
 use qm_item::Item;
 use qm_kinds::{Input, Listing, Name, ParseKind, Request};
+use qm_values::{
+    Function, Lists, append_of, function_of, initialize_of, listless_of, lists_in, query_of,
+    set_entry, set_queue, start_queue,
+};
 use std::alloc::{AllocError, Global};
-
-// What a function changes that takes no list of values, where nothing that it needs is missing.
-fn listless_of(function: Function, items: &[Item]) -> Option<Request>
-    ensures { result ≡ listless_of function items.now }
-{
-    match function {
-        Function::Fill => fill_of(items),
-        Function::Drop => drop_of(items),
-        Function::DefineForm => define_form(items),
-        Function::DeleteForm => delete_form(items),
-        Function::DefineCharacteristic => define_characteristic(items),
-        Function::DeleteCharacteristic => delete_characteristic(items),
-        Function::StopQueue => stop_queue(items),
-        Function::AbortJob => abort_job(items),
-        Function::DeleteQueue => delete_queue(items),
-        Function::Merge => merge_of(items),
-        Function::DeleteEntry => delete_entry(items),
-        _ => None,
-    }
-}
 
 // What a function changes, where nothing that it needs is missing.
 #[inline(never)]

@@ -4,13 +4,12 @@ ghost use Rattle.std.specs.List.{list_any};
 ghost use Rattle.qm_item.specs.Text.{text};
 ghost use Rattle.qm_sjc.specs.Judging.{field_in, count_in, is_spent, is_empty_beside, kind_of, first_fault};
 
-use crate::codes::{CHARACTERISTIC, TARGET};
 use crate::fault::Fault;
-use crate::fields::{Field, Holds, fields_of};
-use crate::function::Function;
-use crate::value::is_held;
+use crate::fields::{Field, fields_of};
 use qm_item::Item;
 use qm_kinds::ParseKind;
+use qm_values::codes::{CHARACTERISTIC, TARGET};
+use qm_values::{Function, Holds, is_held};
 
 // How many items there are of the codes that may come again.
 #[derive(Clone, Copy)]

@@ -5,20 +5,13 @@
 #![tactic(auto)]
 
 mod call;
-mod codes;
 mod fault;
 mod fields;
-mod function;
 mod jobs;
 mod judging;
-mod looking;
 mod meant;
-mod others;
 mod printed;
-mod queues;
-mod reading;
 mod rows;
-mod value;
 
 pub use call::read_call;
 pub use fault::CallFault;

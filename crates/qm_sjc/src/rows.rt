@@ -5,9 +5,9 @@ ghost use Rattle.qm_item.specs.Text.{CanStand};
 ghost use Rattle.qm_model.specs.Standing.{stands_in};
 ghost use Rattle.qm_sjc.specs.Rows.{entry_state_code, item, items_of, queue_kind_code, queue_state_code};
 
-use crate::codes::*;
 use qm_item::Item;
 use qm_kinds::{Entry, EntryState, Form, Name, Queue, QueueKind, QueueState, Row, Seq};
+use qm_values::codes::*;
 use std::alloc::{AllocError, Global};
 
 // The number of a kind of queue.

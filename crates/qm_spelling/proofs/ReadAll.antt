@@ -5,27 +5,28 @@ use Rattle.std.specs.List.{list_all}
 use Rattle.qm_kinds.specs.declared.input.Input.{Input}
 use Rattle.qm_lex.specs.declared.token.Token.{Token}
 use Rattle.qm_lex.specs.Tokens.{tokens_of}
-use Rattle.qm_grammar.specs.declared.fault.Fault.{Fault}
+use Rattle.qm_commands.specs.declared.fault.Fault.{Fault}
 use Rattle.qm_grammar.specs.declared.part.Part.{Part}
 use Rattle.qm_grammar.specs.declared.part.Part.TheVariants.{Value}
-use Rattle.qm_grammar.specs.declared.rules.Takes.{Takes}
-use Rattle.qm_grammar.specs.declared.table.Command.{Command}
-use Rattle.qm_grammar.specs.declared.table.Command.TheVariants as command
-use Rattle.qm_grammar.specs.declared.table.Row.{Row}
-use Rattle.qm_grammar.specs.declared.table.Verb.{Verb}
-use Rattle.qm_grammar.specs.declared.table.Verb.TheVariants as verbs
-use Rattle.qm_grammar.specs.declared.word.Word.{Word}
-use Rattle.qm_grammar.specs.declared.word.Word.TheVariants as words
-use Rattle.qm_grammar.specs.Conflicts.{counting_place, first_conflict}
+use Rattle.qm_commands.specs.declared.rules.Takes.{Takes}
+use Rattle.qm_commands.specs.declared.table.Command.{Command}
+use Rattle.qm_commands.specs.declared.table.Command.TheVariants as command
+use Rattle.qm_commands.specs.declared.table.Row.{Row}
+use Rattle.qm_commands.specs.declared.table.Verb.{Verb}
+use Rattle.qm_commands.specs.declared.table.Verb.TheVariants as verbs
+use Rattle.qm_commands.specs.declared.word.Word.{Word}
+use Rattle.qm_commands.specs.declared.word.Word.TheVariants as words
+use Rattle.qm_names.specs.Conflicts.{counting_place, first_conflict}
 use Rattle.qm_grammar.specs.Finding.{verb_of, is_named, row_of, named_behind, named_command}
-use Rattle.qm_grammar.specs.Naming.{names_for}
+use Rattle.qm_commands.specs.Naming.{names_for}
 use Rattle.qm_grammar.specs.Parsed.{tokens_in, tokens_by, parts_in, or_unreadable, command_in}
 use Rattle.qm_grammar.specs.Parts.{parts_from, parts_behind, parts_of}
 use Rattle.qm_grammar.specs.Places.{begun}
-use Rattle.qm_grammar.specs.Reading.{read_from, or_conflict, command_by, command_behind, command_of as read_command}
-use Rattle.qm_grammar.specs.Rules.{rules_of, exclusions_of}
-use Rattle.qm_grammar.specs.Table.{rows_of}
-use Rattle.qm_grammar.specs.Words.{spelling}
+use Rattle.qm_grammar.specs.Reading.{read_from, command_by, command_behind, command_of as read_command}
+use Rattle.qm_names.specs.Conflicts.{or_conflict}
+use Rattle.qm_commands.specs.Rules.{rules_of, exclusions_of}
+use Rattle.qm_commands.specs.Table.{rows_of}
+use Rattle.qm_commands.specs.Words.{spelling}
 use Rattle.qm_dcl.specs.declared.lists.Lists.{Lists}
 use Rattle.qm_dcl.specs.declared.lists.ListOf.TheVariants.{Characteristics, Targets}
 use Rattle.qm_dcl.specs.declared.settings.Settings.{Settings}

@@ -4,24 +4,24 @@ use Rattle.std.specs.Option.{option_to_list}
 use Rattle.qm_lex.specs.declared.token.Token.{Token}
 use Rattle.qm_lex.specs.declared.token.TokenKind.{TokenKind}
 use Rattle.qm_lex.specs.declared.token.TokenKind.TheVariants as kinds
-use Rattle.qm_grammar.specs.declared.fault.Fault.{Fault}
+use Rattle.qm_commands.specs.declared.fault.Fault.{Fault}
 use Rattle.qm_grammar.specs.declared.part.Part.{Part}
 use Rattle.qm_grammar.specs.declared.part.Part.TheVariants as part
 use Rattle.qm_grammar.specs.declared.place.Place.{Place}
 use Rattle.qm_grammar.specs.declared.place.Place.TheVariants as place
 use Rattle.qm_grammar.specs.declared.place.State.{State}
-use Rattle.qm_grammar.specs.declared.rules.Takes.{Takes}
-use Rattle.qm_grammar.specs.declared.table.Command.{Command}
-use Rattle.qm_grammar.specs.declared.table.Row.{Row}
-use Rattle.qm_grammar.specs.declared.table.Verb.{Verb}
-use Rattle.qm_grammar.specs.declared.word.Word.{Word}
-use Rattle.qm_grammar.specs.Conflicts.{slash_place, place_with, place_from, counting_place, later_of_both, earlier, conflict_of, first_conflict}
-use Rattle.qm_grammar.specs.Names.{rule_for}
+use Rattle.qm_commands.specs.declared.rules.Takes.{Takes}
+use Rattle.qm_commands.specs.declared.table.Command.{Command}
+use Rattle.qm_commands.specs.declared.table.Row.{Row}
+use Rattle.qm_commands.specs.declared.table.Verb.{Verb}
+use Rattle.qm_commands.specs.declared.word.Word.{Word}
+use Rattle.qm_names.specs.Conflicts.{slash_place, place_with, place_from, counting_place, later_of_both, earlier, conflict_of, first_conflict}
+use Rattle.qm_commands.specs.Names.{rule_for}
 use Rattle.qm_grammar.specs.Parts.{qualifier_part, text_part, part_of, on_next, parts_from}
 use Rattle.qm_grammar.specs.Places.{begun, is_joined, one_more}
 use Rattle.qm_grammar.specs.Reading.{ended, on_state, read_from}
-use Rattle.qm_grammar.specs.Rules.{needs_value, may_have_key, most_values}
-use Rattle.qm_grammar.specs.Spelled.{is_text, is_word}
+use Rattle.qm_commands.specs.Rules.{needs_value, may_have_key, most_values}
+use Rattle.qm_commands.specs.Spelled.{is_text, is_word}
 use Rattle.qm_grammar.specs.Steps.{named_by, is_no_object, counted, with_parameter, with_text, with_word, with_slash, with_equals, with_open, with_close, with_comma, with_token}
 use Rattle.qm_spelling.proofs.ReadSettings.{folded}
 use Rattle.qm_spelling.proofs.ReadTokens.{is_slash, mapped}

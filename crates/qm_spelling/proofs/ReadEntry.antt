@@ -2,11 +2,11 @@
 use Rattle.std.proofs.Common.{◌≡◌, ℕ, Bool, true, false, ◌||◌, not, List, Option, None, Some, Result, Ok, Err, IfOk, IfSome, is_some, refl, sym, ◌∙◌, subst}
 use Rattle.qm_kinds.specs.Files.{name_of}
 use Rattle.qm_kinds.specs.declared.request.NameOrNumber.{NameOrNumber}
-use Rattle.qm_grammar.specs.declared.fault.Fault.{Fault}
+use Rattle.qm_commands.specs.declared.fault.Fault.{Fault}
 use Rattle.qm_grammar.specs.declared.part.Part.{Part}
-use Rattle.qm_grammar.specs.declared.table.Command.TheVariants as command
-use Rattle.qm_grammar.specs.declared.word.Word.{Word}
-use Rattle.qm_grammar.specs.declared.word.Word.TheVariants as words
+use Rattle.qm_commands.specs.declared.table.Command.TheVariants as command
+use Rattle.qm_commands.specs.declared.word.Word.{Word}
+use Rattle.qm_commands.specs.declared.word.Word.TheVariants as words
 use Rattle.qm_dcl.specs.declared.lists.ListOf.TheVariants.{Characteristics}
 use Rattle.qm_dcl.specs.declared.settings.JobSettings.{JobSettings}
 use Rattle.qm_dcl.specs.declared.settings.Settings.{Settings}

@@ -4,9 +4,9 @@ use Rattle.std.specs.Prelude.{option_map}
 use Rattle.qm_kinds.specs.Files.{name_of, file_name_of}
 use Rattle.qm_lex.specs.declared.token.Token.{Token}
 use Rattle.qm_grammar.specs.declared.part.Part.{Part}
-use Rattle.qm_grammar.specs.declared.table.Command.TheVariants as command
-use Rattle.qm_grammar.specs.declared.word.Word.{Word}
-use Rattle.qm_grammar.specs.declared.word.Word.TheVariants as words
+use Rattle.qm_commands.specs.declared.table.Command.TheVariants as command
+use Rattle.qm_commands.specs.declared.word.Word.{Word}
+use Rattle.qm_commands.specs.declared.word.Word.TheVariants as words
 use Rattle.qm_dcl.specs.declared.settings.JobSettings.{JobSettings}
 use Rattle.qm_dcl.specs.declared.settings.Settings.{Settings}
 use Rattle.qm_dcl.specs.Values.{byte_said, entry_said, blocks_said, short_name_said, form_said, characteristic_said, location_said}

@@ -5,17 +5,17 @@ use Rattle.std.specs.List.{list_all, slice_index_or}
 use Rattle.std.specs.Str.{bytes_eq}
 use Rattle.std.proofs.lemmas.Slice.Eq.{bytes_eq-Decides}
 use Rattle.qm_lex.specs.declared.token.Token.{Token}
-use Rattle.qm_grammar.specs.declared.rules.Takes.{Takes}
-use Rattle.qm_grammar.specs.declared.table.Row.{Row}
-use Rattle.qm_grammar.specs.declared.table.Verb.{Verb}
-use Rattle.qm_grammar.specs.declared.word.Word.{Word}
-use Rattle.qm_grammar.specs.declared.word.Word.TheVariants as words
-use Rattle.qm_grammar.specs.Conflicts.{is_word_given}
-use Rattle.qm_grammar.specs.Names.{is_no_rival, is_alone, is_name, rules_for, rule_for}
-use Rattle.qm_grammar.specs.Naming.{names_for, StandsFor}
-use Rattle.qm_grammar.specs.Spelled.{is_spelled, begins}
-use Rattle.qm_grammar.specs.Words.{spelling, undone_by}
-use Rattle.qm_grammar.proofs.NameLemmas.{stands_for}
+use Rattle.qm_commands.specs.declared.rules.Takes.{Takes}
+use Rattle.qm_commands.specs.declared.table.Row.{Row}
+use Rattle.qm_commands.specs.declared.table.Verb.{Verb}
+use Rattle.qm_commands.specs.declared.word.Word.{Word}
+use Rattle.qm_commands.specs.declared.word.Word.TheVariants as words
+use Rattle.qm_names.specs.Conflicts.{is_word_given}
+use Rattle.qm_commands.specs.Names.{is_no_rival, is_alone, is_name, rules_for, rule_for}
+use Rattle.qm_commands.specs.Naming.{names_for, StandsFor}
+use Rattle.qm_commands.specs.Spelled.{is_spelled, begins}
+use Rattle.qm_commands.specs.Words.{spelling, undone_by}
+use Rattle.qm_commands.proofs.NameLemmas.{stands_for}
 use Rattle.qm_spelling.proofs.ReadConflicts.{Tracks}
 use Rattle.qm_spelling.proofs.ReadGiven.{after_given}
 use Rattle.qm_spelling.proofs.ReadTokens.{both_first, both_second, beside, either}

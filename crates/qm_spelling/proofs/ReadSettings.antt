@@ -5,12 +5,12 @@ use Rattle.qm_kinds.specs.declared.entry.JobRetain.{JobRetain}
 use Rattle.qm_kinds.specs.declared.entry.JobRetain.TheVariants.{Until}
 use Rattle.qm_kinds.specs.declared.queue.QueueRetain.{QueueRetain}
 use Rattle.qm_lex.specs.declared.token.Token.{Token}
-use Rattle.qm_grammar.specs.declared.fault.Fault.{Fault}
+use Rattle.qm_commands.specs.declared.fault.Fault.{Fault}
 use Rattle.qm_grammar.specs.declared.part.Part.{Part}
 use Rattle.qm_grammar.specs.declared.part.Part.TheVariants.{Parameter, Qualifier, Value, KeyValue}
-use Rattle.qm_grammar.specs.declared.table.Command.{Command}
-use Rattle.qm_grammar.specs.declared.word.Word.{Word}
-use Rattle.qm_grammar.specs.declared.word.Word.TheVariants as words
+use Rattle.qm_commands.specs.declared.table.Command.{Command}
+use Rattle.qm_commands.specs.declared.word.Word.{Word}
+use Rattle.qm_commands.specs.declared.word.Word.TheVariants as words
 use Rattle.qm_dcl.specs.declared.settings.Settings.{Settings}
 use Rattle.qm_dcl.specs.declared.value.Side.{Side}
 use Rattle.qm_dcl.specs.Values.{said_by, raised_by, byte_said, node_said, says_all, has_equals, schedule_said, queue_retain_said, job_retain_said, is_until, side_said, moment_said}

@@ -6,25 +6,26 @@ use Rattle.qm_kinds.specs.declared.refusal.ParseKind.TheVariants as fault
 use Rattle.qm_lex.specs.declared.token.Token.{Token}
 use Rattle.qm_lex.specs.declared.token.TokenKind.{TokenKind}
 use Rattle.qm_lex.specs.declared.token.TokenKind.TheVariants as kinds
-use Rattle.qm_grammar.specs.declared.fault.Fault.{Fault}
+use Rattle.qm_commands.specs.declared.fault.Fault.{Fault}
 use Rattle.qm_grammar.specs.declared.part.Part.{Part}
 use Rattle.qm_grammar.specs.declared.part.Part.TheVariants as part
 use Rattle.qm_grammar.specs.declared.place.Place.{Place}
 use Rattle.qm_grammar.specs.declared.place.Place.TheVariants as place
 use Rattle.qm_grammar.specs.declared.place.State.{State}
-use Rattle.qm_grammar.specs.declared.rules.Takes.{Takes}
-use Rattle.qm_grammar.specs.declared.rules.Takes.TheVariants.{One}
-use Rattle.qm_grammar.specs.declared.table.Command.{Command}
-use Rattle.qm_grammar.specs.declared.table.Row.{Row}
-use Rattle.qm_grammar.specs.declared.table.Verb.{Verb}
-use Rattle.qm_grammar.specs.declared.word.Word.{Word}
-use Rattle.qm_grammar.specs.Names.{is_name, rule_for}
+use Rattle.qm_commands.specs.declared.rules.Takes.{Takes}
+use Rattle.qm_commands.specs.declared.rules.Takes.TheVariants.{One}
+use Rattle.qm_commands.specs.declared.table.Command.{Command}
+use Rattle.qm_commands.specs.declared.table.Row.{Row}
+use Rattle.qm_commands.specs.declared.table.Verb.{Verb}
+use Rattle.qm_commands.specs.declared.word.Word.{Word}
+use Rattle.qm_commands.specs.Names.{is_name, rule_for}
 use Rattle.qm_grammar.specs.Parts.{qualifier_part, text_part, part_of, on_next, parts_from}
 use Rattle.qm_grammar.specs.Places.{is_awaited, is_owing, is_joined, moved, one_more}
 use Rattle.qm_grammar.specs.Reading.{is_short, whole, ended, on_state, read_from}
-use Rattle.qm_grammar.specs.Rules.{rules_of, needs_value, may_have_key, most_values}
-use Rattle.qm_grammar.specs.Spelled.{is_text, is_word}
-use Rattle.qm_grammar.specs.Steps.{fault_at, named_by, is_no_object, counted, with_parameter, with_text, with_word, with_next, with_slash, with_equals, with_open, with_close, with_comma, with_token}
+use Rattle.qm_commands.specs.Rules.{rules_of, needs_value, may_have_key, most_values}
+use Rattle.qm_commands.specs.Spelled.{is_text, is_word}
+use Rattle.qm_commands.specs.Faults.{fault_at}
+use Rattle.qm_grammar.specs.Steps.{named_by, is_no_object, counted, with_parameter, with_text, with_word, with_next, with_slash, with_equals, with_open, with_close, with_comma, with_token}
 use Rattle.qm_dcl.specs.Settings.{inner_value, has_value_ahead}
 use Rattle.qm_dcl.specs.Values.{has_equals}
 

@@ -5,11 +5,11 @@ use Rattle.qm_kinds.specs.Text.{IsText, is_name_byte}
 use Rattle.qm_kinds.specs.declared.input.Input.TheVariants.{Ask}
 use Rattle.qm_kinds.specs.declared.request.Request.TheVariants.{DeleteForm, DeleteCharacteristic, DeleteQueue, DeleteEntry, Merge}
 use Rattle.qm_model.specs.Built.{is_short, is_definable}
-use Rattle.qm_grammar.specs.declared.rules.Takes.TheVariants as takes
-use Rattle.qm_grammar.specs.declared.table.Command.TheVariants as command
-use Rattle.qm_grammar.specs.declared.table.Verb.TheVariants as verb
-use Rattle.qm_grammar.specs.declared.word.Word.TheVariants as words
-use Rattle.qm_grammar.specs.Table.{row}
+use Rattle.qm_commands.specs.declared.rules.Takes.TheVariants as takes
+use Rattle.qm_commands.specs.declared.table.Command.TheVariants as command
+use Rattle.qm_commands.specs.declared.table.Verb.TheVariants as verb
+use Rattle.qm_commands.specs.declared.word.Word.TheVariants as words
+use Rattle.qm_commands.specs.Table.{row}
 use Rattle.qm_dcl.specs.Settings.{nothing_given}
 use Rattle.qm_dcl.specs.Given.{with_word, with_definition}
 use Rattle.qm_dcl.specs.declared.settings.Settings.{Settings}

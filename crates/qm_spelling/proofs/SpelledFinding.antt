@@ -7,22 +7,23 @@ use Rattle.qm_lex.specs.declared.token.TokenKind.TheVariants as kinds
 use Rattle.qm_lex.specs.Tokens.{tokens_of}
 use Rattle.qm_grammar.specs.declared.part.Part.{Part}
 use Rattle.qm_grammar.specs.declared.place.Place.TheVariants as place
-use Rattle.qm_grammar.specs.declared.rules.Takes.TheVariants as takes
-use Rattle.qm_grammar.specs.declared.table.Row.{Row}
-use Rattle.qm_grammar.specs.declared.table.Verb.{Verb}
-use Rattle.qm_grammar.specs.declared.table.Verb.TheVariants as verb
-use Rattle.qm_grammar.specs.declared.word.Word.{Word}
-use Rattle.qm_grammar.specs.Conflicts.{is_word_given, place_with, place_from, counting_place, later_of_both, earlier, conflict_of, first_conflict}
+use Rattle.qm_commands.specs.declared.rules.Takes.TheVariants as takes
+use Rattle.qm_commands.specs.declared.table.Row.{Row}
+use Rattle.qm_commands.specs.declared.table.Verb.{Verb}
+use Rattle.qm_commands.specs.declared.table.Verb.TheVariants as verb
+use Rattle.qm_commands.specs.declared.word.Word.{Word}
+use Rattle.qm_names.specs.Conflicts.{is_word_given, place_with, place_from, counting_place, later_of_both, earlier, conflict_of, first_conflict}
 use Rattle.qm_grammar.specs.Finding.{verb_of, first_parameter, has_object, has_option, is_named, row_of, named_behind, named_command}
-use Rattle.qm_grammar.specs.Names.{is_name}
+use Rattle.qm_commands.specs.Names.{is_name}
 use Rattle.qm_grammar.specs.Parsed.{tokens_in, tokens_by, parts_in, command_in, or_unreadable}
 use Rattle.qm_grammar.specs.Parts.{parts_of, parts_behind, parts_from}
 use Rattle.qm_grammar.specs.Places.{begun}
-use Rattle.qm_grammar.specs.Reading.{command_of, command_behind, command_by, or_conflict, read_from}
-use Rattle.qm_grammar.specs.Rules.{exclusions_of}
-use Rattle.qm_grammar.specs.Spelled.{bytes_of}
-use Rattle.qm_grammar.specs.Table.{rows_of, verbs}
-use Rattle.qm_grammar.specs.Words.{undone_by, spelling, verb_spelling}
+use Rattle.qm_grammar.specs.Reading.{command_of, command_behind, command_by, read_from}
+use Rattle.qm_names.specs.Conflicts.{or_conflict}
+use Rattle.qm_commands.specs.Rules.{exclusions_of}
+use Rattle.qm_commands.specs.Spelled.{bytes_of}
+use Rattle.qm_commands.specs.Table.{rows_of, verbs}
+use Rattle.qm_commands.specs.Words.{undone_by, spelling, verb_spelling}
 use Rattle.qm_spelling.proofs.SpelledLexemes.{Lexeme, Say, text_of, placed, token_at, lexed, said}
 use Rattle.qm_spelling.proofs.SpelledPieces.{Said, Item, Value, Piece, ArePieces, slash, equals, word_lexeme, said_lexeme, inner_lexemes, item_lexemes, others_lexemes, value_lexemes, lexemes, command_lexemes, command_fits}
 use Rattle.qm_spelling.proofs.SpelledReading.{no_rival_by, means_by, name_by, spoken, Tells, Allows, Done, at_place, pieces_go}

@@ -10,14 +10,14 @@ use Rattle.qm_kinds.specs.declared.input.Input.{Input}
 use Rattle.qm_kinds.specs.declared.input.Input.TheVariants.{Ask}
 use Rattle.qm_kinds.specs.declared.request.Request.TheVariants.{DefineForm, DefineCharacteristic}
 use Rattle.qm_model.specs.Built.{is_short, is_definable}
-use Rattle.qm_grammar.specs.declared.rules.Takes.{Takes}
-use Rattle.qm_grammar.specs.declared.rules.Takes.TheVariants as takes
-use Rattle.qm_grammar.specs.declared.table.Command.TheVariants as command
-use Rattle.qm_grammar.specs.declared.table.Row.{Row}
-use Rattle.qm_grammar.specs.declared.table.Verb.TheVariants as verb
-use Rattle.qm_grammar.specs.declared.word.Word.{Word}
-use Rattle.qm_grammar.specs.declared.word.Word.TheVariants as words
-use Rattle.qm_grammar.specs.Table.{row}
+use Rattle.qm_commands.specs.declared.rules.Takes.{Takes}
+use Rattle.qm_commands.specs.declared.rules.Takes.TheVariants as takes
+use Rattle.qm_commands.specs.declared.table.Command.TheVariants as command
+use Rattle.qm_commands.specs.declared.table.Row.{Row}
+use Rattle.qm_commands.specs.declared.table.Verb.TheVariants as verb
+use Rattle.qm_commands.specs.declared.word.Word.{Word}
+use Rattle.qm_commands.specs.declared.word.Word.TheVariants as words
+use Rattle.qm_commands.specs.Table.{row}
 use Rattle.qm_dcl.specs.declared.lists.Lists.{Lists}
 use Rattle.qm_dcl.specs.declared.settings.Definition.{Definition}
 use Rattle.qm_dcl.specs.declared.settings.Settings.{Settings}

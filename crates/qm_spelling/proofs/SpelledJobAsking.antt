@@ -7,9 +7,9 @@ use Rattle.qm_kinds.specs.declared.file.FileName.{FileName}
 use Rattle.qm_kinds.specs.declared.input.Input.{Input}
 use Rattle.qm_kinds.specs.declared.request.NameOrNumber.{NameOrNumber}
 use Rattle.qm_model.specs.Built.{is_short}
-use Rattle.qm_grammar.specs.declared.table.Command.{Command}
-use Rattle.qm_grammar.specs.declared.word.Word.{Word}
-use Rattle.qm_grammar.specs.declared.word.Word.TheVariants as words
+use Rattle.qm_commands.specs.declared.table.Command.{Command}
+use Rattle.qm_commands.specs.declared.word.Word.{Word}
+use Rattle.qm_commands.specs.declared.word.Word.TheVariants as words
 use Rattle.qm_dcl.specs.declared.lists.ListOf.{ListOf}
 use Rattle.qm_dcl.specs.declared.lists.ListOf.TheVariants.{Characteristics}
 use Rattle.qm_dcl.specs.declared.lists.Lists.{Lists}

@@ -13,7 +13,7 @@ use Rattle.qm_lex.specs.declared.token.TokenKind.TheVariants as kinds
 use Rattle.qm_lex.specs.declared.token.Piece.{Piece}
 use Rattle.qm_lex.specs.declared.token.Piece.TheVariants.{Takes}
 use Rattle.qm_lex.specs.declared.token.Token.{Token}
-use Rattle.qm_grammar.specs.Spelled.{bytes_of}
+use Rattle.qm_commands.specs.Spelled.{bytes_of}
 use Rattle.qm_spelling.proofs.SpelledTruth.{and_left, and_right}
 
 -- ---- what is spelled

@@ -9,15 +9,15 @@ use Rattle.qm_kinds.specs.declared.query.After.{After}
 use Rattle.qm_kinds.specs.declared.query.Listing.{Listing}
 use Rattle.qm_kinds.specs.declared.query.Listing.TheVariants.{Queues, Jobs, Entries, Forms, Characteristics, Manager, Cancel}
 use Rattle.qm_kinds.specs.declared.query.Query.{Query}
-use Rattle.qm_grammar.specs.declared.rules.Takes.{Takes}
-use Rattle.qm_grammar.specs.declared.rules.Takes.TheVariants as takes
-use Rattle.qm_grammar.specs.declared.table.Command.{Command}
-use Rattle.qm_grammar.specs.declared.table.Command.TheVariants as command
-use Rattle.qm_grammar.specs.declared.table.Row.{Row}
-use Rattle.qm_grammar.specs.declared.table.Verb.TheVariants as verb
-use Rattle.qm_grammar.specs.declared.word.Word.{Word}
-use Rattle.qm_grammar.specs.declared.word.Word.TheVariants as words
-use Rattle.qm_grammar.specs.Table.{object_row}
+use Rattle.qm_commands.specs.declared.rules.Takes.{Takes}
+use Rattle.qm_commands.specs.declared.rules.Takes.TheVariants as takes
+use Rattle.qm_commands.specs.declared.table.Command.{Command}
+use Rattle.qm_commands.specs.declared.table.Command.TheVariants as command
+use Rattle.qm_commands.specs.declared.table.Row.{Row}
+use Rattle.qm_commands.specs.declared.table.Verb.TheVariants as verb
+use Rattle.qm_commands.specs.declared.word.Word.{Word}
+use Rattle.qm_commands.specs.declared.word.Word.TheVariants as words
+use Rattle.qm_commands.specs.Table.{object_row}
 use Rattle.qm_dcl.specs.declared.lists.Lists.{Lists}
 use Rattle.qm_dcl.specs.declared.settings.ListingSettings.{ListingSettings}
 use Rattle.qm_dcl.specs.declared.settings.Settings.{Settings}

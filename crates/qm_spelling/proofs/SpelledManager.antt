@@ -7,12 +7,12 @@ use Rattle.std.proofs.lemmas.Slice.Eq.{bytes_eq-Decides}
 use Rattle.qm_kinds.specs.Text.{is_name_byte}
 use Rattle.qm_kinds.specs.declared.input.Input.{Input}
 use Rattle.qm_kinds.specs.declared.input.Input.TheVariants.{TakeManager}
-use Rattle.qm_grammar.specs.declared.rules.Takes.TheVariants as takes
-use Rattle.qm_grammar.specs.declared.table.Command.TheVariants as command
-use Rattle.qm_grammar.specs.declared.table.Row.{Row}
-use Rattle.qm_grammar.specs.declared.table.Verb.TheVariants as verb
-use Rattle.qm_grammar.specs.declared.word.Word.TheVariants as words
-use Rattle.qm_grammar.specs.Table.{row}
+use Rattle.qm_commands.specs.declared.rules.Takes.TheVariants as takes
+use Rattle.qm_commands.specs.declared.table.Command.TheVariants as command
+use Rattle.qm_commands.specs.declared.table.Row.{Row}
+use Rattle.qm_commands.specs.declared.table.Verb.TheVariants as verb
+use Rattle.qm_commands.specs.declared.word.Word.TheVariants as words
+use Rattle.qm_commands.specs.Table.{row}
 use Rattle.qm_dcl.specs.declared.lists.ListOf.TheVariants.{Nodes}
 use Rattle.qm_dcl.specs.declared.lists.Lists.{Lists}
 use Rattle.qm_dcl.specs.declared.settings.Settings.{Settings}

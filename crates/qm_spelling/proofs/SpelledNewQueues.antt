@@ -15,15 +15,15 @@ use Rattle.qm_kinds.specs.declared.queue.QueueKind.TheVariants.{Batch, Print, Ge
 use Rattle.qm_kinds.specs.declared.request.NameOrNumber.{NameOrNumber}
 use Rattle.qm_kinds.specs.declared.request.Request.TheVariants.{InitializeQueue}
 use Rattle.qm_model.specs.Built.{is_short}
-use Rattle.qm_grammar.specs.declared.rules.Takes.{Takes}
-use Rattle.qm_grammar.specs.declared.rules.Takes.TheVariants as takes
-use Rattle.qm_grammar.specs.declared.table.Command.TheVariants as command
-use Rattle.qm_grammar.specs.declared.table.Row.{Row}
-use Rattle.qm_grammar.specs.declared.table.Verb.TheVariants as verb
-use Rattle.qm_grammar.specs.declared.word.Word.{Word}
-use Rattle.qm_grammar.specs.declared.word.Word.TheVariants as words
-use Rattle.qm_grammar.specs.Rules.{queue_settings}
-use Rattle.qm_grammar.specs.Table.{row}
+use Rattle.qm_commands.specs.declared.rules.Takes.{Takes}
+use Rattle.qm_commands.specs.declared.rules.Takes.TheVariants as takes
+use Rattle.qm_commands.specs.declared.table.Command.TheVariants as command
+use Rattle.qm_commands.specs.declared.table.Row.{Row}
+use Rattle.qm_commands.specs.declared.table.Verb.TheVariants as verb
+use Rattle.qm_commands.specs.declared.word.Word.{Word}
+use Rattle.qm_commands.specs.declared.word.Word.TheVariants as words
+use Rattle.qm_commands.specs.Rules.{queue_settings}
+use Rattle.qm_commands.specs.Table.{row}
 use Rattle.qm_dcl.specs.declared.lists.ListOf.{ListOf}
 use Rattle.qm_dcl.specs.declared.lists.ListOf.TheVariants.{Characteristics, Targets}
 use Rattle.qm_dcl.specs.declared.lists.Lists.{Lists}

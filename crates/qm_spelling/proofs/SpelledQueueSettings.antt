@@ -7,9 +7,9 @@ use Rattle.qm_kinds.specs.declared.queue.QueueChange.{QueueChange}
 use Rattle.qm_kinds.specs.declared.queue.QueueRetain.{QueueRetain}
 use Rattle.qm_kinds.specs.declared.queue.QueueRetain.TheVariants.{Nothing, Failed, All}
 use Rattle.qm_kinds.specs.declared.request.NameOrNumber.{NameOrNumber}
-use Rattle.qm_grammar.specs.declared.rules.Takes.TheVariants as takes
-use Rattle.qm_grammar.specs.declared.word.Word.TheVariants as words
-use Rattle.qm_grammar.specs.Rules.{queue_settings}
+use Rattle.qm_commands.specs.declared.rules.Takes.TheVariants as takes
+use Rattle.qm_commands.specs.declared.word.Word.TheVariants as words
+use Rattle.qm_commands.specs.Rules.{queue_settings}
 use Rattle.qm_spelling.specs.Lawful.{IsReference, AreReferences, IsQueueChange}
 use Rattle.qm_sayable.specs.Values.{are_characteristics, fits_list}
 use Rattle.qm_spelling.specs.Pieces.{marked, valued, list_text, reference_text}

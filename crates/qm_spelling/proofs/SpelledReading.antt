@@ -8,23 +8,23 @@ use Rattle.std.proofs.lemmas.Bool.{le-leb}
 use Rattle.std.proofs.lemmas.Bool.Decides.{nat_tests}
 use Rattle.qm_lex.specs.declared.token.Token.{Token}
 use Rattle.qm_lex.specs.declared.token.TokenKind.TheVariants as kinds
-use Rattle.qm_grammar.specs.declared.fault.Fault.{Fault}
+use Rattle.qm_commands.specs.declared.fault.Fault.{Fault}
 use Rattle.qm_grammar.specs.declared.part.Part.{Part}
 use Rattle.qm_grammar.specs.declared.part.Part.TheVariants as parts
 use Rattle.qm_grammar.specs.declared.place.Place.{Place}
 use Rattle.qm_grammar.specs.declared.place.Place.TheVariants as place
 use Rattle.qm_grammar.specs.declared.place.State.{State}
-use Rattle.qm_grammar.specs.declared.rules.Takes.{Takes}
-use Rattle.qm_grammar.specs.declared.table.Row.{Row}
-use Rattle.qm_grammar.specs.declared.table.Verb.{Verb}
-use Rattle.qm_grammar.specs.declared.word.Word.{Word}
-use Rattle.qm_grammar.specs.Names.{rules_for, rule_for}
+use Rattle.qm_commands.specs.declared.rules.Takes.{Takes}
+use Rattle.qm_commands.specs.declared.table.Row.{Row}
+use Rattle.qm_commands.specs.declared.table.Verb.{Verb}
+use Rattle.qm_commands.specs.declared.word.Word.{Word}
+use Rattle.qm_commands.specs.Names.{rules_for, rule_for}
 use Rattle.qm_grammar.specs.Parts.{part_of, parts_from, on_next, qualifier_part}
 use Rattle.qm_grammar.specs.Reading.{read_from, on_state, ended}
-use Rattle.qm_grammar.specs.Rules.{most_values, may_have_key, needs_value}
-use Rattle.qm_grammar.specs.Spelled.{bytes_of}
+use Rattle.qm_commands.specs.Rules.{most_values, may_have_key, needs_value}
+use Rattle.qm_commands.specs.Spelled.{bytes_of}
 use Rattle.qm_grammar.specs.Steps.{with_token, named_by}
-use Rattle.qm_grammar.specs.Words.{spelling}
+use Rattle.qm_commands.specs.Words.{spelling}
 use Rattle.qm_spelling.proofs.SpelledLexemes.{Lexeme, Say, placed, token_at}
 use Rattle.qm_spelling.proofs.SpelledPieces.{Said, Item, Value, Piece, slash, equals, opening, closing, comma, word_lexeme, parameter_lexeme, kind_of, said_bytes, said_lexeme, inner_lexemes, item_lexemes, others_lexemes, value_lexemes, lexemes}
 

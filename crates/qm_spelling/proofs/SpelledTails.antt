@@ -1,12 +1,12 @@
 -- Qualifiers behind the parameters of a command, one group behind the other, as their texts stand one behind the other.
 use Rattle.std.proofs.Common.{◌≡◌, ◌⊎◌, inl, inr, ℕ, List, [], ◌∷◌, ◌++◌, map, codes, Option, None, Some, Bool, true, false, not, ◌&&◌, ◌||◌, if◌then◌else◌, nat_lt, refl, sym, ap, ◌∙◌, append-nil, append_assoc}
 use Rattle.std.specs.List.{list_all}
-use Rattle.qm_grammar.specs.declared.rules.Takes.{Takes}
-use Rattle.qm_grammar.specs.declared.table.Row.{Row}
-use Rattle.qm_grammar.specs.declared.table.Verb.{Verb}
-use Rattle.qm_grammar.specs.declared.word.Word.{Word}
-use Rattle.qm_grammar.specs.Rules.{needs_value}
-use Rattle.qm_grammar.specs.Words.{undone_by, spelling}
+use Rattle.qm_commands.specs.declared.rules.Takes.{Takes}
+use Rattle.qm_commands.specs.declared.table.Row.{Row}
+use Rattle.qm_commands.specs.declared.table.Verb.{Verb}
+use Rattle.qm_commands.specs.declared.word.Word.{Word}
+use Rattle.qm_commands.specs.Rules.{needs_value}
+use Rattle.qm_commands.specs.Words.{undone_by, spelling}
 use Rattle.qm_spelling.specs.Pieces.{marked, valued, list_text}
 use Rattle.qm_model.specs.Words.{listed}
 use Rattle.qm_spelling.proofs.SpelledLexemes.{Lexeme, text_of}

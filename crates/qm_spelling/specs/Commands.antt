@@ -6,7 +6,7 @@ use Rattle.qm_kinds.specs.declared.input.Input.{Input}
 use Rattle.qm_kinds.specs.declared.input.Input.TheVariants.{Ask, Show, Compact, Fetch, StopNode, StartNode, TakeManager, Fault}
 use Rattle.qm_kinds.specs.declared.request.Request.{Request}
 use Rattle.qm_kinds.specs.declared.request.Request.TheVariants.{Append, Fill, Drop, DefineForm, DeleteForm, DefineCharacteristic, DeleteCharacteristic, InitializeQueue, SetQueue, StartQueue, StopQueue, AbortJob, DeleteQueue, Merge, Submit, SetEntry, DeleteEntry, Mark, Done, Tick, NodeUp, NodeLost, Took}
-use Rattle.qm_grammar.specs.declared.word.Word.TheVariants as words
+use Rattle.qm_commands.specs.declared.word.Word.TheVariants as words
 use Rattle.qm_sayable.specs.Commands.{is_command}
 use Rattle.qm_spelling.specs.Pieces.{valued, list_text}
 use Rattle.qm_spelling.specs.Queues.{queue_settings_text, new_queue_text, stop_text, abort_text}

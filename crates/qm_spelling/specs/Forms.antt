@@ -4,7 +4,7 @@ use Rattle.std.specs.Prelude.{ℕ, Bool, ◌&&◌, ◌==◌, if◌then◌else◌
 use Rattle.qm_kinds.specs.declared.form.Characteristic.{Characteristic}
 use Rattle.qm_kinds.specs.declared.form.Form.{Form}
 use Rattle.qm_kinds.specs.declared.form.Shape.{Shape}
-use Rattle.qm_grammar.specs.declared.word.Word.TheVariants as words
+use Rattle.qm_commands.specs.declared.word.Word.TheVariants as words
 use Rattle.qm_dcl.specs.Forms.{default_shape}
 use Rattle.qm_spelling.specs.Pieces.{marked, valued, list_text}
 use Rattle.qm_spelling.specs.Jobs.{unless_default, number_unless_default}

@@ -10,7 +10,7 @@ use Rattle.qm_kinds.specs.declared.entry.JobRetain.TheVariants.{Default, Always,
 use Rattle.qm_kinds.specs.declared.request.EntryChange.{EntryChange}
 use Rattle.qm_kinds.specs.declared.request.Job.{Job}
 use Rattle.qm_kinds.specs.declared.request.NameOrNumber.{NameOrNumber}
-use Rattle.qm_grammar.specs.declared.word.Word.TheVariants as words
+use Rattle.qm_commands.specs.declared.word.Word.TheVariants as words
 use Rattle.qm_dcl.specs.Submitting.{default_queue}
 use Rattle.qm_sayable.specs.Times.{time_text}
 use Rattle.qm_spelling.specs.Pieces.{marked, valued, reference_text, references_text}

@@ -5,7 +5,7 @@ use Rattle.qm_kinds.specs.declared.query.Kinds.{Kinds}
 use Rattle.qm_kinds.specs.declared.query.Listing.{Listing}
 use Rattle.qm_kinds.specs.declared.query.Listing.TheVariants.{Queues, Jobs, Entries, Forms, Characteristics, Manager, Cancel}
 use Rattle.qm_kinds.specs.declared.query.Query.{Query}
-use Rattle.qm_grammar.specs.declared.word.Word.TheVariants as words
+use Rattle.qm_commands.specs.declared.word.Word.TheVariants as words
 use Rattle.qm_dcl.specs.Values.{says_all}
 use Rattle.qm_sayable.specs.Listings.{are_all}
 use Rattle.qm_spelling.specs.Pieces.{marked}

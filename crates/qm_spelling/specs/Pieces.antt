@@ -3,8 +3,8 @@
 use Rattle.std.specs.Prelude.{ℕ, Bool, if◌then◌else◌, List, [], ◌++◌, map, codes, decimal, Option, None, Some}
 use Rattle.qm_kinds.specs.declared.request.NameOrNumber.{NameOrNumber}
 use Rattle.qm_kinds.specs.declared.request.NameOrNumber.TheVariants.{Name, Number}
-use Rattle.qm_grammar.specs.declared.word.Word.{Word}
-use Rattle.qm_grammar.specs.Words.{spelling}
+use Rattle.qm_commands.specs.declared.word.Word.{Word}
+use Rattle.qm_commands.specs.Words.{spelling}
 use Rattle.qm_model.specs.Words.{listed}
 
 -- a name behind a /, where it is given

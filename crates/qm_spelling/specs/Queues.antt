@@ -10,7 +10,7 @@ use Rattle.qm_kinds.specs.declared.queue.QueueRetain.TheVariants.{Nothing, Faile
 use Rattle.qm_kinds.specs.declared.request.NameOrNumber.{NameOrNumber}
 use Rattle.qm_kinds.specs.declared.request.StopMode.{StopMode}
 use Rattle.qm_kinds.specs.declared.request.StopMode.TheVariants.{Pause, Next, Reset}
-use Rattle.qm_grammar.specs.declared.word.Word.TheVariants as words
+use Rattle.qm_commands.specs.declared.word.Word.TheVariants as words
 use Rattle.qm_spelling.specs.Pieces.{marked, valued, list_text, reference_text, references_text}
 
 -- ---- what is set for a queue

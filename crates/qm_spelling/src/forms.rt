@@ -1,6 +1,6 @@
 // Commands of forms and characteristics.
 ghost use Rattle.std.specs.Prelude.{◌≡◌, Some};
-ghost use Rattle.qm_grammar.specs.declared.word.Word.TheVariants as words;
+ghost use Rattle.qm_commands.specs.declared.word.Word.TheVariants as words;
 ghost use Rattle.qm_spelling.specs.Pieces.{valued};
 ghost use Rattle.qm_spelling.specs.Forms.{are_default_margins, margins_unless_default, shape_text, form_text, characteristic_text};
 

@@ -1,7 +1,7 @@
 // Commands of jobs.
 ghost use Rattle.std.specs.Prelude.{◌≡◌, Some, option_map};
 ghost use Rattle.qm_dcl.specs.Submitting.{default_queue};
-ghost use Rattle.qm_grammar.specs.declared.word.Word.TheVariants as words;
+ghost use Rattle.qm_commands.specs.declared.word.Word.TheVariants as words;
 ghost use Rattle.qm_sayable.specs.Times.{time_text};
 ghost use Rattle.qm_spelling.specs.Pieces.{valued, references_text};
 ghost use Rattle.qm_spelling.specs.Jobs.{job_retain_text, restart_text, unless_default, number_unless_default, retain_unless_default, restart_unless_default, job_characteristics_text, job_place_text, job_waiting_text, job_terms_text, job_settings_text, print_settings_text, job_text, entry_after_text, entry_waiting_text, entry_needs_text, entry_terms_text, entry_settings_text, set_entry_text};

@@ -1,6 +1,6 @@
 // Commands of queues.
 ghost use Rattle.std.specs.Prelude.{◌≡◌, Some, decimal, option_map};
-ghost use Rattle.qm_grammar.specs.declared.word.Word.TheVariants as words;
+ghost use Rattle.qm_commands.specs.declared.word.Word.TheVariants as words;
 ghost use Rattle.qm_spelling.specs.Pieces.{valued};
 ghost use Rattle.qm_spelling.specs.Queues.{queue_characteristics_text, blocks_text, queue_retain_text, queue_settings_text, is_for_batch, targets_text, device_text, location_text, new_queue_text, stop_text, abort_text, schedule_text};
 

@@ -1,6 +1,6 @@
 use Rattle.std.proofs.Common.{None, is_some, ap, sym, ◌∙◌}
 use Rattle.qm_grammar.specs.Finding.{has_option}
-use Rattle.qm_grammar.proofs.ConflictPlaces.{no_place}
+use Rattle.qm_names.proofs.ConflictPlaces.{no_place}
 use Rattle.qm_grammar.proofs.finding.has_option.Goals as goal
 
 pub returns-else-has_slash : goal.returns-else-has_slash

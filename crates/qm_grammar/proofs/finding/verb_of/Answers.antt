@@ -1,5 +1,5 @@
 use Rattle.std.proofs.Common.{nat_lt, find, get_or, length, ap, arith, ◌∙◌}
-use Rattle.qm_grammar.specs.Names.{is_verb}
+use Rattle.qm_commands.specs.Names.{is_verb}
 use Rattle.qm_grammar.proofs.VerbLemmas.{found_by}
 use Rattle.qm_grammar.proofs.finding.verb_of.Goals as goal
 

@@ -1,5 +1,5 @@
 use Rattle.std.proofs.Common.{sym, arith}
-use Rattle.qm_sjc.specs.declared.codes.TheConstants.{CHARACTERISTIC, TARGET}
+use Rattle.qm_values.specs.declared.codes.TheConstants.{CHARACTERISTIC, TARGET}
 use Rattle.qm_sjc.specs.Judging.{first_fault}
 use Rattle.qm_sjc.proofs.JudgingLemmas.{place_more, place_fits, count_more, fault_more}
 use Rattle.qm_sjc.proofs.judging.first_fault.Goals as goal

@@ -1,0 +1,4 @@
+pub mod Functions
+pub mod Values
+pub mod Looking
+pub mod Asked
