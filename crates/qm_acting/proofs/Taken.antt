@@ -8,7 +8,7 @@ use Rattle.qm_database.specs.Recorded.{Recorded, HoldsEither, with_body}
 use Rattle.qm_database.specs.declared.fault.WriteFault.{WriteFault}
 use Rattle.qm_database.specs.declared.fault.WriteFault.TheVariants as writing
 use Rattle.qm_database.specs.declared.files.TheConstants.{MASTER_CAP}
-use Rattle.qm_faults.specs.Faults.{Tells}
+use Rattle.qm_disk.specs.Faults.{Tells}
 use Rattle.qm_kinds.specs.declared.reply.Reply.{Reply}
 use Rattle.qm_kinds.specs.declared.request.Request.{Request}
 use Rattle.qm_restore.specs.QueueFile.{IsSiteFile}

@@ -1,8 +1,7 @@
 // Runs of the program over an outside in memory.
 use qm_batch::Standard;
-use qm_disk::{Disk, MemoryDisk};
+use qm_disk::{Clock, Disk, MemoryDisk, MemorySink, MemorySource};
 use qm_history::Turn;
-use qm_io::{Clock, MemorySink, MemorySource};
 use qm_kinds::{Moment, NODES_LIMIT};
 use qm_program::{End, Outcome, Station, qman};
 use qm_symb::MemoryDevice;

@@ -2,7 +2,7 @@
 use Rattle.std.proofs.Common.{◌≡◌, ◌+◌, ℕ, zero, suc, List, [], ◌++◌, sym, ◌∙◌, ap, Option, None, Some, arith}
 use Rattle.std.proofs.lemmas.List.{append_assoc, append-nil}
 use Rattle.std.specs.Io.KnownBytes.{Appends}
-use Rattle.qm_faults.specs.Faults.{counted}
+use Rattle.qm_disk.specs.Faults.{counted}
 use Rattle.qm_course.specs.Taken.{RoseBy, counted_often}
 
 pub often_more : (a b old : ℕ) → counted_often (a + b) old ≡ counted_often b (counted_often a old)

@@ -2,7 +2,7 @@
 use Rattle.std.proofs.Common.{◌≡◌, ℕ, List, [], take, drop, refl, sym, ◌∙◌, Option, None, Some}
 use Rattle.std.specs.Io.KnownBytes.{Appends}
 use Rattle.std.proofs.lemmas.List.{take-append-drop, append-nil}
-use Rattle.qm_io.specs.Bytes.{TakesPrefix}
+use Rattle.qm_disk.specs.Bytes.{TakesPrefix}
 use Rattle.qm_course.specs.Turning.{TakesFront}
 
 pub front_of_prefix : (old new : Option (List ℕ)) (bytes text : List ℕ) → bytes ≡ text → TakesPrefix old new bytes → TakesFront old new text

@@ -5,7 +5,7 @@ use Rattle.std.specs.Option.{option_map, option_map_or}
 use Rattle.std.specs.Io.KnownBytes.{Appends}
 use Rattle.std.proofs.lemmas.List.{append-nil}
 use Rattle.std.proofs.lemmas.Option.{slice_get-map}
-use Rattle.qm_faults.specs.Faults.{Tells}
+use Rattle.qm_disk.specs.Faults.{Tells}
 use Rattle.qm_kinds.specs.declared.system.Node.{Node}
 use Rattle.qm_model.specs.Standing.{node_at}
 use Rattle.qm_record.specs.Spelling.{HasSpelling}

@@ -1,7 +1,7 @@
 -- What an end tells of the files and of the sink.
 -- OpenVMS System Manager's Manual, Managing the Queue Manager and Queue Database. This site's own: the ends.
 use Rattle.std.specs.Prelude.{◌≡◌, ℕ, Result, Ok, Err}
-use Rattle.qm_faults.specs.Faults.{counted}
+use Rattle.qm_disk.specs.Faults.{counted}
 use Rattle.qm_course.specs.declared.turn.TurnEnd.{TurnEnd}
 use Rattle.qm_course.specs.declared.turn.TurnEnd.TheVariants as end
 

@@ -3,7 +3,7 @@
 -- This site's own: one value, on which each call of a node is one turn.
 use Rattle.std.specs.Prelude.{◌≡◌, ◌⊎◌, ◌≤◌, ℕ, true, false, List, [], ◌∷◌, ◌++◌, length, map}
 use Rattle.std.specs.Prelude.{option_to_list, Option, None, Some}
-use Rattle.qm_faults.specs.Faults.{Tells}
+use Rattle.qm_disk.specs.Faults.{Tells}
 use Rattle.qm_record.specs.Spelling.{HasSpelling}
 use Rattle.qm_history.specs.declared.call.Answer.{Answer}
 use Rattle.qm_history.specs.declared.call.Answer.TheVariants as answer

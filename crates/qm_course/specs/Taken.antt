@@ -3,7 +3,7 @@
 -- $GETTIM.
 use Rattle.std.specs.Prelude.{◌≡◌, ℕ, zero, suc, IsTrue, List, [], ◌∷◌, ◌++◌, Option}
 use Rattle.std.specs.Io.KnownBytes.{Appends}
-use Rattle.qm_faults.specs.Faults.{counted}
+use Rattle.qm_disk.specs.Faults.{counted}
 use Rattle.qm_model.specs.Kept.{KeptRun}
 use Rattle.qm_symb.specs.Device.{Meaning, handed_by}
 use Rattle.qm_symb.specs.declared.handed.HandOver.{HandOver}

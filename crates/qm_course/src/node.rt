@@ -13,7 +13,7 @@ ghost use Rattle.qm_course.specs.Turning.{Goes, IsNoStep, IsOwnWhy, Stops};
 use crate::seat::{Seat, Station};
 use crate::serve::Serve;
 use crate::turn::{TurnEnd, make_turn};
-use qm_io::{Clock, Sink};
+use qm_disk::{Clock, Sink};
 use qm_node::Next;
 use qm_script::UserLine;
 use qm_symb::Symbiont;

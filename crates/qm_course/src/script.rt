@@ -10,7 +10,7 @@ use crate::node::{serve_line, work_on};
 use crate::seat::{Seat, Station};
 use crate::serve::Serve;
 use crate::turn::TurnEnd;
-use qm_io::{Clock, Sink};
+use qm_disk::{Clock, Sink};
 use qm_kinds::Name;
 use qm_script::UserLine;
 use qm_symb::Symbiont;

@@ -11,8 +11,8 @@ ghost use Rattle.qm_course.specs.Asking.{gist_of};
 ghost use Rattle.qm_course.specs.Turning.{IsNoStep, IsStepNext};
 
 use crate::asking::{Gist, built_asked};
+use qm_disk::Clock;
 use qm_history::Answer;
-use qm_io::Clock;
 use qm_kinds::Name;
 use qm_living::live_behind;
 use qm_node::{Asked, Next, NodeState};

@@ -14,8 +14,8 @@ ghost use Rattle.qm_course.specs.Turning.{Goes, StopsOnce, TakesFront, why_next}
 use crate::asking::{Gist, gist_of};
 use crate::seat::{Seat, Station};
 use crate::serve::Serve;
+use qm_disk::{Clock, Sink, write_whole};
 use qm_history::Answer;
-use qm_io::{Clock, Sink, write_whole};
 use qm_kinds::Name;
 use qm_node::{Asked, Next};
 use qm_scans::is_single;

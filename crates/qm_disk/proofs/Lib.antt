@@ -1,3 +1,5 @@
+pub mod BytesLemmas
+pub mod Walks
 pub mod Later
 pub mod Moments
 pub mod Noted

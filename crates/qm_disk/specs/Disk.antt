@@ -1,6 +1,6 @@
 -- What the calls of a disk do to its three files, and what a crash may make of them.
 use Rattle.std.specs.Prelude.{◌≡◌, ◌≢◌, ◌⊎◌, ℕ, ◌+◌, ◌≤◌, min, max, Bool, List, ◌++◌, length, take, drop}
-use Rattle.qm_faults.specs.Faults.{counted, Tells}
+use Rattle.qm_disk.specs.Faults.{counted, Tells}
 
 -- a content for each of the files 0, 1 and 2
 abbrev pub CrashState : Type 0

@@ -1,3 +1,9 @@
+pub mod Faults
+pub mod Adapters
+pub mod Bytes
+pub mod Clock
+pub mod MemoryStreams
+pub mod ReadEnd
 pub mod Disk
 pub mod Calls
 pub mod Crash

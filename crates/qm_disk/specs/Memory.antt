@@ -1,6 +1,6 @@
 -- What a disk in memory shows.
 use Rattle.std.specs.Prelude.{◌≡◌, ℕ, true, List, length, Contains, Result, IsErr}
-use Rattle.qm_faults.specs.Faults.{counted}
+use Rattle.qm_disk.specs.Faults.{counted}
 use Rattle.qm_disk.specs.Disk.{Meaning}
 use Rattle.qm_disk.specs.Calls.{reading_of, first_of, crashed, LeftOf, LeftSince}
 use Rattle.qm_disk.specs.declared.memory.MemoryDisk.{MemoryDisk}

@@ -3,12 +3,11 @@ ghost use Rattle.std.specs.Prelude.{◌≡◌, ◌⊎◌, ◌↔◌, ◌+◌, �
 ghost use Rattle.qm_disk.specs.Disk.{spliced, Only, IsLeft, Follows, Torn, Cut, KeepsAll, KeepsOthers, Elapses, TellsFaults};
 ghost use Rattle.qm_disk.specs.Calls.{reading, reading_of, first_of, replayed, LeftOf, LeftSince, IsWrite, IsTruncate, Notes, Syncs, ReadsOthers, padded, part, crash_changed, crashed, changed as after_change};
 ghost use Rattle.qm_disk.specs.declared.calls.Change.TheVariants.{Look};
-ghost use Rattle.qm_faults.specs.Faults.{counted};
+ghost use Rattle.qm_disk.specs.Faults.{counted};
 ghost use Rattle.qm_disk.specs.Crash.{left_now, left_only_now, reads_left};
 
 use crate::calls::{Call, Change};
-use crate::{Disk, DiskFault};
-use qm_faults::Faults;
+use crate::{Disk, DiskFault, Faults};
 use std::alloc::{AllocError, Global};
 
 /// A disk in memory, which fails at the calls that a list names.

@@ -1,6 +1,6 @@
 // What the contracts of clocks leave open: what the system's clock makes of the time that std tells, or doesn't.
 use crate::told::{Cases, assert_told, number};
-use qm_io::{Clock, MemoryClock, SystemClock};
+use qm_disk::{Clock, MemoryClock, SystemClock};
 use qm_kinds::Moment;
 use std::alloc::{AllocError, Global};
 use std::cell::Cell;

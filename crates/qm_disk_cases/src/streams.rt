@@ -1,7 +1,7 @@
 // What the contracts of readers and writers leave open: that memory suffices, and no more is taken than was asked for; and
 // that calls of std's readers and writers that are short, interrupted or failing are gone on with, made again or refused.
 use crate::told::{Cases, assert_told, number};
-use qm_io::{
+use qm_disk::{
     InputSource, MemorySink, MemorySource, OutputSink, ReadEnd, Sink, Source, read_whole,
     write_whole,
 };

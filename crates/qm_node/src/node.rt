@@ -10,8 +10,8 @@ ghost use Rattle.qm_node.specs.Node.{CanBeHeard, CanBeMade, ComesNext, Hears, He
 
 use crate::course::{Asked, Next, Stage, next_reading, next_working};
 use crate::runs::NodeRuns;
+use qm_disk::Clock;
 use qm_history::{Answer, Call};
-use qm_io::Clock;
 use qm_kinds::{Act, Duty, Moment, Refusal, Seq};
 use qm_line::read_line;
 use qm_scans::Scans;

@@ -12,7 +12,7 @@ use Rattle.qm_course.specs.Taken.{RoseBy}
 use Rattle.qm_course.proofs.Counting.{rose_on}
 use Rattle.qm_disk.specs.Disk.{Meaning}
 use Rattle.qm_program.specs.CallServing.{LeavesOne, LeavesTurn, noted, turn_left}
-use Rattle.qm_faults.specs.Faults.{Tells}
+use Rattle.qm_disk.specs.Faults.{Tells}
 use Rattle.qm_glog.specs.Records.{IsLog}
 use Rattle.qm_history.specs.declared.call.Answer.{Answer}
 use Rattle.qm_history.specs.declared.call.Call.{Call}

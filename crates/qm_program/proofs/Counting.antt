@@ -4,7 +4,7 @@ use Rattle.std.proofs.lemmas.List.Sums.{sum_by-cons}
 use Rattle.qm_course.specs.Taken.{RoseBy, counted_often}
 use Rattle.qm_course.specs.Turning.{IsToldTo}
 use Rattle.qm_course.specs.declared.turn.TurnEnd.TheVariants as stop
-use Rattle.qm_faults.specs.Faults.{counted}
+use Rattle.qm_disk.specs.Faults.{counted}
 use Rattle.qm_history.specs.Faults.{faults_told, tells_disk_fault}
 use Rattle.qm_history.specs.declared.turn.Turn.{Turn}
 use Rattle.qm_service.specs.Ends.{some_disk_failed}

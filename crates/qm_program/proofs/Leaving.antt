@@ -18,7 +18,7 @@ use Rattle.qm_history.specs.Lines.{LineFault, script_bytes, script_lines}
 use Rattle.qm_history.specs.Script.{UserLine}
 use Rattle.qm_history.specs.declared.turn.Turn.{Turn}
 use Rattle.qm_history.specs.declared.world.World.{World}
-use Rattle.qm_io.specs.Bytes.{LosesAtMost}
+use Rattle.qm_disk.specs.Bytes.{LosesAtMost}
 use Rattle.qm_kinds.specs.declared.script.ScriptKind.TheVariants.{Long}
 use Rattle.qm_script.specs.ClusterLines.{ReadsLines}
 use Rattle.qm_script.specs.declared.lines.LinesEnd.{LinesEnd}

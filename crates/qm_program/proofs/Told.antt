@@ -4,7 +4,7 @@ use Rattle.std.specs.Prelude.{slice_get}
 use Rattle.std.specs.Io.KnownBytes.{Appends}
 use Rattle.qm_course.specs.Turning.{TakesFront}
 use Rattle.qm_course.proofs.Counting.{appends_none}
-use Rattle.qm_faults.specs.Faults.{counted}
+use Rattle.qm_disk.specs.Faults.{counted}
 use Rattle.qm_history.specs.declared.turn.Turn.{Turn}
 use Rattle.qm_history.specs.Chest.{turns_kept}
 use Rattle.qm_history.specs.Ends.{Damaged, DiskFailed, FileDamaged, HistoryFull, NoMemory, NodeText, Served, ServingEnd, SinkFailed, TurnsSpent, worse}

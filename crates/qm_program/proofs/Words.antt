@@ -6,9 +6,9 @@ use Rattle.std.proofs.lemmas.List.Concat.{flat_map-append}
 use Rattle.qm_course.specs.Turning.{TakesFront}
 use Rattle.qm_course.proofs.Counting.{appends_on}
 use Rattle.qm_course.proofs.Fronts.{front_of_prefix}
-use Rattle.qm_faults.specs.Faults.{counted}
+use Rattle.qm_disk.specs.Faults.{counted}
 use Rattle.qm_history.specs.declared.turn.Turn.{Turn}
-use Rattle.qm_io.specs.Bytes.{TakesPrefix}
+use Rattle.qm_disk.specs.Bytes.{TakesPrefix}
 use Rattle.qm_program.specs.Printing.{name_at, words_of}
 use Rattle.qm_program.proofs.Writing.{front_more, front_on}
 

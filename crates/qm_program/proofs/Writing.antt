@@ -6,9 +6,9 @@ use Rattle.std.proofs.lemmas.List.{take_all}
 use Rattle.qm_course.specs.Turning.{TakesFront}
 use Rattle.qm_course.proofs.Counting.{appends_on}
 use Rattle.qm_course.proofs.Fronts.{front_of_prefix}
-use Rattle.qm_faults.specs.Faults.{counted}
+use Rattle.qm_disk.specs.Faults.{counted}
 use Rattle.qm_history.specs.Ends.{NodeText, cuts_text, texts_printed}
-use Rattle.qm_io.specs.Bytes.{TakesPrefix}
+use Rattle.qm_disk.specs.Bytes.{TakesPrefix}
 use Rattle.qm_program.specs.Printing.{Writes}
 
 pub front_more : (old new : Option (List ℕ)) (x y : List ℕ) → TakesFront old new x → TakesFront old new (x ++ y)

@@ -9,7 +9,7 @@ use Rattle.qm_history.specs.Ends.{ServingEnd}
 use Rattle.qm_history.specs.Ends as serving
 use Rattle.qm_history.specs.Faults.{faults_told}
 use Rattle.qm_history.specs.declared.turn.Turn.{Turn}
-use Rattle.qm_io.specs.Faults.{counted}
+use Rattle.qm_disk.specs.Faults.{counted}
 use Rattle.qm_service.specs.Ends.{EndsBy, IsUndamaged}
 use Rattle.qm_program.specs.Reading.{IsFaulty}
 use Rattle.qm_program.specs.declared.outcome.End.{End}

@@ -3,7 +3,7 @@
 use Rattle.std.specs.Prelude.{◌≡◌, ◌⊎◌, ℕ, Bool, true, false, List, map, Option}
 use Rattle.std.specs.Io.KnownBytes.{Appends}
 use Rattle.qm_course.specs.Turning.{TakesFront}
-use Rattle.qm_faults.specs.Faults.{counted}
+use Rattle.qm_disk.specs.Faults.{counted}
 use Rattle.qm_history.specs.declared.turn.Turn.{Turn}
 use Rattle.qm_history.specs.Ends.{Damaged, DiskFailed, HistoryFull, NoMemory, NodeEnd, NodeText, Served, ServingEnd, SinkFailed, end_of, worse}
 use Rattle.qm_service.specs.Ends.{end_of_turns}

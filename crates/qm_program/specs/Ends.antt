@@ -10,8 +10,8 @@ use Rattle.qm_glog.specs.declared.fault.OpenFault.TheVariants as opening
 use Rattle.qm_history.specs.Ends.{ServingEnd}
 use Rattle.qm_history.specs.Ends as serving
 use Rattle.qm_history.specs.Lines.{LineFault, script_lines}
-use Rattle.qm_io.specs.declared.whole.ReadEnd.{ReadEnd}
-use Rattle.qm_io.specs.declared.whole.ReadEnd.TheVariants as reading
+use Rattle.qm_disk.specs.declared.io.whole.ReadEnd.{ReadEnd}
+use Rattle.qm_disk.specs.declared.io.whole.ReadEnd.TheVariants as reading
 use Rattle.qm_kinds.specs.declared.script.ScriptKind.TheVariants.{Long}
 use Rattle.qm_script.specs.declared.lines.LinesEnd.{LinesEnd}
 use Rattle.qm_script.specs.declared.lines.LinesEnd.TheVariants as lines

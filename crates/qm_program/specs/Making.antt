@@ -9,7 +9,7 @@ use Rattle.qm_glog.specs.Records.{IsLog}
 use Rattle.qm_history.specs.Site.{site_of}
 use Rattle.qm_history.specs.Start.{HoldRecords, Starts, first_world}
 use Rattle.qm_history.specs.declared.world.World.{World}
-use Rattle.qm_io.specs.Bytes.{TakesPrefix}
+use Rattle.qm_disk.specs.Bytes.{TakesPrefix}
 use Rattle.qm_model.specs.Log.{image_of}
 use Rattle.qm_record.specs.Spelling.{HasSpelling, record_text}
 use Rattle.qm_program.specs.Task.{initialized}

@@ -11,8 +11,8 @@ use Rattle.qm_history.specs.Lines.{LineFault, script_lines}
 use Rattle.qm_history.specs.Script.{UserLine}
 use Rattle.qm_history.specs.World.{system_in}
 use Rattle.qm_history.specs.declared.world.World.{World}
-use Rattle.qm_faults.specs.Faults.{counted}
-use Rattle.qm_io.specs.Bytes.{LosesAtMost}
+use Rattle.qm_disk.specs.Faults.{counted}
+use Rattle.qm_disk.specs.Bytes.{LosesAtMost}
 use Rattle.qm_kinds.specs.declared.script.ScriptKind.TheVariants.{Long}
 use Rattle.qm_kinds.specs.declared.system.System.{System}
 use Rattle.qm_restore.specs.QueueFile.{IsSiteFile}

@@ -3,7 +3,7 @@
 use Rattle.std.specs.Prelude.{◌≡◌, ℕ, List, Option}
 use Rattle.std.specs.Io.KnownBytes.{Appends}
 use Rattle.qm_disk.specs.Disk.{Meaning, OnlyLooks}
-use Rattle.qm_io.specs.Bytes.{TakesPrefix}
+use Rattle.qm_disk.specs.Bytes.{TakesPrefix}
 use Rattle.qm_listing.specs.Listing.{IsListingOf}
 use Rattle.qm_program.specs.declared.outcome.End.{End}
 use Rattle.qm_program.specs.declared.outcome.End.TheVariants as ends

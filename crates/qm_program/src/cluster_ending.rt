@@ -10,8 +10,8 @@ ghost use Rattle.qm_program.specs.Printing.{turns_line};
 use crate::joining::LeftText;
 use crate::node_ending::DriveEnd;
 use crate::printing::print_all;
+use qm_disk::{Failed, Sink};
 use qm_history::Turn;
-use qm_io::{Failed, Sink};
 use qm_kinds::Name;
 use qm_service::{ServeEnd, end_of_turns};
 

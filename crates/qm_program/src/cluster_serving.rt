@@ -22,8 +22,7 @@ use crate::site_laws::{
     openings_keep_worlds,
 };
 use qm_course::{Station, own_lines};
-use qm_disk::Disk;
-use qm_io::{Clock, Sink};
+use qm_disk::{Clock, Disk, Sink};
 use qm_kinds::Name;
 use qm_model::nodes_keep_their_names;
 use qm_script::UserLine;

@@ -17,7 +17,7 @@ use crate::seat::Seat;
 use crate::serve::Serve;
 use crate::shared::Shared;
 use qm_course::Station;
-use qm_io::Clock;
+use qm_disk::Clock;
 use qm_kinds::Name;
 use qm_pairs::{Work, work_on_each};
 use qm_script::UserLine;

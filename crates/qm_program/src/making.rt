@@ -3,7 +3,7 @@ ghost use Rattle.std.specs.Prelude.{◌≡◌, [], ℕ, List, IsTrue, All, IfOk}
 ghost use Rattle.qm_database.specs.Loading.{FailsBy};
 ghost use Rattle.qm_database.specs.Making.{IsQueueCap, KeepsFile};
 ghost use Rattle.qm_disk.specs.Disk.{CrashState, TellsFaults};
-ghost use Rattle.qm_faults.specs.Faults.{Tells};
+ghost use Rattle.qm_disk.specs.Faults.{Tells};
 ghost use Rattle.qm_glog.specs.Records.{IsLog};
 ghost use Rattle.qm_history.specs.Site.{site_of};
 ghost use Rattle.qm_history.specs.Start.{Starts};
@@ -17,10 +17,9 @@ ghost use Rattle.qm_program.specs.Making.{BeginsNew, HasNewSite, HoldNewSite, Ma
 
 use crate::outcome::{End, Outcome};
 use qm_database::{WriteFault, at_rest_is_held, held_by_records};
-use qm_disk::Disk;
+use qm_disk::{Disk, Sink, write_whole};
 use qm_glog::{MakeFault, one_list};
 use qm_history::{QueueFile, files_that_hold_a_log_begin_a_world};
-use qm_io::{Sink, write_whole};
 use qm_kinds::{Name, Node, Record};
 use qm_record::no_record_begins_another;
 use qm_restore::{new_rows, new_sites_are_consistent};

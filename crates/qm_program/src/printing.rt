@@ -10,8 +10,8 @@ ghost use Rattle.qm_program.specs.Printing.{Writes, name_at, turns_line, words_o
 use crate::joining::LeftText;
 use crate::node_ending::DriveEnd;
 use arrayvec::ArrayVec;
+use qm_disk::{Failed, Sink, write_whole};
 use qm_history::Turn;
-use qm_io::{Failed, Sink, write_whole};
 use qm_kinds::Name;
 
 // How many turns one write tells at most.

@@ -8,8 +8,7 @@ ghost use Rattle.qm_program.specs.Showing.{Shows};
 
 use crate::outcome::{End, Outcome};
 use qm_database::{held_files_load, one_content};
-use qm_disk::Disk;
-use qm_io::{Sink, write_whole};
+use qm_disk::{Disk, Sink, write_whole};
 use qm_listing::{Listed, list_queues};
 use std::alloc::Global;
 

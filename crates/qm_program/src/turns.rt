@@ -21,7 +21,7 @@ use crate::seat::{Seat, seats_of};
 use crate::serve::Serve;
 use crate::shared::Shared;
 use qm_course::Station;
-use qm_io::Clock;
+use qm_disk::Clock;
 use qm_kinds::Name;
 use qm_script::UserLine;
 use qm_symb::Symbiont;

@@ -6,7 +6,7 @@ use Rattle.qm_course.specs.Taken.{RoseBy}
 use Rattle.qm_course.specs.Turning.{IsToldTo, TakesUpTo}
 use Rattle.qm_course.specs.declared.turn.TurnEnd.{TurnEnd}
 use Rattle.qm_course.specs.declared.turn.TurnEnd.TheVariants as stop
-use Rattle.qm_faults.specs.Faults.{counted}
+use Rattle.qm_disk.specs.Faults.{counted}
 use Rattle.qm_history.specs.declared.turn.Turn.{Turn}
 use Rattle.qm_history.specs.Chest.{turns_kept}
 use Rattle.qm_history.specs.Course.{Extent, Whole, Begun}

@@ -1,6 +1,6 @@
 -- What the calls of devices and symbionts speak of: the blocks that were handed over, and the faults.
 use Rattle.std.specs.Prelude.{◌≡◌, ℕ, ◌<◌, Bool, IsTrue, List, ◌++◌, length, map, take}
-use Rattle.qm_faults.specs.Faults.{counted, Tells}
+use Rattle.qm_disk.specs.Faults.{counted, Tells}
 use Rattle.qm_symb.specs.declared.handed.HandOver.{HandOver}
 
 -- What the devices, or the symbionts, of one type mean: all that the contract of their calls speaks of.

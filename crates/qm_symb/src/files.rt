@@ -3,7 +3,7 @@ ghost use Rattle.std.specs.Prelude.{◌≡◌, false, []};
 ghost use Rattle.qm_symb.specs.Faults.{file_faults};
 
 use crate::{Device, DeviceFault};
-use qm_faults::Faults;
+use qm_disk::Faults;
 use qm_kinds::Name;
 use std::alloc::AllocError;
 use std::fs::{Files, Metadata, OpenFile, OpenOptions};

@@ -1,11 +1,11 @@
 // Devices in memory, which fail at the calls that a list names.
 ghost use Rattle.std.specs.Prelude.{◌≡◌, [], ◌∷◌, ◌++◌, Contains, IsErr, OnErr, OnOk};
 ghost use Rattle.qm_symb.specs.Device.{Takes, TellsFaults, handed_by};
-ghost use Rattle.qm_faults.specs.Faults.{counted};
+ghost use Rattle.qm_disk.specs.Faults.{counted};
 ghost use Rattle.qm_symb.specs.Held.{in_memory};
 
 use crate::{Device, DeviceFault, HandOver};
-use qm_faults::Calls;
+use qm_disk::Calls;
 use qm_kinds::{Name, Seq};
 use std::alloc::{AllocError, Global};
 use std::marker::Model;

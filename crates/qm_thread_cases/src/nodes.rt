@@ -4,7 +4,7 @@ ghost use Rattle.std.specs.Prelude.{◌≡◌, [], IfOk};
 use crate::recorder::Recorder;
 use qm_batch::Standard;
 use qm_course::Station;
-use qm_io::MemoryClock;
+use qm_disk::MemoryClock;
 use qm_kinds::{Moment, Name, system_user};
 use qm_program::{DriveEnd, Gate, Point, Shared, drive};
 use qm_script::UserLine;

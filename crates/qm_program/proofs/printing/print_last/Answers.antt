@@ -1,6 +1,6 @@
 use Rattle.std.proofs.Common.{◌∷◌, ◌++◌, ◌∙◌, [], codes, ap, refl}
 use Rattle.qm_course.proofs.Fronts.{front_of_prefix}
-use Rattle.qm_faults.specs.Faults.{counted}
+use Rattle.qm_disk.specs.Faults.{counted}
 use Rattle.qm_program.specs.Printing.{turns_line, words_of}
 use Rattle.qm_program.proofs.Writing.{failed, front_more, front_on, then_writes, two_texts}
 use Rattle.qm_program.proofs.printing.print_last.Goals as goal

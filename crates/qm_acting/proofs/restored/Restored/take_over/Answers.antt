@@ -3,7 +3,7 @@ use Rattle.qm_database.specs.Database.{disk_of as closed_disk}
 use Rattle.qm_database.specs.Opening.{next_need}
 use Rattle.qm_database.specs.Recorded.{epoch_behind}
 use Rattle.qm_database.specs.declared.files.TheConstants.{MASTER_CAP}
-use Rattle.qm_faults.specs.Faults.{Tells}
+use Rattle.qm_disk.specs.Faults.{Tells}
 use Rattle.qm_state.specs.Preparing.{IsPrepared}
 use Rattle.qm_state.specs.declared.image.Image.{Image}
 use Rattle.qm_acting.specs.Asking.{text_of}

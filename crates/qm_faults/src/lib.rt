@@ -1,9 +1,0 @@
-//! How often calls of the outside failed: a count that stands at the end of its type, and the calls of a form in memory,
-//! which fail where a list says so.
-#![tactic(auto)]
-
-mod calls;
-mod faults;
-
-pub use calls::Calls;
-pub use faults::Faults;
