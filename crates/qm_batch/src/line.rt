@@ -5,7 +5,7 @@ ghost use Rattle.qm_model.specs.Batch.{batch_line, behind, only_if, is_label, is
 ghost use Rattle.qm_batch.specs.Lines.{meaning, text_written, mark_set, status_of, IsShort};
 
 use crate::parts::{ahead_of, behind, has_no_quote, is_label, is_mark};
-use qm_digits::plain_number_up_to;
+use qm_time::plain_number_up_to;
 
 // A status has 32 bits.
 const STATUS_LIMIT: u64 = 4_294_967_295;

@@ -8,8 +8,8 @@ ghost use Rattle.qm_print.specs.Places.{blocks_from};
 
 use crate::cursor::Cursor;
 use crate::page::behind_page;
-use qm_digits::number_up_to;
 use qm_kinds::{Place, Shape, Work};
+use qm_time::number_up_to;
 
 // How many pages a text has.
 fn pages_of(shape: Shape, text: &[u8]) -> usize

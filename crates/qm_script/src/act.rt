@@ -7,8 +7,8 @@ ghost use Rattle.qm_model.specs.Script.{act_of, done_act, drop_act, fill_act, is
 ghost use Rattle.qm_script.specs.Wanting.{WantsMemory};
 
 use crate::script::cut_at_blank;
-use qm_digits::plain_number_up_to;
 use qm_kinds::{FileName, Input, Mark, ParseKind, Request, Seq};
+use qm_time::plain_number_up_to;
 use std::alloc::{AllocError, Global};
 
 const DONE: &[u8] = b"DONE";

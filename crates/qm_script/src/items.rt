@@ -8,10 +8,10 @@ ghost use Rattle.qm_history.specs.Acts.{hex_bytes};
 use crate::act::fault;
 use crate::hexadecimal::read_bytes;
 use crate::script::cut_at_blank;
-use qm_digits::plain_number_up_to;
 use qm_kinds::{Input, Name, ParseKind};
 use qm_scans::Scans;
 use qm_sjc::read_item_list;
+use qm_time::plain_number_up_to;
 use std::alloc::{AllocError, Global};
 
 /// The greatest number that is read of a function.

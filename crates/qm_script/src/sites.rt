@@ -4,8 +4,8 @@ ghost use Rattle.qm_model.specs.Script.{node_name_of};
 ghost use Rattle.qm_script.specs.Sites.{cap_of, nodes_of, with_node};
 
 use crate::script::read_node_name;
-use qm_digits::plain_number_up_to;
 use qm_kinds::{NODES_LIMIT, Name};
+use qm_time::plain_number_up_to;
 use std::alloc::{AllocError, Global};
 
 /// The least number of bytes that a queue file may be given.

@@ -1,3 +1,4 @@
+pub mod Digits
 pub mod Dates
 pub mod Numbers
 pub mod Clocks

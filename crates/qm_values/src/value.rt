@@ -6,11 +6,11 @@ ghost use Rattle.qm_model.specs.Built.{is_definable};
 ghost use Rattle.qm_values.specs.Values.{short_name_said, definable_name_said, node_said, are_digits, number_to, reference_said, byte_said, truth_of, truth_said, short_said, long_said, small_said, moment_said, after_said, queue_kind_said, job_kind_said, queue_retain_said, retain_of, job_retain_said, how_said, shape_said, pattern_said, name_said, is_held};
 
 use crate::holds::Holds;
-use qm_digits::number_up_to;
 use qm_kinds::{
     FileName, JobKind, JobRetain, Moment, NODE_NAME_BYTES, Name, NameOrNumber, Pattern, QueueKind,
     QueueRetain, SHORT_NAME_BYTES, Shape, StopMode,
 };
+use qm_time::number_up_to;
 
 /// A name.
 pub(crate) fn name_said(value: &[u8]) -> Option<Name>

@@ -1,7 +1,7 @@
 // Decimal digits, read as a number.
 ghost use Rattle.std.specs.Prelude.{◌≡◌, ◌≤◌, IfSome};
 ghost use Rattle.qm_model.specs.Script.{act_number};
-ghost use Rattle.qm_digits.specs.Digits.{number_up_to};
+ghost use Rattle.qm_time.specs.Digits.{number_up_to};
 
 /// The number that digits say, where it isn't above the most. Zeros may stand in front, and no digits say 0.
 pub fn number_up_to(most: u64, text: &[u8]) -> Option<u64>
