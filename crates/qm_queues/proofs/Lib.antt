@@ -1,1 +1,7 @@
-pub mod Names
+pub mod FormRows
+pub mod FormsFound
+pub mod FormsNamed
+pub mod FormsKept
+pub mod QueueNames
+pub mod RunNumbers
+pub mod RunCounting

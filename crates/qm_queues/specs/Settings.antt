@@ -3,7 +3,7 @@ use Rattle.std.specs.Prelude.{unwrap_or, Option}
 use Rattle.std.specs.Option.{option_map_or, option_or}
 use Rattle.qm_kinds.specs.declared.queue.Queue.{Queue}
 use Rattle.qm_kinds.specs.declared.queue.QueueState.{QueueState}
-use Rattle.qm_queues.specs.declared.settings.Settings.{Settings}
+use Rattle.qm_queues.specs.declared.queues.settings.Settings.{Settings}
 
 -- what is given is set, and the rest stays
 abbrev pub with_settings : Settings → Queue → Queue

@@ -9,7 +9,7 @@ use Rattle.std.proofs.lemmas.Bool.{and_parts, and_from}
 use Rattle.std.proofs.lemmas.Bool.Decides.{nat_tests}
 use Rattle.std.proofs.lemmas.List.{length-map}
 use Rattle.std.proofs.lemmas.List.Sums.{length-filter}
-use Rattle.qm_forms.proofs.Found.{found_all}
+use Rattle.qm_queues.proofs.FormsFound.{found_all}
 use Rattle.qm_kinds.specs.declared.entry.Entry.{Entry}
 use Rattle.qm_kinds.specs.declared.run.Run.{Run}
 use Rattle.qm_model.specs.Consistent.{IsInOrder}
@@ -17,7 +17,7 @@ use Rattle.qm_model.specs.Find.{entry_numbered, is_among}
 use Rattle.qm_model.specs.Queues.{runs_for}
 use Rattle.qm_model.specs.Standing.{has_run, is_run_on}
 use Rattle.qm_model.specs.Stopping.{is_running_in, the_only_one}
-use Rattle.qm_runs.specs.Runs.{run_numbered}
+use Rattle.qm_queues.specs.Runs.{run_numbered}
 use Rattle.qm_sched.specs.Mirror.{Mirrors, is_live_in, is_run_for}
 use Rattle.qm_sched.specs.Nodes.{is_run_on_one}
 use Rattle.qm_sched.proofs.Counts.{any_counted, is_found, count_agree, count_filter, count_map, not_found, none_counted, found_counted, found_same, found_passes, found_in_filter, other_fails, both_le_first, both_le_second, and_swap}

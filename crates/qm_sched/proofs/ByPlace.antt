@@ -14,7 +14,7 @@ use Rattle.qm_model.specs.Consistent.{IsInOrder}
 use Rattle.qm_model.specs.Find.{name_cmp}
 use Rattle.qm_model.specs.Settling.{AreStarts, settled}
 use Rattle.qm_queues.specs.Queues.{comes_after, queue_after}
-use Rattle.qm_queues.proofs.Names.{name_of}
+use Rattle.qm_queues.proofs.QueueNames.{name_of}
 use Rattle.qm_ready.proofs.Tiered.{slice_get_at, slice_get_past}
 use Rattle.qm_sched.specs.Choosing.{next_start, takes_jobs, execution_queues, IsNextStart}
 use Rattle.qm_sched.specs.Tables.{Tables, with_tables}

@@ -15,7 +15,7 @@ use Rattle.qm_model.specs.Find.{entry_numbered}
 use Rattle.qm_model.specs.JobStates.{run_of}
 use Rattle.qm_model.specs.Standing.{with_entry, has_run, is_executing}
 use Rattle.qm_entries.proofs.Outcomes.{flat_same}
-use Rattle.qm_runs.specs.Runs.{with_run, without_run, new_run}
+use Rattle.qm_queues.specs.Runs.{with_run, without_run, new_run}
 use Rattle.qm_sched.specs.Mirror.{Mirrors, run_of_entry, runs_of}
 use Rattle.qm_sched.proofs.Counts.{one_if, count_cons, count_append, count_inserted, count_agree, count_filter, count_none, none_counted, found_counted, all_fail, same_tests, other_fails, both_le_second, and_swap}
 use Rattle.qm_sched.proofs.Ordered.{once, each_found}

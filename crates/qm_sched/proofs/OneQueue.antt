@@ -16,7 +16,7 @@ use Rattle.qm_model.specs.Find.{name_cmp, entry_numbered, queue_named}
 use Rattle.qm_model.specs.Fitting.{is_started, passes_on_to}
 use Rattle.qm_model.specs.Kinds.{is_generic}
 use Rattle.qm_model.specs.Standing.{with_queue}
-use Rattle.qm_queues.proofs.Names.{name_of}
+use Rattle.qm_queues.proofs.QueueNames.{name_of}
 use Rattle.qm_ready.specs.Rows.{Row}
 use Rattle.qm_sched.specs.Ready.{key_where_ready, ready_key, IsRowOf, AreReady, KeepsRoom, LeavesKind}
 use Rattle.qm_sched.specs.Rooms.{room_of}

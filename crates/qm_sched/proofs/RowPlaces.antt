@@ -14,7 +14,7 @@ use Rattle.qm_kinds.specs.declared.queue.Queue.{Queue}
 use Rattle.qm_match.specs.declared.order.Schedule.TheVariants.{ByNumber}
 use Rattle.qm_model.specs.Find.{name_cmp}
 use Rattle.qm_model.specs.Queues.{without_queue}
-use Rattle.qm_queues.proofs.Names.{name_of}
+use Rattle.qm_queues.proofs.QueueNames.{name_of}
 use Rattle.qm_queues.specs.Queues.{with_queue_put}
 use Rattle.qm_ready.specs.Rows.{Row}
 use Rattle.qm_sched.specs.Rooms.{room_of, rooms_of, AreMet}

@@ -17,8 +17,8 @@ use Rattle.qm_model.specs.Find.{name_cmp}
 use Rattle.qm_model.specs.Standing.{with_queue, occupies}
 use Rattle.qm_model.specs.States.{when_idle, state_when_idle}
 use Rattle.qm_queues.specs.Queues.{Kept}
-use Rattle.qm_queues.proofs.Names.{name_of, changed, kept_as}
-use Rattle.qm_runs.specs.Runs.{places_in_use}
+use Rattle.qm_queues.proofs.QueueNames.{name_of, changed, kept_as}
+use Rattle.qm_queues.specs.Runs.{places_in_use}
 use Rattle.qm_sched.specs.Mirror.{Mirrors, stopped_unless_used}
 use Rattle.qm_sched.proofs.Counts.{any_counted}
 use Rattle.qm_sched.proofs.Mirrored.{count_as, in_queue}

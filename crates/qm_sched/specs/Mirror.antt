@@ -11,7 +11,7 @@ use Rattle.qm_kinds.specs.declared.run.Run.{Run}
 use Rattle.qm_model.specs.Find.{entry_numbered}
 use Rattle.qm_model.specs.States.{state_when_idle}
 use Rattle.qm_model.specs.Stopping.{is_running_in, reset_in}
-use Rattle.qm_runs.specs.Runs.{places_in_use}
+use Rattle.qm_queues.specs.Runs.{places_in_use}
 
 -- the run that an entry of this number has in this state, if it has one
 abbrev pub run_in_state : ℕ → EntryState → Option Run

@@ -17,7 +17,7 @@ ghost use Rattle.qm_model.specs.Queues.{without_queue, runs_for};
 ghost use Rattle.qm_model.specs.Standing.{with_entry, with_queue};
 ghost use Rattle.qm_model.specs.States.{when_idle};
 ghost use Rattle.qm_model.specs.Stopping.{with_fate, reset_in};
-ghost use Rattle.qm_forms.specs.Forms.{without_form, without_characteristic};
+ghost use Rattle.qm_queues.specs.Forms.{without_form, without_characteristic};
 ghost use Rattle.qm_queues.specs.Queues.{with_queue_put};
 ghost use Rattle.qm_queues.specs.Settings.{with_settings_and_state};
 ghost use Rattle.qm_sched.specs.Mirror.{run_of_entry};

@@ -7,13 +7,13 @@ ghost use Rattle.qm_kinds.specs.declared.limits.TheConstants.{END_OF_RUNS};
 ghost use Rattle.qm_model.specs.Find.{entry_numbered};
 ghost use Rattle.qm_model.specs.JobStates.{run_of};
 ghost use Rattle.qm_model.specs.Standing.{with_entry, has_run};
-ghost use Rattle.qm_runs.specs.Runs.{run_numbered, with_run, without_run};
+ghost use Rattle.qm_queues.specs.Runs.{run_numbered, with_run, without_run};
 ghost use Rattle.qm_sched.specs.Mirror.{run_of_entry};
 
 use crate::running::see_order;
 use crate::tables::TableSet;
 use qm_kinds::{Entry, EntryState, Name, Run};
-use qm_runs::Runs;
+use qm_queues::Runs;
 
 impl TableSet {
     /// Puts in an entry that has no run, and for which there is room. Its number is greater than all others. It moves no

@@ -4,7 +4,7 @@ ghost use Rattle.qm_kinds.specs.declared.limits.TheConstants.{LAST_CHARACTERISTI
 ghost use Rattle.qm_model.specs.Characteristics.{is_characteristic_taken};
 ghost use Rattle.qm_model.specs.Forms.{is_form_taken};
 ghost use Rattle.qm_model.specs.Inserting.{with_form, with_characteristic_defined};
-ghost use Rattle.qm_forms.specs.Forms.{without_form, without_characteristic};
+ghost use Rattle.qm_queues.specs.Forms.{without_form, without_characteristic};
 
 use crate::tables::TableSet;
 use qm_kinds::{Characteristic, Form, Name};

@@ -11,8 +11,7 @@ ghost use Rattle.qm_sched.specs.Mirror.{stopped_unless_used};
 
 use crate::tables::TableSet;
 use qm_kinds::{Name, Queue, QueueState};
-use qm_queues::{QueueTable, Settings};
-use qm_runs::Runs;
+use qm_queues::{QueueTable, Runs, Settings};
 
 impl TableSet {
     /// Sets the state of the queue of a name. Where there is none, nothing changes. It asks a logarithm of the queues.

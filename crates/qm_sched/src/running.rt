@@ -15,7 +15,7 @@ ghost use Rattle.qm_sched.specs.Mirror.{Mirrors, is_live_in, is_run_for};
 use crate::tables::TableSet;
 use qm_entries::EntryTable;
 use qm_kinds::{Entry, EntryState, Name, Run};
-use qm_runs::Runs;
+use qm_queues::Runs;
 
 impl TableSet {
     /// How many places of a queue are taken by runs, aborting or not. It asks a logarithm of the queues that have runs.

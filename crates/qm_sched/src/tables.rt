@@ -11,10 +11,8 @@ ghost use Rattle.qm_queues.specs.Queues.{queue_after};
 
 use crate::names::place_of;
 use qm_entries::EntryTable;
-use qm_forms::FormTable;
 use qm_kinds::{Characteristic, Entry, Form, Name, Node, Queue, Seq};
-use qm_queues::QueueTable;
-use qm_runs::Runs;
+use qm_queues::{FormTable, QueueTable, Runs};
 use qm_timers::Timers;
 use std::alloc::{AllocError, Global};
 use std::marker::Model;

@@ -30,7 +30,7 @@ use Rattle.qm_model.specs.Settling.{settled}
 use Rattle.qm_model.specs.Standing.{with_entry, with_queue}
 use Rattle.qm_model.specs.States.{stopped_when_idle}
 use Rattle.qm_model.specs.Stopping.{queue_stopped, entry_aborting}
-use Rattle.qm_queues.specs.declared.settings.Settings.{Settings}
+use Rattle.qm_queues.specs.declared.queues.settings.Settings.{Settings}
 use Rattle.qm_queues.specs.Queues.{with_queue_put}
 use Rattle.qm_queues.specs.Settings.{with_settings_and_state}
 use Rattle.qm_sched.specs.Mirror.{run_of_entry}

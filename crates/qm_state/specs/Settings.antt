@@ -5,8 +5,8 @@ use Rattle.qm_kinds.specs.declared.queue.QueueChange.{QueueChange}
 use Rattle.qm_kinds.specs.declared.system.Node.{Node}
 use Rattle.qm_kinds.specs.declared.system.System.{System}
 use Rattle.qm_model.specs.Settings.{with_change}
-use Rattle.qm_forms.specs.Forms.{Defined}
-use Rattle.qm_queues.specs.declared.settings.Settings.{Settings}
+use Rattle.qm_queues.specs.Forms.{Defined}
+use Rattle.qm_queues.specs.declared.queues.settings.Settings.{Settings}
 use Rattle.qm_queues.specs.Queues.{Kept}
 use Rattle.qm_queues.specs.Settings.{with_settings}
 

@@ -21,9 +21,8 @@ use crate::settings::{
     characteristics_of, form_named, refused_absent, refused_characteristics, refused_form,
 };
 use crate::submit::state_of;
-use qm_forms::FormTable;
 use qm_kinds::{Entry, EntryChange, EntryState, JobKind, Moment, Name, Refusal};
-use qm_queues::QueueTable;
+use qm_queues::{FormTable, QueueTable};
 use std::alloc::AllocError;
 
 // Whether a job in this state waits: for its start, for its release or for its moment.

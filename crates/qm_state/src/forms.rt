@@ -12,8 +12,8 @@ use crate::naming::{Named, QueueNamed, refused_by_entry, refused_by_queue};
 use crate::prepared::Change;
 use crate::refusals::{first_refusal, refused_where};
 use crate::refused::Refused;
-use qm_forms::FormTable;
 use qm_kinds::{Act, Form, Holder, LAST_FORM, Name, NameOrNumber, Refusal, default_form};
+use qm_queues::FormTable;
 use std::alloc::AllocError;
 
 // Whether margins before and behind leave no room.

@@ -16,12 +16,11 @@ use crate::kinds::{is_generic, is_print_queue, is_same_queue_kind, take_same_job
 use crate::refusals::{first_refusal, refused_where};
 use crate::settings::{change_refusal, is_bad_change, settings_of};
 use crate::stopping;
-use qm_forms::FormTable;
 use qm_kinds::{
     CharacteristicSet, Name, NewQueue, Node, QUEUES_LIMIT, Queue, QueueKind, QueueRetain,
     QueueState, Refusal, Seq, TARGETS_LIMIT, default_form,
 };
-use qm_queues::QueueTable;
+use qm_queues::{FormTable, QueueTable};
 use std::alloc::{AllocError, Global};
 
 // Whether the name is one of these.

@@ -13,9 +13,8 @@ ghost use Rattle.qm_timers.specs.Timers.{moment_of};
 
 use crate::due::moment_in;
 use crate::image::Image;
-use qm_forms::FormTable;
 use qm_kinds::{Entry, Queue, Seq, System};
-use qm_queues::QueueTable;
+use qm_queues::{FormTable, QueueTable};
 use qm_sched::{Parts, TableSet};
 use qm_spool::Spool;
 use std::alloc::{AllocError, Global};

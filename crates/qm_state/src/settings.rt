@@ -10,11 +10,10 @@ ghost use Rattle.qm_state.specs.Settings.{HasForms, HasQueues, AreSettingsOf};
 
 use crate::kinds::{is_batch_queue, is_generic, is_print_queue};
 use crate::refusals::{first_refusal, refused_where};
-use qm_forms::FormTable;
 use qm_kinds::{
     CharacteristicSet, Name, NameOrNumber, Queue, QueueChange, QueueKind, QueueState, Refusal, Seq,
 };
-use qm_queues::{QueueTable, Settings};
+use qm_queues::{FormTable, QueueTable, Settings};
 
 // Whether the least size is 0 or above the greatest.
 fn are_bad_sizes(least: u32, greatest: u32) -> bool

@@ -2,8 +2,8 @@
 ghost use Rattle.std.specs.Prelude.{◌≡◌, []};
 
 use crate::rows::form;
-use qm_forms::FormTable;
 use qm_kinds::{Characteristic, NameOrNumber, batch_queue, print_queue, system_user};
+use qm_queues::FormTable;
 use std::alloc::{AllocError, Global};
 use std::test::Fail;
 

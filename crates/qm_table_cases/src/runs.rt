@@ -1,6 +1,6 @@
 // Runs that begin and end.
 use qm_kinds::{Name, Run, batch_queue, print_queue, system_user};
-use qm_runs::Runs;
+use qm_queues::Runs;
 use std::alloc::AllocError;
 use std::process::Abort;
 use std::test::Fail;

@@ -3,9 +3,8 @@ ghost use Rattle.std.specs.Prelude.{◌≡◌, ◌<◌, ◌++◌, ◌∷◌, [],
 ghost use Rattle.qm_model.specs.JobStates.{run_of};
 
 use crate::rows::queue;
-use qm_forms::FormTable;
 use qm_kinds::{Entry, Node, Seq, batch_queue};
-use qm_queues::QueueTable;
+use qm_queues::{FormTable, QueueTable};
 use qm_sched::{Parts, TableSet};
 use std::alloc::{AllocError, Global};
 

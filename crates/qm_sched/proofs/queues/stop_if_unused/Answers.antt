@@ -4,8 +4,8 @@ use Rattle.std.proofs.lemmas.Bool.{not-false, le-ltb}
 use Rattle.qm_kinds.specs.contracts.queue.QueueState.{the_type}
 use Rattle.qm_kinds.specs.declared.queue.Queue.{Queue}
 use Rattle.qm_kinds.specs.declared.queue.QueueState.TheVariants.{Stopping}
-use Rattle.qm_queues.proofs.Names.{kept_as}
-use Rattle.qm_runs.specs.Runs.{places_in_use}
+use Rattle.qm_queues.proofs.QueueNames.{kept_as}
+use Rattle.qm_queues.specs.Runs.{places_in_use}
 use Rattle.qm_sched.proofs.Stops.{stop_is}
 use Rattle.qm_sched.proofs.queues.stop_if_unused.Goals as goal
 

@@ -1,5 +1,5 @@
 use Rattle.std.proofs.Common.{◌≡◌}
-use Rattle.qm_queues.proofs.Names.{kept_as}
+use Rattle.qm_queues.proofs.QueueNames.{kept_as}
 use Rattle.qm_sched.proofs.Stops.{mixed}
 use Rattle.qm_sched.proofs.queues.stop_unused.Given as goal
 

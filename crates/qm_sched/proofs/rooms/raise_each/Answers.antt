@@ -4,7 +4,7 @@ use Rattle.std.specs.Str.{bytes_eq}
 use Rattle.qm_keyed.specs.Places.{StandsAt, BelongsAt}
 use Rattle.qm_kinds.specs.declared.queue.Queue.{Queue}
 use Rattle.qm_model.specs.Find.{name_cmp}
-use Rattle.qm_queues.proofs.Names.{name_of}
+use Rattle.qm_queues.proofs.QueueNames.{name_of}
 use Rattle.qm_sched.specs.Rooms.{leads_to, targets_of}
 use Rattle.qm_sched.proofs.Widening.{leads_nowhere, only_there, raised_either, raised_none, raised_there, targets_there}
 use Rattle.qm_sched.proofs.rooms.raise_each.Goals as goal

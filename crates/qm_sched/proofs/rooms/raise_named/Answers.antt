@@ -3,7 +3,7 @@ use Rattle.std.specs.Str.{bytes_eq}
 use Rattle.qm_keyed.specs.Places.{StandsAt, BelongsAt}
 use Rattle.qm_kinds.specs.declared.queue.Queue.{Queue}
 use Rattle.qm_model.specs.Find.{name_cmp}
-use Rattle.qm_queues.proofs.Names.{name_of}
+use Rattle.qm_queues.proofs.QueueNames.{name_of}
 use Rattle.qm_sched.proofs.Widening.{only_there, none_named_so, raised_none, raised_there}
 use Rattle.qm_sched.proofs.rooms.raise_named.Goals as goal
 

@@ -5,7 +5,7 @@ use Rattle.std.proofs.lemmas.List.{length-set}
 use Rattle.qm_keyed.specs.Places.{StandsAt, BelongsAt}
 use Rattle.qm_kinds.specs.declared.queue.Queue.{Queue}
 use Rattle.qm_model.specs.Find.{name_cmp}
-use Rattle.qm_queues.proofs.Names.{name_of}
+use Rattle.qm_queues.proofs.QueueNames.{name_of}
 use Rattle.qm_ready.specs.Rows.{Row}
 use Rattle.qm_sched.specs.Rooms.{HasRoomWhere, is_one_of, targets_of}
 use Rattle.qm_sched.proofs.Bounds.{bound_here, bounds_set}

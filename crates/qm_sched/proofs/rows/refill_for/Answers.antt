@@ -3,7 +3,7 @@ use Rattle.qm_keyed.specs.Places.{StandsAt}
 use Rattle.qm_kinds.specs.declared.queue.Queue.{Queue}
 use Rattle.qm_model.specs.Find.{name_cmp}
 use Rattle.qm_model.specs.Kinds.{is_generic}
-use Rattle.qm_queues.proofs.Names.{name_of}
+use Rattle.qm_queues.proofs.QueueNames.{name_of}
 use Rattle.qm_sched.proofs.OneQueue.{one_row, row_set}
 use Rattle.qm_sched.proofs.RowLoops.{room_here}
 use Rattle.qm_sched.proofs.rows.refill_for.Goals as goal

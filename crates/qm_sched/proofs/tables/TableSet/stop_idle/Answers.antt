@@ -1,7 +1,7 @@
 use Rattle.std.proofs.Common.{◌≡◌, ◌∙◌, List, map, ap}
 use Rattle.qm_kinds.specs.declared.queue.Queue.{Queue}
 use Rattle.qm_model.specs.States.{when_idle}
-use Rattle.qm_queues.proofs.Names.{kept_as}
+use Rattle.qm_queues.proofs.QueueNames.{kept_as}
 use Rattle.qm_sched.specs.Tables.{Tables}
 use Rattle.qm_sched.proofs.Stops.{all_idle}
 use Rattle.qm_sched.proofs.tables.TableSet.stop_idle.Goals as goal

@@ -1,4 +1,0 @@
-pub mod Rows
-pub mod Found
-pub mod Named
-pub mod Kept
