@@ -22,9 +22,9 @@ use Rattle.qm_model.proofs.SoundLemmas.{choice_is, start_is_consistent}
 use Rattle.qm_sched.proofs.Left.{that_one}
 use Rattle.qm_sched.proofs.Starting.{entry_found}
 use Rattle.qm_sched.specs.Tables.{Tables, with_tables}
-use Rattle.qm_spool.proofs.Counting.{counts_changed}
-use Rattle.qm_spool.specs.Counts.{CountsOf}
-use Rattle.qm_spool.specs.Kept.{Counted}
+use Rattle.qm_timers.proofs.SpoolCounting.{counts_changed}
+use Rattle.qm_timers.specs.SpoolCounts.{CountsOf}
+use Rattle.qm_timers.specs.Spool.{Counted}
 use Rattle.qm_state.proofs.Timed.{wanted_changed}
 use Rattle.qm_state.specs.declared.image.Image.{Image}
 use Rattle.qm_state.specs.declared.prepared.Prepared.{Prepared}

@@ -7,7 +7,7 @@ use Rattle.std.proofs.lemmas.List.Sums.{sum_by-cons}
 use Rattle.qm_model.specs.Consistent.{IsInOrder}
 use Rattle.qm_model.specs.Find.{same_file_name, entry_numbered}
 use Rattle.qm_sched.proofs.Left.{absent_stays, agree_at_it}
-use Rattle.qm_spool.proofs.NamedRows.{itself}
+use Rattle.qm_timers.proofs.NamedRows.{itself}
 use Rattle.std.proofs.lemmas.List.{append-nil}
 use Rattle.std.proofs.lemmas.List.Elements.{All-head, All-tail}
 use Rattle.qm_kinds.specs.declared.entry.Entry.{Entry}
@@ -17,9 +17,9 @@ use Rattle.qm_kinds.specs.declared.entry.EntryState.TheVariants.{Pending, Holdin
 use Rattle.qm_model.specs.Merging.{moved_to, waits_in}
 use Rattle.qm_model.specs.Standing.{with_entry}
 use Rattle.qm_model.specs.Stopping.{is_running_in, state_with_fate, with_fate, reset_fate, reset_in}
-use Rattle.qm_spool.specs.Kept.{Counted, count_of}
-use Rattle.qm_spool.specs.Counts.{CountsOf, IsCountedAs}
-use Rattle.qm_spool.proofs.Counting.{counts_entered, counts_kept, counts_changed}
+use Rattle.qm_timers.specs.Spool.{Counted, count_of}
+use Rattle.qm_timers.specs.SpoolCounts.{CountsOf, IsCountedAs}
+use Rattle.qm_timers.proofs.SpoolCounting.{counts_entered, counts_kept, counts_changed}
 use Rattle.qm_state.specs.Timers.{moment_in, AreTimersOf}
 use Rattle.qm_state.proofs.Timed.{wanted_map, wanted_changed}
 use Rattle.qm_state.specs.Preparing.{IsLeftOf}

@@ -28,7 +28,7 @@ use Rattle.qm_sched.proofs.Counts.{count_agree, count_cons, found_passes}
 use Rattle.qm_sched.proofs.Left.{agree_at_it}
 use Rattle.qm_sched.proofs.Reach.{count_filter_le, count_map}
 use Rattle.qm_timers.specs.Timers.{is_before, with_timer, without}
-use Rattle.qm_timers.proofs.Numbers.{length-inserted}
+use Rattle.qm_timers.proofs.TimerNumbers.{length-inserted}
 use Rattle.qm_state.specs.Losing.{entries_left}
 use Rattle.qm_state.specs.Preparing.{IsLeftOf}
 use Rattle.qm_state.specs.Timers.{entries_at}

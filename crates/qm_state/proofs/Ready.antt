@@ -18,7 +18,7 @@ use Rattle.qm_sched.specs.Nodes.{is_run_on_one}
 use Rattle.qm_sched.specs.Rooms.{CanPut, HavePlacesFor, is_home, may_come, reach}
 use Rattle.qm_sched.specs.Tables.{Tables}
 use Rattle.qm_sched.proofs.Reach.{count_map, count_filter_le}
-use Rattle.qm_spool.specs.Kept.{Kept, HasRoomFor}
+use Rattle.qm_timers.specs.Spool.{Kept, HasRoomFor}
 use Rattle.qm_state.proofs.Reached.{NamesItsFile, file_found, no_run_found, unnamed_found}
 use Rattle.qm_state.specs.declared.image.Image.{Image}
 use Rattle.qm_state.specs.declared.prepared.Change.{Change}

@@ -19,12 +19,12 @@ use Rattle.qm_model.specs.Standing.{has_run}
 use Rattle.qm_sched.specs.Mirror.{run_of_entry, run_in_state}
 use Rattle.qm_sched.specs.Tables.{Tables, with_tables}
 use Rattle.qm_state.specs.Restoring.{DifferInEntries}
-use Rattle.qm_spool.specs.Kept.{Counted, count_of}
+use Rattle.qm_timers.specs.Spool.{Counted, count_of}
 use Rattle.qm_timers.specs.Timers.{moment_of}
 use Rattle.qm_state.specs.Timers.{AreTimersOf, moment_in}
 use Rattle.qm_state.proofs.Timed.{timers_behind}
-use Rattle.qm_spool.specs.Counts.{CountsOf, IsCountedAs}
-use Rattle.qm_spool.proofs.Counting.{counts_entered}
+use Rattle.qm_timers.specs.SpoolCounts.{CountsOf, IsCountedAs}
+use Rattle.qm_timers.proofs.SpoolCounting.{counts_entered}
 
 less_is : (m n : ℕ) → nat_cmp m n ≡ Less → m < n
 less_is m n h = grind (arith, nat_tests)

@@ -17,8 +17,8 @@ use Rattle.qm_model.specs.Find.{name_cmp, queue_named}
 use Rattle.qm_model.specs.Standing.{with_queue}
 use Rattle.qm_model.specs.States.{state_on_stop}
 use Rattle.qm_model.specs.Stopping.{stopped_queue, entries_on_stop}
-use Rattle.qm_spool.specs.Kept.{Counted}
-use Rattle.qm_spool.specs.Counts.{CountsOf}
+use Rattle.qm_timers.specs.Spool.{Counted}
+use Rattle.qm_timers.specs.SpoolCounts.{CountsOf}
 use Rattle.qm_state.proofs.Entries.{timers_reset, counts_reset}
 use Rattle.qm_state.specs.Timers.{AreTimersOf}
 

@@ -23,7 +23,7 @@ use Rattle.qm_sched.proofs.Left.{agree_at_it}
 use Rattle.qm_sched.proofs.Ordered.{each_found}
 use Rattle.qm_sched.specs.Timing.{is_at_home}
 use Rattle.qm_timers.specs.Timers.{moment_of, timer_of, without, with_timer, later_than}
-use Rattle.qm_timers.proofs.Numbers.{timer_of-All, absent_all, without-absent}
+use Rattle.qm_timers.proofs.TimerNumbers.{timer_of-All, absent_all, without-absent}
 use Rattle.qm_state.specs.Preparing.{IsLeftOf}
 use Rattle.qm_state.proofs.Numbered.{number_found}
 use Rattle.qm_state.proofs.Runless.{runless}

@@ -6,8 +6,8 @@ use Rattle.qm_kinds.specs.declared.file.FileName.{FileName}
 use Rattle.qm_model.specs.Standing.{has_run}
 use Rattle.qm_sched.specs.Mirror.{run_of_entry}
 use Rattle.qm_sched.specs.Tables.{Tables}
-use Rattle.qm_spool.specs.Counts.{IsCountedAs}
-use Rattle.qm_spool.specs.Kept.{Counted, count_of}
+use Rattle.qm_timers.specs.SpoolCounts.{IsCountedAs}
+use Rattle.qm_timers.specs.Spool.{Counted, count_of}
 
 -- the run that the entry may have has a number that was given, and no entry of the tables has it
 abbrev pub HasOwnRun : Tables → Entry → Type 0

@@ -1,10 +1,10 @@
 ghost use Rattle.std.proofs.Props.{props};
-ghost use Rattle.qm_spool.specs.Counts.{CountsOf};
+ghost use Rattle.qm_timers.specs.SpoolCounts.{CountsOf};
 ghost use Rattle.qm_state.specs.Timers.{AreTimersOf};
 
 use qm_kinds::{Moment, Name, Seq};
 use qm_sched::Parts;
-use qm_spool::Spool;
+use qm_timers::Spool;
 use std::alloc::Global;
 
 /// A queue system in memory.

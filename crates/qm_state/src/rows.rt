@@ -4,8 +4,8 @@ ghost use Rattle.qm_kinds.specs.declared.limits.TheConstants.{ENTRIES_LIMIT};
 ghost use Rattle.qm_model.specs.Consistent.{IsConsistent};
 ghost use Rattle.qm_model.specs.Find.{file_named};
 ghost use Rattle.qm_sched.specs.Tables.{with_tables};
-ghost use Rattle.qm_spool.specs.Kept.{count_of};
-ghost use Rattle.qm_spool.specs.Counts.{CountsOf};
+ghost use Rattle.qm_timers.specs.Spool.{count_of};
+ghost use Rattle.qm_timers.specs.SpoolCounts.{CountsOf};
 ghost use Rattle.qm_state.specs.Image.{system_of};
 ghost use Rattle.qm_state.specs.Restoring.{HasOwnRun, DifferInEntries, IsNamedOnceMore};
 ghost use Rattle.qm_state.specs.Timers.{AreTimersOf, moment_in};
@@ -16,7 +16,7 @@ use crate::image::Image;
 use qm_kinds::{Entry, Queue, Seq, System};
 use qm_queues::{FormTable, QueueTable};
 use qm_sched::{Parts, TableSet};
-use qm_spool::Spool;
+use qm_timers::Spool;
 use std::alloc::{AllocError, Global};
 
 // A copy of a queue.

@@ -4,7 +4,7 @@ ghost use Rattle.qm_model.specs.Consistent.{AreFiles};
 
 use crate::rows::file;
 use qm_kinds::FileName;
-use qm_spool::Spool;
+use qm_timers::Spool;
 use std::alloc::{AllocError, Global};
 use std::test::Fail;
 

@@ -1,4 +1,9 @@
-pub mod Orders
-pub mod Numbers
-pub mod Keeping
-pub mod Determined
+pub mod TimerOrders
+pub mod TimerNumbers
+pub mod TimersKeeping
+pub mod TimersDetermined
+pub mod FileNames
+pub mod Replacing
+pub mod NamedRows
+pub mod Spooling
+pub mod SpoolCounting

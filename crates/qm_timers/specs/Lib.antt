@@ -1,2 +1,5 @@
 pub mod Timers
-pub mod Kept
+pub mod TimersKept
+pub mod Spool
+pub mod SpoolCounts
+pub mod SpoolRows

@@ -2,9 +2,9 @@ use Rattle.std.proofs.Common.{◌≡◌, ◌∙◌, ◌+◌, ◌++◌, List, not
 use Rattle.std.specs.List.{filter}
 use Rattle.qm_entries.specs.Boxed.{contents}
 use Rattle.qm_kinds.specs.declared.entry.Entry.{Entry}
-use Rattle.qm_spool.specs.Kept.{Kept}
-use Rattle.qm_spool.specs.Counts.{CountsOf}
-use Rattle.qm_spool.proofs.Counting.{counted_somewhere, counts_left}
+use Rattle.qm_timers.specs.Spool.{Kept}
+use Rattle.qm_timers.specs.SpoolCounts.{CountsOf}
+use Rattle.qm_timers.proofs.SpoolCounting.{counted_somewhere, counts_left}
 use Rattle.qm_state.specs.Leaving.{goes}
 use Rattle.qm_state.proofs.Boxed.{value_at, value_within, next_left, next_kept, next_gone}
 use Rattle.qm_state.proofs.leaving.leave_files.Goals.{then-goes, else-goes}

@@ -1,7 +1,7 @@
 use Rattle.std.proofs.Common.{◌≡◌, ◌++◌, not, take, drop}
 use Rattle.std.specs.List.{filter}
 use Rattle.qm_entries.specs.Boxed.{contents}
-use Rattle.qm_spool.specs.Counts.{CountsOf}
+use Rattle.qm_timers.specs.SpoolCounts.{CountsOf}
 use Rattle.qm_state.specs.Leaving.{goes}
 use Rattle.qm_state.proofs.leaving.leave_files.Given as goal
 

@@ -4,7 +4,7 @@ use Rattle.qm_kinds.specs.declared.entry.Entry.{Entry}
 use Rattle.qm_model.specs.Consistent.{IsEntry}
 use Rattle.qm_sched.specs.Rooms.{HavePlacesFor}
 use Rattle.qm_sched.specs.Tables.{Tables}
-use Rattle.qm_spool.specs.Counts.{CountsOf}
+use Rattle.qm_timers.specs.SpoolCounts.{CountsOf}
 use Rattle.qm_state.specs.Timers.{AreTimersOf}
 use Rattle.qm_timers.specs.Timers.{moment_of}
 use Rattle.qm_state.specs.Image.{system_of}

@@ -6,7 +6,7 @@ use Rattle.qm_model.specs.Standing.{with_entry}
 use Rattle.qm_sched.specs.Mirror.{run_of_entry}
 use Rattle.qm_sched.specs.Rooms.{HavePlacesFor}
 use Rattle.qm_sched.specs.Tables.{Tables}
-use Rattle.qm_spool.specs.Counts.{CountsOf}
+use Rattle.qm_timers.specs.SpoolCounts.{CountsOf}
 use Rattle.qm_timers.specs.Timers.{moment_of}
 use Rattle.qm_state.specs.Timers.{AreTimersOf}
 use Rattle.qm_model.specs.Find.{entry_numbered}

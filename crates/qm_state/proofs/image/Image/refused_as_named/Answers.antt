@@ -4,7 +4,7 @@ use Rattle.qm_kinds.specs.declared.entry.Entry.{Entry}
 use Rattle.qm_kinds.specs.declared.refusal.Holder.TheVariants as holder
 use Rattle.qm_kinds.specs.declared.refusal.Refusal.{Refusal}
 use Rattle.qm_kinds.specs.declared.refusal.Refusal.TheVariants.{Referenced}
-use Rattle.qm_spool.proofs.Counting.{none_names_it}
+use Rattle.qm_timers.proofs.SpoolCounting.{none_names_it}
 use Rattle.qm_state.specs.Image.{system_of}
 use Rattle.qm_state.proofs.image.Image.refused_as_named.Goals as goal
 

@@ -4,8 +4,8 @@ use Rattle.qm_entries.specs.Boxed.{contents}
 use Rattle.qm_kinds.specs.declared.entry.Entry.{Entry}
 use Rattle.qm_model.specs.Due.{entry_at, is_over}
 use Rattle.qm_sched.specs.Tables.{Tables}
-use Rattle.qm_spool.proofs.Counting.{counts_kept}
-use Rattle.qm_spool.specs.Counts.{CountsOf}
+use Rattle.qm_timers.proofs.SpoolCounting.{counts_kept}
+use Rattle.qm_timers.specs.SpoolCounts.{CountsOf}
 use Rattle.qm_state.specs.Timers.{AreTimersOf, entries_at}
 use Rattle.qm_timers.specs.Timers.{moment_of}
 use Rattle.qm_state.proofs.Timed.{timers_found, no_more_left}

@@ -1,4 +1,4 @@
-use Rattle.qm_spool.proofs.Counting.{unnamed_at_0}
+use Rattle.qm_timers.proofs.SpoolCounting.{unnamed_at_0}
 use Rattle.qm_state.proofs.image.Image.remove_file.Goals as goal
 
 pub remove-requires-clause-unnamed : goal.remove-requires-clause-unnamed

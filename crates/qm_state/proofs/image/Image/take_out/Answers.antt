@@ -3,8 +3,8 @@ use Rattle.qm_kinds.specs.declared.entry.Entry.{Entry}
 use Rattle.qm_model.specs.Standing.{with_entry}
 use Rattle.qm_sched.proofs.Left.{absent_stays}
 use Rattle.qm_sched.specs.Tables.{Tables}
-use Rattle.qm_spool.proofs.Counting.{counts_gone}
-use Rattle.qm_spool.specs.Counts.{CountsOf}
+use Rattle.qm_timers.proofs.SpoolCounting.{counts_gone}
+use Rattle.qm_timers.specs.SpoolCounts.{CountsOf}
 use Rattle.qm_state.specs.Timers.{AreTimersOf}
 use Rattle.qm_timers.specs.Timers.{moment_of}
 use Rattle.qm_state.specs.Image.{system_of}

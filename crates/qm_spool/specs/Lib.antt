@@ -1,3 +1,0 @@
-pub mod Kept
-pub mod Counts
-pub mod Rows
