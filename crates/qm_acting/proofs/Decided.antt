@@ -1,7 +1,7 @@
 -- What the record of a request that was decided on is to what image and files stand for.
 use Rattle.std.proofs.Common.{◌≡◌, ◌∙◌, ◌<◌, ◌≤◌, ◌^◌, ℕ, List, length, Ok, Err, sym, ap, subst, arith}
 use Rattle.qm_disk.specs.Disk.{Meaning}
-use Rattle.qm_database.specs.Recorded.{with_body}
+use Rattle.qm_store.specs.Recorded.{with_body}
 use Rattle.qm_history.specs.Accepted.{CanFollow}
 use Rattle.qm_kinds.specs.declared.reply.Reply.{Reply}
 use Rattle.qm_kinds.specs.declared.request.Request.{Request}

@@ -3,10 +3,10 @@ use Rattle.std.proofs.Common.{◌≡◌, ◌+◌, inl, inr, refl, sym, subst, ar
 use Rattle.std.proofs.lemmas.Bool.{cases_lt}
 use Rattle.std.proofs.lemmas.List.{take-append-drop}
 use Rattle.qm_disk.specs.Disk.{CrashState}
-use Rattle.qm_database.proofs.Contents.{one_content}
-use Rattle.qm_database.proofs.Faults.{held_is_open}
-use Rattle.qm_database.specs.Loading.{IsLoadFault}
-use Rattle.qm_database.specs.Recorded.{Recorded, Holds}
+use Rattle.qm_store.proofs.Contents.{one_content}
+use Rattle.qm_store.proofs.Faults.{held_is_open}
+use Rattle.qm_store.specs.Loading.{IsLoadFault}
+use Rattle.qm_store.specs.Recorded.{Recorded, Holds}
 use Rattle.qm_glog.specs.declared.fault.OpenFault.{OpenFault}
 use Rattle.qm_glog.specs.declared.fault.OpenFault.TheVariants.{Disk, Unformatted, Damaged, NoMemory}
 use Rattle.qm_kinds.specs.declared.system.System.{System}

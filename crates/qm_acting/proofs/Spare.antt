@@ -5,10 +5,10 @@ use Rattle.qm_disk.proofs.Moments.{reads_now}
 use Rattle.qm_glog.specs.Records.{IsLog}
 use Rattle.qm_glog.proofs.Texts.{one_list}
 use Rattle.qm_history.specs.Master.{MasterState}
-use Rattle.qm_master.specs.Judging.{IsMaster}
-use Rattle.qm_master.proofs.Masters.{one_master, says_lawful}
-use Rattle.qm_database.specs.Opening.{in_next_epoch}
-use Rattle.qm_database.specs.Recorded.{Recorded, Holds, HoldsEither}
+use Rattle.qm_store.specs.MasterJudging.{IsMaster}
+use Rattle.qm_store.proofs.Masters.{one_master, says_lawful}
+use Rattle.qm_store.specs.Opening.{in_next_epoch}
+use Rattle.qm_store.specs.Recorded.{Recorded, Holds, HoldsEither}
 use Rattle.qm_acting.specs.Spare.{IsLive, KeepsSpare}
 
 -- one file is live, which isn't the master

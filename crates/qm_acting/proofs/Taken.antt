@@ -3,11 +3,11 @@ use Rattle.std.proofs.Common.{◌≡◌, ◌≤◌, ⊎_elim, inl, inr, ℕ, IsT
 use Rattle.std.specs.Prelude.{IsErrOf}
 use Rattle.qm_disk.specs.Disk.{Meaning, LeavesOnly}
 use Rattle.qm_disk.proofs.Moments.{weaker, goes_further}
-use Rattle.qm_database.specs.Opening.{next_need}
-use Rattle.qm_database.specs.Recorded.{Recorded, HoldsEither, with_body}
-use Rattle.qm_database.specs.declared.fault.WriteFault.{WriteFault}
-use Rattle.qm_database.specs.declared.fault.WriteFault.TheVariants as writing
-use Rattle.qm_database.specs.declared.files.TheConstants.{MASTER_CAP}
+use Rattle.qm_store.specs.Opening.{next_need}
+use Rattle.qm_store.specs.Recorded.{Recorded, HoldsEither, with_body}
+use Rattle.qm_store.specs.declared.fault.WriteFault.{WriteFault}
+use Rattle.qm_store.specs.declared.fault.WriteFault.TheVariants as writing
+use Rattle.qm_store.specs.declared.files.TheConstants.{MASTER_CAP}
 use Rattle.qm_disk.specs.Faults.{Tells}
 use Rattle.qm_kinds.specs.declared.reply.Reply.{Reply}
 use Rattle.qm_kinds.specs.declared.request.Request.{Request}

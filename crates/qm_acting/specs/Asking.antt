@@ -2,7 +2,7 @@
 use Rattle.std.specs.Prelude.{◌≡◌, ◌<◌, ◌≤◌, ◌^◌, ℕ, IsTrue, IsOk, List, length, Result, Ok, Err}
 use Rattle.qm_disk.specs.Disk.{Meaning, KeepsOthers, LeavesOnly, OneFailed, IsQuiet}
 use Rattle.qm_glog.specs.Log.{need_of}
-use Rattle.qm_database.specs.Recorded.{Recorded, HoldsEither, with_body}
+use Rattle.qm_store.specs.Recorded.{Recorded, HoldsEither, with_body}
 use Rattle.qm_history.specs.Accepted.{CanFollow, HasListsOfNodes}
 use Rattle.qm_kinds.specs.declared.reply.Reply.{Reply}
 use Rattle.qm_kinds.specs.declared.request.Request.{Request}

@@ -1,7 +1,7 @@
 -- What a request is that was decided on, and what its record leaves.
 use Rattle.std.specs.Prelude.{◌≡◌, ◌<◌, ◌≤◌, ℕ, Result, Ok, Err}
 use Rattle.qm_bytes.specs.Laws.{Spells}
-use Rattle.qm_database.specs.Recorded.{with_body}
+use Rattle.qm_store.specs.Recorded.{with_body}
 use Rattle.qm_kinds.specs.declared.reply.Reply.{Reply}
 use Rattle.qm_kinds.specs.declared.request.Request.{Request}
 use Rattle.qm_kinds.specs.declared.system.System.{System}

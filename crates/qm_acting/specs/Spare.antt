@@ -5,8 +5,8 @@ use Rattle.std.specs.Prelude.{◌≡◌, ◌≢◌, ◌≤◌, ℕ, List}
 use Rattle.qm_disk.specs.Disk.{CrashState, Meaning}
 use Rattle.qm_glog.specs.Records.{IsLog}
 use Rattle.qm_history.specs.Master.{MasterState}
-use Rattle.qm_master.specs.Judging.{IsMaster}
-use Rattle.qm_database.specs.declared.files.TheConstants.{MASTER_FILE}
+use Rattle.qm_store.specs.MasterJudging.{IsMaster}
+use Rattle.qm_store.specs.declared.files.TheConstants.{MASTER_FILE}
 
 -- the master of these files says that this queue file is live
 pub record IsLive (files : CrashState) (file : ℕ) : Type 0 where

@@ -2,8 +2,8 @@
 -- OpenVMS System Manager's Manual, Managing the Queue Manager and Queue Database, on the queue manager process and its files.
 use Rattle.std.specs.Prelude.{IsTrue}
 use Rattle.qm_disk.specs.Disk.{Meaning}
-use Rattle.qm_database.specs.Database.{loaded_disk, loaded_record, open_disk, open_record}
-use Rattle.qm_database.specs.Recorded.{Recorded, IsAtRest}
+use Rattle.qm_store.specs.Database.{loaded_disk, loaded_record, open_disk, open_record}
+use Rattle.qm_store.specs.Recorded.{Recorded, IsAtRest}
 use Rattle.qm_kinds.specs.declared.system.System.{System}
 use Rattle.qm_restore.specs.QueueFile.{IsSiteFile}
 use Rattle.qm_state.specs.Image.{system_of}

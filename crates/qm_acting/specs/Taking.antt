@@ -1,13 +1,13 @@
 -- What taking over answers, and what it leaves.
 use Rattle.std.specs.Prelude.{◌≡◌, ◌⊎◌, ◌<◌, ◌≤◌, ℕ, IsTrue, List, Result, Ok, Err}
 use Rattle.qm_disk.specs.Disk.{Meaning, CrashState, LeavesOnly}
-use Rattle.qm_database.specs.Database.{disk_of as closed_disk, loaded_spare, spare_of}
-use Rattle.qm_database.specs.Opening.{in_next_epoch, next_need, IsNotOpened}
-use Rattle.qm_database.specs.Recorded.{Recorded, Holds, IsAtRest, with_body}
-use Rattle.qm_database.specs.declared.closed.Closed.{Closed}
-use Rattle.qm_database.specs.declared.fault.WriteFault.{WriteFault}
-use Rattle.qm_database.specs.declared.fault.WriteFault.TheVariants as writing
-use Rattle.qm_database.specs.declared.files.TheConstants.{MASTER_CAP}
+use Rattle.qm_store.specs.Database.{disk_of as closed_disk, loaded_spare, spare_of}
+use Rattle.qm_store.specs.Opening.{in_next_epoch, next_need, IsNotOpened}
+use Rattle.qm_store.specs.Recorded.{Recorded, Holds, IsAtRest, with_body}
+use Rattle.qm_store.specs.declared.closed.Closed.{Closed}
+use Rattle.qm_store.specs.declared.fault.WriteFault.{WriteFault}
+use Rattle.qm_store.specs.declared.fault.WriteFault.TheVariants as writing
+use Rattle.qm_store.specs.declared.files.TheConstants.{MASTER_CAP}
 use Rattle.qm_kinds.specs.declared.reply.Reply.{Reply}
 use Rattle.qm_kinds.specs.declared.request.Request.{Request}
 use Rattle.qm_acting.specs.Asking.{Does, IsInDoubt, Lacks}

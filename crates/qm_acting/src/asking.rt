@@ -1,6 +1,6 @@
 // How a request is done: decided, written down, and only then made and answered.
 ghost use Rattle.std.specs.Prelude.{◌≡◌, ◌<◌, ◌≤◌, [], length, vec_capacity, IfOk, IsErrOf, IsTrue};
-ghost use Rattle.qm_database.specs.Database.{spare_of};
+ghost use Rattle.qm_store.specs.Database.{spare_of};
 ghost use Rattle.qm_disk.specs.Disk.{TellsFaults};
 ghost use Rattle.qm_restore.specs.QueueFile.{IsSiteFile};
 ghost use Rattle.qm_state.specs.Preparing.{made, IsPrepared};
@@ -12,11 +12,11 @@ use crate::decision::{Decision, decide};
 use crate::fault::{AskFault, RecordFault};
 use crate::manager::Manager;
 use crate::replies::{Replies, copy_of};
-use qm_database::AppendFault;
 use qm_disk::Disk;
 use qm_kinds::{Moment, Reply, Request, Start};
 use qm_restore::site_files_are_consistent;
 use qm_state::Refused;
+use qm_store::AppendFault;
 use std::alloc::AllocError;
 
 impl<D: Disk> Manager<D> {

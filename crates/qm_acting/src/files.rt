@@ -1,7 +1,7 @@
 // The files of a site on which no manager works.
 ghost use Rattle.std.specs.Prelude.{◌≡◌, IsTrue, IfOk};
-ghost use Rattle.qm_database.specs.Database.{disk_of as closed_disk};
-ghost use Rattle.qm_database.specs.Loading.{FailsBy};
+ghost use Rattle.qm_store.specs.Database.{disk_of as closed_disk};
+ghost use Rattle.qm_store.specs.Loading.{FailsBy};
 ghost use Rattle.qm_disk.specs.Disk.{OnlyLooks, TellsFaults};
 ghost use Rattle.qm_glog.specs.declared.fault.OpenFault.TheVariants as fault;
 ghost use Rattle.qm_acting.specs.Reading.{disk_after, Restores};
@@ -9,8 +9,8 @@ ghost use Rattle.qm_acting.specs.Standing.{IsRestored};
 
 use crate::reading::restore;
 use crate::restored::Restored;
-use qm_database::{Closed, LoadFault};
 use qm_disk::Disk;
+use qm_store::{Closed, LoadFault};
 use std::alloc::Global;
 
 /// Closed files, of which nothing is known; or files that were read, and that nothing has touched since.

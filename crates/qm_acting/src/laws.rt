@@ -1,6 +1,6 @@
 // What queue files go on with, that files of a site can be read, and which requests are never refused.
 ghost use Rattle.std.specs.Prelude.{◌≡◌, ◌++◌, ◌∷◌, [], ℕ, List, false, IsOk};
-ghost use Rattle.qm_database.specs.Recorded.{Recorded, Holds};
+ghost use Rattle.qm_store.specs.Recorded.{Recorded, Holds};
 ghost use Rattle.qm_disk.specs.Disk.{CrashState};
 ghost use Rattle.qm_glog.specs.declared.fault.OpenFault.TheVariants.{Damaged, Unformatted};
 ghost use Rattle.qm_history.specs.Accepted.{CanFollow};
@@ -15,7 +15,7 @@ ghost use Rattle.qm_restore.specs.QueueFile.{IsSiteFile};
 ghost use Rattle.qm_acting.specs.Asking.{text_of};
 ghost use Rattle.qm_acting.specs.Reading.{IsRestoreFault};
 
-use qm_database::held_files_load;
+use qm_store::held_files_load;
 
 /// A queue file goes on with the record of each request that can follow, and then stands for the system behind that.
 pub fn site_files_go_on()

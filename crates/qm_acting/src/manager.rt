@@ -1,6 +1,6 @@
 // The manager at work, and what it shows.
 ghost use Rattle.std.specs.Prelude.{◌≡◌, ◌<◌, length, None, Ok, IfOk};
-ghost use Rattle.qm_database.specs.Database.{disk_of as closed_disk};
+ghost use Rattle.qm_store.specs.Database.{disk_of as closed_disk};
 ghost use Rattle.qm_model.specs.Acting.{acting};
 ghost use Rattle.qm_model.specs.Applied.{are_numbers_spent};
 ghost use Rattle.qm_model.specs.Duties.{duties};
@@ -9,12 +9,12 @@ ghost use Rattle.qm_model.specs.Standing.{node_at};
 ghost use Rattle.qm_state.specs.Refusing.{Refuses};
 
 use crate::letting_go::let_go;
-use qm_database::{Closed, Open};
 use qm_disk::Disk;
 use qm_kinds::{Duty, Moment, Name, Node, Query};
 use qm_restore::site_files_are_consistent;
 use qm_rows::Rows;
 use qm_state::{Image, Refused};
+use qm_store::{Closed, Open};
 use qm_view::view;
 use std::alloc::{AllocError, Global};
 

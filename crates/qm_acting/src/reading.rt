@@ -1,7 +1,7 @@
 // How the files are read, and the image made for which they stand.
 ghost use Rattle.std.specs.Prelude.{◌≡◌, IsTrue, IfOk};
-ghost use Rattle.qm_database.specs.Database.{disk_of as closed_disk, loaded_disk, loaded_record};
-ghost use Rattle.qm_database.specs.Loading.{FailsBy};
+ghost use Rattle.qm_store.specs.Database.{disk_of as closed_disk, loaded_disk, loaded_record};
+ghost use Rattle.qm_store.specs.Loading.{FailsBy};
 ghost use Rattle.qm_disk.specs.Disk.{OnlyLooks, TellsFaults};
 ghost use Rattle.qm_glog.specs.declared.fault.OpenFault.TheVariants as fault;
 ghost use Rattle.qm_restore.specs.Restoring.{Judges};
@@ -9,9 +9,9 @@ ghost use Rattle.qm_acting.specs.Reading.{told_of, disk_after, Restores};
 ghost use Rattle.qm_acting.specs.Standing.{IsRestored};
 
 use crate::restored::Restored;
-use qm_database::{Closed, LoadFault, Loaded};
 use qm_disk::Disk;
 use qm_restore::{Bodies, RestoreFault};
+use qm_store::{Closed, LoadFault, Loaded};
 use std::alloc::Global;
 
 // The records of the live file, as a way from records to an image takes them.

@@ -1,15 +1,15 @@
 // A database that was read, with the image for which its records stand.
 ghost use Rattle.std.specs.Prelude.{◌≡◌, ◌<◌, ◌^◌, length};
-ghost use Rattle.qm_database.specs.Database.{disk_of as closed_disk};
-ghost use Rattle.qm_database.specs.Recorded.{epoch_behind};
+ghost use Rattle.qm_store.specs.Database.{disk_of as closed_disk};
+ghost use Rattle.qm_store.specs.Recorded.{epoch_behind};
 ghost use Rattle.qm_glog.specs.Records.{size_of};
 ghost use Rattle.qm_model.specs.Acting.{acting};
 
 use crate::letting_go::let_go;
-use qm_database::{Closed, Loaded};
 use qm_disk::Disk;
 use qm_kinds::{Moment, Name, Node};
 use qm_state::Image;
+use qm_store::{Closed, Loaded};
 use std::alloc::Global;
 
 /// The files as they were read, and the image of the queue system for which they stand. Nothing is written so far.

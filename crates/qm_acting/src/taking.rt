@@ -1,9 +1,9 @@
 // How a node takes the role of queue manager over: it begins the next epoch, and its first request tells of that.
 ghost use Rattle.std.specs.Prelude.{◌≡◌, ◌<◌, ◌^◌, IsTrue, IsOk, IfOk, length};
-ghost use Rattle.qm_database.specs.Database.{loaded_spare};
-ghost use Rattle.qm_database.specs.Opening.{in_next_epoch};
-ghost use Rattle.qm_database.specs.Recorded.{epoch_behind, HoldsEither};
-ghost use Rattle.qm_database.specs.declared.files.TheConstants.{MASTER_FILE};
+ghost use Rattle.qm_store.specs.Database.{loaded_spare};
+ghost use Rattle.qm_store.specs.Opening.{in_next_epoch};
+ghost use Rattle.qm_store.specs.Recorded.{epoch_behind, HoldsEither};
+ghost use Rattle.qm_store.specs.declared.files.TheConstants.{MASTER_FILE};
 ghost use Rattle.qm_disk.specs.Disk.{KeepsOthers, LeavesOnly, TellsFaults};
 ghost use Rattle.qm_model.specs.Applied.{applied};
 ghost use Rattle.qm_acting.specs.Asking.{text_of, CanBeAsked};
@@ -16,11 +16,11 @@ use crate::fault::{RecordFault, TakeFault};
 use crate::letting_go::let_go;
 use crate::manager::Manager;
 use crate::restored::Restored;
-use qm_database::{Closed, WriteFault};
 use qm_disk::Disk;
 use qm_kinds::{Moment, Reply, Request};
 use qm_restore::site_files_are_consistent;
 use qm_state::Refused;
+use qm_store::{Closed, WriteFault};
 use std::alloc::AllocError;
 
 // Why there is no manager of the next epoch.

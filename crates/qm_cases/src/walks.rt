@@ -1,15 +1,15 @@
 // Walks along the turns of runs.
-ghost use Rattle.qm_database.specs.Database.{loaded_record};
+ghost use Rattle.qm_store.specs.Database.{loaded_record};
 ghost use Rattle.qm_history.specs.World.{IsSound};
 ghost use Rattle.qm_record.specs.Spelling.{HasSpelling};
 
 use crate::files::Files;
-use qm_database::{Closed, Loaded};
 use qm_disk::MemoryDisk;
 use qm_history::{Event, Turn, World};
 use qm_kinds::Name;
 use qm_restore::{Bodies, restore};
 use qm_state::Image;
+use qm_store::{Closed, Loaded};
 use qm_world::{WalkEnd, first_world, texts_of, walk};
 use std::alloc::{AllocError, Global};
 

@@ -8,13 +8,13 @@ use Rattle.qm_glog.specs.Records.{IsLog, size_of}
 use Rattle.qm_kinds.specs.declared.record.Record.{Record}
 use Rattle.qm_kinds.specs.declared.system.Node.{Node}
 use Rattle.qm_kinds.specs.declared.system.System.{System}
-use Rattle.qm_master.specs.Judging.{IsLawful}
-use Rattle.qm_master.proofs.Masters.{says_lawful}
+use Rattle.qm_store.specs.MasterJudging.{IsLawful}
+use Rattle.qm_store.proofs.Masters.{says_lawful}
 use Rattle.qm_model.specs.Folding.{system_of}
 use Rattle.qm_record.specs.Spelling.{HasSpelling, record_text}
-use Rattle.qm_database.specs.Recorded.{Recorded, Holds, IsAtRest}
-use Rattle.qm_database.proofs.Contents.{held_records}
-use Rattle.qm_database.proofs.Moving.{left_at_rest}
+use Rattle.qm_store.specs.Recorded.{Recorded, Holds, IsAtRest}
+use Rattle.qm_store.proofs.Contents.{held_records}
+use Rattle.qm_store.proofs.Moving.{left_at_rest}
 use Rattle.qm_restore.specs.QueueFile.{IsSiteFile}
 use Rattle.qm_chest.specs.Files.{files_disk, AreSound}
 use Rattle.qm_chest.specs.declared.files.Files.{Files}

@@ -5,8 +5,8 @@ use Rattle.qm_disk.specs.Disk.{CrashState, Meaning, IsLeft, TellsFaults}
 use Rattle.qm_kinds.specs.declared.input.Input.{Input}
 use Rattle.qm_kinds.specs.declared.input.Input.TheVariants as input
 use Rattle.qm_kinds.specs.declared.system.System.{System}
-use Rattle.qm_database.specs.Database.{disk_of as closed_disk}
-use Rattle.qm_database.specs.declared.closed.Closed.{Closed}
+use Rattle.qm_store.specs.Database.{disk_of as closed_disk}
+use Rattle.qm_store.specs.declared.closed.Closed.{Closed}
 use Rattle.qm_acting.specs.Spare.{KeepsSpare}
 use Rattle.qm_acting.proofs.Spare.{keeps_on, keeps_same}
 use Rattle.qm_acting.specs.Standing.{standing_of, disk_of}

@@ -9,8 +9,8 @@ use Rattle.qm_kinds.specs.declared.input.Input.TheVariants as input
 use Rattle.qm_kinds.specs.declared.reply.Act.TheVariants as act
 use Rattle.qm_model.specs.Acting.{acting}
 use Rattle.qm_model.specs.Standing.{node_at}
-use Rattle.qm_database.specs.Recorded.{Recorded}
-use Rattle.qm_database.proofs.Moving.{left_at_rest}
+use Rattle.qm_store.specs.Recorded.{Recorded}
+use Rattle.qm_store.proofs.Moving.{left_at_rest}
 use Rattle.qm_acting.specs.Standing.{standing_of, disk_of}
 use Rattle.qm_chest.specs.Files.{files_disk}
 use Rattle.qm_chest.specs.declared.files.Files.{Files}

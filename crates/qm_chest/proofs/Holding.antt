@@ -10,8 +10,8 @@ use Rattle.qm_kinds.specs.declared.record.Record.{Record}
 use Rattle.qm_kinds.specs.declared.system.System.{System}
 use Rattle.qm_model.specs.Folding.{system_of}
 use Rattle.qm_record.specs.Spelling.{HasSpelling, record_text}
-use Rattle.qm_database.specs.Recorded.{Recorded, Holds}
-use Rattle.qm_database.proofs.Contents.{one_content, held_records, held_bodies}
+use Rattle.qm_store.specs.Recorded.{Recorded, Holds}
+use Rattle.qm_store.proofs.Contents.{one_content, held_records, held_bodies}
 use Rattle.qm_restore.specs.QueueFile.{IsSiteFile}
 use Rattle.qm_history.specs.declared.event.Event.{Event}
 use Rattle.qm_history.specs.declared.world.Role.{Role}

@@ -5,11 +5,11 @@ use Rattle.std.proofs.lemmas.Bool.{cases_eq}
 use Rattle.qm_disk.specs.Disk.{CrashState, Meaning, IsLeft, LeavesOnly, TellsFaults}
 use Rattle.qm_disk.proofs.Moments.{weaker}
 use Rattle.qm_kinds.specs.declared.input.Input.{Input}
-use Rattle.qm_database.specs.Database.{disk_of as closed_disk}
-use Rattle.qm_database.specs.Opening.{in_next_epoch, next_need}
-use Rattle.qm_database.specs.Recorded.{Recorded, HoldsEither, IsAtRest}
-use Rattle.qm_database.specs.declared.closed.Closed.{Closed}
-use Rattle.qm_database.specs.declared.files.TheConstants.{MASTER_CAP}
+use Rattle.qm_store.specs.Database.{disk_of as closed_disk}
+use Rattle.qm_store.specs.Opening.{in_next_epoch, next_need}
+use Rattle.qm_store.specs.Recorded.{Recorded, HoldsEither, IsAtRest}
+use Rattle.qm_store.specs.declared.closed.Closed.{Closed}
+use Rattle.qm_store.specs.declared.files.TheConstants.{MASTER_CAP}
 use Rattle.qm_acting.specs.Spare.{KeepsSpare}
 use Rattle.qm_acting.proofs.Spare.{keeps_at}
 use Rattle.qm_acting.specs.Standing.{Standing, IsReady, standing_of, disk_of}

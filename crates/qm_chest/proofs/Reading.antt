@@ -10,9 +10,9 @@ use Rattle.qm_kinds.specs.declared.system.System.{System}
 use Rattle.qm_model.specs.Folding.{no_system, replayed, system_of}
 use Rattle.qm_record.specs.Spelling.{HasSpelling, record_text}
 use Rattle.qm_record.proofs.Records.{no_prefix}
-use Rattle.qm_database.specs.Recorded.{Recorded, Holds, IsAtRest}
-use Rattle.qm_database.proofs.Contents.{one_content}
-use Rattle.qm_database.proofs.Moving.{live_le}
+use Rattle.qm_store.specs.Recorded.{Recorded, Holds, IsAtRest}
+use Rattle.qm_store.proofs.Contents.{one_content}
+use Rattle.qm_store.proofs.Moving.{live_le}
 use Rattle.qm_restore.specs.QueueFile.{IsSiteFile}
 use Rattle.qm_restore.specs.Site.{new_rows, new_system}
 use Rattle.qm_acting.specs.Reading.{IsTold}

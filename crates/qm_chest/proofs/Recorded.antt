@@ -21,11 +21,11 @@ use Rattle.qm_model.specs.Log.{request_record}
 use Rattle.qm_model.specs.Outcome.{Accepted}
 use Rattle.qm_model.specs.Standing.{node_at}
 use Rattle.qm_record.specs.Spelling.{HasSpelling, record_text}
-use Rattle.qm_database.specs.Database.{disk_of as closed_disk}
-use Rattle.qm_database.specs.Opening.{in_next_epoch, next_need}
-use Rattle.qm_database.specs.Recorded.{Recorded, Holds, IsAtRest, epoch_behind, with_body}
-use Rattle.qm_database.specs.declared.closed.Closed.{Closed}
-use Rattle.qm_database.specs.declared.files.TheConstants.{MASTER_CAP}
+use Rattle.qm_store.specs.Database.{disk_of as closed_disk}
+use Rattle.qm_store.specs.Opening.{in_next_epoch, next_need}
+use Rattle.qm_store.specs.Recorded.{Recorded, Holds, IsAtRest, epoch_behind, with_body}
+use Rattle.qm_store.specs.declared.closed.Closed.{Closed}
+use Rattle.qm_store.specs.declared.files.TheConstants.{MASTER_CAP}
 use Rattle.qm_restore.specs.QueueFile.{IsSiteFile}
 use Rattle.qm_acting.specs.Asking.{text_of}
 use Rattle.qm_acting.specs.Standing.{Standing, standing_of, disk_of}

@@ -17,7 +17,7 @@ use Rattle.qm_model.specs.Applied.{applied}
 use Rattle.qm_model.specs.Folding.{system_of}
 use Rattle.qm_model.specs.Log.{request_record}
 use Rattle.qm_record.specs.Spelling.{HasSpelling, record_text}
-use Rattle.qm_database.specs.Recorded.{Recorded, Holds, HoldsEither, with_body}
+use Rattle.qm_store.specs.Recorded.{Recorded, Holds, HoldsEither, with_body}
 use Rattle.qm_restore.specs.QueueFile.{IsSiteFile}
 use Rattle.qm_history.specs.declared.event.Event.{Event}
 use Rattle.qm_history.specs.declared.event.Event.TheVariants as event

@@ -5,7 +5,7 @@ use Rattle.qm_disk.specs.Disk.{CrashState, Meaning}
 use Rattle.qm_disk.proofs.Moments.{weaker}
 use Rattle.qm_kinds.specs.declared.input.Input.TheVariants as input
 use Rattle.qm_acting.specs.declared.manager.Manager.{Manager}
-use Rattle.qm_database.specs.Recorded.{Recorded}
+use Rattle.qm_store.specs.Recorded.{Recorded}
 use Rattle.qm_history.specs.declared.call.Takeover.{Takeover}
 use Rattle.qm_history.specs.declared.event.Event.TheVariants as event
 use Rattle.qm_history.specs.declared.world.World.{World}

@@ -9,8 +9,8 @@ use Rattle.qm_glog.specs.Records.{IsLog}
 use Rattle.qm_kinds.specs.declared.record.Record.{Record}
 use Rattle.qm_record.specs.Spelling.{HasSpelling, record_text}
 use Rattle.qm_acting.specs.Standing.{standing_of}
-use Rattle.qm_database.specs.Recorded.{Recorded}
-use Rattle.qm_database.proofs.Contents.{held_bodies, held_records, one_content}
+use Rattle.qm_store.specs.Recorded.{Recorded}
+use Rattle.qm_store.proofs.Contents.{held_bodies, held_records, one_content}
 use Rattle.qm_history.specs.declared.call.Answer.{Answer}
 use Rattle.qm_history.specs.declared.call.Answer.TheVariants as answer
 use Rattle.qm_history.specs.declared.call.Call.{Call}

@@ -18,11 +18,11 @@ use Rattle.qm_model.specs.Folding.{after_record, system_after, system_of}
 use Rattle.qm_model.specs.Log.{request_record}
 use Rattle.qm_model.specs.Outcome.{Accepted}
 use Rattle.qm_record.specs.Spelling.{HasSpelling, record_text}
-use Rattle.qm_database.specs.Database.{disk_of as closed_disk}
-use Rattle.qm_database.specs.Recorded.{Recorded, Holds, HoldsEither, IsAtRest, with_body}
-use Rattle.qm_database.proofs.Moving.{left_at_rest}
-use Rattle.qm_database.specs.declared.closed.Closed.{Closed}
-use Rattle.qm_master.specs.declared.state.TheConstants.{GREATEST_QUEUE_CAP}
+use Rattle.qm_store.specs.Database.{disk_of as closed_disk}
+use Rattle.qm_store.specs.Recorded.{Recorded, Holds, HoldsEither, IsAtRest, with_body}
+use Rattle.qm_store.proofs.Moving.{left_at_rest}
+use Rattle.qm_store.specs.declared.closed.Closed.{Closed}
+use Rattle.qm_store.specs.declared.master.state.TheConstants.{GREATEST_QUEUE_CAP}
 use Rattle.qm_restore.specs.QueueFile.{IsSiteFile}
 use Rattle.qm_acting.specs.Asking.{Does, IsInDoubt, Lacks, text_of}
 use Rattle.qm_acting.specs.Standing.{Standing, standing_of, disk_of}

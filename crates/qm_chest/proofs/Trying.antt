@@ -11,10 +11,10 @@ use Rattle.qm_kinds.specs.declared.input.Input.{Input}
 use Rattle.qm_kinds.specs.declared.record.Record.{Record}
 use Rattle.qm_model.specs.Folding.{system_of}
 use Rattle.qm_record.specs.Spelling.{HasSpelling, record_text}
-use Rattle.qm_database.specs.Opening.{in_next_epoch, next_need}
-use Rattle.qm_database.specs.Recorded.{Recorded, Holds, IsAtRest, epoch_behind}
-use Rattle.qm_database.specs.declared.files.TheConstants.{MASTER_CAP}
-use Rattle.qm_database.proofs.Moving.{left_at_rest}
+use Rattle.qm_store.specs.Opening.{in_next_epoch, next_need}
+use Rattle.qm_store.specs.Recorded.{Recorded, Holds, IsAtRest, epoch_behind}
+use Rattle.qm_store.specs.declared.files.TheConstants.{MASTER_CAP}
+use Rattle.qm_store.proofs.Moving.{left_at_rest}
 use Rattle.qm_restore.specs.QueueFile.{IsSiteFile}
 use Rattle.qm_acting.specs.Standing.{Standing}
 use Rattle.qm_acting.specs.Taking.{HoldsEpoch}

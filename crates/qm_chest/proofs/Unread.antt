@@ -7,13 +7,13 @@ use Rattle.qm_glog.specs.Records.{IsLog}
 use Rattle.qm_glog.specs.declared.fault.OpenFault.{OpenFault}
 use Rattle.qm_glog.specs.declared.fault.OpenFault.TheVariants as opening
 use Rattle.qm_kinds.specs.declared.input.Input.{Input}
-use Rattle.qm_master.proofs.Masters.{says_lawful}
+use Rattle.qm_store.proofs.Masters.{says_lawful}
 use Rattle.qm_record.specs.Spelling.{record_text}
-use Rattle.qm_database.specs.Database.{disk_of as closed_disk}
-use Rattle.qm_database.specs.Recorded.{Recorded, Holds, epoch_behind}
-use Rattle.qm_database.specs.declared.closed.Closed.{Closed}
-use Rattle.qm_database.proofs.Contents.{one_content}
-use Rattle.qm_database.proofs.Moving.{live_within}
+use Rattle.qm_store.specs.Database.{disk_of as closed_disk}
+use Rattle.qm_store.specs.Recorded.{Recorded, Holds, epoch_behind}
+use Rattle.qm_store.specs.declared.closed.Closed.{Closed}
+use Rattle.qm_store.proofs.Contents.{one_content}
+use Rattle.qm_store.proofs.Moving.{live_within}
 use Rattle.qm_acting.specs.Spare.{KeepsSpare}
 use Rattle.qm_chest.specs.declared.files.Files.TheVariants as site_files
 use Rattle.qm_history.specs.declared.call.Answer.TheVariants as answer

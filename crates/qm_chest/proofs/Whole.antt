@@ -9,7 +9,7 @@ use Rattle.qm_kinds.specs.declared.input.Input.TheVariants as input
 use Rattle.qm_kinds.specs.declared.refusal.ParseKind.{ParseKind}
 use Rattle.qm_kinds.specs.declared.refusal.Refusal.TheVariants as refused
 use Rattle.qm_record.specs.Spelling.{HasSpelling, record_text}
-use Rattle.qm_database.specs.Recorded.{Recorded, Holds}
+use Rattle.qm_store.specs.Recorded.{Recorded, Holds}
 use Rattle.qm_acting.specs.Standing.{standing_of}
 use Rattle.qm_history.specs.declared.call.Answer.{Answer}
 use Rattle.qm_history.specs.declared.call.Answer.TheVariants as answer
@@ -35,7 +35,7 @@ use Rattle.qm_chest.specs.declared.desk.Desk.{Desk}
 use Rattle.qm_chest.specs.declared.desk.Desk.TheVariants.{Up, Down}
 use Rattle.qm_chest.specs.declared.chest.State.{State}
 use Rattle.qm_chest.specs.At.{IsStateAt, state_disk}
-use Rattle.qm_master.specs.declared.state.TheConstants.{GREATEST_QUEUE_CAP}
+use Rattle.qm_store.specs.declared.master.state.TheConstants.{GREATEST_QUEUE_CAP}
 use Rattle.qm_chest.specs.declared.answering.Came.{Came}
 use Rattle.qm_chest.specs.declared.book.Book.{Book}
 use Rattle.qm_chest.specs.Books.{IsBookOf}
@@ -48,7 +48,7 @@ use Rattle.qm_chest.specs.Whole.{IsServedAs, both}
 use Rattle.qm_chest.proofs.Holding.{SiteFilesAreAccepted, epoch_of_none, grows, holds_world, room_of, still}
 use Rattle.qm_chest.proofs.Turning.{adds, tells_room, whole}
 use Rattle.qm_chest.proofs.Steps.{epoch_of_role}
-use Rattle.qm_database.proofs.Moving.{left_at_rest}
+use Rattle.qm_store.proofs.Moving.{left_at_rest}
 
 -- ---- what a desk's files hold
 

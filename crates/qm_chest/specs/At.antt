@@ -9,7 +9,7 @@ use Rattle.qm_kinds.specs.declared.input.Input.TheVariants as input
 use Rattle.qm_kinds.specs.declared.moment.TheConstants.{LAST_MOMENT}
 use Rattle.qm_kinds.specs.declared.request.Request.{Request}
 use Rattle.qm_kinds.specs.declared.system.System.{System}
-use Rattle.qm_master.specs.declared.state.TheConstants.{GREATEST_QUEUE_CAP}
+use Rattle.qm_store.specs.declared.master.state.TheConstants.{GREATEST_QUEUE_CAP}
 use Rattle.qm_model.specs.Applied.{applied}
 use Rattle.qm_model.specs.Lawful.{IsLawful}
 use Rattle.qm_model.specs.Log.{request_record}

@@ -8,7 +8,7 @@ use Rattle.qm_kinds.specs.declared.system.Node.{Node}
 use Rattle.qm_kinds.specs.declared.system.System.{System}
 use Rattle.qm_model.specs.Folding.{system_of}
 use Rattle.qm_record.specs.Spelling.{HasSpelling, record_text}
-use Rattle.qm_database.specs.Recorded.{Recorded, Holds}
+use Rattle.qm_store.specs.Recorded.{Recorded, Holds}
 use Rattle.qm_acting.specs.Reading.{IsRestoreFault}
 use Rattle.qm_acting.specs.Standing.{Standing, restored_standing, restored_disk, IsRestored}
 use Rattle.qm_history.specs.Accepted.{cluster}

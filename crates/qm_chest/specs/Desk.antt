@@ -7,7 +7,7 @@ use Rattle.qm_chest.specs.Files.{files_disk, AreSound}
 use Rattle.qm_acting.specs.Standing.{standing_of, disk_of, IsReady}
 use Rattle.qm_chest.specs.declared.files.Files.{Files}
 use Rattle.qm_acting.specs.declared.manager.Manager.{Manager}
-use Rattle.qm_database.specs.Recorded.{IsAtRest}
+use Rattle.qm_store.specs.Recorded.{IsAtRest}
 use Rattle.qm_history.specs.declared.world.World.{World}
 use Rattle.qm_history.specs.World.{system_in}
 use Rattle.qm_chest.specs.Holding.{MayHold, AllHold}

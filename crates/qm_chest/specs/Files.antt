@@ -1,6 +1,6 @@
 -- The files of a site on which no manager works.
 use Rattle.qm_disk.specs.Disk.{Meaning}
-use Rattle.qm_database.specs.Database.{disk_of as closed_disk}
+use Rattle.qm_store.specs.Database.{disk_of as closed_disk}
 use Rattle.qm_acting.specs.Standing.{restored_disk, IsRestored}
 use Rattle.qm_chest.specs.declared.files.Files.{Files}
 use Rattle.qm_chest.specs.declared.files.Files.TheVariants.{Closed, Read}

@@ -8,7 +8,7 @@ use Rattle.qm_glog.specs.Records.{size_of}
 use Rattle.qm_kinds.specs.declared.record.Record.{Record}
 use Rattle.qm_model.specs.Folding.{system_of}
 use Rattle.qm_history.specs.declared.world.World.{World}
-use Rattle.qm_database.specs.Recorded.{Recorded, Holds}
+use Rattle.qm_store.specs.Recorded.{Recorded, Holds}
 use Rattle.qm_restore.specs.QueueFile.{IsSiteFile}
 use Rattle.qm_chest.specs.declared.place.Place.{Place}
 

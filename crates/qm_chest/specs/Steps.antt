@@ -10,11 +10,11 @@ use Rattle.qm_kinds.specs.declared.refusal.Refusal.TheVariants as refused
 use Rattle.qm_kinds.specs.declared.request.Request.{Request}
 use Rattle.qm_kinds.specs.declared.request.Request.TheVariants as request
 use Rattle.qm_kinds.specs.declared.system.System.{System}
-use Rattle.qm_master.specs.declared.state.TheConstants.{GREATEST_QUEUE_CAP}
+use Rattle.qm_store.specs.declared.master.state.TheConstants.{GREATEST_QUEUE_CAP}
 use Rattle.qm_model.specs.Applied.{are_numbers_spent}
 use Rattle.qm_model.specs.Rows.{ManagerRole, view}
-use Rattle.qm_database.specs.Database.{disk_of as closed_disk}
-use Rattle.qm_database.specs.declared.closed.Closed.{Closed}
+use Rattle.qm_store.specs.Database.{disk_of as closed_disk}
+use Rattle.qm_store.specs.declared.closed.Closed.{Closed}
 use Rattle.qm_acting.specs.Standing.{standing_of, disk_of}
 use Rattle.qm_chest.specs.declared.files.Files.TheVariants as site_files
 use Rattle.qm_acting.specs.declared.manager.Manager.{Manager}

@@ -10,12 +10,12 @@ use Rattle.qm_kinds.specs.declared.request.Request.{Request}
 use Rattle.qm_kinds.specs.declared.request.Request.TheVariants as request
 use Rattle.qm_kinds.specs.declared.system.Node.{Node}
 use Rattle.qm_kinds.specs.declared.system.System.{System}
-use Rattle.qm_master.specs.declared.state.TheConstants.{GREATEST_QUEUE_CAP}
+use Rattle.qm_store.specs.declared.master.state.TheConstants.{GREATEST_QUEUE_CAP}
 use Rattle.qm_model.specs.Acting.{acting}
 use Rattle.qm_model.specs.Find.{is_among}
 use Rattle.qm_model.specs.Folding.{system_of}
-use Rattle.qm_database.specs.Recorded.{Recorded, IsAtRest, epoch_behind}
-use Rattle.qm_database.specs.declared.closed.Closed.{Closed}
+use Rattle.qm_store.specs.Recorded.{Recorded, IsAtRest, epoch_behind}
+use Rattle.qm_store.specs.declared.closed.Closed.{Closed}
 use Rattle.qm_glog.specs.declared.fault.OpenFault.{OpenFault}
 use Rattle.qm_glog.specs.declared.fault.OpenFault.TheVariants as opening
 use Rattle.qm_acting.specs.Reading.{IsTold}

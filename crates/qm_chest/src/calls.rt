@@ -1,7 +1,7 @@
 // How a chest begins, what a node's call does to it, and how it ends.
 ghost use Rattle.std.specs.Prelude.{◌≡◌, ◌<◌, ◌^◌, ℕ, IsTrue, IfOk, IfErr, true, length};
 ghost use Rattle.qm_disk.specs.Disk.{TellsFaults};
-ghost use Rattle.qm_database.specs.Database.{disk_of as closed_disk};
+ghost use Rattle.qm_store.specs.Database.{disk_of as closed_disk};
 ghost use Rattle.qm_acting.specs.Spare.{KeepsSpare};
 ghost use Rattle.qm_history.specs.Calls.{input_of};
 ghost use Rattle.qm_history.specs.Faults.{is_journal};
@@ -20,11 +20,11 @@ use crate::laws::sites_begin_one_world;
 use crate::stepping::{keep, room_for};
 use crate::wanted::{Outcome, Wanted};
 use core::mem::drop;
-use qm_database::Closed;
 use qm_disk::Disk;
 use qm_history::{Answer, Call, QueueFile, Turn, worlds_stay_sound};
 use qm_kinds::{Moment, Name};
 use qm_restore::site_files_are_accepted;
+use qm_store::Closed;
 use std::alloc::{AllocError, Global};
 
 impl<D: Disk> Chest<D> {

@@ -1,14 +1,14 @@
 // How the files of a site are read before anything is asked of it.
 ghost use Rattle.std.specs.Prelude.{◌≡◌, IsTrue, IfOk};
-ghost use Rattle.qm_database.specs.Loading.{FailsBy};
+ghost use Rattle.qm_store.specs.Loading.{FailsBy};
 ghost use Rattle.qm_disk.specs.Disk.{OnlyLooks, TellsFaults};
 ghost use Rattle.qm_glog.specs.declared.fault.OpenFault.TheVariants as fault;
 ghost use Rattle.qm_chest.specs.Checking.{Checks, IsChecked, disk_checked};
 
 use crate::checked::Checked;
 use qm_acting::restore;
-use qm_database::{Closed, LoadFault, held_files_load};
 use qm_disk::Disk;
+use qm_store::{Closed, LoadFault, held_files_load};
 use std::alloc::Global;
 
 // No memory holds a live file of so many bytes, and with each record that is shorter its size is still a number of 64 bits.

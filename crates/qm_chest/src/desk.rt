@@ -1,6 +1,6 @@
 // What the chest works with: a manager, or the files.
 ghost use Rattle.std.specs.Prelude.{◌≡◌};
-ghost use Rattle.qm_database.specs.Database.{disk_of as closed_disk};
+ghost use Rattle.qm_store.specs.Database.{disk_of as closed_disk};
 ghost use Rattle.qm_chest.specs.Desk.{is_due, is_without, makes_step};
 ghost use Rattle.qm_chest.specs.Steps.{HasLetGo};
 
@@ -8,9 +8,9 @@ use crate::boxed::FullBox;
 use crate::files::Files;
 use crate::place::Place;
 use qm_acting::Manager;
-use qm_database::Closed;
 use qm_disk::Disk;
 use qm_kinds::Input;
+use qm_store::Closed;
 
 /// The manager at work, with the node that has the role; or, while none is up, the files, and where a record in doubt would stand.
 #[derive(Drop)]

@@ -9,9 +9,9 @@ use crate::desk::Desk;
 use crate::files::Files;
 use crate::place::Place;
 use crate::serving::Served;
-use qm_database::{Closed, LoadFault};
 use qm_history::{Answer, Event, Takeover};
 use qm_kinds::Seq;
+use qm_store::{Closed, LoadFault};
 
 // A takeover failed, with this epoch tried by then, and this happened behind it.
 fn failed<D>(

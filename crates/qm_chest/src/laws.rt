@@ -21,7 +21,7 @@ ghost use Rattle.qm_history.specs.declared.call.Call.{Call};
 ghost use Rattle.qm_history.specs.declared.event.Event.{Event};
 ghost use Rattle.qm_history.specs.declared.world.World.{World};
 ghost use Rattle.qm_disk.specs.Disk.{CrashState};
-ghost use Rattle.qm_database.specs.Recorded.{Holds, Recorded};
+ghost use Rattle.qm_store.specs.Recorded.{Holds, Recorded};
 ghost use Rattle.qm_kinds.specs.declared.system.System.{System};
 ghost use Rattle.qm_restore.specs.QueueFile.{IsSiteFile};
 ghost use Rattle.qm_history.specs.Start.{Starts};

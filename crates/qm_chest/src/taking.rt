@@ -22,12 +22,12 @@ use core::mem::drop;
 use qm_acting::{
     Manager, Restored, TakeFault, own_requests_are_accepted, site_files_go_on, sites_can_be_read,
 };
-use qm_database::{LoadFault, WriteFault};
 use qm_disk::Disk;
 use qm_history::{Answer, Event};
 use qm_kinds::{Act, Input, Moment};
 use qm_model::nodes_keep_their_names;
 use qm_restore::{names_of_files_stay, site_files_are_accepted, site_files_are_consistent};
+use qm_store::{LoadFault, WriteFault};
 
 // Whether the record is there that was in doubt, where one was.
 fn found<D: Disk>(restored: &Restored<D>, place: Option<Place>) -> Option<bool>

@@ -1,7 +1,7 @@
 -- The listing of a site by what its files hold.
 -- DCL Dictionary, SHOW QUEUE, on /ALL_JOBS.
 use Rattle.std.specs.Prelude.{◌≡◌, ℕ, IsTrue, List}
-use Rattle.qm_database.specs.Recorded.{Holds, Recorded}
+use Rattle.qm_store.specs.Recorded.{Holds, Recorded}
 use Rattle.qm_disk.specs.Disk.{CrashState, Meaning}
 use Rattle.qm_history.specs.Ends.{show_text}
 use Rattle.qm_kinds.specs.declared.system.System.{System}

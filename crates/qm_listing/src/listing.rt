@@ -8,11 +8,11 @@ ghost use Rattle.qm_history.specs.Ends.{all_jobs, show_text};
 ghost use Rattle.qm_listing.specs.Listing.{IsListingOf};
 
 use qm_acting::{Restored, restore};
-use qm_database::{Closed, LoadFault, held_files_load};
 use qm_disk::Disk;
 use qm_kinds::{Kinds, Listing, Pattern, Query};
 use qm_show::show_rows;
 use qm_state::Refused;
+use qm_store::{Closed, LoadFault, held_files_load};
 use std::alloc::{AllocError, Global};
 
 /// The listing of a site, or why there is none, and the disk with its files.

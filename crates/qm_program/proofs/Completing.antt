@@ -3,8 +3,8 @@ use Rattle.std.proofs.Common.{◌≡◌, ◌⊎◌, ◌+◌, inl, inr, ⊎_elim,
 use Rattle.std.proofs.Math.Nat.{eq-or-lt_of_le}
 use Rattle.std.proofs.lemmas.List.{take-append-drop}
 use Rattle.qm_acting.specs.Reading.{IsRestoreFault, IsUnlawfulAt}
-use Rattle.qm_database.specs.Loading.{IsLoadFault}
-use Rattle.qm_database.specs.Recorded.{Holds, Recorded}
+use Rattle.qm_store.specs.Loading.{IsLoadFault}
+use Rattle.qm_store.specs.Recorded.{Holds, Recorded}
 use Rattle.qm_disk.specs.Disk.{CrashState}
 use Rattle.qm_glog.specs.declared.fault.OpenFault.TheVariants as opening
 use Rattle.qm_history.specs.Chest.{turns_kept}

@@ -5,8 +5,8 @@ use Rattle.std.specs.List.{AllByRecursion}
 use Rattle.std.proofs.lemmas.List.{append-nil, length-map}
 use Rattle.std.proofs.lemmas.List.Elements.{recursion_from_All}
 use Rattle.qm_bytes.specs.Spelling.{each, short_bytes, truth}
-use Rattle.qm_database.specs.Making.{IsQueueCap, KeepsFile, need_for, texts_of}
-use Rattle.qm_database.specs.Recorded.{Holds, IsAtRest, Recorded, new_database}
+use Rattle.qm_store.specs.Making.{IsQueueCap, KeepsFile, need_for, texts_of}
+use Rattle.qm_store.specs.Recorded.{Holds, IsAtRest, Recorded, new_database}
 use Rattle.qm_disk.specs.Disk.{CrashState, IsLeft, Meaning}
 use Rattle.qm_disk.proofs.Moments.{started}
 use Rattle.qm_glog.specs.Records.{IsLog}

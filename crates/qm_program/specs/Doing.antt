@@ -2,7 +2,7 @@
 use Rattle.std.specs.Prelude.{◌≡◌, ◌<◌, ◌-◌, ◌^◌, ℕ, List, [], Option, None, Some, IsSome}
 use Rattle.qm_acting.specs.Spare.{KeepsSpare}
 use Rattle.qm_disk.specs.Disk.{CrashState, Meaning, OnlyLooks}
-use Rattle.qm_database.specs.Making.{KeepsFile}
+use Rattle.qm_store.specs.Making.{KeepsFile}
 use Rattle.qm_history.specs.declared.turn.Turn.{Turn}
 use Rattle.qm_service.specs.Serving.{Outside}
 use Rattle.qm_symb.specs.Device as symb

@@ -2,8 +2,8 @@
 -- OpenVMS System Manager's Manual, Managing the Queue Manager and Queue Database, on creating a queue database.
 use Rattle.std.specs.Prelude.{◌≡◌, ℕ, IsTrue, List, Option, Result, Ok, Err}
 use Rattle.std.specs.Io.KnownBytes.{Appends, Keeps}
-use Rattle.qm_database.specs.Making.{KeepsFile}
-use Rattle.qm_database.specs.declared.files.TheConstants.{FIRST_QUEUE_FILE}
+use Rattle.qm_store.specs.Making.{KeepsFile}
+use Rattle.qm_store.specs.declared.files.TheConstants.{FIRST_QUEUE_FILE}
 use Rattle.qm_disk.specs.Disk.{CrashState, IsLeft, Meaning}
 use Rattle.qm_glog.specs.Records.{IsLog}
 use Rattle.qm_history.specs.Site.{site_of}

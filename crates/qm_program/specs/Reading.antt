@@ -3,7 +3,7 @@ use Rattle.std.specs.Prelude.{◌≡◌, ◌≢◌, ◌⊎◌, ◌+◌, ℕ, Boo
 use Rattle.std.specs.Io.KnownBytes.{IsAtEnd}
 use Rattle.qm_acting.specs.Reading.{IsRestoreFault}
 use Rattle.qm_chest.specs.Noting.{StartsEarly}
-use Rattle.qm_database.specs.Recorded.{Holds, Recorded}
+use Rattle.qm_store.specs.Recorded.{Holds, Recorded}
 use Rattle.qm_disk.specs.Disk.{CrashState}
 use Rattle.qm_glog.specs.declared.fault.OpenFault.TheVariants as opening
 use Rattle.qm_history.specs.Accepted.{cluster}

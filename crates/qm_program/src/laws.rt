@@ -28,13 +28,13 @@ ghost use Rattle.qm_program.specs.declared.task.TheConstants.{USUAL_CAP};
 ghost use Rattle.qm_program.specs.declared.outcome.End.{End};
 
 use qm_chest::sites_begin_one_world;
-use qm_database::{held_files_load, one_content};
 use qm_disk::Disk;
 use qm_history::{
     QueueFile, acknowledged_records_stay, crashes_of_histories_are_of_turns,
     files_that_hold_a_log_begin_a_world, histories_are_events, programs_go_on_after_crashes,
     steps_come_in_stretches,
 };
+use qm_store::{held_files_load, one_content};
 use qm_symb::Symbiont;
 
 /// A crash at any moment of a run leaves what a crash before it might leave; or the files then hold a log that may be left at some

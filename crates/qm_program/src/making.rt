@@ -1,7 +1,7 @@
 // How a new site is made.
 ghost use Rattle.std.specs.Prelude.{◌≡◌, [], ℕ, List, IsTrue, All, IfOk};
-ghost use Rattle.qm_database.specs.Loading.{FailsBy};
-ghost use Rattle.qm_database.specs.Making.{IsQueueCap, KeepsFile};
+ghost use Rattle.qm_store.specs.Loading.{FailsBy};
+ghost use Rattle.qm_store.specs.Making.{IsQueueCap, KeepsFile};
 ghost use Rattle.qm_disk.specs.Disk.{CrashState, TellsFaults};
 ghost use Rattle.qm_disk.specs.Faults.{Tells};
 ghost use Rattle.qm_glog.specs.Records.{IsLog};
@@ -16,13 +16,13 @@ ghost use Rattle.qm_program.specs.Ends.{status_of};
 ghost use Rattle.qm_program.specs.Making.{BeginsNew, HasNewSite, HoldNewSite, Makes, made_disk, new_world};
 
 use crate::outcome::{End, Outcome};
-use qm_database::{WriteFault, at_rest_is_held, held_by_records};
 use qm_disk::{Disk, Sink, write_whole};
 use qm_glog::{MakeFault, one_list};
 use qm_history::{QueueFile, files_that_hold_a_log_begin_a_world};
 use qm_kinds::{Name, Node, Record};
 use qm_record::no_record_begins_another;
 use qm_restore::{new_rows, new_sites_are_consistent};
+use qm_store::{WriteFault, at_rest_is_held, held_by_records};
 use std::alloc::{AllocError, Global};
 
 // Nodes of these names, all down.
@@ -68,7 +68,7 @@ fn make_files<D: Disk>(
     let Ok(rows) = site_rows(alloc, names) else {
         return Err((disk, MakeFault::NoMemory));
     };
-    match qm_database::init(alloc, disk, &rows, cap) {
+    match qm_store::init(alloc, disk, &rows, cap) {
         Ok(database) => Ok(database.give_back()),
         Err((disk, WriteFault::Disk)) => Err((disk, MakeFault::Disk)),
         Err((disk, WriteFault::NoMemory)) => Err((disk, MakeFault::NoMemory)),

@@ -2,11 +2,11 @@
 ghost use Rattle.std.specs.Prelude.{◌≡◌, [], Some};
 ghost use Rattle.qm_program.specs.Ends.{status_of, end_text, end_of_opening, end_of_making};
 
-use qm_database::LoadFault;
 use qm_disk::Disk;
 use qm_glog::MakeFault;
 use qm_history::Turn;
 use qm_kinds::ScriptKind;
+use qm_store::LoadFault;
 use std::alloc::Global;
 use std::fmt;
 

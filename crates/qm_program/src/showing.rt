@@ -7,9 +7,9 @@ ghost use Rattle.qm_program.specs.Reading.{AreSite};
 ghost use Rattle.qm_program.specs.Showing.{Shows};
 
 use crate::outcome::{End, Outcome};
-use qm_database::{held_files_load, one_content};
 use qm_disk::{Disk, Sink, write_whole};
 use qm_listing::{Listed, list_queues};
+use qm_store::{held_files_load, one_content};
 use std::alloc::Global;
 
 /// Writes the listing of all queues and entries of the site of a disk: it is made whole before its first byte is written, so the

@@ -10,9 +10,9 @@ use Rattle.qm_chest.specs.Noting.{StandsSince, StartsEarly}
 use Rattle.qm_chest.specs.declared.checked.Checked.{Checked}
 use Rattle.qm_chest.specs.declared.chest.Chest.{Chest}
 use Rattle.qm_course.proofs.Seated.{distinct_places}
-use Rattle.qm_database.proofs.Contents.{held_bodies, one_content}
-use Rattle.qm_database.proofs.Faults.{held_is_open}
-use Rattle.qm_database.specs.Recorded.{Holds, Recorded}
+use Rattle.qm_store.proofs.Contents.{held_bodies, one_content}
+use Rattle.qm_store.proofs.Faults.{held_is_open}
+use Rattle.qm_store.specs.Recorded.{Holds, Recorded}
 use Rattle.qm_disk.specs.Disk.{CrashState, Meaning, OnlyLooks, TellsFaults}
 use Rattle.qm_glog.specs.Records.{IsLog}
 use Rattle.qm_glog.specs.declared.fault.OpenFault.{OpenFault}
@@ -25,7 +25,7 @@ use Rattle.qm_history.specs.declared.world.World.{World}
 use Rattle.qm_kinds.specs.declared.limits.TheConstants.{NODES_LIMIT}
 use Rattle.qm_kinds.specs.declared.system.Node.{Node}
 use Rattle.qm_kinds.specs.declared.system.System.{System}
-use Rattle.qm_master.proofs.Masters.{says_lawful}
+use Rattle.qm_store.proofs.Masters.{says_lawful}
 use Rattle.qm_model.specs.Consistent.{AreNodes, IsConsistent}
 use Rattle.qm_model.specs.Folding.{system_of}
 use Rattle.qm_record.specs.Spelling.{HasSpelling, record_text}

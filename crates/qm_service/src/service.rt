@@ -3,7 +3,7 @@ ghost use Rattle.std.specs.Prelude.{◌≡◌, ◌<◌, ◌^◌, IfErr, IfOk, Is
 ghost use Rattle.qm_acting.specs.Reading.{IsRestoreFault};
 ghost use Rattle.qm_chest.specs.Checking.{Begins, IsChecked, checked_disk, checked_standing};
 ghost use Rattle.qm_course.specs.Serving.{Serves};
-ghost use Rattle.qm_database.specs.Loading.{FailsBy};
+ghost use Rattle.qm_store.specs.Loading.{FailsBy};
 ghost use Rattle.qm_disk.specs.Disk.{OnlyLooks, TellsFaults};
 ghost use Rattle.qm_glog.specs.declared.fault.OpenFault.TheVariants as fault;
 ghost use Rattle.qm_service.specs.Opening.{IsOpened, disk_opened};
@@ -12,12 +12,12 @@ ghost use Rattle.qm_service.specs.Value.{meaning_of, service_disk, service_names
 use crate::fitting::look_at_call;
 use qm_chest::{Checked, Chest, check, chests_begin_without_notes, sites_begin_one_world};
 use qm_course::Serve;
-use qm_database::LoadFault;
 use qm_disk::Disk;
 use qm_history::{Answer, Call, Turn};
 use qm_kinds::{Moment, Name};
 use qm_node::duties_can_be_learned;
 use qm_restore::site_files_are_consistent;
+use qm_store::LoadFault;
 use std::alloc::Global;
 
 // No number of turns reaches the last epoch from a recorded one below this.

@@ -1,5 +1,5 @@
 use Rattle.std.proofs.Common.{sym, subst}
-use Rattle.qm_database.specs.Database.{disk_of as closed_disk, loaded_record}
+use Rattle.qm_store.specs.Database.{disk_of as closed_disk, loaded_record}
 use Rattle.qm_disk.specs.Disk.{OnlyLooks}
 use Rattle.qm_acting.proofs.Judging.{load_told, told_so}
 use Rattle.qm_acting.proofs.reading.restore.Goals as goal

@@ -1,6 +1,6 @@
 use Rattle.std.proofs.Common.{ap, refl, sym, subst, length, Some}
 use Rattle.qm_disk.specs.Disk.{CrashState, LeavesOnly}
-use Rattle.qm_database.specs.Recorded.{HoldsEither, with_body}
+use Rattle.qm_store.specs.Recorded.{HoldsEither, with_body}
 use Rattle.qm_history.specs.Accepted.{cluster}
 use Rattle.qm_history.specs.declared.call.Answer.TheVariants as answer
 use Rattle.qm_history.specs.declared.event.Event.TheVariants as event

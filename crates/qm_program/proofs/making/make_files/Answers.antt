@@ -1,6 +1,6 @@
 use Rattle.std.proofs.Common.{◌≡◌, ◌∙◌, subst}
-use Rattle.qm_database.specs.Making.{IsNotMade}
-use Rattle.qm_database.specs.declared.fault.WriteFault.{WriteFault}
+use Rattle.qm_store.specs.Making.{IsNotMade}
+use Rattle.qm_store.specs.declared.fault.WriteFault.{WriteFault}
 use Rattle.qm_history.specs.Site.{site_of}
 use Rattle.qm_model.specs.Consistent.{IsConsistent}
 use Rattle.qm_model.specs.Log.{image_of}

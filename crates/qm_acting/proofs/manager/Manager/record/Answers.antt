@@ -1,6 +1,6 @@
 use Rattle.std.proofs.Common.{length, ◌<◌, ◌∙◌, ◌≤◌, ℕ, List, refl, sym, ap, subst}
-use Rattle.qm_database.specs.Database.{open_disk, spare_of}
-use Rattle.qm_database.specs.Recorded.{Recorded, with_body}
+use Rattle.qm_store.specs.Database.{open_disk, spare_of}
+use Rattle.qm_store.specs.Recorded.{Recorded, with_body}
 use Rattle.qm_model.specs.Outcome.{Accepted}
 use Rattle.qm_restore.specs.QueueFile.{IsSiteFile}
 use Rattle.qm_state.specs.Image.{system_of}

@@ -1,8 +1,8 @@
 use Rattle.std.proofs.Common.{◌≡◌, ◌∙◌, ◌≤◌, ◌<◌, ◌^◌, length, sym, ap, subst}
-use Rattle.qm_database.specs.Database.{disk_of as closed_disk}
-use Rattle.qm_database.specs.Opening.{next_need}
-use Rattle.qm_database.specs.Recorded.{epoch_behind}
-use Rattle.qm_database.specs.declared.files.TheConstants.{MASTER_CAP}
+use Rattle.qm_store.specs.Database.{disk_of as closed_disk}
+use Rattle.qm_store.specs.Opening.{next_need}
+use Rattle.qm_store.specs.Recorded.{epoch_behind}
+use Rattle.qm_store.specs.declared.files.TheConstants.{MASTER_CAP}
 use Rattle.qm_disk.specs.Faults.{Tells}
 use Rattle.qm_state.specs.Preparing.{IsPrepared}
 use Rattle.qm_state.specs.declared.image.Image.{Image}

@@ -1,6 +1,6 @@
 use Rattle.std.proofs.Common.{◌≡◌, ◌∙◌, List, true, false, map, refl, sym, ap, subst}
 use Rattle.std.specs.Prelude.{slice_get, unwrap_or}
-use Rattle.qm_database.specs.Database.{disk_of as closed_disk}
+use Rattle.qm_store.specs.Database.{disk_of as closed_disk}
 use Rattle.qm_glog.specs.declared.fault.OpenFault.TheVariants.{Damaged}
 use Rattle.qm_kinds.specs.declared.system.Node.{Node}
 use Rattle.qm_model.specs.Folding.{system_of}

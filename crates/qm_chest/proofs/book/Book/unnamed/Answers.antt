@@ -1,8 +1,8 @@
 use Rattle.std.proofs.Common.{◌≡◌, ℕ, false, arith, ◌∙◌, refl, ap, subst, None, Some}
 use Rattle.std.specs.Prelude.{slice_get, unwrap_or}
-use Rattle.qm_database.specs.Database.{disk_of as closed_disk}
-use Rattle.qm_database.specs.Opening.{in_next_epoch}
-use Rattle.qm_database.specs.Recorded.{epoch_behind}
+use Rattle.qm_store.specs.Database.{disk_of as closed_disk}
+use Rattle.qm_store.specs.Opening.{in_next_epoch}
+use Rattle.qm_store.specs.Recorded.{epoch_behind}
 use Rattle.qm_history.specs.declared.call.Answer.TheVariants as answer
 use Rattle.qm_history.specs.declared.event.Event.TheVariants as event
 use Rattle.qm_history.specs.Takeover.{is_named, nodes_on}

@@ -1,7 +1,0 @@
-use Rattle.std.proofs.Common.{◌≡◌}
-use Rattle.qm_glog.specs.Log.{bodies_of}
-use Rattle.qm_master.specs.Judging.{place_of}
-use Rattle.qm_database.proofs.reading.place_in.Given as goal
-
-abbrev pub invariant-loop-before : goal.invariant-loop-before
-invariant-loop-before l = l.place ≡ place_of (bodies_of l.log) l.before

@@ -1,8 +1,0 @@
-use Rattle.std.proofs.Common.{take}
-use Rattle.qm_glog.specs.Log.{bodies_of}
-use Rattle.qm_master.specs.Judging.{IsMaster}
-use Rattle.qm_master.specs.Records.{state_of}
-use Rattle.qm_master.proofs.judging.judge_master.Given as goal
-
-abbrev pub invariant-loop-index : goal.invariant-loop-index
-invariant-loop-index l = IsMaster (take l.index (bodies_of l.log)) (state_of l.says)

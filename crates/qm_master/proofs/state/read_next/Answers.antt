@@ -1,6 +1,0 @@
-use Rattle.qm_master.specs.Records.{state_of}
-use Rattle.qm_master.proofs.Masters.{next_said}
-use Rattle.qm_master.proofs.state.read_next.Goals as goal
-
-pub returns-in-Some : goal.returns-in-Some
-returns-in-Some c = next_said (state_of c.args.says) c.args.body.now c.in-Some.said c.next_state.result c.requires c.in-Some.ensures.spelled c.in-Some.ensures.wide c.next_state.ensures

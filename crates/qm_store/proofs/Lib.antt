@@ -1,0 +1,11 @@
+pub mod MasterBytes
+pub mod MasterBodies
+pub mod Masters
+pub mod Places
+pub mod Moving
+pub mod Loading
+pub mod Faults
+pub mod Opening
+pub mod Appending
+pub mod Made
+pub mod Contents
