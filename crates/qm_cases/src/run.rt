@@ -1,10 +1,9 @@
 // Runs of the program over an outside in memory.
-use qm_batch::Standard;
 use qm_disk::{Clock, Disk, MemoryDisk, MemorySink, MemorySource};
 use qm_history::Turn;
 use qm_kinds::{Moment, NODES_LIMIT};
 use qm_program::{End, Outcome, Station, qman};
-use qm_symb::MemoryDevice;
+use qm_symb::{MemoryDevice, Standard};
 use std::alloc::{AllocError, Global};
 use std::marker::{Send, Sync};
 use std::sync::Wait;

@@ -2,3 +2,10 @@ pub mod Device
 pub mod Symbiont
 pub mod Held
 pub mod Faults
+pub mod TextParts
+pub mod PageLines
+pub mod PagePlaces
+pub mod BatchLines
+pub mod BatchCursors
+pub mod BatchMoves
+pub mod Standard

@@ -1,12 +1,16 @@
-//! What runs hand their blocks to, and what carries runs out: the traits `Device` and `Symbiont`. `MemoryDevice` keeps
-//! what it takes; `FileDevice` appends it to files, and tells nothing of them.
+//! What runs hand their blocks to, and what carries runs out: the traits `Device` and `Symbiont`. `MemoryDevice` keeps what it
+//! takes; `FileDevice` appends it to files, and tells nothing of them. `Standard` carries out jobs of both kinds on a device, by
+//! the steps of `print` and `batch`.
 #![tactic(auto)]
 
+pub mod batch;
 mod device;
 mod files;
 mod handed;
 mod laws;
 mod memory;
+pub mod print;
+mod standard;
 mod symbiont;
 #[cfg(test)]
 mod tests;
@@ -16,4 +20,5 @@ pub use files::FileDevice;
 pub use handed::HandOver;
 pub use laws::runs_have_limits;
 pub use memory::MemoryDevice;
+pub use standard::{Standard, StandardCursor};
 pub use symbiont::{Beginning, DEVICE_FAULT_STATUS, Symbiont, TEXT_BYTES};

@@ -4,11 +4,10 @@ ghost use Rattle.qm_symb.specs.Symbiont.{IsWithinLimits};
 
 use crate::moments::tell_moment;
 use crate::node::tell_two_runs;
-use qm_batch::Standard;
 use qm_kinds::{JobKind, Mark, Name, Report, Seq, Shape, Work, system_user};
 use qm_plans::{number_and_rest, numbers, push_bytes, push_line, push_times};
-use qm_print::page_blocks;
-use qm_symb::{HandOver, MemoryDevice, Symbiont, TEXT_BYTES};
+use qm_symb::print::page_blocks;
+use qm_symb::{HandOver, MemoryDevice, Standard, Symbiont, TEXT_BYTES};
 use std::alloc::{AllocError, Global};
 
 /// A job of entry 7, which runs as run 3 on the device LPA0, and the calls at which the device fails.

@@ -4,14 +4,13 @@ ghost use Rattle.qm_symb.specs.Symbiont.{IsWithinLimits};
 
 use crate::job::is_within_limits;
 use crate::node::work_of;
-use qm_batch::Standard;
 use qm_disk::Clock;
 use qm_history::{Answer, Call};
 use qm_kinds::{Duty, JobKind, Moment, Name, Seq, Work};
 use qm_node::{Asked, Next, NodeState};
 use qm_plans::push_line;
 use qm_scans::Scans;
-use qm_symb::{Device, DeviceFault, Symbiont};
+use qm_symb::{Device, DeviceFault, Standard, Symbiont};
 use std::alloc::{AllocError, Global};
 use std::cell::Cell;
 

@@ -3,11 +3,10 @@ ghost use Rattle.std.specs.Prelude.{◌≡◌, ◌<◌, IfSome, None};
 ghost use Rattle.qm_symb.specs.Symbiont.{IsWithinLimits};
 
 use crate::job::{Job, is_within_limits};
-use qm_batch::Standard;
 use qm_kinds::{Duty, JobKind, Report, Work};
 use qm_node::NodeRuns;
 use qm_plans::push_line;
-use qm_symb::{MemoryDevice, Symbiont};
+use qm_symb::{MemoryDevice, Standard, Symbiont};
 use std::alloc::{AllocError, Global};
 
 /// The work of a run of a job of this kind and text.

@@ -3,14 +3,13 @@
 use crate::expected::{lines_of_all, names_of, push_leave, push_lines, push_turns, whys, whys_of};
 use crate::nodes::{Doors, Meeting, MeetingDevice};
 use crate::recorder::Recorder;
-use qm_batch::Standard;
 use qm_course::Station;
 use qm_disk::{Clock, MemorySink};
 use qm_history::{Turn, Why};
 use qm_kinds::{Moment, NODES_LIMIT, Name, Seq};
 use qm_program::{DriveEnd, LeftText, MadeTurns, make_turns, print_all};
 use qm_script::UserLine;
-use qm_symb::{Device, MemoryDevice};
+use qm_symb::{Device, MemoryDevice, Standard};
 use std::alloc::Global;
 use std::marker::{Send, Sync};
 use std::sync::Wait;

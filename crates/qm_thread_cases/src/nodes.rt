@@ -2,13 +2,12 @@
 ghost use Rattle.std.specs.Prelude.{◌≡◌, [], IfOk};
 
 use crate::recorder::Recorder;
-use qm_batch::Standard;
 use qm_course::Station;
 use qm_disk::MemoryClock;
 use qm_kinds::{Moment, Name, system_user};
 use qm_program::{DriveEnd, Gate, Point, Shared, drive};
 use qm_script::UserLine;
-use qm_symb::{Device, DeviceFault, MemoryDevice};
+use qm_symb::{Device, DeviceFault, MemoryDevice, Standard};
 use qm_turn::{PassOf, Turnstile};
 use std::alloc::{AllocError, Global};
 use std::sync::Wait;

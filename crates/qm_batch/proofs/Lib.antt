@@ -1,4 +1,0 @@
-pub mod TextLemmas
-pub mod MoveLemmas
-pub mod CourseLemmas
-pub mod StandardLemmas

@@ -1,4 +1,0 @@
-pub mod Lines
-pub mod Cursors
-pub mod Moves
-pub mod Standard

@@ -1,7 +1,0 @@
-use Rattle.std.proofs.Common.{ap, ◌∙◌}
-use Rattle.qm_print.specs.Places.{blocks_from}
-use Rattle.qm_print.proofs.PlaceLemmas.{place, starts}
-use Rattle.qm_print.proofs.cursor.Cursor.start.Goals as goal
-
-pub returns : goal.returns
-returns c = ap (λ n. blocks_from c.args.work.now (place c.args.work.now.flag c.args.work.now.copies n)) c.len.ensures ∙ starts c.args.work.now

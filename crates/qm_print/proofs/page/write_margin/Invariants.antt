@@ -1,5 +1,0 @@
-use Rattle.std.proofs.Common.{◌≡◌, ◌++◌, replicate}
-use Rattle.qm_print.proofs.page.write_margin.Given as goal
-
-abbrev pub invariant-loop-row : goal.invariant-loop-row
-invariant-loop-row l = l.block.items ≡ l.initial.block.items ++ replicate l.row l.byte

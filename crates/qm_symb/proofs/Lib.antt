@@ -1,0 +1,11 @@
+pub mod PartLemmas
+pub mod PieceLemmas
+pub mod LineLemmas
+pub mod PageLemmas
+pub mod PlaceLemmas
+pub mod CountLemmas
+pub mod StepLemmas
+pub mod TextLemmas
+pub mod MoveLemmas
+pub mod CourseLemmas
+pub mod StandardLemmas
