@@ -51,7 +51,7 @@ fn path_of(folder: &String, device: &Name) -> Result<String, AllocError> {
 }
 
 // Writes the whole block. Calls that are interrupted are made again, and short ones are gone on with.
-pub(crate) fn append_whole<W: Write>(file: &mut W, block: &[u8]) -> io::Result<()> {
+fn append_whole<W: Write>(file: &mut W, block: &[u8]) -> io::Result<()> {
     file.write_all(block)
 }
 
@@ -97,7 +97,7 @@ fn open_plain<R: Files>(rt: &R, path: &str) -> io::Result<R::File> {
 }
 
 // Appends a block to the file of this path.
-pub(crate) fn append<R: Files>(rt: &R, path: &str, block: &[u8]) -> io::Result<()> {
+fn append<R: Files>(rt: &R, path: &str, block: &[u8]) -> io::Result<()> {
     let mut file = open_plain(rt, path)?;
     append_whole(&mut file, block)
 }

@@ -2,6 +2,7 @@
 use crate::job::name;
 use qm_plans::push_line;
 use qm_symb::{Device, FileDevice};
+use std::alloc::AllocError;
 use std::os::fd::AsRawFd;
 use std::os::unix::fs::symlink;
 use std::{fs, io};
@@ -92,8 +93,60 @@ fn tell_plain(rt: &HostRuntime, told: &mut Vec<u8>) -> io::Result<()> {
     tell_paper(rt, told)
 }
 
-/// Tells which devices take a block whose file is none, and what a plain file holds behind a link, to which one was appended.
+// Tells whether a block was taken.
+fn tell_whether(told: &mut Vec<u8>, is_taken: bool) -> Result<(), AllocError> {
+    push_line(told, if is_taken { "takes" } else { "fails" })
+}
+
+// Blocks that are handed to two devices, one behind another.
+const BLOCKS: [(&str, &str); 4] = [
+    ("LPA0", "one\n"),
+    ("LPB0", ""),
+    ("LPA0", "two\x0c"),
+    ("LPB0", "three"),
+];
+
+// Hands blocks to the devices of a new folder.
+fn hand_blocks(rt: &HostRuntime, told: &mut Vec<u8>) -> io::Result<()> {
+    new_folder(rt)?;
+    let mut devices = FileDevice::new(rt.clone()?, String::from_str(rt.alloc(), FOLDER)?);
+    for (device, block) in BLOCKS {
+        let is_taken = devices.hand(1, &name(device), block.as_bytes()).is_ok();
+        tell_whether(told, is_taken)?;
+    }
+    Ok(())
+}
+
+// Tells which blocks are taken, and what the files hold then, to one of which another value appended.
+fn tell_blocks(rt: &HostRuntime, told: &mut Vec<u8>) -> io::Result<()> {
+    hand_blocks(rt, told)?;
+    tell_taking(rt, told, "LPA0")?;
+    for path in [
+        "qm_symbiont_devices/LPA0.OUT",
+        "qm_symbiont_devices/LPB0.OUT",
+    ] {
+        let text = fs::read_to_string(rt, path)?;
+        push_line(told, text.as_str())?;
+    }
+    Ok(())
+}
+
+// Tells whether blocks are taken where the folder isn't there; a fault leaves the next call open.
+fn tell_nowhere(rt: &HostRuntime, told: &mut Vec<u8>) -> io::Result<()> {
+    let folder = String::from_str(rt.alloc(), "qm_symbiont_devices/none")?;
+    let mut devices = FileDevice::new(rt.clone()?, folder);
+    for _ in 0..2 {
+        let is_taken = devices.hand(1, &name("LPA0"), b"page").is_ok();
+        tell_whether(told, is_taken)?;
+    }
+    Ok(())
+}
+
+/// Tells which devices take a block whose file is none, and what a plain file holds behind a link, to which one was appended;
+/// which blocks are taken by devices of a folder, and what their files hold then.
 pub(crate) fn tell_devices(rt: &HostRuntime, told: &mut Vec<u8>) -> io::Result<()> {
     tell_others(rt, told)?;
-    tell_plain(rt, told)
+    tell_plain(rt, told)?;
+    tell_blocks(rt, told)?;
+    tell_nowhere(rt, told)
 }
