@@ -1,10 +1,11 @@
 //! Cases of the readers and writers of text and bytes, as plans: commands and the records that they ask for, or what is wrong
-//! with them and where; calls by item lists, and the items of rows; fields and records, read and written again; tokens; moments as
-//! texts; what is printed of rows and answers.
+//! with them and where; calls by item lists, and the items of rows; fields and records, read and written again; tokens; which
+//! command a text is; moments as texts; what is printed of rows and answers.
 #![tactic(auto)]
 
 mod commands;
 mod fields;
+mod grammar;
 mod items;
 mod lines;
 mod records;
@@ -15,6 +16,7 @@ mod tokens;
 
 use commands::{tell_asked, tell_time_asked};
 use fields::{tell_copied, tell_name_at, tell_number_at, tell_stop};
+use grammar::tell_parsed;
 use items::tell_called;
 use qm_plans::{Desk, follow, number_and_rest, push_bytes, push_line};
 use records::tell_record;
@@ -99,6 +101,7 @@ impl Taken {
             "ask" => tell_asked(alloc, told, bytes),
             "spell" => tell_spelling(alloc, told, bytes),
             "when" => tell_time_asked(alloc, told, text),
+            "command" | "named" | "parts" => tell_parsed(alloc, told, verb, bytes),
             "tokens" => tell_tokens(alloc, told, bytes),
             "time" => tell_time(alloc, told, bytes),
             "day" => tell_day(alloc, told, number_and_rest(text).0 as u64),

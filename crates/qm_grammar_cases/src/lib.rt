@@ -1,5 +1,0 @@
-//! Worked cases of the grammar of commands.
-#![tactic(auto)]
-
-#[cfg(test)]
-mod commands;
