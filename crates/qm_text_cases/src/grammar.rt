@@ -1,5 +1,6 @@
 // Texts, and which command each is.
-use qm_grammar::{Fault, Parsed, parse};
+use qm_commands::Fault;
+use qm_grammar::{Parsed, parse};
 use qm_plans::push_line;
 use std::alloc::{AllocError, Global};
 
