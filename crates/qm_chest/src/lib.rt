@@ -5,6 +5,8 @@
 //!
 //! Where requests and events aren't handed on they are let go by a call of `drop`: at the end of a function the check would spell
 //! each drop of an enum out, field by field.
+//!
+//! Over a disk that doesn't tell its contents it isn't said which epoch a takeover begins.
 #![tactic(auto)]
 
 mod answering;

@@ -1,6 +1,8 @@
 //! A node's turns on one value, one behind another, and those of several nodes on one thread: what comes next is asked for, the
 //! value serves it, its answer is printed, and the node takes it in. Nothing here knows what the value is: `Serve` says what its
 //! one call does.
+//!
+//! What a value that serves does to disks is for the value to say.
 #![tactic(auto)]
 
 mod asking;

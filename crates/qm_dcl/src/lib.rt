@@ -1,6 +1,9 @@
 //! The reader of the commands that users type. `read_command` gives what a text asks for, and else the first fault, exactly as
 //! `command_of` in `specs/` says: the grammar tells which command the text is and which parts it has, and here is said what
 //! the values of these mean. It takes time in the length of the text, and memory for its tokens and parts, and for lists.
+//!
+//! Only a text that is a command by the grammar asks for something, and no fault is told behind the grammar's first: these are
+//! laws. That commands mean what those of OpenVMS do isn't said.
 #![tactic(auto)]
 
 mod command;

@@ -1,5 +1,7 @@
 //! Turns of the queue manager, the worlds between them and whole histories: types, definitions that the crates above
 //! cite, and laws about them. It has no program: its functions are laws.
+//!
+//! That the blocks of a job, over several stretches and nodes, are all its pages is a definition alone (`EachCame`).
 #![tactic(auto)]
 
 mod again;

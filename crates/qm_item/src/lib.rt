@@ -1,5 +1,7 @@
 //! Item lists: what a program asks for and is told, as codes with values, one behind another. A list of items has one spelling,
 //! which is written and reads back; what is no list is told by its first fault and the place of it.
+//!
+//! Of want of memory nothing is said.
 #![tactic(auto)]
 
 mod fault;

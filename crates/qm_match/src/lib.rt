@@ -1,4 +1,6 @@
 //! Which jobs a queue can start, by tests of single rows, and which of two it starts first: `before`. None takes memory.
+//!
+//! That none takes memory is the form of the code.
 #![tactic(auto)]
 
 mod conditions;

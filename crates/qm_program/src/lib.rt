@@ -6,6 +6,8 @@
 //! all, in which each node's turns are its course, and what it printed is their text. For a node's turns, and for those of all, the
 //! queue manager is whatever keeps the contract of `Serve`. In the program it is a site at work, in a wrapper whose type names the
 //! device with which it began, so that it can say what it stands for between two turns.
+//!
+//! That nodes work at once, that a thread gets its turn, and so that a cluster returns, isn't said.
 #![tactic(auto)]
 
 mod begins;

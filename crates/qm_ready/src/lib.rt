@@ -1,5 +1,7 @@
 //! The jobs that a queue can take, in the order in which it starts them: `ReadyRow` keeps their keys, and tells the first by
 //! one look.
+//!
+//! That nothing but `reserve` takes memory is the form of the code; that `first` takes one look is a clause.
 #![tactic(auto)]
 
 mod gathering;

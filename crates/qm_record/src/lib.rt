@@ -1,4 +1,6 @@
 //! The records of a queue file as bytes: each record has one spelling, which is written, and nothing else is read.
+//!
+//! That a record is made at its place and moved once is the form of the code.
 #![tactic(auto)]
 
 mod definition_request;

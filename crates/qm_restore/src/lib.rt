@@ -1,5 +1,7 @@
 //! The way from the bodies of a queue file's records to the image of the queue system that they stand for: the rows of a new
 //! site, and requests that were accepted one after the other; or the first record that can't stand there, and why.
+//!
+//! Rows of other systems than those of new sites are told as damage.
 #![tactic(auto)]
 
 mod bodies;

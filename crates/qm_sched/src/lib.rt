@@ -1,6 +1,9 @@
 //! The tables that belong together. `TableSet` keeps nodes, forms, characteristics, queues, entries, runs and timers, and sees
 //! to it that the runs are just those of the entries. `Parts` keeps beside them, for each queue, the row of the jobs that it can
 //! start as soon as it has a place. `settle` starts the jobs that can start.
+//!
+//! `settle` makes no more looks at rows than starts and execution queues together: a clause. Which rows a change builds anew is
+//! the form of the code.
 #![tactic(auto)]
 
 mod changes;

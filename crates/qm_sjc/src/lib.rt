@@ -2,6 +2,8 @@
 //! with the defaults of commands, and else the first fault, exactly as `call_of` in `specs/Calls.antt` says; `read_item_list` the same
 //! of the bytes of a list, as `items_mean` of `specs/Meant.antt`; `row_line` the line of a row's items, as `items_line` of
 //! `specs/Printed.antt`.
+//!
+//! That functions and items mean what those of OpenVMS do isn't said.
 #![tactic(auto)]
 
 mod call;

@@ -1,5 +1,8 @@
 //! The writer of commands, beside their reader `qm_dcl`. `print_command` gives the one full spelling of an input, exactly as
 //! `spelling_of` in `specs/Commands.antt` says, or tells that no command asks for it.
+//!
+//! Laws say that each full spelling reads back, and that no text asks for an input that has none. Nothing of the program
+//! stands on this crate.
 #![tactic(auto)]
 
 mod command;

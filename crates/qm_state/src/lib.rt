@@ -1,5 +1,8 @@
 //! The image of a queue system in memory: what the model says of a system, with each request served in two steps.
 //! `prepare` decides and takes all memory and changes no row; `commit` changes the rows and takes no memory.
+//!
+//! That `commit` takes no memory is the form of the code: `IsPrepared` says that all room which it needs is
+//! there.
 #![tactic(auto)]
 
 mod append;

@@ -2,6 +2,7 @@
 //! of records, places and epochs, and never of gates or torn writes: what the files hold is `Holds` and `IsAtRest` of
 //! `specs/Recorded.antt`. A closed database is loaded, which only looks, and opened under a new epoch; an append under another
 //! epoch changes nothing.
+//! What `init` leaves where memory runs out or a crash comes before its end isn't said, but of the second queue file.
 #![tactic(auto)]
 
 mod closed;

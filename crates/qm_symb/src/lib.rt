@@ -1,6 +1,8 @@
 //! What runs hand their blocks to, and what carries runs out: the traits `Device` and `Symbiont`. `MemoryDevice` keeps what it
 //! takes; `FileDevice` appends it to files, and tells nothing of them. `Standard` carries out jobs of both kinds on a device, by
 //! the steps of `print` and `batch`.
+//!
+//! Into which file a block went isn't said.
 #![tactic(auto)]
 
 pub mod batch;

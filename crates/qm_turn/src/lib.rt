@@ -1,5 +1,7 @@
 //! A turnstile over one value: each call of `turn` works once on the value, the turns of all threads have one
 //! order, and each pass knows which of them it has seen. Nothing here knows what the value is.
+//!
+//! That a thread gets its turn, or when, isn't said.
 #![tactic(auto)]
 
 mod pass;

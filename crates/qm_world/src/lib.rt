@@ -1,6 +1,8 @@
 //! `walk`: the world behind a list of events, or the first one of them that the rules of histories don't allow. It makes each
 //! change anew, by an image of the queue system. Beside it: the world with which a program begins on a queue file, and what a queue
 //! file has of a world.
+//!
+//! Nothing of the program stands on this crate.
 #![tactic(auto)]
 
 mod beginning;
