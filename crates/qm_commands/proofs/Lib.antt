@@ -1,3 +1,3 @@
-pub mod Spelling
+pub mod SpellingLemmas
 pub mod RuleLemmas
 pub mod NameLemmas

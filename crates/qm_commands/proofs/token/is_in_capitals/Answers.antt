@@ -2,7 +2,7 @@ use Rattle.std.proofs.Common.{◌==◌, ◌∙◌, rules, tests}
 use Rattle.std.specs.Char.{to_ascii_uppercase}
 use Rattle.std.proofs.lemmas.Iterator.{YieldsList-from_slice, YieldsList-from_zip}
 use Rattle.std.proofs.lemmas.Iterator.Search.{all_from_yields_List}
-use Rattle.qm_commands.proofs.Spelling.{same_bytes}
+use Rattle.qm_commands.proofs.SpellingLemmas.{same_bytes}
 use Rattle.qm_commands.proofs.token.is_in_capitals.Goals as goal
 
 pub returns-then-word-spelling : goal.returns-then-word-spelling
