@@ -5,8 +5,7 @@ ghost use Rattle.qm_model.specs.Reports.{begin};
 ghost use Rattle.qm_symb.specs.Symbiont.{IsWithinLimits};
 ghost use Rattle.qm_symb.specs.Standard.{StandsAt};
 
-use crate::batch::cursor::{Cursor, batch_begin};
-use crate::batch::step::batch_step;
+use crate::batch::{Cursor, batch_begin, batch_step};
 use crate::print::{cursor_behind, print_begin, print_step};
 use crate::{Beginning, Device, Symbiont};
 use qm_kinds::{JobKind, Place, Report, Work};
