@@ -16,8 +16,8 @@ use Rattle.qm_store.specs.Recorded.{Recorded, Holds, IsAtRest}
 use Rattle.qm_store.proofs.Contents.{held_records}
 use Rattle.qm_store.proofs.Moving.{left_at_rest}
 use Rattle.qm_restore.specs.QueueFile.{IsSiteFile}
-use Rattle.qm_chest.specs.Files.{files_disk, AreSound}
-use Rattle.qm_chest.specs.declared.files.Files.{Files}
+use Rattle.qm_acting.specs.Files.{files_disk, AreSound}
+use Rattle.qm_acting.specs.declared.files.Files.{Files}
 use Rattle.qm_history.specs.Start.{Starts, first_world}
 use Rattle.qm_history.specs.World.{IsSound, system_in}
 use Rattle.qm_history.specs.declared.world.World.{World}

@@ -10,8 +10,8 @@ use Rattle.qm_store.specs.declared.closed.Closed.{Closed}
 use Rattle.qm_acting.specs.Spare.{KeepsSpare}
 use Rattle.qm_acting.proofs.Spare.{keeps_on, keeps_same}
 use Rattle.qm_acting.specs.Standing.{standing_of, disk_of}
-use Rattle.qm_chest.specs.Files.{files_disk}
-use Rattle.qm_chest.specs.declared.files.Files.{Files}
+use Rattle.qm_acting.specs.Files.{files_disk}
+use Rattle.qm_acting.specs.declared.files.Files.{Files}
 use Rattle.qm_acting.specs.declared.manager.Manager.{Manager}
 use Rattle.qm_history.specs.declared.call.Answer.TheVariants as answer
 use Rattle.qm_history.specs.declared.call.Call.{Call}

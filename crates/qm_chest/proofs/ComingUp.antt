@@ -24,7 +24,7 @@ use Rattle.qm_history.specs.Step.{after_event}
 use Rattle.qm_history.specs.Takeover.{takes_over}
 use Rattle.qm_history.specs.Turn.{IsAsked, IsOwn, IsServed, IsStarted, Nothing, is_down, start_refusal}
 use Rattle.qm_history.specs.World.{is_live, system_in}
-use Rattle.qm_chest.specs.declared.answering.Came.{Came}
+use Rattle.qm_chest.specs.declared.asking.Came.{Came}
 use Rattle.qm_chest.specs.declared.book.Book.{Book}
 use Rattle.qm_chest.specs.declared.desk.Desk.TheVariants.{Up}
 use Rattle.qm_chest.specs.At.{IsStateAt}

@@ -19,7 +19,7 @@ use Rattle.qm_store.specs.declared.files.TheConstants.{MASTER_CAP}
 use Rattle.qm_acting.specs.Asking.{Lacks as LacksThere}
 use Rattle.qm_acting.specs.Standing.{Standing}
 use Rattle.qm_acting.specs.Taking.{HoldsEpoch, in_next}
-use Rattle.qm_chest.specs.declared.files.Files.TheVariants as site_files
+use Rattle.qm_acting.specs.declared.files.Files.TheVariants as site_files
 use Rattle.qm_history.specs.declared.call.Answer.TheVariants as answer
 use Rattle.qm_history.specs.declared.call.Call.{Call}
 use Rattle.qm_history.specs.declared.call.Takeover.{Takeover}

@@ -30,7 +30,7 @@ use Rattle.qm_history.specs.Room.{is_compacted_next}
 use Rattle.qm_history.specs.Step.{after_event}
 use Rattle.qm_history.specs.Turn.{ATakeover, IsOwn, IsStarted, start_refusal}
 use Rattle.qm_history.specs.World.{is_live, system_in}
-use Rattle.qm_chest.specs.declared.answering.Came.{Came}
+use Rattle.qm_chest.specs.declared.asking.Came.{Came}
 use Rattle.qm_chest.specs.declared.book.Book.{Book}
 use Rattle.qm_chest.specs.declared.desk.Desk.{Desk}
 use Rattle.qm_chest.specs.declared.desk.Desk.TheVariants.{Up}

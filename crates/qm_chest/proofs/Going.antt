@@ -12,8 +12,8 @@ use Rattle.qm_model.specs.Standing.{node_at}
 use Rattle.qm_store.specs.Recorded.{Recorded}
 use Rattle.qm_store.proofs.Moving.{left_at_rest}
 use Rattle.qm_acting.specs.Standing.{standing_of, disk_of}
-use Rattle.qm_chest.specs.Files.{files_disk}
-use Rattle.qm_chest.specs.declared.files.Files.{Files}
+use Rattle.qm_acting.specs.Files.{files_disk}
+use Rattle.qm_acting.specs.declared.files.Files.{Files}
 use Rattle.qm_acting.specs.declared.manager.Manager.{Manager}
 use Rattle.qm_history.specs.declared.call.Answer.TheVariants as answer
 use Rattle.qm_history.specs.declared.call.Call.{Call}

@@ -20,7 +20,7 @@ use Rattle.qm_history.specs.Faults.{is_journal}
 use Rattle.qm_history.specs.Step.{CanCome, after_event}
 use Rattle.qm_history.specs.World.{system_in}
 use Rattle.qm_history.proofs.LogLemmas.{next_cluster, one_more}
-use Rattle.qm_chest.specs.declared.answering.Came.{Came}
+use Rattle.qm_chest.specs.declared.asking.Came.{Came}
 use Rattle.qm_chest.specs.declared.book.Book.{Book}
 use Rattle.qm_chest.specs.declared.desk.Desk.{Desk}
 use Rattle.qm_chest.specs.declared.desk.Desk.TheVariants.{Up, Down}

@@ -32,4 +32,4 @@ pub mod Unread
 pub mod Begun
 pub mod Parted
 pub mod Served
-pub mod Few
+pub mod InPlace

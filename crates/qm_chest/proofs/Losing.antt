@@ -28,7 +28,7 @@ use Rattle.qm_history.specs.Takeover.{takes_over}
 use Rattle.qm_history.specs.Turn.{IsDecided, IsGoing, IsLost, IsOwn, IsServed, IsStopped, Nothing, has_other_manager, is_down, loss_of}
 use Rattle.qm_history.specs.Turn.{IsLeft as IsLeftBy}
 use Rattle.qm_history.specs.World.{is_live, system_in}
-use Rattle.qm_chest.specs.declared.answering.Came.{Came}
+use Rattle.qm_chest.specs.declared.asking.Came.{Came}
 use Rattle.qm_chest.specs.declared.book.Book.{Book}
 use Rattle.qm_chest.specs.declared.desk.Desk.TheVariants.{Up}
 use Rattle.qm_chest.specs.At.{IsStateAt}

@@ -31,7 +31,7 @@ use Rattle.qm_history.specs.Room.{Room, HasRoom, room_after}
 use Rattle.qm_history.specs.Step.{CanCome}
 use Rattle.qm_history.specs.Turn.{Beside, FencedOr, IsAsked, IsViewed, fence, fence_of}
 use Rattle.qm_history.specs.World.{held_by, role_in, system_in}
-use Rattle.qm_chest.specs.declared.answering.Came.{Came}
+use Rattle.qm_chest.specs.declared.asking.Came.{Came}
 use Rattle.qm_chest.specs.declared.desk.Desk.TheVariants.{Up}
 use Rattle.qm_chest.specs.Desk.{IsUp}
 use Rattle.qm_chest.specs.Parts.{Part}

@@ -20,7 +20,7 @@ use Rattle.qm_history.specs.Answers.{plain}
 use Rattle.qm_history.specs.Faults.{is_journal, tells_disk_fault}
 use Rattle.qm_history.specs.Step.{after_event}
 use Rattle.qm_history.specs.Turn.{ATakeover}
-use Rattle.qm_chest.specs.declared.answering.Came.{Came}
+use Rattle.qm_chest.specs.declared.asking.Came.{Came}
 use Rattle.qm_chest.specs.declared.book.Book.{Book}
 use Rattle.qm_chest.specs.declared.desk.Desk.TheVariants.{Up}
 use Rattle.qm_chest.specs.declared.serving.Served.{Served}

@@ -10,7 +10,7 @@ use Rattle.qm_history.specs.declared.call.Takeover.{Takeover}
 use Rattle.qm_history.specs.declared.event.Event.TheVariants as event
 use Rattle.qm_history.specs.declared.world.World.{World}
 use Rattle.qm_history.specs.Step.{unless_of, without}
-use Rattle.qm_chest.specs.declared.answering.Came.{Came}
+use Rattle.qm_chest.specs.declared.asking.Came.{Came}
 use Rattle.qm_chest.specs.declared.desk.Desk.{Desk}
 use Rattle.qm_chest.specs.declared.desk.Desk.TheVariants.{Up, Down}
 use Rattle.qm_chest.specs.declared.place.Place.{Place}

@@ -15,7 +15,7 @@ use Rattle.qm_store.specs.declared.closed.Closed.{Closed}
 use Rattle.qm_store.proofs.Contents.{one_content}
 use Rattle.qm_store.proofs.Moving.{live_within}
 use Rattle.qm_acting.specs.Spare.{KeepsSpare}
-use Rattle.qm_chest.specs.declared.files.Files.TheVariants as site_files
+use Rattle.qm_acting.specs.declared.files.Files.TheVariants as site_files
 use Rattle.qm_history.specs.declared.call.Answer.TheVariants as answer
 use Rattle.qm_history.specs.declared.call.Call.{Call}
 use Rattle.qm_history.specs.declared.event.Event.{Event}

@@ -9,9 +9,9 @@ use Rattle.qm_kinds.specs.declared.refusal.Refusal.{Refusal}
 use Rattle.qm_kinds.specs.declared.refusal.Refusal.TheVariants as refused
 use Rattle.qm_kinds.specs.declared.refusal.ParseKind.{ParseKind}
 use Rattle.qm_acting.specs.Standing.{disk_of}
-use Rattle.qm_chest.specs.Files.{files_disk, AreSound}
+use Rattle.qm_acting.specs.Files.{files_disk, AreSound}
 use Rattle.qm_acting.proofs.Spare.{keeps_at, keeps_same}
-use Rattle.qm_chest.specs.declared.files.Files.{Files}
+use Rattle.qm_acting.specs.declared.files.Files.{Files}
 use Rattle.qm_acting.specs.declared.manager.Manager.{Manager}
 use Rattle.qm_history.specs.declared.call.Answer.TheVariants as answer
 use Rattle.qm_history.specs.declared.call.Call.{Call}
@@ -24,7 +24,7 @@ use Rattle.qm_history.specs.Calls.{input_of, is_start, IsFromOutside}
 use Rattle.qm_history.specs.Takeover.{takes_over}
 use Rattle.qm_history.specs.Turn.{IsOwn, Nothing, is_down}
 use Rattle.qm_history.specs.World.{is_live, system_in}
-use Rattle.qm_chest.specs.declared.answering.Came.{Came}
+use Rattle.qm_chest.specs.declared.asking.Came.{Came}
 use Rattle.qm_chest.specs.declared.book.Book.{Book}
 use Rattle.qm_chest.specs.declared.desk.Desk.{Desk}
 use Rattle.qm_chest.specs.declared.desk.Desk.TheVariants.{Up, Down}

@@ -36,7 +36,7 @@ use Rattle.qm_chest.specs.declared.desk.Desk.TheVariants.{Up, Down}
 use Rattle.qm_chest.specs.declared.chest.State.{State}
 use Rattle.qm_chest.specs.At.{IsStateAt, state_disk}
 use Rattle.qm_store.specs.declared.master.state.TheConstants.{GREATEST_QUEUE_CAP}
-use Rattle.qm_chest.specs.declared.answering.Came.{Came}
+use Rattle.qm_chest.specs.declared.asking.Came.{Came}
 use Rattle.qm_chest.specs.declared.book.Book.{Book}
 use Rattle.qm_chest.specs.Books.{IsBookOf}
 use Rattle.qm_chest.specs.Steps.{IsShort, IsStep, is_plain, is_step}

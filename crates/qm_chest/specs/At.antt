@@ -14,7 +14,7 @@ use Rattle.qm_model.specs.Applied.{applied}
 use Rattle.qm_model.specs.Lawful.{IsLawful}
 use Rattle.qm_model.specs.Log.{request_record}
 use Rattle.qm_record.specs.Spelling.{HasSpelling, record_text}
-use Rattle.qm_chest.specs.Files.{AreSound}
+use Rattle.qm_acting.specs.Files.{AreSound}
 use Rattle.qm_acting.specs.Standing.{standing_of, IsReady}
 use Rattle.qm_history.specs.declared.call.Answer.{Answer}
 use Rattle.qm_history.specs.declared.call.Call.{Call}

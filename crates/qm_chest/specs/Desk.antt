@@ -3,9 +3,9 @@ use Rattle.std.specs.Prelude.{◌≡◌, ℕ, Bool, true, false, not, Option, No
 use Rattle.qm_disk.specs.Disk.{Meaning}
 use Rattle.qm_kinds.specs.declared.input.Input.{Input}
 use Rattle.qm_kinds.specs.declared.input.Input.TheVariants as input
-use Rattle.qm_chest.specs.Files.{files_disk, AreSound}
+use Rattle.qm_acting.specs.Files.{files_disk, AreSound}
 use Rattle.qm_acting.specs.Standing.{standing_of, disk_of, IsReady}
-use Rattle.qm_chest.specs.declared.files.Files.{Files}
+use Rattle.qm_acting.specs.declared.files.Files.{Files}
 use Rattle.qm_acting.specs.declared.manager.Manager.{Manager}
 use Rattle.qm_store.specs.Recorded.{IsAtRest}
 use Rattle.qm_history.specs.declared.world.World.{World}

@@ -1,5 +1,3 @@
-pub mod Boxed
-pub mod Files
 pub mod Holding
 pub mod Parts
 pub mod Turns

@@ -1,5 +1,5 @@
 -- What a call wants of the chest, and what it comes to.
-use Rattle.std.specs.Prelude.{ℕ, ◌^◌, ◌<◌, Bool, if◌then◌else◌, IsTrue, List, [], ◌∷◌, length, Option, None, Some}
+use Rattle.std.specs.Prelude.{ℕ, ◌^◌, ◌<◌, Bool, false, ◌&&◌, if◌then◌else◌, IsTrue, List, [], ◌∷◌, length, slice_get, unwrap_or, Option, None, Some}
 use Rattle.qm_disk.specs.Disk.{Meaning}
 use Rattle.qm_history.specs.declared.call.Call.{Call}
 use Rattle.qm_history.specs.declared.event.Event.{Event}
@@ -34,9 +34,13 @@ turn_made maker (e ∷ events) = Some (turn_of maker (e ∷ events))
 abbrev pub served_of : {D : Type 0} → State D → Outcome → Served D
 served_of state outcome = record { desk = state.desk; first = outcome.first; second = outcome.second; answer = outcome.answer }
 
--- how many events it can have at most: one where it is a step of the manager that is up
+-- the call is a step of the manager that is up, of a node that is live
+abbrev pub is_step_alone : {D : Type 0} → Wanted → State D → Bool
+is_step_alone wanted state = unwrap_or (slice_get state.book.live.items wanted.maker.node) false && makes_step state.desk wanted.input
+
+-- how many events it can have at most
 abbrev pub most_events : {D : Type 0} → Wanted → State D → ℕ
-most_events wanted state = if makes_step state.desk wanted.input then 1 else 2
+most_events wanted state = if is_step_alone wanted state then 1 else 2
 
 -- the call can be served: what the chest works with fits together, and stands for some world of early epochs where the disks tell
 pub record CanServe {D : Type 0} (m : Meaning D) (wanted : Wanted) (state : State D) : Type 0 where

@@ -16,7 +16,7 @@ use Rattle.qm_model.specs.Rows.{ManagerRole, view}
 use Rattle.qm_store.specs.Database.{disk_of as closed_disk}
 use Rattle.qm_store.specs.declared.closed.Closed.{Closed}
 use Rattle.qm_acting.specs.Standing.{standing_of, disk_of}
-use Rattle.qm_chest.specs.declared.files.Files.TheVariants as site_files
+use Rattle.qm_acting.specs.declared.files.Files.TheVariants as site_files
 use Rattle.qm_acting.specs.declared.manager.Manager.{Manager}
 use Rattle.qm_history.specs.declared.call.Answer.{Answer}
 use Rattle.qm_history.specs.declared.call.Answer.TheVariants as answer
@@ -37,7 +37,8 @@ use Rattle.qm_chest.specs.Desk.{desk_disk, IsDeskAt, IsUp}
 use Rattle.qm_chest.specs.Duties.{ShowsDuties}
 use Rattle.qm_chest.specs.Parts.{Part}
 use Rattle.qm_chest.specs.Books.{IsBookOf}
-use Rattle.qm_chest.specs.declared.answering.Came.{Came}
+use Rattle.qm_chest.specs.declared.answering.Step.{Step}
+use Rattle.qm_chest.specs.declared.asking.Came.{Came}
 use Rattle.qm_chest.specs.declared.book.Book.{Book}
 use Rattle.qm_chest.specs.declared.desk.Desk.{Desk}
 use Rattle.qm_chest.specs.declared.desk.Desk.TheVariants.{Up, Down}
@@ -156,7 +157,16 @@ IsOwnStep input.StartNode = ⊥
 IsOwnStep input.StopNode = ⊥
 IsOwnStep (input.Fault place kind) = ⊥
 
--- ---- a manager whose record is in doubt
+-- ---- a manager that makes its steps where it is
+
+-- the record that a step wrote is in doubt
+abbrev pub is_in_doubt : Option Event → Bool
+is_in_doubt (Some (event.Doubt node moment asked)) = true
+is_in_doubt _ = false
+
+-- what a step came to, with what the chest then works with
+abbrev pub came_of : {D : Type 0} → Step → Desk D → Came D
+came_of step desk = record { desk = desk; event = step.event; answer = step.answer }
 
 -- where the record in doubt would stand
 abbrev pub place_behind : {D : Type 0} → Manager D → Place
@@ -167,6 +177,31 @@ pub record HasLetGo {D : Type 0} (manager : Manager D) (desk : Desk D) : Type 0 
   pub closed : Closed D
   pub disk : closed_disk closed ≡ disk_of manager
   pub is : desk ≡ Down (site_files.Closed closed) (Some (place_behind manager))
+
+-- what the chest works with behind a step: the manager, unless its record is in doubt
+abbrev pub IsBehind : {D : Type 0} → Manager D → ℕ → Bool → Desk D → Type 0
+IsBehind manager at true desk = HasLetGo manager desk
+IsBehind manager at false desk = desk ≡ Up manager at
+
+-- the same of a desk on which a manager was up
+abbrev pub IsBehindDesk : {D : Type 0} → Desk D → Bool → Desk D → Type 0
+IsBehindDesk (Up manager at) doubt desk = IsBehind manager at doubt desk
+IsBehindDesk (Down files place) doubt desk = Unit {0}
+
+-- this holds of what the chest works with behind a step
+abbrev pub Behind : {D : Type 0} → (Desk D → Type 0) → Manager D → ℕ → Bool → Type 0
+Behind P manager at true = (closed : Closed _) → closed_disk closed ≡ disk_of manager → P (Down (site_files.Closed closed) (Some (place_behind manager)))
+Behind P manager at false = P (Up manager at)
+
+-- a manager is up
+abbrev pub HasManager : {D : Type 0} → Desk D → Type 0
+HasManager (Up manager at) = Unit {0}
+HasManager (Down files place) = ⊥
+
+-- what a step of the manager that is up comes to, as a call alone
+abbrev pub DeskComes : {D : Type 0} → Meaning D → Book → Desk D → ℕ → ℕ → Input → Came D → Type 0
+DeskComes m book (Up manager at) node now asked came = OwnComes m book manager at node now now asked Nothing None came
+DeskComes m book (Down files place) node now asked came = ⊥
 
 -- ---- what a manager tells
 

@@ -21,7 +21,7 @@ use Rattle.qm_glog.specs.declared.fault.OpenFault.TheVariants as opening
 use Rattle.qm_acting.specs.Reading.{IsTold}
 use Rattle.qm_acting.specs.Spare.{KeepsSpare}
 use Rattle.qm_acting.specs.Standing.{Standing, disk_of, restored_standing, restored_disk, IsRestored}
-use Rattle.qm_chest.specs.declared.files.Files.TheVariants as site_files
+use Rattle.qm_acting.specs.declared.files.Files.TheVariants as site_files
 use Rattle.qm_acting.specs.declared.restored.Restored.{Restored}
 use Rattle.qm_history.specs.declared.call.Answer.{Answer}
 use Rattle.qm_history.specs.declared.call.Answer.TheVariants as answer

@@ -1,5 +1,5 @@
 // A request that is asked of the manager at work, and what comes of it.
-ghost use Rattle.std.specs.Prelude.{◌≡◌, IsTrue, true};
+ghost use Rattle.std.specs.Prelude.{◌≡◌, IsTrue, true, Some, None};
 ghost use Rattle.qm_disk.specs.Disk.{TellsFaults};
 ghost use Rattle.qm_model.specs.Acting.{acting};
 ghost use Rattle.qm_history.specs.Faults.{is_journal};
@@ -9,23 +9,136 @@ ghost use Rattle.qm_acting.specs.Spare.{KeepsSpare};
 ghost use Rattle.qm_acting.specs.Standing.{standing_of, disk_of, IsReady};
 ghost use Rattle.qm_chest.specs.At.{IsWithout};
 ghost use Rattle.qm_chest.specs.Desk.{desk_disk, IsReadyDesk};
-ghost use Rattle.qm_chest.specs.Steps.{Comes, IsOfNodes, IsToldStep, IsToManager};
+ghost use Rattle.qm_chest.specs.Steps.{Behind, Comes, IsOfNodes, IsToldStep, IsToManager, came_of, goes_then, is_in_doubt, is_recorded};
 
-use crate::answering::{Came, done, full, refused, short};
-use crate::boxed::FullBox;
+use crate::answering::{Step, done, full, refused, short};
 use crate::desk::Desk;
+use crate::serving::Served;
 use core::mem::drop;
 use qm_acting::{AskFault, Manager, site_files_go_on};
 use qm_disk::Disk;
 use qm_history::{Answer, Event, Takeover};
-use qm_kinds::{Boxed, Input, Moment, Request};
+use qm_kinds::{Boxed, Input, Moment, Refusal, Request};
 use qm_model::nodes_keep_their_names;
 use qm_restore::site_files_are_accepted;
 
+/// What one step of a call came to: its event, unless memory was short, and its answer.
+pub struct Came<D> {
+    pub(crate) desk: Desk<D>,
+    pub(crate) event: Option<Event>,
+    pub(crate) answer: Answer,
+}
+
+impl<D> Came<D> {
+    /// Whether a record was written, or may be there.
+    pub(crate) fn is_recorded(&self) -> bool
+        ensures { result ≡ is_recorded self.now.event }
+    {
+        matches!(
+            &self.event,
+            Some(Event::Done { .. }) | Some(Event::Doubt { .. })
+        )
+    }
+
+    /// Whether a node goes of whose loss this tells: the record is there or in doubt, or the node leaves and it has no room.
+    pub(crate) fn lets_go(&self, leaves: bool) -> bool
+        ensures { result ≡ goes_then leaves self.now.event }
+    {
+        self.is_recorded() || leaves && matches!(&self.event, Some(Event::Full { .. }))
+    }
+
+    /// This step is the whole call.
+    pub(crate) fn alone(self) -> Served<D>
+        ensures { result ≡ record { desk = self.desk; first = self.event; second = None; answer = self.answer } }
+    {
+        let Came {
+            desk,
+            event,
+            answer,
+        } = self;
+        Served {
+            desk,
+            first: event,
+            second: None,
+            answer,
+        }
+    }
+
+    /// This step behind another event.
+    pub(crate) fn behind(self, first: Event) -> Served<D>
+        ensures { result ≡ record { desk = self.desk; first = Some first; second = self.event; answer = self.answer } }
+    {
+        let Came {
+            desk,
+            event,
+            answer,
+        } = self;
+        Served {
+            desk,
+            first: Some(first),
+            second: event,
+            answer,
+        }
+    }
+}
+
 /// Asks for a request of a node, whose clock told this before, of the manager, whose node is `at`. Its record is there at `Done`;
-/// where a disk failed it is in doubt, and no manager is up any more. `live` is whether the node serves its lines afterwards.
+/// where a disk failed it is in doubt, and the manager has to let go of the role. `live` is whether the node serves its lines
+/// afterwards.
+pub(crate) fn ask_step<D: Disk>(
+    manager: &mut Manager<D>,
+    at: u8,
+    live: bool,
+    node: u8,
+    now: Moment,
+    request: Boxed<Request>,
+    took: Option<Takeover>,
+) -> Step
+    requires ready { IsReady D.meaning manager.old }
+    requires can { CanBeAsked (standing_of manager.old).system (acting now (standing_of manager.old).system) node request }
+    requires to_manager { IsToManager request }
+
+    ensures ready { Behind (IsReadyDesk D.meaning) manager.new at (is_in_doubt result.event) }
+    ensures nodes { Behind (IsOfNodes (cluster (standing_of manager.old).system) at) manager.new at (is_in_doubt result.event) }
+    ensures down { is_journal result.answer ≡ true → Behind IsWithout manager.new at (is_in_doubt result.event) }
+    ensures told { IsToldStep took result.event result.answer }
+    ensures faults { TellsFaults D.meaning (disk_of manager.old) (disk_of manager.new) (is_journal result.answer ≡ true) }
+    ensures spare { IsTrue D.meaning.tells → KeepsSpare D.meaning (disk_of manager.old) (disk_of manager.new) }
+    ensures comes { IsTrue D.meaning.tells
+        → Behind (λ desk. Comes D.meaning manager.old at live node now request took (came_of result desk)) manager.new at
+        (is_in_doubt result.event) }
+{
+    site_files_go_on();
+    site_files_are_accepted();
+    nodes_keep_their_names();
+    let moment = manager.acting(now);
+    match manager.ask(moment, node, request.get()) {
+        Ok(replies) => done(node, moment, request, replies, took),
+        Err(AskFault::Refused(refusal)) => {
+            refused(node, moment, Input::Ask(request), refusal, took)
+        }
+        Err(AskFault::Full { need, cap }) => {
+            drop(request);
+            full(node, need, cap, took)
+        }
+        Err(AskFault::Disk) => Step {
+            event: Some(Event::Doubt {
+                node,
+                moment,
+                request,
+            }),
+            answer: Answer::Journal { took, live },
+        },
+        Err(AskFault::NoMemory) => {
+            drop(request);
+            short(took)
+        }
+    }
+}
+
+/// The same of a manager that is moved: where a disk failed no manager is up any more.
 pub(crate) fn ask<D: Disk>(
-    manager: FullBox<Manager<D>>,
+    manager: Manager<D>,
     at: u8,
     live: bool,
     node: u8,
@@ -45,40 +158,14 @@ pub(crate) fn ask<D: Disk>(
     ensures spare { IsTrue D.meaning.tells → KeepsSpare D.meaning (disk_of manager) (desk_disk result.desk) }
     ensures comes { IsTrue D.meaning.tells → Comes D.meaning manager at live node now request took result }
 {
-    site_files_go_on();
-    site_files_are_accepted();
-    nodes_keep_their_names();
     let mut manager = manager;
-    let moment = manager.acting(now);
-    match manager.ask(moment, node, request.get()) {
-        Ok(replies) => done(
-            Desk::Up { manager, node: at },
-            node,
-            moment,
-            request,
-            replies,
-            took,
-        ),
-        Err(AskFault::Refused(refusal)) => {
-            let desk = Desk::Up { manager, node: at };
-            refused(desk, node, moment, Input::Ask(request), refusal, took)
-        }
-        Err(AskFault::Full { need, cap }) => {
-            drop(request);
-            full(Desk::Up { manager, node: at }, node, need, cap, took)
-        }
-        Err(AskFault::Disk) => Came {
-            desk: Desk::let_go(manager),
-            event: Some(Event::Doubt {
-                node,
-                moment,
-                request,
-            }),
-            answer: Answer::Journal { took, live },
-        },
-        Err(AskFault::NoMemory) => {
-            drop(request);
-            short(Desk::Up { manager, node: at }, took)
-        }
-    }
+    let step = ask_step(&mut manager, at, live, node, now, request, took);
+    step.of(manager, at)
+}
+
+/// The same refusal once more.
+pub(crate) fn same(refusal: &Refusal) -> Refusal
+    ensures { result ≡ refusal.now }
+{
+    *refusal
 }

@@ -9,9 +9,9 @@ ghost use Rattle.qm_chest.specs.declared.desk.Desk.TheVariants as desk;
 ghost use Rattle.qm_chest.specs.At.{CanBeAskedFor, IsDeskOf};
 ghost use Rattle.qm_chest.specs.Taking.{FollowsTaken, LeavesFrom, NeedsManager};
 
-use crate::answering::{Came, refused};
+use crate::answering::refused;
+use crate::asking::Came;
 use crate::book::Book;
-use crate::boxed::FullBox;
 use crate::desk::Desk;
 use crate::serving::Served;
 use crate::taken::Taken;
@@ -49,9 +49,10 @@ impl Book {
             Input::StartNode => match self.start_refusal(&manager, node) {
                 Some(refusal) => {
                     let acting = manager.acting(now);
-                    let desk = Desk::Up { manager, node };
                     let start = Input::StartNode;
-                    refused(desk, node, acting, start, refusal, Some(told)).behind(event)
+                    refused(node, acting, start, refusal, Some(told))
+                        .up(manager, node)
+                        .behind(event)
                 }
                 None => self.up_behind(manager, node, moment, told).behind(event),
             },
@@ -64,7 +65,7 @@ impl Book {
     // The takeover is all that was asked for.
     fn managing<D>(
         &self,
-        manager: FullBox<Manager<D>>,
+        manager: Manager<D>,
         node: u8,
         moment: Moment,
         event: Event,
@@ -98,7 +99,7 @@ impl Book {
     // A node comes up, which its takeover has told already.
     fn up_behind<D>(
         &mut self,
-        manager: FullBox<Manager<D>>,
+        manager: Manager<D>,
         node: u8,
         moment: Moment,
         told: Takeover,

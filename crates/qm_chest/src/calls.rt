@@ -11,15 +11,14 @@ ghost use Rattle.qm_chest.specs.Duties.{ShowsDuties};
 ghost use Rattle.qm_chest.specs.Checking.{Begins, IsChecked, checked_disk, checked_standing};
 
 use crate::book::Book;
-use crate::boxed::EmptyBox;
 use crate::checked::Checked;
 use crate::chest::{Chest, State};
 use crate::desk::Desk;
-use crate::files::Files;
 use crate::laws::sites_begin_one_world;
 use crate::stepping::{keep, room_for};
 use crate::wanted::{Outcome, Wanted};
 use core::mem::drop;
+use qm_acting::Files;
 use qm_disk::Disk;
 use qm_history::{Answer, Call, QueueFile, Turn, worlds_stay_sound};
 use qm_kinds::{Moment, Name};
@@ -41,11 +40,8 @@ impl<D: Disk> Chest<D> {
         let Ok(book) = Book::new(alloc, restored.nodes(), restored.epoch()) else {
             return Err((restored.close(), AllocError));
         };
-        let Ok(room) = EmptyBox::new(alloc) else {
-            return Err((restored.close(), AllocError));
-        };
         let desk = Desk::Down {
-            files: Files::Read(room.fill(restored)),
+            files: Files::Read(restored),
             place: None,
         };
         Ok(Chest {

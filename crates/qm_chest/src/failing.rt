@@ -6,9 +6,9 @@ ghost use Rattle.qm_chest.specs.Taking.{failed, told_of_failed, unread_answer};
 
 use crate::book::Book;
 use crate::desk::Desk;
-use crate::files::Files;
 use crate::place::Place;
 use crate::serving::Served;
+use qm_acting::Files;
 use qm_history::{Answer, Event, Takeover};
 use qm_kinds::Seq;
 use qm_store::{Closed, LoadFault};

@@ -11,13 +11,11 @@ ghost use Rattle.qm_chest.specs.Whole.{AsksAlone, Leaves, ServesWhere, goes_alon
 use crate::answering::short;
 use crate::asking::ask;
 use crate::book::Book;
-use crate::boxed::FullBox;
 use crate::desk::Desk;
-use crate::files::Files;
 use crate::own::acts_in_time;
 use crate::place::Place;
 use crate::serving::Served;
-use qm_acting::{Manager, own_requests_are_accepted};
+use qm_acting::{Files, Manager, own_requests_are_accepted};
 use qm_disk::Disk;
 use qm_history::{Answer, Event};
 use qm_kinds::{Act, Boxed, Moment, Name, Reply, Request, Seq};
@@ -30,7 +28,7 @@ impl Book {
     /// node is gone; else it records the loss.
     pub(crate) fn gone<D: Disk>(
         &mut self,
-        manager: FullBox<Manager<D>>,
+        manager: Manager<D>,
         at: u8,
         node: u8,
         now: Moment,
@@ -44,7 +42,7 @@ impl Book {
     {
         site_files_are_accepted();
         if at == node {
-            let files = Files::Closed(manager.into_inner().close());
+            let files = Files::Closed(manager.close());
             return self.gone_alone(files, None, node, now, leaves);
         }
         self.lost(manager, at, node, now, leaves)
@@ -53,7 +51,7 @@ impl Book {
     // The manager, which is elsewhere, records that a node goes. Without room for the record a node leaves, and doesn't stop.
     fn lost<D: Disk>(
         &mut self,
-        manager: FullBox<Manager<D>>,
+        manager: Manager<D>,
         at: u8,
         node: u8,
         now: Moment,
@@ -72,7 +70,7 @@ impl Book {
         nodes_keep_their_names();
         acts_in_time(&manager, now);
         let Ok(request) = self.loss(node) else {
-            return short(Desk::Up { manager, node: at }, None).alone();
+            return short(None).up(manager, at).alone();
         };
         let came = ask(manager, at, false, node, now, request, None);
         if !came.lets_go(leaves) {

@@ -11,17 +11,14 @@
 
 mod answering;
 mod asking;
-mod at_work;
 mod behind;
 mod book;
-mod boxed;
 mod calls;
 mod checked;
 mod checking;
 mod chest;
 mod desk;
 mod failing;
-mod files;
 mod laws;
 mod leaving;
 mod nodes;

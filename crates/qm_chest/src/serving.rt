@@ -1,5 +1,5 @@
 // The call of a node: whether it is served, by whom, and what it came to.
-ghost use Rattle.std.specs.Prelude.{◌≡◌, ◌<◌, ◌^◌, IsTrue, Some, None, false, true, length};
+ghost use Rattle.std.specs.Prelude.{◌≡◌, ◌<◌, ◌^◌, IsTrue, Some, None, false, length};
 ghost use Rattle.qm_kinds.specs.declared.input.Input.TheVariants as input;
 ghost use Rattle.qm_kinds.specs.declared.refusal.Refusal.TheVariants as refused;
 ghost use Rattle.qm_history.specs.declared.call.Answer.TheVariants as answer;
@@ -7,16 +7,14 @@ ghost use Rattle.qm_history.specs.declared.event.Event.TheVariants as event;
 ghost use Rattle.qm_acting.specs.Files.{AreSound};
 ghost use Rattle.qm_chest.specs.declared.desk.Desk.TheVariants as desk;
 ghost use Rattle.qm_chest.specs.At.{CanBeAskedFor, IsDeskOf};
-ghost use Rattle.qm_chest.specs.Desk.{is_due, makes_step};
+ghost use Rattle.qm_chest.specs.Desk.{is_due};
 ghost use Rattle.qm_chest.specs.Whole.{Asks, AsksAlone, Leaves, ServesWhere, StandsEarly};
 
-use crate::answering::same;
+use crate::asking::same;
 use crate::book::Book;
-use crate::boxed::FullBox;
 use crate::desk::Desk;
-use crate::files::Files;
 use crate::place::Place;
-use qm_acting::Manager;
+use qm_acting::{Files, Manager};
 use qm_disk::Disk;
 use qm_history::{Answer, Event};
 use qm_kinds::{Input, Moment, ParseKind, Refusal};
@@ -93,7 +91,6 @@ impl Book {
         requires stands { IsTrue D.meaning.tells → StandsEarly D.meaning (record { book = self.old; desk = desk }) }
         ensures leaves { Leaves D.meaning self.old desk self.new result }
         ensures serves { IsTrue D.meaning.tells → ServesWhere D.meaning self.old desk node now (Asks input leaves) self.new result }
-        ensures few { makes_step desk input ≡ true → result.second ≡ None }
     {
         site_files_are_accepted();
         if self.is_down(node, &input) {
@@ -120,7 +117,6 @@ impl Book {
         requires due { is_due desk input ≡ false }
         ensures leaves { Leaves D.meaning self.old desk self.new result }
         ensures serves { IsTrue D.meaning.tells → ServesWhere D.meaning self.old desk node now (AsksAlone node input leaves) self.new result }
-        ensures few { makes_step desk input ≡ true → result.second ≡ None }
     {
         match desk {
             Desk::Up { manager, node: at } => self.managed(manager, at, node, now, input, leaves),
@@ -133,7 +129,7 @@ impl Book {
     // A call while a manager is up.
     fn managed<D: Disk>(
         &mut self,
-        manager: FullBox<Manager<D>>,
+        manager: Manager<D>,
         at: u8,
         node: u8,
         now: Moment,
@@ -147,7 +143,6 @@ impl Book {
         ensures leaves { Leaves D.meaning self.old (desk.Up manager at) self.new result }
         ensures serves { IsTrue D.meaning.tells → ServesWhere D.meaning self.old (desk.Up manager at) node now
             (AsksAlone node input leaves) self.new result }
-        ensures few { makes_step (desk.Up manager at) input ≡ true → result.second ≡ None }
     {
         site_files_are_accepted();
         nodes_keep_their_names();

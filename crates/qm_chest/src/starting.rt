@@ -11,8 +11,6 @@ ghost use Rattle.qm_chest.specs.Whole.{Leaves, ServesWhere};
 use crate::answering::{refused, short};
 use crate::asking::ask;
 use crate::book::Book;
-use crate::boxed::FullBox;
-use crate::desk::Desk;
 use crate::own::acts_in_time;
 use crate::serving::Served;
 use qm_acting::{Manager, own_requests_are_accepted};
@@ -24,15 +22,11 @@ use qm_restore::site_files_are_accepted;
 
 impl Book {
     /// Why a node can't be started, if it can't.
-    pub(crate) fn start_refusal<D: Disk>(
-        &self,
-        manager: &FullBox<Manager<D>>,
-        node: u8,
-    ) -> Option<Refusal>
+    pub(crate) fn start_refusal<D: Disk>(&self, manager: &Manager<D>, node: u8) -> Option<Refusal>
         requires { node < length self.now.names.items }
         ensures { result ≡ start_refusal_of (standing_of manager.now).system (unwrap_or (slice_get self.now.live.items node) false) }
     {
-        if manager.get().are_numbers_spent() {
+        if manager.are_numbers_spent() {
             return Some(Refusal::NumbersSpent);
         }
         if self.is_live(node) {
@@ -44,7 +38,7 @@ impl Book {
     /// Starts a node.
     pub(crate) fn started<D: Disk>(
         &mut self,
-        manager: FullBox<Manager<D>>,
+        manager: Manager<D>,
         at: u8,
         node: u8,
         now: Moment,
@@ -60,21 +54,16 @@ impl Book {
         let moment = manager.acting(now);
         match self.start_refusal(&manager, node) {
             Some(refusal) => {
-                let desk = Desk::Up { manager, node: at };
-                refused(desk, node, moment, Input::StartNode, refusal, None).alone()
+                refused(node, moment, Input::StartNode, refusal, None)
+                    .up(manager, at)
+                    .alone()
             }
             None => self.comes_up(manager, at, node, now),
         }
     }
 
     // A node comes up: it is live once the record that tells so is there or in doubt.
-    fn comes_up<D: Disk>(
-        &mut self,
-        manager: FullBox<Manager<D>>,
-        at: u8,
-        node: u8,
-        now: Moment,
-    ) -> Served<D>
+    fn comes_up<D: Disk>(&mut self, manager: Manager<D>, at: u8, node: u8, now: Moment) -> Served<D>
         requires desk { IsDeskOf D.meaning self.old.names.items (desk.Up manager at) }
         requires there { node < length self.old.names.items }
         requires can { start_refusal_of (standing_of manager).system (unwrap_or (slice_get self.old.live.items node) false) ≡ None }
@@ -87,7 +76,7 @@ impl Book {
         nodes_keep_their_names();
         acts_in_time(&manager, now);
         let Ok(request) = Boxed::new(self.alloc, Request::NodeUp) else {
-            return short(Desk::Up { manager, node: at }, None).alone();
+            return short(None).up(manager, at).alone();
         };
         let came = ask(manager, at, true, node, now, request, None);
         if !came.is_recorded() {

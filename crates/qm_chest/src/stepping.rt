@@ -1,9 +1,10 @@
 // What a call makes of what the chest works with, and how its turn is kept.
 ghost use Rattle.std.specs.Prelude.{◌≡◌, ◌<◌, ◌≤◌, ◌++◌, ◌∷◌, [], true, None, IfErr, IfOk, OnOk, length, option_to_list, vec_capacity, vec_len};
 ghost use Rattle.qm_history.specs.Chest.{MayLeaveNone, turns_kept};
-ghost use Rattle.qm_chest.specs.Serving.{CanServe, Serving, most_events, turn_made, turn_of};
+ghost use Rattle.qm_chest.specs.Serving.{CanServe, Serving, is_step_alone, most_events, turn_made, turn_of};
 ghost use Rattle.qm_chest.specs.Whole.{both};
 
+use crate::answering::Step;
 use crate::chest::{State, TURNS_KEPT};
 use crate::serving::Served;
 use crate::wanted::{Maker, Outcome, Wanted};
@@ -11,34 +12,64 @@ use core::mem::{drop, replace_with};
 use qm_disk::Disk;
 use qm_history::{Answer, Event, Turn};
 use qm_kinds::Seq;
+use qm_model::nodes_keep_their_names;
+use qm_restore::site_files_are_accepted;
 use std::alloc::{AllocError, Global};
 
 impl<D: Disk> State<D> {
-    /// What a call makes of it.
+    /// What a call makes of it. A manager stays in its place for a step of its own; for every other call it is moved.
     pub(crate) fn serve(&mut self, wanted: Wanted) -> Outcome
         requires { CanServe D.meaning wanted self.old }
         ensures serving { Serving D.meaning wanted self.old self.new result }
         ensures few { length (both result.first result.second) ≤ most_events wanted self.old }
     {
-        replace_with(self, wanted, State::moved)
-    }
-
-    /// How many events the call can have at most: one where it is a step of the manager that is up, and else two.
-    pub(crate) fn most_events(&self, wanted: &Wanted) -> usize
-        ensures { result ≡ most_events wanted.now self.now }
-    {
-        if self.desk.makes_step(&wanted.input) {
-            1
+        if self.is_step(&wanted) {
+            self.step(wanted)
         } else {
-            2
+            replace_with(self, wanted, State::moved)
         }
     }
 
-    // The same of what is moved.
+    // Whether a call is a step of the manager that is up, of a node that is live.
+    fn is_step(&self, wanted: &Wanted) -> bool
+        requires { wanted.now.maker.node < vec_len self.now.book.names }
+        ensures { result ≡ is_step_alone wanted.now self.now }
+    {
+        self.book.is_live(wanted.maker.node) && self.desk.makes_step(&wanted.input)
+    }
+
+    /// How many events the call can have at most.
+    pub(crate) fn most_events(&self, wanted: &Wanted) -> usize
+        requires { wanted.now.maker.node < vec_len self.now.book.names }
+        ensures { result ≡ most_events wanted.now self.now }
+    {
+        if self.is_step(wanted) { 1 } else { 2 }
+    }
+
+    // What such a step makes of it.
+    #[inline(never)]
+    fn step(&mut self, wanted: Wanted) -> Outcome
+        requires can { CanServe D.meaning wanted self.old }
+        requires step { is_step_alone wanted self.old ≡ true }
+        ensures serving { Serving D.meaning wanted self.old self.new result }
+        ensures one { result.second ≡ None }
+    {
+        site_files_are_accepted();
+        nodes_keep_their_names();
+        let Wanted { maker, input, .. } = wanted;
+        let Step { event, answer } = self.desk.step(&self.book, maker, input);
+        Outcome {
+            first: event,
+            second: None,
+            answer,
+        }
+    }
+
+    // What a call makes of it, which moves it. (Inlined, its locals would be cleared at each step.)
+    #[inline(never)]
     fn moved(self, wanted: Wanted) -> (State<D>, Outcome)
         requires { CanServe D.meaning wanted self }
-        ensures serving { Serving D.meaning wanted self result.0 result.1 }
-        ensures few { length (both result.1.first result.1.second) ≤ most_events wanted self }
+        ensures { Serving D.meaning wanted self result.0 result.1 }
     {
         let State { mut book, desk } = self;
         let Wanted {

@@ -3,14 +3,13 @@ ghost use Rattle.std.specs.Prelude.{◌≡◌, ℕ, List};
 ghost use Rattle.qm_kinds.specs.declared.request.Request.TheVariants.{Took};
 ghost use Rattle.qm_chest.specs.Taking.{IsTook, event_of, told_of};
 
-use crate::boxed::FullBox;
 use qm_acting::Manager;
 use qm_history::{Event, Takeover};
 use qm_kinds::{Boxed, Moment, Name, Reply, Request, Seq, Start};
 
 /// The manager at work behind a takeover, what its record says, what was found of a record in doubt, and the jobs that started.
 pub struct Taken<D> {
-    pub(crate) manager: FullBox<Manager<D>>,
+    pub(crate) manager: Manager<D>,
     pub(crate) moment: Moment,
     pub(crate) epoch: u64,
     pub(crate) gone: Seq<Name>,
@@ -22,7 +21,7 @@ pub struct Taken<D> {
 
 impl<D> Taken<D> {
     /// The manager and its moment; the event of the turn, with this node; and what the call's answer tells of it.
-    pub(crate) fn parts(self, node: u8) -> (FullBox<Manager<D>>, Moment, Event, Takeover)
+    pub(crate) fn parts(self, node: u8) -> (Manager<D>, Moment, Event, Takeover)
         ensures { result ≡ (self.manager, self.moment, event_of node self, told_of self) }
     {
         let Taken {
@@ -55,7 +54,7 @@ impl<D> Taken<D> {
 
 /// The takeover that this request recorded.
 pub(crate) fn taken_by<D>(
-    manager: FullBox<Manager<D>>,
+    manager: Manager<D>,
     moment: Moment,
     request: Boxed<Request>,
     kept: Option<bool>,

@@ -11,16 +11,15 @@ ghost use Rattle.qm_chest.specs.Taking.{AreEarly, CanTake, Finds, LeavesFrom, Le
 ghost use Rattle.qm_chest.specs.Whole.{AsksToTake, Leaves, ServesWhere, StandsEarly};
 
 use crate::book::Book;
-use crate::boxed::{EmptyBox, FullBox};
 use crate::desk::Desk;
-use crate::files::Files;
 use crate::nodes::is_named;
 use crate::place::Place;
 use crate::serving::Served;
 use crate::taken::{Taken, taken_by};
 use core::mem::drop;
 use qm_acting::{
-    Manager, Restored, TakeFault, own_requests_are_accepted, site_files_go_on, sites_can_be_read,
+    Files, Manager, Restored, TakeFault, own_requests_are_accepted, site_files_go_on,
+    sites_can_be_read,
 };
 use qm_disk::Disk;
 use qm_history::{Answer, Event};
@@ -66,7 +65,7 @@ impl Book {
     // The role is taken from a manager that is up, unless the node may not have it.
     fn taken_from<D: Disk>(
         &mut self,
-        manager: FullBox<Manager<D>>,
+        manager: Manager<D>,
         at: u8,
         node: u8,
         now: Moment,
@@ -82,9 +81,8 @@ impl Book {
         ensures serves { IsTrue D.meaning.tells → ServesWhere D.meaning self.old (desk.Up manager at) node now (AsksToTake node input) self.new result }
     {
         site_files_are_accepted();
-        let at_work = manager.get();
-        if is_named(at_work.nodes(), at_work.may(), &input, node) {
-            let files = Files::Closed(manager.into_inner().close());
+        if is_named(manager.nodes(), manager.may(), &input, node) {
+            let files = Files::Closed(manager.close());
             return self.taken_up(files, None, node, now, input);
         }
         drop(input);
@@ -224,46 +222,39 @@ impl Book {
         let Ok(request) = self.request(restored.nodes(), restored.may(), input, node, epoch) else {
             return Err(self.short(restored.close(), node, kept));
         };
-        let Ok(room) = EmptyBox::new(self.alloc) else {
-            drop(request);
-            return Err(self.short(restored.close(), node, kept));
-        };
         match restored.take_over(tried, moment, node, request.get()) {
             Ok((manager, reply)) => {
                 self.greatest += 1;
                 self.held[usize::from(node)] = epoch;
-                Ok(taken_by(room.fill(manager), moment, request, kept, reply))
+                Ok(taken_by(manager, moment, request, kept, reply))
             }
-            Err((closed, fault)) => {
-                room.free();
-                match fault {
-                    TakeFault::MasterFull { need, cap } => {
-                        drop(request);
-                        Err(self.master_full(closed, node, kept, need, cap))
-                    }
-                    TakeFault::Epoch => {
-                        drop(request);
-                        self.greatest += 1;
-                        Err(self.journal(closed, None, node, epoch, kept, None))
-                    }
-                    TakeFault::Full { need, cap } => {
-                        drop(request);
-                        self.greatest += 1;
-                        Err(self.full(closed, node, epoch, kept, need, cap))
-                    }
-                    TakeFault::Record => {
-                        self.greatest += 1;
-                        let doubt = Event::Doubt {
-                            node,
-                            moment,
-                            request,
-                        };
-                        Err(self.journal(closed, Some(place), node, epoch, kept, Some(doubt)))
-                    }
-                    TakeFault::NoMemory => {
-                        drop(request);
-                        Err(self.short(closed, node, kept))
-                    }
+            Err((closed, fault)) => match fault {
+                TakeFault::MasterFull { need, cap } => {
+                    drop(request);
+                    Err(self.master_full(closed, node, kept, need, cap))
+                }
+                TakeFault::Epoch => {
+                    drop(request);
+                    self.greatest += 1;
+                    Err(self.journal(closed, None, node, epoch, kept, None))
+                }
+                TakeFault::Full { need, cap } => {
+                    drop(request);
+                    self.greatest += 1;
+                    Err(self.full(closed, node, epoch, kept, need, cap))
+                }
+                TakeFault::Record => {
+                    self.greatest += 1;
+                    let doubt = Event::Doubt {
+                        node,
+                        moment,
+                        request,
+                    };
+                    Err(self.journal(closed, Some(place), node, epoch, kept, Some(doubt)))
+                }
+                TakeFault::NoMemory => {
+                    drop(request);
+                    Err(self.short(closed, node, kept))
                 }
             },
         }

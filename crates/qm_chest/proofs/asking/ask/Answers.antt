@@ -1,75 +1,45 @@
-use Rattle.std.proofs.Common.{ap, refl, sym, subst, length, Some}
-use Rattle.qm_disk.specs.Disk.{CrashState, LeavesOnly}
-use Rattle.qm_store.specs.Recorded.{HoldsEither, with_body}
+use Rattle.std.proofs.Common.{◌≡◌, sym, subst, true}
+use Rattle.qm_disk.specs.Disk.{TellsFaults}
 use Rattle.qm_history.specs.Accepted.{cluster}
-use Rattle.qm_history.specs.declared.call.Answer.TheVariants as answer
-use Rattle.qm_history.specs.declared.event.Event.TheVariants as event
-use Rattle.qm_acting.specs.Asking.{text_of}
-use Rattle.qm_acting.specs.Standing.{Standing, standing_of, disk_of}
-use Rattle.qm_chest.specs.declared.answering.Came.{Came}
-use Rattle.qm_chest.specs.declared.desk.Desk.{Desk}
-use Rattle.qm_chest.specs.Steps.{Comes, IsOfNodes}
-use Rattle.qm_chest.proofs.Steps.{done_comes, doubt_comes, full_comes, refused_comes, short_comes}
+use Rattle.qm_history.specs.Faults.{is_journal}
+use Rattle.qm_acting.specs.Spare.{KeepsSpare}
+use Rattle.qm_acting.specs.Standing.{standing_of, disk_of}
+use Rattle.qm_chest.specs.declared.asking.Came.{Came}
+use Rattle.qm_chest.specs.At.{IsWithout}
+use Rattle.qm_chest.specs.Desk.{IsReadyDesk, desk_disk}
+use Rattle.qm_chest.specs.Steps.{Comes, IsOfNodes, IsToldStep, came_of, is_in_doubt}
+use Rattle.qm_chest.proofs.InPlace.{behind_disk, behind_holds}
 use Rattle.qm_chest.proofs.asking.ask.Goals as goal
 
-pub returns-in-Ok-clause-nodes : goal.returns-in-Ok-clause-nodes
-returns-in-Ok-clause-nodes g c =
-    let does = (rw c.get.ensures at c.in-Ok.ensures).answer.0 in
-    subst (λ (came : Came _). IsOfNodes (cluster (standing_of c.args.manager).system) c.args.at came.desk) (sym c.done.ensures) (
-      c.nodes_keep_their_names.ensures.names (standing_of c.args.manager).system c.acting-moment.result c.args.node c.args.request
-          (record { system = (standing_of c.ask.new.self).system; reply = c.in-Ok.replies.kept }) does.accepted,
-      refl,
-    )
+pub returns-clause-ready : goal.returns-clause-ready
+returns-clause-ready g c = behind_holds c.ask_step-step.new.manager c.args.at (IsReadyDesk g.D.Disk.meaning) (is_in_doubt c.ask_step-step.result.event) c.of.result.desk c.of.ensures.desk c.ask_step-step.ensures.ready
 
-pub returns-in-Ok-clause-comes : goal.returns-in-Ok-clause-comes
-returns-in-Ok-clause-comes g c = λ tells.
-    let e = rw c.get.ensures at c.in-Ok.ensures in
-    subst (λ (came : Came _). Comes g.D.Disk.meaning c.args.manager c.args.at c.args.live c.args.node c.args.now c.args.request c.args.took came) (sym c.done.ensures)
-    (λ cap w asked acted small up live own.
-    done_comes c.site_files_are_accepted.ensures c.site_files_go_on.ensures g.D.Disk.meaning g.met.D.Disk.only_now g.met.D.Disk.counts_now (λ disk f le. g.met.D.Disk.reads_a_crash_state disk f tells le)
-    cap w c.args.manager c.args.at up small c.args.node c.args.now acted asked c.args.request c.args.took own c.acting-moment.result c.acting-moment.ensures c.ask.new.self c.in-Ok.replies.kept c.in-Ok.replies.told
-    e.answer.1 e.answer.0 ((e.ready (λ none. cc)).at_rest tells) (e.device.1.any_moment tells))
+pub returns-clause-nodes : goal.returns-clause-nodes
+returns-clause-nodes g c =
+    behind_holds c.ask_step-step.new.manager c.args.at (IsOfNodes (cluster (standing_of c.args.manager).system) c.args.at) (is_in_doubt c.ask_step-step.result.event) c.of.result.desk c.of.ensures.desk c.ask_step-step.ensures.nodes
 
-pub returns-in-Err-Refused-clause-comes : goal.returns-in-Err-Refused-clause-comes
-returns-in-Err-Refused-clause-comes g c = λ tells.
-    let e = rw (c.in-Err-Refused.field-0-is, c.get.ensures) at c.in-Err-Refused.ensures in
-    subst (λ (came : Came _). Comes g.D.Disk.meaning c.args.manager c.args.at c.args.live c.args.node c.args.now c.args.request c.args.took came) (sym c.refused.ensures)
-    (λ cap w asked acted small up live own.
-    refused_comes c.site_files_are_accepted.ensures c.site_files_go_on.ensures g.D.Disk.meaning g.met.D.Disk.only_now g.met.D.Disk.counts_now (λ disk f le. g.met.D.Disk.reads_a_crash_state disk f tells le)
-    cap w c.args.manager c.args.at up small c.args.node c.args.now acted asked c.args.request c.args.took own c.acting-moment.result c.acting-moment.ensures c.ask.new.self c.in-Err-Refused.refusal
-    e.answer.1 e.device e.answer.0)
+pub returns-clause-down : goal.returns-clause-down
+returns-clause-down g c = λ is.
+    behind_holds c.ask_step-step.new.manager c.args.at IsWithout (is_in_doubt c.ask_step-step.result.event) c.of.result.desk c.of.ensures.desk
+    (c.ask_step-step.ensures.down (subst (λ (came : Came _). is_journal came.answer ≡ true) c.of.ensures.came is))
 
-pub returns-in-Err-Full-clause-comes : goal.returns-in-Err-Full-clause-comes
-returns-in-Err-Full-clause-comes g c = λ tells.
-    let e = rw (c.in-Err-Full.field-0-is, c.get.ensures) at c.in-Err-Full.ensures in
-    subst (λ (came : Came _). Comes g.D.Disk.meaning c.args.manager c.args.at c.args.live c.args.node c.args.now c.args.request c.args.took came) (sym c.full.ensures)
-    (λ cap w asked acted small up live own.
-    full_comes c.site_files_are_accepted.ensures c.site_files_go_on.ensures g.D.Disk.meaning g.met.D.Disk.only_now g.met.D.Disk.counts_now (λ disk f le. g.met.D.Disk.reads_a_crash_state disk f tells le)
-    cap w c.args.manager c.args.at up small c.args.node c.args.now acted asked c.args.request c.args.took own c.acting-moment.result c.acting-moment.ensures c.ask.new.self c.in-Err-Full.need c.in-Err-Full.cap
-    e.answer.1 e.device e.answer.0 e.answer.0.short)
+pub returns-clause-told : goal.returns-clause-told
+returns-clause-told g c = subst (λ (came : Came _). IsToldStep c.args.took came.event came.answer) (sym c.of.ensures.came) c.ask_step-step.ensures.told
 
-pub returns-in-Err-NoMemory-clause-comes : goal.returns-in-Err-NoMemory-clause-comes
-returns-in-Err-NoMemory-clause-comes g c = λ tells.
-    let e = rw c.in-Err-NoMemory.field-0-is at c.in-Err-NoMemory.ensures in
-    subst (λ (came : Came _). Comes g.D.Disk.meaning c.args.manager c.args.at c.args.live c.args.node c.args.now c.args.request c.args.took came) (sym c.short.ensures)
-    (λ cap w asked acted small up live own.
-    short_comes c.site_files_are_accepted.ensures c.site_files_go_on.ensures g.D.Disk.meaning g.met.D.Disk.only_now g.met.D.Disk.counts_now (λ disk f le. g.met.D.Disk.reads_a_crash_state disk f tells le)
-    cap w c.args.manager c.args.at up small c.args.node c.args.now acted asked c.args.request c.args.took own c.acting-moment.result c.acting-moment.ensures c.ask.new.self e.answer.1 e.device)
-
-pub returns-in-Err-Disk-clause-comes : goal.returns-in-Err-Disk-clause-comes
-returns-in-Err-Disk-clause-comes g c = λ tells.
-    let e = rw (c.in-Err-Disk.field-0-is, c.get.ensures) at c.in-Err-Disk.ensures in
+pub returns-clause-faults : goal.returns-clause-faults
+returns-clause-faults g c =
     let m = g.D.Disk.meaning in
-    let gone = c.let_go.ensures in
-    let st = standing_of c.args.manager in
-    let either : CrashState → Type 0 = HoldsEither (m.may_leave (disk_of c.args.manager)) st.recorded.says.live st.recorded (with_body st.recorded (text_of c.acting-moment.result c.args.node c.args.request)) in
-    subst (λ (d : Desk _). Comes m c.args.manager c.args.at c.args.live c.args.node c.args.now c.args.request c.args.took (record {
-      desk = d;
-      event = Some (event.Doubt c.args.node c.acting-moment.result c.args.request);
-      answer = answer.Journal c.args.took c.args.live;
-    })) (sym gone.is)
-    (λ cap w asked acted small up live own.
-    doubt_comes c.site_files_are_accepted.ensures c.site_files_go_on.ensures m g.met.D.Disk.only_now g.met.D.Disk.counts_now (λ disk f le. g.met.D.Disk.reads_a_crash_state disk f tells le)
-    cap w c.args.manager c.args.at up small c.args.node c.args.now acted asked c.args.request c.args.took own c.acting-moment.result c.acting-moment.ensures c.args.live live c.requires.to_manager gone.closed
-    _ _ (ap (λ (s : Standing). s.recorded.says.live) e.answer.1) (ap (λ (s : Standing). length s.recorded.bodies) e.answer.1)
-    e.answer.0 (subst (λ d. LeavesOnly m (disk_of c.args.manager) d either) (sym gone.disk) (e.device.1.any_moment tells)))
+    subst (λ (came : Came _). TellsFaults m (disk_of c.args.manager) (desk_disk c.of.result.desk) (is_journal came.answer ≡ true)) (sym c.of.ensures.came)
+    (behind_disk c.ask_step-step.new.manager c.args.at (λ d. TellsFaults m (disk_of c.args.manager) d (is_journal c.ask_step-step.result.answer ≡ true)) (is_in_doubt c.ask_step-step.result.event) c.of.result.desk c.of.ensures.desk
+    c.ask_step-step.ensures.faults)
+
+pub returns-clause-spare : goal.returns-clause-spare
+returns-clause-spare g c = λ tells.
+    behind_disk c.ask_step-step.new.manager c.args.at (KeepsSpare g.D.Disk.meaning (disk_of c.args.manager)) (is_in_doubt c.ask_step-step.result.event) c.of.result.desk c.of.ensures.desk (c.ask_step-step.ensures.spare tells)
+
+pub returns-clause-comes : goal.returns-clause-comes
+returns-clause-comes g c = λ tells.
+    let m = g.D.Disk.meaning in
+    subst (λ (came : Came _). Comes m c.args.manager c.args.at c.args.live c.args.node c.args.now c.args.request c.args.took came) (sym c.of.ensures.came)
+    (behind_holds c.ask_step-step.new.manager c.args.at (λ desk. Comes m c.args.manager c.args.at c.args.live c.args.node c.args.now c.args.request c.args.took (came_of c.ask_step-step.result desk)) (is_in_doubt c.ask_step-step.result.event)
+    c.of.result.desk c.of.ensures.desk (c.ask_step-step.ensures.comes tells))

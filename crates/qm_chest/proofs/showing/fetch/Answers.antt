@@ -3,23 +3,22 @@ use Rattle.qm_model.specs.Duties.{duties}
 use Rattle.qm_model.specs.Standing.{node_at}
 use Rattle.qm_kinds.specs.declared.input.Input.TheVariants as input
 use Rattle.qm_acting.specs.Standing.{disk_of, standing_of}
-use Rattle.qm_chest.specs.declared.answering.Came.{Came}
-use Rattle.qm_chest.specs.Steps.{IsToldStep, OwnComesTo}
+use Rattle.qm_chest.specs.declared.answering.Step.{Step}
+use Rattle.qm_chest.specs.declared.desk.Desk.TheVariants.{Up}
+use Rattle.qm_chest.specs.Steps.{IsToldStep, OwnComesTo, came_of}
 use Rattle.qm_chest.proofs.OwnStep.{fetch_comes}
 use Rattle.qm_chest.proofs.showing.fetch.Goals as goal
 
 pub returns-in-Ok-clause-comes : goal.returns-in-Ok-clause-comes
 returns-in-Ok-clause-comes g c = λ tells book acted beside cap w small kept up.
-    let e = rw c.get.ensures at c.in-Ok.ensures in
-    subst (λ (came : Came _). OwnComesTo g.D.Disk.meaning cap w c.args.node c.args.now acted (input.Fetch c.args.known) beside c.args.took (disk_of c.args.manager) came came.event) (sym c.shown.ensures)
-    (fetch_comes c.site_files_are_accepted.ensures g.D.Disk.meaning g.met.D.Disk.only_now cap w c.args.manager c.args.at up c.args.node c.args.now acted beside c.args.took c.acting-moment.result c.acting-moment.ensures
-    c.args.known c.of.result (c.of.ensures ∙ e ∙ ap (λ (k : List ℕ). duties (standing_of c.args.manager).system (node_at c.args.node (standing_of c.args.manager).system.nodes) k) c.as_slice.ensures))
+    subst (λ (step : Step). OwnComesTo g.D.Disk.meaning cap w c.args.node c.args.now acted (input.Fetch c.args.known) beside c.args.took (disk_of c.args.manager.now) (came_of step (Up c.args.manager.now c.args.at)) step.event) (sym c.shown.ensures)
+    (fetch_comes c.site_files_are_accepted.ensures g.D.Disk.meaning g.met.D.Disk.only_now cap w c.args.manager.now c.args.at up c.args.node c.args.now acted beside c.args.took c.acting-moment.result c.acting-moment.ensures
+    c.args.known c.of.result (c.of.ensures ∙ c.in-Ok.ensures ∙ ap (λ (k : List ℕ). duties (standing_of c.args.manager.now).system (node_at c.args.node (standing_of c.args.manager.now).system.nodes) k) c.as_slice.ensures))
 
 pub returns-in-Ok-clause-told : goal.returns-in-Ok-clause-told
 returns-in-Ok-clause-told g c =
-    let st = standing_of c.args.manager in
-    let e = rw c.get.ensures at c.in-Ok.ensures in
-    subst (λ (came : Came _). IsToldStep c.args.took came.event came.answer) (sym c.shown.ensures) (
+    let st = standing_of c.args.manager.now in
+    subst (λ (step : Step). IsToldStep c.args.took step.event step.answer) (sym c.shown.ensures) (
       refl,
       refl,
       refl,
@@ -28,6 +27,6 @@ returns-in-Ok-clause-told g c =
         node = node_at c.args.node st.system.nodes;
         known = c.as_slice.result.now;
         consistent = c.site_files_are_consistent.ensures st.recorded.bodies st.system c.requires.ready.file;
-        are = c.of.ensures ∙ e;
+        are = c.of.ensures ∙ c.in-Ok.ensures;
       },
     )

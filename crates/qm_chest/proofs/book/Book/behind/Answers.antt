@@ -1,6 +1,9 @@
-use Rattle.std.proofs.Common.{refl, None, Some}
+use Rattle.std.proofs.Common.{◌∙◌, ap, refl, None, Some}
 use Rattle.qm_acting.specs.Standing.{standing_of}
 use Rattle.qm_history.specs.Turn.{ATakeover}
+use Rattle.qm_chest.specs.declared.answering.Step.{Step}
+use Rattle.qm_chest.specs.declared.desk.Desk.TheVariants.{Up}
+use Rattle.qm_chest.specs.Steps.{came_of}
 use Rattle.qm_chest.proofs.Names.{name_there}
 use Rattle.qm_chest.proofs.Parted as parted
 use Rattle.qm_chest.proofs.book.Book.behind.Goals as goal
@@ -20,14 +23,14 @@ returns-in-TakeManager-clause-follows g c = λ tells.
 
 pub returns-in-Some-clause-leaves : goal.returns-in-Some-clause-leaves
 returns-in-Some-clause-leaves g c =
-    parted.refused_leaves g.D.Disk.meaning c.args.self.now c.args.taken c.args.node c.requires.desk c.parts-manager.result c.parts-manager.ensures c.behind.result c.refused.result c.in-Some.refusal c.acting-acting.result
-    c.refused.ensures c.behind.ensures
+    parted.refused_leaves g.D.Disk.meaning c.args.self.now c.args.taken c.args.node c.requires.desk c.parts-manager.result c.parts-manager.ensures c.behind.result c.up.result c.in-Some.refusal c.acting-acting.result
+    (c.up.ensures ∙ ap (λ (step : Step). came_of step (Up c.parts-manager.result.0 c.args.node)) c.refused.ensures) c.behind.ensures
 
 pub returns-in-Some-clause-follows : goal.returns-in-Some-clause-follows
 returns-in-Some-clause-follows g c = λ tells.
     parted.refused_follows c.site_files_are_accepted.ensures c.nodes_keep_their_names.ensures.names g.D.Disk.meaning g.met.D.Disk.only_now c.args.self.now c.args.taken c.args.node c.args.now c.args.input c.requires.desk.2 c.requires.can
-    c.parts-manager.result c.parts-manager.ensures c.behind.result c.refused.result c.in-Some.refusal c.acting-acting.result (Some c.in-Some.refusal) c.in-StartNode.is c.acting-acting.ensures c.in-Some.ensures refl
-    c.refused.ensures c.behind.ensures
+    c.parts-manager.result c.parts-manager.ensures c.behind.result c.up.result c.in-Some.refusal c.acting-acting.result (Some c.in-Some.refusal) c.in-StartNode.is c.acting-acting.ensures c.in-Some.ensures refl
+    (c.up.ensures ∙ ap (λ (step : Step). came_of step (Up c.parts-manager.result.0 c.args.node)) c.refused.ensures) c.behind.ensures
 
 pub returns-in-None-clause-leaves : goal.returns-in-None-clause-leaves
 returns-in-None-clause-leaves g c =

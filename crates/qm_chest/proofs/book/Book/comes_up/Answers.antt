@@ -7,9 +7,10 @@ use Rattle.qm_acting.specs.Standing.{disk_of, standing_of}
 use Rattle.qm_history.specs.World.{system_in}
 use Rattle.qm_history.specs.declared.event.Event.TheVariants as event
 use Rattle.qm_history.specs.declared.call.Answer.TheVariants as answer
-use Rattle.qm_chest.specs.declared.answering.Came.{Came}
+use Rattle.qm_chest.specs.declared.answering.Step.{Step}
+use Rattle.qm_chest.specs.declared.asking.Came.{Came}
 use Rattle.qm_chest.specs.declared.desk.Desk.TheVariants.{Up}
-use Rattle.qm_chest.specs.Steps.{Comes, IsOfNodes, IsToManager}
+use Rattle.qm_chest.specs.Steps.{Comes, IsOfNodes, IsToManager, came_of}
 use Rattle.qm_chest.specs.Whole.{IsServedAs, both}
 use Rattle.qm_chest.proofs.Kept.{alone_leaves, behind_leaves, desk_of, leaves_as, recorded_some}
 use Rattle.qm_chest.proofs.Names.{node_within}
@@ -32,7 +33,7 @@ returns-in_default-clause-serves g c = λ tells cap w asked state early is.
     let there = node_within (system_in w) c.args.self.now.names.items c.args.node state.book.names c.requires.there in
     served_as c.alone.result _ c.alone.ensures
     (subst (λ (came : Came g.row.D.Denot). IsServedAs g.D.Disk.meaning cap w c.args.node c.args.now asked (disk_of c.args.manager) (record { book = c.args.self.now; desk = came.desk }) (both came.event None) came.answer)
-    (sym c.short.ensures)
+    (sym (c.up.ensures ∙ ap (λ (step : Step). came_of step (Up c.args.manager c.args.at)) c.short.ensures))
     (start_short c.site_files_are_accepted.ensures c.nodes_keep_their_names.ensures.names g.D.Disk.meaning g.met.D.Disk.only_now cap w c.args.manager c.args.at c.args.node c.args.now there c.args.self.now state asked is
     (record { desk = Up c.args.manager c.args.at; event = None; answer = answer.NoMemory None }) (record { same = refl; desk = state.desk; told = refl })))
 

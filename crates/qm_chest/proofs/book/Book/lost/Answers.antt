@@ -7,9 +7,10 @@ use Rattle.qm_acting.specs.Standing.{disk_of, standing_of}
 use Rattle.qm_history.specs.World.{system_in}
 use Rattle.qm_history.specs.declared.call.Answer.TheVariants as answer
 use Rattle.qm_history.specs.declared.event.Event.{Event}
-use Rattle.qm_chest.specs.declared.answering.Came.{Came}
+use Rattle.qm_chest.specs.declared.answering.Step.{Step}
+use Rattle.qm_chest.specs.declared.asking.Came.{Came}
 use Rattle.qm_chest.specs.declared.desk.Desk.TheVariants.{Up}
-use Rattle.qm_chest.specs.Steps.{Comes, IsOfNodes, IsToManager}
+use Rattle.qm_chest.specs.Steps.{Comes, IsOfNodes, IsToManager, came_of}
 use Rattle.qm_chest.specs.Whole.{IsServedAs, both}
 use Rattle.qm_chest.proofs.Kept.{alone_leaves, behind_leaves, desk_of, going_some, leaves_as}
 use Rattle.qm_chest.proofs.Names.{name_there, node_within}
@@ -22,7 +23,7 @@ pub returns-in_default-clause-serves : goal.returns-in_default-clause-serves
 returns-in_default-clause-serves g c = λ tells cap w asked state early asks.
     let there = node_within (system_in w) c.args.self.now.names.items c.args.node state.book.names c.requires.there in
     served_as c.alone.result _ c.alone.ensures
-    (subst (λ (came : Came g.row.D.Denot). IsServedAs g.D.Disk.meaning cap w c.args.node c.args.now asked (disk_of c.args.manager) (record { book = c.args.self.now; desk = came.desk }) (both came.event None) came.answer) (sym c.short.ensures)
+    (subst (λ (came : Came g.row.D.Denot). IsServedAs g.D.Disk.meaning cap w c.args.node c.args.now asked (disk_of c.args.manager) (record { book = c.args.self.now; desk = came.desk }) (both came.event None) came.answer) (sym (c.up.ensures ∙ ap (λ (step : Step). came_of step (Up c.args.manager c.args.at)) c.short.ensures))
     (lost_short c.site_files_are_accepted.ensures c.nodes_keep_their_names.ensures.names g.D.Disk.meaning g.met.D.Disk.only_now cap w c.args.manager c.args.at c.args.node c.args.now there c.args.self.now state asked asks.0
     c.args.leaves asks.1 c.requires.elsewhere asks.2 (record { desk = Up c.args.manager c.args.at; event = None; answer = answer.NoMemory None }) (record { same = refl; desk = state.desk; told = refl })))
 

@@ -1,4 +1,4 @@
-use Rattle.std.proofs.Common.{◌≡◌, ◌∙◌, false, Option, ap, refl, subst}
+use Rattle.std.proofs.Common.{◌≡◌, ◌∙◌, false, refl, subst}
 use Rattle.qm_history.specs.Turn.{Nothing, is_down}
 use Rattle.qm_kinds.specs.declared.input.Input.{Input}
 use Rattle.qm_kinds.specs.declared.input.Input.TheVariants as input
@@ -6,8 +6,6 @@ use Rattle.qm_kinds.specs.declared.refusal.Refusal.TheVariants.{ParseFault}
 use Rattle.qm_history.specs.World.{system_in}
 use Rattle.qm_chest.specs.declared.desk.Desk.TheVariants.{Up}
 use Rattle.qm_chest.specs.Whole.{AsksAlone}
-use Rattle.qm_chest.specs.declared.serving.Served.{Served}
-use Rattle.qm_chest.proofs.Few.{no_step}
 use Rattle.qm_chest.proofs.Kept.{alone_leaves, leaves_as}
 use Rattle.qm_chest.proofs.Names.{node_within, outside_of}
 use Rattle.qm_chest.proofs.Whole.{served_as}
@@ -33,12 +31,6 @@ returns-in-Fault-clause-serves g c = λ tells cap w asked state early asks.
     (unread_serves c.site_files_are_accepted.ensures g.D.Disk.meaning g.met.D.Disk.only_now cap w c.args.self.now (Up c.args.manager c.args.at) state c.args.node c.args.now c.requires.there asked
     c.in-Fault.place c.in-Fault.kind (asks.0 ∙ c.in-Fault.is) (subst (λ (i : Input). is_down w c.args.node i ≡ false) c.in-Fault.is asks.2))
 
-pub returns-in-StartNode-clause-few : goal.returns-in-StartNode-clause-few
-returns-in-StartNode-clause-few g c = λ is. no_step (Up c.args.manager c.args.at) c.args.input input.StartNode c.in-StartNode.is refl is
-
-pub returns-in-StopNode-clause-few : goal.returns-in-StopNode-clause-few
-returns-in-StopNode-clause-few g c = λ is. no_step (Up c.args.manager c.args.at) c.args.input input.StopNode c.in-StopNode.is refl is
-
 pub returns-in_default : goal.returns-in_default
 returns-in_default g c = record {
   leaves = leaves_as c.alone.result _ c.alone.ensures
@@ -48,5 +40,4 @@ returns-in_default g c = record {
       served_as c.alone.result _ c.alone.ensures
       (own_serves c.site_files_are_accepted.ensures c.nodes_keep_their_names.ensures.names g.D.Disk.meaning g.met.D.Disk.only_now cap w c.args.manager c.args.at c.args.node c.args.now there c.args.self.now state
       c.args.input asked asks.0 (outside_of c.args.node c.args.input c.requires.can) asks.2 asks.3 c.own.result (c.own.ensures.comes tells c.args.now Nothing) c.own.ensures.told);
-  few = λ is. ap (λ (served : Served g.row.D.Denot). served.second) c.alone.ensures;
 }

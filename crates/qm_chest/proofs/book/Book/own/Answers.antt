@@ -1,29 +1,41 @@
-use Rattle.std.proofs.Common.{sym, subst}
-use Rattle.qm_kinds.specs.declared.input.Input.{Input}
+use Rattle.std.proofs.Common.{◌≡◌, sym, subst, true}
+use Rattle.qm_disk.specs.Disk.{TellsFaults}
+use Rattle.qm_history.specs.Faults.{is_journal}
 use Rattle.qm_acting.specs.Spare.{KeepsSpare}
 use Rattle.qm_acting.specs.Standing.{disk_of}
-use Rattle.qm_chest.specs.declared.desk.Desk.{Desk}
-use Rattle.qm_chest.specs.At.{IsDeskOf}
-use Rattle.qm_chest.specs.Steps.{OwnComes}
+use Rattle.qm_chest.specs.declared.asking.Came.{Came}
+use Rattle.qm_chest.specs.At.{IsDeskOf, IsWithout}
+use Rattle.qm_chest.specs.Desk.{desk_disk}
+use Rattle.qm_chest.specs.Steps.{IsToldStep, OwnComes, came_of, is_in_doubt}
+use Rattle.qm_chest.proofs.InPlace.{behind_disk, behind_holds}
 use Rattle.qm_chest.proofs.book.Book.own.Goals as goal
 
-pub returns-in-Ask-clause-comes : goal.returns-in-Ask-clause-comes
-returns-in-Ask-clause-comes g c = λ tells acted beside.
-    subst (λ (i : Input). OwnComes g.D.Disk.meaning c.args.self.now c.args.manager c.args.at c.args.node c.args.now acted i beside c.args.took c.asked.result) (sym c.in-Ask.is)
-    (c.asked.ensures.comes tells acted beside)
+pub returns-clause-desk : goal.returns-clause-desk
+returns-clause-desk g c =
+    behind_holds c.own_step-step.new.manager c.args.at (IsDeskOf g.D.Disk.meaning c.args.self.now.names.items) (is_in_doubt c.own_step-step.result.event) c.of.result.desk c.of.ensures.desk c.own_step-step.ensures.desk
 
-pub returns-in-Show-clause-desk : goal.returns-in-Show-clause-desk
-returns-in-Show-clause-desk g c = subst (IsDeskOf g.D.Disk.meaning c.args.self.now.names.items) (sym c.show.ensures.up) c.requires.desk
+pub returns-clause-down : goal.returns-clause-down
+returns-clause-down g c = λ is.
+    behind_holds c.own_step-step.new.manager c.args.at IsWithout (is_in_doubt c.own_step-step.result.event) c.of.result.desk c.of.ensures.desk
+    (c.own_step-step.ensures.down (subst (λ (came : Came _). is_journal came.answer ≡ true) c.of.ensures.came is))
 
-pub returns-in-Show-clause-comes : goal.returns-in-Show-clause-comes
-returns-in-Show-clause-comes g c = λ tells acted beside.
-    subst (λ (i : Input). OwnComes g.D.Disk.meaning c.args.self.now c.args.manager c.args.at c.args.node c.args.now acted i beside c.args.took c.show.result) (sym c.in-Show.is)
-    (c.show.ensures.comes tells acted beside)
+pub returns-clause-told : goal.returns-clause-told
+returns-clause-told g c = subst (λ (came : Came _). IsToldStep c.args.took came.event came.answer) (sym c.of.ensures.came) c.own_step-step.ensures.told
 
-pub returns-in-Fetch-clause-desk : goal.returns-in-Fetch-clause-desk
-returns-in-Fetch-clause-desk g c = subst (IsDeskOf g.D.Disk.meaning c.args.self.now.names.items) (sym c.fetch.ensures.up) c.requires.desk
+pub returns-clause-faults : goal.returns-clause-faults
+returns-clause-faults g c =
+    let m = g.D.Disk.meaning in
+    subst (λ (came : Came _). TellsFaults m (disk_of c.args.manager) (desk_disk c.of.result.desk) (is_journal came.answer ≡ true)) (sym c.of.ensures.came)
+    (behind_disk c.own_step-step.new.manager c.args.at (λ d. TellsFaults m (disk_of c.args.manager) d (is_journal c.own_step-step.result.answer ≡ true)) (is_in_doubt c.own_step-step.result.event) c.of.result.desk c.of.ensures.desk
+    c.own_step-step.ensures.faults)
 
-pub returns-in-Fetch-clause-comes : goal.returns-in-Fetch-clause-comes
-returns-in-Fetch-clause-comes g c = λ tells acted beside.
-    subst (λ (i : Input). OwnComes g.D.Disk.meaning c.args.self.now c.args.manager c.args.at c.args.node c.args.now acted i beside c.args.took c.fetch.result) (sym c.in-Fetch.is)
-    (c.fetch.ensures.comes tells c.args.self.now acted beside)
+pub returns-clause-spare : goal.returns-clause-spare
+returns-clause-spare g c = λ tells.
+    behind_disk c.own_step-step.new.manager c.args.at (KeepsSpare g.D.Disk.meaning (disk_of c.args.manager)) (is_in_doubt c.own_step-step.result.event) c.of.result.desk c.of.ensures.desk (c.own_step-step.ensures.spare tells)
+
+pub returns-clause-comes : goal.returns-clause-comes
+returns-clause-comes g c = λ tells acted beside.
+    let m = g.D.Disk.meaning in
+    subst (λ (came : Came _). OwnComes m c.args.self.now c.args.manager c.args.at c.args.node c.args.now acted c.args.input beside c.args.took came) (sym c.of.ensures.came)
+    (behind_holds c.own_step-step.new.manager c.args.at (λ desk. OwnComes m c.args.self.now c.args.manager c.args.at c.args.node c.args.now acted c.args.input beside c.args.took (came_of c.own_step-step.result desk))
+    (is_in_doubt c.own_step-step.result.event) c.of.result.desk c.of.ensures.desk (c.own_step-step.ensures.comes tells acted beside))

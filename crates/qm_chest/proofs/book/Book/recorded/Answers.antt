@@ -30,15 +30,6 @@ returns-in_default-clause-takes g c = λ tells cap w asked old taking read.
     (failing.short_served c.site_files_are_accepted.ensures m g.met.D.Disk.only_now g.met.D.Disk.counts_now (λ disk f le. g.met.D.Disk.reads_a_crash_state disk f tells le) cap w asked c.args.kept old
     (restored_disk c.args.restored) (restored_standing c.args.restored) read c.args.self.now c.args.node c.args.now c.args.input.now taking can.there c.requires.asks can.nodes c.close.result c.close.ensures)
 
-pub returns-in_default-new-clause-takes : goal.returns-in_default-new-clause-takes
-returns-in_default-new-clause-takes g c = λ tells cap w asked old taking read.
-    let m = g.D.Disk.meaning in
-    let can = c.requires.can in
-    served_as m cap w c.args.node c.args.now asked old _ c.short-in_default-new.result (failed c.close-2.result None c.args.node c.args.self.now.greatest c.args.kept None (answer.NoMemory (told_of_failed c.args.self.now.greatest c.args.kept)))
-    c.short-in_default-new.ensures
-    (failing.short_served c.site_files_are_accepted.ensures m g.met.D.Disk.only_now g.met.D.Disk.counts_now (λ disk f le. g.met.D.Disk.reads_a_crash_state disk f tells le) cap w asked c.args.kept old
-    (restored_disk c.args.restored) (restored_standing c.args.restored) read c.args.self.now c.args.node c.args.now c.args.input.now taking can.there c.requires.asks can.nodes c.close-2.result c.close-2.ensures)
-
 pub returns-in-NoMemory-clause-takes : goal.returns-in-NoMemory-clause-takes
 returns-in-NoMemory-clause-takes g c = λ tells cap w asked old taking read.
     let m = g.D.Disk.meaning in
@@ -113,7 +104,7 @@ returns-in-Ok-take_over-clause-takes g c = λ tells cap w asked old taking read.
     c.acting-moment.result c.acting-moment.ensures c.next_epoch-epoch.result c.next_epoch-epoch.ensures c.in-Ok.request
     (c.in-Ok.ensures ∙ request_read c.args.self.now st.system c.args.node c.args.input.now c.next_epoch-epoch.result c.nodes.result.now c.may.result.now c.nodes.ensures c.may.ensures)
     c.in-Ok-take_over.manager c.in-Ok-take_over.reply _ c.taken_by.result tells (rw c.get.ensures at c.in-Ok-take_over.ensures.answer) (rw c.get.ensures at (c.in-Ok-take_over.ensures.any_moment tells)) refl refl
-    (ap (λ (k : ℕ). slice_set c.args.self.now.held.items k c.next_epoch-epoch.result) c.from.ensures) refl (rw c.fill.ensures at c.taken_by.ensures)
+    (ap (λ (k : ℕ). slice_set c.args.self.now.held.items k c.next_epoch-epoch.result) c.from.ensures) refl c.taken_by.ensures
 
 pub returns-in-Ok-take_over-clause-leaves : goal.returns-in-Ok-take_over-clause-leaves
 returns-in-Ok-take_over-clause-leaves g c =
@@ -122,4 +113,4 @@ returns-in-Ok-take_over-clause-leaves g c =
     let st = restored_standing c.args.restored in
     let took = c.in-Ok.ensures in
     writing.took_leaves c.nodes_keep_their_names.ensures.names m c.args.self.now _ (restored_disk c.args.restored) c.args.node c.acting-moment.result c.in-Ok.request st c.in-Ok-take_over.manager c.in-Ok-take_over.reply c.taken_by.result
-    can.nodes can.there (rw c.get.ensures at c.in-Ok-take_over.ensures.answer) refl (omega arith) (c.in-Ok-take_over.ensures.faults.quiet (λ no. no)) c.in-Ok-take_over.ensures.spare (ap (λ (t : _). t.manager) ((rw c.fill.ensures at c.taken_by.ensures) _ _ _ _ took))
+    can.nodes can.there (rw c.get.ensures at c.in-Ok-take_over.ensures.answer) refl (omega arith) (c.in-Ok-take_over.ensures.faults.quiet (λ no. no)) c.in-Ok-take_over.ensures.spare (ap (λ (t : _). t.manager) (c.taken_by.ensures _ _ _ _ took))

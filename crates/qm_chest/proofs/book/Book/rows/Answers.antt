@@ -11,11 +11,11 @@ returns-in_default-clause-rows g c = λ name named.
     let st = standing_of c.args.manager.now in
     subst (λ (r : Result (List Row) Refusal). IfOk c.view.result (λ rows. r ≡ Ok rows))
     (c.the_manager_shows_in_its_listing.ensures st.system None (Some (record { node = name; epoch = st.recorded.says.epoch })) c.args.query.now c.in_default.not-Manager)
-    (rw c.get-at_work.ensures at c.view.ensures.rows)
+    c.view.ensures.rows
 
 pub returns-in_default-clause-refused : goal.returns-in_default-clause-refused
 returns-in_default-clause-refused g c = λ name named.
     let st = standing_of c.args.manager.now in
     subst (Refuses c.view.result)
     (c.the_manager_shows_in_its_listing.ensures st.system None (Some (record { node = name; epoch = st.recorded.says.epoch })) c.args.query.now c.in_default.not-Manager)
-    (rw c.get-at_work.ensures at c.view.ensures.refused)
+    c.view.ensures.refused

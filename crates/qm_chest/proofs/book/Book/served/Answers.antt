@@ -1,7 +1,5 @@
 use Rattle.std.proofs.Common.{◌∙◌, true, false, sym}
 use Rattle.qm_kinds.specs.declared.refusal.Refusal.TheVariants.{NodeDown}
-use Rattle.qm_chest.specs.Desk.{makes_step}
-use Rattle.qm_chest.proofs.Few.{no_takeover}
 use Rattle.qm_chest.proofs.Kept.{leaves_as}
 use Rattle.qm_chest.proofs.Names.{outside_of}
 use Rattle.qm_chest.proofs.Whole.{served_as}
@@ -29,6 +27,3 @@ returns-clause-serves g c = λ tells cap w asked state early asks.
     let up = down_there w c.args.self.now c.args.node c.args.input false state.book (sym c.if-is_down.false ∙ c.is_down.ensures) in
     let due = sym (due_is g.D.Disk.meaning cap w c.args.desk state.desk c.args.input) ∙ sym c.is_due.ensures ∙ c.if-is_due.false in
     c.served_alone.ensures.serves tells cap w asked state early (asks.0, asks.1, up, due)
-
-pub returns-then-is_due-clause-few : goal.returns-then-is_due-clause-few
-returns-then-is_due-clause-few g c = λ is. let alone = no_takeover c.args.desk c.args.input is in let due = sym c.is_due.ensures ∙ c.if-is_due.true in absurd (cc alone due)

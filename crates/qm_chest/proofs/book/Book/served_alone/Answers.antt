@@ -1,9 +1,7 @@
-use Rattle.std.proofs.Common.{◌≡◌, true, sym, subst}
+use Rattle.std.proofs.Common.{sym, subst}
 use Rattle.qm_chest.specs.declared.desk.Desk.{Desk}
 use Rattle.qm_chest.specs.At.{IsDeskOf}
 use Rattle.qm_chest.specs.Whole.{AsksAlone, ServesWhere}
-use Rattle.qm_chest.specs.Desk.{makes_step}
-use Rattle.qm_chest.proofs.Few.{no_step_down}
 use Rattle.qm_chest.proofs.book.Book.served_alone.Goals as goal
 
 pub unmanaged-requires-clause-sound : goal.unmanaged-requires-clause-sound
@@ -18,9 +16,3 @@ pub returns-in-Down-clause-serves : goal.returns-in-Down-clause-serves
 returns-in-Down-clause-serves g c = λ tells.
     subst (λ (d : Desk g.row.D.Denot). ServesWhere g.D.Disk.meaning c.args.self.now d c.args.node c.args.now (AsksAlone c.args.node c.args.input c.args.leaves) c.unmanaged.new.self c.unmanaged.result) (sym c.in-Down.is)
     (c.unmanaged.ensures.serves tells)
-
-pub returns-in-Up-clause-few : goal.returns-in-Up-clause-few
-returns-in-Up-clause-few g c = λ is. c.managed.ensures.few (subst (λ (d : Desk g.row.D.Denot). makes_step d c.args.input ≡ true) c.in-Up.is is)
-
-pub returns-in-Down-clause-few : goal.returns-in-Down-clause-few
-returns-in-Down-clause-few g c = λ is. no_step_down c.args.desk c.in-Down.files c.in-Down.place c.args.input c.in-Down.is is

@@ -1,5 +1,5 @@
 use Rattle.std.proofs.Common.{sym, ap, subst}
-use Rattle.qm_chest.specs.Files.{files_disk}
+use Rattle.qm_acting.specs.Files.{files_disk}
 use Rattle.qm_acting.specs.Standing.{disk_of}
 use Rattle.qm_chest.specs.declared.desk.Desk.{Desk}
 use Rattle.qm_chest.specs.At.{IsDeskOf, IsStateAt}

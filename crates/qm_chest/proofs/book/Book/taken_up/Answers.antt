@@ -5,7 +5,7 @@ use Rattle.qm_glog.specs.declared.fault.OpenFault.TheVariants.{Damaged}
 use Rattle.qm_kinds.specs.declared.system.Node.{Node}
 use Rattle.qm_model.specs.Folding.{system_of}
 use Rattle.qm_history.specs.Accepted.{cluster}
-use Rattle.qm_chest.specs.Files.{files_disk}
+use Rattle.qm_acting.specs.Files.{files_disk}
 use Rattle.qm_acting.specs.Reading.{IsRestoreFault}
 use Rattle.qm_acting.proofs.Spare.{keeps_to, looks_keep}
 use Rattle.qm_acting.specs.Standing.{restored_disk, restored_standing}

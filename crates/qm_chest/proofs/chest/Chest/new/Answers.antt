@@ -1,6 +1,5 @@
-use Rattle.std.proofs.Common.{ℕ, ap, refl, subst, sym}
-use Rattle.qm_acting.specs.Standing.{IsRestored, restored_disk}
-use Rattle.qm_chest.specs.declared.files.Files.TheVariants.{Read}
+use Rattle.std.proofs.Common.{ℕ, refl, subst}
+use Rattle.qm_acting.specs.declared.files.Files.TheVariants.{Read}
 use Rattle.qm_chest.specs.Checking.{IsFirstBook}
 use Rattle.qm_chest.proofs.Beginning.{begun}
 use Rattle.qm_chest.proofs.chest.Chest.new.Goals as goal
@@ -8,6 +7,5 @@ use Rattle.qm_chest.proofs.chest.Chest.new.Goals as goal
 pub returns-clause-begins : goal.returns-clause-begins
 returns-clause-begins g c =
     let kept = subst (λ (epoch : ℕ). IsFirstBook c.nodes.result.now epoch c.in-Ok.book) c.epoch.ensures c.in-Ok.ensures in
-    begun c.sites_begin_one_world.ensures.one g.D.Disk.meaning c.args.checked c.requires.checked _ (Read c.fill.result)
-    (subst (IsRestored g.D.Disk.meaning) (sym c.fill.ensures) c.requires.checked.restored) c.in-Ok.book refl c.new-3.ensures.items (ap restored_disk c.fill.ensures)
+    begun c.sites_begin_one_world.ensures.one g.D.Disk.meaning c.args.checked c.requires.checked _ (Read c.args.checked.restored) c.requires.checked.restored c.in-Ok.book refl c.new-2.ensures.items refl
     c.nodes.result.now c.nodes.ensures kept c.requires.early c.site_files_are_accepted.ensures
