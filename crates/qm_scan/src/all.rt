@@ -8,7 +8,7 @@ ghost use Rattle.qm_kinds.specs.declared.system.System.{System};
 ghost use Rattle.qm_model.specs.Consistent.{IsInOrder};
 ghost use Rattle.qm_model.specs.Find.{name_cmp};
 ghost use Rattle.qm_model.specs.Rows.{all_rows};
-ghost use Rattle.qm_sched.specs.Tables.{with_tables};
+ghost use Rattle.qm_parts.specs.Tables.{with_tables};
 ghost use Rattle.qm_scan.specs.Listed.{AreBelow, is_entry_listed, is_queue_listed, rows_below};
 
 use crate::below::groups_of;
@@ -17,8 +17,8 @@ use crate::listed::{is_entry_listed, is_named, is_queue_listed};
 use qm_kinds::{
     Boxed, Characteristic, Entry, Form, ListedEntry, Listing, Name, Pattern, Query, Queue, Row, Seq,
 };
+use qm_parts::Parts;
 use qm_rows::{Part, Rows};
-use qm_sched::Parts;
 use std::alloc::{AllocError, Global};
 
 /// A copy of a queue.

@@ -9,7 +9,7 @@ ghost use Rattle.qm_kinds.specs.declared.system.System.{System};
 ghost use Rattle.qm_model.specs.Consistent.{IsInOrder};
 ghost use Rattle.qm_model.specs.Find.{name_cmp};
 ghost use Rattle.qm_model.specs.Rows.{next_row, single_rows};
-ghost use Rattle.qm_sched.specs.Tables.{with_tables};
+ghost use Rattle.qm_parts.specs.Tables.{with_tables};
 ghost use Rattle.qm_scan.specs.Listed.{is_behind, is_entry_listed, is_listed_at_home, is_queue_listed};
 
 use crate::all::copy_of;
@@ -17,7 +17,7 @@ use crate::listed::{is_entry_listed, is_listed_at_home, is_named, is_queue_liste
 use crate::places::{entries_behind, place_behind, queues_behind};
 use qm_entries::home_tag;
 use qm_kinds::{After, Characteristic, Entry, Form, ListedEntry, Listing, Name, Query, Queue, Row};
-use qm_sched::{Parts, see_entries};
+use qm_parts::{Parts, see_entries};
 use std::alloc::{AllocError, Global};
 
 // Whether a form of a number stands behind the row that was given last, if one was.

@@ -1,12 +1,12 @@
 // Scans: rows that are asked for one by one.
 ghost use Rattle.std.specs.Prelude.{◌≡◌, IfOk, IsSome, OnErr};
 ghost use Rattle.qm_kinds.specs.declared.system.System.{System};
-ghost use Rattle.qm_sched.specs.Tables.{with_tables};
+ghost use Rattle.qm_parts.specs.Tables.{with_tables};
 ghost use Rattle.qm_scan.specs.Scanning.{behind_row, listing_of, place_behind, query_of, row_behind};
 
 use crate::next::next_row;
 use qm_kinds::{After, Kinds, Listing, Name, Pattern, Query, Row};
-use qm_sched::Parts;
+use qm_parts::Parts;
 use std::alloc::{AllocError, Global};
 
 /// What a scan goes through.

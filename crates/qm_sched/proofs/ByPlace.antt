@@ -17,7 +17,7 @@ use Rattle.qm_queues.specs.Queues.{comes_after, queue_after}
 use Rattle.qm_queues.proofs.QueueNames.{name_of}
 use Rattle.qm_ready.proofs.Tiered.{slice_get_at, slice_get_past}
 use Rattle.qm_sched.specs.Choosing.{next_start, takes_jobs, execution_queues, IsNextStart}
-use Rattle.qm_sched.specs.Tables.{Tables, with_tables}
+use Rattle.qm_parts.specs.Tables.{Tables, with_tables}
 use Rattle.qm_sched.proofs.Starting.{blank}
 use Rattle.qm_sched.proofs.Progress.{Progress, begun, ended, passed_by, starts_next, has_room, one_more, all_behind, one_look, at_most_one, fewer_executing, execution_behind}
 

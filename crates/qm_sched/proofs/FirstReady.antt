@@ -1,13 +1,10 @@
 -- The first key of a queue's row is that of the job which the queue starts next.
-use Rattle.std.proofs.Common.{◌≡◌, ◌∙◌, ℕ, ◌==◌, Bool, true, false, cond, not, ◌&&◌, List, [], ◌∷◌, map, filter, Option, None, Some, refl, sym, ap, subst}
-use Rattle.std.specs.Prelude.{IfSome}
+use Rattle.std.proofs.Common.{◌≡◌, ◌∙◌, ℕ, Bool, true, false, not, ◌&&◌, filter, Option, None, Some, refl, sym, ap}
 use Rattle.std.specs.Option.{option_map}
 use Rattle.std.specs.Ordering.{nat_cmp}
 use Rattle.qm_kinds.specs.declared.entry.Entry.{Entry}
 use Rattle.qm_kinds.specs.declared.queue.Queue.{Queue}
 use Rattle.qm_kinds.specs.declared.system.System.{System}
-use Rattle.qm_match.specs.declared.order.Schedule.{Schedule}
-use Rattle.qm_match.specs.Keys.{key_of, schedule_of}
 use Rattle.qm_model.specs.Consistent.{IsInOrder}
 use Rattle.qm_model.specs.Find.{entry_numbered}
 use Rattle.qm_model.specs.Fitting.{fits, is_open}
@@ -16,15 +13,14 @@ use Rattle.qm_model.specs.Kinds.{is_generic}
 use Rattle.qm_model.specs.Settling.{next_job, has_run_numbers}
 use Rattle.qm_model.proofs.SettlingLemmas.{first_in, in_filter}
 use Rattle.qm_model.proofs.ListLemmas.{in_all}
-use Rattle.qm_ready.specs.Rows.{Row, IsRow, key_numbered, first_number}
-use Rattle.qm_ready.specs.Jobs as jobs
+use Rattle.qm_ready.specs.Rows.{Row, IsRow, first_number}
 use Rattle.qm_ready.proofs.Jobs.{first_is_next}
 use Rattle.qm_sched.specs.Choosing.{takes_jobs, next_start}
-use Rattle.qm_sched.specs.Ready.{ready_key, IsRowOf}
-use Rattle.qm_sched.specs.Tables.{Tables, with_tables}
+use Rattle.qm_parts.specs.Ready.{ready_key, IsRowOf}
+use Rattle.qm_parts.specs.Tables.{Tables, with_tables}
 use Rattle.qm_sched.proofs.Chosen.{closed_starts_nothing, full_starts_nothing, generic_starts_nothing}
-use Rattle.qm_sched.proofs.Ordered.{each_found}
-use Rattle.qm_sched.proofs.RowKeys.{gathered}
+use Rattle.qm_parts.proofs.Ordered.{each_found}
+use Rattle.qm_parts.proofs.RowJobs.{as_jobs}
 
 -- ---- a queue that takes no job starts none
 
@@ -58,27 +54,12 @@ by_place s q kind is =
 
 -- ---- what a row tells
 
-keys_at : (n : ℕ) (e : Entry) (es : List Entry) (b : Bool) → key_numbered n (map key_of es) ≡ option_map key_of (entry_numbered n es)
-    → cond b (Some (key_of e)) (key_numbered n (map key_of es)) ≡ option_map key_of (cond b (Some e) (entry_numbered n es))
-keys_at n e es true later = refl
-keys_at n e es false later = later
-
-keys_of : (n : ℕ) (es : List Entry) → key_numbered n (map key_of es) ≡ option_map key_of (entry_numbered n es)
-keys_of n [] = refl
-keys_of n (e ∷ es) = keys_at n e es (e.number == n) (keys_of n es)
-
 module _ (s : System) (t : Tables) (q : Queue) (row : Row) (order : IsInOrder nat_cmp (λ (e : Entry). e.number) t.entries) (is : IsRowOf q (ready_key t q) row) (kept : IsRow row.schedule row.keys) where
   abbrev fit : Entry → Bool
   fit e = fits (with_tables s t) e q
 
-  pub as_jobs : jobs.IsRowOf (schedule_of q) (filter fit t.entries) row.keys
-  as_jobs = record {
-    row = subst (λ (schedule : Schedule). IsRow schedule row.keys) is.schedule kept;
-    same = λ n. is.keys n ∙ sym (gathered fit n t.entries order) ∙ keys_of n (filter fit t.entries);
-  }
-
   first_is : first_number row.keys ≡ option_map (λ (e : Entry). e.number) (next_job (with_tables s t) q)
-  first_is = first_is_next (with_tables s t) q row.keys order as_jobs
+  first_is = first_is_next (with_tables s t) q row.keys order (as_jobs s t q row order is kept)
 
   found_itself : (x : Entry) → next_job (with_tables s t) q ≡ Some x → entry_numbered x.number t.entries ≡ Some x
   found_itself x job =
@@ -101,9 +82,3 @@ module _ (s : System) (t : Tables) (q : Queue) (row : Row) (order : IsInOrder na
   -- the job of its number is the next one
   pub job_is : (n : ℕ) (found : Option Entry) → first_number row.keys ≡ Some n → entry_numbered n t.entries ≡ found → next_job (with_tables s t) q ≡ found
   job_is n found some there = job_at n found (next_job (with_tables s t) q) there refl (sym some ∙ first_is)
-
--- a row that is told has just the jobs that fit
-pub all_jobs : (s : System) (t : Tables) (found : Option Queue) (row : Row) → IsInOrder nat_cmp (λ (e : Entry). e.number) t.entries → IsRow row.schedule row.keys
-    → IfSome found (λ q. IsRowOf q (ready_key t q) row) → IfSome found (λ q. jobs.IsRowOf (schedule_of q) (jobs.fitting (with_tables s t) q) row.keys)
-all_jobs s t None row order kept is = tt
-all_jobs s t (Some q) row order kept is = as_jobs s t q row order is kept

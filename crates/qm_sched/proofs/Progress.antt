@@ -16,7 +16,7 @@ use Rattle.qm_model.proofs.SettlingLemmas.{with_queue_of}
 use Rattle.qm_model.proofs.SoundLemmas.{find_in, name_not_below}
 use Rattle.qm_model.proofs.ListLemmas.{Pairs, pairs_of, in_all}
 use Rattle.qm_queues.specs.Queues.{comes_after, queue_after}
-use Rattle.qm_sched.specs.Tables.{Tables, with_tables}
+use Rattle.qm_parts.specs.Tables.{Tables, with_tables}
 use Rattle.qm_model.specs.Fitting.{is_open}
 use Rattle.qm_model.specs.Free.{is_free}
 use Rattle.qm_model.specs.Kinds.{is_generic}

@@ -1,10 +1,3 @@
-pub mod Tables
-pub mod Rooms
-pub mod Mirror
 pub mod Choosing
 pub mod Starts
-pub mod Ready
-pub mod ByRun
-pub mod Timing
-pub mod Nodes
-pub mod Reaching
+pub use Rattle.qm_parts.specs.Tables

@@ -1,20 +1,14 @@
 // Which job a queue starts next.
-ghost use Rattle.std.specs.Prelude.{◌≡◌, ◌+◌, ◌<◌, ◌&&◌, not, if◌then◌else◌, length, slice_index_or};
-ghost use Rattle.std.specs.Ordering.{nat_cmp};
+ghost use Rattle.std.specs.Prelude.{◌≡◌, ◌+◌, ◌<◌, ◌&&◌, if◌then◌else◌, length, slice_index_or};
 ghost use Rattle.qm_kinds.specs.declared.queue.Queue.{Queue as AnyQueue};
 ghost use Rattle.qm_kinds.specs.declared.system.System.{System};
-ghost use Rattle.qm_model.specs.Consistent.{IsInOrder};
-ghost use Rattle.qm_model.specs.Fitting.{is_open};
 ghost use Rattle.qm_model.specs.Free.{is_free, places};
-ghost use Rattle.qm_model.specs.Kinds.{is_generic};
 ghost use Rattle.qm_model.specs.Settling.{has_run_numbers, start_of};
-ghost use Rattle.qm_sched.specs.Tables.{with_tables};
+ghost use Rattle.qm_parts.specs.Tables.{with_tables};
 ghost use Rattle.qm_sched.specs.Choosing.{next_start, takes_jobs};
 
-use crate::fitting::is_open;
-use crate::parts::Parts;
-use crate::running::see_order;
 use qm_kinds::{END_OF_RUNS, Entry, Queue, QueueKind, Start};
+use qm_parts::{Parts, is_execution_queue, is_open_queue, see_entries};
 use qm_ready::Steps;
 use std::sync::ledger::Ledger;
 
@@ -26,20 +20,6 @@ pub fn places(queue: &Queue) -> u8
         QueueKind::Batch | QueueKind::GenericBatch => queue.limit,
         QueueKind::Print | QueueKind::GenericPrint => 1,
     }
-}
-
-/// That the entries stand in order of their numbers. It costs nothing.
-pub fn see_entries(parts: &Parts)
-    ensures { IsInOrder nat_cmp (λ e. e.number) parts.now.entries }
-{
-    see_order(&parts.tables.entries, &parts.tables.runs);
-}
-
-/// Whether a queue of this kind runs jobs itself.
-pub(crate) fn is_execution_queue(kind: QueueKind) -> bool
-    ensures { result ≡ not (is_generic kind) }
-{
-    matches!(kind, QueueKind::Batch | QueueKind::Print)
 }
 
 // Whether run numbers are left, and the queue has a place for one more run.
@@ -60,13 +40,6 @@ fn start_of(parts: &Parts, entry: &Entry, queue: &Queue) -> Start
         queue: queue.name,
         run: parts.next_run(),
     }
-}
-
-// Whether a queue is started, and its node is up.
-fn is_open_queue(parts: &Parts, queue: &Queue) -> bool
-    ensures { (s : System) → result ≡ is_open (with_tables s parts.now) queue.now }
-{
-    is_open(&parts.tables, queue)
 }
 
 // Whether a queue starts jobs, run numbers are left and it has a place: else none of its jobs is looked at.

@@ -4,12 +4,12 @@ ghost use Rattle.std.specs.Ordering.{nat_cmp};
 ghost use Rattle.qm_kinds.specs.declared.system.System.{System};
 ghost use Rattle.qm_model.specs.Consistent.{IsInOrder};
 ghost use Rattle.qm_model.specs.Settling.{AreStarts, settled};
-ghost use Rattle.qm_sched.specs.Tables.{with_tables};
+ghost use Rattle.qm_parts.specs.Tables.{with_tables};
 ghost use Rattle.qm_sched.specs.Choosing.{IsNextStart, execution_queues};
 
-use crate::choosing::{next_start, see_entries};
-use crate::parts::Parts;
+use crate::choosing::next_start;
 use qm_kinds::Start;
+use qm_parts::{Parts, see_entries};
 use qm_ready::Steps;
 use std::sync::ledger::Ledger;
 

@@ -23,9 +23,9 @@ use Rattle.qm_model.specs.JobStates.{is_pending, is_waiting}
 use Rattle.qm_model.specs.Outcome.{first_refusal, refused_where}
 use Rattle.qm_model.specs.Replying.{replied}
 use Rattle.qm_model.specs.Wanted.{refused_form, refused_characteristics}
-use Rattle.qm_sched.specs.Rooms.{HavePlacesFor}
-use Rattle.qm_sched.specs.Tables.{Tables}
-use Rattle.qm_sched.proofs.Ordered.{each_found}
+use Rattle.qm_parts.specs.Rooms.{HavePlacesFor}
+use Rattle.qm_parts.specs.Tables.{Tables}
+use Rattle.qm_parts.proofs.Ordered.{each_found}
 use Rattle.qm_state.proofs.Accepting.{waits_at_first}
 use Rattle.qm_state.proofs.Found.{found_all}
 use Rattle.qm_state.proofs.Numbered.{number_found}

@@ -19,9 +19,9 @@ use Rattle.qm_model.specs.States.{when_idle, stopped_when_idle}
 use Rattle.qm_model.proofs.ListLemmas.{pairs_of}
 use Rattle.qm_model.proofs.SettlingLemmas.{fits_pending}
 use Rattle.qm_model.proofs.SoundLemmas.{choice_is, start_is_consistent}
-use Rattle.qm_sched.proofs.Left.{that_one}
+use Rattle.qm_parts.proofs.Left.{that_one}
 use Rattle.qm_sched.proofs.Starting.{entry_found}
-use Rattle.qm_sched.specs.Tables.{Tables, with_tables}
+use Rattle.qm_parts.specs.Tables.{Tables, with_tables}
 use Rattle.qm_timers.proofs.SpoolCounting.{counts_changed}
 use Rattle.qm_timers.specs.SpoolCounts.{CountsOf}
 use Rattle.qm_timers.specs.Spool.{Counted}

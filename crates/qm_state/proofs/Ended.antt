@@ -23,8 +23,8 @@ use Rattle.qm_model.specs.Replying.{replied}
 use Rattle.qm_model.specs.Retaining.{is_retained, retained_until}
 use Rattle.qm_model.specs.Runs.{RunReport, MarkReport, EndReport, after_report, report_act, reported_of, run_reported, entry_of_run}
 use Rattle.qm_model.specs.Standing.{with_entry}
-use Rattle.qm_sched.specs.Mirror.{run_of_entry}
-use Rattle.qm_sched.proofs.Ordered.{each_found}
+use Rattle.qm_parts.specs.Mirror.{run_of_entry}
+use Rattle.qm_parts.proofs.Ordered.{each_found}
 use Rattle.qm_state.specs.Preparing.{IsLeftOf}
 use Rattle.qm_state.proofs.Entries.{found_has}
 

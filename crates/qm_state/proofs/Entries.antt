@@ -6,7 +6,7 @@ use Rattle.std.specs.Ordering.{nat_cmp}
 use Rattle.std.proofs.lemmas.List.Sums.{sum_by-cons}
 use Rattle.qm_model.specs.Consistent.{IsInOrder}
 use Rattle.qm_model.specs.Find.{same_file_name, entry_numbered}
-use Rattle.qm_sched.proofs.Left.{absent_stays, agree_at_it}
+use Rattle.qm_parts.proofs.Left.{absent_stays, agree_at_it}
 use Rattle.qm_timers.proofs.NamedRows.{itself}
 use Rattle.std.proofs.lemmas.List.{append-nil}
 use Rattle.std.proofs.lemmas.List.Elements.{All-head, All-tail}

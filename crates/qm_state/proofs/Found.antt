@@ -17,7 +17,7 @@ use Rattle.qm_model.specs.JobStates.{run_of}
 use Rattle.qm_model.specs.Standing.{is_executing, occupies}
 use Rattle.qm_model.specs.States.{state_when_idle, when_idle}
 use Rattle.qm_model.specs.Stopping.{is_running_in}
-use Rattle.qm_sched.proofs.Counts.{one_if, count_cons, not_found}
+use Rattle.qm_parts.proofs.Counts.{one_if, count_cons, not_found}
 
 -- what is found has what all have
 found_at : {X : Type 0} (P : X → Type 0) (p : X → Bool) (y : X) (ys : List X) (x : X) (b : Bool) → All P (y ∷ ys) → (All P ys → find p ys ≡ Some x → P x) → cond b (Some y) (find p ys) ≡ Some x → P x

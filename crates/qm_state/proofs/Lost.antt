@@ -23,10 +23,10 @@ use Rattle.qm_model.specs.Losing.{after_loss, interrupted, without_node}
 use Rattle.qm_model.specs.Nodes.{up_exactly}
 use Rattle.qm_model.specs.Retaining.{is_retained, retained_until}
 use Rattle.qm_model.specs.Standing.{with_entry}
-use Rattle.qm_sched.specs.Nodes.{is_run_on_one}
-use Rattle.qm_sched.proofs.Counts.{count_agree, count_cons, found_passes}
-use Rattle.qm_sched.proofs.Left.{agree_at_it}
-use Rattle.qm_sched.proofs.Reach.{count_filter_le, count_map}
+use Rattle.qm_parts.specs.Nodes.{is_run_on_one}
+use Rattle.qm_parts.proofs.Counts.{count_agree, count_cons, found_passes}
+use Rattle.qm_parts.proofs.Left.{agree_at_it}
+use Rattle.qm_parts.proofs.Reach.{count_filter_le, count_map}
 use Rattle.qm_timers.specs.Timers.{is_before, with_timer, without}
 use Rattle.qm_timers.proofs.TimerNumbers.{length-inserted}
 use Rattle.qm_state.specs.Losing.{entries_left}

@@ -14,10 +14,10 @@ use Rattle.qm_model.specs.Due.{entry_at, is_over}
 use Rattle.qm_model.specs.Find.{file_named, same_file_name}
 use Rattle.qm_model.specs.Forms.{is_form_taken}
 use Rattle.qm_model.specs.Queues.{runs_for}
-use Rattle.qm_sched.specs.Nodes.{is_run_on_one}
-use Rattle.qm_sched.specs.Rooms.{CanPut, HavePlacesFor, is_home, may_come, reach}
-use Rattle.qm_sched.specs.Tables.{Tables}
-use Rattle.qm_sched.proofs.Reach.{count_map, count_filter_le}
+use Rattle.qm_parts.specs.Nodes.{is_run_on_one}
+use Rattle.qm_parts.specs.Rooms.{CanPut, HavePlacesFor, is_home, may_come, reach}
+use Rattle.qm_parts.specs.Tables.{Tables}
+use Rattle.qm_parts.proofs.Reach.{count_map, count_filter_le}
 use Rattle.qm_timers.specs.Spool.{Kept, HasRoomFor}
 use Rattle.qm_state.proofs.Reached.{NamesItsFile, file_found, no_run_found, unnamed_found}
 use Rattle.qm_state.specs.declared.image.Image.{Image}

@@ -16,8 +16,8 @@ use Rattle.qm_kinds.specs.declared.system.System.{System}
 use Rattle.qm_model.specs.Consistent.{IsConsistent, IsEntry}
 use Rattle.qm_model.specs.JobStates.{run_of}
 use Rattle.qm_model.specs.Standing.{has_run}
-use Rattle.qm_sched.specs.Mirror.{run_of_entry, run_in_state}
-use Rattle.qm_sched.specs.Tables.{Tables, with_tables}
+use Rattle.qm_parts.specs.Mirror.{run_of_entry, run_in_state}
+use Rattle.qm_parts.specs.Tables.{Tables, with_tables}
 use Rattle.qm_state.specs.Restoring.{DifferInEntries}
 use Rattle.qm_timers.specs.Spool.{Counted, count_of}
 use Rattle.qm_timers.specs.Timers.{moment_of}

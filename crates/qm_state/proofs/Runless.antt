@@ -3,8 +3,8 @@ use Rattle.std.proofs.Common.{◌≡◌, Option, None, IfSome, sym, subst}
 use Rattle.qm_kinds.specs.declared.entry.Entry.{Entry}
 use Rattle.qm_kinds.specs.declared.run.Run.{Run}
 use Rattle.qm_model.specs.JobStates.{run_of}
-use Rattle.qm_sched.specs.Mirror.{run_of_entry}
-use Rattle.qm_sched.proofs.Mirrored.{no_run}
+use Rattle.qm_parts.specs.Mirror.{run_of_entry}
+use Rattle.qm_parts.proofs.Mirrored.{no_run}
 
 -- whatever is asked of its run holds
 pub runless : (e : Entry) → run_of e.state ≡ None → (P : Run → Type 0) → IfSome (run_of_entry e) P

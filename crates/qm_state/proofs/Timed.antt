@@ -17,11 +17,11 @@ use Rattle.qm_model.specs.Find.{entry_numbered}
 use Rattle.qm_model.specs.JobStates.{run_of}
 use Rattle.qm_model.specs.Standing.{with_entry}
 use Rattle.qm_model.proofs.InsertLemmas.{one_goes}
-use Rattle.qm_sched.specs.Mirror.{run_of_entry}
-use Rattle.qm_sched.proofs.Asked.{none_of_number, fails_of_number, passes_of_number}
-use Rattle.qm_sched.proofs.Left.{agree_at_it}
-use Rattle.qm_sched.proofs.Ordered.{each_found}
-use Rattle.qm_sched.specs.Timing.{is_at_home}
+use Rattle.qm_parts.specs.Mirror.{run_of_entry}
+use Rattle.qm_parts.proofs.Asked.{none_of_number, fails_of_number, passes_of_number}
+use Rattle.qm_parts.proofs.Left.{agree_at_it}
+use Rattle.qm_parts.proofs.Ordered.{each_found}
+use Rattle.qm_parts.specs.Timing.{is_at_home}
 use Rattle.qm_timers.specs.Timers.{moment_of, timer_of, without, with_timer, later_than}
 use Rattle.qm_timers.proofs.TimerNumbers.{timer_of-All, absent_all, without-absent}
 use Rattle.qm_state.specs.Preparing.{IsLeftOf}

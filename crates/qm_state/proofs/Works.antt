@@ -31,8 +31,8 @@ use Rattle.qm_model.specs.JobStates.{runs_in, runs_on}
 use Rattle.qm_model.specs.Kinds.{is_generic, execution_kind}
 use Rattle.qm_model.specs.Standing.{is_run_on}
 use Rattle.qm_model.proofs.DutyLemmas.{found_of_all}
-use Rattle.qm_sched.specs.ByRun.{entry_on}
-use Rattle.qm_sched.proofs.ByRun.{sorted_all}
+use Rattle.qm_parts.specs.ByRun.{entry_on}
+use Rattle.qm_parts.proofs.ByRun.{sorted_all}
 use Rattle.qm_state.specs.Duties.{HasWork}
 
 -- ---- an entry that runs has a work

@@ -3,8 +3,8 @@ use Rattle.std.specs.Prelude.{ℕ, ◌≤◌, List, count_by, filter_map}
 use Rattle.qm_kinds.specs.declared.entry.Entry.{Entry}
 use Rattle.qm_kinds.specs.declared.queue.Queue.{Queue}
 use Rattle.qm_model.specs.Losing.{after_loss}
-use Rattle.qm_sched.specs.Nodes.{is_run_on_one}
-use Rattle.qm_sched.specs.Tables.{Tables}
+use Rattle.qm_parts.specs.Nodes.{is_run_on_one}
+use Rattle.qm_parts.specs.Tables.{Tables}
 
 -- what is left of the entries when these nodes are lost
 abbrev pub entries_left : List Queue → ℕ → List (List ℕ) → List Entry → List Entry

@@ -33,8 +33,8 @@ use Rattle.qm_model.specs.Stopping.{queue_stopped, entry_aborting}
 use Rattle.qm_queues.specs.declared.queues.settings.Settings.{Settings}
 use Rattle.qm_queues.specs.Queues.{with_queue_put}
 use Rattle.qm_queues.specs.Settings.{with_settings_and_state}
-use Rattle.qm_sched.specs.Mirror.{run_of_entry}
-use Rattle.qm_sched.specs.Rooms.{CanPut, HavePlacesFor, is_home}
+use Rattle.qm_parts.specs.Mirror.{run_of_entry}
+use Rattle.qm_parts.specs.Rooms.{CanPut, HavePlacesFor, is_home}
 use Rattle.qm_timers.specs.Spool.{HasRoomFor}
 use Rattle.qm_state.specs.declared.image.Image.{Image}
 use Rattle.qm_state.specs.declared.prepared.Prepared.{Prepared}

@@ -4,8 +4,8 @@ use Rattle.std.specs.List.{list_any}
 use Rattle.qm_kinds.specs.declared.entry.Entry.{Entry}
 use Rattle.qm_kinds.specs.declared.file.FileName.{FileName}
 use Rattle.qm_model.specs.Standing.{has_run}
-use Rattle.qm_sched.specs.Mirror.{run_of_entry}
-use Rattle.qm_sched.specs.Tables.{Tables}
+use Rattle.qm_parts.specs.Mirror.{run_of_entry}
+use Rattle.qm_parts.specs.Tables.{Tables}
 use Rattle.qm_timers.specs.SpoolCounts.{IsCountedAs}
 use Rattle.qm_timers.specs.Spool.{Counted, count_of}
 

@@ -7,7 +7,7 @@ ghost use Rattle.qm_model.specs.Entries.{refused_queue, is_entry_of_other_kind, 
 ghost use Rattle.qm_model.specs.Find.{queue_named};
 ghost use Rattle.qm_model.specs.JobStates.{is_pending, is_waiting};
 ghost use Rattle.qm_model.specs.Kinds.{is_other_kind};
-ghost use Rattle.qm_sched.specs.Rooms.{HavePlacesFor};
+ghost use Rattle.qm_parts.specs.Rooms.{HavePlacesFor};
 ghost use Rattle.qm_state.specs.Deciding.{Prepares, PreparesAt};
 ghost use Rattle.qm_state.specs.Image.{system_of};
 ghost use Rattle.qm_state.specs.Settings.{HasForms, HasQueues};

@@ -12,7 +12,7 @@ use crate::image::Image;
 use crate::leaving::{Leaving, leave_files};
 use qm_kinds::{Entry, EntryState, Moment};
 use qm_model::what_is_not_due_stays;
-use qm_sched::see_entries;
+use qm_parts::see_entries;
 
 /// Up to so many entries that are due are released each by itself; more in one pass over all.
 const FEW: usize = 64;

@@ -9,7 +9,7 @@ ghost use Rattle.qm_model.specs.Appending.{bytes_of};
 ghost use Rattle.qm_model.specs.Consistent.{IsConsistent};
 ghost use Rattle.qm_model.specs.Duties.{duties, duty_of, work_of, is_paused, run_number, queue_of_run, device_of_run, form_that_shapes, shape_of};
 ghost use Rattle.qm_model.specs.Find.{form_wanted};
-ghost use Rattle.qm_sched.specs.ByRun.{entry_on};
+ghost use Rattle.qm_parts.specs.ByRun.{entry_on};
 ghost use Rattle.qm_state.specs.Duties.{HasWork};
 ghost use Rattle.qm_state.specs.Image.{system_of};
 

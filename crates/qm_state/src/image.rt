@@ -3,7 +3,7 @@ ghost use Rattle.qm_timers.specs.SpoolCounts.{CountsOf};
 ghost use Rattle.qm_state.specs.Timers.{AreTimersOf};
 
 use qm_kinds::{Moment, Name, Seq};
-use qm_sched::Parts;
+use qm_parts::Parts;
 use qm_timers::Spool;
 use std::alloc::Global;
 

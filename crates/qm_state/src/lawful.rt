@@ -8,7 +8,7 @@ ghost use Rattle.qm_state.specs.Image.{system_of};
 use crate::built::{has_form_names, has_short_names, is_definable};
 use crate::image::Image;
 use qm_kinds::{Name, NewQueue, Node, Request};
-use qm_sched::is_among;
+use qm_parts::is_among;
 
 // Whether this name stands at the place.
 fn is_at(names: &[Name], place: usize, name: &Name) -> bool

@@ -4,14 +4,14 @@ ghost use Rattle.qm_match.specs.Keys.{schedule_of};
 ghost use Rattle.qm_model.specs.Applied.{are_numbers_spent};
 ghost use Rattle.qm_model.specs.Find.{queue_named};
 ghost use Rattle.qm_ready.specs.Jobs.{IsRowOf, fitting};
-ghost use Rattle.qm_sched.specs.Tables.{with_tables};
+ghost use Rattle.qm_parts.specs.Tables.{with_tables};
 ghost use Rattle.qm_state.specs.Image.{system_of};
 ghost use Rattle.qm_state.specs.Timers.{AreTimersOf};
 
 use crate::image::Image;
 use qm_kinds::{Moment, Name, Node, RUNS_LIMIT};
+use qm_parts::Parts;
 use qm_ready::ReadyRow;
-use qm_sched::Parts;
 
 impl Image {
     /// The nodes of the cluster.

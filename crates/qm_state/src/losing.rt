@@ -1,7 +1,7 @@
 // What becomes of a job whose node is lost. Nothing is changed here: each function says what an entry becomes.
 ghost use Rattle.std.specs.Prelude.{◌≡◌, ℕ, List, true};
 ghost use Rattle.qm_model.specs.Losing.{after_loss, interrupted};
-ghost use Rattle.qm_sched.specs.Nodes.{is_run_on_one};
+ghost use Rattle.qm_parts.specs.Nodes.{is_run_on_one};
 
 use crate::ending::{ended, fate_of, fated, requeued};
 use qm_kinds::{Entry, Moment};

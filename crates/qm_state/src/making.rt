@@ -9,7 +9,7 @@ ghost use Rattle.qm_model.specs.Replying.{replied};
 ghost use Rattle.qm_model.specs.Runs.{run_reported};
 ghost use Rattle.qm_model.specs.Standing.{with_queue};
 ghost use Rattle.qm_model.specs.Stopping.{queue_stopped, stopped_queue, entries_on_stop, entry_aborting};
-ghost use Rattle.qm_sched.specs.Rooms.{CanPut, HavePlacesFor};
+ghost use Rattle.qm_parts.specs.Rooms.{CanPut, HavePlacesFor};
 ghost use Rattle.qm_state.specs.Ending.{report_of};
 ghost use Rattle.qm_state.specs.Image.{system_of};
 ghost use Rattle.qm_state.specs.Keeping.{KeepsOthers};
@@ -23,8 +23,8 @@ use crate::image::Image;
 use crate::leaving::{Leaving, leave_files};
 use crate::stopping::state_on_stop;
 use qm_kinds::{Act, Entry, Fate, Moment, Name, Queue, QueueState, StopMode};
+use qm_parts::{Parts, see_entries};
 use qm_queues::Settings;
-use qm_sched::{Parts, see_entries};
 
 // The queue has the state that a stop leaves, if it is there.
 fn set_stopped(parts: &mut Parts, name: &Name, how: StopMode)

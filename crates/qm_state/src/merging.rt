@@ -5,7 +5,7 @@ ghost use Rattle.qm_kinds.specs.declared.system.System.{System};
 ghost use Rattle.qm_model.specs.Consistent.{IsConsistent};
 ghost use Rattle.qm_model.specs.Merging.{merge_refusal, merged};
 ghost use Rattle.qm_model.specs.Replying.{replied};
-ghost use Rattle.qm_sched.specs.Rooms.{HavePlacesFor, is_home};
+ghost use Rattle.qm_parts.specs.Rooms.{HavePlacesFor, is_home};
 ghost use Rattle.qm_state.specs.Deciding.{Prepares};
 ghost use Rattle.qm_state.specs.Image.{system_of};
 

@@ -14,7 +14,7 @@ use crate::losing::after_loss;
 use crate::prepared::Change;
 use crate::refused::Refused;
 use qm_kinds::{Act, Moment, Name, Seq};
-use qm_sched::{NodeChange, see_entries};
+use qm_parts::{NodeChange, see_entries};
 use std::alloc::AllocError;
 
 // What is decided. Nothing refuses these requests.

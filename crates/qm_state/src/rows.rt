@@ -3,7 +3,7 @@ ghost use Rattle.std.specs.Prelude.{◌≡◌, ℕ, IfOk, OnOk, [], ◌∷◌, �
 ghost use Rattle.qm_kinds.specs.declared.limits.TheConstants.{ENTRIES_LIMIT};
 ghost use Rattle.qm_model.specs.Consistent.{IsConsistent};
 ghost use Rattle.qm_model.specs.Find.{file_named};
-ghost use Rattle.qm_sched.specs.Tables.{with_tables};
+ghost use Rattle.qm_parts.specs.Tables.{with_tables};
 ghost use Rattle.qm_timers.specs.Spool.{count_of};
 ghost use Rattle.qm_timers.specs.SpoolCounts.{CountsOf};
 ghost use Rattle.qm_state.specs.Image.{system_of};
@@ -14,8 +14,8 @@ ghost use Rattle.qm_timers.specs.Timers.{moment_of};
 use crate::due::moment_in;
 use crate::image::Image;
 use qm_kinds::{Entry, Queue, Seq, System};
+use qm_parts::{Parts, TableSet};
 use qm_queues::{FormTable, QueueTable};
-use qm_sched::{Parts, TableSet};
 use qm_timers::Spool;
 use std::alloc::{AllocError, Global};
 

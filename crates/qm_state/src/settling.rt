@@ -2,11 +2,11 @@
 ghost use Rattle.std.specs.Prelude.{◌≡◌, ◌<◌, ◌≤◌, [], length, vec_capacity};
 ghost use Rattle.qm_kinds.specs.declared.system.System.{System};
 ghost use Rattle.qm_model.specs.Settling.{settled};
-ghost use Rattle.qm_sched.specs.Tables.{with_tables};
+ghost use Rattle.qm_parts.specs.Tables.{with_tables};
 
 use qm_kinds::Start;
+use qm_parts::Parts;
 use qm_ready::Steps;
-use qm_sched::Parts;
 use std::marker::Brand;
 use std::sync::ledger::{Blank, Ledger};
 

@@ -10,7 +10,7 @@ ghost use Rattle.qm_model.specs.Kinds.{is_other_kind};
 ghost use Rattle.qm_model.specs.Outcome.{refused_where};
 ghost use Rattle.qm_model.specs.Replying.{replied};
 ghost use Rattle.qm_model.specs.Submitting.{submit_refusal, has_bad_value, state_of, form_of, entry_of};
-ghost use Rattle.qm_sched.specs.Rooms.{HavePlacesFor};
+ghost use Rattle.qm_parts.specs.Rooms.{HavePlacesFor};
 ghost use Rattle.qm_state.specs.Deciding.{Makes, PreparesAt};
 ghost use Rattle.qm_state.specs.Image.{system_of};
 ghost use Rattle.qm_state.specs.Preparing.{found, entered, IsNewEntry, IsReady};

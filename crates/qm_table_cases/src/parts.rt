@@ -4,7 +4,7 @@ ghost use Rattle.std.specs.Prelude.{◌≡◌, []};
 use crate::rows::job;
 use crate::sites::{nodes_alone, put_job, put_queue};
 use qm_kinds::{Characteristic, Fate, Name, QueueState, Seq, batch_queue, system_user};
-use qm_sched::Parts;
+use qm_parts::Parts;
 use std::alloc::{AllocError, Global};
 use std::test::Fail;
 

@@ -4,8 +4,8 @@ ghost use Rattle.std.specs.Prelude.{◌≡◌, []};
 use crate::rows::job;
 use crate::sites::{nodes_alone, put_job, put_queue};
 use qm_kinds::{Name, Pattern, Row, Seq, batch_queue, system_user};
+use qm_parts::Parts;
 use qm_scan::{Scan, ScanKind};
-use qm_sched::Parts;
 use std::alloc::{AllocError, Global};
 use std::test::Fail;
 

@@ -4,8 +4,8 @@ ghost use Rattle.qm_model.specs.JobStates.{run_of};
 
 use crate::rows::queue;
 use qm_kinds::{Entry, Node, Seq, batch_queue};
+use qm_parts::{Parts, TableSet};
 use qm_queues::{FormTable, QueueTable};
-use qm_sched::{Parts, TableSet};
 use std::alloc::{AllocError, Global};
 
 /// These nodes, and nothing else. The next run has this number.

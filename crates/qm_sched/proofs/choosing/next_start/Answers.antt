@@ -4,7 +4,7 @@ use Rattle.qm_kinds.specs.declared.queue.Queue.{Queue}
 use Rattle.qm_kinds.specs.declared.run.Start.{Start}
 use Rattle.qm_model.specs.Settling.{start_of as model_start}
 use Rattle.qm_sched.specs.Choosing.{takes_jobs}
-use Rattle.qm_sched.specs.Tables.{with_tables}
+use Rattle.qm_parts.specs.Tables.{with_tables}
 use Rattle.qm_sched.proofs.Chosen.{nothing_fits, first_starts}
 use Rattle.qm_sched.proofs.FirstReady.{takes_nothing, takes_with_place, no_job, job_is}
 use Rattle.qm_sched.proofs.choosing.next_start.Goals as goal

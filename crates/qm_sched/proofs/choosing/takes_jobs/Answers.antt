@@ -1,5 +1,5 @@
 use Rattle.std.proofs.Common.{sym, ◌∙◌}
-use Rattle.qm_sched.specs.Tables.{with_tables}
+use Rattle.qm_parts.specs.Tables.{with_tables}
 use Rattle.qm_sched.proofs.FirstReady.{not_executing, not_open, by_place}
 use Rattle.qm_sched.proofs.choosing.takes_jobs.Goals as goal
 

@@ -2,7 +2,7 @@ use Rattle.std.proofs.Common.{◌∷◌, ◌∙◌, ◌-◌, ◌+◌, ◌<◌, [
 use Rattle.std.proofs.lemmas.List.{length-append}
 use Rattle.qm_kinds.specs.declared.queue.Queue.{Queue}
 use Rattle.qm_sched.specs.Choosing.{execution_queues}
-use Rattle.qm_sched.specs.Tables.{Tables}
+use Rattle.qm_parts.specs.Tables.{Tables}
 use Rattle.qm_sched.proofs.Starting.{blank}
 use Rattle.qm_sched.proofs.ByPlace.{all_settled, at_first, few_looks, it_starts_next, one_passed, one_started, room_for_it}
 use Rattle.qm_sched.proofs.settling.settle.Goals as goal

@@ -1,5 +1,5 @@
 use Rattle.std.proofs.Common.{◌≡◌, take}
-use Rattle.qm_sched.specs.Tables.{with_tables}
+use Rattle.qm_parts.specs.Tables.{with_tables}
 use Rattle.qm_timers.specs.SpoolCounts.{CountsOf}
 use Rattle.qm_state.specs.Timers.{AreTimersOf}
 use Rattle.qm_state.proofs.rows.restore_entries.Given as goal

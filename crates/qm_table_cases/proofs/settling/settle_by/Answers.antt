@@ -1,5 +1,5 @@
 use Rattle.std.proofs.Common.{length, ap, arith}
-use Rattle.qm_sched.specs.Tables.{Tables, with_tables}
+use Rattle.qm_parts.specs.Tables.{Tables, with_tables}
 use Rattle.qm_table_cases.proofs.settling.settle_by.Goals as goal
 
 pub settle-requires-clause-room : goal.settle-requires-clause-room

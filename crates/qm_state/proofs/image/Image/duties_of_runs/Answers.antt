@@ -1,7 +1,7 @@
 use Rattle.std.proofs.Common.{◌∙◌, ◌<◌, ◌++◌, List, length, map, option_to_list, take_all, sym, ap, arith}
 use Rattle.qm_kinds.specs.declared.work.Duty.{Duty}
 use Rattle.qm_model.specs.Duties.{duty_of}
-use Rattle.qm_sched.specs.ByRun.{entry_on}
+use Rattle.qm_parts.specs.ByRun.{entry_on}
 use Rattle.qm_state.specs.Image.{system_of}
 use Rattle.qm_state.proofs.Works.{one_more}
 use Rattle.qm_state.proofs.image.Image.duties_of_runs.Goals as goal

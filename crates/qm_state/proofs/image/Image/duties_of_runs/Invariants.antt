@@ -1,6 +1,6 @@
 use Rattle.std.proofs.Common.{◌≡◌, map, filter_map, take}
 use Rattle.qm_model.specs.Duties.{duty_of}
-use Rattle.qm_sched.specs.ByRun.{entry_on}
+use Rattle.qm_parts.specs.ByRun.{entry_on}
 use Rattle.qm_state.specs.Image.{system_of}
 use Rattle.qm_state.proofs.image.Image.duties_of_runs.Given as goal
 

@@ -2,8 +2,8 @@ use Rattle.std.proofs.Common.{◌≡◌, ◌∙◌, ◌==◌, ◌<◌, ◌++◌,
 use Rattle.std.proofs.lemmas.List.Elements.{All-weaker}
 use Rattle.qm_kinds.specs.declared.entry.Entry.{Entry}
 use Rattle.qm_model.specs.Consistent.{IsEntry}
-use Rattle.qm_sched.specs.Rooms.{HavePlacesFor}
-use Rattle.qm_sched.specs.Tables.{Tables}
+use Rattle.qm_parts.specs.Rooms.{HavePlacesFor}
+use Rattle.qm_parts.specs.Tables.{Tables}
 use Rattle.qm_timers.specs.SpoolCounts.{CountsOf}
 use Rattle.qm_state.specs.Timers.{AreTimersOf}
 use Rattle.qm_timers.specs.Timers.{moment_of}

@@ -3,9 +3,9 @@ use Rattle.std.specs.Option.{option_and_then}
 use Rattle.std.specs.Str.{bytes_eq}
 use Rattle.qm_kinds.specs.declared.entry.Entry.{Entry}
 use Rattle.qm_model.specs.Standing.{with_entry}
-use Rattle.qm_sched.specs.Mirror.{run_of_entry}
-use Rattle.qm_sched.specs.Rooms.{HavePlacesFor}
-use Rattle.qm_sched.specs.Tables.{Tables}
+use Rattle.qm_parts.specs.Mirror.{run_of_entry}
+use Rattle.qm_parts.specs.Rooms.{HavePlacesFor}
+use Rattle.qm_parts.specs.Tables.{Tables}
 use Rattle.qm_timers.specs.SpoolCounts.{CountsOf}
 use Rattle.qm_timers.specs.Timers.{moment_of}
 use Rattle.qm_state.specs.Timers.{AreTimersOf}

@@ -4,9 +4,9 @@ use Rattle.qm_kinds.specs.declared.queue.Queue.{Queue}
 use Rattle.qm_kinds.specs.declared.system.System.{System}
 use Rattle.qm_model.specs.Losing.{after_loss}
 use Rattle.qm_model.specs.Standing.{with_entry}
-use Rattle.qm_sched.specs.Nodes.{is_run_on_one}
-use Rattle.qm_sched.specs.Rooms.{HavePlacesFor}
-use Rattle.qm_sched.specs.Tables.{Tables}
+use Rattle.qm_parts.specs.Nodes.{is_run_on_one}
+use Rattle.qm_parts.specs.Rooms.{HavePlacesFor}
+use Rattle.qm_parts.specs.Tables.{Tables}
 use Rattle.qm_state.specs.Image.{system_of}
 use Rattle.qm_state.specs.Losing.{entries_left}
 use Rattle.qm_state.specs.Timers.{moment_left}

@@ -1,5 +1,5 @@
 use Rattle.std.proofs.Common.{◌≡◌, count_by}
-use Rattle.qm_sched.specs.Nodes.{is_run_on_one}
+use Rattle.qm_parts.specs.Nodes.{is_run_on_one}
 use Rattle.qm_state.specs.Image.{system_of}
 use Rattle.qm_state.specs.Keeping.{KeepsOthers}
 use Rattle.qm_state.specs.Losing.{entries_left, HasTimersFor}

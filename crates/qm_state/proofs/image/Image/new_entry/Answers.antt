@@ -4,7 +4,7 @@ use Rattle.qm_kinds.specs.declared.entry.Entry.{Entry}
 use Rattle.qm_kinds.specs.declared.file.FileName.{FileName}
 use Rattle.qm_model.specs.Find.{file_named}
 use Rattle.qm_model.specs.JobStates.{run_of}
-use Rattle.qm_sched.specs.Rooms.{HavePlacesFor}
+use Rattle.qm_parts.specs.Rooms.{HavePlacesFor}
 use Rattle.qm_state.specs.Image.{system_of}
 use Rattle.qm_state.proofs.Accepting.{accepted, number_left, waits_at_first}
 use Rattle.qm_state.proofs.image.Image.new_entry.Goals as goal

@@ -6,7 +6,7 @@ use Rattle.qm_model.specs.Standing.{is_executing}
 use Rattle.qm_model.specs.Stopping.{entry_aborting}
 use Rattle.qm_state.specs.Image.{system_of}
 use Rattle.qm_state.specs.Preparing.{found, entry_removed}
-use Rattle.qm_sched.proofs.Ordered.{once}
+use Rattle.qm_parts.proofs.Ordered.{once}
 use Rattle.qm_state.proofs.Found.{executing_found}
 use Rattle.qm_state.proofs.image.Image.prepare_delete_entry.Goals as goal
 

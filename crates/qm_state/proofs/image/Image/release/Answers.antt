@@ -3,7 +3,7 @@ use Rattle.std.specs.Option.{option_copied}
 use Rattle.qm_kinds.specs.declared.entry.Entry.{Entry}
 use Rattle.qm_kinds.specs.declared.system.System.{System}
 use Rattle.qm_model.specs.Due.{entry_at, is_over}
-use Rattle.qm_sched.specs.Rooms.{HavePlacesFor}
+use Rattle.qm_parts.specs.Rooms.{HavePlacesFor}
 use Rattle.qm_state.proofs.Ended.{home_kept}
 use Rattle.qm_state.specs.Image.{system_of}
 use Rattle.qm_state.specs.Timers.{entries_at, moment_left}

@@ -3,7 +3,7 @@ use Rattle.qm_kinds.specs.declared.entry.Entry.{Entry}
 use Rattle.std.specs.Option.{option_and_then}
 use Rattle.qm_model.specs.Find.{entry_numbered}
 use Rattle.qm_state.proofs.Changed.{file_is_kept, waiting_there}
-use Rattle.qm_sched.specs.Mirror.{run_of_entry}
+use Rattle.qm_parts.specs.Mirror.{run_of_entry}
 use Rattle.qm_state.specs.Timers.{moment_in}
 use Rattle.qm_state.proofs.Runless.{runless}
 use Rattle.qm_state.proofs.Timed.{room_for}

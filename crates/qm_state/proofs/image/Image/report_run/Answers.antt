@@ -3,7 +3,7 @@ use Rattle.qm_kinds.specs.declared.entry.Entry.{Entry}
 use Rattle.qm_kinds.specs.declared.entry.Fate.{Fate}
 use Rattle.qm_model.specs.Runs.{report_act}
 use Rattle.qm_model.specs.Standing.{has_run, is_run_on}
-use Rattle.qm_sched.specs.Rooms.{HavePlacesFor}
+use Rattle.qm_parts.specs.Rooms.{HavePlacesFor}
 use Rattle.qm_state.specs.Ending.{report_of}
 use Rattle.qm_state.specs.Image.{system_of}
 use Rattle.qm_state.specs.Timers.{moment_left}

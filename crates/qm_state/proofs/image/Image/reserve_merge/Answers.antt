@@ -1,6 +1,6 @@
 use Rattle.std.proofs.Common.{◌≡◌, ◌∙◌, ℕ, OnOk, count_by, ap, subst, sym}
-use Rattle.qm_sched.specs.Rooms.{HavePlacesFor, is_home}
-use Rattle.qm_sched.specs.Tables.{Tables}
+use Rattle.qm_parts.specs.Rooms.{HavePlacesFor, is_home}
+use Rattle.qm_parts.specs.Tables.{Tables}
 use Rattle.qm_state.proofs.image.Image.reserve_merge.Goals as goal
 
 pub returns-clause-places : goal.returns-clause-places

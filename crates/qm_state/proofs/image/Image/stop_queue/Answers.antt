@@ -1,6 +1,6 @@
 use Rattle.std.proofs.Common.{◌≡◌, ◌∙◌, ap, sym, subst}
 use Rattle.qm_model.specs.Stopping.{entries_on_stop}
-use Rattle.qm_sched.specs.Tables.{Tables}
+use Rattle.qm_parts.specs.Tables.{Tables}
 use Rattle.qm_state.specs.Timers.{AreTimersOf}
 use Rattle.qm_state.proofs.Stopped.{timers_on_stop, counts_on_stop}
 use Rattle.qm_state.proofs.image.Image.stop_queue.Goals as goal

@@ -1,8 +1,8 @@
 use Rattle.std.proofs.Common.{◌≡◌, ◌∙◌, ◌==◌, cond, List, None, refl, sym, ap, subst}
 use Rattle.qm_kinds.specs.declared.entry.Entry.{Entry}
 use Rattle.qm_model.specs.Standing.{with_entry}
-use Rattle.qm_sched.proofs.Left.{absent_stays}
-use Rattle.qm_sched.specs.Tables.{Tables}
+use Rattle.qm_parts.proofs.Left.{absent_stays}
+use Rattle.qm_parts.specs.Tables.{Tables}
 use Rattle.qm_timers.proofs.SpoolCounting.{counts_gone}
 use Rattle.qm_timers.specs.SpoolCounts.{CountsOf}
 use Rattle.qm_state.specs.Timers.{AreTimersOf}

@@ -5,7 +5,7 @@ use Rattle.qm_kinds.specs.declared.reply.Act.TheVariants.{Managing}
 use Rattle.qm_kinds.specs.declared.system.Node.{Node}
 use Rattle.qm_kinds.specs.declared.system.System.{System}
 use Rattle.qm_model.specs.Replying.{replied}
-use Rattle.qm_sched.specs.Tables.{Tables, with_tables}
+use Rattle.qm_parts.specs.Tables.{Tables, with_tables}
 use Rattle.qm_state.specs.Image.{system_of}
 use Rattle.qm_state.specs.Losing.{entries_left}
 use Rattle.qm_state.proofs.Lost.{just_these}

@@ -1,0 +1,24 @@
+use Rattle.qm_model.specs.Due.{is_over}
+use Rattle.qm_parts.proofs.KeptRows.{kept_by, enough_for, room_for}
+use Rattle.qm_parts.proofs.Reach.{some_stay}
+use Rattle.qm_parts.specs.Tables.{Tables}
+use Rattle.std.proofs.Common.{ap, arith, not}
+use Rattle.qm_parts.proofs.parts.Parts.remove_over.Goals as goal
+
+pub refill_all-requires-clause-enough : goal.refill_all-requires-clause-enough
+refill_all-requires-clause-enough c =
+    enough_for c.self.inside.tables c.self.inside.rows.items c.self.inside.bounds.items c.self.inside.queue_room c.self.invariant c.remove_over.new.self
+    (some_stay c.self.inside.tables c.remove_over.new.self (ap (λ (t : Tables). t.queues) c.remove_over.ensures) (λ e. not (is_over c.args.now e.state)) (ap (λ (t : Tables). t.entries) c.remove_over.ensures))
+
+pub refill_all-requires-clause-room : goal.refill_all-requires-clause-room
+refill_all-requires-clause-room c =
+    room_for c.self.inside.tables c.self.inside.rows.items c.self.inside.bounds.items c.self.inside.queue_room c.self.invariant c.remove_over.new.self
+    (some_stay c.self.inside.tables c.remove_over.new.self (ap (λ (t : Tables). t.queues) c.remove_over.ensures) (λ e. not (is_over c.args.now e.state)) (ap (λ (t : Tables). t.entries) c.remove_over.ensures))
+
+pub invariant_of-self : goal.invariant_of-self
+invariant_of-self c =
+    kept_by c.self.inside.tables c.self.inside.rows.items c.self.inside.bounds.items c.self.inside.queue_room c.self.invariant c.remove_over.new.self
+    (some_stay c.self.inside.tables c.remove_over.new.self (ap (λ (t : Tables). t.queues) c.remove_over.ensures) (λ e. not (is_over c.args.now e.state)) (ap (λ (t : Tables). t.entries) c.remove_over.ensures))
+    c.refill_all.new.rows.items
+    (omega (arith, c.self.invariant.queues, ap (λ (t : Tables). t.spare_queues) c.remove_over.ensures)) c.refill_all.ensures.count c.refill_all.ensures.room
+    c.refill_all.ensures.ready

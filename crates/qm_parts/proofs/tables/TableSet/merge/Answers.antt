@@ -1,0 +1,10 @@
+use Rattle.std.proofs.Common.{ap, ◌∙◌}
+use Rattle.qm_entries.specs.Entries.{Kept}
+use Rattle.qm_parts.specs.Mirror.{runs_of}
+use Rattle.qm_parts.proofs.Swept.{still_mirrors, runs_moved}
+use Rattle.qm_parts.proofs.tables.TableSet.merge.Goals as goal
+
+pub invariant_of-self : goal.invariant_of-self
+invariant_of-self c =
+    still_mirrors c.self.inside.runs.runs c.self.inside.entries.entries c.merge.new.self.entries c.self.invariant
+    (ap (λ (k : Kept). runs_of k.entries) c.merge.ensures.entries ∙ runs_moved c.args.to.now c.args.from.now c.self.inside.entries.entries)

@@ -1,0 +1,9 @@
+pub mod Tables
+pub mod Rooms
+pub mod Mirror
+pub mod Ready
+pub mod ByRun
+pub mod Timing
+pub mod Nodes
+pub mod Reaching
+pub use Rattle.qm_renewal.specs.Renewing

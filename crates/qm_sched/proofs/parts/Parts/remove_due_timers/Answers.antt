@@ -1,7 +1,0 @@
-use Rattle.qm_timers.specs.Timers.{later_than}
-use Rattle.qm_sched.proofs.KeptTimers.{kept_timers}
-use Rattle.qm_sched.proofs.parts.Parts.remove_due_timers.Goals as goal
-
-pub invariant_of-self : goal.invariant_of-self
-invariant_of-self c =
-    kept_timers c.self.inside.tables c.remove_due_timers.new.self c.self.inside.rows.items c.self.inside.bounds.items c.self.inside.queue_room (later_than c.args.now c.self.inside.tables.timers) c.remove_due_timers.new.self.spare_timers c.remove_due_timers.ensures.tables c.self.invariant
