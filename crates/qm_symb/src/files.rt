@@ -51,7 +51,7 @@ fn path_of(folder: &String, device: &Name) -> Result<String, AllocError> {
 }
 
 // Writes the whole block. Calls that are interrupted are made again, and short ones are gone on with.
-fn append_whole<W: Write>(file: &mut W, block: &[u8]) -> io::Result<()> {
+pub(crate) fn append_whole<W: Write>(file: &mut W, block: &[u8]) -> io::Result<()> {
     file.write_all(block)
 }
 

@@ -14,6 +14,8 @@ mod memory;
 pub mod print;
 mod standard;
 mod symbiont;
+#[cfg(test)]
+mod tests;
 
 pub use device::{Device, DeviceFault};
 pub use files::FileDevice;
