@@ -8,3 +8,4 @@ pub mod MatchRows
 pub mod Words
 pub mod Packed
 pub mod Listed
+pub mod Requests

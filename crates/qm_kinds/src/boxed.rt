@@ -1,3 +1,4 @@
+// A value in memory of its own.
 ghost use Rattle.std.specs.Prelude.{◌≡◌, IfOk};
 
 use std::alloc::{AllocError, Global};

@@ -1,3 +1,4 @@
+// Sizes in blocks, and what a completion status says.
 ghost use Rattle.std.specs.Prelude.{◌≡◌};
 ghost use Rattle.qm_kinds.specs.Sizes.{blocks_of, is_success};
 

@@ -1,3 +1,4 @@
+// Jobs as entries: their states, their kinds, and how long they are kept.
 use crate::file::FileName;
 use crate::form::CharacteristicSet;
 use crate::mark::Mark;

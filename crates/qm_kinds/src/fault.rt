@@ -1,3 +1,4 @@
+// What is wrong with bytes that are no name and no mark.
 use std::error::Error;
 use std::fmt;
 

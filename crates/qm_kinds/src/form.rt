@@ -1,3 +1,4 @@
+// Forms, characteristics and sets of characteristics.
 ghost use Rattle.std.specs.Prelude.{◌≡◌, ◌==◌, ◌<◌, ◌^◌, ◌↔◌, IsTrue, IsBitSet, bit_and, bit_or};
 
 use crate::name::Name;

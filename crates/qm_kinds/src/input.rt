@@ -1,3 +1,4 @@
+// What a call hands in.
 ghost use Rattle.std.specs.Prelude.{◌≡◌, IfOk};
 
 use crate::boxed::Boxed;

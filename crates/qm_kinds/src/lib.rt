@@ -24,10 +24,12 @@ mod record;
 mod refusal;
 mod reply;
 mod request;
+mod request_kind;
 mod run;
 mod script;
 mod seq;
 mod short_bytes;
+mod status;
 mod system;
 mod wildcards;
 mod work;
@@ -41,12 +43,13 @@ pub use form::{Characteristic, CharacteristicSet, Form, Shape};
 pub use input::Input;
 pub use known::{batch_queue, default_form, print_queue, system_user};
 pub use limits::{
-    END_OF_RUNS, ENTRIES_LIMIT, FILE_LIMIT, FILES_LIMIT, LAST_CHARACTERISTIC, LAST_FORM,
-    NODES_LIMIT, QUEUES_LIMIT, RUNS_LIMIT, SPOOL_LIMIT, TARGETS_LIMIT,
+    END_OF_RUNS, ENTRIES_LIMIT, FILE_LIMIT, FILES_LIMIT, GREATEST_CAP, LAST_CHARACTERISTIC,
+    LAST_FORM, LEAST_CAP, NODES_LIMIT, QUEUES_LIMIT, RUNS_LIMIT, SPOOL_LIMIT, TARGETS_LIMIT,
+    TEXT_LIMIT,
 };
 pub use listed::ListedEntry;
 pub use mark::Mark;
-pub use moment::{LAST_MOMENT, Moment};
+pub use moment::{DAY, LAST_MOMENT, Moment};
 pub use name::{NODE_NAME_BYTES, Name, SHORT_NAME_BYTES, is_name_byte};
 pub use pattern::Pattern;
 pub use query::{After, Kinds, Listing, Query, Row};
@@ -55,8 +58,10 @@ pub use record::{Body, Record};
 pub use refusal::{Holder, ParseKind, Refusal};
 pub use reply::{Act, Reply};
 pub use request::{EntryChange, Job, NameOrNumber, Request, StopMode};
+pub use request_kind::{RequestKind, each_kind_has_a_number};
 pub use run::{Run, Start};
 pub use script::ScriptKind;
 pub use seq::Seq;
+pub use status::{ABORTED_STATUS, NORMAL_STATUS};
 pub use system::{Node, System};
 pub use work::{Duty, Place, Report, Work};

@@ -1,3 +1,4 @@
+// The limits of a site.
 /// The most nodes of a site.
 pub const NODES_LIMIT: usize = 8;
 
@@ -24,6 +25,15 @@ pub const FILE_LIMIT: usize = 1_048_576;
 
 /// The most bytes of all files of a site together.
 pub const SPOOL_LIMIT: usize = 67_108_864;
+
+/// The least cap of a queue file, in bytes.
+pub const LEAST_CAP: u64 = 4096;
+
+/// The greatest cap of a queue file, and of any log, in bytes.
+pub const GREATEST_CAP: u64 = 268_435_456;
+
+/// The most bytes of a text that is read through as a whole: of a script, and of what a run carries out.
+pub const TEXT_LIMIT: usize = 16_777_216;
 
 /// From this number of the next run on, 2^62, requests are refused since the numbers of runs are spent.
 pub const RUNS_LIMIT: u64 = 4_611_686_018_427_387_904;

@@ -1,7 +1,11 @@
+// Moments, as hundredths of a second.
 ghost use Rattle.std.specs.Prelude.{◌≡◌, ◌≤◌};
 ghost use Rattle.std.specs.Option.{SomeIff};
 
 use std::marker::Model;
+
+/// A day, in hundredths of a second.
+pub const DAY: u64 = 8_640_000;
 
 /// The end of 31-DEC-9999, in hundredths of a second from the base of the system time.
 pub const LAST_MOMENT: u64 = 25_690_901_759_999;

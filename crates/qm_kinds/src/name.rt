@@ -1,3 +1,4 @@
+// The names of nodes, queues, forms, jobs, users and devices.
 ghost use Rattle.std.specs.Char.{to_ascii_uppercase};
 ghost use Rattle.std.specs.Prelude.{position, not, ◌≡◌, ◌<◌, length, take, Some, true, IfSome, IfNone};
 ghost use Rattle.std.specs.List.{list_all};

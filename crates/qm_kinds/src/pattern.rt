@@ -1,3 +1,4 @@
+// Patterns with wildcards, and which names they match.
 ghost use Rattle.std.specs.Char.{to_ascii_uppercase};
 ghost use Rattle.std.specs.Prelude.{position, not, ◌≡◌, ◌||◌, ◌==◌, Some};
 ghost use Rattle.qm_kinds.specs.Text.{text_of, is_pattern_byte, IsText};

@@ -1,3 +1,4 @@
+// What a listing is asked for, and its rows.
 use crate::boxed::Boxed;
 use crate::form::{Characteristic, Form};
 use crate::listed::ListedEntry;

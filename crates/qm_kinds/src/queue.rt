@@ -1,10 +1,12 @@
-ghost use Rattle.std.specs.Prelude.{◌≡◌, Some};
+// Queues, their settings, and queues that are made.
+ghost use Rattle.std.specs.Prelude.{◌≡◌, IfOk, Some};
 ghost use Rattle.qm_kinds.specs.Words.{queue_kind_text, queue_state_text};
 
 use crate::form::CharacteristicSet;
 use crate::name::Name;
 use crate::request::NameOrNumber;
 use crate::seq::Seq;
+use std::alloc::{AllocError, Global};
 use std::fmt;
 
 /// What a queue is for. The first two are execution queues, which stand on one node. The others are generic:
@@ -81,6 +83,29 @@ pub struct Queue {
     pub retain: QueueRetain,
     /// The queues to which a generic queue passes jobs on.
     pub targets: Seq<Name>,
+}
+
+impl Queue {
+    /// The same queue once more. Memory may run out.
+    pub fn copy(&self, alloc: Global) -> Result<Queue, AllocError>
+        ensures { IfOk result (λ copy. copy ≡ self.now) }
+    {
+        Ok(Queue {
+            name: self.name,
+            kind: self.kind,
+            state: self.state,
+            node: self.node,
+            device: self.device,
+            limit: self.limit,
+            characteristics: self.characteristics,
+            mounted: self.mounted,
+            lower: self.lower,
+            upper: self.upper,
+            by_size: self.by_size,
+            retain: self.retain,
+            targets: Seq::of(Vec::from_slice(alloc, self.targets.as_slice())?),
+        })
+    }
 }
 
 /// Settings of a queue that a request gives.

@@ -1,3 +1,4 @@
+// What a record of a log says.
 use crate::entry::Entry;
 use crate::file::File;
 use crate::form::{Characteristic, Form};

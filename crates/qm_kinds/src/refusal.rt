@@ -1,3 +1,4 @@
+// Why a request is refused.
 ghost use Rattle.std.specs.Prelude.{Some};
 ghost use Rattle.qm_kinds.specs.Words.{parse_kind_text};
 

@@ -1,3 +1,4 @@
+// What is answered to a request, and what was done before the next.
 use crate::entry::EntryState;
 use crate::file::FileName;
 use crate::mark::Mark;

@@ -1,3 +1,4 @@
+// What can be asked for that changes the system.
 use crate::entry::{JobKind, JobRetain};
 use crate::file::FileName;
 use crate::form::{Characteristic, Form};

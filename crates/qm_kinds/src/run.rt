@@ -1,3 +1,4 @@
+// The runs of jobs.
 use crate::name::Name;
 
 /// A run of a job in a queue on a node. Runs are numbered from 1 on.

@@ -1,3 +1,4 @@
+// What is wrong with a script.
 ghost use Rattle.std.specs.Prelude.{Some};
 ghost use Rattle.qm_kinds.specs.Words.{script_kind_text};
 
@@ -14,7 +15,7 @@ pub enum ScriptKind {
     Node,
     /// The script ends within a line.
     End,
-    /// It has more than 16,777,216 bytes.
+    /// It has more than `TEXT_LIMIT` bytes.
     Long,
 }
 

@@ -1,3 +1,4 @@
+// A list of values.
 ghost use Rattle.std.specs.Prelude.{◌≡◌, ◌↔◌, [], length, IsTrue};
 
 use std::alloc::Global;

@@ -1,3 +1,4 @@
+// A queue system as a whole, and its nodes.
 use crate::entry::Entry;
 use crate::file::File;
 use crate::form::{Characteristic, Form};

@@ -1,3 +1,4 @@
+// What a run carries out, where it stands, and what it reports.
 use crate::entry::JobKind;
 use crate::form::Shape;
 use crate::mark::Mark;
