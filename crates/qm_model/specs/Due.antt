@@ -1,6 +1,6 @@
 -- What is due at a moment.
 -- DCL Dictionary, SUBMIT and PRINT, /AFTER and /RETAIN=UNTIL.
-use Rattle.std.specs.Prelude.{ℕ, nat_le, Bool, false, not, if◌then◌else◌, map, filter, None, Some}
+use Rattle.std.specs.Prelude.{◌≡◌, ℕ, nat_le, Bool, false, not, if◌then◌else◌, map, filter, None, Some, All}
 use Rattle.qm_kinds.specs.declared.entry.Entry.{Entry}
 use Rattle.qm_kinds.specs.declared.entry.EntryState.{EntryState}
 use Rattle.qm_kinds.specs.declared.entry.EntryState.TheVariants.{Pending, Holding, Timed, Running, Aborting, Retained}
@@ -42,3 +42,7 @@ is_due now (Running queue node run) = false
 is_due now (Aborting queue node run fate) = false
 is_due now (Retained status None) = false
 is_due now (Retained status (Some until)) = nat_le until now
+
+-- this holds of each system and moment where no job's moment has come
+abbrev pub WhereNothingIsDue : (System → ℕ → Type 0) → Type 0
+WhereNothingIsDue Holds = (s : System) (now : ℕ) → All (λ e. is_due now e.state ≡ false) s.entries → Holds s now

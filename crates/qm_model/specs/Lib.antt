@@ -51,3 +51,4 @@ pub mod Built
 pub mod Lawful
 pub mod Log
 pub mod Folding
+pub mod Laws

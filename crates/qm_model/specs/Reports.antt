@@ -1,7 +1,7 @@
 -- What a symbiont does in a run, from a place on: the blocks that it hands over and the reports that it gives, in order.
 -- OpenVMS System Manager's Manual, Setting Up and Maintaining Queues, on symbionts and on jobs that restart at a checkpoint.
-use Rattle.std.specs.Prelude.{◌≡◌, ℕ, zero, suc, ◌+◌, ◌-◌, nat_lt, nat_le, Bool, ◌&&◌, if◌then◌else◌, List, [], ◌∷◌, length, filter_map, drop, Option, None, Some, decimal}
-use Rattle.std.specs.List.{list_all}
+use Rattle.std.specs.Prelude.{◌≡◌, ◌<◌, ◌^◌, ℕ, zero, suc, ◌+◌, ◌-◌, nat_lt, nat_le, Bool, ◌&&◌, if◌then◌else◌, List, [], ◌∷◌, length, map, filter_map, take, drop, Option, None, Some, decimal}
+use Rattle.std.specs.List.{list_all, range_with_len}
 use Rattle.std.specs.Char.{is_ascii_digit}
 use Rattle.qm_kinds.specs.declared.entry.JobKind.{JobKind}
 use Rattle.qm_kinds.specs.declared.entry.JobKind.TheVariants.{Batch, Print}
@@ -123,3 +123,23 @@ abbrev pub blocks_before_report : List Step → List (List ℕ)
 blocks_before_report [] = []
 blocks_before_report (Handed block ∷ steps) = block ∷ blocks_before_report steps
 blocks_before_report (Reported told ∷ steps) = []
+
+-- how many blocks of a print job are left at a place
+abbrev pub blocks_left : Work → Place → ℕ
+blocks_left w p = length (page_blocks w) - p.at
+
+-- a mark behind each block that is left but the last, which counts the blocks so far
+abbrev pub marks_left : Work → Place → List Report
+marks_left w p = map (mark_behind p.used) (range_with_len (p.at + 1) (blocks_left w p - 1))
+
+-- the next block of a print job, if one is left
+abbrev pub next_block : Work → Place → List (List ℕ)
+next_block w p = take 1 (drop p.at (page_blocks w))
+
+-- this holds of each print job, at each place
+abbrev pub OfEachPrintJob : (Work → Place → Type 0) → Type 0
+OfEachPrintJob Holds = (w : Work) (p : Place) → w.kind ≡ Print → Holds w p
+
+-- the blocks of the job are fewer than 2^64
+abbrev pub HasCountedBlocks : Work → Type 0
+HasCountedBlocks w = length (page_blocks w) < 2 ^ 64

@@ -1,6 +1,6 @@
 -- The jobs that can start are started.
 -- OpenVMS System Manager's Manual, Setting Up and Maintaining Queues, on how the queue manager starts jobs in execution queues.
-use Rattle.std.specs.Prelude.{◌≡◌, ℕ, zero, suc, ◌+◌, nat_lt, ◌==◌, Bool, ◌&&◌, if◌then◌else◌, List, [], ◌∷◌, length, filter, find, unwrap_or, Option, None, Some, IfSome, IsSome}
+use Rattle.std.specs.Prelude.{◌≡◌, ℕ, zero, suc, ◌+◌, nat_lt, ◌==◌, Bool, not, ◌&&◌, if◌then◌else◌, List, [], ◌∷◌, length, filter, find, unwrap_or, Option, None, Some, IfSome, IsSome}
 use Rattle.std.specs.List.{list_any}
 use Rattle.std.specs.Option.{option_map, option_map_or, option_and_then}
 use Rattle.qm_kinds.specs.declared.entry.Entry.{Entry}
@@ -83,3 +83,7 @@ abbrev pub AreStarts : System → List Start → System → Type 0
 AreStarts s [] end = end ≡ s
 AreStarts s (start ∷ later) end =
     IsSome (next_choice s) × IfSome (next_choice s) (λ c. (start ≡ start_of s c) × AreStarts (after_start s c) later end)
+
+-- the entries that no start names
+abbrev pub not_started : List Start → List Entry → List Entry
+not_started started entries = filter (λ e. not (is_among_started started e)) entries

@@ -1,10 +1,12 @@
 -- Where an entry stands, and how an entry or a queue takes the place of the one under its number or name.
 -- OpenVMS System Services Reference Manual, $GETQUI, on the jobs that stand in a queue.
 -- This site's own: that retained entries stand in their home.
-use Rattle.std.specs.Prelude.{ℕ, ◌==◌, Bool, true, false, if◌then◌else◌, List, [], ◌∷◌, map, flat_map, unwrap_or, option_to_list, slice_get, Option}
+use Rattle.std.specs.Prelude.{◌≡◌, ◌≢◌, ℕ, ◌==◌, Bool, true, false, if◌then◌else◌, List, [], ◌∷◌, map, flat_map, unwrap_or, option_to_list, slice_get, count_by, Option}
 use Rattle.std.specs.Option.{option_map_or}
 use Rattle.std.specs.Str.{bytes_eq}
 use Rattle.qm_kinds.specs.declared.entry.Entry.{Entry}
+use Rattle.qm_kinds.specs.declared.entry.EntryState.TheVariants.{Running, Aborting}
+use Rattle.qm_kinds.specs.declared.entry.Fate.{Fate}
 use Rattle.qm_kinds.specs.declared.queue.Queue.{Queue}
 use Rattle.qm_kinds.specs.declared.system.Node.{Node}
 use Rattle.qm_model.specs.JobStates.{runs_in, runs_on, run_of}
@@ -40,3 +42,23 @@ with_queue name change queues = map (λ q. if bytes_eq q.name name then change q
 -- the name of the node at this place of the cluster
 abbrev pub node_at : ℕ → List Node → List ℕ
 node_at place nodes = option_map_or (λ n. n.name) (slice_get nodes place) []
+
+-- the entry stands in exactly one of the queues
+abbrev pub StandsInOne : List Queue → Entry → Type 0
+StandsInOne queues e = count_by (λ q. bytes_eq q.name (stands_in e)) queues ≡ 1
+
+-- this holds of each entry that runs, and of the queue where it runs
+abbrev pub OfEachRunning : (Entry → List ℕ → Type 0) → Type 0
+OfEachRunning Holds = (e : Entry) (queue node : List ℕ) (run : ℕ) → e.state ≡ Running queue node run → Holds e queue
+
+-- this holds of each entry that is aborting, and of the queue where it has its run
+abbrev pub OfEachAborting : (Entry → List ℕ → Type 0) → Type 0
+OfEachAborting Holds = (e : Entry) (queue node : List ℕ) (run : ℕ) (fate : Fate) → e.state ≡ Aborting queue node run fate → Holds e queue
+
+-- the entry doesn't run
+abbrev pub IsNotRunning : Entry → Type 0
+IsNotRunning e = (queue node : List ℕ) (run : ℕ) → e.state ≢ Running queue node run
+
+-- the entry isn't aborting
+abbrev pub IsNotAborting : Entry → Type 0
+IsNotAborting e = (queue node : List ℕ) (run : ℕ) (fate : Fate) → e.state ≢ Aborting queue node run fate

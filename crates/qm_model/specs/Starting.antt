@@ -6,6 +6,8 @@ use Rattle.qm_kinds.specs.declared.entry.EntryState.TheVariants.{Pending, Runnin
 use Rattle.qm_kinds.specs.declared.queue.Queue.{Queue}
 use Rattle.qm_kinds.specs.declared.run.Start.{Start}
 use Rattle.qm_kinds.specs.declared.system.System.{System}
+use Rattle.qm_model.specs.Consistent.{IsInOrder}
+use Rattle.qm_model.specs.Find.{name_cmp}
 use Rattle.qm_model.specs.Fitting.{fits}
 use Rattle.qm_model.specs.Free.{is_free}
 
@@ -39,3 +41,7 @@ pub record WasStarted (old new : System) (start : Start) : Type 0 where
   pub queue_name : queue.name ≡ start.queue
   pub queue_node : queue.node ≡ Some node
   pub runs : Contains new.entries (record entry { state = Running start.queue node start.run })
+
+-- the queues stand by name
+abbrev pub StandByName : List Queue → Type 0
+StandByName queues = IsInOrder name_cmp (λ q. q.name) queues

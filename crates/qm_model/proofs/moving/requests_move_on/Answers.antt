@@ -6,7 +6,7 @@ pub returns-clause-last : goal.returns-clause-last
 returns-clause-last c = last_is_now
 
 pub returns-clause-later : goal.returns-clause-later
-returns-clause-later c s now node request a later is = subst (λ (n : ℕ). s.last ≤ n) (sym (last_is_now s now node request a is)) later
+returns-clause-later c s now node request a is later = subst (λ (n : ℕ). s.last ≤ n) (sym (last_is_now s now node request a is)) later
 
 pub returns-clause-runs : goal.returns-clause-runs
 returns-clause-runs c = runs_rise

@@ -27,4 +27,4 @@ pub returns-clause-first_queue : goal.returns-clause-first_queue
 returns-clause-first_queue c = queue_is_first
 
 pub returns-clause-first_by_name : goal.returns-clause-first_by_name
-returns-clause-first_by_name c = queue_is_first_by_name
+returns-clause-first_by_name c s choice is ordered = queue_is_first_by_name s choice ordered is
