@@ -1,5 +1,5 @@
 -- Records in doubt, takeovers that fail, and losses that have no room.
-use Rattle.std.proofs.Common.{◌≡◌, ℕ, lit<, lit≤, Bool, true, false, List, [], ◌∷◌, ◌++◌, refl, inl, inr, None, Some, map}
+use Rattle.std.proofs.Common.{◌≡◌, ℕ, lit<, lit≤, Bool, true, false, List, [], ◌∷◌, ◌++◌, refl, inr, None, Some, map}
 use Rattle.std.specs.Prelude.{codes, option_to_list}
 use Rattle.std.specs.Fmt.{digits}
 use Rattle.qm_kinds.specs.declared.file.File.{File}
@@ -15,9 +15,10 @@ use Rattle.qm_history.specs.declared.turn.Turn.{Turn}
 use Rattle.qm_history.specs.declared.turn.Why.TheVariants as why
 use Rattle.qm_history.specs.declared.world.World.{World}
 use Rattle.qm_history.specs.Leaving.{MayBeLeft}
-use Rattle.qm_history.specs.Legal.{after_turns, IsLegal}
+use Rattle.qm_history.specs.Legal.{after_turn, after_turns, IsLegal, IsLegalTurn}
 use Rattle.qm_history.specs.Text.{text}
 use Rattle.qm_history.specs.World.{system_in}
+use Rattle.qm_history.proofs.LegalTurns.{follows, serves, takes}
 use Rattle.qm_history.proofs.Serving.{new_site, world_of, no_items, Any}
 
 abbrev turn : ℕ → ℕ → List Event → Turn
@@ -78,97 +79,24 @@ left_by_the_next = inr (inr (2, refl))
 pub no_manager_in_doubt : (after_turns site (failed ∷ [])).manager ≡ None
 no_manager_in_doubt = refl
 
+failed_is_legal : IsLegalTurn Any site failed
+failed_is_legal =
+    serves (call.Line 1 (input.Ask append)) (lit< tt) refl tt
+    (takes refl refl refl refl refl (follows (lit< tt) (lit≤ tt) refl (refl, refl, refl) refl), ((refl, follows (lit< tt) (lit≤ tt) tt tt refl), tt))
+    (refl, refl, refl, (refl, refl, refl))
+
+next_is_legal : (kept : Bool) → IsLegalTurn Any (after_turn site failed) (next kept)
+next_is_legal true =
+    serves (call.Line 2 (input.Ask request.Tick)) (lit< tt) refl tt
+    (takes refl refl refl refl refl (follows (lit< tt) (lit≤ tt) refl (refl, refl, refl) refl), ((refl, follows (lit< tt) (lit≤ tt) tt tt refl, refl), tt))
+    (refl, refl, refl, (refl, refl, refl, refl))
+next_is_legal false =
+    serves (call.Line 2 (input.Ask request.Tick)) (lit< tt) refl tt
+    (takes refl refl refl refl refl (follows (lit< tt) (lit≤ tt) refl (refl, refl, refl) refl), ((refl, follows (lit< tt) (lit≤ tt) tt tt refl, refl), tt))
+    (refl, refl, refl, (refl, refl, refl, refl))
+
 pub both_are_legal : (kept : Bool) → IsLegal Any site (both_turns kept)
-both_are_legal true = (
-  (
-    call.Line 1 (input.Ask append),
-    inl (
-      record {
-        node_there = lit< tt;
-        why_is = refl;
-        outside = tt;
-        can_come = (
-          record {
-            next_epoch = refl;
-            told = refl;
-            nodes = record { gone_is = refl; up_is = refl; named = refl };
-            follows = record { spelled = tt; node_there = lit< tt; not_earlier = lit≤ tt; names = refl; lists = (refl, refl, refl); accepted = refl };
-          },
-          ((refl, record { spelled = tt; node_there = lit< tt; not_earlier = lit≤ tt; names = tt; lists = tt; accepted = refl }), tt),
-        );
-      },
-      (refl, refl, refl, (refl, refl, refl)),
-    ),
-  ),
-  (
-    (
-      call.Line 2 (input.Ask request.Tick),
-      inl (
-        record {
-          node_there = lit< tt;
-          why_is = refl;
-          outside = tt;
-          can_come = (
-            record {
-              next_epoch = refl;
-              told = refl;
-              nodes = record { gone_is = refl; up_is = refl; named = refl };
-              follows = record { spelled = tt; node_there = lit< tt; not_earlier = lit≤ tt; names = refl; lists = (refl, refl, refl); accepted = refl };
-            },
-            ((refl, record { spelled = tt; node_there = lit< tt; not_earlier = lit≤ tt; names = tt; lists = tt; accepted = refl }, refl), tt),
-          );
-        },
-        (refl, refl, refl, (refl, refl, refl, refl)),
-      ),
-    ),
-    tt,
-  ),
-)
-both_are_legal false = (
-  (
-    call.Line 1 (input.Ask append),
-    inl (
-      record {
-        node_there = lit< tt;
-        why_is = refl;
-        outside = tt;
-        can_come = (
-          record {
-            next_epoch = refl;
-            told = refl;
-            nodes = record { gone_is = refl; up_is = refl; named = refl };
-            follows = record { spelled = tt; node_there = lit< tt; not_earlier = lit≤ tt; names = refl; lists = (refl, refl, refl); accepted = refl };
-          },
-          ((refl, record { spelled = tt; node_there = lit< tt; not_earlier = lit≤ tt; names = tt; lists = tt; accepted = refl }), tt),
-        );
-      },
-      (refl, refl, refl, (refl, refl, refl)),
-    ),
-  ),
-  (
-    (
-      call.Line 2 (input.Ask request.Tick),
-      inl (
-        record {
-          node_there = lit< tt;
-          why_is = refl;
-          outside = tt;
-          can_come = (
-            record {
-              next_epoch = refl;
-              told = refl;
-              nodes = record { gone_is = refl; up_is = refl; named = refl };
-              follows = record { spelled = tt; node_there = lit< tt; not_earlier = lit≤ tt; names = refl; lists = (refl, refl, refl); accepted = refl };
-            },
-            ((refl, record { spelled = tt; node_there = lit< tt; not_earlier = lit≤ tt; names = tt; lists = tt; accepted = refl }, refl), tt),
-          );
-        },
-        (refl, refl, refl, (refl, refl, refl, refl)),
-      ),
-    ),
-    tt,
-  ),
-)
+both_are_legal kept = (failed_is_legal, (next_is_legal kept, tt))
 
 -- ---- a takeover that reads what became of the record, and then fails itself
 
@@ -199,34 +127,9 @@ it_costs_an_epoch = refl
 
 pub the_refusal_is_legal : IsLegal Any for_A_alone (refused ∷ taken ∷ [])
 the_refusal_is_legal = (
+  serves (call.Line 1 (input.Ask request.Tick)) (lit< tt) refl tt ((inr refl, λ some. some), (tt, tt)) (refl, (refl, refl, refl, refl)),
   (
-    call.Line 1 (input.Ask request.Tick),
-    inl (
-      record { node_there = lit< tt; why_is = refl; outside = tt; can_come = ((inr refl, λ some. some), (tt, tt)) },
-      (refl, (refl, refl, refl, refl)),
-    ),
-  ),
-  (
-    (
-      call.Line 2 (input.TakeManager None),
-      inl (
-        record {
-          node_there = lit< tt;
-          why_is = refl;
-          outside = tt;
-          can_come = (
-            record {
-              next_epoch = refl;
-              told = refl;
-              nodes = record { gone_is = refl; up_is = refl; named = refl };
-              follows = record { spelled = tt; node_there = lit< tt; not_earlier = lit≤ tt; names = refl; lists = (refl, refl, refl); accepted = refl };
-            },
-            tt,
-          );
-        },
-        (refl, refl, refl, refl),
-      ),
-    ),
+    serves (call.Line 2 (input.TakeManager None)) (lit< tt) refl tt (takes refl refl refl refl refl (follows (lit< tt) (lit≤ tt) refl (refl, refl, refl) refl), tt) (refl, refl, refl, refl),
     tt,
   ),
 )
@@ -250,7 +153,7 @@ pub it_has_left : (after_turns managed (left ∷ [])).live ≡ false ∷ true �
 it_has_left = refl
 
 pub the_leave_is_legal : IsLegal Any managed (left ∷ [])
-the_leave_is_legal = ((call.Leave, inl (record { node_there = lit< tt; why_is = refl; outside = tt; can_come = (refl, (tt, tt)) }, inr (refl, refl))), tt)
+the_leave_is_legal = ((serves call.Leave (lit< tt) refl tt (refl, (tt, tt)) (inr (refl, refl))), tt)
 
 pub text_of_a_full_stop : text no_items managed (not_stopped ∷ []) ≡ codes "A 2: %QMAN-E-FULL, need 4200, cap 4096\n"
 unfolding digits
@@ -260,4 +163,4 @@ pub it_has_not_stopped : (after_turns managed (not_stopped ∷ [])).live ≡ tru
 it_has_not_stopped = refl
 
 pub the_stop_is_legal : IsLegal Any managed (not_stopped ∷ [])
-the_stop_is_legal = ((call.Line 2 input.StopNode, inl (record { node_there = lit< tt; why_is = refl; outside = tt; can_come = (tt, tt) }, inr refl)), tt)
+the_stop_is_legal = ((serves (call.Line 2 input.StopNode) (lit< tt) refl tt (tt, tt) (inr refl)), tt)

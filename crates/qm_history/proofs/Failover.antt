@@ -1,5 +1,5 @@
 -- A node takes the role of queue manager, another one takes it over, and the first one's TICK is fenced.
-use Rattle.std.proofs.Common.{◌≡◌, ◌≢◌, ℕ, lit<, lit≤, List, [], ◌∷◌, refl, inl, None, arith}
+use Rattle.std.proofs.Common.{◌≡◌, ◌≢◌, ℕ, lit<, lit≤, List, [], ◌∷◌, refl, None, arith}
 use Rattle.std.specs.Prelude.{codes}
 use Rattle.std.specs.Fmt.{digits}
 use Rattle.qm_kinds.specs.declared.input.Input.{Input}
@@ -15,6 +15,7 @@ use Rattle.qm_history.specs.declared.turn.Why.TheVariants as why
 use Rattle.qm_history.specs.declared.world.World.{World}
 use Rattle.qm_history.specs.Legal.{IsLegal}
 use Rattle.qm_history.specs.Text.{text}
+use Rattle.qm_history.proofs.LegalTurns.{follows, serves, takes}
 use Rattle.qm_history.proofs.Serving.{Asked, new_site, world_of, listing_of, history, no_items, Any}
 
 abbrev pub line_of : ℕ → ℕ → Input → Asked
@@ -66,68 +67,13 @@ one_not_two same = absurd (omega (arith, same))
 
 pub they_are_legal : IsLegal Any site turns
 they_are_legal = (
+  serves (call.Line 1 (input.Show (listing_of Manager None))) (lit< tt) refl tt (takes refl refl refl refl refl (follows (lit< tt) (lit≤ tt) refl (refl, refl, refl) refl), (tt, tt)) (refl, refl, refl, refl),
   (
-    call.Line 1 (input.Show (listing_of Manager None)),
-    inl (
-      record {
-        node_there = lit< tt;
-        why_is = refl;
-        outside = tt;
-        can_come = (
-          record {
-            next_epoch = refl;
-            told = refl;
-            nodes = record { gone_is = refl; up_is = refl; named = refl };
-            follows = record { spelled = tt; node_there = lit< tt; not_earlier = lit≤ tt; names = refl; lists = (refl, refl, refl); accepted = refl };
-          },
-          (tt, tt),
-        );
-      },
-      (refl, refl, refl, refl),
-    ),
-  ),
-  (
+    serves (call.Line 2 (input.TakeManager None)) (lit< tt) refl tt (takes refl refl refl refl refl (follows (lit< tt) (lit≤ tt) refl (refl, refl, refl) refl), tt) (refl, refl, refl, refl),
     (
-      call.Line 2 (input.TakeManager None),
-      inl (
-        record {
-          node_there = lit< tt;
-          why_is = refl;
-          outside = tt;
-          can_come = (
-            record {
-              next_epoch = refl;
-              told = refl;
-              nodes = record { gone_is = refl; up_is = refl; named = refl };
-              follows = record { spelled = tt; node_there = lit< tt; not_earlier = lit≤ tt; names = refl; lists = (refl, refl, refl); accepted = refl };
-            },
-            tt,
-          );
-        },
-        (refl, refl, refl, refl),
-      ),
-    ),
-    (
+      serves (call.Line 3 (input.Ask request.Tick)) (lit< tt) refl tt ((refl, refl, one_not_two), tt) refl,
       (
-        call.Line 3 (input.Ask request.Tick),
-        inl (
-          record { node_there = lit< tt; why_is = refl; outside = tt; can_come = ((refl, refl, one_not_two), tt) },
-          refl,
-        ),
-      ),
-      (
-        (
-          call.Line 4 (input.Ask request.Tick),
-          inl (
-            record {
-              node_there = lit< tt;
-              why_is = refl;
-              outside = tt;
-              can_come = ((refl, record { spelled = tt; node_there = lit< tt; not_earlier = lit≤ tt; names = tt; lists = tt; accepted = refl }, refl), tt);
-            },
-            (refl, refl, refl, refl),
-          ),
-        ),
+        serves (call.Line 4 (input.Ask request.Tick)) (lit< tt) refl tt ((refl, follows (lit< tt) (lit≤ tt) tt tt refl, refl), tt) (refl, refl, refl, refl),
         tt,
       ),
     ),

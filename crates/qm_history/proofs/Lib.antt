@@ -11,6 +11,7 @@ pub mod ShapeLemmas
 pub mod CrashLemmas
 pub mod AfterLemmas
 pub mod Serving
+pub mod LegalTurns
 pub mod Failover
 pub mod Doubts
 pub mod TwoNodes

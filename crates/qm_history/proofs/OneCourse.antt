@@ -20,6 +20,7 @@ use Rattle.qm_history.specs.Course.{MadeStep, Whole, IsCourse}
 use Rattle.qm_history.specs.Script.{UserLine, LineSort, Command, Act}
 use Rattle.qm_history.specs.Text.{text}
 use Rattle.qm_history.specs.Visits.{Visit}
+use Rattle.qm_history.proofs.LegalTurns.{follows, takes}
 use Rattle.qm_history.proofs.Serving.{Asked, new_site, world_of, history, no_items, Any}
 use Rattle.qm_history.proofs.TwoNodes.{asks, listing_file, print_queue, print_job}
 
@@ -115,31 +116,26 @@ it_is_a_course = record {
         why_is = refl;
         outside = tt;
         can_come = (
-          record {
-            next_epoch = refl;
-            told = refl;
-            nodes = record { gone_is = refl; up_is = refl; named = refl };
-            follows = record { spelled = tt; node_there = lit< tt; not_earlier = lit≤ tt; names = refl; lists = (refl, refl, refl); accepted = refl };
-          },
-          ((refl, record { spelled = tt; node_there = lit< tt; not_earlier = lit≤ tt; names = tt; lists = tt; accepted = refl }, refl), tt),
+          takes refl refl refl refl refl (follows (lit< tt) (lit≤ tt) refl (refl, refl, refl) refl),
+          ((refl, follows (lit< tt) (lit≤ tt) tt tt refl, refl), tt),
         );
       },
       (refl, refl, refl, (refl, refl, refl, refl)),
     ),
     (
-      (record { node_there = lit< tt; why_is = refl; outside = tt; can_come = ((refl, record { spelled = tt; node_there = lit< tt; not_earlier = lit≤ tt; names = (lit≤ tt, tt, lit< tt); lists = tt; accepted = refl }, refl), tt) }, (refl, refl, refl, refl)),
+      (record { node_there = lit< tt; why_is = refl; outside = tt; can_come = ((refl, follows (lit< tt) (lit≤ tt) (lit≤ tt, tt, lit< tt) tt refl, refl), tt) }, (refl, refl, refl, refl)),
       (
-        (record { node_there = lit< tt; why_is = refl; outside = tt; can_come = ((refl, record { spelled = tt; node_there = lit< tt; not_earlier = lit≤ tt; names = tt; lists = tt; accepted = refl }, refl), tt) }, (refl, refl, refl, refl)),
+        (record { node_there = lit< tt; why_is = refl; outside = tt; can_come = ((refl, follows (lit< tt) (lit≤ tt) tt tt refl, refl), tt) }, (refl, refl, refl, refl)),
         (
           (record { node_there = lit< tt; why_is = refl; outside = tt; can_come = (tt, tt) }, refl),
           (
             (refl, tt),
-            (record { node_there = lit< tt; why_is = refl; outside = tt; can_come = ((refl, record { spelled = tt; node_there = lit< tt; not_earlier = lit≤ tt; names = tt; lists = tt; accepted = refl }, refl), tt) }, (refl, refl, refl, refl)),
+            (record { node_there = lit< tt; why_is = refl; outside = tt; can_come = ((refl, follows (lit< tt) (lit≤ tt) tt tt refl, refl), tt) }, (refl, refl, refl, refl)),
             (
               (record { node_there = lit< tt; why_is = refl; outside = tt; can_come = (tt, tt) }, refl),
               (
                 (refl, tt),
-                (record { node_there = lit< tt; why_is = refl; outside = tt; can_come = ((refl, record { spelled = tt; node_there = lit< tt; not_earlier = lit≤ tt; names = tt; lists = tt; accepted = refl }, refl), tt) }, (refl, refl, refl, refl)),
+                (record { node_there = lit< tt; why_is = refl; outside = tt; can_come = ((refl, follows (lit< tt) (lit≤ tt) tt tt refl, refl), tt) }, (refl, refl, refl, refl)),
                 (
                   (record { node_there = lit< tt; why_is = refl; outside = tt; can_come = (tt, tt) }, refl),
                   (

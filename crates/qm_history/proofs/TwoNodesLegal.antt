@@ -1,5 +1,5 @@
 -- A print job that a stop of its node interrupts goes on at its mark on the other node: each turn may be made.
-use Rattle.std.proofs.Common.{◌≡◌, ℕ, lit<, lit≤, false, List, [], ◌∷◌, refl, inl, None, Some}
+use Rattle.std.proofs.Common.{◌≡◌, ℕ, lit<, lit≤, false, List, [], ◌∷◌, refl, None, Some}
 use Rattle.std.specs.Prelude.{codes, decimal}
 use Rattle.std.specs.Fmt.{digits}
 use Rattle.qm_kinds.specs.declared.entry.EntryState.TheVariants.{Pending}
@@ -18,6 +18,7 @@ use Rattle.qm_history.specs.declared.turn.Why.{Why}
 use Rattle.qm_history.specs.declared.turn.Why.TheVariants as why
 use Rattle.qm_history.specs.declared.world.World.{World}
 use Rattle.qm_history.specs.Legal.{after_turn, IsLegalTurn, IsLegal}
+use Rattle.qm_history.proofs.LegalTurns.{follows, serves, takes}
 use Rattle.qm_history.proofs.Serving.{listing_of, history, Any}
 use Rattle.qm_history.proofs.TwoNodes.{calls, site, listing_file, print_queue, generic_queue, print_job}
 
@@ -186,99 +187,99 @@ world_24 = after_turn world_23 turn_23
 
 may_1 : MayBeMade world_1 turn_1
 unfolding digits
-may_1 = record { legal = (call.Line 1 (input.Ask (request.Fill listing_file 420)), inl (record { node_there = lit< tt; why_is = refl; outside = tt; can_come = (record { next_epoch = refl; told = refl; nodes = record { gone_is = refl; up_is = refl; named = refl }; follows = record { spelled = tt; node_there = lit< tt; not_earlier = lit≤ tt; names = refl; lists = (refl, refl, refl); accepted = refl } }, ((refl, record { spelled = tt; node_there = lit< tt; not_earlier = lit≤ tt; names = tt; lists = tt; accepted = refl }, refl), tt)) }, (refl, refl, refl, (refl, refl, refl, refl)))) }
+may_1 = record { legal = serves (call.Line 1 (input.Ask (request.Fill listing_file 420))) (lit< tt) refl tt (takes refl refl refl refl refl (follows (lit< tt) (lit≤ tt) refl (refl, refl, refl) refl), ((refl, follows (lit< tt) (lit≤ tt) tt tt refl, refl), tt)) (refl, refl, refl, (refl, refl, refl, refl)) }
 
 may_2 : MayBeMade world_2 turn_2
 unfolding digits
-may_2 = record { legal = (call.Line 2 (input.Ask (print_queue (codes "A") (codes "LPA"))), inl (record { node_there = lit< tt; why_is = refl; outside = tt; can_come = ((refl, record { spelled = tt; node_there = lit< tt; not_earlier = lit≤ tt; names = (lit≤ tt, tt, lit< tt); lists = tt; accepted = refl }, refl), tt) }, (refl, refl, refl, refl))) }
+may_2 = record { legal = serves (call.Line 2 (input.Ask (print_queue (codes "A") (codes "LPA")))) (lit< tt) refl tt ((refl, follows (lit< tt) (lit≤ tt) (lit≤ tt, tt, lit< tt) tt refl, refl), tt) (refl, refl, refl, refl) }
 
 may_3 : MayBeMade world_3 turn_3
 unfolding digits
-may_3 = record { legal = (call.Line 3 (input.Ask (print_queue (codes "B") (codes "LPB"))), inl (record { node_there = lit< tt; why_is = refl; outside = tt; can_come = ((refl, record { spelled = tt; node_there = lit< tt; not_earlier = lit≤ tt; names = (lit≤ tt, tt, lit< tt); lists = tt; accepted = refl }, refl), tt) }, (refl, refl, refl, refl))) }
+may_3 = record { legal = serves (call.Line 3 (input.Ask (print_queue (codes "B") (codes "LPB")))) (lit< tt) refl tt ((refl, follows (lit< tt) (lit≤ tt) (lit≤ tt, tt, lit< tt) tt refl, refl), tt) (refl, refl, refl, refl) }
 
 may_4 : MayBeMade world_4 turn_4
 unfolding digits
-may_4 = record { legal = (call.Line 4 (input.Ask generic_queue), inl (record { node_there = lit< tt; why_is = refl; outside = tt; can_come = ((refl, record { spelled = tt; node_there = lit< tt; not_earlier = lit≤ tt; names = (lit≤ tt, tt, lit< tt); lists = tt; accepted = refl }, refl), tt) }, (refl, refl, refl, refl))) }
+may_4 = record { legal = serves (call.Line 4 (input.Ask generic_queue)) (lit< tt) refl tt ((refl, follows (lit< tt) (lit≤ tt) (lit≤ tt, tt, lit< tt) tt refl, refl), tt) (refl, refl, refl, refl) }
 
 may_5 : MayBeMade world_5 turn_5
 unfolding digits
-may_5 = record { legal = (call.Line 5 (input.Ask (print_queue (codes "A") (codes "LPC"))), inl (record { node_there = lit< tt; why_is = refl; outside = tt; can_come = ((refl, record { spelled = tt; node_there = lit< tt; not_earlier = lit≤ tt; names = (lit≤ tt, tt, lit< tt); lists = tt; accepted = refl }, refl), tt) }, (refl, refl, refl, refl))) }
+may_5 = record { legal = serves (call.Line 5 (input.Ask (print_queue (codes "A") (codes "LPC")))) (lit< tt) refl tt ((refl, follows (lit< tt) (lit≤ tt) (lit≤ tt, tt, lit< tt) tt refl, refl), tt) (refl, refl, refl, refl) }
 
 may_6 : MayBeMade world_6 turn_6
 unfolding digits
-may_6 = record { legal = (call.Line 6 (input.Ask (request.Submit (print_job (codes "GP")))), inl (record { node_there = lit< tt; why_is = refl; outside = tt; can_come = ((refl, record { spelled = tt; node_there = lit< tt; not_earlier = lit≤ tt; names = tt; lists = tt; accepted = refl }, refl), tt) }, (refl, refl, refl, refl))) }
+may_6 = record { legal = serves (call.Line 6 (input.Ask (request.Submit (print_job (codes "GP"))))) (lit< tt) refl tt ((refl, follows (lit< tt) (lit≤ tt) tt tt refl, refl), tt) (refl, refl, refl, refl) }
 
 may_7 : MayBeMade world_7 turn_7
 unfolding digits
-may_7 = record { legal = (call.Line 7 (input.Ask (request.Submit (record (print_job (codes "LPC")) { retain = Failed; restart = false }))), inl (record { node_there = lit< tt; why_is = refl; outside = tt; can_come = ((refl, record { spelled = tt; node_there = lit< tt; not_earlier = lit≤ tt; names = tt; lists = tt; accepted = refl }, refl), tt) }, (refl, refl, refl, refl))) }
+may_7 = record { legal = serves (call.Line 7 (input.Ask (request.Submit (record (print_job (codes "LPC")) { retain = Failed; restart = false })))) (lit< tt) refl tt ((refl, follows (lit< tt) (lit≤ tt) tt tt refl, refl), tt) (refl, refl, refl, refl) }
 
 may_8 : MayBeMade world_8 turn_8
 unfolding digits
-may_8 = record { legal = (call.Line 8 (input.Fetch []), inl (record { node_there = lit< tt; why_is = refl; outside = tt; can_come = (tt, tt) }, refl)) }
+may_8 = record { legal = serves (call.Line 8 (input.Fetch [])) (lit< tt) refl tt (tt, tt) refl }
 
 may_9 : MayBeMade world_9 turn_9
 unfolding digits
-may_9 = record { legal = (call.Report 1 (report.Mark (decimal 1) (record { at = 1; used = 0 })), inl (record { node_there = lit< tt; why_is = refl; outside = tt; can_come = ((refl, record { spelled = tt; node_there = lit< tt; not_earlier = lit≤ tt; names = tt; lists = tt; accepted = refl }, refl), tt) }, (refl, refl, refl, refl))) }
+may_9 = record { legal = serves (call.Report 1 (report.Mark (decimal 1) (record { at = 1; used = 0 }))) (lit< tt) refl tt ((refl, follows (lit< tt) (lit≤ tt) tt tt refl, refl), tt) (refl, refl, refl, refl) }
 
 may_10 : MayBeMade world_10 turn_10
 unfolding digits
-may_10 = record { legal = (call.Report 2 (report.Mark (decimal 1) (record { at = 1; used = 0 })), inl (record { node_there = lit< tt; why_is = refl; outside = tt; can_come = ((refl, record { spelled = tt; node_there = lit< tt; not_earlier = lit≤ tt; names = tt; lists = tt; accepted = refl }, refl), tt) }, (refl, refl, refl, refl))) }
+may_10 = record { legal = serves (call.Report 2 (report.Mark (decimal 1) (record { at = 1; used = 0 }))) (lit< tt) refl tt ((refl, follows (lit< tt) (lit≤ tt) tt tt refl, refl), tt) (refl, refl, refl, refl) }
 
 may_11 : MayBeMade world_11 turn_11
 unfolding digits
-may_11 = record { legal = (call.Report 1 (report.Mark (decimal 2) (record { at = 2; used = 0 })), inl (record { node_there = lit< tt; why_is = refl; outside = tt; can_come = ((refl, record { spelled = tt; node_there = lit< tt; not_earlier = lit≤ tt; names = tt; lists = tt; accepted = refl }, refl), tt) }, (refl, refl, refl, refl))) }
+may_11 = record { legal = serves (call.Report 1 (report.Mark (decimal 2) (record { at = 2; used = 0 }))) (lit< tt) refl tt ((refl, follows (lit< tt) (lit≤ tt) tt tt refl, refl), tt) (refl, refl, refl, refl) }
 
 may_12 : MayBeMade world_12 turn_12
 unfolding digits
-may_12 = record { legal = (call.Report 2 (report.Mark (decimal 2) (record { at = 2; used = 0 })), inl (record { node_there = lit< tt; why_is = refl; outside = tt; can_come = ((refl, record { spelled = tt; node_there = lit< tt; not_earlier = lit≤ tt; names = tt; lists = tt; accepted = refl }, refl), tt) }, (refl, refl, refl, refl))) }
+may_12 = record { legal = serves (call.Report 2 (report.Mark (decimal 2) (record { at = 2; used = 0 }))) (lit< tt) refl tt ((refl, follows (lit< tt) (lit≤ tt) tt tt refl, refl), tt) (refl, refl, refl, refl) }
 
 may_13 : MayBeMade world_13 turn_13
 unfolding digits
-may_13 = record { legal = (call.Report 1 (report.Mark (decimal 3) (record { at = 3; used = 0 })), inl (record { node_there = lit< tt; why_is = refl; outside = tt; can_come = ((refl, record { spelled = tt; node_there = lit< tt; not_earlier = lit≤ tt; names = tt; lists = tt; accepted = refl }, refl), tt) }, (refl, refl, refl, refl))) }
+may_13 = record { legal = serves (call.Report 1 (report.Mark (decimal 3) (record { at = 3; used = 0 }))) (lit< tt) refl tt ((refl, follows (lit< tt) (lit≤ tt) tt tt refl, refl), tt) (refl, refl, refl, refl) }
 
 may_14 : MayBeMade world_14 turn_14
 unfolding digits
-may_14 = record { legal = (call.Report 2 (report.Mark (decimal 3) (record { at = 3; used = 0 })), inl (record { node_there = lit< tt; why_is = refl; outside = tt; can_come = ((refl, record { spelled = tt; node_there = lit< tt; not_earlier = lit≤ tt; names = tt; lists = tt; accepted = refl }, refl), tt) }, (refl, refl, refl, refl))) }
+may_14 = record { legal = serves (call.Report 2 (report.Mark (decimal 3) (record { at = 3; used = 0 }))) (lit< tt) refl tt ((refl, follows (lit< tt) (lit≤ tt) tt tt refl, refl), tt) (refl, refl, refl, refl) }
 
 may_15 : MayBeMade world_15 turn_15
 unfolding digits
-may_15 = record { legal = (call.Line 9 (input.StopNode), inl (record { node_there = lit< tt; why_is = refl; outside = tt; can_come = (refl, tt) }, refl)) }
+may_15 = record { legal = serves (call.Line 9 (input.StopNode)) (lit< tt) refl tt (refl, tt) refl }
 
 may_16 : MayBeMade world_16 turn_16
 unfolding digits
-may_16 = record { legal = (call.Line 10 (input.Fetch []), inl (record { node_there = lit< tt; why_is = refl; outside = tt; can_come = (record { next_epoch = refl; told = refl; nodes = record { gone_is = refl; up_is = refl; named = refl }; follows = record { spelled = tt; node_there = lit< tt; not_earlier = lit≤ tt; names = refl; lists = (refl, refl, refl); accepted = refl } }, (tt, tt)) }, (refl, refl, refl, refl))) }
+may_16 = record { legal = serves (call.Line 10 (input.Fetch [])) (lit< tt) refl tt (takes refl refl refl refl refl (follows (lit< tt) (lit≤ tt) refl (refl, refl, refl) refl), (tt, tt)) (refl, refl, refl, refl) }
 
 may_17 : MayBeMade world_17 turn_17
 unfolding digits
-may_17 = record { legal = (call.Report 3 (report.Mark (decimal 4) (record { at = 4; used = 0 })), inl (record { node_there = lit< tt; why_is = refl; outside = tt; can_come = ((refl, record { spelled = tt; node_there = lit< tt; not_earlier = lit≤ tt; names = tt; lists = tt; accepted = refl }, refl), tt) }, (refl, refl, refl, refl))) }
+may_17 = record { legal = serves (call.Report 3 (report.Mark (decimal 4) (record { at = 4; used = 0 }))) (lit< tt) refl tt ((refl, follows (lit< tt) (lit≤ tt) tt tt refl, refl), tt) (refl, refl, refl, refl) }
 
 may_18 : MayBeMade world_18 turn_18
 unfolding digits
-may_18 = record { legal = (call.Line 11 (input.Show (listing_of Entries (Some (codes "SYSTEM")))), inl (record { node_there = lit< tt; why_is = refl; outside = tt; can_come = (tt, tt) }, refl)) }
+may_18 = record { legal = serves (call.Line 11 (input.Show (listing_of Entries (Some (codes "SYSTEM"))))) (lit< tt) refl tt (tt, tt) refl }
 
 may_19 : MayBeMade world_19 turn_19
 unfolding digits
-may_19 = record { legal = (call.Fetch (3 ∷ []), inl (record { node_there = lit< tt; why_is = refl; outside = tt; can_come = (tt, tt) }, refl)) }
+may_19 = record { legal = serves (call.Fetch (3 ∷ [])) (lit< tt) refl tt (tt, tt) refl }
 
 may_20 : MayBeMade world_20 turn_20
 unfolding digits
-may_20 = record { legal = (call.Report 3 (report.Mark (decimal 5) (record { at = 5; used = 0 })), inl (record { node_there = lit< tt; why_is = refl; outside = tt; can_come = ((refl, record { spelled = tt; node_there = lit< tt; not_earlier = lit≤ tt; names = tt; lists = tt; accepted = refl }, refl), tt) }, (refl, refl, refl, refl))) }
+may_20 = record { legal = serves (call.Report 3 (report.Mark (decimal 5) (record { at = 5; used = 0 }))) (lit< tt) refl tt ((refl, follows (lit< tt) (lit≤ tt) tt tt refl, refl), tt) (refl, refl, refl, refl) }
 
 may_21 : MayBeMade world_21 turn_21
 unfolding digits
-may_21 = record { legal = (call.Report 3 (report.Mark (decimal 6) (record { at = 6; used = 0 })), inl (record { node_there = lit< tt; why_is = refl; outside = tt; can_come = ((refl, record { spelled = tt; node_there = lit< tt; not_earlier = lit≤ tt; names = tt; lists = tt; accepted = refl }, refl), tt) }, (refl, refl, refl, refl))) }
+may_21 = record { legal = serves (call.Report 3 (report.Mark (decimal 6) (record { at = 6; used = 0 }))) (lit< tt) refl tt ((refl, follows (lit< tt) (lit≤ tt) tt tt refl, refl), tt) (refl, refl, refl, refl) }
 
 may_22 : MayBeMade world_22 turn_22
 unfolding digits
-may_22 = record { legal = (call.Report 3 (report.Done 1), inl (record { node_there = lit< tt; why_is = refl; outside = tt; can_come = ((refl, record { spelled = tt; node_there = lit< tt; not_earlier = lit≤ tt; names = tt; lists = tt; accepted = refl }, refl), tt) }, (refl, refl, refl, refl))) }
+may_22 = record { legal = serves (call.Report 3 (report.Done 1)) (lit< tt) refl tt ((refl, follows (lit< tt) (lit≤ tt) tt tt refl, refl), tt) (refl, refl, refl, refl) }
 
 may_23 : MayBeMade world_23 turn_23
 unfolding digits
-may_23 = record { legal = (call.Fetch [], inl (record { node_there = lit< tt; why_is = refl; outside = tt; can_come = (tt, tt) }, refl)) }
+may_23 = record { legal = serves (call.Fetch []) (lit< tt) refl tt (tt, tt) refl }
 
 may_24 : MayBeMade world_24 turn_24
 unfolding digits
-may_24 = record { legal = (call.Leave, inl (record { node_there = lit< tt; why_is = refl; outside = tt; can_come = (refl, tt) }, refl)) }
+may_24 = record { legal = serves call.Leave (lit< tt) refl tt (refl, tt) refl }
 
 abbrev turns : List Turn
 turns = turn_1 ∷ turn_2 ∷ turn_3 ∷ turn_4 ∷ turn_5 ∷ turn_6 ∷ turn_7 ∷ turn_8 ∷ turn_9 ∷ turn_10 ∷ turn_11 ∷ turn_12 ∷ turn_13 ∷ turn_14 ∷ turn_15 ∷ turn_16 ∷ turn_17 ∷ turn_18 ∷ turn_19 ∷ turn_20 ∷ turn_21 ∷ turn_22 ∷ turn_23 ∷ turn_24 ∷ []

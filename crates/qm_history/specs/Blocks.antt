@@ -1,6 +1,6 @@
 -- What the devices of a node get.
 -- OpenVMS System Manager's Manual, Setting Up and Maintaining Queues, on jobs that restart at a checkpoint.
-use Rattle.std.specs.Prelude.{◌≡◌, ◌⊎◌, ℕ, ◌<◌, ◌≤◌, ◌==◌, Bool, ◌&&◌, if◌then◌else◌, List, [], ◌∷◌, ◌++◌, map, find, take, drop, slice_get, Option, None, Some, Contains}
+use Rattle.std.specs.Prelude.{◌≡◌, ◌⊎◌, ℕ, ◌<◌, ◌≤◌, ◌==◌, Bool, ◌&&◌, if◌then◌else◌, List, [], ◌∷◌, ◌++◌, find, take, drop, slice_get, Option, None, Some, Contains}
 use Rattle.std.specs.List.{AllByRecursion}
 use Rattle.qm_kinds.specs.declared.entry.Entry.{Entry}
 use Rattle.qm_kinds.specs.declared.entry.JobKind.TheVariants.{Print}
@@ -53,22 +53,6 @@ broken_step (Some k) = record { run = k; end = DeviceFailed } ∷ []
 -- the steps of a course, and the one within which it broke off
 abbrev pub all_steps : List MadeStep → Option KeptRun → List MadeStep
 all_steps steps broken = steps ++ broken_step broken
-
--- a block, and the run that handed it over
-abbrev pub of_run : ℕ → List (List ℕ) → List (ℕ × List ℕ)
-of_run run blocks = map (λ (block : List ℕ). (run, block)) blocks
-
--- the blocks of steps, each with its run, in their order
-abbrev pub in_order : List MadeStep → List (List (List ℕ)) → List (ℕ × List ℕ)
-in_order [] handed = []
-in_order (m ∷ steps) [] = []
-in_order (m ∷ steps) (blocks ∷ handed) = of_run m.run.run blocks ++ in_order steps handed
-
--- what a device got in a course of these steps, and in one more where the course broke off within it
-pub record IsGot (steps : List MadeStep) (broken : Option KeptRun) (got : List (ℕ × List ℕ)) : Type 0 where
-  pub handed : List (List (List ℕ))
-  pub are_handed : AreHanded (all_steps steps broken) handed
-  pub got_is : got ≡ in_order (all_steps steps broken) handed
 
 -- ---- stretches
 

@@ -2,10 +2,8 @@
 -- OpenVMS System Manager's Manual, Managing the Queue Manager and Queue Database, on the queue manager process and its files.
 -- This site's own: one value with the files and the image, and the notes of its turns.
 use Rattle.std.specs.Prelude.{◌≡◌, ◌≢◌, ◌⊎◌, ℕ, ◌+◌, ◌-◌, ◌^◌, ◌<◌, ◌≤◌, min, Bool, true, false, List, [], ◌∷◌, ◌++◌, length, filter_map, count_by, ◌&&◌, is_some, Option, None, Some, IsTrue, IsNone}
-use Rattle.std.specs.List.{AllByRecursion}
 use Rattle.std.specs.Option.{option_map}
 use Rattle.qm_disk.specs.Disk.{CrashState, Meaning, LeavesOnly, OnlyLooks, TellsFaults}
-use Rattle.qm_kinds.specs.declared.input.Input.TheVariants as input
 use Rattle.qm_kinds.specs.declared.record.Record.{Record}
 use Rattle.qm_kinds.specs.declared.system.System.{System}
 use Rattle.qm_history.specs.declared.call.Answer.{Answer}
@@ -15,13 +13,11 @@ use Rattle.qm_history.specs.declared.turn.Turn.{Turn}
 use Rattle.qm_history.specs.declared.world.Role.{Role}
 use Rattle.qm_history.specs.declared.world.World.{World}
 use Rattle.qm_history.specs.Answering.{MayAnswer}
-use Rattle.qm_history.specs.Calls.{input_of, why_of, IsFromOutside}
-use Rattle.qm_history.specs.Computed.{turn_of, AreSpelled, IsLawfulInput}
+use Rattle.qm_history.specs.Calls.{why_of}
 use Rattle.qm_history.specs.Contents.{HoldWorld, HoldWithin, HoldIn, Keeps, LeavesFiles, CompactsFiles, are_without_write, compacted_by}
 use Rattle.qm_history.specs.Faults.{faults_told, is_journal, tells_disk_fault}
 use Rattle.qm_history.specs.Legal.{after_turn, after_turns}
 use Rattle.qm_history.specs.Master.{MasterState}
-use Rattle.qm_model.specs.Log.{image_of}
 use Rattle.qm_history.specs.Room.{Room, AreAboveCap, IsRoomTold, UnlessFailed, room_after_events, room_in}
 use Rattle.qm_history.specs.Start.{HoldRecords, Starts}
 use Rattle.qm_history.specs.Turn.{IsCutShort, IsTurnOf}
@@ -106,18 +102,6 @@ LeavesTurn turns None told = MayLeaveNone turns told
 LeavesTurn turns (Some t) told = told ≢ answer.HistoryFull
 
 module _ (HasSpelling : Record → Type 0) where
-  -- What is asked of a call that is served: its node is one of the cluster, it asks for nothing that is the queue manager's own,
-  -- its names keep the rules, and what it may record has a spelling, whatever a takeover finds of the record in doubt; at COMPACT
-  -- the rows of the image have.
-  pub record KeepsRules (w : World) (node now : ℕ) (asked : Call) : Type 0 where
-    pub node_there : node < length (system_in w).nodes
-    pub outside : IsFromOutside (input_of asked)
-    pub names : IsLawfulInput (system_in w) node (input_of asked)
-    pub spelled : (kept : Option Bool) → is_some kept ≡ is_some w.doubt → AreSpelled HasSpelling (turn_of w node now kept asked).events
-    pub rows :
-        (kept : Option Bool) → is_some kept ≡ is_some w.doubt → input_of asked ≡ input.Compact
-        → AllByRecursion HasSpelling (image_of (system_in (after_turn w (turn_of w node now kept asked))))
-
   -- Each noted turn is one of the call that is noted with it.
   abbrev pub IsNoted : World → Call → Option Turn → (World → Type 0) → Type 0
   IsNoted w asked None Rest = Rest w

@@ -1,17 +1,13 @@
 -- How a node's turns end, how the program ends, and what the sink has then.
 -- DCL Dictionary, SHOW QUEUE, on its display. This site's own: the ends of a program, and what each says of the transcript.
-use Rattle.std.specs.Prelude.{◌≡◌, ℕ, Bool, true, false, if◌then◌else◌, List, [], ◌∷◌, ◌++◌, length, flat_map, decimal, codes, None}
-use Rattle.std.specs.List.{AllByRecursion}
+use Rattle.std.specs.Prelude.{◌≡◌, ℕ, Bool, true, false, if◌then◌else◌, List, [], ◌∷◌, ◌++◌, flat_map, codes, None}
 use Rattle.qm_kinds.specs.declared.query.Query.{Query}
 use Rattle.qm_kinds.specs.declared.query.Listing.TheVariants as listing
-use Rattle.qm_kinds.specs.declared.record.Record.{Record}
 use Rattle.qm_kinds.specs.declared.system.System.{System}
 use Rattle.qm_model.specs.Rows.{view}
 use Rattle.qm_model.specs.Transcript.{row_lines}
 use Rattle.qm_history.specs.Answers.{rows_shown}
 use Rattle.qm_history.specs.Course.{Extent, Whole, Begun}
-use Rattle.qm_model.specs.Folding.{system_of}
-use Rattle.qm_history.specs.Master.{MasterState}
 
 -- how the turns of a node end: with its leave or while it is stopped; broken off, where one thread serves all nodes and stopped
 -- before, by another node's end or by the sink; or at an answer behind which none can come
@@ -61,15 +57,6 @@ status_of (Damaged file place) = 8
 status_of HistoryFull = 9
 status_of NoMemory = 10
 
--- the sink took the whole transcript; or a beginning of it, where it failed, or a node ended before its text was whole
-abbrev pub SinkTook : ServingEnd → List ℕ → List ℕ → Type 0
-SinkTook Served text took = took ≡ text
-SinkTook DiskFailed text took = took ≡ text
-SinkTook HistoryFull text took = took ≡ text
-SinkTook SinkFailed text took = BeginsWith text took
-SinkTook (Damaged file place) text took = BeginsWith text took
-SinkTook NoMemory text took = BeginsWith text took
-
 -- what a node left: how it ended, and what it printed
 pub record NodeText : Type 0 where
   pub end : NodeEnd
@@ -103,34 +90,6 @@ worse HistoryFull other = other
 worse DiskFailed Served = DiskFailed
 worse DiskFailed other = other
 worse Served other = other
-
--- one thread serves all nodes, or each node has a thread of its own
-pub data Threads : Type 0 where
-  OneForAll : Threads
-  OneForEach : Threads
-
--- Serving ends so where a node was broken off: never with the whole script. A node with a thread of its own goes on to its own
--- end.
-abbrev pub MayBreakOff : Threads → ServingEnd → Type 0
-MayBreakOff OneForEach end = ⊥
-MayBreakOff OneForAll Served = ⊥
-MayBreakOff OneForAll DiskFailed = ⊥
-MayBreakOff OneForAll SinkFailed = Unit {0}
-MayBreakOff OneForAll HistoryFull = Unit {0}
-MayBreakOff OneForAll (Damaged file place) = Unit {0}
-MayBreakOff OneForAll NoMemory = Unit {0}
-
--- the node can have ended so where serving ended so
-abbrev pub MayEndSo : Threads → ServingEnd → NodeEnd → Type 0
-MayEndSo threads end Ended = Unit {0}
-MayEndSo threads end BrokenOff = MayBreakOff threads end
-MayEndSo threads end TurnsSpent = Unit {0}
-MayEndSo threads end (FileDamaged file place) = Unit {0}
-MayEndSo threads end MemoryShort = Unit {0}
-
--- each of them can
-abbrev pub AllMayEndSo : Threads → ServingEnd → List NodeEnd → Type 0
-AllMayEndSo threads end ends = AllByRecursion (MayEndSo threads end) ends
 
 -- what the end of a node makes of the program's
 abbrev pub end_of_node : NodeEnd → ServingEnd
@@ -166,10 +125,3 @@ all_jobs = record {
 -- what `show` prints of the system of a site: the listing of SHOW QUEUE/ALL_JOBS, without prefixes
 abbrev pub show_text : System → List ℕ
 show_text s = lines_text (row_lines (rows_shown (view s None all_jobs)))
-
--- what `check` prints of the files of a site: the live one, the greatest epoch, the records of the live one, and the entries
-abbrev pub check_text : MasterState → List Record → List ℕ
-check_text says records =
-    lines_text
-    ((codes "live file " ++ decimal says.live ++ codes ", epoch " ++ decimal says.epoch ++ codes ", records " ++ decimal (length records)
-    ++ codes ", entries " ++ decimal (length (system_of records).entries)) ∷ [])

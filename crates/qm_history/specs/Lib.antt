@@ -36,3 +36,6 @@ pub mod Scans
 pub mod Reading
 pub mod Again
 pub mod Judged
+pub mod Laws
+pub mod FileLaws
+pub mod CourseLaws

@@ -1,38 +1,34 @@
 // What calls are answered.
-ghost use Rattle.std.specs.Prelude.{◌≡◌, false, ℕ, List};
+ghost use Rattle.std.specs.Prelude.{◌≡◌, List};
 ghost use Rattle.std.specs.List.{AllByRecursion};
-ghost use Rattle.qm_history.specs.declared.call.Answer.{Answer};
-ghost use Rattle.qm_history.specs.declared.call.Call.{Call};
 ghost use Rattle.qm_history.specs.declared.turn.Turn.{Turn};
 ghost use Rattle.qm_history.specs.declared.world.World.{World};
-ghost use Rattle.qm_history.specs.Answering.{MayAnswer};
 ghost use Rattle.qm_history.specs.Answers.{answer_of};
-ghost use Rattle.qm_history.specs.Chest.{AreNoted, AreRoomTold, Note, turns_noted};
-ghost use Rattle.qm_history.specs.Course.{answered};
+ghost use Rattle.qm_history.specs.Chest.{turns_noted};
 ghost use Rattle.qm_history.specs.Faults.{faults_told, is_journal, tells_disk_fault};
 ghost use Rattle.qm_history.specs.Legal.{IsLegal, IsLegalTurn};
-ghost use Rattle.qm_history.specs.Room.{AreWithinRoom, Room, IsRoomTold, IsAboveCap};
-ghost use Rattle.qm_history.specs.Visits.{Visit, visits};
+ghost use Rattle.qm_history.specs.Room.{IsAboveCap};
+ghost use Rattle.qm_history.specs.CourseLaws.{NoneTellsJournal, OfAnsweredTurns, OfNotedCalls, OfTurnsInRoom, StayWithinRoom};
 
 use crate::format::{FileFormat, Format};
 
 /// A turn is legal where its call may be answered anything. What its events say is that a disk failed exactly where its last
 /// event tells of a record, a takeover or a compaction in doubt; so no call is told that where no turn tells it.
 pub fn journal_tells_of_disks<F: Format>()
-    ensures legal { (w : World) (asked : Call) (t : Turn) (told : Answer) → MayAnswer F.has_spelling w asked t told → IsLegalTurn F.has_spelling w t }
+    ensures legal { OfAnsweredTurns F.has_spelling (IsLegalTurn F.has_spelling) }
     ensures answer { (w : World) (t : Turn) → is_journal (answer_of w t) ≡ tells_disk_fault t.events }
-    ensures never { (w : World) (turns : List Turn) → faults_told turns ≡ 0 → AllByRecursion (λ (v : Visit). is_journal (answered v) ≡ false) (visits w turns) }
+    ensures never { (w : World) (turns : List Turn) → faults_told turns ≡ 0 → NoneTellsJournal w turns }
 {}
 
 /// Where a turn tells of room what is so, each need that it tells is above its cap, which is that of a queue file or of the
 /// master.
 pub fn full_files_are_full<F: FileFormat>()
-    ensures { (w : World) (m : Room) (asked : Call) (t : Turn) → IsRoomTold F.text w m asked t → AllByRecursion (IsAboveCap m.cap) t.events }
+    ensures { OfTurnsInRoom F.text (λ m t. AllByRecursion (IsAboveCap m.cap) t.events) }
 {}
 
 /// Where each noted turn is one of the call that is noted with it, the turns are a legal history. Where up to the first one in which
 /// a disk failed each tells of room what is so of its call, the history is within that room.
 pub fn noted_calls_make_histories<F: FileFormat>()
-    ensures legal { (notes : List Note) (w : World) → AreNoted F.has_spelling w notes → IsLegal F.has_spelling w (turns_noted notes) }
-    ensures within { (notes : List Note) (w : World) (room : Room) → AreNoted F.has_spelling w notes → AreRoomTold F.text F.has_spelling w room notes → AreWithinRoom F.text F.has_spelling w room (turns_noted notes) }
+    ensures legal { OfNotedCalls F.has_spelling (λ w notes. IsLegal F.has_spelling w (turns_noted notes)) }
+    ensures within { OfNotedCalls F.has_spelling (StayWithinRoom F.text F.has_spelling) }
 {}

@@ -1,3 +1,4 @@
+// What a node asks in a turn, and what it is answered.
 use qm_kinds::{Duty, Input, Moment, Name, Refusal, Reply, Report, Seq, Start};
 use qm_rows::Rows;
 

@@ -1,3 +1,4 @@
+// What can happen in a turn.
 use qm_kinds::{Boxed, Input, Moment, Name, Refusal, Reply, Request, Seq};
 
 /// What happened in a turn. Each event names its node by its place in the cluster, counted from 0.

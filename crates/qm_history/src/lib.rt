@@ -1,5 +1,6 @@
 //! Turns of the queue manager, the worlds between them and whole histories: types, definitions that the crates above
-//! cite, and laws about them. It has no program: its functions are laws.
+//! cite, and laws about them. It has no program: its functions are laws, and what these say is spelled out in `Laws`,
+//! `CourseLaws` and `FileLaws` of `specs/`.
 //!
 //! That the blocks of a job, over several stretches and nodes, are all its pages is a definition alone (`EachCame`).
 #![tactic(auto)]

@@ -1,3 +1,4 @@
+// A turn: a call of a node, and what came of it.
 use crate::event::Event;
 use qm_kinds::{Moment, Seq};
 

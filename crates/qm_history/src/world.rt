@@ -1,3 +1,4 @@
+// The world between two turns.
 use qm_kinds::{Record, Seq};
 
 /// The node that is queue manager.

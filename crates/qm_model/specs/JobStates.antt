@@ -24,16 +24,6 @@ is_waiting (Running queue node run) = false
 is_waiting (Aborting queue node run fate) = false
 is_waiting (Retained status until) = false
 
--- the job is kept until a moment
-abbrev pub is_kept_until_a_moment : EntryState → Bool
-is_kept_until_a_moment Pending = false
-is_kept_until_a_moment Holding = false
-is_kept_until_a_moment (Timed at) = false
-is_kept_until_a_moment (Running queue node run) = false
-is_kept_until_a_moment (Aborting queue node run fate) = false
-is_kept_until_a_moment (Retained status None) = false
-is_kept_until_a_moment (Retained status (Some until)) = true
-
 -- the number of the run, if the entry has one
 abbrev pub run_of : EntryState → Option ℕ
 run_of Pending = None

@@ -65,10 +65,6 @@ script_of bytes =
     if nat_lt 16777216 (length bytes) then Err Long else
     ok_or (lines_from 1 (slice_split (λ b. b == 10) bytes)) Form
 
--- every line is of this node
-abbrev pub are_of_node : List ℕ → List ScriptLine → Bool
-are_of_node node lines = list_all (λ line. bytes_eq line.node node) lines
-
 -- the text and a line feed go to the end of the file
 abbrev pub append_to : Option FileName → List ℕ → Input
 append_to None text = Fault 0 parse.Form
@@ -120,11 +116,6 @@ steps_in text = option_and_then (λ parts. if bytes_eq parts.0 (codes "STEP") th
 abbrev pub step_act : Option ℕ → Input
 step_act None = Fault 0 parse.Form
 step_act (Some steps) = Fetch []
-
--- how many steps a line allows, if it is a STEP line
-abbrev pub steps_of_line : Sort → List ℕ → Option ℕ
-steps_of_line Command text = None
-steps_of_line Site text = steps_in text
 
 -- so many lines of letters go to the end of the file: one at least
 abbrev pub filled_by : Option FileName → Option ℕ → Input

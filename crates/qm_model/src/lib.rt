@@ -1,5 +1,6 @@
 //! The model of a queue system: what a system is, what makes it consistent, what each request does to it and what is
-//! told of it, as definitions that the crates above cite. It has no program: its functions are laws.
+//! told of it, as definitions that the crates above cite. It has no program: its functions are laws, and what these say is
+//! spelled out in `Laws` of `specs/`, or beside the words that they speak of.
 #![tactic(auto)]
 
 ghost use Rattle.std.specs.Prelude.{◌≤◌, ℕ, List, length};

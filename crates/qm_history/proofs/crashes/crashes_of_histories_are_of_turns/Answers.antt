@@ -2,7 +2,7 @@ use Rattle.qm_history.proofs.AfterLemmas.{in_accepted, in_holds, in_moment, behi
 use Rattle.qm_history.proofs.crashes.crashes_of_histories_are_of_turns.Goals as goal
 
 pub returns-clause-accepted : goal.returns-clause-accepted
-returns-clause-accepted g c = in_accepted g.F.Format.has_spelling c.nodes_keep_their_names.ensures.names
+returns-clause-accepted g c w turns sound legal log = in_accepted g.F.Format.has_spelling c.nodes_keep_their_names.ensures.names w turns log sound legal
 
 pub returns-clause-holds : goal.returns-clause-holds
 returns-clause-holds g c = in_holds

@@ -8,4 +8,4 @@ pub returns-clause-acknowledged : goal.returns-clause-acknowledged
 returns-clause-acknowledged g c = acknowledged_left
 
 pub returns-clause-kept : goal.returns-clause-kept
-returns-clause-kept g c = kept_left
+returns-clause-kept g c w before t log some e others r left is found = kept_left w before t log some e others r left is found.0 found.1

@@ -9,4 +9,4 @@ pub returns-clause-given : goal.returns-clause-given
 returns-clause-given g c read extent = course_given g.F.Format.has_spelling read extent
 
 pub returns-clause-next_block : goal.returns-clause-next_block
-returns-clause-next_block g c k blocks print handed = handed ∙ c.print_jobs_report_each_block.ensures.next_block k.work k.place print
+returns-clause-next_block g c k print blocks handed = handed ∙ c.print_jobs_report_each_block.ensures.next_block k.work k.place print

@@ -12,13 +12,15 @@ pub returns-clause-submitted : goal.returns-clause-submitted
 returns-clause-submitted g c = submitted_there c.settling_changes_entries_alone.ensures.states_alone
 
 pub returns-clause-request : goal.returns-clause-request
-returns-clause-request g c = there_after_request c.settling_changes_entries_alone.ensures.states_alone
+returns-clause-request g c number s now node asked a accepted there leaves =
+    there_after_request c.settling_changes_entries_alone.ensures.states_alone s now node asked a number there leaves accepted
 
 pub returns-clause-records : goal.returns-clause-records
-returns-clause-records g c = there_after_records c.settling_changes_entries_alone.ensures.states_alone g.F.Format.has_spelling
+returns-clause-records g c number s records =
+    there_after_records c.settling_changes_entries_alone.ensures.states_alone g.F.Format.has_spelling s records number
 
 pub returns-clause-history : goal.returns-clause-history
-returns-clause-history g c w turns number sound legal h =
+returns-clause-history g c number w turns sound legal h =
     let more = history_next g.F.Format.has_spelling c.nodes_keep_their_names.ensures.names w turns sound legal in (
       more.0,
       more.1,
