@@ -61,7 +61,7 @@ fn is_among(numbers: &[u64], number: u64) -> bool
 
 // The queue where an entry has its run.
 #[tactic(auto, unfolding(qm_image::specs::Image::system_of))]
-fn queue_of_run(image: &Image, entry: &Entry) -> Option<&Queue>
+fn queue_of_run<'a>(image: &'a Image, entry: &Entry) -> Option<&'a Queue>
     ensures { option_copied result ≡ queue_of_run (system_of image.now) entry.now }
 {
     match runs_in(&entry.state) {
@@ -170,7 +170,7 @@ fn duty_of(image: &Image, entry: &Entry, known: &[u64]) -> Result<Duty, AllocErr
 
 // The entry of a run that is on the node.
 #[tactic(auto, unfolding(qm_image::specs::Image::system_of))]
-fn entry_on(image: &Image, node: &Name, run: &Run) -> Option<&Entry>
+fn entry_on<'a>(image: &'a Image, node: &Name, run: &Run) -> Option<&'a Entry>
     ensures { option_copied result ≡ entry_on node.now (system_of image.now).entries run.now }
 {
     if run.node != *node {
