@@ -1,7 +1,7 @@
 // What becomes of a job whose node is lost. Nothing is changed here: each function says what an entry becomes.
-ghost use Rattle.std.specs.Prelude.{◌≡◌, ℕ, List, true};
-ghost use Rattle.qm_model.specs.Losing.{after_loss, interrupted};
-ghost use Rattle.qm_parts.specs.Nodes.{is_run_on_one};
+ghost use Rattle.std.specs.Prelude.{◌≡◌};
+ghost use Rattle.qm_model.specs.Losing.{interrupted};
+ghost use Rattle.qm_ending.specs.Losing.{IsLeftByLoss};
 
 use crate::ending::{ended, fate_of, fated, requeued};
 use qm_kinds::{Entry, Moment};
@@ -23,7 +23,7 @@ fn interrupted(queues: &QueueTable, now: Moment, entry: &Entry) -> Option<Entry>
 
 /// What an entry becomes that has a run on a lost node. Where it was decided before what becomes of it, that is so now.
 pub fn after_loss(queues: &QueueTable, now: Moment, entry: &Entry) -> Option<Entry>
-    ensures { (lost : List (List ℕ)) → is_run_on_one lost entry.now ≡ true → result ≡ after_loss queues.now.queues now lost entry.now.state entry.now }
+    ensures { IsLeftByLoss queues.now.queues now entry.now result }
 {
     match fate_of(&entry.state) {
         None => interrupted(queues, now, entry),

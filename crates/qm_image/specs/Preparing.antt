@@ -204,6 +204,10 @@ pub record IsPrepared (image : Image) (prepared : Prepared) : Type 0 where
   pub started_room : length (made prepared (system_of image)).reply.started ≤ vec_capacity prepared.started
   pub run_room : length (made prepared (system_of image)).reply.started ≤ image.parts.spare_runs
 
+-- at most so many jobs start where what is prepared is made, on each image where it can be
+abbrev pub AreStartsAtMost : ℕ → Prepared → Type 0
+AreStartsAtMost most prepared = (image : Image) → IsPrepared image prepared → length (made prepared (system_of image)).reply.started ≤ most
+
 -- what is left of the entry of a number, which is there: it names the same file, and has no run or the one that it had
 pub record IsLeftOf (left : Entry) (number : ℕ) (old : Option Entry) : Type 0 where
   pub there : IsSome old

@@ -1,5 +1,5 @@
 -- How the entries of a system come into its tables, one by one.
-use Rattle.std.specs.Prelude.{◌≡◌, ◌<◌, ◌+◌, false, List, IfSome}
+use Rattle.std.specs.Prelude.{◌≡◌, ◌==◌, ◌<◌, ◌+◌, ℕ, if◌then◌else◌, false, List, IfSome}
 use Rattle.std.specs.List.{list_any}
 use Rattle.qm_kinds.specs.declared.entry.Entry.{Entry}
 use Rattle.qm_kinds.specs.declared.file.FileName.{FileName}
@@ -8,6 +8,8 @@ use Rattle.qm_parts.specs.Mirror.{run_of_entry}
 use Rattle.qm_parts.specs.Tables.{Tables}
 use Rattle.qm_timers.specs.SpoolCounts.{IsCountedAs}
 use Rattle.qm_timers.specs.Spool.{Counted, count_of}
+use Rattle.qm_timers.specs.Timers.{moment_of}
+use Rattle.qm_image.specs.Timers.{moment_in}
 
 -- the run that the entry may have has a number that was given, and no entry of the tables has it
 abbrev pub HasOwnRun : Tables → Entry → Type 0
@@ -26,3 +28,7 @@ DifferInEntries old new = new ≡ record old {
 -- it is counted that one entry more names the file
 abbrev pub IsNamedOnceMore : FileName → List Counted → List Counted → Type 0
 IsNamedOnceMore name old new = IsCountedAs name (count_of name old + 1) old new
+
+-- the number of the entry has a timer for the moment that it wants, if it wants one, and each other number the one that it had
+abbrev pub HasTimerOf : Entry → List (ℕ × ℕ) → List (ℕ × ℕ) → Type 0
+HasTimerOf e old new = (number : ℕ) → moment_of number new ≡ (if e.number == number then moment_in e.state else moment_of number old)

@@ -1,5 +1,5 @@
 // The image of a system's rows.
-ghost use Rattle.std.specs.Prelude.{◌≡◌, ℕ, IfOk, OnOk, [], ◌∷◌, ◌++◌, ◌<◌, ◌==◌, All, IsSome, if◌then◌else◌};
+ghost use Rattle.std.specs.Prelude.{◌≡◌, IfOk, OnOk, [], ◌∷◌, ◌++◌, ◌<◌, All, IsSome};
 ghost use Rattle.qm_kinds.specs.declared.limits.TheConstants.{ENTRIES_LIMIT};
 ghost use Rattle.qm_model.specs.Consistent.{IsConsistent};
 ghost use Rattle.qm_model.specs.Find.{file_named};
@@ -7,9 +7,8 @@ ghost use Rattle.qm_parts.specs.Tables.{with_tables};
 ghost use Rattle.qm_timers.specs.Spool.{count_of};
 ghost use Rattle.qm_timers.specs.SpoolCounts.{CountsOf};
 ghost use Rattle.qm_image.specs.Image.{system_of};
-ghost use Rattle.qm_image.specs.Restoring.{HasOwnRun, DifferInEntries, IsNamedOnceMore};
-ghost use Rattle.qm_image.specs.Timers.{AreTimersOf, moment_in};
-ghost use Rattle.qm_timers.specs.Timers.{moment_of};
+ghost use Rattle.qm_image.specs.Restoring.{HasOwnRun, DifferInEntries, IsNamedOnceMore, HasTimerOf};
+ghost use Rattle.qm_image.specs.Timers.{AreTimersOf};
 
 use crate::image::Image;
 use crate::moments::moment_in;
@@ -76,7 +75,7 @@ fn restore_one(parts: &mut TableSet, spool: &mut Spool, entry: &Entry) -> Result
     ensures tables { DifferInEntries parts.old parts.new }
     ensures files { spool.new ≡ record spool.old { counts = spool.new.counts } }
     ensures counts { OnOk result (IsNamedOnceMore entry.now.file spool.old.counts spool.new.counts) }
-    ensures timers { OnOk result ((number : ℕ) → moment_of number parts.new.timers ≡ (if entry.now.number == number then moment_in entry.now.state else moment_of number parts.old.timers)) }
+    ensures timers { OnOk result (HasTimerOf entry.now parts.old.timers parts.new.timers) }
 {
     parts.reserve_timer()?;
     parts.reserve_entry()?;

@@ -5,6 +5,7 @@ ghost use Rattle.qm_model.specs.Entries.{entry_change_refusal, changed_entry};
 ghost use Rattle.qm_parts.specs.Rooms.{HavePlacesFor};
 ghost use Rattle.qm_image.specs.Deciding.{Prepares, PreparesAt};
 ghost use Rattle.qm_image.specs.Image.{system_of};
+ghost use Rattle.qm_jobs.specs.Rooms.{DifferInRooms};
 
 use crate::jobs::reserve_timer;
 use qm_image::{Change, Image, Refused};
@@ -36,7 +37,7 @@ fn changed_entry(image: &Image, now: Moment, change: &EntryChange, entry: &Entry
 #[tactic(auto, unfolding(qm_image::specs::Image::system_of))]
 fn reserve_change(image: &mut Image, home: &Name) -> Result<(), AllocError>
     ensures rows { system_of image.new ≡ system_of image.old }
-    ensures tables { image.new.parts ≡ record image.old.parts { spare_timers = image.new.parts.spare_timers; rooms = image.new.parts.rooms } }
+    ensures tables { DifferInRooms image.old.parts image.new.parts }
     ensures places { OnOk result (HavePlacesFor home.now 1 image.new.parts) }
     ensures timer { OnOk result (0 < image.new.parts.spare_timers) }
 {

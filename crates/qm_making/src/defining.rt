@@ -1,10 +1,10 @@
 // Forms and characteristics come and go.
 ghost use Rattle.std.specs.Prelude.{◌≡◌};
 ghost use Rattle.qm_model.specs.Forms.{form_defined, form_deleted};
-ghost use Rattle.qm_model.specs.Replying.{replied};
 ghost use Rattle.qm_image.specs.Image.{system_of};
 ghost use Rattle.qm_image.specs.Preparing.{CanDefineForm, CanDefineCharacteristic};
 ghost use Rattle.qm_model.specs.Characteristics.{characteristic_defined, characteristic_deleted};
+ghost use Rattle.qm_making.specs.Replying.{IsMade};
 
 use qm_image::Image;
 use qm_kinds::{Act, Characteristic, Form, Name};
@@ -14,7 +14,7 @@ use qm_kinds::{Act, Characteristic, Form, Name};
 #[inline(never)]
 pub fn define_form(image: &mut Image, form: Form) -> Act
     requires { CanDefineForm image.old form }
-    ensures done { form_defined (system_of image.old) form ≡ replied (system_of image.new) result }
+    ensures done { IsMade (form_defined (system_of image.old) form) image.new result }
     ensures room { image.new.parts.spare_runs ≡ image.old.parts.spare_runs }
 {
     let name = form.name;
@@ -26,7 +26,7 @@ pub fn define_form(image: &mut Image, form: Form) -> Act
 #[tactic(auto, unfolding(qm_image::specs::Image::system_of))]
 #[inline(never)]
 pub fn remove_form(image: &mut Image, name: &Name) -> Act
-    ensures done { form_deleted (system_of image.old) name.now ≡ replied (system_of image.new) result }
+    ensures done { IsMade (form_deleted (system_of image.old) name.now) image.new result }
     ensures room { image.new.parts.spare_runs ≡ image.old.parts.spare_runs }
 {
     image.parts.delete_form(name);
@@ -38,7 +38,7 @@ pub fn remove_form(image: &mut Image, name: &Name) -> Act
 #[inline(never)]
 pub fn define_characteristic(image: &mut Image, characteristic: Characteristic) -> Act
     requires { CanDefineCharacteristic image.old characteristic }
-    ensures done { characteristic_defined (system_of image.old) characteristic ≡ replied (system_of image.new) result }
+    ensures done { IsMade (characteristic_defined (system_of image.old) characteristic) image.new result }
     ensures room { image.new.parts.spare_runs ≡ image.old.parts.spare_runs }
 {
     let name = characteristic.name;
@@ -50,7 +50,7 @@ pub fn define_characteristic(image: &mut Image, characteristic: Characteristic) 
 #[tactic(auto, unfolding(qm_image::specs::Image::system_of))]
 #[inline(never)]
 pub fn remove_characteristic(image: &mut Image, name: &Name) -> Act
-    ensures done { characteristic_deleted (system_of image.old) name.now ≡ replied (system_of image.new) result }
+    ensures done { IsMade (characteristic_deleted (system_of image.old) name.now) image.new result }
     ensures room { image.new.parts.spare_runs ≡ image.old.parts.spare_runs }
 {
     image.parts.delete_characteristic(name);

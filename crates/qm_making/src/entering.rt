@@ -1,9 +1,9 @@
 // A job that was submitted comes.
 ghost use Rattle.std.specs.Prelude.{◌≡◌};
 ghost use Rattle.qm_model.specs.Consistent.{IsConsistent};
-ghost use Rattle.qm_model.specs.Replying.{replied};
 ghost use Rattle.qm_image.specs.Image.{system_of};
 ghost use Rattle.qm_image.specs.Preparing.{entered, IsNewEntry};
+ghost use Rattle.qm_making.specs.Replying.{IsMade};
 
 use qm_image::{Image, moment_in};
 use qm_kinds::{Act, Entry};
@@ -26,7 +26,7 @@ fn submitted(entry: &Entry) -> Act
 pub fn enter(image: &mut Image, entry: &Entry) -> Act
     requires sound { IsConsistent (system_of image.old) }
     requires new { IsNewEntry image.old entry.now }
-    ensures done { entered (system_of image.old) entry.now ≡ replied (system_of image.new) result }
+    ensures done { IsMade (entered (system_of image.old) entry.now) image.new result }
     ensures room { image.new.parts.spare_runs ≡ image.old.parts.spare_runs }
 {
     let act = submitted(entry);

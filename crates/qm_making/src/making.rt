@@ -1,21 +1,20 @@
 // Changes of queues and entries are made.
-ghost use Rattle.std.specs.Prelude.{◌≡◌, ◌<◌, ◌≤◌, ◌+◌, find, false, None, IfSome, length};
+ghost use Rattle.std.specs.Prelude.{◌≡◌, ◌<◌, ◌≤◌, find, None, IfSome};
 ghost use Rattle.std.specs.Ordering.{nat_cmp};
-ghost use Rattle.std.specs.Str.{bytes_eq};
 ghost use Rattle.qm_model.specs.Consistent.{IsConsistent, IsInOrder};
 ghost use Rattle.qm_model.specs.Find.{entry_numbered};
 ghost use Rattle.qm_model.specs.Queues.{runs_for, queue_deleted};
-ghost use Rattle.qm_model.specs.Replying.{replied};
 ghost use Rattle.qm_model.specs.Runs.{run_reported};
 ghost use Rattle.qm_model.specs.Standing.{with_queue};
 ghost use Rattle.qm_model.specs.Stopping.{queue_stopped, stopped_queue, entries_on_stop, entry_aborting};
-ghost use Rattle.qm_parts.specs.Rooms.{CanPut, HavePlacesFor};
+ghost use Rattle.qm_parts.specs.Rooms.{CanPut};
 ghost use Rattle.qm_rules.specs.Ending.{report_of};
 ghost use Rattle.qm_image.specs.Image.{system_of};
-ghost use Rattle.qm_making.specs.Keeping.{KeepsOthers};
+ghost use Rattle.qm_making.specs.Keeping.{KeepsOthers, KeepsTimerRoom, HasPlaceIfMoved};
 ghost use Rattle.qm_image.specs.Timers.{moment_left};
 ghost use Rattle.qm_timers.specs.Timers.{with_timer, without};
 ghost use Rattle.qm_image.specs.Preparing.{queue_put, queue_changed, entry_replaced, entry_removed, with_left, CanReplace, IsLeftOf};
+ghost use Rattle.qm_making.specs.Replying.{IsMade};
 
 use crate::queue_act::queue_act;
 use qm_ending::{Leaving, after_report, fate_of, leave_files, report_act};
@@ -51,7 +50,7 @@ fn reset_jobs(parts: &mut Parts, name: &Name, how: StopMode)
 #[inline(never)]
 pub fn put_queue(image: &mut Image, queue: Queue) -> Act
     requires { CanPut queue image.old.parts }
-    ensures done { queue_put (system_of image.old) queue ≡ replied (system_of image.new) result }
+    ensures done { IsMade (queue_put (system_of image.old) queue) image.new result }
     ensures room { image.new.parts.spare_runs ≡ image.old.parts.spare_runs }
 {
     let name = queue.name;
@@ -68,7 +67,7 @@ pub fn set_queue(
     settings: &Settings,
     state: Option<QueueState>,
 ) -> Act
-    ensures done { queue_changed (system_of image.old) name.now settings.now state ≡ replied (system_of image.new) result }
+    ensures done { IsMade (queue_changed (system_of image.old) name.now settings.now state) image.new result }
     ensures room { image.new.parts.spare_runs ≡ image.old.parts.spare_runs }
 {
     image.parts.set_queue(name, settings, state);
@@ -79,7 +78,7 @@ pub fn set_queue(
 #[tactic(auto, unfolding(qm_image::specs::Image::system_of))]
 #[inline(never)]
 pub fn stop_queue(image: &mut Image, name: &Name, how: StopMode) -> Act
-    ensures done { queue_stopped (system_of image.old) name.now how ≡ replied (system_of image.new) result }
+    ensures done { IsMade (queue_stopped (system_of image.old) name.now how) image.new result }
     ensures room { image.new.parts.spare_runs ≡ image.old.parts.spare_runs }
 {
     set_stopped(&mut image.parts, name, how);
@@ -91,7 +90,7 @@ pub fn stop_queue(image: &mut Image, name: &Name, how: StopMode) -> Act
 #[tactic(auto, unfolding(qm_image::specs::Image::system_of))]
 #[inline(never)]
 pub fn cut_short(image: &mut Image, entry: u32, fate: Fate) -> Act
-    ensures done { entry_aborting (system_of image.old) fate entry ≡ replied (system_of image.new) result }
+    ensures done { IsMade (entry_aborting (system_of image.old) fate entry) image.new result }
     ensures room { image.new.parts.spare_runs ≡ image.old.parts.spare_runs }
 {
     image.parts.set_fate(entry, fate);
@@ -103,7 +102,7 @@ pub fn cut_short(image: &mut Image, entry: u32, fate: Fate) -> Act
 #[inline(never)]
 pub fn remove_queue(image: &mut Image, name: &Name) -> Act
     requires { find (runs_for name.now) image.old.parts.entries ≡ None }
-    ensures done { queue_deleted (system_of image.old) name.now ≡ replied (system_of image.new) result }
+    ensures done { IsMade (queue_deleted (system_of image.old) name.now) image.new result }
     ensures room { image.new.parts.spare_runs ≡ image.old.parts.spare_runs }
 {
     see_entries(&image.parts);
@@ -120,7 +119,7 @@ fn take_out(image: &mut Image, number: u32)
     ensures rows { system_of image.new ≡ with_left number None (system_of image.old) }
     ensures others { KeepsOthers image.old image.new }
     ensures timers { image.new.parts.timers ≡ without number image.old.parts.timers }
-    ensures room { image.new.parts.spare_timers + length image.new.parts.timers ≡ image.old.parts.spare_timers + length image.old.parts.timers }
+    ensures room { KeepsTimerRoom image.old.parts image.new.parts }
 {
     let Some(entry) = image.parts.entry(number) else {
         return;
@@ -135,7 +134,7 @@ fn take_out(image: &mut Image, number: u32)
 #[tactic(auto, unfolding(qm_image::specs::Image::system_of))]
 #[inline(never)]
 pub fn remove_entry(image: &mut Image, entry: u32) -> Act
-    ensures done { entry_removed (system_of image.old) entry ≡ replied (system_of image.new) result }
+    ensures done { IsMade (entry_removed (system_of image.old) entry) image.new result }
     ensures room { image.old.parts.spare_runs ≤ image.new.parts.spare_runs }
 {
     take_out(image, entry);
@@ -148,12 +147,12 @@ pub fn remove_entry(image: &mut Image, entry: u32) -> Act
 pub(crate) fn leave(image: &mut Image, number: u32, left: Option<Entry>)
     requires order { IsInOrder nat_cmp (λ e. e.number) image.old.parts.entries }
     requires left { IfSome left (λ e. IsLeftOf e number (entry_numbered number image.old.parts.entries)) }
-    requires place { IfSome left (λ e. IfSome (entry_numbered number image.old.parts.entries) (λ old. bytes_eq old.home e.home ≡ false → HavePlacesFor e.home 1 image.old.parts)) }
+    requires place { IfSome left (HasPlaceIfMoved number image.old.parts) }
     requires timer { IfSome (moment_left left) (λ _. 0 < image.old.parts.spare_timers) }
     ensures rows { system_of image.new ≡ with_left number left (system_of image.old) }
     ensures others { KeepsOthers image.old image.new }
     ensures timers { image.new.parts.timers ≡ with_timer number (moment_left left) image.old.parts.timers }
-    ensures room { image.new.parts.spare_timers + length image.new.parts.timers ≡ image.old.parts.spare_timers + length image.old.parts.timers }
+    ensures room { KeepsTimerRoom image.old.parts image.new.parts }
 {
     match left {
         None => take_out(image, number),
@@ -170,7 +169,7 @@ pub(crate) fn leave(image: &mut Image, number: u32, left: Option<Entry>)
 pub fn replace_entry(image: &mut Image, entry: Entry) -> Act
     requires sound { IsConsistent (system_of image.old) }
     requires ready { CanReplace image.old entry }
-    ensures done { entry_replaced (system_of image.old) entry ≡ replied (system_of image.new) result }
+    ensures done { IsMade (entry_replaced (system_of image.old) entry) image.new result }
     ensures room { image.old.parts.spare_runs ≤ image.new.parts.spare_runs }
 {
     let number = entry.number;
@@ -188,7 +187,7 @@ pub fn replace_entry(image: &mut Image, entry: Entry) -> Act
 pub fn report_run(image: &mut Image, now: Moment, node: &Name, run: u64, report: &Reported) -> Act
     requires sound { IsConsistent (system_of image.old) }
     requires timer { 0 < image.old.parts.spare_timers }
-    ensures done { run_reported (system_of image.old) now node.now run (report_of report.now) ≡ replied (system_of image.new) result }
+    ensures done { IsMade (run_reported (system_of image.old) now node.now run (report_of report.now)) image.new result }
     ensures room { image.old.parts.spare_runs ≤ image.new.parts.spare_runs }
 {
     let Some(entry) = image.parts.entry_of_run(run, node) else {

@@ -2,9 +2,9 @@
 ghost use Rattle.std.specs.Prelude.{◌≡◌, count_by};
 ghost use Rattle.qm_model.specs.Consistent.{IsConsistent};
 ghost use Rattle.qm_model.specs.Merging.{merged};
-ghost use Rattle.qm_model.specs.Replying.{replied};
 ghost use Rattle.qm_parts.specs.Rooms.{HavePlacesFor, is_home};
 ghost use Rattle.qm_image.specs.Image.{system_of};
+ghost use Rattle.qm_making.specs.Replying.{IsMade};
 
 use qm_image::Image;
 use qm_kinds::{Act, Name};
@@ -15,7 +15,7 @@ use qm_kinds::{Act, Name};
 pub fn merge(image: &mut Image, to: &Name, from: &Name) -> Act
     requires sound { IsConsistent (system_of image.old) }
     requires places { HavePlacesFor to.now (count_by (is_home from.now) image.old.parts.entries) image.old.parts }
-    ensures done { merged (system_of image.old) to.now from.now ≡ replied (system_of image.new) result }
+    ensures done { IsMade (merged (system_of image.old) to.now from.now) image.new result }
     ensures room { image.new.parts.spare_runs ≡ image.old.parts.spare_runs }
 {
     let moved = image.parts.merge(to, from);

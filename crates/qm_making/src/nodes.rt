@@ -2,10 +2,10 @@
 // looks at each run once for each job that is lost.
 ghost use Rattle.std.specs.Prelude.{◌≡◌, ◌≤◌};
 ghost use Rattle.qm_model.specs.Nodes.{node_up, nodes_lost, taken_over};
-ghost use Rattle.qm_model.specs.Replying.{replied};
 ghost use Rattle.qm_image.specs.Image.{system_of};
 ghost use Rattle.qm_making.specs.Keeping.{KeepsOthers};
 ghost use Rattle.qm_image.specs.Losing.{entries_left, HasTimersFor};
+ghost use Rattle.qm_making.specs.Replying.{IsMade};
 
 use crate::making::leave;
 use qm_ending::after_loss;
@@ -33,7 +33,7 @@ fn lose_runs(image: &mut Image, now: Moment, lost: &[Name])
 #[tactic(auto, unfolding(qm_image::specs::Image::system_of))]
 #[inline(never)]
 pub fn start_node(image: &mut Image, node: &Name) -> Act
-    ensures done { node_up (system_of image.old) node.now ≡ replied (system_of image.new) result }
+    ensures done { IsMade (node_up (system_of image.old) node.now) image.new result }
     ensures room { image.new.parts.spare_runs ≡ image.old.parts.spare_runs }
 {
     image.parts.change_nodes(&NodeChange::Up(node));
@@ -45,7 +45,7 @@ pub fn start_node(image: &mut Image, node: &Name) -> Act
 #[inline(never)]
 pub fn lose_nodes(image: &mut Image, now: Moment, node: &Name, lost: &[Name]) -> Act
     requires timers { HasTimersFor lost.now image.old.parts }
-    ensures done { nodes_lost (system_of image.old) now node.now lost.now ≡ replied (system_of image.new) result }
+    ensures done { IsMade (nodes_lost (system_of image.old) now node.now lost.now) image.new result }
     ensures room { image.old.parts.spare_runs ≤ image.new.parts.spare_runs }
 {
     image.parts.change_nodes(&NodeChange::Down(lost));
@@ -67,7 +67,7 @@ pub fn take_over(
     may: Seq<Name>,
 ) -> Act
     requires timers { HasTimersFor gone.now image.old.parts }
-    ensures done { taken_over (system_of image.old) now node.now epoch gone.now up.now may ≡ replied (system_of image.new) result }
+    ensures done { IsMade (taken_over (system_of image.old) now node.now epoch gone.now up.now may) image.new result }
     ensures room { image.old.parts.spare_runs ≤ image.new.parts.spare_runs }
 {
     image.parts.change_nodes(&NodeChange::Exactly(up));

@@ -1,9 +1,11 @@
 -- Systems that have the rows of tables, and settings that a change gives.
-use Rattle.std.specs.Prelude.{◌≡◌, List}
+use Rattle.std.specs.Prelude.{◌≡◌, ℕ, List}
 use Rattle.qm_kinds.specs.declared.queue.Queue.{Queue}
 use Rattle.qm_kinds.specs.declared.queue.QueueChange.{QueueChange}
+use Rattle.qm_kinds.specs.declared.queue.NewQueue.{NewQueue}
 use Rattle.qm_kinds.specs.declared.system.Node.{Node}
 use Rattle.qm_kinds.specs.declared.system.System.{System}
+use Rattle.qm_model.specs.Queues.{plain_queue}
 use Rattle.qm_model.specs.Settings.{with_change}
 use Rattle.qm_queues.specs.Forms.{Defined}
 use Rattle.qm_queues.specs.declared.queues.settings.Settings.{Settings}
@@ -28,3 +30,7 @@ pub record AgreesWith (s : System) (nodes : List Node) (forms : Defined) (queues
 -- the settings are those that the change gives in the system
 abbrev pub AreSettingsOf : System → QueueChange → Settings → Type 0
 AreSettingsOf s change settings = (q : Queue) → with_settings settings q ≡ with_change s change q
+
+-- the queue is the one that is made from this node, with the settings that are given
+abbrev pub IsMadeFrom : Defined → List ℕ → NewQueue → Queue → Type 0
+IsMadeFrom forms node new queue = (s : System) → HasForms s forms → queue ≡ with_change s new.change (plain_queue node new)

@@ -1,12 +1,11 @@
 // Why a change of an entry is refused, and what the entry becomes.
-ghost use Rattle.std.specs.Prelude.{◌≡◌, ◌&&◌, ◌||◌, not, unwrap_or, if◌then◌else◌, None, false};
-ghost use Rattle.std.specs.Option.{option_and_then, option_map_or};
+ghost use Rattle.std.specs.Prelude.{◌≡◌, ◌&&◌, ◌||◌, not, unwrap_or, if◌then◌else◌, None};
+ghost use Rattle.std.specs.Option.{option_and_then};
 ghost use Rattle.qm_kinds.specs.declared.system.System.{System};
-ghost use Rattle.qm_model.specs.Entries.{refused_queue, is_entry_of_other_kind, entry_change_refusal, with_fields, changed_entry};
-ghost use Rattle.qm_model.specs.Find.{queue_named};
+ghost use Rattle.qm_model.specs.Entries.{refused_queue, is_entry_of_other_kind, with_fields, changed_entry};
 ghost use Rattle.qm_model.specs.JobStates.{is_pending, is_waiting};
-ghost use Rattle.qm_model.specs.Kinds.{is_other_kind};
 ghost use Rattle.qm_rules.specs.Settings.{HasForms, HasQueues};
+ghost use Rattle.qm_rules.specs.Reasons.{is_home_of_other_kind, IsWhyEntryStays};
 
 use crate::kinds::is_other_kind;
 use crate::refusals::{first_refusal, refused_where};
@@ -44,7 +43,7 @@ fn refused_queue(queues: &QueueTable, home: Option<Name>) -> Option<Refusal>
 
 // Whether the queue of the name that is given takes jobs of the other kind.
 fn is_queue_of_other_kind(queues: &QueueTable, kind: JobKind, home: Option<Name>) -> bool
-    ensures { (s : System) → HasQueues s queues.now → result ≡ option_map_or (is_other_kind kind) (option_and_then (λ name. queue_named name s.queues) home) false }
+    ensures { (s : System) → HasQueues s queues.now → result ≡ is_home_of_other_kind kind home s }
 {
     let Some(name) = home else {
         return false;
@@ -70,7 +69,7 @@ pub fn entry_change_refusal(
     change: &EntryChange,
     entry: &Entry,
 ) -> Option<Refusal>
-    ensures { (s : System) → HasForms s forms.now → HasQueues s queues.now → result ≡ entry_change_refusal s change.now entry.now }
+    ensures { IsWhyEntryStays forms.now queues.now change.now entry.now result }
 {
     let state = entry.state;
     let refusals = [

@@ -1,16 +1,17 @@
 // INITIALIZE/QUEUE: why it is refused, and the queue that it makes.
-ghost use Rattle.std.specs.Prelude.{◌≡◌, ◌&&◌, ◌||◌, not, false, if◌then◌else◌, nat_le, length, is_none, None, Some, IfOk};
+ghost use Rattle.std.specs.Prelude.{◌≡◌, ◌&&◌, ◌||◌, if◌then◌else◌, nat_le, length, is_none, None, Some, IfOk};
 ghost use Rattle.std.specs.List.{list_any};
-ghost use Rattle.std.specs.Option.{option_and_then, option_copied, option_map_or, option_or};
+ghost use Rattle.std.specs.Option.{option_and_then, option_copied, option_or};
 ghost use Rattle.std.specs.Str.{bytes_eq};
 ghost use Rattle.qm_kinds.specs.Names.{default_form};
 ghost use Rattle.qm_kinds.specs.declared.limits.TheConstants.{QUEUES_LIMIT};
 ghost use Rattle.qm_kinds.specs.declared.system.System.{System};
-ghost use Rattle.qm_model.specs.Kinds.{is_generic, is_print_queue, is_same_queue_kind};
+ghost use Rattle.qm_model.specs.Kinds.{is_generic, is_print_queue};
 ghost use Rattle.qm_model.specs.Outcome.{refused_where};
 ghost use Rattle.qm_model.specs.Queues.{has_repeats, is_misplaced, refused_unless_stopped, refused_node, is_target, refused_targets, initialize_refusal, plain_queue};
-ghost use Rattle.qm_model.specs.Settings.{is_bad_change, with_change};
-ghost use Rattle.qm_rules.specs.Settings.{AgreesWith, HasForms, HasQueues};
+ghost use Rattle.qm_model.specs.Settings.{is_bad_change};
+ghost use Rattle.qm_rules.specs.Settings.{AgreesWith, HasQueues, IsMadeFrom};
+ghost use Rattle.qm_rules.specs.Reasons.{is_of_other_kind};
 
 use crate::kinds::{is_generic, is_print_queue, is_same_queue_kind, take_same_jobs};
 use crate::refusals::{first_refusal, refused_where};
@@ -75,7 +76,7 @@ fn is_full(queues: &QueueTable, old: Option<&Queue>) -> bool
 
 // The name is that of a queue of another kind.
 fn refused_duplicate(queue: Option<&Queue>, kind: QueueKind) -> Option<Refusal>
-    ensures { result ≡ refused_where (option_map_or (λ q. not (is_same_queue_kind q.kind kind)) (option_copied queue.entry) false) Refusal.DuplicateQueue }
+    ensures { result ≡ refused_where (is_of_other_kind kind (option_copied queue.entry)) Refusal.DuplicateQueue }
 {
     if is_same_queue_kind(queue?.kind, kind) {
         None
@@ -215,7 +216,7 @@ pub fn new_queue(
     node: &Name,
     new: &NewQueue,
 ) -> Result<Queue, AllocError>
-    ensures { IfOk result (λ q. (s : System) → HasForms s forms.now → q ≡ with_change s new.now.change (plain_queue node.now new.now)) }
+    ensures { IfOk result (IsMadeFrom forms.now node.now new.now) }
 {
     let mut queue = plain_queue(alloc, node, new)?;
     settings_of(forms, &new.change).apply(&mut queue);

@@ -5,8 +5,9 @@ ghost use Rattle.qm_kinds.specs.declared.system.System.{System};
 ghost use Rattle.qm_model.specs.Outcome.{refused_where};
 ghost use Rattle.qm_model.specs.Queues.{set_queue_refusal};
 ghost use Rattle.qm_model.specs.Settings.{are_bad_sizes, is_bad_change, is_change_of_other_kind, change_refusal};
-ghost use Rattle.qm_model.specs.Wanted.{refused_form, refused_characteristics, form_named, characteristics_of};
+ghost use Rattle.qm_model.specs.Wanted.{refused_form, form_named, characteristics_of};
 ghost use Rattle.qm_rules.specs.Settings.{HasForms, HasQueues, AreSettingsOf};
+ghost use Rattle.qm_rules.specs.Reasons.{refused_among, refused_change_of};
 
 use crate::kinds::{is_batch_queue, is_generic, is_print_queue};
 use crate::refusals::{first_refusal, refused_where};
@@ -58,7 +59,7 @@ pub(crate) fn refused_characteristics(
     forms: &FormTable,
     characteristics: &Option<Seq<NameOrNumber>>,
 ) -> Option<Refusal>
-    ensures { (s : System) → HasForms s forms.now → result ≡ option_and_then (refused_characteristics s.characteristics) characteristics.now }
+    ensures { (s : System) → HasForms s forms.now → result ≡ refused_among characteristics.now s }
 {
     match characteristics {
         None => None,
@@ -88,7 +89,7 @@ fn refused_change_of(
     queue: Option<&Queue>,
     change: &QueueChange,
 ) -> Option<Refusal>
-    ensures { (s : System) → HasForms s forms.now → result ≡ option_and_then (λ q. change_refusal s q.kind change.now) (option_copied queue.entry) }
+    ensures { (s : System) → HasForms s forms.now → result ≡ refused_change_of change.now (option_copied queue.entry) s }
 {
     change_refusal(forms, queue?.kind, change)
 }

@@ -1,13 +1,9 @@
 // How queues are stopped and deleted. Nothing is changed here: each function says what becomes of a queue, or why nothing
 // does.
-ghost use Rattle.std.specs.Prelude.{◌≡◌, find};
-ghost use Rattle.std.specs.List.{list_any};
-ghost use Rattle.std.specs.Option.{option_map};
-ghost use Rattle.std.specs.Str.{bytes_eq};
-ghost use Rattle.qm_kinds.specs.declared.system.System.{System};
-ghost use Rattle.qm_model.specs.Queues.{refused_unless_stopped, runs_for, delete_queue_refusal};
-ghost use Rattle.qm_model.specs.Referring.{refused_by_queue};
+ghost use Rattle.std.specs.Prelude.{◌≡◌};
+ghost use Rattle.qm_model.specs.Queues.{refused_unless_stopped};
 ghost use Rattle.qm_model.specs.States.{state_on_stop, state_when_idle};
+ghost use Rattle.qm_rules.specs.Reasons.{IsWhyQueueStays};
 
 use qm_kinds::{Holder, Name, Queue, QueueState, Refusal, StopMode};
 use qm_queues::QueueTable;
@@ -51,7 +47,7 @@ pub fn delete_queue_refusal(
     by_queue: Option<Refusal>,
     runs: Option<u32>,
 ) -> Option<Refusal>
-    ensures { (s : System) → s.queues ≡ queues.now.queues → refused_by_queue (λ q. list_any (bytes_eq name.now) q.targets) s.queues ≡ by_queue → option_map (λ e. e.number) (find (runs_for name.now) s.entries) ≡ runs → result ≡ delete_queue_refusal s name.now }
+    ensures { IsWhyQueueStays queues.now name.now by_queue runs result }
 {
     let Some(queue) = queues.get(name) else {
         return Some(Refusal::NoSuchQueue { name: *name });

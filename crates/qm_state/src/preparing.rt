@@ -1,13 +1,14 @@
 // What is asked is prepared.
-ghost use Rattle.std.specs.Prelude.{◌≡◌, ◌<◌, ◌≤◌, ◌&&◌, IfOk, Ok, length};
+ghost use Rattle.std.specs.Prelude.{◌≡◌, ◌<◌, ◌≤◌, ◌&&◌, IfOk, length};
 ghost use Rattle.qm_model.specs.Applied.{applied, are_numbers_spent, asks_for_numbers};
 ghost use Rattle.qm_model.specs.Consistent.{IsConsistent};
 ghost use Rattle.qm_model.specs.Lawful.{IsLawful};
 ghost use Rattle.qm_model.specs.Standing.{node_at};
 ghost use Rattle.qm_image.specs.Deciding.{PreparesAt};
 ghost use Rattle.qm_image.specs.Image.{system_of};
-ghost use Rattle.qm_image.specs.Preparing.{made, IsPrepared};
+ghost use Rattle.qm_image.specs.Preparing.{IsPrepared};
 ghost use Rattle.qm_image.specs.Refusing.{Refuses, KeepsRefused};
+ghost use Rattle.qm_state.specs.Accepting.{IsAccepted};
 
 use crate::room::reserve_starts;
 use qm_deciding::{
@@ -52,7 +53,7 @@ pub fn prepare<'a>(
 
     // What is prepared can be made, and is what the model accepts.
     ensures ready { IfOk result (IsPrepared image.new) }
-    ensures accepted { IfOk result (λ prepared. applied (system_of image.old) now node request.now ≡ Ok (made prepared (system_of image.old))) }
+    ensures accepted { IfOk result (IsAccepted (system_of image.old) now node request.now) }
 {
     if are_numbers_spent(image, request) {
         return Err(Refused::By(Refusal::NumbersSpent));

@@ -1,6 +1,6 @@
 // What a node has to do for its runs. It costs the runs of all nodes and the bytes of the works that are told, whatever entries
 // wait.
-ghost use Rattle.std.specs.Prelude.{◌≡◌, ◌==◌, ◌++◌, [], All, IfOk, OnOk, IfSome, IsSome, false, filter_map, map, option_to_list, unwrap_or};
+ghost use Rattle.std.specs.Prelude.{◌≡◌, ◌==◌, ◌++◌, [], All, IfOk, OnOk, IsSome, false, unwrap_or};
 ghost use Rattle.std.specs.List.{list_any};
 ghost use Rattle.std.specs.List.Sorted.{IsNonDecreasing};
 ghost use Rattle.std.specs.Option.{option_copied, option_map_or};
@@ -10,7 +10,7 @@ ghost use Rattle.qm_model.specs.Consistent.{IsConsistent};
 ghost use Rattle.qm_model.specs.Duties.{duties, duty_of, work_of, is_paused, run_number, queue_of_run, device_of_run, form_that_shapes, shape_of};
 ghost use Rattle.qm_model.specs.Find.{form_wanted};
 ghost use Rattle.qm_parts.specs.ByRun.{entry_on};
-ghost use Rattle.qm_view.specs.Duties.{HasWork};
+ghost use Rattle.qm_view.specs.Duties.{HasWork, HasWorkOn, duty_on, duties_on};
 ghost use Rattle.qm_image.specs.Image.{system_of};
 
 use qm_ending::{fate_of, runs_in};
@@ -187,10 +187,9 @@ fn add_duty(
     run: &Run,
     duties: &mut Vec<Duty>,
 ) -> Result<(), AllocError>
-    requires work { IfSome (entry_on node.now (system_of image.now).entries run.now) (HasWork (system_of image.now)) }
+    requires work { HasWorkOn (system_of image.now) node.now run.now }
     requires rising { IsNonDecreasing known.now }
-    ensures { OnOk result (duties.new.items ≡ duties.old.items
-        ++ map (duty_of (system_of image.now) known.now) (option_to_list (entry_on node.now (system_of image.now).entries run.now))) }
+    ensures { OnOk result (duties.new.items ≡ duties.old.items ++ duty_on (system_of image.now) node.now known.now run.now) }
 {
     let Some(entry) = entry_on(image, node, run) else {
         return Ok(());
@@ -207,9 +206,9 @@ fn duties_of_runs(
     known: &[u64],
     runs: &[Run],
 ) -> Result<Vec<Duty>, AllocError>
-    requires works { All (λ r. IfSome (entry_on node.now (system_of image.now).entries r) (HasWork (system_of image.now))) runs.now }
+    requires works { All (HasWorkOn (system_of image.now) node.now) runs.now }
     requires rising { IsNonDecreasing known.now }
-    ensures { IfOk result (λ list. list.items ≡ map (duty_of (system_of image.now) known.now) (filter_map (entry_on node.now (system_of image.now).entries) runs.now)) }
+    ensures { IfOk result (λ list. list.items ≡ duties_on (system_of image.now) node.now known.now runs.now) }
 {
     let mut duties = Vec::new(image.alloc);
     for run in runs {

@@ -5,6 +5,7 @@ ghost use Rattle.qm_model.specs.Listing.{entry_row};
 ghost use Rattle.qm_model.specs.Rows.{all_rows, next_row, one_row, rows_listed, rows_of_entries, rows_of_jobs, single_rows, view};
 ghost use Rattle.qm_image.specs.Image.{system_of};
 ghost use Rattle.qm_image.specs.Refusing.{Refuses};
+ghost use Rattle.qm_view.specs.Viewing.{row_asked};
 
 use qm_image::{Image, Refused};
 use qm_kinds::{ListedEntry, Listing, Query, Refusal, Row};
@@ -91,8 +92,8 @@ fn all_listed(alloc: Global, image: &Image, query: &Query) -> Result<Rows, Alloc
 
 // The next row of a listing, if there is one.
 fn next(alloc: Global, image: &Image, query: &Query) -> Result<Option<Row>, AllocError>
-    ensures row { IfOk result (λ one. one ≡ next_row query.now.after (single_rows (system_of image.now) query.now query.now.listing)) }
-    ensures no_memory { OnErr result (IsSome (next_row query.now.after (single_rows (system_of image.now) query.now query.now.listing))) }
+    ensures row { IfOk result (λ one. one ≡ row_asked (system_of image.now) query.now) }
+    ensures no_memory { OnErr result (IsSome (row_asked (system_of image.now) query.now)) }
 {
     next_row(alloc, image.parts(), query)
 }
