@@ -150,8 +150,8 @@ pub record IsNewEntry (image : Image) (entry : Entry) : Type 0 where
 abbrev pub IsWaiting : ℕ → List Entry → Type 0
 IsWaiting number entries = option_map_or (λ e. is_waiting e.state) (entry_numbered number entries) false ≡ true
 
--- the entry has no run, and the one of its number is there, waits and names the same file; and there is room for it in the rows of the
--- queues that it may come to, and for a timer
+-- the entry has no run, and the one of its number is there, waits and names the same file; and there is room for it in the rows
+-- of the queues that it may come to, and for a timer
 pub record CanReplace (image : Image) (entry : Entry) : Type 0 where
   pub idle : run_of entry.state ≡ None
   pub waits : IsWaiting entry.number image.parts.entries
@@ -167,10 +167,11 @@ starts_behind change now node s = length (settled (stopped_when_idle (outcome_of
 abbrev pub StartAtMost : ℕ → Change → System → Type 0
 StartAtMost most change s = (now : ℕ) (node : List ℕ) → starts_behind change now node s ≤ most
 
--- The change can be made on the image: for what comes there is room, in the rows of the queues too, a new form or characteristic has a name and a number of its
--- own, a new entry has the next number and no run, its file is there and may be named once more, an entry that is changed waits,
--- has no run then and keeps its file, no entry names a file that goes, and no job runs for a queue that goes. For what may wait
--- for a moment, or be kept until one, there is room for a timer, and so there is for each job that runs on a node that is lost.
+-- The change can be made on the image: for what comes there is room, in the rows of the queues too, a new form or characteristic
+-- has a name and a number of its own, a new entry has the next number and no run, its file is there and may be named once more,
+-- an entry that is changed waits, has no run then and keeps its file, no entry names a file that goes, and no job runs for a
+-- queue that goes. For what may wait for a moment, or be kept until one, there is room for a timer, and so there is for each job
+-- that runs on a node that is lost.
 abbrev pub IsReady : Image → Change → Type 0
 IsReady image (NewFile name bytes) = CanInsert image name bytes.items
 IsReady image (MoreBytes name bytes) = CanAppend image name bytes.now

@@ -21,8 +21,8 @@ moment_in (Retained status until) = until
 abbrev pub moment_wanted : ℕ → List Entry → Option ℕ
 moment_wanted number entries = option_and_then (λ e. moment_in e.state) (entry_numbered number entries)
 
--- The timers are those of the entries: each number has one for the moment that its entry waits for, or until which it is kept, and
--- else none.
+-- The timers are those of the entries: each number has one for the moment that its entry waits for, or until which it is kept,
+-- and else none.
 abbrev pub AreTimersOf : List Entry → List (ℕ × ℕ) → Type 0
 AreTimersOf entries timers = (number : ℕ) → moment_of number timers ≡ moment_wanted number entries
 

@@ -6,14 +6,15 @@ use qm_kinds::{
 use qm_queues::Settings;
 use qm_rules::Reported;
 
-/// A change that was decided on, with the memory that it takes. Bytes for a file that is there are still the request's, and so are
-/// the names of nodes that come up or go.
+/// A change that was decided on, with the memory that it takes. Bytes for a file that is there are still the request's, and so
+/// are the names of nodes that come up or go.
 #[derive(Drop)]
 pub struct Prepared<'a> {
     /// The acting moment.
     pub at: Moment,
     /// The node that serves the request.
     pub node: Name,
+    /// What changes.
     pub change: Change<'a>,
     /// Empty, with room for the jobs that start behind the change.
     pub started: Vec<Start>,
