@@ -8,8 +8,8 @@ use Rattle.qm_kinds.specs.declared.request.Request.{Request}
 use Rattle.qm_kinds.specs.declared.system.System.{System}
 use Rattle.qm_record.specs.Spelling.{HasSpelling}
 use Rattle.qm_restore.specs.QueueFile.{IsSiteFile}
-use Rattle.qm_state.specs.Preparing.{made}
-use Rattle.qm_state.specs.declared.image.Image.{Image}
+use Rattle.qm_image.specs.Preparing.{made}
+use Rattle.qm_image.specs.declared.image.Image.{Image}
 use Rattle.qm_acting.specs.Asking.{text_of, need_with, CanBeAsked, Does, Lacks, IsInDoubt, Writes}
 use Rattle.qm_acting.specs.Deciding.{standing_with, Decides, Records}
 use Rattle.qm_acting.specs.Standing.{Standing, StandsFor}

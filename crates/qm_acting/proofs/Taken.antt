@@ -12,7 +12,7 @@ use Rattle.qm_disk.specs.Faults.{Tells}
 use Rattle.qm_kinds.specs.declared.reply.Reply.{Reply}
 use Rattle.qm_kinds.specs.declared.request.Request.{Request}
 use Rattle.qm_restore.specs.QueueFile.{IsSiteFile}
-use Rattle.qm_state.specs.declared.image.Image.{Image}
+use Rattle.qm_image.specs.declared.image.Image.{Image}
 use Rattle.qm_acting.specs.Asking.{text_of, CanBeAsked, Does, Writes}
 use Rattle.qm_acting.specs.Deciding.{standing_with, Decides, LeavesFull, Records}
 use Rattle.qm_acting.specs.Standing.{Standing, StandsFor}

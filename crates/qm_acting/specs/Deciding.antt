@@ -8,8 +8,8 @@ use Rattle.qm_kinds.specs.declared.system.System.{System}
 use Rattle.qm_model.specs.Applied.{applied}
 use Rattle.qm_model.specs.Log.{request_record}
 use Rattle.qm_record.specs.Spelling.{HasSpelling, record_text}
-use Rattle.qm_state.specs.Preparing.{made, IsPrepared}
-use Rattle.qm_state.specs.declared.image.Image.{Image}
+use Rattle.qm_image.specs.Preparing.{made, IsPrepared}
+use Rattle.qm_image.specs.declared.image.Image.{Image}
 use Rattle.qm_acting.specs.Asking.{need_with}
 use Rattle.qm_acting.specs.Standing.{Standing}
 use Rattle.qm_acting.specs.declared.decision.Decision.{Decision}

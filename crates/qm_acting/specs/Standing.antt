@@ -6,7 +6,7 @@ use Rattle.qm_store.specs.Database.{loaded_disk, loaded_record, open_disk, open_
 use Rattle.qm_store.specs.Recorded.{Recorded, IsAtRest}
 use Rattle.qm_kinds.specs.declared.system.System.{System}
 use Rattle.qm_restore.specs.QueueFile.{IsSiteFile}
-use Rattle.qm_state.specs.Image.{system_of}
+use Rattle.qm_image.specs.Image.{system_of}
 use Rattle.qm_acting.specs.declared.manager.Manager.{Manager}
 use Rattle.qm_acting.specs.declared.restored.Restored.{Restored}
 

@@ -3,7 +3,7 @@ ghost use Rattle.std.specs.Prelude.{◌≡◌, ◌<◌, ◌≤◌, [], length, v
 ghost use Rattle.qm_store.specs.Database.{spare_of};
 ghost use Rattle.qm_disk.specs.Disk.{TellsFaults};
 ghost use Rattle.qm_restore.specs.QueueFile.{IsSiteFile};
-ghost use Rattle.qm_state.specs.Preparing.{made, IsPrepared};
+ghost use Rattle.qm_image.specs.Preparing.{made, IsPrepared};
 ghost use Rattle.qm_acting.specs.Asking.{text_of, Answers, CanBeAsked, LeavesDevice, Writes};
 ghost use Rattle.qm_acting.specs.Deciding.{standing_with, Records, LeavesFull};
 ghost use Rattle.qm_acting.specs.Spare.{KeepsSpare};
@@ -13,9 +13,10 @@ use crate::fault::{AskFault, RecordFault};
 use crate::manager::Manager;
 use crate::replies::{Replies, copy_of};
 use qm_disk::Disk;
+use qm_image::Refused;
 use qm_kinds::{Moment, Reply, Request, Start};
 use qm_restore::site_files_are_consistent;
-use qm_state::Refused;
+use qm_state::commit;
 use qm_store::AppendFault;
 use std::alloc::AllocError;
 
@@ -90,7 +91,7 @@ impl<D: Disk> Manager<D> {
         let Decision { prepared, body } = decision;
         let epoch = self.store.epoch();
         match self.store.append(epoch, &body) {
-            Ok(()) => Ok(self.image.commit(prepared)),
+            Ok(()) => Ok(commit(&mut self.image, prepared)),
             Err(AppendFault::Full { need, cap }) => Err(RecordFault::Full { need, cap }),
             Err(AppendFault::Disk) => Err(RecordFault::Disk),
             Err(AppendFault::Fenced { .. }) => unreachable!(),

@@ -2,14 +2,15 @@
 ghost use Rattle.std.specs.Prelude.{◌≡◌, IfOk};
 ghost use Rattle.qm_model.specs.Applied.{applied};
 ghost use Rattle.qm_model.specs.Consistent.{IsConsistent};
-ghost use Rattle.qm_state.specs.Image.{system_of};
-ghost use Rattle.qm_state.specs.Refusing.{Refuses};
+ghost use Rattle.qm_image.specs.Image.{system_of};
+ghost use Rattle.qm_image.specs.Refusing.{Refuses};
 ghost use Rattle.qm_acting.specs.Asking.{CanBeAsked};
 ghost use Rattle.qm_acting.specs.Deciding.{Decides};
 
+use qm_image::{Image, Prepared, Refused};
 use qm_kinds::{Moment, Request};
 use qm_record::write_request;
-use qm_state::{Image, Prepared, Refused};
+use qm_state::prepare;
 use std::alloc::Global;
 
 /// A request that the rules accept: its change, and the body of its record.
@@ -34,7 +35,7 @@ pub(crate) fn decide<'a>(
     ensures decides { IfOk result (Decides (system_of image.old) moment node request.now image.new) }
 {
     // A `?` would copy the prepared change more than once.
-    let prepared = match image.prepare(moment, node, request) {
+    let prepared = match prepare(image, moment, node, request) {
         Ok(prepared) => prepared,
         Err(refused) => return Err(refused),
     };

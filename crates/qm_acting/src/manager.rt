@@ -6,16 +6,16 @@ ghost use Rattle.qm_model.specs.Applied.{are_numbers_spent};
 ghost use Rattle.qm_model.specs.Duties.{duties};
 ghost use Rattle.qm_model.specs.Rows.{view};
 ghost use Rattle.qm_model.specs.Standing.{node_at};
-ghost use Rattle.qm_state.specs.Refusing.{Refuses};
+ghost use Rattle.qm_image.specs.Refusing.{Refuses};
 
 use crate::letting_go::let_go;
 use qm_disk::Disk;
+use qm_image::{Image, Refused};
 use qm_kinds::{Duty, Moment, Name, Node, Query};
 use qm_restore::site_files_are_consistent;
 use qm_rows::Rows;
-use qm_state::{Image, Refused};
 use qm_store::{Closed, Open};
-use qm_view::view;
+use qm_view::{duties, view};
 use std::alloc::{AllocError, Global};
 
 /// A queue manager at work: the image of its system, and the open database that keeps what it accepted.
@@ -99,7 +99,7 @@ impl<D: Disk> Manager<D> {
     {
         site_files_are_consistent();
         let name = self.node_name(node);
-        self.image.duties(&name, known)
+        duties(&self.image, &name, known)
     }
 
     // The name of the node at a place.

@@ -7,8 +7,8 @@ ghost use Rattle.qm_model.specs.Acting.{acting};
 
 use crate::letting_go::let_go;
 use qm_disk::Disk;
+use qm_image::Image;
 use qm_kinds::{Moment, Name, Node};
-use qm_state::Image;
 use qm_store::{Closed, Loaded};
 use std::alloc::Global;
 

@@ -1,13 +1,13 @@
 // What files that were read show.
 ghost use Rattle.std.specs.Prelude.{◌≡◌, None, Ok, IfOk};
 ghost use Rattle.qm_model.specs.Rows.{view};
-ghost use Rattle.qm_state.specs.Refusing.{Refuses};
+ghost use Rattle.qm_image.specs.Refusing.{Refuses};
 
 use crate::restored::Restored;
 use qm_disk::Disk;
+use qm_image::Refused;
 use qm_kinds::Query;
 use qm_rows::Rows;
-use qm_state::Refused;
 use qm_view::view;
 
 impl<D: Disk> Restored<D> {

@@ -17,9 +17,9 @@ use crate::letting_go::let_go;
 use crate::manager::Manager;
 use crate::restored::Restored;
 use qm_disk::Disk;
+use qm_image::Refused;
 use qm_kinds::{Moment, Reply, Request};
 use qm_restore::site_files_are_consistent;
-use qm_state::Refused;
 use qm_store::{Closed, WriteFault};
 use std::alloc::AllocError;
 

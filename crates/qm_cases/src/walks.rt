@@ -8,7 +8,7 @@ use qm_disk::MemoryDisk;
 use qm_history::{Event, Turn, World};
 use qm_kinds::Name;
 use qm_restore::{Bodies, restore};
-use qm_state::Image;
+use qm_image::Image;
 use qm_store::{Closed, Loaded};
 use qm_world::{WalkEnd, first_world, texts_of, walk};
 use std::alloc::{AllocError, Global};

@@ -1,7 +1,7 @@
 // What a manager at work shows.
 ghost use Rattle.std.specs.Prelude.{◌≡◌, ◌<◌, ℕ, IsTrue, IfOk, Ok, Some, List, false, length, map, slice_get};
 ghost use Rattle.qm_kinds.specs.declared.input.Input.TheVariants as input;
-ghost use Rattle.qm_state.specs.Refusing.{Refuses};
+ghost use Rattle.qm_image.specs.Refusing.{Refuses};
 ghost use Rattle.qm_history.specs.Faults.{is_journal};
 ghost use Rattle.qm_history.specs.Turn.{Beside};
 ghost use Rattle.qm_acting.specs.Standing.{standing_of, IsReady};
@@ -18,7 +18,7 @@ use qm_kinds::{Input, Listing, Moment, Query, Row, Seq};
 use qm_restore::{site_files_are_accepted, site_files_are_consistent};
 use qm_rows::Rows;
 use qm_scan::the_manager_shows_in_its_listing;
-use qm_state::Refused;
+use qm_image::Refused;
 use std::alloc::AllocError;
 
 /// The runs of a node.

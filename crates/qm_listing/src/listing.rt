@@ -11,7 +11,7 @@ use qm_acting::{Restored, restore};
 use qm_disk::Disk;
 use qm_kinds::{Kinds, Listing, Pattern, Query};
 use qm_show::show_rows;
-use qm_state::Refused;
+use qm_image::Refused;
 use qm_store::{Closed, LoadFault, held_files_load};
 use std::alloc::{AllocError, Global};
 

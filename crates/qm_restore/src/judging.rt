@@ -1,11 +1,11 @@
 // Which requests can act on an image.
 ghost use Rattle.std.specs.Prelude.{◌≡◌, ◌↔◌, true};
 ghost use Rattle.qm_history.specs.Accepted.{IsListOfNodes, HasListsOfNodes};
-ghost use Rattle.qm_state.specs.Image.{system_of};
+ghost use Rattle.qm_image.specs.Image.{system_of};
 ghost use Rattle.qm_restore.specs.QueueFile.{CanAct};
 
+use qm_image::Image;
 use qm_kinds::{Moment, Name, Request};
-use qm_state::Image;
 
 // Whether each of these lists is one of the cluster's nodes.
 fn are_lists_of_nodes(image: &Image, gone: &[Name], up: &[Name], may: &[Name]) -> bool

@@ -2,7 +2,7 @@
 ghost use Rattle.std.specs.Prelude.{◌≡◌, ◌<◌, length, take, IsErr, IfOk, IfErr, OnOk};
 ghost use Rattle.qm_history.specs.Accepted.{IsNext};
 ghost use Rattle.qm_model.specs.Consistent.{AreNodes, IsConsistent};
-ghost use Rattle.qm_state.specs.Image.{system_of};
+ghost use Rattle.qm_image.specs.Image.{system_of};
 ghost use Rattle.qm_record.specs.Spelling.{HasSpelling};
 ghost use Rattle.qm_restore.specs.QueueFile.{IsSiteFile};
 ghost use Rattle.qm_restore.specs.Restoring.{rows_count, OfBody, Judges, IsReplayed, Leaves, LeavesBy, IsRefused, RefusesRead, Stands};
@@ -14,10 +14,11 @@ use crate::judging::can_act;
 use crate::laws::new_sites_are_consistent;
 use crate::rows::read_rows;
 use crate::site::new_system;
+use qm_image::{Image, Refused};
 use qm_kinds::{Body, Node, Record};
 use qm_model::requests_keep_consistent;
 use qm_record::{RecordFault, read_record};
-use qm_state::{Image, Refused};
+use qm_state::{commit, prepare};
 use std::alloc::{AllocError, Global};
 
 // How many rows a new site has.
@@ -39,9 +40,9 @@ fn replay(image: &mut Image, what: &Record) -> Result<bool, AllocError>
         return Ok(false);
     }
     requests_keep_consistent();
-    match image.prepare(what.moment, what.node, request) {
+    match prepare(image, what.moment, what.node, request) {
         Ok(prepared) => {
-            image.commit(prepared);
+            commit(image, prepared);
             Ok(true)
         }
         Err(Refused::By(_)) => Ok(false),

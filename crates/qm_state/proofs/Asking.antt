@@ -11,11 +11,11 @@ use Rattle.qm_model.specs.Outcome.{Accepted, unless_refused}
 use Rattle.qm_model.specs.Standing.{node_at}
 use Rattle.qm_model.specs.States.{stopped_when_idle}
 use Rattle.qm_model.proofs.JobLemmas.{change_is_consistent}
-use Rattle.qm_state.specs.declared.image.Image.{Image}
-use Rattle.qm_state.specs.declared.prepared.Change.{Change}
-use Rattle.qm_state.specs.Image.{system_of}
-use Rattle.qm_state.specs.Deciding.{PreparesAt}
-use Rattle.qm_state.specs.Preparing.{found, outcome_of}
+use Rattle.qm_image.specs.declared.image.Image.{Image}
+use Rattle.qm_image.specs.declared.prepared.Change.{Change}
+use Rattle.qm_image.specs.Image.{system_of}
+use Rattle.qm_image.specs.Deciding.{PreparesAt}
+use Rattle.qm_image.specs.Preparing.{found, outcome_of}
 
 -- the request needs numbers of runs, and they are spent
 abbrev pub is_spent : System → Request → Bool

@@ -21,7 +21,7 @@ use Rattle.qm_model.specs.Standing.{with_queue, occupies}
 use Rattle.qm_model.specs.States.{state_when_idle, when_idle, state_on_stop}
 use Rattle.qm_model.specs.Stopping.{stopped_queue}
 use Rattle.qm_sched.specs.Starts.{start_places}
-use Rattle.qm_state.specs.Preparing.{found}
+use Rattle.qm_image.specs.Preparing.{found}
 
 places_if : Bool → Queue → ℕ
 places_if b q = cond b (places q) 0

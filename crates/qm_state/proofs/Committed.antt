@@ -25,12 +25,12 @@ use Rattle.qm_parts.specs.Tables.{Tables, with_tables}
 use Rattle.qm_timers.proofs.SpoolCounting.{counts_changed}
 use Rattle.qm_timers.specs.SpoolCounts.{CountsOf}
 use Rattle.qm_timers.specs.Spool.{Counted}
-use Rattle.qm_state.proofs.Timed.{wanted_changed}
-use Rattle.qm_state.specs.declared.image.Image.{Image}
-use Rattle.qm_state.specs.declared.prepared.Prepared.{Prepared}
-use Rattle.qm_state.specs.Timers.{moment_in, AreTimersOf}
-use Rattle.qm_state.specs.Image.{system_of}
-use Rattle.qm_state.specs.Preparing.{found, made, changed, outcome_of}
+use Rattle.qm_image.proofs.Timed.{wanted_changed}
+use Rattle.qm_image.specs.declared.image.Image.{Image}
+use Rattle.qm_image.specs.declared.prepared.Prepared.{Prepared}
+use Rattle.qm_image.specs.Timers.{moment_in, AreTimersOf}
+use Rattle.qm_image.specs.Image.{system_of}
+use Rattle.qm_image.specs.Preparing.{found, made, changed, outcome_of}
 
 -- ---- settling reads the tables alone
 

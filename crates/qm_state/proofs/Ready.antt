@@ -19,15 +19,15 @@ use Rattle.qm_parts.specs.Rooms.{CanPut, HavePlacesFor, is_home, may_come, reach
 use Rattle.qm_parts.specs.Tables.{Tables}
 use Rattle.qm_parts.proofs.Reach.{count_map, count_filter_le}
 use Rattle.qm_timers.specs.Spool.{Kept, HasRoomFor}
-use Rattle.qm_state.proofs.Reached.{NamesItsFile, file_found, no_run_found, unnamed_found}
-use Rattle.qm_state.specs.declared.image.Image.{Image}
-use Rattle.qm_state.specs.declared.prepared.Change.{Change}
-use Rattle.qm_state.specs.declared.prepared.Change.TheVariants.{NewFile, MoreBytes, MoreLines, RemoveFile, NewForm, RemoveForm, NewCharacteristic, RemoveCharacteristic, NewEntry, PutQueue, SetQueue, StopQueue, CutShort, RemoveQueue, Merge, ReplaceEntry, RemoveEntry, Report, NodeUp, LoseNodes, TakeOver, Tick}
-use Rattle.qm_state.specs.Image.{system_of}
-use Rattle.qm_state.specs.Losing.{HasTimersFor}
-use Rattle.qm_state.specs.Preparing.{found, IsReady, IsWaiting}
-use Rattle.qm_state.proofs.Changed.{waiting_found}
-use Rattle.qm_state.proofs.Lost.{fewer_on_nodes}
+use Rattle.qm_image.proofs.Reached.{NamesItsFile, file_found, no_run_found, unnamed_found}
+use Rattle.qm_image.specs.declared.image.Image.{Image}
+use Rattle.qm_image.specs.declared.prepared.Change.{Change}
+use Rattle.qm_image.specs.declared.prepared.Change.TheVariants.{NewFile, MoreBytes, MoreLines, RemoveFile, NewForm, RemoveForm, NewCharacteristic, RemoveCharacteristic, NewEntry, PutQueue, SetQueue, StopQueue, CutShort, RemoveQueue, Merge, ReplaceEntry, RemoveEntry, Report, NodeUp, LoseNodes, TakeOver, Tick}
+use Rattle.qm_image.specs.Image.{system_of}
+use Rattle.qm_image.specs.Losing.{HasTimersFor}
+use Rattle.qm_image.specs.Preparing.{found, IsReady, IsWaiting}
+use Rattle.qm_image.proofs.Changed.{waiting_found}
+use Rattle.qm_making.proofs.Lost.{fewer_on_nodes}
 
 -- the files, the tables and the next number stay, but for how often files are named, and for entries, none of which comes
 record IsLeft (old new : Image) : Type 0 where

@@ -7,10 +7,10 @@ use Rattle.qm_model.specs.Settling.{settled}
 use Rattle.qm_model.specs.States.{stopped_when_idle}
 use Rattle.qm_queues.specs.declared.queues.settings.Settings.{Settings}
 use Rattle.qm_sched.specs.Starts.{start_places}
-use Rattle.qm_state.specs.declared.prepared.Change.{Change}
-use Rattle.qm_state.specs.declared.prepared.Change.TheVariants.{NewFile, MoreBytes, MoreLines, RemoveFile, NewForm, RemoveForm, NewCharacteristic, RemoveCharacteristic, NewEntry, PutQueue, SetQueue, StopQueue, CutShort, RemoveQueue, Merge, ReplaceEntry, RemoveEntry, Report, NodeUp, LoseNodes, TakeOver, Tick}
-use Rattle.qm_state.specs.Ending.{report_of}
-use Rattle.qm_state.specs.Preparing.{found, outcome_of, starts_behind}
+use Rattle.qm_image.specs.declared.prepared.Change.{Change}
+use Rattle.qm_image.specs.declared.prepared.Change.TheVariants.{NewFile, MoreBytes, MoreLines, RemoveFile, NewForm, RemoveForm, NewCharacteristic, RemoveCharacteristic, NewEntry, PutQueue, SetQueue, StopQueue, CutShort, RemoveQueue, Merge, ReplaceEntry, RemoveEntry, Report, NodeUp, LoseNodes, TakeOver, Tick}
+use Rattle.qm_rules.specs.Ending.{report_of}
+use Rattle.qm_image.specs.Preparing.{found, outcome_of, starts_behind}
 use Rattle.qm_state.proofs.Bounds.{idle_places, stop_places, without_places, reported_queues, fewer_found}
 
 -- ---- the places of the queues that are started

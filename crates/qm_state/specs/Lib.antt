@@ -1,13 +1,2 @@
-pub mod Settings
-pub mod Timers
-pub mod Leaving
-pub mod Ending
-pub mod Losing
-pub mod Refusing
-pub mod Image
-pub mod Keeping
-pub mod Naming
-pub mod Preparing
-pub mod Deciding
-pub mod Restoring
-pub mod Duties
+pub mod Accepting
+pub mod Settling

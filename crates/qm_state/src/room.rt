@@ -4,11 +4,10 @@ ghost use Rattle.qm_kinds.specs.declared.limits.TheConstants.{QUEUES_LIMIT};
 ghost use Rattle.qm_model.specs.Fitting.{is_started};
 ghost use Rattle.qm_model.specs.Free.{places};
 ghost use Rattle.qm_sched.specs.Starts.{start_places};
-ghost use Rattle.qm_state.specs.Image.{system_of};
-ghost use Rattle.qm_state.specs.Preparing.{StartAtMost};
+ghost use Rattle.qm_image.specs.Image.{system_of};
+ghost use Rattle.qm_image.specs.Preparing.{StartAtMost};
 
-use crate::image::Image;
-use crate::prepared::Change;
+use qm_image::{Change, Image};
 use qm_kinds::{Queue, QueueState, Start};
 use qm_sched::{places, starts_are_few};
 use std::alloc::AllocError;
@@ -36,32 +35,30 @@ fn start_places(queues: &[Queue]) -> u32
     places
 }
 
-impl Image {
-    // At most so many jobs start behind a change. Where it leaves no queue more places than before, the places of those that
-    // are started bound them, and else the entries.
-    #[tactic(auto, unfolding(crate::specs::Image::system_of))]
-    fn most_starts(&self, change: &Change) -> usize
-        requires { length self.now.parts.queues ≤ QUEUES_LIMIT }
-        ensures { StartAtMost result change.now (system_of self.now) }
-    {
-        starts_are_few();
-        match change {
-            Change::PutQueue { .. } | Change::SetQueue { .. } => self.parts.entry_count(),
-            _ => start_places(self.parts.queues()) as usize,
-        }
+// At most so many jobs start behind a change. Where it leaves no queue more places than before, the places of those that
+// are started bound them, and else the entries.
+#[tactic(auto, unfolding(qm_image::specs::Image::system_of))]
+fn most_starts(image: &Image, change: &Change) -> usize
+    requires { length image.now.parts.queues ≤ QUEUES_LIMIT }
+    ensures { StartAtMost result change.now (system_of image.now) }
+{
+    starts_are_few();
+    match change {
+        Change::PutQueue { .. } | Change::SetQueue { .. } => image.parts.entry_count(),
+        _ => start_places(image.parts.queues()) as usize,
     }
+}
 
-    /// Takes room for the jobs that start behind a change.
-    #[tactic(auto, unfolding(crate::specs::Image::system_of))]
-    pub(crate) fn reserve_starts(&mut self, change: &Change) -> Result<Vec<Start>, AllocError>
-        requires { length self.old.parts.queues ≤ QUEUES_LIMIT }
-        ensures empty { IfOk result (λ started. started.items ≡ []) }
-        ensures room { IfOk result (λ started. StartAtMost (vec_capacity started) change.now (system_of self.old)) }
-        ensures runs { IfOk result (λ _. StartAtMost self.new.parts.spare_runs change.now (system_of self.old)) }
-        ensures rest { self.new ≡ record self.old { parts = record self.old.parts { spare_runs = self.new.parts.spare_runs } } }
-    {
-        let most = self.most_starts(change);
-        self.parts.reserve_runs(most)?;
-        Vec::with_capacity(self.alloc, most)
-    }
+/// Takes room for the jobs that start behind a change.
+#[tactic(auto, unfolding(qm_image::specs::Image::system_of))]
+pub(crate) fn reserve_starts(image: &mut Image, change: &Change) -> Result<Vec<Start>, AllocError>
+    requires { length image.old.parts.queues ≤ QUEUES_LIMIT }
+    ensures empty { IfOk result (λ started. started.items ≡ []) }
+    ensures room { IfOk result (λ started. StartAtMost (vec_capacity started) change.now (system_of image.old)) }
+    ensures runs { IfOk result (λ _. StartAtMost image.new.parts.spare_runs change.now (system_of image.old)) }
+    ensures rest { image.new ≡ record image.old { parts = record image.old.parts { spare_runs = image.new.parts.spare_runs } } }
+{
+    let most = most_starts(image, change);
+    image.parts.reserve_runs(most)?;
+    Vec::with_capacity(image.alloc, most)
 }

@@ -3,6 +3,7 @@ ghost use Rattle.std.specs.Prelude.{◌≡◌, ◌<◌, ◌≤◌, [], length, v
 ghost use Rattle.qm_kinds.specs.declared.system.System.{System};
 ghost use Rattle.qm_model.specs.Settling.{settled};
 ghost use Rattle.qm_parts.specs.Tables.{with_tables};
+ghost use Rattle.qm_state.specs.Settling.{AreSettled, DifferInRuns};
 
 use qm_kinds::Start;
 use qm_parts::Parts;
@@ -18,8 +19,8 @@ fn settle_by<L: Ledger>(parts: &mut Parts, out: &mut Vec<Start>, blank: Blank)
     requires empty { out.old.items ≡ [] }
     requires room { (s : System) → length (settled (with_tables s parts.old)).started ≤ vec_capacity out.old }
     requires runs { (s : System) → length (settled (with_tables s parts.old)).started ≤ parts.old.spare_runs }
-    ensures settled { (s : System) → settled (with_tables s parts.old) ≡ record { system = with_tables s parts.new; started = out.new.items } }
-    ensures rest { parts.new ≡ record parts.old { entries = parts.new.entries; next_run = parts.new.next_run; spare_runs = parts.new.spare_runs } }
+    ensures settled { AreSettled parts.old parts.new out.new.items }
+    ensures rest { DifferInRuns parts.old parts.new }
 {
     let mut steps = Steps::<L>::open(blank);
     qm_sched::settle(parts, out, &mut steps);
@@ -30,8 +31,8 @@ pub(crate) fn settle(parts: &mut Parts, out: &mut Vec<Start>)
     requires empty { out.old.items ≡ [] }
     requires room { (s : System) → length (settled (with_tables s parts.old)).started ≤ vec_capacity out.old }
     requires runs { (s : System) → length (settled (with_tables s parts.old)).started ≤ parts.old.spare_runs }
-    ensures settled { (s : System) → settled (with_tables s parts.old) ≡ record { system = with_tables s parts.new; started = out.new.items } }
-    ensures rest { parts.new ≡ record parts.old { entries = parts.new.entries; next_run = parts.new.next_run; spare_runs = parts.new.spare_runs } }
+    ensures settled { AreSettled parts.old parts.new out.new.items }
+    ensures rest { DifferInRuns parts.old parts.new }
 {
     settle_by::<Brand>(parts, out, Blank::new(1));
 }

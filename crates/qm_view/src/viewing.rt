@@ -3,13 +3,14 @@ ghost use Rattle.std.specs.Prelude.{◌≡◌, IfOk, IsSome, None, Ok, OnErr};
 ghost use Rattle.qm_model.specs.Find.{entry_numbered};
 ghost use Rattle.qm_model.specs.Listing.{entry_row};
 ghost use Rattle.qm_model.specs.Rows.{all_rows, next_row, one_row, rows_listed, rows_of_entries, rows_of_jobs, single_rows, view};
-ghost use Rattle.qm_state.specs.Image.{system_of};
-ghost use Rattle.qm_state.specs.Refusing.{Refuses};
+ghost use Rattle.qm_image.specs.Image.{system_of};
+ghost use Rattle.qm_image.specs.Refusing.{Refuses};
+ghost use Rattle.qm_view.specs.Viewing.{row_asked};
 
+use qm_image::{Image, Refused};
 use qm_kinds::{ListedEntry, Listing, Query, Refusal, Row};
 use qm_rows::Rows;
 use qm_scan::{all_rows, next_row};
-use qm_state::{Image, Refused};
 use std::alloc::{AllocError, Global};
 
 /// The rows that a query asks for: those of the model's listing, but none of the queue manager, of which the image knows nothing.
@@ -54,7 +55,7 @@ fn view_entries(alloc: Global, image: &Image, query: &Query) -> Result<Rows, Ref
 }
 
 // The entry of a number.
-#[tactic(auto, unfolding(qm_state::specs::Image::system_of))]
+#[tactic(auto, unfolding(qm_image::specs::Image::system_of))]
 fn view_entry(alloc: Global, image: &Image, number: u32) -> Result<Rows, Refused>
     ensures rows { IfOk result (λ rows. entry_row number (entry_numbered number (system_of image.now).entries) ≡ Ok rows) }
     ensures refused { Refuses result (entry_row number (entry_numbered number (system_of image.now).entries)) }
@@ -91,8 +92,8 @@ fn all_listed(alloc: Global, image: &Image, query: &Query) -> Result<Rows, Alloc
 
 // The next row of a listing, if there is one.
 fn next(alloc: Global, image: &Image, query: &Query) -> Result<Option<Row>, AllocError>
-    ensures row { IfOk result (λ one. one ≡ next_row query.now.after (single_rows (system_of image.now) query.now query.now.listing)) }
-    ensures no_memory { OnErr result (IsSome (next_row query.now.after (single_rows (system_of image.now) query.now query.now.listing))) }
+    ensures row { IfOk result (λ one. one ≡ row_asked (system_of image.now) query.now) }
+    ensures no_memory { OnErr result (IsSome (row_asked (system_of image.now) query.now)) }
 {
     next_row(alloc, image.parts(), query)
 }

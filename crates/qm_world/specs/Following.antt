@@ -9,8 +9,8 @@ use Rattle.qm_record.specs.Spelling.{HasSpelling}
 use Rattle.qm_history.specs.declared.world.World.{World}
 use Rattle.qm_history.specs.Accepted.{CanFollow}
 use Rattle.qm_history.specs.Step.{NamesNodes}
-use Rattle.qm_state.specs.declared.image.Image.{Image}
-use Rattle.qm_state.specs.Preparing.{made, IsPrepared}
+use Rattle.qm_image.specs.declared.image.Image.{Image}
+use Rattle.qm_image.specs.Preparing.{made, IsPrepared}
 use Rattle.qm_world.specs.declared.end.Stop.{Stop}
 use Rattle.qm_world.specs.declared.end.Stop.TheVariants.{Illegal, NoMemory}
 use Rattle.qm_world.specs.declared.following.Followed.{Followed}

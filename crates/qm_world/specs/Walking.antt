@@ -6,7 +6,7 @@ use Rattle.qm_history.specs.declared.event.Event.{Event}
 use Rattle.qm_history.specs.declared.world.World.{World}
 use Rattle.qm_history.specs.Step.{after_event, after_events, CanCome, CanAllCome}
 use Rattle.qm_history.specs.World.{system_in, log_read, doubt_read, IsSound}
-use Rattle.qm_state.specs.Image.{system_of}
+use Rattle.qm_image.specs.Image.{system_of}
 use Rattle.qm_world.specs.declared.end.Stop.{Stop}
 use Rattle.qm_world.specs.declared.end.Stop.TheVariants as stop
 use Rattle.qm_world.specs.declared.end.WalkEnd.{WalkEnd}

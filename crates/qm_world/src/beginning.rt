@@ -5,13 +5,13 @@ ghost use Rattle.qm_model.specs.Consistent.{IsConsistent};
 ghost use Rattle.qm_model.specs.Folding.{after_body, no_system, system_of as system_of_log};
 ghost use Rattle.qm_record.specs.Spelling.{HasSpelling, is_row};
 ghost use Rattle.qm_history.specs.Accepted.{IsAccepted};
-ghost use Rattle.qm_state.specs.Image.{system_of};
+ghost use Rattle.qm_image.specs.Image.{system_of};
 
 use crate::copying::put;
 use crate::following::replay;
+use qm_image::Image;
 use qm_kinds::{Body, Entry, File, Moment, Name, Node, Queue, Record, Seq, System};
 use qm_model::requests_keep_consistent;
-use qm_state::Image;
 use std::alloc::{AllocError, Global};
 use std::{mem, slice};
 

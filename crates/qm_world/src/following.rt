@@ -4,14 +4,15 @@ ghost use Rattle.qm_model.specs.Consistent.{IsConsistent};
 ghost use Rattle.qm_model.specs.Folding.{after_record};
 ghost use Rattle.qm_record.specs.Spelling.{HasSpelling};
 ghost use Rattle.qm_history.specs.Accepted.{IsNext};
-ghost use Rattle.qm_state.specs.Image.{system_of};
+ghost use Rattle.qm_image.specs.Image.{system_of};
 ghost use Rattle.qm_world.specs.Following.{IsFollowed, IsJudged};
 
 use crate::copying::spell;
 use crate::end::Stop;
+use qm_image::{Image, Prepared, Refused};
 use qm_kinds::{Body, Moment, Record, Reply, Request};
 use qm_restore::can_act;
-use qm_state::{Image, Prepared, Refused};
+use qm_state::{commit, prepare};
 use std::alloc::{AllocError, Global};
 
 /// A request that can be the next record: that record, and what is prepared of its change.
@@ -37,9 +38,9 @@ pub(crate) fn replay(image: &mut Image, what: &Record) -> Result<(), AllocError>
     let Body::Ask(request) = &what.body else {
         unreachable!()
     };
-    match image.prepare(what.moment, what.node, request) {
+    match prepare(image, what.moment, what.node, request) {
         Ok(prepared) => {
-            image.commit(prepared);
+            commit(image, prepared);
             Ok(())
         }
         Err(_) => Err(AllocError),
@@ -64,7 +65,7 @@ pub(crate) fn judge<'a>(
     let Some(record) = spell(alloc, moment, node, request)? else {
         return Err(Stop::Illegal);
     };
-    match image.prepare(moment, node, request) {
+    match prepare(image, moment, node, request) {
         Ok(prepared) => Ok(Next { record, prepared }),
         Err(Refused::By(_)) => {
             drop(record);
@@ -89,6 +90,6 @@ pub(crate) fn follow(
     ensures { IsFollowed (system_of image.old) (system_of image.new) moment node request.now result }
 {
     let Next { record, prepared } = judge(alloc, image, moment, node, request)?;
-    let reply = image.commit(prepared);
+    let reply = commit(image, prepared);
     Ok(Followed { record, reply })
 }

@@ -1,7 +1,7 @@
 // Requests that were done, and those whose records are in doubt.
 ghost use Rattle.std.specs.Prelude.{◌≡◌, ◌↔◌, ◌<◌, true, length, IfOk, IsTrue};
 ghost use Rattle.qm_model.specs.Find.{is_among};
-ghost use Rattle.qm_state.specs.Image.{system_of};
+ghost use Rattle.qm_image.specs.Image.{system_of};
 
 use crate::copying::{put, put_doubt};
 use crate::end::Stop;

@@ -1,7 +1,7 @@
 // Takeovers: what they find of the record in doubt, and what they record.
 ghost use Rattle.std.specs.Prelude.{◌≡◌, ◌↔◌, ◌⊎◌, ◌+◌, true, length, IfOk, OnOk, Some, is_some};
 ghost use Rattle.qm_model.specs.Consistent.{IsConsistent};
-ghost use Rattle.qm_state.specs.Image.{system_of};
+ghost use Rattle.qm_image.specs.Image.{system_of};
 ghost use Rattle.qm_world.specs.Following.{IsTaken};
 
 use crate::copying::{put, put_doubt, set};
@@ -10,9 +10,9 @@ use crate::following::{Followed, follow, replay};
 use crate::nodes::names_nodes;
 use crate::walker::Walker;
 use qm_history::{Event, QueueFile, Role, World, sound_worlds_are_consistent};
+use qm_image::Image;
 use qm_kinds::{Moment, Name, Request, Seq};
 use qm_model::{nodes_keep_their_names, requests_keep_consistent};
-use qm_state::Image;
 use std::alloc::{AllocError, Global};
 
 // The request that a takeover records.

@@ -2,12 +2,12 @@
 ghost use Rattle.std.specs.Prelude.{◌≡◌, ◌↔◌, ◌<◌, length, IfOk, IsSome, IsTrue};
 ghost use Rattle.qm_record.specs.Spelling.{HasSpelling};
 ghost use Rattle.qm_history.specs.World.{epoch_of, held_by, is_live, IsSound};
-ghost use Rattle.qm_state.specs.Image.{system_of};
+ghost use Rattle.qm_image.specs.Image.{system_of};
 
 use crate::beginning::image_of_log;
 use crate::copying::copy_world;
 use qm_history::World;
-use qm_state::Image;
+use qm_image::Image;
 use std::alloc::{AllocError, Global};
 
 /// A world, and the image of its system.

@@ -2,8 +2,8 @@ use Rattle.std.proofs.Common.{◌∙◌, sym, ap, subst}
 use Rattle.qm_kinds.specs.declared.system.System.{System}
 use Rattle.qm_model.specs.Consistent.{IsConsistent}
 use Rattle.qm_model.specs.Outcome.{Accepted}
-use Rattle.qm_state.specs.Image.{system_of}
-use Rattle.qm_state.specs.Preparing.{made}
+use Rattle.qm_image.specs.Image.{system_of}
+use Rattle.qm_image.specs.Preparing.{made}
 use Rattle.qm_restore.proofs.Beginning.{not_both}
 use Rattle.qm_restore.proofs.Next.{cannot_act, goes_to, is_next, is_refused}
 use Rattle.qm_restore.proofs.restoring.replay.Goals as goal
@@ -11,7 +11,7 @@ use Rattle.qm_restore.proofs.restoring.replay.Goals as goal
 pub returns-in-Ok-clause-done : goal.returns-in-Ok-clause-done
 returns-in-Ok-clause-done c =
     let s : System = system_of c.args.image.now in
-    goes_to s c.args.what.now c.in-Ask.request c.in-Ask.is (made c.in-Ok.prepared s) (system_of c.commit.new.self) c.requires.spelled (c.can_act.ensures.0 c.if-not-can_act.false) c.in-Ok.ensures.accepted
+    goes_to s c.args.what.now c.in-Ask.request c.in-Ask.is (made c.in-Ok.prepared s) (system_of c.commit.new.image) c.requires.spelled (c.can_act.ensures.0 c.if-not-can_act.false) c.in-Ok.ensures.accepted
     (ap (λ (t : System). (made c.in-Ok.prepared t).system) (sym c.prepare.ensures.rows) ∙ ap (λ (x : Accepted). x.system) c.commit.ensures.done)
 
 pub returns-in-Ok-clause-sound : goal.returns-in-Ok-clause-sound

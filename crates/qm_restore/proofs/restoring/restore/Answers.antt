@@ -1,7 +1,7 @@
 use Rattle.std.proofs.Common.{◌≡◌, ◌∙◌, sym, ap, subst, take}
 use Rattle.qm_kinds.specs.declared.system.System.{System}
 use Rattle.qm_model.specs.Consistent.{AreNodes}
-use Rattle.qm_state.specs.Image.{system_of}
+use Rattle.qm_image.specs.Image.{system_of}
 use Rattle.qm_restore.specs.Restoring.{Stands}
 use Rattle.qm_restore.specs.Site.{new_system}
 use Rattle.qm_restore.proofs.Going.{rows_stand}

@@ -1,5 +1,5 @@
 use Rattle.std.proofs.Common.{◌≡◌, ◌∙◌, ℕ, List, sym, subst}
-use Rattle.qm_state.specs.Image.{system_of}
+use Rattle.qm_image.specs.Image.{system_of}
 use Rattle.qm_restore.specs.Restoring.{Leaves, IsRefused}
 use Rattle.qm_restore.proofs.Beginning.{same_some}
 use Rattle.qm_restore.proofs.Going.{on_ok, if_err, record_leaves, record_is_refused}

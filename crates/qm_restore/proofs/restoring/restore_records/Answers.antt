@@ -1,7 +1,7 @@
 use Rattle.std.proofs.Common.{◌<◌, ◌≤◌, ℕ, List, [], length, get_or, arith}
 use Rattle.std.proofs.lemmas.Option.{slice_get-get_or}
 use Rattle.std.proofs.lemmas.Result.{err_from_is_err_and}
-use Rattle.qm_state.specs.Image.{system_of}
+use Rattle.qm_image.specs.Image.{system_of}
 use Rattle.qm_restore.proofs.Going.{next_stands, next_is_judged, all_stand}
 use Rattle.qm_restore.proofs.restoring.restore_records.Goals as goal
 

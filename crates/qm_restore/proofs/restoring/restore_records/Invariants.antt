@@ -1,6 +1,6 @@
 use Rattle.std.proofs.Common.{take}
 use Rattle.qm_model.specs.Consistent.{IsConsistent}
-use Rattle.qm_state.specs.Image.{system_of}
+use Rattle.qm_image.specs.Image.{system_of}
 use Rattle.qm_restore.specs.Restoring.{Stands}
 use Rattle.qm_restore.proofs.restoring.restore_records.Given as goal
 

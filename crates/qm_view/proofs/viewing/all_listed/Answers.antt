@@ -1,7 +1,7 @@
 use Rattle.std.proofs.Common.{◌≡◌, IfOk, subst}
 use Rattle.qm_kinds.specs.declared.system.System.{System}
 use Rattle.qm_model.specs.Rows.{all_rows}
-use Rattle.qm_state.specs.Image.{system_of}
+use Rattle.qm_image.specs.Image.{system_of}
 use Rattle.qm_view.proofs.viewing.all_listed.Goals as goal
 
 pub returns : goal.returns

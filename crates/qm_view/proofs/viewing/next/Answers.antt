@@ -1,7 +1,7 @@
 use Rattle.std.proofs.Common.{◌≡◌, IfOk, IsSome, OnErr, subst}
 use Rattle.qm_kinds.specs.declared.system.System.{System}
 use Rattle.qm_model.specs.Rows.{next_row, single_rows}
-use Rattle.qm_state.specs.Image.{system_of}
+use Rattle.qm_image.specs.Image.{system_of}
 use Rattle.qm_view.proofs.viewing.next.Goals as goal
 
 pub returns-clause-row : goal.returns-clause-row

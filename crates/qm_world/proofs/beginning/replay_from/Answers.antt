@@ -1,7 +1,7 @@
 use Rattle.std.proofs.Common.{take, drop, ◌-◌, length, List}
 use Rattle.std.proofs.lemmas.List.{take_rest}
 use Rattle.qm_kinds.specs.declared.record.Record.{Record}
-use Rattle.qm_state.specs.Image.{system_of}
+use Rattle.qm_image.specs.Image.{system_of}
 use Rattle.qm_world.proofs.Rows.{all_begun, begun, more_begun}
 use Rattle.qm_world.proofs.beginning.replay_from.Goals as goal
 

@@ -1,4 +1,4 @@
-use Rattle.qm_state.specs.Image.{system_of}
+use Rattle.qm_image.specs.Image.{system_of}
 use Rattle.qm_world.proofs.Rows.{Begun}
 use Rattle.qm_world.proofs.beginning.replay_from.Given as goal
 

@@ -1,7 +1,7 @@
 use Rattle.std.proofs.Common.{length, vec_capacity, ◌≤◌, ◌∙◌, Ok, Err, refl, sym, ap, subst}
 use Rattle.qm_disk.specs.Disk.{OneFailed, IsQuiet}
 use Rattle.qm_model.specs.Outcome.{Accepted}
-use Rattle.qm_state.specs.Preparing.{made}
+use Rattle.qm_image.specs.Preparing.{made}
 use Rattle.qm_acting.specs.Deciding.{Records}
 use Rattle.qm_acting.specs.Standing.{Standing, disk_of, standing_of}
 use Rattle.qm_acting.specs.declared.fault.RecordFault.TheVariants as recording

@@ -3,7 +3,7 @@ use Rattle.qm_store.specs.Database.{open_disk, spare_of}
 use Rattle.qm_store.specs.Recorded.{Recorded, with_body}
 use Rattle.qm_model.specs.Outcome.{Accepted}
 use Rattle.qm_restore.specs.QueueFile.{IsSiteFile}
-use Rattle.qm_state.specs.Image.{system_of}
+use Rattle.qm_image.specs.Image.{system_of}
 use Rattle.qm_acting.specs.Asking.{need_with, Writes}
 use Rattle.qm_acting.specs.Standing.{disk_of, standing_of}
 use Rattle.qm_acting.proofs.Decided.{ready_on}
@@ -32,7 +32,7 @@ returns-in-Ok-clause-answer g c =
 pub returns-in-Ok-clause-ready : goal.returns-in-Ok-clause-ready
 returns-in-Ok-clause-ready g c = λ no.
     let r = (standing_of c.args.self.now).recorded in
-    let s = system_of c.commit.new.self in
+    let s = system_of c.commit.new.image in
     let added = c.in-Ok.ensures.answer.2 in
     record {
       file = subst (λ (x : Recorded). IsSiteFile x.bodies s) (sym (added.recorded ∙ ap (with_body r) c.deref.ensures.value))

@@ -2,7 +2,7 @@ use Rattle.std.proofs.Common.{refl, sym, ap, subst}
 use Rattle.qm_store.specs.Database.{open_disk}
 use Rattle.qm_store.specs.Recorded.{Recorded}
 use Rattle.qm_restore.specs.QueueFile.{IsSiteFile}
-use Rattle.qm_state.specs.Image.{system_of}
+use Rattle.qm_image.specs.Image.{system_of}
 use Rattle.qm_acting.specs.Standing.{restored_disk, restored_standing}
 use Rattle.qm_acting.proofs.Spare.{opening_keeps}
 use Rattle.qm_acting.proofs.restored.Restored.«open».Goals as goal

@@ -4,8 +4,8 @@ use Rattle.qm_store.specs.Opening.{next_need}
 use Rattle.qm_store.specs.Recorded.{epoch_behind}
 use Rattle.qm_store.specs.declared.files.TheConstants.{MASTER_CAP}
 use Rattle.qm_disk.specs.Faults.{Tells}
-use Rattle.qm_state.specs.Preparing.{IsPrepared}
-use Rattle.qm_state.specs.declared.image.Image.{Image}
+use Rattle.qm_image.specs.Preparing.{IsPrepared}
+use Rattle.qm_image.specs.declared.image.Image.{Image}
 use Rattle.qm_acting.specs.Asking.{text_of}
 use Rattle.qm_acting.specs.Standing.{Standing, standing_of, disk_of, restored_standing, restored_disk}
 use Rattle.qm_acting.specs.Taking.{in_next, IsDiskFault, FailLeaves, TakesNot}

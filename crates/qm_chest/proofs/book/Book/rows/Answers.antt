@@ -2,7 +2,7 @@ use Rattle.std.proofs.Common.{◌≡◌, List, Result, Ok, None, Some, subst}
 use Rattle.std.specs.Prelude.{IfOk}
 use Rattle.qm_kinds.specs.declared.query.Row.{Row}
 use Rattle.qm_kinds.specs.declared.refusal.Refusal.{Refusal}
-use Rattle.qm_state.specs.Refusing.{Refuses}
+use Rattle.qm_image.specs.Refusing.{Refuses}
 use Rattle.qm_acting.specs.Standing.{standing_of}
 use Rattle.qm_chest.proofs.book.Book.rows.Goals as goal
 

@@ -1,7 +1,7 @@
 use Rattle.std.proofs.Common.{◌≡◌, List, ap, rules}
 use Rattle.std.specs.Prelude.{IsSome}
 use Rattle.qm_kinds.specs.declared.record.Record.{Record}
-use Rattle.qm_state.specs.Image.{system_of}
+use Rattle.qm_image.specs.Image.{system_of}
 use Rattle.qm_world.proofs.Worlds.{follows, log_is, replies, system_is}
 use Rattle.qm_world.proofs.walker.Walker.done.Goals as goal
 

@@ -3,7 +3,7 @@ use Rattle.qm_kinds.specs.declared.record.Record.{Record}
 use Rattle.qm_kinds.specs.declared.system.System.{System}
 use Rattle.qm_history.specs.Accepted.{CanFollow}
 use Rattle.qm_record.specs.Spelling.{HasSpelling}
-use Rattle.qm_state.specs.Image.{system_of}
+use Rattle.qm_image.specs.Image.{system_of}
 use Rattle.qm_world.specs.Nodes.{MayBeInDoubt}
 use Rattle.qm_world.proofs.Worlds.{doubt_can}
 use Rattle.qm_world.proofs.walker.Walker.doubted.Goals as goal

@@ -1,0 +1,13 @@
+use Rattle.std.proofs.Common.{◌≡◌, ◌++◌, not, take, drop}
+use Rattle.std.specs.List.{filter}
+use Rattle.qm_entries.specs.Boxed.{contents}
+use Rattle.qm_timers.specs.SpoolCounts.{CountsOf}
+use Rattle.qm_ending.specs.Leaving.{goes}
+use Rattle.qm_ending.proofs.leaving.leave_files.Given as goal
+
+-- of the entries so far, those that stay are counted, and all that are left
+abbrev pub invariant-loop-boxed : goal.invariant-loop-boxed
+invariant-loop-boxed l = record {
+  counts : CountsOf (filter (λ e. not (goes l.leaving e)) (take l.boxed-index (contents l.entries)) ++ drop l.boxed-index (contents l.entries)) l.spool.counts;
+  files : l.spool ≡ record l.fn.spool { counts = l.spool.counts };
+}

@@ -1,0 +1,10 @@
+pub mod Found
+pub mod Numbered
+pub mod Runless
+pub mod Timed
+pub mod Listed
+pub mod Accepting
+pub mod Restoring
+pub mod Reached
+pub mod Handing
+pub mod Changed

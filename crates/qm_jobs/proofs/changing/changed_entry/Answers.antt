@@ -1,0 +1,9 @@
+use Rattle.std.proofs.Common.{sym}
+use Rattle.qm_image.specs.Image.{system_of}
+use Rattle.qm_jobs.proofs.changing.changed_entry.Goals as goal
+
+pub returns : goal.returns
+unfolding system_of
+returns c =
+    c.changed_entry.ensures (system_of c.args.image.now)
+    (record { forms_are = sym c.form_table.ensures.forms; characteristics_are = sym c.form_table.ensures.characteristics })

@@ -1,0 +1,5 @@
+pub mod Entries
+pub mod Kept
+pub mod Ended
+pub mod Lost
+pub mod Stopped

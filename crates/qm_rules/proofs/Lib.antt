@@ -1,0 +1,4 @@
+pub mod Given
+pub mod Refusing
+pub mod Boxed
+pub mod Gathered

@@ -1,0 +1,4 @@
+pub mod Settings
+pub mod Reasons
+pub mod Ending
+pub mod Naming

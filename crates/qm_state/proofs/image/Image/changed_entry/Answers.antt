@@ -1,9 +1,0 @@
-use Rattle.std.proofs.Common.{sym}
-use Rattle.qm_state.specs.Image.{system_of}
-use Rattle.qm_state.proofs.image.Image.changed_entry.Goals as goal
-
-pub returns : goal.returns
-unfolding system_of
-returns c =
-    c.changed_entry.ensures (system_of c.args.self.now)
-    (record { forms_are = sym c.form_table.ensures.forms; characteristics_are = sym c.form_table.ensures.characteristics })

@@ -1,9 +1,0 @@
-use Rattle.std.proofs.Common.{◌≡◌, drop}
-use Rattle.std.specs.List.{find}
-use Rattle.qm_entries.specs.Boxed.{contents}
-use Rattle.qm_state.specs.Naming.{names}
-use Rattle.qm_state.proofs.naming.first_naming.Given as goal
-
--- the entry is among those that are left, if anywhere
-abbrev pub invariant-loop-boxed : goal.invariant-loop-boxed
-invariant-loop-boxed l = find (names l.named) (drop l.boxed-index (contents l.entries)) ≡ find (names l.named) (contents l.entries)
