@@ -5,7 +5,6 @@ ghost use Rattle.std.specs.Ordering.{nat_cmp};
 ghost use Rattle.qm_model.specs.Consistent.{IsInOrder};
 ghost use Rattle.qm_model.specs.Find.{name_cmp, queue_named, entry_numbered};
 ghost use Rattle.qm_entries.specs.Boxed.{contents};
-ghost use Rattle.qm_entries.specs.Entries.{entry_after};
 ghost use Rattle.qm_entries.specs.Tags.{tags_of};
 ghost use Rattle.qm_queues.specs.Queues.{queue_after};
 
@@ -189,14 +188,6 @@ impl TableSet {
         ensures in_order { IsInOrder nat_cmp (λ e. e.number) self.now.entries }
     {
         self.entries.get(number)
-    }
-
-    /// The entry of the least number that is greater than this one. It asks a logarithm of the entries.
-    pub fn entry_after(&self, number: u32) -> Option<&Entry>
-        ensures next { option_copied result ≡ entry_after number self.now.entries }
-        ensures in_order { IsInOrder nat_cmp (λ e. e.number) self.now.entries }
-    {
-        self.entries.after(number)
     }
 
     /// The number of the next run.
