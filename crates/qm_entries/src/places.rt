@@ -141,7 +141,8 @@ fn set(entry: &mut Entry, change: &Change)
 /// Sets a field of the entry at a place.
 pub(crate) fn change_at(boxes: &mut Vec<Box<Entry>>, place: usize, change: &Change)
     requires { place < vec_len boxes.old }
-    ensures contents { ChangesAt (changed_by change.now) (contents boxes.old.items) (contents boxes.new.items) place }
+    ensures contents { ChangesAt (changed_by change.now)
+        (contents boxes.old.items) (contents boxes.new.items) place }
     ensures len { vec_len boxes.new ≡ vec_len boxes.old }
     ensures capacity { vec_capacity boxes.new ≡ vec_capacity boxes.old }
 {

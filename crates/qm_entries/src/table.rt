@@ -179,7 +179,9 @@ impl EntryTable {
     /// Takes out the entry of a number, and gives it. Where there is none, nothing changes.
     pub fn remove(&mut self, number: u32) -> Option<Entry>
         ensures removed { result ≡ entry_numbered number self.old.entries }
-        ensures entries { self.new ≡ record self.old { entries = without_entry number self.old.entries } }
+        ensures entries { self.new ≡ record self.old {
+          entries = without_entry number self.old.entries;
+        } }
     {
         let Ok(place) = place_of(self.shelf.as_slice(), number) else {
             return None;

@@ -157,7 +157,8 @@ fn head_of(heads: &Vec<usize>, tier: usize) -> usize
 fn turn_on(keys: &mut Vec<Key>, heads: &mut Vec<usize>, tier: usize, key: Key) -> Key
     requires tiered { IsTiered TIER heads.old.items keys.old.items }
     requires within { tier < length heads.old.items }
-    ensures { MovesKeys keys.old heads.old keys.new heads.new (tier * TIER) key (tier * TIER + TIER) result }
+    ensures { MovesKeys keys.old heads.old keys.new heads.new
+        (tier * TIER) key (tier * TIER + TIER) result }
 {
     let head = in_front(head_of(heads, tier));
     heads[tier] = head;
@@ -168,7 +169,8 @@ fn turn_on(keys: &mut Vec<Key>, heads: &mut Vec<usize>, tier: usize, key: Key) -
 fn turn_back(keys: &mut Vec<Key>, heads: &mut Vec<usize>, tier: usize, key: Key) -> Key
     requires tiered { IsTiered TIER heads.old.items keys.old.items }
     requires within { tier < length heads.old.items }
-    ensures { MovesKeys keys.old heads.old keys.new heads.new (tier * TIER + TIER) key (tier * TIER) result }
+    ensures { MovesKeys keys.old heads.old keys.new heads.new
+        (tier * TIER + TIER) key (tier * TIER) result }
 {
     let head = head_of(heads, tier);
     heads[tier] = behind(head);
@@ -218,7 +220,8 @@ fn is_near_front(place: usize) -> bool
 fn enter(keys: &mut Vec<Key>, heads: &mut Vec<usize>, place: usize, key: Key) -> Key
     requires tiered { IsTiered TIER heads.old.items keys.old.items }
     requires within { place < length heads.old.items * TIER }
-    ensures { MovesKeys keys.old heads.old keys.new heads.new place key ((place / TIER + 1) * TIER) result }
+    ensures { MovesKeys keys.old heads.old keys.new heads.new
+        place key ((place / TIER + 1) * TIER) result }
 {
     let tier = place / TIER;
     if is_near_front(place) {
@@ -232,7 +235,8 @@ fn enter(keys: &mut Vec<Key>, heads: &mut Vec<usize>, place: usize, key: Key) ->
 fn leave(keys: &mut Vec<Key>, heads: &mut Vec<usize>, place: usize, key: Key) -> Key
     requires tiered { IsTiered TIER heads.old.items keys.old.items }
     requires within { place < length heads.old.items * TIER }
-    ensures { MovesKeys keys.old heads.old keys.new heads.new ((place / TIER + 1) * TIER) key place result }
+    ensures { MovesKeys keys.old heads.old keys.new heads.new
+        ((place / TIER + 1) * TIER) key place result }
 {
     let tier = place / TIER;
     if is_near_front(place) {
@@ -246,7 +250,8 @@ fn leave(keys: &mut Vec<Key>, heads: &mut Vec<usize>, place: usize, key: Key) ->
 fn arrive(keys: &mut Vec<Key>, heads: &mut Vec<usize>, place: usize, key: Key) -> Key
     requires tiered { IsTiered TIER heads.old.items keys.old.items }
     requires within { place ≤ length heads.old.items * TIER }
-    ensures { MovesKeys keys.old heads.old keys.new heads.new (place / TIER * TIER) key place result }
+    ensures { MovesKeys keys.old heads.old keys.new heads.new
+        (place / TIER * TIER) key place result }
 {
     let tier = place / TIER;
     if is_near_front(place) {
@@ -260,7 +265,8 @@ fn arrive(keys: &mut Vec<Key>, heads: &mut Vec<usize>, place: usize, key: Key) -
 fn depart(keys: &mut Vec<Key>, heads: &mut Vec<usize>, place: usize, key: Key) -> Key
     requires tiered { IsTiered TIER heads.old.items keys.old.items }
     requires within { place ≤ length heads.old.items * TIER }
-    ensures { MovesKeys keys.old heads.old keys.new heads.new place key (place / TIER * TIER) result }
+    ensures { MovesKeys keys.old heads.old keys.new heads.new
+        place key (place / TIER * TIER) result }
 {
     let tier = place / TIER;
     if is_near_front(place) {

@@ -149,7 +149,8 @@ impl Spool {
           spare = self.old.spare - 1;
         } }
         ensures counts { SameCounts self.old.counts self.new.counts }
-        ensures bytes { IsCountedAs name (vec_capacity bytes - vec_len bytes) self.old.rooms self.new.rooms }
+        ensures bytes { IsCountedAs name (vec_capacity bytes - vec_len bytes)
+            self.old.rooms self.new.rooms }
     {
         let Err(place) = place_of(&self.files, &name) else {
             unreachable!()
