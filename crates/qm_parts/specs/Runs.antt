@@ -1,13 +1,15 @@
 -- What an entry has to do with the runs of the tables.
-use Rattle.std.specs.Prelude.{◌≡◌, ◌<◌, ℕ, false, ◌&&◌, List, find, filter, map, min, Option, None, Some, IfSome, MatchOption}
+use Rattle.std.specs.Prelude.{◌≡◌, ◌<◌, ◌-◌, ℕ, if◌then◌else◌, is_some, false, ◌&&◌, List, find, filter, map, min, Option, None, Some, IfSome, MatchOption}
 use Rattle.std.specs.List.{list_any, reduce}
 use Rattle.std.specs.Option.{option_map, option_and_then}
 use Rattle.qm_kinds.specs.declared.entry.Entry.{Entry}
 use Rattle.qm_kinds.specs.declared.entry.EntryState.{EntryState}
+use Rattle.qm_kinds.specs.declared.entry.EntryState.TheVariants.{Running}
 use Rattle.qm_kinds.specs.declared.run.Run.{Run}
 use Rattle.qm_model.specs.Find.{entry_numbered}
 use Rattle.qm_model.specs.Standing.{has_run, is_run_on}
 use Rattle.qm_model.specs.Stopping.{is_running_in}
+use Rattle.qm_entries.specs.Changes.{with_changed, with_state}
 use Rattle.qm_queues.specs.Runs.{Begun, run_numbered, with_run, without_run}
 use Rattle.qm_parts.specs.Mirror.{run_of_entry}
 use Rattle.qm_parts.specs.Tables.{Tables}
@@ -50,3 +52,11 @@ EndsRun number old new = MatchOption number (new ≡ old) (λ run. new ≡ witho
 -- the least number of an entry that one of these runs is of
 abbrev pub least_entry : List Run → Option ℕ
 least_entry runs = reduce min (map (λ r. r.entry) runs)
+
+-- the entries, of which the one of this number runs in a queue and on a node, under this run
+abbrev pub with_running : ℕ → List ℕ → List ℕ → ℕ → List Entry → List Entry
+with_running number queue node run entries = with_changed number (with_state (Running queue node run)) entries
+
+-- for how many more runs there is room once that of the entry was put in, if it has one
+abbrev pub run_room_with : Entry → ℕ → ℕ
+run_room_with entry room = if is_some (run_of_entry entry) then room - 1 else room

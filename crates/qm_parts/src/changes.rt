@@ -1,7 +1,7 @@
 // What becomes of the tables, with the rows of ready jobs.
 ghost use Rattle.std.specs.Prelude.{◌≡◌, ◌≤◌, ◌<◌, ◌+◌, ◌-◌, ◌^◌, ◌++◌, ◌∷◌, [], All, None, Some, false, length, map, find, count_by};
 ghost use Rattle.std.specs.Ordering.{nat_cmp};
-ghost use Rattle.qm_kinds.specs.declared.entry.EntryState.TheVariants.{Pending, Running};
+ghost use Rattle.qm_kinds.specs.declared.entry.EntryState.TheVariants.{Pending};
 ghost use Rattle.qm_kinds.specs.declared.limits.TheConstants.{END_OF_RUNS, LAST_CHARACTERISTIC};
 ghost use Rattle.qm_model.specs.Characteristics.{is_characteristic_taken};
 ghost use Rattle.qm_model.specs.Consistent.{IsInOrder};
@@ -18,9 +18,9 @@ ghost use Rattle.qm_model.specs.Stopping.{with_fate, reset_in};
 ghost use Rattle.qm_queues.specs.Forms.{without_form, without_characteristic};
 ghost use Rattle.qm_queues.specs.Queues.{with_queue_put};
 ghost use Rattle.qm_queues.specs.Settings.{with_settings_and_state, with_state};
-ghost use Rattle.qm_entries.specs.Changes.{with_changed, with_state as with_entry_state};
+ghost use Rattle.qm_entries.specs.Changes.{with_changed};
 ghost use Rattle.qm_entries.specs.Entries.{without_entry, without_home, without_over};
-ghost use Rattle.qm_parts.specs.Runs.{KeepsRun, state_numbered};
+ghost use Rattle.qm_parts.specs.Runs.{KeepsRun, state_numbered, with_running};
 ghost use Rattle.qm_parts.specs.Spare.{KeepsCharacteristicRoom, KeepsFormRoom, room_with, room_without};
 ghost use Rattle.qm_parts.specs.Rooms.{AreBounds, CanPut, HavePlacesFor, is_home, HasPlacesIfMoved};
 
@@ -134,7 +134,7 @@ impl Parts {
         requires pending { state_numbered number self.old.entries ≡ Some Pending }
         ensures run { result ≡ self.old.next_run }
         ensures tables { self.new ≡ record self.old {
-          entries = with_changed number (with_entry_state (Running queue node self.old.next_run)) self.old.entries;
+          entries = with_running number queue node self.old.next_run self.old.entries;
           next_run = self.old.next_run + 1;
           spare_runs = self.old.spare_runs - 1;
         } }

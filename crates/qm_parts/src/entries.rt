@@ -1,14 +1,13 @@
 // What becomes of entries, and of their runs.
-ghost use Rattle.std.specs.Prelude.{◌≡◌, ◌≤◌, ◌<◌, ◌+◌, ◌-◌, ◌++◌, ◌∷◌, [], All, None, Some, is_some, if◌then◌else◌};
-ghost use Rattle.qm_kinds.specs.declared.entry.EntryState.TheVariants.{Pending, Running};
+ghost use Rattle.std.specs.Prelude.{◌≡◌, ◌≤◌, ◌<◌, ◌+◌, ◌-◌, ◌++◌, ◌∷◌, [], All, None, Some};
+ghost use Rattle.qm_kinds.specs.declared.entry.EntryState.TheVariants.{Pending};
 ghost use Rattle.qm_kinds.specs.declared.limits.TheConstants.{END_OF_RUNS};
 ghost use Rattle.qm_model.specs.Find.{entry_numbered};
 ghost use Rattle.qm_model.specs.JobStates.{run_of};
 ghost use Rattle.qm_model.specs.Standing.{with_entry};
-ghost use Rattle.qm_entries.specs.Changes.{with_changed, with_state};
 ghost use Rattle.qm_entries.specs.Entries.{without_entry};
 ghost use Rattle.qm_parts.specs.Mirror.{run_of_entry};
-ghost use Rattle.qm_parts.specs.Runs.{CanPutRun, CanRestoreRun, EndsRun, KeepsRun, PutsRun, state_numbered};
+ghost use Rattle.qm_parts.specs.Runs.{CanPutRun, CanRestoreRun, EndsRun, KeepsRun, PutsRun, state_numbered, run_room_with, with_running};
 
 use crate::running::see_order;
 use crate::tables::TableSet;
@@ -39,7 +38,7 @@ impl TableSet {
         ensures { self.new ≡ record self.old {
           entries = self.old.entries ++ entry ∷ [];
           spare_entries = self.old.spare_entries - 1;
-          spare_runs = if is_some (run_of_entry entry) then self.old.spare_runs - 1 else self.old.spare_runs;
+          spare_runs = run_room_with entry self.old.spare_runs;
         } }
     {
         put_run(&mut self.runs, &entry);
@@ -91,7 +90,7 @@ impl TableSet {
         requires pending { state_numbered number self.old.entries ≡ Some Pending }
         ensures run { result ≡ self.old.next_run }
         ensures tables { self.new ≡ record self.old {
-          entries = with_changed number (with_state (Running queue node self.old.next_run)) self.old.entries;
+          entries = with_running number queue node self.old.next_run self.old.entries;
           next_run = self.old.next_run + 1;
           spare_runs = self.old.spare_runs - 1;
         } }
@@ -142,8 +141,7 @@ fn put_run(runs: &mut Runs, entry: &Entry)
     requires { CanPutRun entry.now runs.old }
     ensures runs { PutsRun (run_of_entry entry.now) runs.old.runs runs.new.runs }
     ensures next { runs.new.next ≡ runs.old.next }
-    ensures spare { runs.new.spare
-        ≡ if is_some (run_of_entry entry.now) then runs.old.spare - 1 else runs.old.spare }
+    ensures spare { runs.new.spare ≡ run_room_with entry.now runs.old.spare }
 {
     if let Some(run) = run_of_entry(entry) {
         runs.put(run);

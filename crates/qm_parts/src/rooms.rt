@@ -208,7 +208,8 @@ fn widen_targets(
     requires enough { length tables.now.queues ≤ length rows.old.items }
     requires bounded { length bounds.old.items ≡ length rows.old.items }
     requires bounds { AreBounds tables.now.queues tables.now.entries bounds.old.items }
-    ensures places { OnOk result (HasRoomWhere (is_target targets.now) more tables.now rows.new.items) }
+    ensures places { OnOk result
+        (HasRoomWhere (is_target targets.now) more tables.now rows.new.items) }
     ensures same { KeepsKeys rows.old.items rows.new.items }
     ensures bounded { length bounds.new.items ≡ length bounds.old.items }
     ensures bounds { AreBounds tables.now.queues tables.now.entries bounds.new.items }

@@ -155,7 +155,8 @@ impl TableSet {
     /// The queue of the least name that is greater than this one, or of the least name where none is given. It asks a
     /// logarithm of the queues.
     pub fn queue_after(&self, name: Option<&Name>) -> Option<&Queue>
-        ensures next { option_copied result ≡ queue_after (option_copied name.entry) self.now.queues }
+        ensures next { option_copied result
+            ≡ queue_after (option_copied name.entry) self.now.queues }
         ensures in_order { IsInOrder name_cmp (λ q. q.name) self.now.queues }
     {
         self.queues.after(name)
