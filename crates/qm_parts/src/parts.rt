@@ -11,7 +11,6 @@ ghost use Rattle.qm_model.specs.Standing.{occupies, has_run};
 ghost use Rattle.qm_model.specs.Stopping.{job_meant};
 ghost use Rattle.qm_entries.specs.Boxed.{contents};
 ghost use Rattle.qm_entries.specs.Tags.{tags_of};
-ghost use Rattle.qm_queues.specs.Queues.{queue_after};
 ghost use Rattle.qm_parts.specs.ByRun.{AreByRun};
 ghost use Rattle.qm_parts.specs.Runs.{running_in, running_on};
 ghost use Rattle.qm_kinds.specs.declared.queue.Queue.{Queue as AnyQueue};
@@ -234,16 +233,6 @@ impl Parts {
         ensures in_order { IsInOrder name_cmp (λ q. q.name) self.now.queues }
     {
         self.tables.queue(name)
-    }
-
-    /// The queue of the least name that is greater than this one, or of the least name where none is given. It asks a
-    /// logarithm of the queues.
-    pub fn queue_after(&self, name: Option<&Name>) -> Option<&Queue>
-        ensures next { option_copied result
-            ≡ queue_after (option_copied name.entry) self.now.queues }
-        ensures in_order { IsInOrder name_cmp (λ q. q.name) self.now.queues }
-    {
-        self.tables.queue_after(name)
     }
 
     /// The row of the queue of a name, if there is such a queue: it has the keys of just the jobs that fit the queue, in the

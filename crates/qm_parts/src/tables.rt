@@ -6,7 +6,6 @@ ghost use Rattle.qm_model.specs.Consistent.{IsInOrder};
 ghost use Rattle.qm_model.specs.Find.{name_cmp, queue_named, entry_numbered};
 ghost use Rattle.qm_entries.specs.Boxed.{contents};
 ghost use Rattle.qm_entries.specs.Tags.{tags_of};
-ghost use Rattle.qm_queues.specs.Queues.{queue_after};
 
 use crate::names::place_of;
 use qm_entries::EntryTable;
@@ -150,16 +149,6 @@ impl TableSet {
             Ok(place) => Some(&queues[place]),
             Err(_) => None,
         }
-    }
-
-    /// The queue of the least name that is greater than this one, or of the least name where none is given. It asks a
-    /// logarithm of the queues.
-    pub fn queue_after(&self, name: Option<&Name>) -> Option<&Queue>
-        ensures next { option_copied result
-            ≡ queue_after (option_copied name.entry) self.now.queues }
-        ensures in_order { IsInOrder name_cmp (λ q. q.name) self.now.queues }
-    {
-        self.queues.after(name)
     }
 
     /// The entries, in order of their numbers.
