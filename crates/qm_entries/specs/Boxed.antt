@@ -10,6 +10,10 @@ contents boxes = map (λ b. b.value) boxes
 abbrev pub brought : {X : Type 0} → ℕ → List X → List X
 brought place xs = (drop place (take (place + 1) xs) ++ take place (take (place + 1) xs)) ++ drop (place + 1) xs
 
+-- the list, in which what stands at a place behind the first ones comes to stand right behind these
+abbrev pub brought_behind : {X : Type 0} → ℕ → ℕ → List X → List X
+brought_behind first place xs = take first xs ++ brought place (drop first xs)
+
 -- the entries on a shelf, in their order, and for how many more it has a place
 pub record Shelved : Type 0 where
   pub entries : List Entry

@@ -2,3 +2,4 @@ pub mod Entries
 pub mod Boxed
 pub mod Changes
 pub mod Tags
+pub mod Shelved

@@ -1,5 +1,5 @@
 -- The tag of an entry: a small number that follows from the name of its home.
-use Rattle.std.specs.Prelude.{ℕ, ◌+◌, ◌*◌, ◌%◌, List, map}
+use Rattle.std.specs.Prelude.{◌≡◌, ℕ, ◌+◌, ◌*◌, ◌%◌, List, map, slice_set, slice_index_or}
 use Rattle.std.specs.List.{fold}
 use Rattle.qm_kinds.specs.declared.entry.Entry.{Entry}
 
@@ -18,3 +18,7 @@ entry_tag e = tag_of e.home
 -- the tags of entries, in their order
 abbrev pub tags_of : List Entry → List ℕ
 tags_of entries = map entry_tag entries
+
+-- at one place the tag is that of the entry there, and all others are as they were
+abbrev pub IsRetagged : List Entry → ℕ → List ℕ → List ℕ → Type 0
+IsRetagged entries place old new = (any : Entry) → new ≡ slice_set old place (entry_tag (slice_index_or entries place any))

@@ -1,5 +1,5 @@
 // Values in boxes, one by one. None of these calls takes memory.
-ghost use Rattle.std.specs.Prelude.{◌≡◌, ◌≤◌, ◌<◌, ◌+◌, ◌++◌, ◌∷◌, [], IsSome, None, Some, vec_len, vec_capacity, slice_set, slice_get, remove};
+ghost use Rattle.std.specs.Prelude.{◌≡◌, ◌<◌, ◌+◌, ◌++◌, ◌∷◌, [], IsSome, None, Some, vec_len, vec_capacity, slice_set, slice_get, remove};
 ghost use Rattle.std.specs.Option.{option_copied};
 ghost use Rattle.qm_entries.specs.Boxed.{contents};
 
@@ -30,7 +30,8 @@ pub(crate) fn put_last<T: Copy>(boxes: &mut Vec<Box<T>>, ready: &mut Option<Box<
 pub(crate) fn replace<T: Copy>(boxes: &mut Vec<Box<T>>, place: usize, value: &T) -> T
     requires { place < vec_len boxes.old }
     ensures replaced { Some result ≡ slice_get (contents boxes.old.items) place }
-    ensures contents { contents boxes.new.items ≡ slice_set (contents boxes.old.items) place value.now }
+    ensures contents { contents boxes.new.items
+        ≡ slice_set (contents boxes.old.items) place value.now }
     ensures len { vec_len boxes.new ≡ vec_len boxes.old }
     ensures capacity { vec_capacity boxes.new ≡ vec_capacity boxes.old }
 {

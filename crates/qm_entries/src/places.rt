@@ -1,8 +1,9 @@
 // Entries in boxes: where they stand, and what is changed there.
-ghost use Rattle.std.specs.Prelude.{◌≡◌, ◌≤◌, ◌<◌, ℕ, length, vec_len, vec_capacity, slice_get, slice_set, slice_index_or};
+ghost use Rattle.std.specs.Prelude.{◌≡◌, ◌≤◌, ◌<◌, length, vec_len, vec_capacity, slice_get, slice_index_or};
 ghost use Rattle.std.specs.Ordering.{nat_cmp};
 ghost use Rattle.qm_model.specs.Consistent.{IsInOrder};
 ghost use Rattle.qm_keyed.specs.Places.{IsPlace};
+ghost use Rattle.qm_keyed.specs.Rows.{ChangesAt};
 ghost use Rattle.qm_kinds.specs.declared.entry.Entry.{Entry as AnyEntry};
 ghost use Rattle.qm_entries.specs.Boxed.{contents};
 ghost use Rattle.qm_entries.specs.Changes.{changed_by};
@@ -140,7 +141,8 @@ fn set(entry: &mut Entry, change: &Change)
 /// Sets a field of the entry at a place.
 pub(crate) fn change_at(boxes: &mut Vec<Box<Entry>>, place: usize, change: &Change)
     requires { place < vec_len boxes.old }
-    ensures contents { (d : AnyEntry) → contents boxes.new.items ≡ slice_set (contents boxes.old.items) place (changed_by change.now (slice_index_or (contents boxes.old.items) place d)) }
+    ensures contents { ChangesAt (changed_by change.now)
+        (contents boxes.old.items) (contents boxes.new.items) place }
     ensures len { vec_len boxes.new ≡ vec_len boxes.old }
     ensures capacity { vec_capacity boxes.new ≡ vec_capacity boxes.old }
 {

@@ -1,11 +1,12 @@
 // Entries in boxes, one behind the other.
-ghost use Rattle.std.specs.Prelude.{◌≡◌, ◌≤◌, ◌<◌, ◌+◌, ◌++◌, ◌∷◌, [], IsSome, None, Some, OnOk, length, not, map, filter, count_by, drop, vec_len, vec_capacity, slice_set, slice_get, slice_index_or, remove};
-ghost use Rattle.std.specs.Str.{bytes_eq};
-ghost use Rattle.qm_kinds.specs.declared.entry.Entry.{Entry as AnyEntry};
-ghost use Rattle.qm_model.specs.Due.{is_over, entry_at};
+ghost use Rattle.std.specs.Prelude.{◌≡◌, ◌≤◌, ◌<◌, ◌+◌, ◌++◌, ◌∷◌, [], IsSome, None, Some, OnOk, length, map, count_by, vec_len, vec_capacity, slice_set, slice_get, remove};
+ghost use Rattle.qm_keyed.specs.Rows.{ChangesAt};
+ghost use Rattle.qm_model.specs.Due.{entry_at};
 ghost use Rattle.qm_model.specs.Merging.{moved_to, waits_in};
 ghost use Rattle.qm_entries.specs.Boxed.{contents};
 ghost use Rattle.qm_entries.specs.Changes.{changed_by};
+ghost use Rattle.qm_entries.specs.Entries.{without_home, without_over};
+ghost use Rattle.qm_entries.specs.Shelved.{shelved};
 ghost use Rattle.qm_entries.specs.Tags.{tags_of};
 
 use crate::change::Change;
@@ -98,7 +99,7 @@ impl Shelf {
     /// Sets a field of the entry at a place.
     pub(crate) fn change_at(&mut self, place: usize, change: &Change)
         requires { place < length self.old.entries }
-        ensures entries { (d : AnyEntry) → self.new.entries ≡ slice_set self.old.entries place (changed_by change.now (slice_index_or self.old.entries place d)) }
+        ensures entries { ChangesAt (changed_by change.now) self.old.entries self.new.entries place }
         ensures room { self.new.room ≡ self.old.room }
     {
         self.row.change_at(self.gone + place, change);
@@ -122,7 +123,7 @@ impl Shelf {
 
     /// Takes out the entries whose time is up, and frees their boxes.
     pub(crate) fn remove_over(&mut self, now: Moment)
-        ensures entries { self.new.entries ≡ filter (λ e. not (is_over now e.state)) self.old.entries }
+        ensures entries { self.new.entries ≡ without_over now self.old.entries }
         ensures room { self.old.room ≤ self.new.room }
     {
         free_gone(&mut self.row, &mut self.gone);
@@ -131,7 +132,7 @@ impl Shelf {
 
     /// Takes out the entries of a home, and frees their boxes.
     pub(crate) fn remove_of_home(&mut self, home: &Name)
-        ensures entries { self.new.entries ≡ filter (λ e. not (bytes_eq e.home home.now)) self.old.entries }
+        ensures entries { self.new.entries ≡ without_home home.now self.old.entries }
         ensures room { self.old.room ≤ self.new.room }
     {
         free_gone(&mut self.row, &mut self.gone);
@@ -161,8 +162,8 @@ impl Shelf {
 // Takes the entry at a place behind those that are gone out.
 fn take_at(row: &mut Tagged, gone: &mut usize, place: usize) -> Entry
     requires { gone.old + place < vec_len row.old.boxes }
-    ensures taken { Some result ≡ slice_get (drop gone.old (contents row.old.boxes.items)) place }
-    ensures left { drop gone.new (contents row.new.boxes.items) ≡ remove (drop gone.old (contents row.old.boxes.items)) place }
+    ensures taken { Some result ≡ slice_get (shelved gone.old row.old) place }
+    ensures left { shelved gone.new row.new ≡ remove (shelved gone.old row.old) place }
     ensures within { gone.new ≤ vec_len row.new.boxes }
     ensures len { vec_len row.new.boxes ≤ vec_len row.old.boxes }
     ensures box_capacity { vec_capacity row.new.boxes ≡ vec_capacity row.old.boxes }
@@ -178,8 +179,8 @@ fn take_at(row: &mut Tagged, gone: &mut usize, place: usize) -> Entry
 // one that is gone.
 fn take_front(row: &mut Tagged, gone: &mut usize, place: usize) -> Entry
     requires { gone.old + place < vec_len row.old.boxes }
-    ensures taken { Some result ≡ slice_get (drop gone.old (contents row.old.boxes.items)) place }
-    ensures left { drop gone.new (contents row.new.boxes.items) ≡ remove (drop gone.old (contents row.old.boxes.items)) place }
+    ensures taken { Some result ≡ slice_get (shelved gone.old row.old) place }
+    ensures left { shelved gone.new row.new ≡ remove (shelved gone.old row.old) place }
     ensures within { gone.new ≤ vec_len row.new.boxes }
     ensures len { vec_len row.new.boxes ≤ vec_len row.old.boxes }
     ensures box_capacity { vec_capacity row.new.boxes ≡ vec_capacity row.old.boxes }
@@ -195,7 +196,7 @@ fn take_front(row: &mut Tagged, gone: &mut usize, place: usize) -> Entry
 fn free_gone(row: &mut Tagged, gone: &mut usize)
     requires { gone.old ≤ vec_len row.old.boxes }
     ensures none { gone.new ≡ 0 }
-    ensures left { contents row.new.boxes.items ≡ drop gone.old (contents row.old.boxes.items) }
+    ensures left { contents row.new.boxes.items ≡ shelved gone.old row.old }
     ensures len { vec_len row.new.boxes ≤ vec_len row.old.boxes }
     ensures box_capacity { vec_capacity row.new.boxes ≡ vec_capacity row.old.boxes }
     ensures tag_capacity { vec_capacity row.new.tags ≡ vec_capacity row.old.tags }

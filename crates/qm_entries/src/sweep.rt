@@ -1,11 +1,11 @@
 // Entries in boxes that a moment, a merge of queues or the end of their queue changes or takes away: one pass each, which
 // moves no entry and takes no memory.
-ghost use Rattle.std.specs.Prelude.{◌≡◌, ◌≤◌, not, map, filter, count_by, vec_len, vec_capacity};
-ghost use Rattle.std.specs.Str.{bytes_eq};
+ghost use Rattle.std.specs.Prelude.{◌≡◌, ◌≤◌, map, count_by, vec_len, vec_capacity};
 ghost use Rattle.qm_model.specs.Due.{state_at, is_over, entry_at};
 ghost use Rattle.qm_model.specs.JobStates.{is_waiting};
 ghost use Rattle.qm_model.specs.Merging.{moved_to, waits_in};
 ghost use Rattle.qm_entries.specs.Boxed.{contents};
+ghost use Rattle.qm_entries.specs.Entries.{without_home, without_over};
 
 use qm_kinds::{Entry, EntryState, Moment, Name};
 
@@ -63,7 +63,7 @@ fn merge_one(entry: &mut Entry, to: &Name, from: &Name) -> bool
 
 /// Takes out the entries whose time is up, and frees their boxes.
 pub(crate) fn remove_over(boxes: &mut Vec<Box<Entry>>, now: Moment)
-    ensures contents { contents boxes.new.items ≡ filter (λ e. not (is_over now e.state)) (contents boxes.old.items) }
+    ensures contents { contents boxes.new.items ≡ without_over now (contents boxes.old.items) }
     ensures len { vec_len boxes.new ≤ vec_len boxes.old }
     ensures capacity { vec_capacity boxes.new ≡ vec_capacity boxes.old }
 {
@@ -72,7 +72,7 @@ pub(crate) fn remove_over(boxes: &mut Vec<Box<Entry>>, now: Moment)
 
 /// Takes out the entries of a home, and frees their boxes.
 pub(crate) fn remove_of_home(boxes: &mut Vec<Box<Entry>>, home: &Name)
-    ensures contents { contents boxes.new.items ≡ filter (λ e. not (bytes_eq e.home home.now)) (contents boxes.old.items) }
+    ensures contents { contents boxes.new.items ≡ without_home home.now (contents boxes.old.items) }
     ensures len { vec_len boxes.new ≤ vec_len boxes.old }
     ensures capacity { vec_capacity boxes.new ≡ vec_capacity boxes.old }
 {

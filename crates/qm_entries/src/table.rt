@@ -1,16 +1,15 @@
 // The entries in order of their numbers.
-ghost use Rattle.std.specs.Prelude.{◌≡◌, ◌+◌, ◌-◌, ◌<◌, ◌≤◌, ◌++◌, ◌∷◌, [], All, length, not, map, filter, count_by, is_some, Some, None, true, OnErr, OnOk};
+ghost use Rattle.std.specs.Prelude.{◌≡◌, ◌+◌, ◌-◌, ◌<◌, ◌≤◌, ◌++◌, ◌∷◌, [], All, length, map, count_by, is_some, Some, OnErr, OnOk};
 ghost use Rattle.std.specs.Option.{option_copied};
 ghost use Rattle.std.specs.Ordering.{nat_cmp};
-ghost use Rattle.std.specs.Str.{bytes_eq};
 ghost use Rattle.qm_model.specs.Consistent.{IsInOrder};
-ghost use Rattle.qm_model.specs.Due.{is_over, entry_at};
+ghost use Rattle.qm_model.specs.Due.{entry_at};
 ghost use Rattle.qm_model.specs.Find.{entry_numbered};
 ghost use Rattle.qm_model.specs.Merging.{moved_to, waits_in};
 ghost use Rattle.qm_model.specs.Standing.{with_entry};
 ghost use Rattle.qm_entries.specs.Boxed.{contents};
-ghost use Rattle.qm_entries.specs.Entries.{entry_after};
-ghost use Rattle.qm_entries.specs.Changes.{changed_by};
+ghost use Rattle.qm_entries.specs.Entries.{entry_after, without_entry, without_home, without_over};
+ghost use Rattle.qm_entries.specs.Changes.{changed_by, put_back, with_changed, with_home, with_mark, with_state};
 ghost use Rattle.qm_entries.specs.Tags.{tags_of};
 
 use crate::boxed;
@@ -81,7 +80,10 @@ impl EntryTable {
     pub fn insert(&mut self, entry: Entry)
         requires room { 0 < self.old.spare }
         requires last { All (λ e. e.number < entry.number) self.old.entries }
-        ensures { self.new ≡ record { entries = self.old.entries ++ entry ∷ []; spare = self.old.spare - 1 } }
+        ensures { self.new ≡ record {
+          entries = self.old.entries ++ entry ∷ [];
+          spare = self.old.spare - 1;
+        } }
     {
         self.shelf.put_last(&mut self.ready, &entry);
     }
@@ -109,7 +111,9 @@ impl EntryTable {
     // Sets a field of the entry of a number, and says whether there is one. Where there is none, nothing changes.
     fn change(&mut self, number: u32, change: &Change) -> bool
         ensures found { result ≡ is_some (entry_numbered number self.old.entries) }
-        ensures entries { self.new ≡ record self.old { entries = with_entry number (λ e. Some (changed_by change.now e)) self.old.entries } }
+        ensures entries { self.new ≡ record self.old {
+          entries = with_changed number (changed_by change.now) self.old.entries;
+        } }
     {
         let Ok(place) = place_of(self.shelf.as_slice(), number) else {
             return false;
@@ -121,7 +125,9 @@ impl EntryTable {
     /// Sets the state of the entry of a number, and says whether there is one. Where there is none, nothing changes.
     pub fn set_state(&mut self, number: u32, state: EntryState) -> bool
         ensures found { result ≡ is_some (entry_numbered number self.old.entries) }
-        ensures entries { self.new ≡ record self.old { entries = with_entry number (λ e. Some (record e { state = state })) self.old.entries } }
+        ensures entries { self.new ≡ record self.old {
+          entries = with_changed number (with_state state) self.old.entries;
+        } }
     {
         self.change(number, &Change::State(state))
     }
@@ -129,7 +135,9 @@ impl EntryTable {
     /// Sets the last checkpoint of the entry of a number, and says whether there is one. Where there is none, nothing changes.
     pub fn set_mark(&mut self, number: u32, mark: Mark) -> bool
         ensures found { result ≡ is_some (entry_numbered number self.old.entries) }
-        ensures entries { self.new ≡ record self.old { entries = with_entry number (λ e. Some (record e { mark = mark })) self.old.entries } }
+        ensures entries { self.new ≡ record self.old {
+          entries = with_changed number (with_mark mark) self.old.entries;
+        } }
     {
         self.change(number, &Change::Mark(mark))
     }
@@ -138,7 +146,9 @@ impl EntryTable {
     /// is none, nothing changes.
     pub fn set_again(&mut self, number: u32) -> bool
         ensures found { result ≡ is_some (entry_numbered number self.old.entries) }
-        ensures entries { self.new ≡ record self.old { entries = with_entry number (λ e. Some (record e { again = true })) self.old.entries } }
+        ensures entries { self.new ≡ record self.old {
+          entries = with_changed number put_back self.old.entries;
+        } }
     {
         self.change(number, &Change::Again)
     }
@@ -146,7 +156,9 @@ impl EntryTable {
     /// Sets the home of the entry of a number, and says whether there is one. Where there is none, nothing changes.
     pub fn set_home(&mut self, number: u32, home: Name) -> bool
         ensures found { result ≡ is_some (entry_numbered number self.old.entries) }
-        ensures entries { self.new ≡ record self.old { entries = with_entry number (λ e. Some (record e { home = home })) self.old.entries } }
+        ensures entries { self.new ≡ record self.old {
+          entries = with_changed number (with_home home) self.old.entries;
+        } }
     {
         self.change(number, &Change::Home(home))
     }
@@ -154,7 +166,9 @@ impl EntryTable {
     /// Puts an entry in the place of the one of its number, and gives that. Where there is none, nothing changes.
     pub fn replace(&mut self, entry: Entry) -> Option<Entry>
         ensures replaced { result ≡ entry_numbered entry.number self.old.entries }
-        ensures entries { self.new ≡ record self.old { entries = with_entry entry.number (λ e. Some entry) self.old.entries } }
+        ensures entries { self.new ≡ record self.old {
+          entries = with_entry entry.number (λ e. Some entry) self.old.entries;
+        } }
     {
         let Ok(place) = place_of(self.shelf.as_slice(), entry.number) else {
             return None;
@@ -165,7 +179,9 @@ impl EntryTable {
     /// Takes out the entry of a number, and gives it. Where there is none, nothing changes.
     pub fn remove(&mut self, number: u32) -> Option<Entry>
         ensures removed { result ≡ entry_numbered number self.old.entries }
-        ensures entries { self.new ≡ record self.old { entries = with_entry number (λ e. None) self.old.entries } }
+        ensures entries { self.new ≡ record self.old {
+          entries = without_entry number self.old.entries;
+        } }
     {
         let Ok(place) = place_of(self.shelf.as_slice(), number) else {
             return None;
@@ -190,7 +206,7 @@ impl EntryTable {
     /// Takes out the entries that are retained until a moment that has come. It looks at each entry once, and then once more for
     /// the tags.
     pub fn remove_over(&mut self, now: Moment)
-        ensures { self.new ≡ record self.old { entries = filter (λ e. not (is_over now e.state)) self.old.entries } }
+        ensures { self.new ≡ record self.old { entries = without_over now self.old.entries } }
     {
         self.shelf.remove_over(now);
     }
@@ -205,7 +221,9 @@ impl EntryTable {
     /// Gives each job that waits in the queue `from` the home `to`, and tells how many there were. It looks at each entry
     /// once, and then once more for the tags.
     pub fn merge(&mut self, to: &Name, from: &Name) -> usize
-        ensures entries { self.new ≡ record self.old { entries = map (moved_to to.now from.now) self.old.entries } }
+        ensures entries { self.new ≡ record self.old {
+          entries = map (moved_to to.now from.now) self.old.entries;
+        } }
         ensures moved { result ≡ count_by (waits_in from.now) self.old.entries }
     {
         self.shelf.merge(to, from)
@@ -213,7 +231,7 @@ impl EntryTable {
 
     /// Takes out the entries that have this queue as their home. It looks at each entry once, and then once more for the tags.
     pub fn remove_of_home(&mut self, home: &Name)
-        ensures { self.new ≡ record self.old { entries = filter (λ e. not (bytes_eq e.home home.now)) self.old.entries } }
+        ensures { self.new ≡ record self.old { entries = without_home home.now self.old.entries } }
     {
         self.shelf.remove_of_home(home);
     }

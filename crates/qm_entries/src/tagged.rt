@@ -1,11 +1,11 @@
 // Entries in boxes, and the tag of each beside them.
-ghost use Rattle.std.specs.Prelude.{◌≡◌, ◌≤◌, ◌<◌, ◌+◌, ◌++◌, ◌∷◌, [], IsSome, None, Some, OnOk, length, not, map, filter, count_by, drop, take, vec_len, vec_capacity, slice_set, slice_get, slice_index_or, remove};
-ghost use Rattle.std.specs.Str.{bytes_eq};
-ghost use Rattle.qm_kinds.specs.declared.entry.Entry.{Entry as AnyEntry};
-ghost use Rattle.qm_model.specs.Due.{is_over, entry_at};
+ghost use Rattle.std.specs.Prelude.{◌≡◌, ◌≤◌, ◌<◌, ◌+◌, ◌++◌, ◌∷◌, [], IsSome, None, Some, OnOk, length, map, count_by, drop, vec_len, vec_capacity, slice_set, slice_get, remove};
+ghost use Rattle.qm_keyed.specs.Rows.{ChangesAt};
+ghost use Rattle.qm_model.specs.Due.{entry_at};
 ghost use Rattle.qm_model.specs.Merging.{moved_to, waits_in};
-ghost use Rattle.qm_entries.specs.Boxed.{brought, contents};
+ghost use Rattle.qm_entries.specs.Boxed.{brought, brought_behind, contents};
 ghost use Rattle.qm_entries.specs.Changes.{changed_by};
+ghost use Rattle.qm_entries.specs.Entries.{without_home, without_over};
 ghost use Rattle.qm_entries.specs.Tags.{tags_of};
 
 use crate::change::Change;
@@ -51,7 +51,8 @@ impl Tagged {
         requires ready { IsSome ready.old }
         requires place { vec_len self.old.boxes < vec_capacity self.old.boxes }
         requires tag_place { vec_len self.old.tags < vec_capacity self.old.tags }
-        ensures contents { contents self.new.boxes.items ≡ contents self.old.boxes.items ++ entry.now ∷ [] }
+        ensures contents { contents self.new.boxes.items
+            ≡ contents self.old.boxes.items ++ entry.now ∷ [] }
         ensures ready { ready.new ≡ None }
     {
         boxed::put_last(&mut self.boxes, ready, entry);
@@ -62,7 +63,8 @@ impl Tagged {
     pub(crate) fn replace(&mut self, place: usize, entry: &Entry) -> Entry
         requires { place < vec_len self.old.boxes }
         ensures replaced { Some result ≡ slice_get (contents self.old.boxes.items) place }
-        ensures contents { contents self.new.boxes.items ≡ slice_set (contents self.old.boxes.items) place entry.now }
+        ensures contents { contents self.new.boxes.items
+            ≡ slice_set (contents self.old.boxes.items) place entry.now }
         ensures len { vec_len self.new.boxes ≡ vec_len self.old.boxes }
         ensures box_capacity { vec_capacity self.new.boxes ≡ vec_capacity self.old.boxes }
         ensures tag_capacity { vec_capacity self.new.tags ≡ vec_capacity self.old.tags }
@@ -75,7 +77,8 @@ impl Tagged {
     /// Sets a field of the entry at a place.
     pub(crate) fn change_at(&mut self, place: usize, change: &Change)
         requires { place < vec_len self.old.boxes }
-        ensures contents { (d : AnyEntry) → contents self.new.boxes.items ≡ slice_set (contents self.old.boxes.items) place (changed_by change.now (slice_index_or (contents self.old.boxes.items) place d)) }
+        ensures contents { ChangesAt (changed_by change.now)
+            (contents self.old.boxes.items) (contents self.new.boxes.items) place }
         ensures len { vec_len self.new.boxes ≡ vec_len self.old.boxes }
         ensures box_capacity { vec_capacity self.new.boxes ≡ vec_capacity self.old.boxes }
         ensures tag_capacity { vec_capacity self.new.tags ≡ vec_capacity self.old.tags }
@@ -88,7 +91,8 @@ impl Tagged {
     pub(crate) fn take(&mut self, place: usize) -> Entry
         requires { place < vec_len self.old.boxes }
         ensures taken { Some result ≡ slice_get (contents self.old.boxes.items) place }
-        ensures contents { contents self.new.boxes.items ≡ remove (contents self.old.boxes.items) place }
+        ensures contents { contents self.new.boxes.items
+            ≡ remove (contents self.old.boxes.items) place }
         ensures len { vec_len self.new.boxes + 1 ≡ vec_len self.old.boxes }
         ensures box_capacity { vec_capacity self.new.boxes ≡ vec_capacity self.old.boxes }
         ensures tag_capacity { vec_capacity self.new.tags ≡ vec_capacity self.old.tags }
@@ -100,7 +104,7 @@ impl Tagged {
     /// The entry at a place behind the first ones comes to stand right behind these, and those in front of it move on by one.
     pub(crate) fn turn(&mut self, first: usize, place: usize)
         requires { first + place < vec_len self.old.boxes }
-        ensures items { self.new.boxes.items ≡ take first self.old.boxes.items ++ brought place (drop first self.old.boxes.items) }
+        ensures items { self.new.boxes.items ≡ brought_behind first place self.old.boxes.items }
         ensures len { vec_len self.new.boxes ≡ vec_len self.old.boxes }
         ensures box_capacity { vec_capacity self.new.boxes ≡ vec_capacity self.old.boxes }
         ensures tag_capacity { vec_capacity self.new.tags ≡ vec_capacity self.old.tags }
@@ -123,7 +127,8 @@ impl Tagged {
 
     /// Takes out the entries whose time is up, and frees their boxes.
     pub(crate) fn remove_over(&mut self, now: Moment)
-        ensures contents { contents self.new.boxes.items ≡ filter (λ e. not (is_over now e.state)) (contents self.old.boxes.items) }
+        ensures contents { contents self.new.boxes.items
+            ≡ without_over now (contents self.old.boxes.items) }
         ensures len { vec_len self.new.boxes ≤ vec_len self.old.boxes }
         ensures box_capacity { vec_capacity self.new.boxes ≡ vec_capacity self.old.boxes }
         ensures tag_capacity { vec_capacity self.new.tags ≡ vec_capacity self.old.tags }
@@ -134,7 +139,8 @@ impl Tagged {
 
     /// Takes out the entries of a home, and frees their boxes.
     pub(crate) fn remove_of_home(&mut self, home: &Name)
-        ensures contents { contents self.new.boxes.items ≡ filter (λ e. not (bytes_eq e.home home.now)) (contents self.old.boxes.items) }
+        ensures contents { contents self.new.boxes.items
+            ≡ without_home home.now (contents self.old.boxes.items) }
         ensures len { vec_len self.new.boxes ≤ vec_len self.old.boxes }
         ensures box_capacity { vec_capacity self.new.boxes ≡ vec_capacity self.old.boxes }
         ensures tag_capacity { vec_capacity self.new.tags ≡ vec_capacity self.old.tags }
@@ -145,7 +151,8 @@ impl Tagged {
 
     /// Makes each entry what the moment finds. None gets another home.
     pub(crate) fn wake(&mut self, now: Moment)
-        ensures contents { contents self.new.boxes.items ≡ map (entry_at now) (contents self.old.boxes.items) }
+        ensures contents { contents self.new.boxes.items
+            ≡ map (entry_at now) (contents self.old.boxes.items) }
         ensures len { vec_len self.new.boxes ≡ vec_len self.old.boxes }
         ensures box_capacity { vec_capacity self.new.boxes ≡ vec_capacity self.old.boxes }
         ensures tag_capacity { vec_capacity self.new.tags ≡ vec_capacity self.old.tags }
@@ -155,7 +162,8 @@ impl Tagged {
 
     /// Gives each job that waits in a queue another home, and tells how many there were.
     pub(crate) fn merge(&mut self, to: &Name, from: &Name) -> usize
-        ensures contents { contents self.new.boxes.items ≡ map (moved_to to.now from.now) (contents self.old.boxes.items) }
+        ensures contents { contents self.new.boxes.items
+            ≡ map (moved_to to.now from.now) (contents self.old.boxes.items) }
         ensures moved { result ≡ count_by (waits_in from.now) (contents self.old.boxes.items) }
         ensures len { vec_len self.new.boxes ≡ vec_len self.old.boxes }
         ensures box_capacity { vec_capacity self.new.boxes ≡ vec_capacity self.old.boxes }
@@ -170,7 +178,7 @@ impl Tagged {
 // What stands at a place behind the first ones comes to stand right behind these, and what stood in front of it moves on by one.
 fn turn<T>(items: &mut Vec<T>, first: usize, place: usize)
     requires { first + place < vec_len items.old }
-    ensures items { items.new.items ≡ take first items.old.items ++ brought place (drop first items.old.items) }
+    ensures items { items.new.items ≡ brought_behind first place items.old.items }
     ensures len { vec_len items.new ≡ vec_len items.old }
     ensures capacity { vec_capacity items.new ≡ vec_capacity items.old }
 {

@@ -1,9 +1,8 @@
 // The tags of entries: small numbers that lie one behind another and tell of most entries, without a look at them, that a queue
 // isn't their home.
-ghost use Rattle.std.specs.Prelude.{◌≡◌, ◌≤◌, ◌<◌, length, vec_len, vec_capacity, slice_set, slice_index_or};
-ghost use Rattle.qm_kinds.specs.declared.entry.Entry.{Entry as AnyEntry};
+ghost use Rattle.std.specs.Prelude.{◌≡◌, ◌≤◌, ◌<◌, length, vec_len, vec_capacity};
 ghost use Rattle.qm_entries.specs.Boxed.{contents};
-ghost use Rattle.qm_entries.specs.Tags.{tag_behind, tag_of, tags_of};
+ghost use Rattle.qm_entries.specs.Tags.{tag_behind, tag_of, tags_of, IsRetagged};
 
 use qm_kinds::{Entry, Name};
 
@@ -42,7 +41,7 @@ pub(crate) fn retag(boxes: &[Box<Entry>], tags: &mut Vec<u16>)
 pub(crate) fn retag_at(boxes: &[Box<Entry>], tags: &mut Vec<u16>, place: usize)
     requires place { place < length boxes.now }
     requires tag_place { place < vec_len tags.old }
-    ensures tags { (d : AnyEntry) → tags.new.items ≡ slice_set tags.old.items place (tag_of (slice_index_or (contents boxes.now) place d).home) }
+    ensures tags { IsRetagged (contents boxes.now) place tags.old.items tags.new.items }
     ensures len { vec_len tags.new ≡ vec_len tags.old }
     ensures capacity { vec_capacity tags.new ≡ vec_capacity tags.old }
 {

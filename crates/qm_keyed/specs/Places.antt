@@ -1,5 +1,6 @@
 -- Rows in order of a key, and where the row of a key stands among them.
-use Rattle.std.specs.Prelude.{◌≡◌, ◌<◌, ◌≤◌, ◌+◌, ℕ, List, length, Result, Ok, Err}
+use Rattle.std.specs.Prelude.{◌≡◌, ◌<◌, ◌≤◌, ◌+◌, ℕ, List, length, find, Option, Result, Ok, Err}
+use Rattle.std.specs.Ordering.{is_eq}
 use Rattle.std.specs.List.{AllWithin, HoldsAt}
 use Rattle.std.specs.declared.cmp.Ordering.{Ordering}
 use Rattle.std.specs.declared.cmp.Ordering.TheVariants.{Less, Equal, Greater}
@@ -21,3 +22,7 @@ pub record BelongsAt {X K : Type 0} (cmp : K → K → Ordering) (key : X → K)
 abbrev pub IsPlace : {X K : Type 0} → (K → K → Ordering) → (X → K) → K → List X → Result ℕ ℕ → Type 0
 IsPlace cmp key wanted rows (Ok place) = StandsAt cmp key wanted rows place
 IsPlace cmp key wanted rows (Err place) = BelongsAt cmp key wanted rows place
+
+-- the first row that has the key, if there is one
+abbrev pub row_of : {X K : Type 0} → (K → K → Ordering) → (X → K) → K → List X → Option X
+row_of cmp key wanted rows = find (λ row. is_eq (cmp (key row) wanted)) rows

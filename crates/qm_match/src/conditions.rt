@@ -1,8 +1,9 @@
 // The tests by which a queue can start a job, each by itself.
-ghost use Rattle.std.specs.Prelude.{◌≡◌, ◌&&◌};
+ghost use Rattle.std.specs.Prelude.{◌≡◌};
 ghost use Rattle.qm_model.specs.Fitting.{is_started, is_of_kind, passes_on_to, is_same_stock, has_characteristics, has_size};
 ghost use Rattle.qm_model.specs.JobStates.{is_pending};
 ghost use Rattle.qm_model.specs.Kinds.{is_generic, is_print};
+ghost use Rattle.qm_match.specs.Suiting.{suits};
 
 use qm_kinds::{Entry, EntryState, JobKind, Name, Queue, QueueKind, QueueState};
 
@@ -79,7 +80,7 @@ fn has_size(entry: &Entry, queue: &Queue) -> bool
 /// Whether a job waits for nothing but its start, and suits a queue by what the two hold alone: the kind of job, the
 /// characteristics that it asks for, and its size. So much is known before another row is looked for. It takes no memory.
 pub fn suits(entry: &Entry, queue: &Queue) -> bool
-    ensures { result ≡ (is_pending entry.now.state && is_of_kind entry.now queue.now && has_characteristics entry.now queue.now && has_size entry.now queue.now) }
+    ensures { result ≡ suits entry.now queue.now }
 {
     is_pending(&entry.state)
         && is_of_kind(entry, queue)

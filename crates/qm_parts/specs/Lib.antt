@@ -6,4 +6,8 @@ pub mod ByRun
 pub mod Timing
 pub mod Nodes
 pub mod Reaching
+pub mod Spare
+pub mod Runs
+pub mod Gathering
+pub mod Stopping
 pub use Rattle.qm_renewal.specs.Renewing

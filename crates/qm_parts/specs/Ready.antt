@@ -25,6 +25,10 @@ pub record IsRowOf (q : Queue) (wanted : ℕ → Option Key) (row : Row) : Type 
   pub schedule : row.schedule ≡ schedule_of q
   pub keys : (number : ℕ) → key_numbered number row.keys ≡ wanted number
 
+-- the row has just the keys of the jobs that fit the queue; that of a generic queue has none
+abbrev pub HasReady : Tables → Queue → Row → Type 0
+HasReady t q row = IsRowOf q (ready_key t q) row
+
 -- each queue has its row at its place; further rows are for queues that come
 abbrev pub AreRowsOf : (Queue → ℕ → Option Key) → List Queue → List Row → Type 0
 AreRowsOf wanted queues rows = (place : ℕ) (q : Queue) (row : Row) → place < length queues

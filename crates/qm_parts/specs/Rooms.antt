@@ -1,11 +1,11 @@
 -- The queues that a job may come to, and the room that their rows have.
-use Rattle.std.specs.Prelude.{◌≡◌, ◌<◌, ◌≤◌, ◌+◌, ℕ, Bool, true, ◌||◌, if◌then◌else◌, List, [], length, map, count_by, Option, None, IfSome, slice_index_or}
+use Rattle.std.specs.Prelude.{◌≡◌, ◌<◌, ◌≤◌, ◌+◌, ℕ, Bool, true, false, ◌||◌, if◌then◌else◌, List, [], length, map, count_by, Option, None, IfSome, slice_index_or}
 use Rattle.std.specs.List.{list_any}
 use Rattle.std.specs.Option.{option_map_or}
 use Rattle.std.specs.Str.{bytes_eq}
 use Rattle.qm_kinds.specs.declared.entry.Entry.{Entry}
 use Rattle.qm_kinds.specs.declared.queue.Queue.{Queue}
-use Rattle.qm_model.specs.Find.{queue_named}
+use Rattle.qm_model.specs.Find.{entry_numbered, queue_named}
 use Rattle.qm_ready.specs.Rows.{Row}
 use Rattle.qm_renewal.specs.Renewing.{room_of}
 use Rattle.qm_parts.specs.Tables.{Tables}
@@ -55,11 +55,15 @@ HavePlacesWhere test more queues entries rooms = (place : ℕ) (q : Queue) → p
 abbrev pub HasRoomWhere : (Queue → Bool) → ℕ → Tables → List Row → Type 0
 HasRoomWhere test more t rows = HavePlacesWhere test more t.queues t.entries (rooms_of rows)
 
+-- the rows of the queues that jobs of this home may come to have room for so many more
+abbrev pub HasRoomFor : List ℕ → ℕ → Tables → List Row → Type 0
+HasRoomFor home more t rows = HasRoomWhere (is_one_of home (targets_of t.queues home)) more t rows
+
 -- where the queue has this name or is one of these targets
 abbrev pub HavePlaces : List ℕ → List (List ℕ) → ℕ → Tables → Type 0
 HavePlaces name targets more t = HavePlacesWhere (is_one_of name targets) more t.queues t.entries t.rooms
 
--- the rows of the queues that jobs of this home may come to have room for so many more
+-- where jobs of this home may come to the queue
 abbrev pub HavePlacesFor : List ℕ → ℕ → Tables → Type 0
 HavePlacesFor home more t = HavePlaces home (targets_of t.queues home) more t
 
@@ -82,3 +86,31 @@ AreBounds queues entries bounds = (place : ℕ) (q : Queue) → place < length q
 abbrev pub IsRaisedWhere : (Queue → Bool) → List Queue → List (Option ℕ) → List (Option ℕ) → Type 0
 IsRaisedWhere test queues old new = (place n : ℕ) (q : Queue) → place < length queues → IsAtMost n (slice_index_or old place None)
     → IsAtMost (n + (if test (slice_index_or queues place q) then 1 else 0)) (slice_index_or new place None)
+
+-- the queue has this name
+abbrev pub is_named : List ℕ → Queue → Bool
+is_named name q = bytes_eq name q.name
+
+-- the queue is among these targets
+abbrev pub is_target : List (List ℕ) → Queue → Bool
+is_target targets q = list_any (λ target. bytes_eq target q.name) targets
+
+-- where the entry gets another home there is room for it in the rows of the queues that it may come to
+abbrev pub HasPlacesIfMoved : Entry → Tables → Type 0
+HasPlacesIfMoved entry t = IfSome (entry_numbered entry.number t.entries) (λ old. bytes_eq old.home entry.home ≡ false → HavePlacesFor entry.home 1 t)
+
+-- the room of a row that has no queue yet is enough for this one, and for so many more jobs
+abbrev pub HasComingRoom : Queue → ℕ → Tables → Type 0
+HasComingRoom q more t = reach t.queues t.entries q + more ≤ slice_index_or t.rooms (length t.queues) 0
+
+-- the rows of the queues that are there have the room that they had
+abbrev pub KeepsRooms : Tables → Tables → Type 0
+KeepsRooms old new = (place : ℕ) → place < length old.queues → slice_index_or new.rooms place 0 ≡ slice_index_or old.rooms place 0
+
+-- no queue of its name needs less than this one
+abbrev pub NeedsLeast : (Queue → ℕ) → Queue → Type 0
+NeedsLeast needs q = (p : Queue) → p.name ≡ q.name → needs q ≤ needs p
+
+-- where no queue has the name, the first row that has no queue has room for what the queue needs
+abbrev pub HasRowIfNew : (Queue → ℕ) → Queue → List ℕ → List Queue → List ℕ → Type 0
+HasRowIfNew needs q name queues rooms = queue_named name queues ≡ None → needs q ≤ slice_index_or rooms (length queues) 0

@@ -1,14 +1,12 @@
 // What becomes of the tables, with the rows of ready jobs.
-ghost use Rattle.std.specs.Prelude.{◌≡◌, ◌≤◌, ◌<◌, ◌+◌, ◌-◌, ◌^◌, ◌++◌, ◌∷◌, [], All, IfSome, None, Some, false, if◌then◌else◌, is_some, length, not, map, filter, find, count_by};
-ghost use Rattle.std.specs.Option.{option_map, option_and_then};
+ghost use Rattle.std.specs.Prelude.{◌≡◌, ◌≤◌, ◌<◌, ◌+◌, ◌-◌, ◌^◌, ◌++◌, ◌∷◌, [], All, None, Some, false, length, map, find, count_by};
 ghost use Rattle.std.specs.Ordering.{nat_cmp};
-ghost use Rattle.std.specs.Str.{bytes_eq};
-ghost use Rattle.qm_kinds.specs.declared.entry.EntryState.TheVariants.{Pending, Running};
+ghost use Rattle.qm_kinds.specs.declared.entry.EntryState.TheVariants.{Pending};
 ghost use Rattle.qm_kinds.specs.declared.limits.TheConstants.{END_OF_RUNS, LAST_CHARACTERISTIC};
 ghost use Rattle.qm_model.specs.Characteristics.{is_characteristic_taken};
 ghost use Rattle.qm_model.specs.Consistent.{IsInOrder};
-ghost use Rattle.qm_model.specs.Due.{is_over, entry_at};
-ghost use Rattle.qm_model.specs.Find.{entry_numbered, queue_named};
+ghost use Rattle.qm_model.specs.Due.{entry_at};
+ghost use Rattle.qm_model.specs.Find.{entry_numbered};
 ghost use Rattle.qm_model.specs.Forms.{is_form_taken};
 ghost use Rattle.qm_model.specs.Inserting.{with_form, with_characteristic_defined};
 ghost use Rattle.qm_model.specs.JobStates.{run_of};
@@ -19,9 +17,12 @@ ghost use Rattle.qm_model.specs.States.{when_idle};
 ghost use Rattle.qm_model.specs.Stopping.{with_fate, reset_in};
 ghost use Rattle.qm_queues.specs.Forms.{without_form, without_characteristic};
 ghost use Rattle.qm_queues.specs.Queues.{with_queue_put};
-ghost use Rattle.qm_queues.specs.Settings.{with_settings_and_state};
-ghost use Rattle.qm_parts.specs.Mirror.{run_of_entry};
-ghost use Rattle.qm_parts.specs.Rooms.{AreBounds, CanPut, HavePlacesFor, is_home};
+ghost use Rattle.qm_queues.specs.Settings.{with_settings_and_state, with_state};
+ghost use Rattle.qm_entries.specs.Changes.{with_changed};
+ghost use Rattle.qm_entries.specs.Entries.{without_entry, without_home, without_over};
+ghost use Rattle.qm_parts.specs.Runs.{KeepsRun, state_numbered, with_running};
+ghost use Rattle.qm_parts.specs.Spare.{KeepsCharacteristicRoom, KeepsFormRoom, room_with, room_without};
+ghost use Rattle.qm_parts.specs.Rooms.{AreBounds, CanPut, HavePlacesFor, is_home, HasPlacesIfMoved};
 
 use crate::parts::Parts;
 use crate::renewing::{key_before, renew_number};
@@ -34,7 +35,7 @@ use qm_queues::Settings;
 // For how many more queues there is room once one of this name was put in: it takes the place of any other of its name.
 fn room_with(tables: &TableSet, name: &Name, room: usize) -> usize
     requires { 0 < room }
-    ensures { result ≡ (if is_some (queue_named name.now tables.now.queues) then room else room - 1) }
+    ensures { result ≡ room_with name.now tables.now.queues room }
 {
     match tables.queue(name) {
         Some(_) => room,
@@ -45,7 +46,7 @@ fn room_with(tables: &TableSet, name: &Name, room: usize) -> usize
 // For how many more queues there is room once the one of this name went, if there is one.
 fn room_without(tables: &TableSet, name: &Name, room: usize) -> usize
     requires { room + 1 < 2 ^ 64 }
-    ensures { result ≡ (if is_some (queue_named name.now tables.now.queues) then room + 1 else room) }
+    ensures { result ≡ room_without name.now tables.now.queues room }
 {
     match tables.queue(name) {
         Some(_) => room + 1,
@@ -58,7 +59,8 @@ fn room_without(tables: &TableSet, name: &Name, room: usize) -> usize
 fn raise_moved(tables: &TableSet, bounds: &mut Vec<Option<usize>>, entry: &Entry)
     requires enough { length tables.now.queues ≤ length bounds.old.items }
     requires bounds { AreBounds tables.now.queues tables.now.entries bounds.old.items }
-    ensures bounds { AreBounds tables.now.queues (with_entry entry.now.number (λ e. Some entry.now) tables.now.entries) bounds.new.items }
+    ensures bounds { AreBounds tables.now.queues
+        (with_entry entry.now.number (λ e. Some entry.now) tables.now.entries) bounds.new.items }
     ensures count { length bounds.new.items ≡ length bounds.old.items }
     ensures in_order { IsInOrder nat_cmp (λ e. e.number) tables.now.entries }
 {
@@ -80,7 +82,10 @@ impl Parts {
         requires last { All (λ e. e.number < entry.number) self.old.entries }
         requires no_run { run_of entry.state ≡ None }
         requires places { HavePlacesFor entry.home 1 self.old }
-        ensures { self.new ≡ record self.old { entries = self.old.entries ++ entry ∷ []; spare_entries = self.old.spare_entries - 1 } }
+        ensures { self.new ≡ record self.old {
+          entries = self.old.entries ++ entry ∷ [];
+          spare_entries = self.old.spare_entries - 1;
+        } }
     {
         let number = entry.number;
         raise_each(&self.tables, &mut self.bounds, &entry.home);
@@ -93,7 +98,10 @@ impl Parts {
     pub fn remove_entry(&mut self, number: u32) -> Option<Entry>
         ensures removed { result ≡ entry_numbered number self.old.entries }
         ensures room { self.old.spare_runs ≤ self.new.spare_runs }
-        ensures tables { self.new ≡ record self.old { entries = with_entry number (λ e. None) self.old.entries; spare_runs = self.new.spare_runs } }
+        ensures tables { self.new ≡ record self.old {
+          entries = without_entry number self.old.entries;
+          spare_runs = self.new.spare_runs;
+        } }
     {
         forget_number(&self.tables, &mut self.rows, number);
         self.tables.remove_entry(number)
@@ -103,10 +111,13 @@ impl Parts {
     /// changes. Where it has another home there is room for it in the rows. It asks logarithms of the entries and the runs, and
     /// moves the runs that stand behind.
     pub fn replace_entry(&mut self, entry: Entry)
-        requires places { IfSome (entry_numbered entry.number self.old.entries) (λ old. bytes_eq old.home entry.home ≡ false → HavePlacesFor entry.home 1 self.old) }
-        requires run { IfSome (run_of_entry entry) (λ run. option_and_then run_of_entry (entry_numbered entry.number self.old.entries) ≡ Some run) }
+        requires places { HasPlacesIfMoved entry self.old }
+        requires run { KeepsRun entry self.old.entries }
         ensures room { self.old.spare_runs ≤ self.new.spare_runs }
-        ensures tables { self.new ≡ record self.old { entries = with_entry entry.number (λ e. Some entry) self.old.entries; spare_runs = self.new.spare_runs } }
+        ensures tables { self.new ≡ record self.old {
+          entries = with_entry entry.number (λ e. Some entry) self.old.entries;
+          spare_runs = self.new.spare_runs;
+        } }
     {
         let number = entry.number;
         raise_moved(&self.tables, &mut self.bounds, &entry);
@@ -120,10 +131,10 @@ impl Parts {
     pub fn start(&mut self, number: u32, queue: Name, node: Name) -> u64
         requires room { 0 < self.old.spare_runs }
         requires numbers { self.old.next_run < END_OF_RUNS }
-        requires pending { option_map (λ e. e.state) (entry_numbered number self.old.entries) ≡ Some Pending }
+        requires pending { state_numbered number self.old.entries ≡ Some Pending }
         ensures run { result ≡ self.old.next_run }
         ensures tables { self.new ≡ record self.old {
-          entries = with_entry number (λ e. Some (record e { state = Running queue node self.old.next_run })) self.old.entries;
+          entries = with_running number queue node self.old.next_run self.old.entries;
           next_run = self.old.next_run + 1;
           spare_runs = self.old.spare_runs - 1;
         } }
@@ -139,7 +150,9 @@ impl Parts {
     /// The run of the entry of a number, if it has one, is to be cut short, with this fate. It asks a logarithm of the
     /// entries.
     pub fn set_fate(&mut self, number: u32, fate: Fate)
-        ensures { self.new ≡ record self.old { entries = with_entry number (λ e. Some (with_fate fate e)) self.old.entries } }
+        ensures { self.new ≡ record self.old {
+          entries = with_changed number (with_fate fate) self.old.entries;
+        } }
     {
         self.tables.set_fate(number, fate);
     }
@@ -147,7 +160,9 @@ impl Parts {
     /// The jobs that run in a queue are to be cut short. Those that may restart go back into their queue, and others end. It
     /// looks at each run, and asks a logarithm of the entries for each one of the queue.
     pub fn reset_queue(&mut self, queue: &Name)
-        ensures { self.new ≡ record self.old { entries = map (reset_in queue.now) self.old.entries } }
+        ensures { self.new ≡ record self.old {
+          entries = map (reset_in queue.now) self.old.entries;
+        } }
     {
         self.tables.reset_queue(queue);
     }
@@ -155,7 +170,9 @@ impl Parts {
     /// Stops each queue that is stopping and has no run. For each one that is stopping it asks a logarithm of the queues that
     /// have runs.
     pub fn stop_idle(&mut self)
-        ensures { self.new ≡ record self.old { queues = map (when_idle self.old.entries) self.old.queues } }
+        ensures { self.new ≡ record self.old {
+          queues = map (when_idle self.old.entries) self.old.queues;
+        } }
     {
         self.tables.stop_idle();
     }
@@ -180,7 +197,7 @@ impl Parts {
           characteristics = without_characteristic name.now self.old.characteristics;
           spare_characteristics = self.new.spare_characteristics;
         } }
-        ensures room { self.new.spare_characteristics + length self.new.characteristics ≡ self.old.spare_characteristics + length self.old.characteristics }
+        ensures room { KeepsCharacteristicRoom self.old self.new }
     {
         self.tables.delete_characteristic(name);
     }
@@ -193,7 +210,10 @@ impl Parts {
     pub fn define_form(&mut self, form: Form)
         requires room { 0 < self.old.spare_forms }
         requires free { is_form_taken self.old.forms form ≡ false }
-        ensures { self.new ≡ record self.old { forms = with_form form self.old.forms; spare_forms = self.old.spare_forms - 1 } }
+        ensures { self.new ≡ record self.old {
+          forms = with_form form self.old.forms;
+          spare_forms = self.old.spare_forms - 1;
+        } }
     {
         self.tables.define_form(form);
         refill_all(self.alloc, &self.tables, &mut self.rows);
@@ -201,8 +221,11 @@ impl Parts {
 
     /// Takes out the form of a name. Where there is none, nothing changes. Its room stays.
     pub fn delete_form(&mut self, name: &Name)
-        ensures forms { self.new ≡ record self.old { forms = without_form name.now self.old.forms; spare_forms = self.new.spare_forms } }
-        ensures room { self.new.spare_forms + length self.new.forms ≡ self.old.spare_forms + length self.old.forms }
+        ensures forms { self.new ≡ record self.old {
+          forms = without_form name.now self.old.forms;
+          spare_forms = self.new.spare_forms;
+        } }
+        ensures room { KeepsFormRoom self.old self.new }
     {
         self.tables.delete_form(name);
         refill_all(self.alloc, &self.tables, &mut self.rows);
@@ -210,7 +233,9 @@ impl Parts {
 
     /// Sets the state of the queue of a name. Where there is none, nothing changes. It asks a logarithm of the queues.
     pub fn set_queue_state(&mut self, name: &Name, state: QueueState)
-        ensures { self.new ≡ record self.old { queues = with_queue name.now (λ q. record q { state = state }) self.old.queues } }
+        ensures { self.new ≡ record self.old {
+          queues = with_queue name.now (with_state state) self.old.queues;
+        } }
     {
         self.tables.set_queue_state(name, state);
         refill_for(self.alloc, &self.tables, &mut self.rows, name);
@@ -218,7 +243,9 @@ impl Parts {
 
     /// Sets settings of the queue of a name, and its state where one is given. Where there is none, nothing changes.
     pub fn set_queue(&mut self, name: &Name, settings: &Settings, state: Option<QueueState>)
-        ensures { self.new ≡ record self.old { queues = with_queue name.now (with_settings_and_state settings.now state) self.old.queues } }
+        ensures { self.new ≡ record self.old {
+          queues = with_queue name.now (with_settings_and_state settings.now state) self.old.queues;
+        } }
     {
         self.tables.set_queue(name, settings, state);
         refill_for(self.alloc, &self.tables, &mut self.rows, name);
@@ -230,7 +257,7 @@ impl Parts {
         requires { CanPut queue self.old }
         ensures { self.new ≡ record self.old {
           queues = with_queue_put queue self.old.queues;
-          spare_queues = if is_some (queue_named queue.name self.old.queues) then self.old.spare_queues else self.old.spare_queues - 1;
+          spare_queues = room_with queue.name self.old.queues self.old.spare_queues;
           rooms = self.new.rooms;
         } }
     {
@@ -245,7 +272,7 @@ impl Parts {
     pub fn remove_queue(&mut self, name: &Name)
         ensures { self.new ≡ record self.old {
           queues = without_queue name.now self.old.queues;
-          spare_queues = if is_some (queue_named name.now self.old.queues) then self.old.spare_queues + 1 else self.old.spare_queues;
+          spare_queues = room_without name.now self.old.queues self.old.spare_queues;
           rooms = self.new.rooms;
         } }
     {
@@ -259,7 +286,7 @@ impl Parts {
     /// Takes out the entries that are retained until a moment that has come. It looks at each entry once, and writes the tags of
     /// those that stay anew in a second walk.
     pub fn remove_over(&mut self, now: Moment)
-        ensures { self.new ≡ record self.old { entries = filter (λ e. not (is_over now e.state)) self.old.entries } }
+        ensures { self.new ≡ record self.old { entries = without_over now self.old.entries } }
     {
         self.tables.remove_over(now);
         refill_all(self.alloc, &self.tables, &mut self.rows);
@@ -277,7 +304,9 @@ impl Parts {
     /// room for all jobs of that home. It looks at each entry once, and writes the tags of all anew in a second walk.
     pub fn merge(&mut self, to: &Name, from: &Name) -> usize
         requires { HavePlacesFor to.now (count_by (is_home from.now) self.old.entries) self.old }
-        ensures entries { self.new ≡ record self.old { entries = map (moved_to to.now from.now) self.old.entries } }
+        ensures entries { self.new ≡ record self.old {
+          entries = map (moved_to to.now from.now) self.old.entries;
+        } }
         ensures moved { result ≡ count_by (waits_in from.now) self.old.entries }
     {
         let moved = self.tables.merge(to, from);
@@ -290,7 +319,7 @@ impl Parts {
     /// writes the tags of those that stay anew in a second walk.
     pub fn remove_of_home(&mut self, home: &Name)
         requires { find (runs_for home.now) self.old.entries ≡ None }
-        ensures { self.new ≡ record self.old { entries = filter (λ e. not (bytes_eq e.home home.now)) self.old.entries } }
+        ensures { self.new ≡ record self.old { entries = without_home home.now self.old.entries } }
     {
         self.tables.remove_of_home(home);
         refill_all(self.alloc, &self.tables, &mut self.rows);

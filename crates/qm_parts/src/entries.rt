@@ -1,14 +1,13 @@
 // What becomes of entries, and of their runs.
-ghost use Rattle.std.specs.Prelude.{◌≡◌, ◌≤◌, ◌<◌, ◌+◌, ◌-◌, ◌++◌, ◌∷◌, [], All, IfSome, MatchOption, None, Some, false, is_some, if◌then◌else◌};
-ghost use Rattle.std.specs.List.{list_any};
-ghost use Rattle.std.specs.Option.{option_map, option_and_then};
-ghost use Rattle.qm_kinds.specs.declared.entry.EntryState.TheVariants.{Pending, Running};
+ghost use Rattle.std.specs.Prelude.{◌≡◌, ◌≤◌, ◌<◌, ◌+◌, ◌-◌, ◌++◌, ◌∷◌, [], All, None, Some};
+ghost use Rattle.qm_kinds.specs.declared.entry.EntryState.TheVariants.{Pending};
 ghost use Rattle.qm_kinds.specs.declared.limits.TheConstants.{END_OF_RUNS};
 ghost use Rattle.qm_model.specs.Find.{entry_numbered};
 ghost use Rattle.qm_model.specs.JobStates.{run_of};
-ghost use Rattle.qm_model.specs.Standing.{with_entry, has_run};
-ghost use Rattle.qm_queues.specs.Runs.{run_numbered, with_run, without_run};
+ghost use Rattle.qm_model.specs.Standing.{with_entry};
+ghost use Rattle.qm_entries.specs.Entries.{without_entry};
 ghost use Rattle.qm_parts.specs.Mirror.{run_of_entry};
+ghost use Rattle.qm_parts.specs.Runs.{CanPutRun, CanRestoreRun, EndsRun, KeepsRun, PutsRun, state_numbered, run_room_with, with_running};
 
 use crate::running::see_order;
 use crate::tables::TableSet;
@@ -22,7 +21,10 @@ impl TableSet {
         requires room { 0 < self.old.spare_entries }
         requires last { All (λ e. e.number < entry.number) self.old.entries }
         requires no_run { run_of entry.state ≡ None }
-        ensures { self.new ≡ record self.old { entries = self.old.entries ++ entry ∷ []; spare_entries = self.old.spare_entries - 1 } }
+        ensures { self.new ≡ record self.old {
+          entries = self.old.entries ++ entry ∷ [];
+          spare_entries = self.old.spare_entries - 1;
+        } }
     {
         self.entries.insert(entry);
     }
@@ -32,11 +34,11 @@ impl TableSet {
     pub fn restore_entry(&mut self, entry: Entry)
         requires room { 0 < self.old.spare_entries }
         requires last { All (λ e. e.number < entry.number) self.old.entries }
-        requires run { IfSome (run_of_entry entry) (λ r. (0 < self.old.spare_runs) × (r.run < self.old.next_run) × (list_any (has_run r.run) self.old.entries ≡ false)) }
+        requires run { CanRestoreRun entry self.old }
         ensures { self.new ≡ record self.old {
           entries = self.old.entries ++ entry ∷ [];
           spare_entries = self.old.spare_entries - 1;
-          spare_runs = if is_some (run_of_entry entry) then self.old.spare_runs - 1 else self.old.spare_runs;
+          spare_runs = run_room_with entry self.old.spare_runs;
         } }
     {
         put_run(&mut self.runs, &entry);
@@ -48,7 +50,10 @@ impl TableSet {
     pub fn remove_entry(&mut self, number: u32) -> Option<Entry>
         ensures removed { result ≡ entry_numbered number self.old.entries }
         ensures room { self.old.spare_runs ≤ self.new.spare_runs }
-        ensures tables { self.new ≡ record self.old { entries = with_entry number (λ e. None) self.old.entries; spare_runs = self.new.spare_runs } }
+        ensures tables { self.new ≡ record self.old {
+          entries = without_entry number self.old.entries;
+          spare_runs = self.new.spare_runs;
+        } }
     {
         see_order(&self.entries, &self.runs);
         let Some(entry) = self.entries.remove(number) else {
@@ -61,9 +66,12 @@ impl TableSet {
     /// Puts an entry in the place of the one of its number, whose run it keeps or has no more. Where there is none, nothing
     /// changes. It asks logarithms of the entries and the runs, and moves the runs that stand behind.
     pub fn replace_entry(&mut self, entry: Entry)
-        requires { IfSome (run_of_entry entry) (λ run. option_and_then run_of_entry (entry_numbered entry.number self.old.entries) ≡ Some run) }
+        requires { KeepsRun entry self.old.entries }
         ensures room { self.old.spare_runs ≤ self.new.spare_runs }
-        ensures tables { self.new ≡ record self.old { entries = with_entry entry.number (λ e. Some entry) self.old.entries; spare_runs = self.new.spare_runs } }
+        ensures tables { self.new ≡ record self.old {
+          entries = with_entry entry.number (λ e. Some entry) self.old.entries;
+          spare_runs = self.new.spare_runs;
+        } }
     {
         see_order(&self.entries, &self.runs);
         let Some(old) = self.entries.replace(entry) else {
@@ -79,10 +87,10 @@ impl TableSet {
     pub fn start(&mut self, number: u32, queue: Name, node: Name) -> u64
         requires room { 0 < self.old.spare_runs }
         requires numbers { self.old.next_run < END_OF_RUNS }
-        requires pending { option_map (λ e. e.state) (entry_numbered number self.old.entries) ≡ Some Pending }
+        requires pending { state_numbered number self.old.entries ≡ Some Pending }
         ensures run { result ≡ self.old.next_run }
         ensures tables { self.new ≡ record self.old {
-          entries = with_entry number (λ e. Some (record e { state = Running queue node self.old.next_run })) self.old.entries;
+          entries = with_running number queue node self.old.next_run self.old.entries;
           next_run = self.old.next_run + 1;
           spare_runs = self.old.spare_runs - 1;
         } }
@@ -130,10 +138,10 @@ fn run_of_entry(entry: &Entry) -> Option<Run>
 
 // Puts in the run of an entry, if it has one.
 fn put_run(runs: &mut Runs, entry: &Entry)
-    requires { IfSome (run_of_entry entry.now) (λ r. (0 < runs.old.spare) × (r.run < runs.old.next) × (run_numbered r.run runs.old.runs ≡ None)) }
-    ensures runs { MatchOption (run_of_entry entry.now) (runs.new.runs ≡ runs.old.runs) (λ r. runs.new.runs ≡ with_run r runs.old.runs) }
+    requires { CanPutRun entry.now runs.old }
+    ensures runs { PutsRun (run_of_entry entry.now) runs.old.runs runs.new.runs }
     ensures next { runs.new.next ≡ runs.old.next }
-    ensures spare { runs.new.spare ≡ if is_some (run_of_entry entry.now) then runs.old.spare - 1 else runs.old.spare }
+    ensures spare { runs.new.spare ≡ run_room_with entry.now runs.old.spare }
 {
     if let Some(run) = run_of_entry(entry) {
         runs.put(run);
@@ -142,7 +150,7 @@ fn put_run(runs: &mut Runs, entry: &Entry)
 
 // Takes out the run that an entry in this state has.
 fn end_run(runs: &mut Runs, state: &EntryState)
-    ensures runs { MatchOption (run_of state.now) (runs.new.runs ≡ runs.old.runs) (λ run. runs.new.runs ≡ without_run run runs.old.runs) }
+    ensures runs { EndsRun (run_of state.now) runs.old.runs runs.new.runs }
     ensures next { runs.new.next ≡ runs.old.next }
     ensures spare { runs.old.spare ≤ runs.new.spare }
 {

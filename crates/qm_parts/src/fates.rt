@@ -1,7 +1,7 @@
 // Jobs that are to be cut short.
-ghost use Rattle.std.specs.Prelude.{◌≡◌, map, Some};
-ghost use Rattle.qm_model.specs.Standing.{with_entry};
+ghost use Rattle.std.specs.Prelude.{◌≡◌, map};
 ghost use Rattle.qm_model.specs.Stopping.{state_with_fate, with_fate, reset_fate, reset_in};
+ghost use Rattle.qm_entries.specs.Changes.{with_changed};
 ghost use Rattle.qm_parts.specs.Mirror.{reset_by};
 
 use crate::running::{is_running_in, see_order};
@@ -13,7 +13,9 @@ impl TableSet {
     /// The run of the entry of a number, if it has one, is to be cut short, with this fate. It asks a logarithm of the
     /// entries.
     pub fn set_fate(&mut self, number: u32, fate: Fate)
-        ensures { self.new ≡ record self.old { entries = with_entry number (λ e. Some (with_fate fate e)) self.old.entries } }
+        ensures { self.new ≡ record self.old {
+          entries = with_changed number (with_fate fate) self.old.entries;
+        } }
     {
         set_fate(&mut self.entries, number, fate);
     }
@@ -21,7 +23,9 @@ impl TableSet {
     /// The jobs that run in a queue are to be cut short. Those that may restart go back into their queue, and others end. It
     /// looks at each run, and asks a logarithm of the entries for each one of the queue.
     pub fn reset_queue(&mut self, queue: &Name)
-        ensures { self.new ≡ record self.old { entries = map (reset_in queue.now) self.old.entries } }
+        ensures { self.new ≡ record self.old {
+          entries = map (reset_in queue.now) self.old.entries;
+        } }
     {
         see_order(&self.entries, &self.runs);
         reset_each(&mut self.entries, self.runs.as_slice(), queue);
@@ -53,7 +57,9 @@ fn state_with_fate(state: EntryState, fate: Fate) -> EntryState
 
 // The run of the entry of a number, if it has one, is to be cut short, with this fate.
 fn set_fate(entries: &mut EntryTable, number: u32, fate: Fate)
-    ensures { entries.new ≡ record entries.old { entries = with_entry number (λ e. Some (with_fate fate e)) entries.old.entries } }
+    ensures { entries.new ≡ record entries.old {
+      entries = with_changed number (with_fate fate) entries.old.entries;
+    } }
 {
     let Some(entry) = entries.get(number) else {
         return;
@@ -75,7 +81,9 @@ fn reset_fate(entry: &Entry) -> Fate
 
 // The entry of a number, if it runs in the queue, is to be cut short.
 fn reset_entry(entries: &mut EntryTable, number: u32, queue: &Name)
-    ensures { entries.new ≡ record entries.old { entries = with_entry number (λ e. Some (reset_in queue.now e)) entries.old.entries } }
+    ensures { entries.new ≡ record entries.old {
+      entries = with_changed number (reset_in queue.now) entries.old.entries;
+    } }
 {
     let Some(entry) = entries.get(number) else {
         return;
@@ -88,7 +96,9 @@ fn reset_entry(entries: &mut EntryTable, number: u32, queue: &Name)
 
 // Each entry that has one of these runs in the queue is to be cut short, if it isn't yet.
 fn reset_each(entries: &mut EntryTable, runs: &[Run], queue: &Name)
-    ensures { entries.new ≡ record entries.old { entries = map (reset_by runs.now queue.now) entries.old.entries } }
+    ensures { entries.new ≡ record entries.old {
+      entries = map (reset_by runs.now queue.now) entries.old.entries;
+    } }
 {
     for run in runs {
         if run.queue == *queue {

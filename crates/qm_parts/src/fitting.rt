@@ -124,7 +124,8 @@ impl Asked {
 // one than that of the job before.
 fn is_reached(parts: &TableSet, entry: &Entry, queue: &Queue, last: &mut Asked) -> bool
     requires { KnowsWay parts.now.queues queue.now last.old }
-    ensures answer { (s : System) → result ≡ is_reached (with_tables s parts.now) entry.now queue.now }
+    ensures answer { (s : System)
+        → result ≡ is_reached (with_tables s parts.now) entry.now queue.now }
     ensures last { KnowsWay parts.now.queues queue.now last.new }
 {
     if !is_same(&entry.home, &last.home) {

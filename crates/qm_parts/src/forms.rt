@@ -1,10 +1,11 @@
 // What becomes of forms and characteristics.
-ghost use Rattle.std.specs.Prelude.{◌≡◌, ◌≤◌, ◌<◌, ◌+◌, ◌-◌, false, length, OnErr, OnOk};
+ghost use Rattle.std.specs.Prelude.{◌≡◌, ◌≤◌, ◌<◌, ◌-◌, false, OnErr, OnOk};
 ghost use Rattle.qm_kinds.specs.declared.limits.TheConstants.{LAST_CHARACTERISTIC};
 ghost use Rattle.qm_model.specs.Characteristics.{is_characteristic_taken};
 ghost use Rattle.qm_model.specs.Forms.{is_form_taken};
 ghost use Rattle.qm_model.specs.Inserting.{with_form, with_characteristic_defined};
 ghost use Rattle.qm_queues.specs.Forms.{without_form, without_characteristic};
+ghost use Rattle.qm_parts.specs.Spare.{KeepsCharacteristicRoom, KeepsFormRoom};
 
 use crate::tables::TableSet;
 use qm_kinds::{Characteristic, Form, Name};
@@ -26,7 +27,9 @@ impl TableSet {
         ensures ok { OnOk result (0 < self.new.spare_characteristics) }
         ensures err { OnErr result (self.old.spare_characteristics ≡ 0) }
         ensures no_less { self.old.spare_characteristics ≤ self.new.spare_characteristics }
-        ensures tables { self.new ≡ record self.old { spare_characteristics = self.new.spare_characteristics } }
+        ensures tables { self.new ≡ record self.old {
+          spare_characteristics = self.new.spare_characteristics;
+        } }
     {
         self.forms.reserve_characteristic()
     }
@@ -35,7 +38,10 @@ impl TableSet {
     pub fn define_form(&mut self, form: Form)
         requires room { 0 < self.old.spare_forms }
         requires free { is_form_taken self.old.forms form ≡ false }
-        ensures { self.new ≡ record self.old { forms = with_form form self.old.forms; spare_forms = self.old.spare_forms - 1 } }
+        ensures { self.new ≡ record self.old {
+          forms = with_form form self.old.forms;
+          spare_forms = self.old.spare_forms - 1;
+        } }
     {
         self.forms.define_form(form);
     }
@@ -56,8 +62,11 @@ impl TableSet {
 
     /// Takes out the form of a name. Where there is none, nothing changes. Its room stays.
     pub fn delete_form(&mut self, name: &Name)
-        ensures forms { self.new ≡ record self.old { forms = without_form name.now self.old.forms; spare_forms = self.new.spare_forms } }
-        ensures room { self.new.spare_forms + length self.new.forms ≡ self.old.spare_forms + length self.old.forms }
+        ensures forms { self.new ≡ record self.old {
+          forms = without_form name.now self.old.forms;
+          spare_forms = self.new.spare_forms;
+        } }
+        ensures room { KeepsFormRoom self.old self.new }
     {
         self.forms.delete_form(name);
     }
@@ -68,7 +77,7 @@ impl TableSet {
           characteristics = without_characteristic name.now self.old.characteristics;
           spare_characteristics = self.new.spare_characteristics;
         } }
-        ensures room { self.new.spare_characteristics + length self.new.characteristics ≡ self.old.spare_characteristics + length self.old.characteristics }
+        ensures room { KeepsCharacteristicRoom self.old self.new }
     {
         self.forms.delete_characteristic(name);
     }

@@ -1,9 +1,9 @@
 // Nodes come up and go down.
-ghost use Rattle.std.specs.Prelude.{◌≡◌, map, filter, find, count_by, min};
-ghost use Rattle.std.specs.List.{reduce};
+ghost use Rattle.std.specs.Prelude.{◌≡◌, map, filter, find, count_by};
 ghost use Rattle.std.specs.Option.{option_copied};
 ghost use Rattle.qm_model.specs.Find.{is_among};
 ghost use Rattle.qm_parts.specs.Nodes.{changed_node, is_run_on_one};
+ghost use Rattle.qm_parts.specs.Runs.{least_entry};
 
 use crate::parts::Parts;
 use crate::rows::refill_all;
@@ -69,7 +69,7 @@ fn count_on(runs: &[Run], nodes: &[Name]) -> usize
 
 // The least number of an entry that has one of the runs, on one of these nodes.
 fn least_on(runs: &[Run], nodes: &[Name]) -> Option<u32>
-    ensures { result ≡ reduce min (map (λ r. r.entry) (filter (λ r. is_among nodes.now r.node) runs.now)) }
+    ensures { result ≡ least_entry (filter (λ r. is_among nodes.now r.node) runs.now) }
 {
     let mut least = None;
     for run in runs {
@@ -83,7 +83,9 @@ fn least_on(runs: &[Run], nodes: &[Name]) -> Option<u32>
 impl TableSet {
     /// Nodes come up or go down. What runs on them stays as it is.
     pub fn change_nodes(&mut self, change: &NodeChange<'_>)
-        ensures { self.new ≡ record self.old { nodes = map (changed_node change.now) self.old.nodes } }
+        ensures { self.new ≡ record self.old {
+          nodes = map (changed_node change.now) self.old.nodes;
+        } }
     {
         change_each(self.nodes.as_mut_slice(), change);
     }
@@ -112,7 +114,9 @@ impl Parts {
     /// Nodes come up or go down. What runs on them stays as it is. The rows are built anew: queues on a node that is down take
     /// no job.
     pub fn change_nodes(&mut self, change: &NodeChange<'_>)
-        ensures { self.new ≡ record self.old { nodes = map (changed_node change.now) self.old.nodes } }
+        ensures { self.new ≡ record self.old {
+          nodes = map (changed_node change.now) self.old.nodes;
+        } }
     {
         self.tables.change_nodes(change);
         refill_all(self.alloc, &self.tables, &mut self.rows);

@@ -1,26 +1,24 @@
 // The tables with the rows of ready jobs, and what is asked of them.
-ghost use Rattle.std.specs.Prelude.{◌≡◌, ◌≤◌, ◌<◌, ◌+◌, ◌&&◌, ℕ, List, [], length, count_by, slice_index_or, vec_len, vec_capacity, None, find, filter, filter_map, is_some, IfOk, IfSome, OnErr, OnOk};
+ghost use Rattle.std.specs.Prelude.{◌≡◌, ◌≤◌, ◌<◌, ℕ, [], length, count_by, slice_index_or, vec_len, vec_capacity, None, find, is_some, IfOk, IfSome, OnErr, OnOk};
 ghost use Rattle.std.specs.List.{list_any};
 ghost use Rattle.std.specs.Option.{option_copied, option_map};
 ghost use Rattle.std.specs.Ordering.{nat_cmp};
 ghost use Rattle.qm_model.specs.Consistent.{IsInOrder};
 ghost use Rattle.qm_model.specs.Find.{name_cmp, queue_named, entry_numbered};
-ghost use Rattle.qm_model.specs.Duties.{by_run};
 ghost use Rattle.qm_model.specs.Free.{places_taken};
 ghost use Rattle.qm_model.specs.Queues.{runs_for};
-ghost use Rattle.qm_model.specs.Standing.{occupies, has_run, is_run_on};
-ghost use Rattle.qm_model.specs.Stopping.{is_running_in, job_meant};
+ghost use Rattle.qm_model.specs.Standing.{occupies, has_run};
+ghost use Rattle.qm_model.specs.Stopping.{job_meant};
 ghost use Rattle.qm_entries.specs.Boxed.{contents};
-ghost use Rattle.qm_entries.specs.Entries.{entry_after};
 ghost use Rattle.qm_entries.specs.Tags.{tags_of};
-ghost use Rattle.qm_queues.specs.Queues.{queue_after};
-ghost use Rattle.qm_parts.specs.ByRun.{entry_on};
+ghost use Rattle.qm_parts.specs.ByRun.{AreByRun};
+ghost use Rattle.qm_parts.specs.Runs.{running_in, running_on};
 ghost use Rattle.qm_kinds.specs.declared.queue.Queue.{Queue as AnyQueue};
 ghost use Rattle.qm_kinds.specs.declared.system.System.{System};
 ghost use Rattle.qm_match.specs.Keys.{schedule_of};
 ghost use Rattle.qm_ready.specs.Jobs.{IsRowOf as HasJobs, fitting};
-ghost use Rattle.qm_parts.specs.Ready.{AreKept, IsRowOf, ready_key};
-ghost use Rattle.qm_parts.specs.Rooms.{CanPut, HavePlaces, HavePlacesFor, HaveRoom, is_home, reach, rooms_of};
+ghost use Rattle.qm_parts.specs.Ready.{AreKept, HasReady};
+ghost use Rattle.qm_parts.specs.Rooms.{CanPut, HavePlaces, HavePlacesFor, HaveRoom, is_home, rooms_of, HasComingRoom, KeepsRooms};
 ghost use Rattle.qm_parts.specs.Tables.{with_tables};
 ghost use Rattle.qm_renewal.specs.Renewing.{room_of};
 
@@ -82,7 +80,8 @@ fn new_row(alloc: Global, most: usize) -> Result<ReadyRow, AllocError>
 fn add_rows(alloc: Global, tables: &TableSet, rows: &mut Vec<ReadyRow>) -> Result<(), AllocError>
     requires { rows.old.items ≡ [] }
     ensures count { OnOk result (length rows.new.items ≡ length tables.now.queues) }
-    ensures room { OnOk result (HaveRoom tables.now.queues tables.now.entries (rooms_of rows.new.items)) }
+    ensures room { OnOk result
+        (HaveRoom tables.now.queues tables.now.entries (rooms_of rows.new.items)) }
 {
     for queue in tables.queues() {
         let row = new_row(alloc, reach(tables, queue))?;
@@ -95,7 +94,8 @@ fn add_rows(alloc: Global, tables: &TableSet, rows: &mut Vec<ReadyRow>) -> Resul
 fn add_unknown(bounds: &mut Vec<Option<usize>>, count: usize) -> Result<(), AllocError>
     requires { bounds.old.items ≡ [] }
     ensures count { OnOk result (length bounds.new.items ≡ count) }
-    ensures unknown { OnOk result ((place : ℕ) → slice_index_or bounds.new.items place None ≡ None) }
+    ensures unknown { OnOk result
+        ((place : ℕ) → slice_index_or bounds.new.items place None ≡ None) }
 {
     for _ in 0..count {
         bounds.push(None)?;
@@ -172,7 +172,10 @@ impl Parts {
     /// These tables, with the rows of the jobs that are ready. There is room for no further queue. It walks over the entries twice
     /// for each queue that is open, and once for each other one.
     pub fn of(alloc: Global, tables: TableSet) -> Result<Parts, AllocError>
-        ensures { IfOk result (λ parts. parts ≡ record tables { spare_queues = 0; rooms = parts.rooms }) }
+        ensures { IfOk result (λ parts. parts ≡ record tables {
+          spare_queues = 0;
+          rooms = parts.rooms;
+        }) }
     {
         match filled_rows(alloc, &tables) {
             Err(AllocError) => Err(AllocError),
@@ -232,20 +235,12 @@ impl Parts {
         self.tables.queue(name)
     }
 
-    /// The queue of the least name that is greater than this one, or of the least name where none is given. It asks a
-    /// logarithm of the queues.
-    pub fn queue_after(&self, name: Option<&Name>) -> Option<&Queue>
-        ensures next { option_copied result ≡ queue_after (option_copied name.entry) self.now.queues }
-        ensures in_order { IsInOrder name_cmp (λ q. q.name) self.now.queues }
-    {
-        self.tables.queue_after(name)
-    }
-
     /// The row of the queue of a name, if there is such a queue: it has the keys of just the jobs that fit the queue, in the
     /// order in which it takes them. That of a generic queue is empty. It asks a logarithm of the queues.
     pub fn ready(&self, name: &Name) -> Option<&ReadyRow>
         ensures found { is_some result ≡ is_some (queue_named name.now self.now.queues) }
-        ensures jobs { (s : System) → IfSome (option_copied result) (λ row. IfSome (queue_named name.now self.now.queues)
+        ensures jobs { (s : System) → IfSome (option_copied result)
+            (λ row. IfSome (queue_named name.now self.now.queues)
             (λ q. HasJobs (schedule_of q) (fitting (with_tables s self.now) q) row.keys)) }
     {
         see_entries(self);
@@ -261,7 +256,8 @@ impl Parts {
     // The row of the queue of a name, if there is such a queue.
     fn row_named(&self, name: &Name) -> Option<&ReadyRow>
         ensures found { is_some result ≡ is_some (queue_named name.now self.now.queues) }
-        ensures jobs { IfSome (option_copied result) (λ row. IfSome (queue_named name.now self.now.queues) (λ q. IsRowOf q (ready_key self.now q) row)) }
+        ensures jobs { IfSome (option_copied result)
+            (λ row. IfSome (queue_named name.now self.now.queues) (λ q. HasReady self.now q row)) }
     {
         match place_of(self.tables.queues(), name) {
             Ok(place) => Some(&self.rows[place]),
@@ -272,7 +268,8 @@ impl Parts {
     /// The row of the queue at a place: it has the keys of just the jobs that fit the queue. That of a generic queue is empty.
     pub fn row_at(&self, place: usize) -> &ReadyRow
         requires { place < length self.now.queues }
-        ensures { (q : AnyQueue) → IsRowOf (slice_index_or self.now.queues place q) (ready_key self.now (slice_index_or self.now.queues place q)) result.now }
+        ensures { (q : AnyQueue)
+            → HasReady self.now (slice_index_or self.now.queues place q) result.now }
     {
         &self.rows[place]
     }
@@ -306,14 +303,6 @@ impl Parts {
         self.tables.entry(number)
     }
 
-    /// The entry of the least number that is greater than this one. It asks a logarithm of the entries.
-    pub fn entry_after(&self, number: u32) -> Option<&Entry>
-        ensures next { option_copied result ≡ entry_after number self.now.entries }
-        ensures in_order { IsInOrder nat_cmp (λ e. e.number) self.now.entries }
-    {
-        self.tables.entry_after(number)
-    }
-
     /// The number of the next run.
     pub fn next_run(&self) -> u64
         ensures { result ≡ self.now.next_run }
@@ -345,14 +334,14 @@ impl Parts {
     /// The entry that has the run of a number, where it runs on the node. It asks a logarithm of the runs, and one of the
     /// entries.
     pub fn entry_of_run(&self, run: u64, node: &Name) -> Option<&Entry>
-        ensures { option_copied result ≡ find (λ e. has_run run e && is_run_on node.now e) self.now.entries }
+        ensures { option_copied result ≡ running_on run node.now self.now.entries }
     {
         self.tables.entry_of_run(run, node)
     }
 
     /// The runs, in order of their numbers. Those of a node are those of the entries that run or are aborting there.
     pub fn runs(&self) -> &[Run]
-        ensures { (node : List ℕ) → filter_map (entry_on node self.now.entries) result.now ≡ by_run (filter (is_run_on node) self.now.entries) }
+        ensures { AreByRun self.now.entries result.now }
     {
         self.tables.runs()
     }
@@ -360,7 +349,7 @@ impl Parts {
     /// The job that runs in the queue and isn't aborting: the one of the number, or the only one. It looks at each run, and
     /// asks a logarithm of the entries for each one of the queue.
     pub fn running_in(&self, queue: &Name, number: Option<u32>) -> Option<&Entry>
-        ensures { option_copied result ≡ job_meant number (filter (λ e. is_running_in queue.now e.state) self.now.entries) }
+        ensures { option_copied result ≡ job_meant number (running_in queue.now self.now.entries) }
     {
         self.tables.running_in(queue, number)
     }
@@ -393,7 +382,10 @@ impl Parts {
     pub fn reserve_entry(&mut self, home: &Name) -> Result<(), AllocError>
         ensures room { OnOk result (0 < self.new.spare_entries) }
         ensures places { OnOk result (HavePlacesFor home.now 1 self.new) }
-        ensures tables { self.new ≡ record self.old { spare_entries = self.new.spare_entries; rooms = self.new.rooms } }
+        ensures tables { self.new ≡ record self.old {
+          spare_entries = self.new.spare_entries;
+          rooms = self.new.rooms;
+        } }
     {
         self.reserve_places(home, 1)?;
         self.tables.reserve_entry()
@@ -403,7 +395,10 @@ impl Parts {
     fn reserve_row(&mut self) -> Result<(), AllocError>
         ensures ok { OnOk result (0 < self.new.spare_queues) }
         ensures no_less { self.old.spare_queues ≤ self.new.spare_queues }
-        ensures tables { self.new ≡ record self.old { spare_queues = self.new.spare_queues; rooms = self.new.rooms } }
+        ensures tables { self.new ≡ record self.old {
+          spare_queues = self.new.spare_queues;
+          rooms = self.new.rooms;
+        } }
     {
         if self.queue_room > 0 {
             return Ok(());
@@ -434,8 +429,8 @@ impl Parts {
     // Makes room in the row for a queue that comes, for the jobs that may come there and for so many more.
     fn widen_coming(&mut self, queue: &Queue, more: usize) -> Result<(), AllocError>
         requires { 0 < self.old.spare_queues }
-        ensures room { OnOk result (reach self.new.queues self.new.entries queue.now + more ≤ slice_index_or self.new.rooms (length self.new.queues) 0) }
-        ensures others { (place : ℕ) → place < length self.old.queues → slice_index_or self.new.rooms place 0 ≡ slice_index_or self.old.rooms place 0 }
+        ensures room { OnOk result (HasComingRoom queue.now more self.new) }
+        ensures others { KeepsRooms self.old self.new }
         ensures tables { self.new ≡ record self.old { rooms = self.new.rooms } }
     {
         let place = self.tables.queues().len();
@@ -447,7 +442,10 @@ impl Parts {
     /// already.
     pub fn reserve_queue(&mut self, queue: &Queue) -> Result<(), AllocError>
         ensures ok { OnOk result (CanPut queue.now self.new) }
-        ensures tables { self.new ≡ record self.old { spare_queues = self.new.spare_queues; rooms = self.new.rooms } }
+        ensures tables { self.new ≡ record self.old {
+          spare_queues = self.new.spare_queues;
+          rooms = self.new.rooms;
+        } }
     {
         self.reserve_row()?;
         let jobs = self.count_at_home(&queue.name);
@@ -481,7 +479,9 @@ impl Parts {
         ensures ok { OnOk result (0 < self.new.spare_characteristics) }
         ensures err { OnErr result (self.old.spare_characteristics ≡ 0) }
         ensures no_less { self.old.spare_characteristics ≤ self.new.spare_characteristics }
-        ensures tables { self.new ≡ record self.old { spare_characteristics = self.new.spare_characteristics } }
+        ensures tables { self.new ≡ record self.old {
+          spare_characteristics = self.new.spare_characteristics;
+        } }
     {
         self.tables.reserve_characteristic()
     }

@@ -1,13 +1,13 @@
 // What becomes of queues.
-ghost use Rattle.std.specs.Prelude.{◌≡◌, ◌<◌, ◌+◌, ◌-◌, ℕ, if◌then◌else◌, is_some, length, map, slice_set, slice_index_or};
-ghost use Rattle.qm_kinds.specs.declared.queue.Queue.{Queue as AnyQueue};
-ghost use Rattle.qm_model.specs.Find.{queue_named};
+ghost use Rattle.std.specs.Prelude.{◌≡◌, ◌<◌, length, map};
 ghost use Rattle.qm_model.specs.Queues.{without_queue};
 ghost use Rattle.qm_model.specs.Standing.{with_queue};
 ghost use Rattle.qm_model.specs.States.{when_idle};
 ghost use Rattle.qm_queues.specs.Queues.{with_queue_put};
-ghost use Rattle.qm_queues.specs.Settings.{with_settings_and_state};
+ghost use Rattle.qm_queues.specs.Settings.{with_settings_and_state, with_state};
 ghost use Rattle.qm_parts.specs.Mirror.{stopped_unless_used};
+ghost use Rattle.qm_parts.specs.Spare.{room_with, room_without};
+ghost use Rattle.qm_parts.specs.Stopping.{StopsAt};
 
 use crate::tables::TableSet;
 use qm_kinds::{Name, Queue, QueueState};
@@ -16,14 +16,18 @@ use qm_queues::{QueueTable, Runs, Settings};
 impl TableSet {
     /// Sets the state of the queue of a name. Where there is none, nothing changes. It asks a logarithm of the queues.
     pub fn set_queue_state(&mut self, name: &Name, state: QueueState)
-        ensures { self.new ≡ record self.old { queues = with_queue name.now (λ q. record q { state = state }) self.old.queues } }
+        ensures { self.new ≡ record self.old {
+          queues = with_queue name.now (with_state state) self.old.queues;
+        } }
     {
         self.queues.set_state(name, state);
     }
 
     /// Sets settings of the queue of a name, and its state where one is given. Where there is none, nothing changes.
     pub fn set_queue(&mut self, name: &Name, settings: &Settings, state: Option<QueueState>)
-        ensures { self.new ≡ record self.old { queues = with_queue name.now (with_settings_and_state settings.now state) self.old.queues } }
+        ensures { self.new ≡ record self.old {
+          queues = with_queue name.now (with_settings_and_state settings.now state) self.old.queues;
+        } }
     {
         self.queues.set(name, settings, state);
     }
@@ -34,7 +38,7 @@ impl TableSet {
         requires { 0 < self.old.spare_queues }
         ensures { self.new ≡ record self.old {
           queues = with_queue_put queue self.old.queues;
-          spare_queues = if is_some (queue_named queue.name self.old.queues) then self.old.spare_queues else self.old.spare_queues - 1;
+          spare_queues = room_with queue.name self.old.queues self.old.spare_queues;
         } }
     {
         let _ = self.queues.put(queue);
@@ -44,7 +48,7 @@ impl TableSet {
     pub fn remove_queue(&mut self, name: &Name)
         ensures { self.new ≡ record self.old {
           queues = without_queue name.now self.old.queues;
-          spare_queues = if is_some (queue_named name.now self.old.queues) then self.old.spare_queues + 1 else self.old.spare_queues;
+          spare_queues = room_without name.now self.old.queues self.old.spare_queues;
         } }
     {
         let _ = self.queues.remove(name);
@@ -53,7 +57,9 @@ impl TableSet {
     /// Stops each queue that is stopping and has no run. For each one that is stopping it asks a logarithm of the queues that
     /// have runs.
     pub fn stop_idle(&mut self)
-        ensures { self.new ≡ record self.old { queues = map (when_idle self.old.entries) self.old.queues } }
+        ensures { self.new ≡ record self.old {
+          queues = map (when_idle self.old.entries) self.old.queues;
+        } }
     {
         stop_unused(&mut self.queues, &self.runs);
     }
@@ -61,7 +67,9 @@ impl TableSet {
 
 // Stops each queue that is stopping and has none of the runs.
 fn stop_unused(queues: &mut QueueTable, runs: &Runs)
-    ensures { queues.new ≡ record queues.old { queues = map (stopped_unless_used runs.now.runs) queues.old.queues } }
+    ensures { queues.new ≡ record queues.old {
+      queues = map (stopped_unless_used runs.now.runs) queues.old.queues;
+    } }
 {
     for place in 0..queues.as_slice().len() {
         stop_if_unused(queues, runs, place);
@@ -71,7 +79,7 @@ fn stop_unused(queues: &mut QueueTable, runs: &Runs)
 // Stops the queue at a place, if it is stopping and has none of the runs.
 fn stop_if_unused(queues: &mut QueueTable, runs: &Runs, place: usize)
     requires { place < length queues.old.queues }
-    ensures { (d : AnyQueue) → queues.new ≡ record queues.old { queues = slice_set queues.old.queues place (stopped_unless_used runs.now.runs (slice_index_or queues.old.queues place d)) } }
+    ensures { StopsAt place runs.now.runs queues.old queues.new }
 {
     let queue = &queues.as_slice()[place];
     if queue.state != QueueState::Stopping || runs.in_use(&queue.name) > 0 {

@@ -34,7 +34,8 @@ fn renew_in(
     entry: &Entry,
     home: Option<&Queue>,
 )
-    requires stale { IsStale entry.now.number old.now queue.now (ready_key tables.now queue.now) row.old }
+    requires stale { IsStale entry.now.number old.now
+        queue.now (ready_key tables.now queue.now) row.old }
     requires number { IfSome old.now (λ k. k.number ≡ entry.now.number) }
     requires room { reach tables.now.queues tables.now.entries queue.now ≤ room_of row.old }
     requires there { entry_numbered entry.now.number tables.now.entries ≡ Some entry.now }

@@ -1,11 +1,8 @@
 // The room that the rows of ready jobs have.
-ghost use Rattle.std.specs.Prelude.{◌≡◌, ◌≤◌, ◌<◌, ◌+◌, ℕ, true, if◌then◌else◌, length, count_by, OnErr, OnOk, slice_index_or, None};
-ghost use Rattle.std.specs.List.{list_any};
-ghost use Rattle.std.specs.Str.{bytes_eq};
-ghost use Rattle.qm_kinds.specs.declared.queue.Queue.{Queue as AnyQueue};
+ghost use Rattle.std.specs.Prelude.{◌≡◌, ◌≤◌, ◌<◌, ◌+◌, ℕ, true, length, count_by, OnErr, OnOk, slice_index_or, None};
 ghost use Rattle.qm_entries.specs.Boxed.{contents};
 ghost use Rattle.qm_parts.specs.Ready.{KeepsKeys};
-ghost use Rattle.qm_parts.specs.Rooms.{AreBounds, HasRoomWhere, IsAtMost, IsRaisedWhere, is_home, is_one_of, leads_to, may_come, reach, targets_of};
+ghost use Rattle.qm_parts.specs.Rooms.{AreBounds, HasRoomWhere, IsAtMost, IsRaisedWhere, is_home, is_one_of, leads_to, may_come, reach, targets_of, HasRoomFor, is_named, is_target};
 ghost use Rattle.qm_renewal.specs.Renewing.{room_of};
 
 use crate::names::{is_same, place_of};
@@ -160,7 +157,8 @@ pub(crate) fn widen(
     more: usize,
 ) -> Result<(), AllocError>
     requires { IsAtMost (reach tables.now.queues tables.now.entries queue.now) bound.old }
-    ensures ok { OnOk result (reach tables.now.queues tables.now.entries queue.now + more ≤ room_of row.new) }
+    ensures ok { OnOk result
+        (reach tables.now.queues tables.now.entries queue.now + more ≤ room_of row.new) }
     ensures bound { IsAtMost (reach tables.now.queues tables.now.entries queue.now) bound.new }
     ensures same { row.new ≡ record row.old { spare = row.new.spare } }
     ensures no_less { row.old.spare ≤ row.new.spare }
@@ -187,7 +185,7 @@ fn widen_named(
     requires enough { length tables.now.queues ≤ length rows.old.items }
     requires bounded { length bounds.old.items ≡ length rows.old.items }
     requires bounds { AreBounds tables.now.queues tables.now.entries bounds.old.items }
-    ensures places { OnOk result (HasRoomWhere (λ q. bytes_eq name.now q.name) more tables.now rows.new.items) }
+    ensures places { OnOk result (HasRoomWhere (is_named name.now) more tables.now rows.new.items) }
     ensures same { KeepsKeys rows.old.items rows.new.items }
     ensures bounded { length bounds.new.items ≡ length bounds.old.items }
     ensures bounds { AreBounds tables.now.queues tables.now.entries bounds.new.items }
@@ -210,7 +208,8 @@ fn widen_targets(
     requires enough { length tables.now.queues ≤ length rows.old.items }
     requires bounded { length bounds.old.items ≡ length rows.old.items }
     requires bounds { AreBounds tables.now.queues tables.now.entries bounds.old.items }
-    ensures places { OnOk result (HasRoomWhere (λ q. list_any (λ target. bytes_eq target q.name) targets.now) more tables.now rows.new.items) }
+    ensures places { OnOk result
+        (HasRoomWhere (is_target targets.now) more tables.now rows.new.items) }
     ensures same { KeepsKeys rows.old.items rows.new.items }
     ensures bounded { length bounds.new.items ≡ length bounds.old.items }
     ensures bounds { AreBounds tables.now.queues tables.now.entries bounds.new.items }
@@ -234,7 +233,8 @@ pub(crate) fn widen_each(
     requires enough { length tables.now.queues ≤ length rows.old.items }
     requires bounded { length bounds.old.items ≡ length rows.old.items }
     requires bounds { AreBounds tables.now.queues tables.now.entries bounds.old.items }
-    ensures places { OnOk result (HasRoomWhere (is_one_of name.now targets.now) more tables.now rows.new.items) }
+    ensures places { OnOk result
+        (HasRoomWhere (is_one_of name.now targets.now) more tables.now rows.new.items) }
     ensures same { KeepsKeys rows.old.items rows.new.items }
     ensures bounded { length bounds.new.items ≡ length bounds.old.items }
     ensures bounds { AreBounds tables.now.queues tables.now.entries bounds.new.items }
@@ -255,7 +255,7 @@ pub(crate) fn widen_home(
     requires enough { length tables.now.queues ≤ length rows.old.items }
     requires bounded { length bounds.old.items ≡ length rows.old.items }
     requires bounds { AreBounds tables.now.queues tables.now.entries bounds.old.items }
-    ensures places { OnOk result (HasRoomWhere (is_one_of home.now (targets_of tables.now.queues home.now)) more tables.now rows.new.items) }
+    ensures places { OnOk result (HasRoomFor home.now more tables.now rows.new.items) }
     ensures same { KeepsKeys rows.old.items rows.new.items }
     ensures bounded { length bounds.new.items ≡ length bounds.old.items }
     ensures bounds { AreBounds tables.now.queues tables.now.entries bounds.new.items }
@@ -281,7 +281,8 @@ fn raise(bound: &mut Option<usize>)
 // One job more may come to the queue of a name, if there is such a queue.
 fn raise_named(tables: &TableSet, bounds: &mut Vec<Option<usize>>, name: &Name)
     requires { length tables.now.queues ≤ length bounds.old.items }
-    ensures raised { IsRaisedWhere (λ q. bytes_eq name.now q.name) tables.now.queues bounds.old.items bounds.new.items }
+    ensures raised { IsRaisedWhere (is_named name.now)
+        tables.now.queues bounds.old.items bounds.new.items }
     ensures count { length bounds.new.items ≡ length bounds.old.items }
 {
     if let Ok(place) = place_of(tables.queues(), name) {
@@ -292,7 +293,8 @@ fn raise_named(tables: &TableSet, bounds: &mut Vec<Option<usize>>, name: &Name)
 // One job more may come to the queues that are among these targets.
 fn raise_targets(tables: &TableSet, bounds: &mut Vec<Option<usize>>, targets: &[Name])
     requires { length tables.now.queues ≤ length bounds.old.items }
-    ensures raised { IsRaisedWhere (λ q. list_any (λ target. bytes_eq target q.name) targets.now) tables.now.queues bounds.old.items bounds.new.items }
+    ensures raised { IsRaisedWhere (is_target targets.now)
+        tables.now.queues bounds.old.items bounds.new.items }
     ensures count { length bounds.new.items ≡ length bounds.old.items }
 {
     for target in targets {
@@ -304,7 +306,8 @@ fn raise_targets(tables: &TableSet, bounds: &mut Vec<Option<usize>>, targets: &[
 /// targets.
 pub(crate) fn raise_each(tables: &TableSet, bounds: &mut Vec<Option<usize>>, home: &Name)
     requires { length tables.now.queues ≤ length bounds.old.items }
-    ensures raised { IsRaisedWhere (λ q. leads_to tables.now.queues q home.now) tables.now.queues bounds.old.items bounds.new.items }
+    ensures raised { IsRaisedWhere (λ q. leads_to tables.now.queues q home.now)
+        tables.now.queues bounds.old.items bounds.new.items }
     ensures count { length bounds.new.items ≡ length bounds.old.items }
 {
     let Ok(place) = place_of(tables.queues(), home) else {

@@ -1,20 +1,19 @@
 // The rows of ready jobs: how one is built anew, and how the key of one job goes.
-ghost use Rattle.std.specs.Prelude.{◌≡◌, ◌≤◌, ◌<◌, ◌+◌, [], ◌∷◌, ◌++◌, length, map, filter, count_by, insert, remove, true, false, IfSome, Some, None, ℕ, slice_index_or};
+ghost use Rattle.std.specs.Prelude.{◌≡◌, ◌≤◌, ◌<◌, ◌+◌, [], ◌∷◌, ◌++◌, length, insert, remove, true, IfSome, Some, None, ℕ, slice_index_or};
 ghost use Rattle.qm_kinds.specs.declared.system.System.{System};
 ghost use Rattle.qm_keyed.specs.Places.{StandsAt};
 ghost use Rattle.qm_kinds.specs.declared.queue.Queue.{Queue as AnyQueue};
-ghost use Rattle.qm_match.specs.Keys.{key_of};
 ghost use Rattle.qm_model.specs.Consistent.{IsInOrder};
 ghost use Rattle.qm_model.specs.Find.{name_cmp, entry_numbered, queue_named};
 ghost use Rattle.qm_model.specs.Queues.{without_queue};
 ghost use Rattle.qm_queues.specs.Queues.{with_queue_put};
-ghost use Rattle.qm_model.specs.Kinds.{is_generic};
 ghost use Rattle.qm_model.specs.Standing.{with_queue};
-ghost use Rattle.qm_model.specs.Fitting.{fits, is_open, stock_of};
+ghost use Rattle.qm_model.specs.Fitting.{is_open, stock_of};
 ghost use Rattle.qm_entries.specs.Boxed.{contents};
 ghost use Rattle.qm_ready.specs.Rows.{Row};
+ghost use Rattle.qm_parts.specs.Gathering.{AreKeysOf, HasRoomForKeys, IsExecutionAt};
 ghost use Rattle.qm_parts.specs.Ready.{AreReady, AreReadyBut, IsRowOf, KeepsRoom, LeavesKind, ready_key};
-ghost use Rattle.qm_parts.specs.Rooms.{AreMet, HaveRoom, reach, rooms_of};
+ghost use Rattle.qm_parts.specs.Rooms.{AreMet, HaveRoom, reach, rooms_of, HasRowIfNew, NeedsLeast};
 ghost use Rattle.qm_renewal.specs.Renewing.{room_of};
 ghost use Rattle.qm_parts.specs.Tables.{Tables, with_tables};
 
@@ -34,8 +33,8 @@ use std::mem;
 // Gathers the keys of the jobs that fit a queue, by one walk over the entries. A queue that isn't open takes none.
 fn gather(tables: &TableSet, queue: &Queue, gathering: &mut Gathering)
     requires empty { gathering.old.keys ≡ [] }
-    requires room { (s : System) → count_by (λ e. fits (with_tables s tables.now) e queue.now) tables.now.entries ≤ gathering.old.spare }
-    ensures keys { (s : System) → gathering.new.keys ≡ map key_of (filter (λ e. fits (with_tables s tables.now) e queue.now) tables.now.entries) }
+    requires room { HasRoomForKeys tables.now queue.now tables.now.entries gathering.old.spare }
+    ensures keys { AreKeysOf tables.now queue.now tables.now.entries gathering.new.keys }
     ensures schedule { gathering.new.schedule ≡ gathering.old.schedule }
     ensures room { gathering.new.spare + length gathering.new.keys ≡ gathering.old.spare }
 {
@@ -58,8 +57,8 @@ fn gather_from(
     requires open { (s : System) → is_open (with_tables s tables.now) queue.now ≡ true }
     requires mounted { mounted.now ≡ stock_of tables.now.forms queue.now.mounted }
     requires empty { gathering.old.keys ≡ [] }
-    requires room { (s : System) → count_by (λ e. fits (with_tables s tables.now) e queue.now) (contents entries.now) ≤ gathering.old.spare }
-    ensures keys { (s : System) → gathering.new.keys ≡ map key_of (filter (λ e. fits (with_tables s tables.now) e queue.now) (contents entries.now)) }
+    requires room { HasRoomForKeys tables.now queue.now (contents entries.now) gathering.old.spare }
+    ensures keys { AreKeysOf tables.now queue.now (contents entries.now) gathering.new.keys }
     ensures schedule { gathering.new.schedule ≡ gathering.old.schedule }
     ensures room { gathering.new.spare + length gathering.new.keys ≡ gathering.old.spare }
 {
@@ -103,7 +102,7 @@ pub(crate) fn refill_all(alloc: Global, tables: &TableSet, rows: &mut Vec<ReadyR
 fn execution_place(queues: &[Queue], name: &Name) -> Option<usize>
     requires { IsInOrder name_cmp (λ q. q.name) queues.now }
     ensures stands { IfSome result (StandsAt name_cmp (λ q. q.name) name.now queues.now) }
-    ensures kind { IfSome result (λ place. (q : AnyQueue) → is_generic (slice_index_or queues.now place q).kind ≡ false) }
+    ensures kind { IfSome result (IsExecutionAt queues.now) }
 {
     match place_of(queues, name) {
         Err(_) => None,
@@ -122,7 +121,8 @@ fn execution_place(queues: &[Queue], name: &Name) -> Option<usize>
 pub(crate) fn refill_for(alloc: Global, tables: &TableSet, rows: &mut Vec<ReadyRow>, name: &Name)
     requires enough { length tables.now.queues ≤ length rows.old.items }
     requires room { HaveRoom tables.now.queues tables.now.entries (rooms_of rows.old.items) }
-    ensures ready { (t : Tables) (change : AnyQueue → AnyQueue) → LeavesKind change → tables.now ≡ record t { queues = with_queue name.now change t.queues }
+    ensures ready { (t : Tables) (change : AnyQueue → AnyQueue) → LeavesKind change
+        → tables.now ≡ record t { queues = with_queue name.now change t.queues }
         → AreReady t rows.old.items → AreReady tables.now rows.new.items }
     ensures count { length rows.new.items ≡ length rows.old.items }
     ensures room { KeepsRoom rows.old.items rows.new.items }
@@ -180,7 +180,8 @@ pub(crate) fn forget_number(tables: &TableSet, rows: &mut Vec<ReadyRow>, number:
 fn place_row(rows: &mut Vec<ReadyRow>, place: usize, from: usize)
     requires place { place ≤ from }
     requires from { from < length rows.old.items }
-    ensures { (row : Row) → rows.new.items ≡ insert (remove rows.old.items from) place (slice_index_or rows.old.items from row) }
+    ensures { (row : Row) → rows.new.items
+        ≡ insert (remove rows.old.items from) place (slice_index_or rows.old.items from row) }
 {
     let row = rows.remove(from);
     put(rows, place, row);
@@ -189,10 +190,12 @@ fn place_row(rows: &mut Vec<ReadyRow>, place: usize, from: usize)
 /// The row for a queue of this name, where there is no such queue yet, stands where the queue is to stand.
 pub(crate) fn make_way(queues: &[Queue], rows: &mut Vec<ReadyRow>, name: &Name)
     requires order { IsInOrder name_cmp (λ q. q.name) queues.now }
-    requires row { queue_named name.now queues.now ≡ None → length queues.now < length rows.old.items }
-    ensures met { (q : AnyQueue) (needs : AnyQueue → ℕ) → q.name ≡ name.now → ((p : AnyQueue) → p.name ≡ q.name → needs q ≤ needs p)
-        → (queue_named name.now queues.now ≡ None → needs q ≤ slice_index_or (rooms_of rows.old.items) (length queues.now) 0)
-        → AreMet needs queues.now (rooms_of rows.old.items) → AreMet needs (with_queue_put q queues.now) (rooms_of rows.new.items) }
+    requires row { queue_named name.now queues.now ≡ None
+        → length queues.now < length rows.old.items }
+    ensures met { (q : AnyQueue) (needs : AnyQueue → ℕ) → q.name ≡ name.now → NeedsLeast needs q
+        → HasRowIfNew needs q name.now queues.now (rooms_of rows.old.items)
+        → AreMet needs queues.now (rooms_of rows.old.items)
+        → AreMet needs (with_queue_put q queues.now) (rooms_of rows.new.items) }
     ensures count { length rows.new.items ≡ length rows.old.items }
 {
     if let Err(place) = place_of(queues, name) {
@@ -203,7 +206,8 @@ pub(crate) fn make_way(queues: &[Queue], rows: &mut Vec<ReadyRow>, name: &Name)
 // The row at a place stands behind all others.
 fn put_last(rows: &mut Vec<ReadyRow>, place: usize)
     requires { place < length rows.old.items }
-    ensures { (row : Row) → rows.new.items ≡ remove rows.old.items place ++ slice_index_or rows.old.items place row ∷ [] }
+    ensures { (row : Row) → rows.new.items
+        ≡ remove rows.old.items place ++ slice_index_or rows.old.items place row ∷ [] }
 {
     let row = rows.remove(place);
     rows.push_reserved(row);
@@ -213,7 +217,8 @@ fn put_last(rows: &mut Vec<ReadyRow>, place: usize)
 pub(crate) fn close_up(queues: &[Queue], rows: &mut Vec<ReadyRow>, name: &Name)
     requires order { IsInOrder name_cmp (λ q. q.name) queues.now }
     requires rows { length queues.now ≤ length rows.old.items }
-    ensures met { (needs : AnyQueue → ℕ) → AreMet needs queues.now (rooms_of rows.old.items) → AreMet needs (without_queue name.now queues.now) (rooms_of rows.new.items) }
+    ensures met { (needs : AnyQueue → ℕ) → AreMet needs queues.now (rooms_of rows.old.items)
+        → AreMet needs (without_queue name.now queues.now) (rooms_of rows.new.items) }
     ensures count { length rows.new.items ≡ length rows.old.items }
 {
     if let Ok(place) = place_of(queues, name) {

@@ -1,16 +1,16 @@
 // What is asked of the runs.
-ghost use Rattle.std.specs.Prelude.{◌≡◌, ℕ, List, ◌==◌, ◌&&◌, find, filter, filter_map, map, count_by, min};
-ghost use Rattle.std.specs.List.{list_any, reduce};
+ghost use Rattle.std.specs.Prelude.{◌≡◌, ◌==◌, find, filter, count_by, min};
+ghost use Rattle.std.specs.List.{list_any};
 ghost use Rattle.std.specs.Option.{option_copied, option_map, option_map_or};
 ghost use Rattle.std.specs.Ordering.{nat_cmp};
 ghost use Rattle.qm_model.specs.Consistent.{IsInOrder};
-ghost use Rattle.qm_model.specs.Duties.{by_run};
 ghost use Rattle.qm_model.specs.Free.{places_taken};
 ghost use Rattle.qm_model.specs.Queues.{runs_for};
-ghost use Rattle.qm_model.specs.Standing.{occupies, has_run, is_run_on};
+ghost use Rattle.qm_model.specs.Standing.{occupies, has_run};
 ghost use Rattle.qm_model.specs.Stopping.{is_running_in, the_only_one, job_meant};
-ghost use Rattle.qm_parts.specs.ByRun.{entry_on};
+ghost use Rattle.qm_parts.specs.ByRun.{AreByRun};
 ghost use Rattle.qm_parts.specs.Mirror.{Mirrors, is_live_in, is_run_for};
+ghost use Rattle.qm_parts.specs.Runs.{least_entry, running_in, running_on};
 
 use crate::tables::TableSet;
 use qm_entries::EntryTable;
@@ -42,7 +42,7 @@ impl TableSet {
     /// The entry that has the run of a number, where it runs on the node. It asks a logarithm of the runs, and one of the
     /// entries.
     pub fn entry_of_run(&self, run: u64, node: &Name) -> Option<&Entry>
-        ensures { option_copied result ≡ find (λ e. has_run run e && is_run_on node.now e) self.now.entries }
+        ensures { option_copied result ≡ running_on run node.now self.now.entries }
     {
         let Some(found) = self.runs.find(run) else {
             return None;
@@ -55,7 +55,7 @@ impl TableSet {
 
     /// The runs, in order of their numbers. Those of a node are those of the entries that run or are aborting there.
     pub fn runs(&self) -> &[Run]
-        ensures { (node : List ℕ) → filter_map (entry_on node self.now.entries) result.now ≡ by_run (filter (is_run_on node) self.now.entries) }
+        ensures { AreByRun self.now.entries result.now }
     {
         see_order(&self.entries, &self.runs);
         self.runs.as_slice()
@@ -64,7 +64,7 @@ impl TableSet {
     /// The job that runs in the queue and isn't aborting: the one of the number, or the only one. It looks at each run, and
     /// asks a logarithm of the entries for each one of the queue.
     pub fn running_in(&self, queue: &Name, number: Option<u32>) -> Option<&Entry>
-        ensures { option_copied result ≡ job_meant number (filter (λ e. is_running_in queue.now e.state) self.now.entries) }
+        ensures { option_copied result ≡ job_meant number (running_in queue.now self.now.entries) }
     {
         see_order(&self.entries, &self.runs);
         match number {
@@ -117,7 +117,8 @@ fn is_live_in(entries: &EntryTable, queue: &Name, run: &Run) -> bool
 
 // The job of the number, if it runs in the queue and isn't aborting.
 fn running_numbered<'a>(entries: &'a EntryTable, queue: &Name, number: u32) -> Option<&'a Entry>
-    ensures { option_copied result ≡ find (λ e. e.number == number) (filter (λ e. is_running_in queue.now e.state) entries.now.entries) }
+    ensures { option_copied result
+        ≡ find (λ e. e.number == number) (running_in queue.now entries.now.entries) }
 {
     let Some(entry) = entries.get(number) else {
         return None;
@@ -158,7 +159,7 @@ fn first_live<'a>(entries: &EntryTable, runs: &'a [Run], queue: &Name) -> Option
 fn only_running<'a>(entries: &'a EntryTable, runs: &[Run], queue: &Name) -> Option<&'a Entry>
     requires mirror { Mirrors runs.now entries.now.entries }
     requires in_order { IsInOrder nat_cmp (λ e. e.number) entries.now.entries }
-    ensures { option_copied result ≡ the_only_one (filter (λ e. is_running_in queue.now e.state) entries.now.entries) }
+    ensures { option_copied result ≡ the_only_one (running_in queue.now entries.now.entries) }
 {
     if count_live(entries, runs, queue) != 1 {
         return None;
@@ -194,7 +195,7 @@ pub(crate) fn lesser(least: Option<u32>, number: u32) -> u32
 
 // The least number of an entry whose run is for the queue.
 fn least_of_runs(entries: &EntryTable, runs: &[Run], queue: &Name) -> Option<u32>
-    ensures { result ≡ reduce min (map (λ r. r.entry) (filter (is_run_for entries.now.entries queue.now) runs.now)) }
+    ensures { result ≡ least_entry (filter (is_run_for entries.now.entries queue.now) runs.now) }
 {
     let mut least = None;
     for run in runs {

@@ -5,9 +5,7 @@ ghost use Rattle.std.specs.Ordering.{nat_cmp};
 ghost use Rattle.qm_model.specs.Consistent.{IsInOrder};
 ghost use Rattle.qm_model.specs.Find.{name_cmp, queue_named, entry_numbered};
 ghost use Rattle.qm_entries.specs.Boxed.{contents};
-ghost use Rattle.qm_entries.specs.Entries.{entry_after};
 ghost use Rattle.qm_entries.specs.Tags.{tags_of};
-ghost use Rattle.qm_queues.specs.Queues.{queue_after};
 
 use crate::names::place_of;
 use qm_entries::EntryTable;
@@ -153,15 +151,6 @@ impl TableSet {
         }
     }
 
-    /// The queue of the least name that is greater than this one, or of the least name where none is given. It asks a
-    /// logarithm of the queues.
-    pub fn queue_after(&self, name: Option<&Name>) -> Option<&Queue>
-        ensures next { option_copied result ≡ queue_after (option_copied name.entry) self.now.queues }
-        ensures in_order { IsInOrder name_cmp (λ q. q.name) self.now.queues }
-    {
-        self.queues.after(name)
-    }
-
     /// The entries, in order of their numbers.
     pub fn entries(&self) -> &[Box<Entry>]
         ensures { contents result.now ≡ self.now.entries }
@@ -189,14 +178,6 @@ impl TableSet {
         ensures in_order { IsInOrder nat_cmp (λ e. e.number) self.now.entries }
     {
         self.entries.get(number)
-    }
-
-    /// The entry of the least number that is greater than this one. It asks a logarithm of the entries.
-    pub fn entry_after(&self, number: u32) -> Option<&Entry>
-        ensures next { option_copied result ≡ entry_after number self.now.entries }
-        ensures in_order { IsInOrder nat_cmp (λ e. e.number) self.now.entries }
-    {
-        self.entries.after(number)
     }
 
     /// The number of the next run.

@@ -1,8 +1,8 @@
 // The moments that entries wait for, and those until which they are kept.
-ghost use Rattle.std.specs.Prelude.{◌≡◌, ◌==◌, ◌≤◌, ◌<◌, ◌+◌, ℕ, nat_lt, None, Some, IfSome, OnErr, OnOk, if◌then◌else◌, length, not};
-ghost use Rattle.std.specs.Option.{option_and_then};
-ghost use Rattle.qm_parts.specs.Timing.{is_at_home};
-ghost use Rattle.qm_timers.specs.Timers.{later_than, moment_of, with_timer};
+ghost use Rattle.std.specs.Prelude.{◌≡◌, ◌≤◌, ◌<◌, IfSome, OnErr, OnOk};
+ghost use Rattle.qm_parts.specs.Spare.{KeepsTimerRoom};
+ghost use Rattle.qm_parts.specs.Timing.{KeepsTimersElsewhere, is_at_home};
+ghost use Rattle.qm_timers.specs.Timers.{later_than, with_timer, KeepsLater, SetsMoment};
 
 use crate::parts::Parts;
 use crate::tables::TableSet;
@@ -45,18 +45,24 @@ impl TableSet {
     /// Gives a number a timer for a moment, for which there is room, in place of any other; or none.
     pub fn set_timer(&mut self, number: u32, at: Option<Moment>)
         requires room { IfSome at (λ _. 0 < self.old.spare_timers) }
-        ensures tables { self.new ≡ record self.old { timers = with_timer number at self.old.timers; spare_timers = self.new.spare_timers } }
-        ensures each { (other : ℕ) → moment_of other self.new.timers ≡ (if number == other then at else moment_of other self.old.timers) }
-        ensures room { self.new.spare_timers + length self.new.timers ≡ self.old.spare_timers + length self.old.timers }
+        ensures tables { self.new ≡ record self.old {
+          timers = with_timer number at self.old.timers;
+          spare_timers = self.new.spare_timers;
+        } }
+        ensures each { SetsMoment number at self.old.timers self.new.timers }
+        ensures room { KeepsTimerRoom self.old self.new }
     {
         self.timers.set(number, at);
     }
 
     /// Takes out the timers whose moment has come. It looks at each timer once in both lists.
     pub fn remove_due_timers(&mut self, now: Moment)
-        ensures tables { self.new ≡ record self.old { timers = later_than now self.old.timers; spare_timers = self.new.spare_timers } }
-        ensures each { (number : ℕ) → moment_of number self.new.timers ≡ option_and_then (λ at. if nat_lt now at then Some at else None) (moment_of number self.old.timers) }
-        ensures room { self.new.spare_timers + length self.new.timers ≡ self.old.spare_timers + length self.old.timers }
+        ensures tables { self.new ≡ record self.old {
+          timers = later_than now self.old.timers;
+          spare_timers = self.new.spare_timers;
+        } }
+        ensures each { KeepsLater now self.old.timers self.new.timers }
+        ensures room { KeepsTimerRoom self.old self.new }
     {
         self.timers.remove_due(now);
     }
@@ -64,9 +70,12 @@ impl TableSet {
     /// Takes out the timers of the entries that have this queue as their home. It asks a logarithm of the entries for each
     /// timer in both lists.
     pub fn remove_timers_of(&mut self, home: &Name)
-        ensures tables { self.new ≡ record self.old { timers = self.new.timers; spare_timers = self.new.spare_timers } }
-        ensures each { (number : ℕ) → moment_of number self.new.timers ≡ (if not (is_at_home number home.now self.old.entries) then moment_of number self.old.timers else None) }
-        ensures room { self.new.spare_timers + length self.new.timers ≡ self.old.spare_timers + length self.old.timers }
+        ensures tables { self.new ≡ record self.old {
+          timers = self.new.timers;
+          spare_timers = self.new.spare_timers;
+        } }
+        ensures each { KeepsTimersElsewhere home.now self.old self.new }
+        ensures room { KeepsTimerRoom self.old self.new }
     {
         let entries = &self.entries;
         self.timers
@@ -107,18 +116,24 @@ impl Parts {
     /// one, nothing is moved.
     pub fn set_timer(&mut self, number: u32, at: Option<Moment>)
         requires room { IfSome at (λ _. 0 < self.old.spare_timers) }
-        ensures tables { self.new ≡ record self.old { timers = with_timer number at self.old.timers; spare_timers = self.new.spare_timers } }
-        ensures each { (other : ℕ) → moment_of other self.new.timers ≡ (if number == other then at else moment_of other self.old.timers) }
-        ensures room { self.new.spare_timers + length self.new.timers ≡ self.old.spare_timers + length self.old.timers }
+        ensures tables { self.new ≡ record self.old {
+          timers = with_timer number at self.old.timers;
+          spare_timers = self.new.spare_timers;
+        } }
+        ensures each { SetsMoment number at self.old.timers self.new.timers }
+        ensures room { KeepsTimerRoom self.old self.new }
     {
         self.tables.set_timer(number, at);
     }
 
     /// Takes out the timers whose moment has come. It looks at each timer once in both lists.
     pub fn remove_due_timers(&mut self, now: Moment)
-        ensures tables { self.new ≡ record self.old { timers = later_than now self.old.timers; spare_timers = self.new.spare_timers } }
-        ensures each { (number : ℕ) → moment_of number self.new.timers ≡ option_and_then (λ at. if nat_lt now at then Some at else None) (moment_of number self.old.timers) }
-        ensures room { self.new.spare_timers + length self.new.timers ≡ self.old.spare_timers + length self.old.timers }
+        ensures tables { self.new ≡ record self.old {
+          timers = later_than now self.old.timers;
+          spare_timers = self.new.spare_timers;
+        } }
+        ensures each { KeepsLater now self.old.timers self.new.timers }
+        ensures room { KeepsTimerRoom self.old self.new }
     {
         self.tables.remove_due_timers(now);
     }
@@ -126,9 +141,12 @@ impl Parts {
     /// Takes out the timers of the entries that have this queue as their home. It asks a logarithm of the entries for each
     /// timer in both lists.
     pub fn remove_timers_of(&mut self, home: &Name)
-        ensures tables { self.new ≡ record self.old { timers = self.new.timers; spare_timers = self.new.spare_timers } }
-        ensures each { (number : ℕ) → moment_of number self.new.timers ≡ (if not (is_at_home number home.now self.old.entries) then moment_of number self.old.timers else None) }
-        ensures room { self.new.spare_timers + length self.new.timers ≡ self.old.spare_timers + length self.old.timers }
+        ensures tables { self.new ≡ record self.old {
+          timers = self.new.timers;
+          spare_timers = self.new.spare_timers;
+        } }
+        ensures each { KeepsTimersElsewhere home.now self.old self.new }
+        ensures room { KeepsTimerRoom self.old self.new }
     {
         self.tables.remove_timers_of(home);
     }

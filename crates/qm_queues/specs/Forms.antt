@@ -1,5 +1,5 @@
 -- Forms and characteristics: what the callers of their table see, and what a deletion makes of it.
-use Rattle.std.specs.Prelude.{ℕ, not, List, filter}
+use Rattle.std.specs.Prelude.{◌≡◌, ◌+◌, ℕ, not, List, length, filter}
 use Rattle.std.specs.Str.{bytes_eq}
 use Rattle.qm_kinds.specs.declared.form.Form.{Form}
 use Rattle.qm_kinds.specs.declared.form.Characteristic.{Characteristic}
@@ -18,3 +18,12 @@ without_form name forms = filter (λ f. not (bytes_eq f.name name)) forms
 -- the characteristics but that of a name
 abbrev pub without_characteristic : List ℕ → List Characteristic → List Characteristic
 without_characteristic name defined = filter (λ c. not (bytes_eq c.name name)) defined
+
+-- the room of forms that went is room for others
+abbrev pub KeepsFormRoom : Defined → Defined → Type 0
+KeepsFormRoom old new = new.spare_forms + length new.forms ≡ old.spare_forms + length old.forms
+
+-- the room of characteristics that went is room for others
+abbrev pub KeepsCharacteristicRoom : Defined → Defined → Type 0
+KeepsCharacteristicRoom old new =
+    new.spare_characteristics + length new.characteristics ≡ old.spare_characteristics + length old.characteristics

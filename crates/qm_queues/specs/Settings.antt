@@ -20,3 +20,7 @@ with_settings given q = record q {
 -- the same, with this state where one is given
 abbrev pub with_settings_and_state : Settings → Option QueueState → Queue → Queue
 with_settings_and_state given state q = record (with_settings given q) { state = unwrap_or state q.state }
+
+-- the queue in this state
+abbrev pub with_state : QueueState → Queue → Queue
+with_state state q = record q { state = state }

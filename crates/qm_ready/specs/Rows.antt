@@ -1,5 +1,5 @@
 -- The keys of the jobs that a queue can take, in the order of starts: what callers see, and what the calls make of it.
-use Rattle.std.specs.Prelude.{◌≡◌, ◌≢◌, ℕ, ◌==◌, Bool, true, false, not, ◌&&◌, List, [], ◌∷◌, Option, None, Some, find, filter, AllPairs}
+use Rattle.std.specs.Prelude.{◌≡◌, ◌≢◌, ℕ, ◌+◌, ◌==◌, Bool, true, false, not, ◌&&◌, List, [], ◌∷◌, length, Option, None, Some, find, filter, AllPairs}
 use Rattle.std.specs.Option.{option_map, option_map_or}
 use Rattle.qm_match.specs.declared.order.Key.{Key}
 use Rattle.qm_match.specs.declared.order.Schedule.{Schedule}
@@ -24,6 +24,14 @@ pub record IsRow (schedule : Schedule) (keys : List Key) : Type 0 where
 -- the key of a number, if it is among these
 abbrev pub key_numbered : ℕ → List Key → Option Key
 key_numbered number keys = find (λ k. k.number == number) keys
+
+-- each number has the same key among both
+abbrev pub HaveSameKeys : List Key → List Key → Type 0
+HaveSameKeys old new = (number : ℕ) → key_numbered number new ≡ key_numbered number old
+
+-- both have room for as many keys, those that are there among them
+abbrev pub HasSameRoom : Row → Row → Type 0
+HasSameRoom old new = length new.keys + new.spare ≡ length old.keys + old.spare
 
 -- both are the same key
 abbrev pub is_key : Key → Key → Bool

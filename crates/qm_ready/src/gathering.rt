@@ -1,6 +1,6 @@
 // Keys that are to become a row.
-ghost use Rattle.std.specs.Prelude.{◌≡◌, ℕ, ◌+◌, ◌-◌, ◌<◌, ◌≤◌, ◌++◌, ◌∷◌, [], length};
-ghost use Rattle.qm_ready.specs.Rows.{HasNumbersOnce, IsRow, key_numbered};
+ghost use Rattle.std.specs.Prelude.{◌≡◌, ◌+◌, ◌-◌, ◌<◌, ◌≤◌, ◌++◌, ◌∷◌, [], length};
+ghost use Rattle.qm_ready.specs.Rows.{HasNumbersOnce, IsRow, HaveSameKeys};
 
 use crate::row::ReadyRow;
 use crate::tiers::Tiers;
@@ -31,7 +31,11 @@ impl Gathering {
     // No key, in the room of others.
     pub(crate) fn over(keys: Tiers, spare: usize, schedule: Schedule) -> Gathering
         requires { length keys.list + spare ≤ keys.capacity }
-        ensures { result ≡ record { schedule = schedule; keys = []; spare = spare + length keys.list } }
+        ensures { result ≡ record {
+          schedule = schedule;
+          keys = [];
+          spare = spare + length keys.list;
+        } }
     {
         let mut keys = keys;
         let spare = spare + keys.len();
@@ -46,7 +50,10 @@ impl Gathering {
     /// One key more, for which there is room.
     pub fn add(&mut self, key: Key)
         requires { 0 < self.old.spare }
-        ensures { self.new ≡ record self.old { keys = self.old.keys ++ key ∷ []; spare = self.old.spare - 1 } }
+        ensures { self.new ≡ record self.old {
+          keys = self.old.keys ++ key ∷ [];
+          spare = self.old.spare - 1;
+        } }
     {
         self.keys.insert(self.keys.len(), key);
         self.spare -= 1;
@@ -56,7 +63,7 @@ impl Gathering {
     pub fn into_row(self) -> ReadyRow
         requires { HasNumbersOnce self.keys }
         ensures schedule { result.schedule ≡ self.schedule }
-        ensures each { (number : ℕ) → key_numbered number result.keys ≡ key_numbered number self.keys }
+        ensures each { HaveSameKeys self.keys result.keys }
         ensures spare { result.spare ≡ self.spare }
         ensures room { length result.keys ≡ length self.keys }
         ensures in_order { IsRow result.schedule result.keys }

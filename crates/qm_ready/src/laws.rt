@@ -23,7 +23,8 @@ pub fn numbers_determine_the_row()
 /// The first key of the row of those jobs that fit a queue is that of the job which the queue starts next.
 pub fn the_first_key_is_the_next_job()
     ensures { (s : System) (q : Queue) (keys : List Key) → IsInOrder nat_cmp (λ e. e.number) s.entries
-        → IsRowOf (schedule_of q) (fitting s q) keys → first_number keys ≡ option_map (λ e. e.number) (next_job s q) }
+        → IsRowOf (schedule_of q) (fitting s q) keys
+        → first_number keys ≡ option_map (λ e. e.number) (next_job s q) }
 {}
 
 /// There are no more keys than entries, where each number that has a key is that of an entry.

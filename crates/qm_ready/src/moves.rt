@@ -2,6 +2,7 @@
 ghost use Rattle.std.specs.Prelude.{◌≡◌, ◌+◌, ◌-◌, ◌*◌, ◌/◌, ◌%◌, ◌<◌, ◌≤◌, false, length, All, insert, slice_set, slice_index, slice_index_or, vec_len, vec_capacity};
 ghost use Rattle.qm_match.specs.declared.order.Key.{Key};
 ghost use Rattle.qm_ready.specs.Tiers.{AreSlots, IsInFront, IsInRing, IsSlot, IsTiered, laid};
+ghost use Rattle.qm_ready.specs.Moving.{MovesKeys};
 ghost use Rattle.qm_ready.specs.declared.moves.TheConstants.{TIER};
 
 use crate::runs::{pull_run, push_run};
@@ -109,7 +110,8 @@ fn push_on(keys: &mut Vec<Key>, heads: &[usize], from: usize, to: usize, key: Ke
     requires tiered { IsTiered TIER heads.now keys.old.items }
     requires order { from ≤ to }
     requires within { to ≤ length heads.now * TIER }
-    ensures moved { insert (laid TIER heads.now keys.new.items) to result ≡ insert (laid TIER heads.now keys.old.items) from key }
+    ensures moved { insert (laid TIER heads.now keys.new.items) to result
+        ≡ insert (laid TIER heads.now keys.old.items) from key }
     ensures len { length keys.new.items ≡ length keys.old.items }
     ensures capacity { vec_capacity keys.new ≡ vec_capacity keys.old }
 {
@@ -128,7 +130,8 @@ fn pull_back(keys: &mut Vec<Key>, heads: &[usize], from: usize, to: usize, key: 
     requires tiered { IsTiered TIER heads.now keys.old.items }
     requires order { to ≤ from }
     requires within { from ≤ length heads.now * TIER }
-    ensures moved { insert (laid TIER heads.now keys.new.items) to result ≡ insert (laid TIER heads.now keys.old.items) from key }
+    ensures moved { insert (laid TIER heads.now keys.new.items) to result
+        ≡ insert (laid TIER heads.now keys.old.items) from key }
     ensures len { length keys.new.items ≡ length keys.old.items }
     ensures capacity { vec_capacity keys.new ≡ vec_capacity keys.old }
 {
@@ -154,13 +157,8 @@ fn head_of(heads: &Vec<usize>, tier: usize) -> usize
 fn turn_on(keys: &mut Vec<Key>, heads: &mut Vec<usize>, tier: usize, key: Key) -> Key
     requires tiered { IsTiered TIER heads.old.items keys.old.items }
     requires within { tier < length heads.old.items }
-    ensures moved { insert (laid TIER heads.new.items keys.new.items) (tier * TIER + TIER) result
-        ≡ insert (laid TIER heads.old.items keys.old.items) (tier * TIER) key }
-    ensures tiered { IsTiered TIER heads.new.items keys.new.items }
-    ensures tiers { length heads.new.items ≡ length heads.old.items }
-    ensures len { length keys.new.items ≡ length keys.old.items }
-    ensures capacity { vec_capacity keys.new ≡ vec_capacity keys.old }
-    ensures heads_capacity { vec_capacity heads.new ≡ vec_capacity heads.old }
+    ensures { MovesKeys keys.old heads.old keys.new heads.new
+        (tier * TIER) key (tier * TIER + TIER) result }
 {
     let head = in_front(head_of(heads, tier));
     heads[tier] = head;
@@ -171,13 +169,8 @@ fn turn_on(keys: &mut Vec<Key>, heads: &mut Vec<usize>, tier: usize, key: Key) -
 fn turn_back(keys: &mut Vec<Key>, heads: &mut Vec<usize>, tier: usize, key: Key) -> Key
     requires tiered { IsTiered TIER heads.old.items keys.old.items }
     requires within { tier < length heads.old.items }
-    ensures moved { insert (laid TIER heads.new.items keys.new.items) (tier * TIER) result
-        ≡ insert (laid TIER heads.old.items keys.old.items) (tier * TIER + TIER) key }
-    ensures tiered { IsTiered TIER heads.new.items keys.new.items }
-    ensures tiers { length heads.new.items ≡ length heads.old.items }
-    ensures len { length keys.new.items ≡ length keys.old.items }
-    ensures capacity { vec_capacity keys.new ≡ vec_capacity keys.old }
-    ensures heads_capacity { vec_capacity heads.new ≡ vec_capacity heads.old }
+    ensures { MovesKeys keys.old heads.old keys.new heads.new
+        (tier * TIER + TIER) key (tier * TIER) result }
 {
     let head = head_of(heads, tier);
     heads[tier] = behind(head);
@@ -189,13 +182,7 @@ fn ripple_on(keys: &mut Vec<Key>, heads: &mut Vec<usize>, from: usize, to: usize
     requires tiered { IsTiered TIER heads.old.items keys.old.items }
     requires order { from ≤ to }
     requires within { to ≤ length heads.old.items }
-    ensures moved { insert (laid TIER heads.new.items keys.new.items) (to * TIER) result
-        ≡ insert (laid TIER heads.old.items keys.old.items) (from * TIER) key }
-    ensures tiered { IsTiered TIER heads.new.items keys.new.items }
-    ensures tiers { length heads.new.items ≡ length heads.old.items }
-    ensures len { length keys.new.items ≡ length keys.old.items }
-    ensures capacity { vec_capacity keys.new ≡ vec_capacity keys.old }
-    ensures heads_capacity { vec_capacity heads.new ≡ vec_capacity heads.old }
+    ensures { MovesKeys keys.old heads.old keys.new heads.new (from * TIER) key (to * TIER) result }
 {
     let mut carry = key;
     let mut tier = from;
@@ -211,13 +198,7 @@ fn ripple_back(keys: &mut Vec<Key>, heads: &mut Vec<usize>, from: usize, to: usi
     requires tiered { IsTiered TIER heads.old.items keys.old.items }
     requires order { to ≤ from }
     requires within { from ≤ length heads.old.items }
-    ensures moved { insert (laid TIER heads.new.items keys.new.items) (to * TIER) result
-        ≡ insert (laid TIER heads.old.items keys.old.items) (from * TIER) key }
-    ensures tiered { IsTiered TIER heads.new.items keys.new.items }
-    ensures tiers { length heads.new.items ≡ length heads.old.items }
-    ensures len { length keys.new.items ≡ length keys.old.items }
-    ensures capacity { vec_capacity keys.new ≡ vec_capacity keys.old }
-    ensures heads_capacity { vec_capacity heads.new ≡ vec_capacity heads.old }
+    ensures { MovesKeys keys.old heads.old keys.new heads.new (from * TIER) key (to * TIER) result }
 {
     let mut carry = key;
     let mut tier = from;
@@ -239,13 +220,8 @@ fn is_near_front(place: usize) -> bool
 fn enter(keys: &mut Vec<Key>, heads: &mut Vec<usize>, place: usize, key: Key) -> Key
     requires tiered { IsTiered TIER heads.old.items keys.old.items }
     requires within { place < length heads.old.items * TIER }
-    ensures moved { insert (laid TIER heads.new.items keys.new.items) ((place / TIER + 1) * TIER) result
-        ≡ insert (laid TIER heads.old.items keys.old.items) place key }
-    ensures tiered { IsTiered TIER heads.new.items keys.new.items }
-    ensures tiers { length heads.new.items ≡ length heads.old.items }
-    ensures len { length keys.new.items ≡ length keys.old.items }
-    ensures capacity { vec_capacity keys.new ≡ vec_capacity keys.old }
-    ensures heads_capacity { vec_capacity heads.new ≡ vec_capacity heads.old }
+    ensures { MovesKeys keys.old heads.old keys.new heads.new
+        place key ((place / TIER + 1) * TIER) result }
 {
     let tier = place / TIER;
     if is_near_front(place) {
@@ -259,13 +235,8 @@ fn enter(keys: &mut Vec<Key>, heads: &mut Vec<usize>, place: usize, key: Key) ->
 fn leave(keys: &mut Vec<Key>, heads: &mut Vec<usize>, place: usize, key: Key) -> Key
     requires tiered { IsTiered TIER heads.old.items keys.old.items }
     requires within { place < length heads.old.items * TIER }
-    ensures moved { insert (laid TIER heads.new.items keys.new.items) place result
-        ≡ insert (laid TIER heads.old.items keys.old.items) ((place / TIER + 1) * TIER) key }
-    ensures tiered { IsTiered TIER heads.new.items keys.new.items }
-    ensures tiers { length heads.new.items ≡ length heads.old.items }
-    ensures len { length keys.new.items ≡ length keys.old.items }
-    ensures capacity { vec_capacity keys.new ≡ vec_capacity keys.old }
-    ensures heads_capacity { vec_capacity heads.new ≡ vec_capacity heads.old }
+    ensures { MovesKeys keys.old heads.old keys.new heads.new
+        ((place / TIER + 1) * TIER) key place result }
 {
     let tier = place / TIER;
     if is_near_front(place) {
@@ -279,13 +250,8 @@ fn leave(keys: &mut Vec<Key>, heads: &mut Vec<usize>, place: usize, key: Key) ->
 fn arrive(keys: &mut Vec<Key>, heads: &mut Vec<usize>, place: usize, key: Key) -> Key
     requires tiered { IsTiered TIER heads.old.items keys.old.items }
     requires within { place ≤ length heads.old.items * TIER }
-    ensures moved { insert (laid TIER heads.new.items keys.new.items) place result
-        ≡ insert (laid TIER heads.old.items keys.old.items) (place / TIER * TIER) key }
-    ensures tiered { IsTiered TIER heads.new.items keys.new.items }
-    ensures tiers { length heads.new.items ≡ length heads.old.items }
-    ensures len { length keys.new.items ≡ length keys.old.items }
-    ensures capacity { vec_capacity keys.new ≡ vec_capacity keys.old }
-    ensures heads_capacity { vec_capacity heads.new ≡ vec_capacity heads.old }
+    ensures { MovesKeys keys.old heads.old keys.new heads.new
+        (place / TIER * TIER) key place result }
 {
     let tier = place / TIER;
     if is_near_front(place) {
@@ -299,13 +265,8 @@ fn arrive(keys: &mut Vec<Key>, heads: &mut Vec<usize>, place: usize, key: Key) -
 fn depart(keys: &mut Vec<Key>, heads: &mut Vec<usize>, place: usize, key: Key) -> Key
     requires tiered { IsTiered TIER heads.old.items keys.old.items }
     requires within { place ≤ length heads.old.items * TIER }
-    ensures moved { insert (laid TIER heads.new.items keys.new.items) (place / TIER * TIER) result
-        ≡ insert (laid TIER heads.old.items keys.old.items) place key }
-    ensures tiered { IsTiered TIER heads.new.items keys.new.items }
-    ensures tiers { length heads.new.items ≡ length heads.old.items }
-    ensures len { length keys.new.items ≡ length keys.old.items }
-    ensures capacity { vec_capacity keys.new ≡ vec_capacity keys.old }
-    ensures heads_capacity { vec_capacity heads.new ≡ vec_capacity heads.old }
+    ensures { MovesKeys keys.old heads.old keys.new heads.new
+        place key (place / TIER * TIER) result }
 {
     let tier = place / TIER;
     if is_near_front(place) {
@@ -327,13 +288,7 @@ pub(crate) fn pass_on(
     requires tiered { IsTiered TIER heads.old.items keys.old.items }
     requires order { from ≤ to }
     requires within { to ≤ length heads.old.items * TIER }
-    ensures moved { insert (laid TIER heads.new.items keys.new.items) to result
-        ≡ insert (laid TIER heads.old.items keys.old.items) from key }
-    ensures tiered { IsTiered TIER heads.new.items keys.new.items }
-    ensures tiers { length heads.new.items ≡ length heads.old.items }
-    ensures len { length keys.new.items ≡ length keys.old.items }
-    ensures capacity { vec_capacity keys.new ≡ vec_capacity keys.old }
-    ensures heads_capacity { vec_capacity heads.new ≡ vec_capacity heads.old }
+    ensures { MovesKeys keys.old heads.old keys.new heads.new from key to result }
 {
     if from / TIER == to / TIER {
         return push_on(keys, heads, from, to, key);
@@ -355,13 +310,7 @@ pub(crate) fn pass_back(
     requires tiered { IsTiered TIER heads.old.items keys.old.items }
     requires order { to ≤ from }
     requires within { from ≤ length heads.old.items * TIER }
-    ensures moved { insert (laid TIER heads.new.items keys.new.items) to result
-        ≡ insert (laid TIER heads.old.items keys.old.items) from key }
-    ensures tiered { IsTiered TIER heads.new.items keys.new.items }
-    ensures tiers { length heads.new.items ≡ length heads.old.items }
-    ensures len { length keys.new.items ≡ length keys.old.items }
-    ensures capacity { vec_capacity keys.new ≡ vec_capacity keys.old }
-    ensures heads_capacity { vec_capacity heads.new ≡ vec_capacity heads.old }
+    ensures { MovesKeys keys.old heads.old keys.new heads.new from key to result }
 {
     if from / TIER == to / TIER {
         return pull_back(keys, heads, from, to, key);

@@ -12,7 +12,8 @@ use qm_match::{Key, Schedule, before};
 // Whether the key at a place comes before another one.
 fn is_before_at(keys: &Tiers, schedule: Schedule, key: &Key, place: usize) -> bool
     requires { place < length keys.now.list }
-    ensures { (d : Key) → result ≡ comes_before schedule (slice_index_or keys.now.list place d) key.now }
+    ensures { (d : Key)
+        → result ≡ comes_before schedule (slice_index_or keys.now.list place d) key.now }
 {
     match keys.get(place) {
         None => false,

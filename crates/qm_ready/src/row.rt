@@ -1,8 +1,8 @@
 // The row of a queue.
-ghost use Rattle.std.specs.Prelude.{◌≡◌, ℕ, ◌+◌, ◌-◌, ◌<◌, ◌≤◌, ◌==◌, ◌&&◌, false, List, [], length, All, Option, None, Some, IfSome, OnErr, OnOk, if◌then◌else◌, slice_get};
+ghost use Rattle.std.specs.Prelude.{◌≡◌, ℕ, ◌+◌, ◌-◌, ◌<◌, ◌≤◌, ◌==◌, ◌&&◌, false, [], length, All, None, Some, IfSome, OnErr, OnOk, if◌then◌else◌, slice_get};
 ghost use Rattle.std.specs.Option.{option_copied};
 ghost use Rattle.qm_match.specs.Keys.{comes_before};
-ghost use Rattle.qm_ready.specs.Rows.{IsRow, first_key, first_number, has_key, key_numbered, with_key, without};
+ghost use Rattle.qm_ready.specs.Rows.{IsRow, first_key, first_number, has_key, key_numbered, with_key, without, HasSameRoom, HaveSameKeys};
 
 use crate::gathering::Gathering;
 use crate::places::{place_beside, place_of, stands_at};
@@ -88,7 +88,7 @@ impl ReadyRow {
         } }
         ensures each { (number : ℕ) → key_numbered number self.new.keys
             ≡ (if key.number == number then Some key else key_numbered number self.old.keys) }
-        ensures room { length self.new.keys + self.new.spare ≡ length self.old.keys + self.old.spare }
+        ensures room { HasSameRoom self.old self.new }
         ensures in_order { IsRow self.new.schedule self.new.keys }
     {
         let place = place_of(&self.keys, self.schedule, &key);
@@ -105,8 +105,9 @@ impl ReadyRow {
           spare = self.old.spare + 1;
         } else self.old) }
         ensures each { (number : ℕ) → key_numbered number self.new.keys
-            ≡ (if result && key.now.number == number then None else key_numbered number self.old.keys) }
-        ensures room { length self.new.keys + self.new.spare ≡ length self.old.keys + self.old.spare }
+            ≡ (if result && key.now.number == number then None
+            else key_numbered number self.old.keys) }
+        ensures room { HasSameRoom self.old self.new }
         ensures in_order { IsRow self.new.schedule self.new.keys }
     {
         let place = place_of(&self.keys, self.schedule, key);
@@ -127,8 +128,9 @@ impl ReadyRow {
           keys = with_key self.old.schedule key (without key.number self.old.keys);
         } else self.old) }
         ensures each { (number : ℕ) → key_numbered number self.new.keys
-            ≡ (if result && key.number == number then Some key else key_numbered number self.old.keys) }
-        ensures room { length self.new.keys + self.new.spare ≡ length self.old.keys + self.old.spare }
+            ≡ (if result && key.number == number then Some key
+            else key_numbered number self.old.keys) }
+        ensures room { HasSameRoom self.old self.new }
         ensures in_order { IsRow self.new.schedule self.new.keys }
     {
         let from = place_of(&self.keys, self.schedule, old);
@@ -157,7 +159,7 @@ impl ReadyRow {
     /// Puts the same keys in the order of another schedule. It takes no memory.
     pub fn rebuild(&mut self, schedule: Schedule)
         ensures schedule { self.new.schedule ≡ schedule }
-        ensures each { (number : ℕ) → key_numbered number self.new.keys ≡ key_numbered number self.old.keys }
+        ensures each { HaveSameKeys self.old.keys self.new.keys }
         ensures spare { self.new.spare ≡ self.old.spare }
         ensures in_order { IsRow self.new.schedule self.new.keys }
     {
@@ -167,7 +169,11 @@ impl ReadyRow {
 
     /// Lets all keys go, and keeps their room, so that others can be gathered there.
     pub fn gather(self, schedule: Schedule) -> Gathering
-        ensures { result ≡ record { schedule = schedule; keys = []; spare = self.spare + length self.keys } }
+        ensures { result ≡ record {
+          schedule = schedule;
+          keys = [];
+          spare = self.spare + length self.keys;
+        } }
     {
         let ReadyRow {
             schedule: _,

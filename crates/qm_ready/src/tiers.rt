@@ -1,11 +1,10 @@
 // A list of keys in tiers.
-ghost use Rattle.std.specs.Prelude.{◌≡◌, ℕ, ◌+◌, ◌*◌, ◌^◌, ◌<◌, ◌≤◌, [], length, All, OnErr, OnOk, insert, remove, take, drop, ◌++◌, slice_get, slice_index_or, vec_len, vec_capacity};
+ghost use Rattle.std.specs.Prelude.{◌≡◌, ◌+◌, ◌*◌, ◌^◌, ◌<◌, ◌≤◌, [], length, All, OnErr, OnOk, insert, remove, take, drop, ◌++◌, slice_get, slice_index_or, vec_len, vec_capacity};
 ghost use Rattle.std.specs.Option.{option_copied};
-ghost use Rattle.std.specs.List.Sorted.{IsPermutation, IsSortedBy};
 ghost use Rattle.qm_match.specs.declared.order.Key.{Key};
-ghost use Rattle.qm_match.specs.Keys.{comes_before};
-ghost use Rattle.qm_ready.specs.Rows.{HasNumbersOnce, IsRow, key_numbered};
+ghost use Rattle.qm_ready.specs.Rows.{HasNumbersOnce, IsRow, HaveSameKeys};
 ghost use Rattle.qm_ready.specs.Tiers.{IsTiered, laid, turned};
+ghost use Rattle.qm_ready.specs.Moving.{MovesKeys};
 ghost use Rattle.qm_ready.specs.declared.moves.TheConstants.{TIER};
 
 use crate::moves::{TIER, pass_back, pass_on, slot_of};
@@ -62,7 +61,8 @@ fn insert(keys: &mut Vec<Key>, heads: &mut Vec<usize>, place: usize, key: Key)
     requires tiered { IsTiered TIER heads.old.items keys.old.items }
     requires within { place ≤ length keys.old.items }
     requires room { length keys.old.items < vec_capacity keys.old }
-    ensures list { laid TIER heads.new.items keys.new.items ≡ insert (laid TIER heads.old.items keys.old.items) place key }
+    ensures list { laid TIER heads.new.items keys.new.items
+        ≡ insert (laid TIER heads.old.items keys.old.items) place key }
     ensures within { All (λ h. h < TIER) heads.new.items }
     ensures tiers { length heads.new.items ≡ length heads.old.items }
     ensures len { length keys.new.items ≡ length keys.old.items + 1 }
@@ -97,7 +97,8 @@ fn close(keys: &[Key], heads: &mut Vec<usize>)
 fn turn(keys: &mut Vec<Key>, base: usize, head: usize)
     requires base { base ≤ length keys.old.items }
     requires head { base + head ≤ length keys.old.items }
-    ensures items { keys.new.items ≡ take base keys.old.items ++ turned head (drop base keys.old.items) }
+    ensures items { keys.new.items
+        ≡ take base keys.old.items ++ turned head (drop base keys.old.items) }
     ensures len { vec_len keys.new ≡ vec_len keys.old }
     ensures capacity { vec_capacity keys.new ≡ vec_capacity keys.old }
 {
@@ -108,7 +109,8 @@ fn turn(keys: &mut Vec<Key>, base: usize, head: usize)
 fn open(keys: &mut Vec<Key>, heads: &mut Vec<usize>)
     requires tiered { IsTiered TIER heads.old.items keys.old.items }
     requires some { 0 < length keys.old.items }
-    ensures list { laid TIER heads.new.items keys.new.items ≡ laid TIER heads.old.items keys.old.items }
+    ensures list { laid TIER heads.new.items keys.new.items
+        ≡ laid TIER heads.old.items keys.old.items }
     ensures within { All (λ h. h < TIER) heads.new.items }
     ensures some { length heads.new.items * TIER < length keys.new.items }
     ensures last { length keys.new.items ≤ length heads.new.items * TIER + TIER }
@@ -131,7 +133,8 @@ fn remove(keys: &mut Vec<Key>, heads: &mut Vec<usize>, place: usize)
     requires some { length heads.old.items * TIER < length keys.old.items }
     requires last { length keys.old.items ≤ length heads.old.items * TIER + TIER }
     requires place { place < length keys.old.items }
-    ensures list { laid TIER heads.new.items keys.new.items ≡ remove (laid TIER heads.old.items keys.old.items) place }
+    ensures list { laid TIER heads.new.items keys.new.items
+        ≡ remove (laid TIER heads.old.items keys.old.items) place }
     ensures tiered { IsTiered TIER heads.new.items keys.new.items }
     ensures len { length keys.new.items + 1 ≡ length keys.old.items }
     ensures capacity { vec_capacity keys.new ≡ vec_capacity keys.old }
@@ -157,12 +160,7 @@ fn push_through(
     requires tiered { IsTiered TIER heads.old.items keys.old.items }
     requires order { from ≤ to }
     requires within { to ≤ length keys.old.items }
-    ensures moved { insert (laid TIER heads.new.items keys.new.items) to result
-        ≡ insert (laid TIER heads.old.items keys.old.items) from key }
-    ensures tiered { IsTiered TIER heads.new.items keys.new.items }
-    ensures len { length keys.new.items ≡ length keys.old.items }
-    ensures capacity { vec_capacity keys.new ≡ vec_capacity keys.old }
-    ensures heads_capacity { vec_capacity heads.new ≡ vec_capacity heads.old }
+    ensures { MovesKeys keys.old heads.old keys.new heads.new from key to result }
 {
     let ends = heads.len() * TIER;
     if to <= ends {
@@ -186,12 +184,7 @@ fn pull_through(
     requires tiered { IsTiered TIER heads.old.items keys.old.items }
     requires order { to ≤ from }
     requires within { from ≤ length keys.old.items }
-    ensures moved { insert (laid TIER heads.new.items keys.new.items) to result
-        ≡ insert (laid TIER heads.old.items keys.old.items) from key }
-    ensures tiered { IsTiered TIER heads.new.items keys.new.items }
-    ensures len { length keys.new.items ≡ length keys.old.items }
-    ensures capacity { vec_capacity keys.new ≡ vec_capacity keys.old }
-    ensures heads_capacity { vec_capacity heads.new ≡ vec_capacity heads.old }
+    ensures { MovesKeys keys.old heads.old keys.new heads.new from key to result }
 {
     let ends = heads.len() * TIER;
     if from <= ends {
@@ -209,7 +202,8 @@ fn shift(keys: &mut Vec<Key>, heads: &mut Vec<usize>, from: usize, to: usize, ke
     requires tiered { IsTiered TIER heads.old.items keys.old.items }
     requires from { from < length keys.old.items }
     requires to { to < length keys.old.items }
-    ensures list { laid TIER heads.new.items keys.new.items ≡ insert (remove (laid TIER heads.old.items keys.old.items) from) to key }
+    ensures list { laid TIER heads.new.items keys.new.items
+        ≡ insert (remove (laid TIER heads.old.items keys.old.items) from) to key }
     ensures tiered { IsTiered TIER heads.new.items keys.new.items }
     ensures len { length keys.new.items ≡ length keys.old.items }
     ensures capacity { vec_capacity keys.new ≡ vec_capacity keys.old }
@@ -226,7 +220,8 @@ fn shift(keys: &mut Vec<Key>, heads: &mut Vec<usize>, from: usize, to: usize, ke
 fn slot(keys: &[Key], heads: &[usize], place: usize) -> usize
     requires tiered { IsTiered TIER heads.now keys.now }
     requires place { place < length keys.now }
-    ensures reads { (d : Key) → slice_index_or (laid TIER heads.now keys.now) place d ≡ slice_index_or keys.now result d }
+    ensures reads { (d : Key) → slice_index_or (laid TIER heads.now keys.now) place d
+        ≡ slice_index_or keys.now result d }
     ensures within { result < length keys.now }
 {
     if place < heads.len() * TIER {
@@ -345,7 +340,7 @@ impl Tiers {
     pub(crate) fn sort(&mut self, schedule: Schedule)
         requires { HasNumbersOnce self.old.list }
         ensures in_order { IsRow schedule self.new.list }
-        ensures same { (number : ℕ) → key_numbered number self.new.list ≡ key_numbered number self.old.list }
+        ensures same { HaveSameKeys self.old.list self.new.list }
         ensures len { length self.new.list ≡ length self.old.list }
         ensures capacity { self.new.capacity ≡ self.old.capacity }
     {

@@ -56,7 +56,8 @@ pub fn take_out(row: &mut ReadyRow, old: &Option<Key>, number: u32)
     requires old { IfSome (key_numbered number row.old.keys) (λ k. old.now ≡ Some k) }
     requires number { IfSome old.now (λ k. k.number ≡ number) }
     ensures schedule { row.new.schedule ≡ row.old.schedule }
-    ensures each { (m : ℕ) → key_numbered m row.new.keys ≡ (if number == m then None else key_numbered m row.old.keys) }
+    ensures each { (m : ℕ) → key_numbered m row.new.keys
+        ≡ (if number == m then None else key_numbered m row.old.keys) }
     ensures room { room_of row.new ≡ room_of row.old }
 {
     if let Some(old) = old {

@@ -1,11 +1,11 @@
 // Which job a queue starts next.
-ghost use Rattle.std.specs.Prelude.{◌≡◌, ◌+◌, ◌<◌, ◌&&◌, if◌then◌else◌, length, slice_index_or};
+ghost use Rattle.std.specs.Prelude.{◌≡◌, ◌+◌, ◌<◌, length, slice_index_or};
 ghost use Rattle.qm_kinds.specs.declared.queue.Queue.{Queue as AnyQueue};
 ghost use Rattle.qm_kinds.specs.declared.system.System.{System};
-ghost use Rattle.qm_model.specs.Free.{is_free, places};
-ghost use Rattle.qm_model.specs.Settling.{has_run_numbers, start_of};
+ghost use Rattle.qm_model.specs.Free.{places};
+ghost use Rattle.qm_model.specs.Settling.{start_of};
 ghost use Rattle.qm_parts.specs.Tables.{with_tables};
-ghost use Rattle.qm_sched.specs.Choosing.{next_start, takes_jobs};
+ghost use Rattle.qm_sched.specs.Choosing.{next_start, takes_jobs, has_place, looks_at};
 
 use qm_kinds::{END_OF_RUNS, Entry, Queue, QueueKind, Start};
 use qm_parts::{Parts, is_execution_queue, is_open_queue, see_entries};
@@ -24,14 +24,15 @@ pub fn places(queue: &Queue) -> u8
 
 // Whether run numbers are left, and the queue has a place for one more run.
 fn has_place(parts: &Parts, queue: &Queue) -> bool
-    ensures { (s : System) → result ≡ (has_run_numbers (with_tables s parts.now) && is_free (with_tables s parts.now) queue.now) }
+    ensures { (s : System) → result ≡ has_place (with_tables s parts.now) queue.now }
 {
     parts.next_run() < END_OF_RUNS && parts.places_taken(&queue.name) < u32::from(places(queue))
 }
 
 // What is told of the start of a job in a queue.
 fn start_of(parts: &Parts, entry: &Entry, queue: &Queue) -> Start
-    ensures { (s : System) → result ≡ start_of (with_tables s parts.now) (record { entry = entry.now; queue = queue.now }) }
+    ensures { (s : System) → result
+        ≡ start_of (with_tables s parts.now) (record { entry = entry.now; queue = queue.now }) }
 {
     Start {
         entry: entry.number,
@@ -64,8 +65,10 @@ pub(crate) fn next_start<L: Ledger>(
     looks: &mut Steps<L>,
 ) -> Option<Start>
     requires { place < length parts.now.queues }
-    ensures start { (s : System) (q : AnyQueue) → result ≡ next_start (with_tables s parts.now) (slice_index_or parts.now.queues place q) }
-    ensures looks { (s : System) (q : AnyQueue) → looks.new ≡ looks.old + (if takes_jobs (with_tables s parts.now) (slice_index_or parts.now.queues place q) then 1 else 0) }
+    ensures start { (s : System) (q : AnyQueue)
+        → result ≡ next_start (with_tables s parts.now) (slice_index_or parts.now.queues place q) }
+    ensures looks { (s : System) (q : AnyQueue) → looks.new
+        ≡ looks.old + looks_at (with_tables s parts.now) (slice_index_or parts.now.queues place q) }
 {
     let queue = &parts.queues()[place];
     if !takes_jobs(parts, queue) {

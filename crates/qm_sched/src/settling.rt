@@ -6,6 +6,7 @@ ghost use Rattle.qm_model.specs.Consistent.{IsInOrder};
 ghost use Rattle.qm_model.specs.Settling.{AreStarts, settled};
 ghost use Rattle.qm_parts.specs.Tables.{with_tables};
 ghost use Rattle.qm_sched.specs.Choosing.{IsNextStart, execution_queues};
+ghost use Rattle.qm_sched.specs.Settled.{IsSettled, StartsAtMost};
 
 use crate::choosing::next_start;
 use qm_kinds::Start;
@@ -18,8 +19,13 @@ fn start_next(parts: &mut Parts, start: &Start)
     requires next { (s : System) → IsNextStart (with_tables s parts.old) start.now }
     requires room { 0 < parts.old.spare_runs }
     ensures in_order { IsInOrder nat_cmp (λ e. e.number) parts.old.entries }
-    ensures starts { (s : System) → AreStarts (with_tables s parts.old) (start.now ∷ []) (with_tables s parts.new) }
-    ensures rest { parts.new ≡ record parts.old { entries = parts.new.entries; next_run = parts.new.next_run; spare_runs = parts.old.spare_runs - 1 } }
+    ensures starts { (s : System)
+        → AreStarts (with_tables s parts.old) (start.now ∷ []) (with_tables s parts.new) }
+    ensures rest { parts.new ≡ record parts.old {
+      entries = parts.new.entries;
+      next_run = parts.new.next_run;
+      spare_runs = parts.old.spare_runs - 1;
+    } }
 {
     let Some(queue) = parts.queue(&start.queue) else {
         unreachable!()
@@ -40,11 +46,16 @@ fn start_next(parts: &mut Parts, start: &Start)
 /// are no more looks than starts and execution queues together.
 pub fn settle<L: Ledger>(parts: &mut Parts, out: &mut Vec<Start>, looks: &mut Steps<L>)
     requires empty { out.old.items ≡ [] }
-    requires room { (s : System) → length (settled (with_tables s parts.old)).started ≤ vec_capacity out.old }
-    requires runs { (s : System) → length (settled (with_tables s parts.old)).started ≤ parts.old.spare_runs }
-    ensures settled { (s : System) → settled (with_tables s parts.old) ≡ record { system = with_tables s parts.new; started = out.new.items } }
-    ensures looks { looks.new ≤ looks.old + length out.new.items + execution_queues parts.old.queues }
-    ensures rest { parts.new ≡ record parts.old { entries = parts.new.entries; next_run = parts.new.next_run; spare_runs = parts.new.spare_runs } }
+    requires room { StartsAtMost parts.old (vec_capacity out.old) }
+    requires runs { StartsAtMost parts.old parts.old.spare_runs }
+    ensures settled { IsSettled parts.old out.new.items parts.new }
+    ensures looks { looks.new
+        ≤ looks.old + length out.new.items + execution_queues parts.old.queues }
+    ensures rest { parts.new ≡ record parts.old {
+      entries = parts.new.entries;
+      next_run = parts.new.next_run;
+      spare_runs = parts.new.spare_runs;
+    } }
 {
     let mut place = 0;
     while place < parts.queues().len() {

@@ -103,7 +103,7 @@ fn let_go(parts: &mut Parts, name: &Name) -> [bool; 5] {
     let is_stopped = remove(parts, 7, name) == (true, Some(QueueState::Stopped));
     let is_free = !parts.is_occupied(name);
     parts.remove_queue(name);
-    let is_gone = parts.queue_after(None).is_none();
+    let is_gone = parts.queues().is_empty();
     [is_alone, is_stopping, is_stopped, is_free, is_gone]
 }
 

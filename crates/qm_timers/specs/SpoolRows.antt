@@ -1,5 +1,5 @@
 -- The files as a spool keeps them.
-use Rattle.std.specs.Prelude.{◌≡◌, ◌-◌, ℕ, List, ◌++◌, map, slice_set, vec_len, vec_capacity}
+use Rattle.std.specs.Prelude.{◌≡◌, ◌+◌, ◌-◌, ◌<◌, ◌≤◌, ℕ, List, ◌++◌, map, slice_set, vec_len, vec_capacity}
 use Rattle.std.specs.List.{HoldsAt}
 use Rattle.qm_kinds.specs.declared.file.File.{File}
 use Rattle.qm_model.specs.Consistent.{AreFiles, spooled}
@@ -42,3 +42,11 @@ pub record IsExtended (more : List ℕ) (f g : Spooled) : Type 0 where
 -- the same file, named by so many entries
 abbrev pub named_by : ℕ → Spooled → Spooled
 named_by named f = record f { named = named }
+
+-- the file has room for so many bytes more
+abbrev pub HasRoom : ℕ → Spooled → Type 0
+HasRoom more f = vec_len f.bytes + more ≤ vec_capacity f.bytes
+
+-- the file has room for fewer
+abbrev pub LacksRoom : ℕ → Spooled → Type 0
+LacksRoom more f = vec_capacity f.bytes < vec_len f.bytes + more

@@ -1,6 +1,6 @@
 -- Timers, each a moment and the number that it is for: what their callers see, and what the calls make of it.
-use Rattle.std.specs.Prelude.{◌≡◌, ◌≢◌, ◌⊎◌, ℕ, ◌==◌, nat_lt, nat_le, Bool, true, ◌&&◌, ◌||◌, not, if◌then◌else◌, List, [], ◌∷◌, Option, None, Some, find, filter, All, Contains}
-use Rattle.std.specs.Option.{option_map}
+use Rattle.std.specs.Prelude.{◌≡◌, ◌≢◌, ◌⊎◌, ◌+◌, ℕ, ◌==◌, nat_lt, nat_le, Bool, true, ◌&&◌, ◌||◌, not, if◌then◌else◌, List, [], ◌∷◌, length, Option, None, Some, find, filter, All, Contains}
+use Rattle.std.specs.Option.{option_map, option_and_then}
 
 -- the timers in their order, and how many more have room
 pub record Waiting : Type 0 where
@@ -59,6 +59,26 @@ due_at now ts = filter (λ t. nat_le t.0 now) ts
 -- the others
 abbrev pub later_than : ℕ → List (ℕ × ℕ) → List (ℕ × ℕ)
 later_than now ts = filter (λ t. nat_lt now t.0) ts
+
+-- a moment that is still to come
+abbrev pub still_to_come : ℕ → Option ℕ → Option ℕ
+still_to_come now moment = option_and_then (λ at. if nat_lt now at then Some at else None) moment
+
+-- the numbers whose moment has come have no timer any more, and the others keep theirs
+abbrev pub KeepsLater : ℕ → List (ℕ × ℕ) → List (ℕ × ℕ) → Type 0
+KeepsLater now old new = (number : ℕ) → moment_of number new ≡ still_to_come now (moment_of number old)
+
+-- the numbers that are kept keep their timers, and the others have none any more
+abbrev pub KeepsNumbers : (ℕ → Bool) → List (ℕ × ℕ) → List (ℕ × ℕ) → Type 0
+KeepsNumbers kept old new = (number : ℕ) → moment_of number new ≡ (if kept number then moment_of number old else None)
+
+-- one number has a timer for this moment, or none, and the others keep theirs
+abbrev pub SetsMoment : ℕ → Option ℕ → List (ℕ × ℕ) → List (ℕ × ℕ) → Type 0
+SetsMoment number at old new = (other : ℕ) → moment_of other new ≡ (if number == other then at else moment_of other old)
+
+-- the room of timers that went is room for others
+abbrev pub KeepsRoom : Waiting → Waiting → Type 0
+KeepsRoom old new = new.spare + length new.timers ≡ old.spare + length old.timers
 
 -- one of the timers, before all others
 abbrev pub IsLeast : (ℕ × ℕ) → List (ℕ × ℕ) → Type 0

@@ -1,5 +1,5 @@
 // The forms and characteristics in order of their numbers, and the forms in order of their names too.
-ghost use Rattle.std.specs.Prelude.{◌≡◌, ◌+◌, ◌-◌, ◌<◌, ◌≤◌, [], length, false, Some, IfOk, OnErr, OnOk};
+ghost use Rattle.std.specs.Prelude.{◌≡◌, ◌-◌, ◌<◌, ◌≤◌, [], false, Some, IfOk, OnErr, OnOk};
 ghost use Rattle.std.specs.Option.{option_copied};
 ghost use Rattle.qm_kinds.specs.declared.limits.TheConstants.{LAST_CHARACTERISTIC};
 ghost use Rattle.qm_model.specs.Characteristics.{is_characteristic_taken};
@@ -8,7 +8,7 @@ ghost use Rattle.qm_model.specs.Fitting.{stock_of};
 ghost use Rattle.qm_model.specs.Forms.{is_form_taken};
 ghost use Rattle.qm_model.specs.Inserting.{with_form, with_characteristic_defined};
 ghost use Rattle.qm_model.specs.Wanted.{refused_characteristics, set_of};
-ghost use Rattle.qm_queues.specs.Forms.{without_form, without_characteristic};
+ghost use Rattle.qm_queues.specs.Forms.{without_form, without_characteristic, KeepsFormRoom, KeepsCharacteristicRoom};
 ghost use Rattle.qm_queues.specs.FormsNumbered.{AreKept, AreKeptForms, AreKeptCharacteristics};
 
 use crate::forms::names::{by_name, take_out};
@@ -55,7 +55,12 @@ impl Model for FormTable {
 impl FormTable {
     /// No form and no characteristic, and room for none. It takes no memory.
     pub fn new(alloc: Global) -> FormTable
-        ensures { result ≡ record { forms = []; characteristics = []; spare_forms = 0; spare_characteristics = 0 } }
+        ensures { result ≡ record {
+          forms = [];
+          characteristics = [];
+          spare_forms = 0;
+          spare_characteristics = 0;
+        } }
     {
         FormTable {
             forms: Vec::new(alloc),
@@ -101,7 +106,9 @@ impl FormTable {
         ensures ok { OnOk result (0 < self.new.spare_characteristics) }
         ensures err { OnErr result (self.old.spare_characteristics ≡ 0) }
         ensures no_less { self.old.spare_characteristics ≤ self.new.spare_characteristics }
-        ensures defined { self.new ≡ record self.old { spare_characteristics = self.new.spare_characteristics } }
+        ensures defined { self.new ≡ record self.old {
+          spare_characteristics = self.new.spare_characteristics;
+        } }
     {
         self.characteristics.reserve(1)
     }
@@ -110,7 +117,10 @@ impl FormTable {
     pub fn define_form(&mut self, form: Form)
         requires room { 0 < self.old.spare_forms }
         requires free { is_form_taken self.old.forms form ≡ false }
-        ensures { self.new ≡ record self.old { forms = with_form form self.old.forms; spare_forms = self.old.spare_forms - 1 } }
+        ensures { self.new ≡ record self.old {
+          forms = with_form form self.old.forms;
+          spare_forms = self.old.spare_forms - 1;
+        } }
     {
         let Err(place) = place_of(&self.forms, &form.number) else {
             unreachable!()
@@ -141,8 +151,11 @@ impl FormTable {
 
     /// Takes out the form of a name. Where there is none, nothing changes. Its room stays.
     pub fn delete_form(&mut self, name: &Name)
-        ensures forms { self.new ≡ record self.old { forms = without_form name.now self.old.forms; spare_forms = self.new.spare_forms } }
-        ensures room { self.new.spare_forms + length self.new.forms ≡ self.old.spare_forms + length self.old.forms }
+        ensures forms { self.new ≡ record self.old {
+          forms = without_form name.now self.old.forms;
+          spare_forms = self.new.spare_forms;
+        } }
+        ensures room { KeepsFormRoom self.old self.new }
     {
         take_out(&mut self.forms, name);
         take_out(&mut self.by_name, name);
@@ -154,7 +167,7 @@ impl FormTable {
           characteristics = without_characteristic name.now self.old.characteristics;
           spare_characteristics = self.new.spare_characteristics;
         } }
-        ensures room { self.new.spare_characteristics + length self.new.characteristics ≡ self.old.spare_characteristics + length self.old.characteristics }
+        ensures room { KeepsCharacteristicRoom self.old self.new }
     {
         self.characteristics
             .retain(|characteristic| characteristic.name != *name);

@@ -6,7 +6,7 @@ ghost use Rattle.qm_model.specs.Find.{name_cmp, queue_named};
 ghost use Rattle.qm_model.specs.Queues.{without_queue};
 ghost use Rattle.qm_model.specs.Standing.{with_queue};
 ghost use Rattle.qm_queues.specs.Queues.{with_queue_put, queue_after};
-ghost use Rattle.qm_queues.specs.Settings.{with_settings_and_state};
+ghost use Rattle.qm_queues.specs.Settings.{with_settings_and_state, with_state};
 
 use crate::queues::settings::Settings;
 use qm_keyed::Table;
@@ -92,7 +92,9 @@ impl QueueTable {
     /// Sets the state of the queue of a name, and says whether there is one. Where there is none, nothing changes.
     pub fn set_state(&mut self, name: &Name, state: QueueState) -> bool
         ensures found { result ≡ is_some (queue_named name.now self.old.queues) }
-        ensures queues { self.new ≡ record self.old { queues = with_queue name.now (λ q. record q { state = state }) self.old.queues } }
+        ensures queues { self.new ≡ record self.old {
+          queues = with_queue name.now (with_state state) self.old.queues;
+        } }
     {
         self.queues.change(name, |queue| queue.state = state)
     }
@@ -101,7 +103,9 @@ impl QueueTable {
     /// Where there is none, nothing changes.
     pub fn set(&mut self, name: &Name, settings: &Settings, state: Option<QueueState>) -> bool
         ensures found { result ≡ is_some (queue_named name.now self.old.queues) }
-        ensures queues { self.new ≡ record self.old { queues = with_queue name.now (with_settings_and_state settings.now state) self.old.queues } }
+        ensures queues { self.new ≡ record self.old {
+          queues = with_queue name.now (with_settings_and_state settings.now state) self.old.queues;
+        } }
     {
         self.queues.change(name, |queue| {
             settings.apply(queue);
@@ -122,7 +126,8 @@ impl QueueTable {
 
     /// The queue of the least name that is greater than this one, or of the least name where none is given.
     pub fn after(&self, name: Option<&Name>) -> Option<&Queue>
-        ensures next { option_copied result ≡ queue_after (option_copied name.entry) self.now.queues }
+        ensures next { option_copied result
+            ≡ queue_after (option_copied name.entry) self.now.queues }
         ensures in_order { IsInOrder name_cmp (λ q. q.name) self.now.queues }
     {
         match name {

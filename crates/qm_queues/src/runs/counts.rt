@@ -1,8 +1,9 @@
 // How many runs each queue has, so that they aren't counted anew at each look.
-ghost use Rattle.std.specs.Prelude.{◌≡◌, ◌+◌, ◌-◌, ◌<◌, ◌≤◌, [], length, vec_len, vec_capacity, slice_set, slice_index_or, OnErr, OnOk};
+ghost use Rattle.std.specs.Prelude.{◌≡◌, ◌<◌, ◌≤◌, [], length, vec_len, vec_capacity, slice_index_or, OnErr, OnOk};
 ghost use Rattle.qm_model.specs.Consistent.{IsInOrder};
 ghost use Rattle.qm_model.specs.Find.{name_cmp};
 ghost use Rattle.qm_keyed.specs.Places.{IsPlace};
+ghost use Rattle.qm_keyed.specs.Rows.{ChangesAt};
 ghost use Rattle.qm_queues.specs.declared.runs.counts.RunCount.{RunCount as AnyCount};
 ghost use Rattle.qm_queues.specs.declared.runs.limits.TheConstants.{MOST_RUNS};
 ghost use Rattle.qm_queues.specs.RunsCounted.{counted, counted_for, one_more, one_less, IsOneMore};
@@ -124,7 +125,7 @@ fn place_of(counts: &[RunCount], queue: &Name) -> Result<usize, usize>
 fn add_at(counts: &mut Vec<RunCount>, place: usize)
     requires within { place < vec_len counts.old }
     requires few { (d : AnyCount) → (slice_index_or counts.old.items place d).runs < MOST_RUNS }
-    ensures items { (d : AnyCount) → counts.new.items ≡ slice_set counts.old.items place (one_more (slice_index_or counts.old.items place d)) }
+    ensures items { ChangesAt one_more counts.old.items counts.new.items place }
     ensures capacity { vec_capacity counts.new ≡ vec_capacity counts.old }
 {
     let count = &mut counts[place];
@@ -135,7 +136,7 @@ fn add_at(counts: &mut Vec<RunCount>, place: usize)
 fn take_at(counts: &mut Vec<RunCount>, place: usize)
     requires within { place < vec_len counts.old }
     requires some { (d : AnyCount) → 0 < (slice_index_or counts.old.items place d).runs }
-    ensures items { (d : AnyCount) → counts.new.items ≡ slice_set counts.old.items place (one_less (slice_index_or counts.old.items place d)) }
+    ensures items { ChangesAt one_less counts.old.items counts.new.items place }
     ensures capacity { vec_capacity counts.new ≡ vec_capacity counts.old }
 {
     let count = &mut counts[place];

@@ -88,7 +88,10 @@ impl Runs {
         requires room { 0 < self.old.spare }
         requires below { run.run < self.old.next }
         requires absent { run_numbered run.run self.old.runs ≡ None }
-        ensures { self.new ≡ record self.old { runs = with_run run self.old.runs; spare = self.old.spare - 1 } }
+        ensures { self.new ≡ record self.old {
+          runs = with_run run self.old.runs;
+          spare = self.old.spare - 1;
+        } }
     {
         let Err(place) = place_of(&self.runs, &run.run) else {
             unreachable!()

@@ -1,8 +1,8 @@
 // A file as the spool keeps it, and what is written in its place. Only `reserve_bytes` takes memory.
-ghost use Rattle.std.specs.Prelude.{◌≡◌, ◌<◌, ◌≤◌, ◌+◌, [], length, vec_len, vec_capacity, slice_set, slice_index_or, OnErr, OnOk};
+ghost use Rattle.std.specs.Prelude.{◌≡◌, ◌<◌, [], length, vec_len, vec_capacity, OnErr, OnOk};
 ghost use Rattle.std.specs.List.{HoldsAt};
-ghost use Rattle.qm_timers.specs.declared.spool.spooled.Spooled.{Spooled as AnySpooled};
-ghost use Rattle.qm_timers.specs.SpoolRows.{Replaces, IsExtended, named_by};
+ghost use Rattle.qm_keyed.specs.Rows.{ChangesAt};
+ghost use Rattle.qm_timers.specs.SpoolRows.{Replaces, IsExtended, HasRoom, LacksRoom, named_by};
 
 use qm_kinds::FileName;
 use std::alloc::AllocError;
@@ -24,8 +24,8 @@ pub(crate) fn reserve_bytes(
 ) -> Result<(), AllocError>
     requires { place < vec_len files.old }
     ensures same { Replaces files.old.items files.new.items place (IsExtended []) }
-    ensures room { OnOk result (HoldsAt (λ f. vec_len f.bytes + more ≤ vec_capacity f.bytes) files.new.items place) }
-    ensures full { OnErr result (HoldsAt (λ f. vec_capacity f.bytes < vec_len f.bytes + more) files.old.items place) }
+    ensures room { OnOk result (HoldsAt (HasRoom more) files.new.items place) }
+    ensures full { OnErr result (HoldsAt (LacksRoom more) files.old.items place) }
     ensures len { vec_len files.new ≡ vec_len files.old }
     ensures capacity { vec_capacity files.new ≡ vec_capacity files.old }
 {
@@ -37,7 +37,7 @@ pub(crate) fn reserve_bytes(
 /// Adds bytes to the file at a place, for which memory was taken.
 pub(crate) fn extend(files: &mut Vec<Spooled>, place: usize, more: &[u8])
     requires within { place < vec_len files.old }
-    requires room { HoldsAt (λ f. vec_len f.bytes + length more.now ≤ vec_capacity f.bytes) files.old.items place }
+    requires room { HoldsAt (HasRoom (length more.now)) files.old.items place }
     ensures extended { Replaces files.old.items files.new.items place (IsExtended more.now) }
     ensures len { vec_len files.new ≡ vec_len files.old }
     ensures capacity { vec_capacity files.new ≡ vec_capacity files.old }
@@ -51,7 +51,7 @@ pub(crate) fn extend(files: &mut Vec<Spooled>, place: usize, more: &[u8])
 /// Sets how many entries name the file at a place.
 pub(crate) fn set_named(files: &mut Vec<Spooled>, place: usize, named: u32)
     requires { place < vec_len files.old }
-    ensures items { (d : AnySpooled) → files.new.items ≡ slice_set files.old.items place (named_by named (slice_index_or files.old.items place d)) }
+    ensures items { ChangesAt (named_by named) files.old.items files.new.items place }
     ensures len { vec_len files.new ≡ vec_len files.old }
     ensures capacity { vec_capacity files.new ≡ vec_capacity files.old }
 {

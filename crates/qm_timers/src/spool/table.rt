@@ -1,12 +1,12 @@
 // The files in order of their names.
-ghost use Rattle.std.specs.Prelude.{◌≡◌, ◌+◌, ◌-◌, ◌<◌, ◌≤◌, ◌||◌, nat_lt, [], length, filter, not, is_some, false, None, IsSome, OnErr, OnOk, vec_len, vec_capacity};
-ghost use Rattle.std.specs.Option.{option_copied, option_map};
+ghost use Rattle.std.specs.Prelude.{◌≡◌, ◌+◌, ◌-◌, ◌<◌, ◌≤◌, [], length, filter, not, false, None, IsSome, OnErr, OnOk, vec_len, vec_capacity};
+ghost use Rattle.std.specs.Option.{option_copied};
 ghost use Rattle.qm_kinds.specs.declared.limits.TheConstants.{ENTRIES_LIMIT};
 ghost use Rattle.qm_model.specs.Appending.{is_spool_full};
 ghost use Rattle.qm_model.specs.Consistent.{AreFiles, spooled};
 ghost use Rattle.qm_model.specs.Find.{file_named, same_file_name};
-ghost use Rattle.qm_timers.specs.Spool.{count_of, with_bytes, HasRoomFor};
-ghost use Rattle.qm_timers.specs.SpoolCounts.{SameCounts, IsCountedAs};
+ghost use Rattle.qm_timers.specs.Spool.{count_of, with_bytes, HasRoomFor, bytes_named, is_too_much};
+ghost use Rattle.qm_timers.specs.SpoolCounts.{SameCounts, IsCountedAs, IsCountedMore, IsCountedLess};
 
 use crate::spool::limits::passes;
 use crate::spool::place::place_of;
@@ -76,7 +76,7 @@ impl Spool {
 
     /// The bytes of a file.
     pub fn bytes(&self, name: &FileName) -> Option<&[u8]>
-        ensures found { option_copied result ≡ option_map (λ f. f.bytes) (file_named name.now self.now.files) }
+        ensures found { option_copied result ≡ bytes_named name.now self.now.files }
         ensures files { AreFiles self.now.files }
     {
         let Ok(place) = place_of(&self.files, name) else {
@@ -106,7 +106,7 @@ impl Spool {
     // Whether a file of this size, or all files together, would pass its limit with so many more bytes.
     fn is_too_much(&self, size: usize, more: usize) -> bool
         requires { size ≤ FILE_LIMIT }
-        ensures { result ≡ (nat_lt FILE_LIMIT (size + more) || nat_lt SPOOL_LIMIT (spooled self.now.files + more)) }
+        ensures { result ≡ is_too_much size more self.now.files }
     {
         passes(FILE_LIMIT, size, more) || passes(SPOOL_LIMIT, self.size as usize, more)
     }
@@ -124,7 +124,10 @@ impl Spool {
     /// Puts bytes behind those of a file that has room for them.
     pub fn append(&mut self, name: &FileName, more: &[u8])
         requires { HasRoomFor self.old name.now more.now }
-        ensures { self.new ≡ record self.old { files = with_bytes name.now more.now self.old.files; rooms = self.new.rooms } }
+        ensures { self.new ≡ record self.old {
+          files = with_bytes name.now more.now self.old.files;
+          rooms = self.new.rooms;
+        } }
     {
         let Ok(place) = place_of(&self.files, name) else {
             unreachable!()
@@ -146,7 +149,8 @@ impl Spool {
           spare = self.old.spare - 1;
         } }
         ensures counts { SameCounts self.old.counts self.new.counts }
-        ensures bytes { IsCountedAs name (vec_capacity bytes - vec_len bytes) self.old.rooms self.new.rooms }
+        ensures bytes { IsCountedAs name (vec_capacity bytes - vec_len bytes)
+            self.old.rooms self.new.rooms }
     {
         let Err(place) = place_of(&self.files, &name) else {
             unreachable!()
@@ -166,7 +170,7 @@ impl Spool {
         requires there { IsSome (file_named name.now self.old.files) }
         requires few { count_of name.now self.old.counts < ENTRIES_LIMIT }
         ensures files { self.new ≡ record self.old { counts = self.new.counts } }
-        ensures counts { IsCountedAs name.now (count_of name.now self.old.counts + 1) self.old.counts self.new.counts }
+        ensures counts { IsCountedMore name.now self.old.counts self.new.counts }
     {
         let Ok(place) = place_of(&self.files, name) else {
             unreachable!()
@@ -179,7 +183,7 @@ impl Spool {
     pub fn leave(&mut self, name: &FileName)
         requires { 0 < count_of name.now self.old.counts }
         ensures files { self.new ≡ record self.old { counts = self.new.counts } }
-        ensures counts { IsCountedAs name.now (count_of name.now self.old.counts - 1) self.old.counts self.new.counts }
+        ensures counts { IsCountedLess name.now self.old.counts self.new.counts }
     {
         let Ok(place) = place_of(&self.files, name) else {
             unreachable!()

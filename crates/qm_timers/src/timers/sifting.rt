@@ -1,5 +1,5 @@
 // Some of the timers of a list are taken out, in one pass.
-ghost use Rattle.std.specs.Prelude.{◌≡◌, ◌≤◌, ℕ, Bool, nat_lt, filter, vec_len, vec_capacity};
+ghost use Rattle.std.specs.Prelude.{◌≡◌, ◌≤◌, ℕ, Bool, filter, vec_len, vec_capacity};
 ghost use Rattle.qm_timers.specs.Timers.{later_than};
 
 use crate::timers::places::Timer;

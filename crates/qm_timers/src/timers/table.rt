@@ -1,7 +1,6 @@
 // Timers in order.
-ghost use Rattle.std.specs.Prelude.{◌≡◌, ℕ, Bool, ◌+◌, ◌-◌, ◌<◌, ◌≤◌, ◌==◌, ◌↔◌, nat_lt, [], All, IsNone, IfSome, Some, None, true, OnErr, OnOk, is_some, if◌then◌else◌, length, filter, vec_len, vec_capacity, insert};
-ghost use Rattle.std.specs.Option.{option_and_then};
-ghost use Rattle.qm_timers.specs.Timers.{IsInOrder, IsLeast, due_at, inserted, later_than, moment_of, timer_of, with_timer, without};
+ghost use Rattle.std.specs.Prelude.{◌≡◌, ℕ, Bool, ◌+◌, ◌-◌, ◌<◌, ◌≤◌, ◌↔◌, [], All, IsNone, IfSome, Some, None, true, OnErr, OnOk, is_some, if◌then◌else◌, filter, vec_len, vec_capacity, insert};
+ghost use Rattle.qm_timers.specs.Timers.{IsInOrder, IsLeast, due_at, inserted, later_than, moment_of, timer_of, with_timer, without, KeepsLater, KeepsNumbers, KeepsRoom, SetsMoment};
 
 use crate::timers::places::{
     Timer, find_by_number, place_by_moment, place_by_now, place_by_number,
@@ -97,7 +96,10 @@ impl Timers {
     pub fn insert(&mut self, at: Moment, number: u32)
         requires room { 0 < self.old.spare }
         requires absent { timer_of number self.old.timers ≡ None }
-        ensures inserted { self.new ≡ record { timers = inserted (at, number) self.old.timers; spare = self.old.spare - 1 } }
+        ensures inserted { self.new ≡ record {
+          timers = inserted (at, number) self.old.timers;
+          spare = self.old.spare - 1;
+        } }
         ensures in_order { IsInOrder self.new.timers }
     {
         let place = place_by_moment(&self.by_moment, (at, number));
@@ -145,8 +147,8 @@ impl Timers {
     /// Takes out the timers whose moment has come. It looks at each timer once in both lists.
     pub fn remove_due(&mut self, now: Moment)
         ensures timers { self.new.timers ≡ later_than now self.old.timers }
-        ensures each { (number : ℕ) → moment_of number self.new.timers ≡ option_and_then (λ at. if nat_lt now at then Some at else None) (moment_of number self.old.timers) }
-        ensures spare { self.new.spare + length self.new.timers ≡ self.old.spare + length self.old.timers }
+        ensures each { KeepsLater now self.old.timers self.new.timers }
+        ensures spare { KeepsRoom self.old self.new }
         ensures in_order { IsInOrder self.new.timers }
     {
         keep_later(&mut self.by_moment, now);
@@ -159,8 +161,8 @@ impl Timers {
         requires call { F.IsAlwaysCallable keeps }
         requires answers { (number : ℕ) (answer : Bool) → F.post keeps number answer → answer ≡ kept number }
         ensures timers { self.new.timers ≡ filter (λ t. kept t.1) self.old.timers }
-        ensures each { (number : ℕ) → moment_of number self.new.timers ≡ (if kept number then moment_of number self.old.timers else None) }
-        ensures spare { self.new.spare + length self.new.timers ≡ self.old.spare + length self.old.timers }
+        ensures each { KeepsNumbers kept self.old.timers self.new.timers }
+        ensures spare { KeepsRoom self.old self.new }
         ensures in_order { IsInOrder self.new.timers }
     {
         keep_numbers(&mut self.by_moment, &keeps);
@@ -181,8 +183,8 @@ impl Timers {
     pub fn set(&mut self, number: u32, at: Option<Moment>)
         requires room { IfSome at (λ _. 0 < self.old.spare) }
         ensures timers { self.new.timers ≡ with_timer number at self.old.timers }
-        ensures each { (other : ℕ) → moment_of other self.new.timers ≡ (if number == other then at else moment_of other self.old.timers) }
-        ensures spare { self.new.spare + length self.new.timers ≡ self.old.spare + length self.old.timers }
+        ensures each { SetsMoment number at self.old.timers self.new.timers }
+        ensures spare { KeepsRoom self.old self.new }
         ensures in_order { IsInOrder self.new.timers }
     {
         if are_same(&self.moment_of(number), &at) {
