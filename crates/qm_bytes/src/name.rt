@@ -1,3 +1,4 @@
+// Names, with a byte of length in front.
 ghost use Rattle.std.specs.Prelude.{◌≡◌, ◌+◌, ◌<◌, ◌≤◌, ◌++◌, ◌∷◌, take, drop, length, IfOk, OnOk, OnErr, IsErrOf, IfSome, IfNone, ℕ, List, IsTrue};
 ghost use Rattle.qm_kinds.specs.Text.{is_name_byte};
 ghost use Rattle.qm_bytes.specs.Spelling.{short_bytes, IsName, file_name, IsFileName};

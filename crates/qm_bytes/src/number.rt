@@ -1,3 +1,4 @@
+// Numbers, the lowest byte first.
 ghost use Rattle.std.specs.Prelude.{◌≡◌, ◌+◌, ◌^◌, ◌<◌, ◌≤◌, ◌++◌, ◌↔◌, IfOk, OnOk, OnErr, IsErrOf, IsSome, IfSome, length, drop};
 ghost use Rattle.qm_bytes.specs.Spelling.{low_first};
 ghost use Rattle.qm_bytes.specs.Widths.{bytes_of};

@@ -1,3 +1,4 @@
+// Texts of a length in front, and names of files.
 ghost use Rattle.std.specs.Prelude.{◌≡◌, ◌+◌, ◌<◌, ◌≤◌, ◌++◌, ◌^◌, length, OnOk, IfOk, IsErrOf, take, drop};
 ghost use Rattle.qm_bytes.specs.Spelling.{short_bytes, long_bytes, file_name, optional, IsFileName, IsName, IsMark, AreLongBytes, AllOf};
 ghost use Rattle.qm_bytes.specs.Reading.{Gives, GivesKept, Splits, bytes_at, long_bytes_at, mark_at, file_name_at, optional_at, name_at};

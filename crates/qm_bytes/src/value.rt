@@ -1,3 +1,4 @@
+// Truth values, moments and sets of characteristics.
 ghost use Rattle.std.specs.Prelude.{◌≡◌, ◌+◌, ◌<◌, ◌≤◌, ◌++◌, ◌^◌, length, OnOk, IfOk, IsErrOf};
 ghost use Rattle.qm_bytes.specs.Spelling.{byte, truth, moment, set, optional, IsMoment, IsSet, AllOf};
 ghost use Rattle.qm_bytes.specs.Reading.{Gives, truth_at, moment_at, set_at, optional_at, number_up_to};

@@ -1,3 +1,4 @@
+// How many bytes a number has.
 ghost use Rattle.std.specs.Prelude.{◌≡◌};
 ghost use Rattle.qm_bytes.specs.Widths.{bytes_of};
 

@@ -19,6 +19,7 @@ use Rattle.qm_bytes.proofs.Products.{◌&◌, ◌⊗◌, Composed, composed, end
 use Rattle.qm_bytes.proofs.Fields.{truth_reader, optional_reader, list_reader, name_reader, file_name_reader, long_bytes_reader, mark_reader, moment_reader}
 use Rattle.qm_kinds.specs.declared.record.Body.{Body}
 use Rattle.qm_kinds.specs.declared.record.Body.TheVariants as body
+use Rattle.qm_kinds.specs.declared.request_kind.RequestKind.TheVariants as requests
 use Rattle.qm_record.specs.declared.kind.RecordKind.{RecordKind}
 use Rattle.qm_record.specs.declared.kind.RecordKind.TheVariants as record_kind
 use Rattle.qm_record.specs.Kinds.{is_row_kind}
@@ -29,23 +30,23 @@ use Rattle.qm_record.proofs.Fields.{u16_reader, u32_reader, u64_reader, node_rea
 
 -- what a body of each kind is made of
 abbrev Given : RecordKind → Type 0
-Given record_kind.Append = FileName × (List ℕ × Unit {0})
-Given record_kind.Fill = FileName × ℕ
-Given record_kind.Drop = FileName
-Given record_kind.DefineForm = Form
-Given record_kind.DeleteForm = List ℕ
-Given record_kind.DefineCharacteristic = Characteristic
-Given record_kind.DeleteCharacteristic = List ℕ
-Given record_kind.InitializeQueue = NewQueue
-Given record_kind.SetQueue = List ℕ × QueueChange
-Given record_kind.StartQueue = List ℕ × QueueChange
-Given record_kind.StopQueue = List ℕ × StopMode
-Given record_kind.AbortJob = List ℕ × (Option ℕ × (Bool × Unit {0}))
-Given record_kind.DeleteQueue = List ℕ
-Given record_kind.Merge = List ℕ × List ℕ
-Given record_kind.Submit = Job
-Given record_kind.SetEntry = ℕ × EntryChange
-Given record_kind.DeleteEntry = ℕ
+Given (record_kind.Request requests.Append) = FileName × (List ℕ × Unit {0})
+Given (record_kind.Request requests.Fill) = FileName × ℕ
+Given (record_kind.Request requests.Drop) = FileName
+Given (record_kind.Request requests.DefineForm) = Form
+Given (record_kind.Request requests.DeleteForm) = List ℕ
+Given (record_kind.Request requests.DefineCharacteristic) = Characteristic
+Given (record_kind.Request requests.DeleteCharacteristic) = List ℕ
+Given (record_kind.Request requests.InitializeQueue) = NewQueue
+Given (record_kind.Request requests.SetQueue) = List ℕ × QueueChange
+Given (record_kind.Request requests.StartQueue) = List ℕ × QueueChange
+Given (record_kind.Request requests.StopQueue) = List ℕ × StopMode
+Given (record_kind.Request requests.AbortJob) = List ℕ × (Option ℕ × (Bool × Unit {0}))
+Given (record_kind.Request requests.DeleteQueue) = List ℕ
+Given (record_kind.Request requests.Merge) = List ℕ × List ℕ
+Given (record_kind.Request requests.Submit) = Job
+Given (record_kind.Request requests.SetEntry) = ℕ × EntryChange
+Given (record_kind.Request requests.DeleteEntry) = ℕ
 Given record_kind.Mark = ℕ × List ℕ
 Given record_kind.Done = ℕ × ℕ
 Given record_kind.Tick = Unit {0}
@@ -57,23 +58,23 @@ Given record_kind.Form = Form
 Given record_kind.Queue = Queue
 
 abbrev body_of : (k : RecordKind) → Given k → Body
-body_of record_kind.Append x = body.Ask (ask.Append x.0 x.1.0)
-body_of record_kind.Fill x = body.Ask (ask.Fill x.0 x.1)
-body_of record_kind.Drop x = body.Ask (ask.Drop x)
-body_of record_kind.DefineForm x = body.Ask (ask.DefineForm x)
-body_of record_kind.DeleteForm x = body.Ask (ask.DeleteForm x)
-body_of record_kind.DefineCharacteristic x = body.Ask (ask.DefineCharacteristic x)
-body_of record_kind.DeleteCharacteristic x = body.Ask (ask.DeleteCharacteristic x)
-body_of record_kind.InitializeQueue x = body.Ask (ask.InitializeQueue x)
-body_of record_kind.SetQueue x = body.Ask (ask.SetQueue x.0 x.1)
-body_of record_kind.StartQueue x = body.Ask (ask.StartQueue x.0 x.1)
-body_of record_kind.StopQueue x = body.Ask (ask.StopQueue x.0 x.1)
-body_of record_kind.AbortJob x = body.Ask (ask.AbortJob x.0 x.1.0 x.1.1.0)
-body_of record_kind.DeleteQueue x = body.Ask (ask.DeleteQueue x)
-body_of record_kind.Merge x = body.Ask (ask.Merge x.0 x.1)
-body_of record_kind.Submit x = body.Ask (ask.Submit x)
-body_of record_kind.SetEntry x = body.Ask (ask.SetEntry x.0 x.1)
-body_of record_kind.DeleteEntry x = body.Ask (ask.DeleteEntry x)
+body_of (record_kind.Request requests.Append) x = body.Ask (ask.Append x.0 x.1.0)
+body_of (record_kind.Request requests.Fill) x = body.Ask (ask.Fill x.0 x.1)
+body_of (record_kind.Request requests.Drop) x = body.Ask (ask.Drop x)
+body_of (record_kind.Request requests.DefineForm) x = body.Ask (ask.DefineForm x)
+body_of (record_kind.Request requests.DeleteForm) x = body.Ask (ask.DeleteForm x)
+body_of (record_kind.Request requests.DefineCharacteristic) x = body.Ask (ask.DefineCharacteristic x)
+body_of (record_kind.Request requests.DeleteCharacteristic) x = body.Ask (ask.DeleteCharacteristic x)
+body_of (record_kind.Request requests.InitializeQueue) x = body.Ask (ask.InitializeQueue x)
+body_of (record_kind.Request requests.SetQueue) x = body.Ask (ask.SetQueue x.0 x.1)
+body_of (record_kind.Request requests.StartQueue) x = body.Ask (ask.StartQueue x.0 x.1)
+body_of (record_kind.Request requests.StopQueue) x = body.Ask (ask.StopQueue x.0 x.1)
+body_of (record_kind.Request requests.AbortJob) x = body.Ask (ask.AbortJob x.0 x.1.0 x.1.1.0)
+body_of (record_kind.Request requests.DeleteQueue) x = body.Ask (ask.DeleteQueue x)
+body_of (record_kind.Request requests.Merge) x = body.Ask (ask.Merge x.0 x.1)
+body_of (record_kind.Request requests.Submit) x = body.Ask (ask.Submit x)
+body_of (record_kind.Request requests.SetEntry) x = body.Ask (ask.SetEntry x.0 x.1)
+body_of (record_kind.Request requests.DeleteEntry) x = body.Ask (ask.DeleteEntry x)
 body_of record_kind.Mark x = body.Ask (ask.Mark x.0 x.1)
 body_of record_kind.Done x = body.Ask (ask.Done x.0 x.1)
 body_of record_kind.Tick x = body.Ask ask.Tick
@@ -90,24 +91,24 @@ data KindOf (b : Body) : Type 0 where
       → body_parts b ≡ Some (k, fields_in (body_parts b)) → KindOf b
 
 kind_of_request : (r : Request) → RequestFits r → KindOf (body.Ask r)
-kind_of_request (ask.Append file bytes) fits = made_of record_kind.Append (file & bytes & tt) refl refl refl
-kind_of_request (ask.Fill file lines) fits = made_of record_kind.Fill (file, lines) refl refl refl
-kind_of_request (ask.Drop file) fits = made_of record_kind.Drop file refl refl refl
-kind_of_request (ask.DefineForm f) fits = made_of record_kind.DefineForm f refl refl refl
-kind_of_request (ask.DeleteForm name) fits = made_of record_kind.DeleteForm name refl refl refl
-kind_of_request (ask.DefineCharacteristic c) fits = made_of record_kind.DefineCharacteristic c refl refl refl
-kind_of_request (ask.DeleteCharacteristic name) fits = made_of record_kind.DeleteCharacteristic name refl refl refl
-kind_of_request (ask.InitializeQueue new) fits = made_of record_kind.InitializeQueue new refl refl refl
-kind_of_request (ask.SetQueue name change) fits = made_of record_kind.SetQueue (name, change) refl refl refl
-kind_of_request (ask.StartQueue name change) fits = made_of record_kind.StartQueue (name, change) refl refl refl
-kind_of_request (ask.StopQueue name how) fits = made_of record_kind.StopQueue (name, how) refl refl refl
+kind_of_request (ask.Append file bytes) fits = made_of (record_kind.Request requests.Append) (file & bytes & tt) refl refl refl
+kind_of_request (ask.Fill file lines) fits = made_of (record_kind.Request requests.Fill) (file, lines) refl refl refl
+kind_of_request (ask.Drop file) fits = made_of (record_kind.Request requests.Drop) file refl refl refl
+kind_of_request (ask.DefineForm f) fits = made_of (record_kind.Request requests.DefineForm) f refl refl refl
+kind_of_request (ask.DeleteForm name) fits = made_of (record_kind.Request requests.DeleteForm) name refl refl refl
+kind_of_request (ask.DefineCharacteristic c) fits = made_of (record_kind.Request requests.DefineCharacteristic) c refl refl refl
+kind_of_request (ask.DeleteCharacteristic name) fits = made_of (record_kind.Request requests.DeleteCharacteristic) name refl refl refl
+kind_of_request (ask.InitializeQueue new) fits = made_of (record_kind.Request requests.InitializeQueue) new refl refl refl
+kind_of_request (ask.SetQueue name change) fits = made_of (record_kind.Request requests.SetQueue) (name, change) refl refl refl
+kind_of_request (ask.StartQueue name change) fits = made_of (record_kind.Request requests.StartQueue) (name, change) refl refl refl
+kind_of_request (ask.StopQueue name how) fits = made_of (record_kind.Request requests.StopQueue) (name, how) refl refl refl
 kind_of_request (ask.AbortJob queue_name entry requeue) fits =
-    made_of record_kind.AbortJob (queue_name & entry & requeue & tt) refl refl refl
-kind_of_request (ask.DeleteQueue name) fits = made_of record_kind.DeleteQueue name refl refl refl
-kind_of_request (ask.Merge to from) fits = made_of record_kind.Merge (to, from) refl refl refl
-kind_of_request (ask.Submit j) fits = made_of record_kind.Submit j refl refl refl
-kind_of_request (ask.SetEntry entry change) fits = made_of record_kind.SetEntry (entry, change) refl refl refl
-kind_of_request (ask.DeleteEntry entry) fits = made_of record_kind.DeleteEntry entry refl refl refl
+    made_of (record_kind.Request requests.AbortJob) (queue_name & entry & requeue & tt) refl refl refl
+kind_of_request (ask.DeleteQueue name) fits = made_of (record_kind.Request requests.DeleteQueue) name refl refl refl
+kind_of_request (ask.Merge to from) fits = made_of (record_kind.Request requests.Merge) (to, from) refl refl refl
+kind_of_request (ask.Submit j) fits = made_of (record_kind.Request requests.Submit) j refl refl refl
+kind_of_request (ask.SetEntry entry change) fits = made_of (record_kind.Request requests.SetEntry) (entry, change) refl refl refl
+kind_of_request (ask.DeleteEntry entry) fits = made_of (record_kind.Request requests.DeleteEntry) entry refl refl refl
 kind_of_request (ask.Mark run value) fits = made_of record_kind.Mark (run, value) refl refl refl
 kind_of_request (ask.Done run status) fits = made_of record_kind.Done (run, status) refl refl refl
 kind_of_request ask.Tick fits = made_of record_kind.Tick tt refl refl refl
@@ -197,34 +198,34 @@ reads {k} {Fit} {text} reader parts_are fit =
 
 reader_of : (k : RecordKind) → IsReader (BodyAt k) (body_at k)
 unfolding body_at append_at fill_at drop_at define_form_at delete_form_at define_characteristic_at delete_characteristic_at initialize_at set_queue_at start_queue_at stop_queue_at abort_job_at delete_queue_at merge_at submit_at set_entry_at delete_entry_at run_mark_at done_at node_lost_at took_at head_at form_row_at queue_row_at
-reader_of record_kind.Append =
+reader_of (record_kind.Request requests.Append) =
     reads (file_name_reader ⊗ λ file fits. long_bytes_reader ⊗ λ bytes bytes_fit. composed (fits, bytes_fit))
     (λ x. refl) (λ x fits. fits.0 & fits.1 & tt)
-reader_of record_kind.Fill =
+reader_of (record_kind.Request requests.Fill) =
     reads (file_name_reader ⊗ λ file fits. ends u16_reader (λ lines lines_fit. (fits, lines_fit))) (λ x. refl) (λ x fits. fits)
-reader_of record_kind.Drop = reads (ends file_name_reader (λ x fits. fits)) (λ x. refl) (λ x fits. fits)
-reader_of record_kind.DefineForm = reads (ends form_reader (λ x fits. fits)) (λ x. refl) (λ x fits. fits)
-reader_of record_kind.DeleteForm = reads (ends name_reader (λ x fits. fits)) (λ x. refl) (λ x fits. fits)
-reader_of record_kind.DefineCharacteristic = reads (ends characteristic_reader (λ x fits. fits)) (λ x. refl) (λ x fits. fits)
-reader_of record_kind.DeleteCharacteristic = reads (ends name_reader (λ x fits. fits)) (λ x. refl) (λ x fits. fits)
-reader_of record_kind.InitializeQueue = reads (ends new_queue_reader (λ x fits. fits)) (λ x. refl) (λ x fits. fits)
-reader_of record_kind.SetQueue =
+reader_of (record_kind.Request requests.Drop) = reads (ends file_name_reader (λ x fits. fits)) (λ x. refl) (λ x fits. fits)
+reader_of (record_kind.Request requests.DefineForm) = reads (ends form_reader (λ x fits. fits)) (λ x. refl) (λ x fits. fits)
+reader_of (record_kind.Request requests.DeleteForm) = reads (ends name_reader (λ x fits. fits)) (λ x. refl) (λ x fits. fits)
+reader_of (record_kind.Request requests.DefineCharacteristic) = reads (ends characteristic_reader (λ x fits. fits)) (λ x. refl) (λ x fits. fits)
+reader_of (record_kind.Request requests.DeleteCharacteristic) = reads (ends name_reader (λ x fits. fits)) (λ x. refl) (λ x fits. fits)
+reader_of (record_kind.Request requests.InitializeQueue) = reads (ends new_queue_reader (λ x fits. fits)) (λ x. refl) (λ x fits. fits)
+reader_of (record_kind.Request requests.SetQueue) =
     reads (name_reader ⊗ λ name fits. ends change_reader (λ change change_fits. (fits, change_fits))) (λ x. refl) (λ x fits. fits)
-reader_of record_kind.StartQueue =
+reader_of (record_kind.Request requests.StartQueue) =
     reads (name_reader ⊗ λ name fits. ends change_reader (λ change change_fits. (fits, change_fits))) (λ x. refl) (λ x fits. fits)
-reader_of record_kind.StopQueue =
+reader_of (record_kind.Request requests.StopQueue) =
     reads (name_reader ⊗ λ name fits. ends stop_mode_reader (λ how how_fits. fits)) (λ x. refl) (λ x fits. fits & tt)
-reader_of record_kind.AbortJob =
+reader_of (record_kind.Request requests.AbortJob) =
     reads (name_reader ⊗ λ name fits. optional_reader u32_reader ⊗ λ entry entry_fits.
     truth_reader ⊗ λ requeue requeue_fits. composed (fits, entry_fits))
     (λ x. refl) (λ x fits. fits.0 & fits.1 & tt & tt)
-reader_of record_kind.DeleteQueue = reads (ends name_reader (λ x fits. fits)) (λ x. refl) (λ x fits. fits)
-reader_of record_kind.Merge =
+reader_of (record_kind.Request requests.DeleteQueue) = reads (ends name_reader (λ x fits. fits)) (λ x. refl) (λ x fits. fits)
+reader_of (record_kind.Request requests.Merge) =
     reads (name_reader ⊗ λ to fits. ends name_reader (λ from from_fits. (fits, from_fits))) (λ x. refl) (λ x fits. fits)
-reader_of record_kind.Submit = reads (ends job_reader (λ x fits. fits)) (λ x. refl) (λ x fits. fits)
-reader_of record_kind.SetEntry =
+reader_of (record_kind.Request requests.Submit) = reads (ends job_reader (λ x fits. fits)) (λ x. refl) (λ x fits. fits)
+reader_of (record_kind.Request requests.SetEntry) =
     reads (u32_reader ⊗ λ entry fits. ends entry_change_reader (λ change change_fits. (fits, change_fits))) (λ x. refl) (λ x fits. fits)
-reader_of record_kind.DeleteEntry = reads (ends u32_reader (λ x fits. fits)) (λ x. refl) (λ x fits. fits)
+reader_of (record_kind.Request requests.DeleteEntry) = reads (ends u32_reader (λ x fits. fits)) (λ x. refl) (λ x fits. fits)
 reader_of record_kind.Mark =
     reads (u64_reader ⊗ λ run fits. ends mark_reader (λ value value_fits. (fits, value_fits))) (λ x. refl) (λ x fits. fits)
 reader_of record_kind.Done =

@@ -1,32 +1,22 @@
 -- The kind of a record is read as its number is spelled.
-use Rattle.std.proofs.Common.{◌≡◌, ℕ, suc, Bool, true, false, cond, eqb, List, [], ◌∷◌, ◌++◌, length, Option, Some, None, Ok, Err, refl, sym, ap, ◌∙◌}
-use Rattle.std.proofs.lemmas.Bool.{eqb-true}
+use Rattle.std.proofs.Common.{◌≡◌, ℕ, suc, List, [], ◌∷◌, ◌++◌, length, Option, Some, None, Ok, Err, refl, sym, ap, ◌∙◌}
+use Rattle.qm_kinds.specs.declared.request_kind.RequestKind.{RequestKind}
+use Rattle.qm_kinds.specs.declared.request_kind.RequestKind.TheVariants as requests
+use Rattle.qm_kinds.specs.Requests.{request_kind, request_number}
+use Rattle.qm_kinds.proofs.RequestNumbers.{same_kind, tells, tells_none, kind_again as request_again, number_back as request_back}
 use Rattle.qm_bytes.specs.Laws.{Spells, Stops, IsReader}
 use Rattle.qm_bytes.specs.Spelling.{byte}
 use Rattle.qm_bytes.proofs.Readers.{same_value, same_rest}
 use Rattle.qm_record.specs.declared.kind.RecordKind.{RecordKind}
-use Rattle.qm_record.specs.declared.kind.RecordKind.TheVariants.{Append, Fill, Drop, DefineForm, DeleteForm, DefineCharacteristic, DeleteCharacteristic, InitializeQueue, SetQueue, StartQueue, StopQueue, AbortJob, DeleteQueue, Merge, Submit, SetEntry, DeleteEntry, Mark, Done, Tick, NodeUp, NodeLost, Took, Head, Form, Queue}
-use Rattle.qm_record.specs.Kinds.{number_of, kind_of}
+use Rattle.qm_record.specs.declared.kind.RecordKind.TheVariants.{Request, Mark, Done, Tick, NodeUp, NodeLost, Took, Head, Form, Queue}
+use Rattle.qm_record.specs.Kinds.{number_of, kind_of, other_kind, request_or}
 use Rattle.qm_record.specs.Reading.{told, record_kind_at}
 
+abbrev some_kind : RecordKind → Option RecordKind
+some_kind k = Some k
+
 pub kind_again : (k : RecordKind) → kind_of (number_of k) ≡ Some k
-kind_again Append = refl
-kind_again Fill = refl
-kind_again Drop = refl
-kind_again DefineForm = refl
-kind_again DeleteForm = refl
-kind_again DefineCharacteristic = refl
-kind_again DeleteCharacteristic = refl
-kind_again InitializeQueue = refl
-kind_again SetQueue = refl
-kind_again StartQueue = refl
-kind_again StopQueue = refl
-kind_again AbortJob = refl
-kind_again DeleteQueue = refl
-kind_again Merge = refl
-kind_again Submit = refl
-kind_again SetEntry = refl
-kind_again DeleteEntry = refl
+kind_again (Request k) = ap (λ o. request_or o (other_kind (request_number k))) (request_again k)
 kind_again Mark = refl
 kind_again Done = refl
 kind_again Tick = refl
@@ -37,54 +27,25 @@ kind_again Head = refl
 kind_again Form = refl
 kind_again Queue = refl
 
-abbrev some_kind : RecordKind → Option RecordKind
-some_kind k = Some k
+other_back : (n : ℕ) (k : RecordKind) → other_kind n ≡ Some k → n ≡ number_of k
+other_back n k =
+    tells number_of n Mark k
+    (tells number_of n Done k
+    (tells number_of n Tick k
+    (tells number_of n NodeUp k
+    (tells number_of n NodeLost k
+    (tells number_of n Took k
+    (tells number_of n Head k
+    (tells number_of n Form k
+    (tells number_of n Queue k
+    (tells_none number_of n k)))))))))
 
-same : (a b : RecordKind) → some_kind a ≡ some_kind b → a ≡ b
-same a b e = cc
-
--- the kind that one comparison finds, or those behind it
-found_by : (n : ℕ) (there k : RecordKind) (behind : Option RecordKind) (test : Bool) → eqb n (number_of there) ≡ test
-    → (behind ≡ Some k → n ≡ number_of k) → cond test (Some there) behind ≡ Some k → n ≡ number_of k
-found_by n there k behind true is others h = eqb-true n (number_of there) is ∙ ap number_of (same there k h)
-found_by n there k behind false is others h = others h
-
-tells : (n : ℕ) (there k : RecordKind) {behind : Option RecordKind} → (behind ≡ Some k → n ≡ number_of k)
-    → cond (eqb n (number_of there)) (Some there) behind ≡ Some k → n ≡ number_of k
-tells n there k {behind} others h = found_by n there k behind (eqb n (number_of there)) refl others h
-
-tells_none : (n : ℕ) (k : RecordKind) → None ≡ some_kind k → n ≡ number_of k
-tells_none n k h = absurd cc
+either_back : (n : ℕ) (k : RecordKind) (o : Option RequestKind) → request_kind n ≡ o → request_or o (other_kind n) ≡ Some k → n ≡ number_of k
+either_back n k (Some asked) is h = request_back n asked is ∙ ap number_of (same_kind (Request asked) k h)
+either_back n k None is h = other_back n k h
 
 number_back : (n : ℕ) (k : RecordKind) → kind_of n ≡ Some k → n ≡ number_of k
-number_back n k =
-    tells n Append k
-    (tells n Fill k
-    (tells n Drop k
-    (tells n DefineForm k
-    (tells n DeleteForm k
-    (tells n DefineCharacteristic k
-    (tells n DeleteCharacteristic k
-    (tells n InitializeQueue k
-    (tells n SetQueue k
-    (tells n StartQueue k
-    (tells n StopQueue k
-    (tells n AbortJob k
-    (tells n DeleteQueue k
-    (tells n Merge k
-    (tells n Submit k
-    (tells n SetEntry k
-    (tells n DeleteEntry k
-    (tells n Mark k
-    (tells n Done k
-    (tells n Tick k
-    (tells n NodeUp k
-    (tells n NodeLost k
-    (tells n Took k
-    (tells n Head k
-    (tells n Form k
-    (tells n Queue k
-    (tells_none n k))))))))))))))))))))))))))
+number_back n k h = either_back n k (request_kind n) refl h
 
 abbrev pub KindSpelled : RecordKind → List ℕ → Type 0
 KindSpelled = Spells (λ k. Unit {0}) (λ k. byte (number_of k))
@@ -114,7 +75,7 @@ kind_stops [] left e = record {
   behind = [];
   parts = refl;
   place = cc;
-  value = Append;
+  value = Request requests.Append;
   more = 1 ∷ [];
   begins = record { fits = tt; is = refl };
   ends = λ b bs others no. absurd cc;
@@ -126,7 +87,7 @@ kind_stops (n ∷ bytes) left e =
       behind = n ∷ bytes;
       parts = refl;
       place = t.1;
-      value = Append;
+      value = Request requests.Append;
       more = 1 ∷ [];
       begins = record { fits = tt; is = refl };
       ends = λ b bs others is. ap (λ o. told o others) (ap kind_of (sym (first_of is)) ∙ t.0);
@@ -138,7 +99,7 @@ kind_stops (n ∷ bytes) left e =
 pub kind_reader : IsReader KindSpelled record_kind_at
 unfolding record_kind_at
 kind_reader = record {
-  value = Append;
+  value = Request requests.Append;
   text = 1 ∷ [];
   spelled = record { fits = tt; is = refl };
   takes = kind_takes;

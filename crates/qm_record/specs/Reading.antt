@@ -30,6 +30,7 @@ use Rattle.qm_bytes.specs.Reading.{Reader, IsThere, ◌>>=◌, pure, byte_where,
 use Rattle.qm_kinds.specs.declared.record.Record.{Record}
 use Rattle.qm_kinds.specs.declared.record.Body.{Body}
 use Rattle.qm_kinds.specs.declared.record.Body.TheVariants as body
+use Rattle.qm_kinds.specs.declared.request_kind.RequestKind.TheVariants as requests
 use Rattle.qm_record.specs.declared.kind.RecordKind.{RecordKind}
 use Rattle.qm_record.specs.declared.kind.RecordKind.TheVariants as record_kind
 use Rattle.qm_record.specs.declared.fault.RecordFault.{RecordFault}
@@ -375,23 +376,23 @@ queue_row_at = queue_at >>= λ q. pure (body.Queue q)
 
 -- the fields of a record of each kind
 unfoldable pub body_at : RecordKind → Reader Body
-body_at record_kind.Append = append_at
-body_at record_kind.Fill = fill_at
-body_at record_kind.Drop = drop_at
-body_at record_kind.DefineForm = define_form_at
-body_at record_kind.DeleteForm = delete_form_at
-body_at record_kind.DefineCharacteristic = define_characteristic_at
-body_at record_kind.DeleteCharacteristic = delete_characteristic_at
-body_at record_kind.InitializeQueue = initialize_at
-body_at record_kind.SetQueue = set_queue_at
-body_at record_kind.StartQueue = start_queue_at
-body_at record_kind.StopQueue = stop_queue_at
-body_at record_kind.AbortJob = abort_job_at
-body_at record_kind.DeleteQueue = delete_queue_at
-body_at record_kind.Merge = merge_at
-body_at record_kind.Submit = submit_at
-body_at record_kind.SetEntry = set_entry_at
-body_at record_kind.DeleteEntry = delete_entry_at
+body_at (record_kind.Request requests.Append) = append_at
+body_at (record_kind.Request requests.Fill) = fill_at
+body_at (record_kind.Request requests.Drop) = drop_at
+body_at (record_kind.Request requests.DefineForm) = define_form_at
+body_at (record_kind.Request requests.DeleteForm) = delete_form_at
+body_at (record_kind.Request requests.DefineCharacteristic) = define_characteristic_at
+body_at (record_kind.Request requests.DeleteCharacteristic) = delete_characteristic_at
+body_at (record_kind.Request requests.InitializeQueue) = initialize_at
+body_at (record_kind.Request requests.SetQueue) = set_queue_at
+body_at (record_kind.Request requests.StartQueue) = start_queue_at
+body_at (record_kind.Request requests.StopQueue) = stop_queue_at
+body_at (record_kind.Request requests.AbortJob) = abort_job_at
+body_at (record_kind.Request requests.DeleteQueue) = delete_queue_at
+body_at (record_kind.Request requests.Merge) = merge_at
+body_at (record_kind.Request requests.Submit) = submit_at
+body_at (record_kind.Request requests.SetEntry) = set_entry_at
+body_at (record_kind.Request requests.DeleteEntry) = delete_entry_at
 body_at record_kind.Mark = run_mark_at
 body_at record_kind.Done = done_at
 body_at record_kind.Tick = pure (body.Ask ask.Tick)

@@ -29,6 +29,7 @@ use Rattle.qm_bytes.specs.Spelling.{low_first, fields, byte, truth, optional, li
 use Rattle.qm_kinds.specs.declared.record.Record.{Record}
 use Rattle.qm_kinds.specs.declared.record.Body.{Body}
 use Rattle.qm_kinds.specs.declared.record.Body.TheVariants as body
+use Rattle.qm_kinds.specs.declared.request_kind.RequestKind.TheVariants as requests
 use Rattle.qm_record.specs.declared.kind.RecordKind.{RecordKind}
 use Rattle.qm_record.specs.declared.kind.RecordKind.TheVariants as record_kind
 use Rattle.qm_record.specs.Kinds.{number_of}
@@ -143,23 +144,23 @@ took epoch gone up may = fields (low_first 8 epoch ∷ list short_bytes gone ∷
 
 -- The kind and the fields of a request: each has a spelling.
 abbrev pub request_parts : Request → Option (RecordKind × List ℕ)
-request_parts (ask.Append file bytes) = Some (record_kind.Append, fields (file_name file ∷ long_bytes bytes ∷ []))
-request_parts (ask.Fill file lines) = Some (record_kind.Fill, file_name file ++ low_first 2 lines)
-request_parts (ask.Drop file) = Some (record_kind.Drop, file_name file)
-request_parts (ask.DefineForm f) = Some (record_kind.DefineForm, form f)
-request_parts (ask.DeleteForm name) = Some (record_kind.DeleteForm, short_bytes name)
-request_parts (ask.DefineCharacteristic c) = Some (record_kind.DefineCharacteristic, characteristic c)
-request_parts (ask.DeleteCharacteristic name) = Some (record_kind.DeleteCharacteristic, short_bytes name)
-request_parts (ask.InitializeQueue new) = Some (record_kind.InitializeQueue, new_queue new)
-request_parts (ask.SetQueue name change) = Some (record_kind.SetQueue, short_bytes name ++ queue_change change)
-request_parts (ask.StartQueue name change) = Some (record_kind.StartQueue, short_bytes name ++ queue_change change)
-request_parts (ask.StopQueue name how) = Some (record_kind.StopQueue, short_bytes name ++ byte (stop_mode_code how))
-request_parts (ask.AbortJob queue_name entry requeue) = Some (record_kind.AbortJob, abort queue_name entry requeue)
-request_parts (ask.DeleteQueue name) = Some (record_kind.DeleteQueue, short_bytes name)
-request_parts (ask.Merge to from) = Some (record_kind.Merge, short_bytes to ++ short_bytes from)
-request_parts (ask.Submit j) = Some (record_kind.Submit, job_text j)
-request_parts (ask.SetEntry entry change) = Some (record_kind.SetEntry, low_first 4 entry ++ entry_change change)
-request_parts (ask.DeleteEntry entry) = Some (record_kind.DeleteEntry, low_first 4 entry)
+request_parts (ask.Append file bytes) = Some ((record_kind.Request requests.Append), fields (file_name file ∷ long_bytes bytes ∷ []))
+request_parts (ask.Fill file lines) = Some ((record_kind.Request requests.Fill), file_name file ++ low_first 2 lines)
+request_parts (ask.Drop file) = Some ((record_kind.Request requests.Drop), file_name file)
+request_parts (ask.DefineForm f) = Some ((record_kind.Request requests.DefineForm), form f)
+request_parts (ask.DeleteForm name) = Some ((record_kind.Request requests.DeleteForm), short_bytes name)
+request_parts (ask.DefineCharacteristic c) = Some ((record_kind.Request requests.DefineCharacteristic), characteristic c)
+request_parts (ask.DeleteCharacteristic name) = Some ((record_kind.Request requests.DeleteCharacteristic), short_bytes name)
+request_parts (ask.InitializeQueue new) = Some ((record_kind.Request requests.InitializeQueue), new_queue new)
+request_parts (ask.SetQueue name change) = Some ((record_kind.Request requests.SetQueue), short_bytes name ++ queue_change change)
+request_parts (ask.StartQueue name change) = Some ((record_kind.Request requests.StartQueue), short_bytes name ++ queue_change change)
+request_parts (ask.StopQueue name how) = Some ((record_kind.Request requests.StopQueue), short_bytes name ++ byte (stop_mode_code how))
+request_parts (ask.AbortJob queue_name entry requeue) = Some ((record_kind.Request requests.AbortJob), abort queue_name entry requeue)
+request_parts (ask.DeleteQueue name) = Some ((record_kind.Request requests.DeleteQueue), short_bytes name)
+request_parts (ask.Merge to from) = Some ((record_kind.Request requests.Merge), short_bytes to ++ short_bytes from)
+request_parts (ask.Submit j) = Some ((record_kind.Request requests.Submit), job_text j)
+request_parts (ask.SetEntry entry change) = Some ((record_kind.Request requests.SetEntry), low_first 4 entry ++ entry_change change)
+request_parts (ask.DeleteEntry entry) = Some ((record_kind.Request requests.DeleteEntry), low_first 4 entry)
 request_parts (ask.Mark run value) = Some (record_kind.Mark, low_first 8 run ++ short_bytes value)
 request_parts (ask.Done run status) = Some (record_kind.Done, low_first 8 run ++ low_first 4 status)
 request_parts ask.Tick = Some (record_kind.Tick, [])

@@ -1,3 +1,4 @@
+// What is wrong with bytes that are no record.
 ghost use Rattle.std.specs.Prelude.{◌≡◌};
 
 /// Why bytes aren't a record.

@@ -1,27 +1,14 @@
 // The kinds of records.
 ghost use Rattle.std.specs.Prelude.{◌≡◌};
-ghost use Rattle.qm_record.specs.Kinds.{number_of, kind_of, is_row_kind};
+ghost use Rattle.qm_record.specs.Kinds.{number_of, kind_of, other_kind, is_row_kind};
+
+use qm_kinds::RequestKind;
 
 /// What a record is, told by its number. These are the kinds that are spelled so far: all requests, and rows of an image.
 #[derive(Clone, Copy)]
 pub enum RecordKind {
-    Append,
-    Fill,
-    Drop,
-    DefineForm,
-    DeleteForm,
-    DefineCharacteristic,
-    DeleteCharacteristic,
-    InitializeQueue,
-    SetQueue,
-    StartQueue,
-    StopQueue,
-    AbortJob,
-    DeleteQueue,
-    Merge,
-    Submit,
-    SetEntry,
-    DeleteEntry,
+    /// What a user or a program asked for.
+    Request(RequestKind),
     Mark,
     Done,
     Tick,
@@ -39,23 +26,7 @@ impl RecordKind {
         ensures { result ≡ number_of self }
     {
         match self {
-            RecordKind::Append => 1,
-            RecordKind::Fill => 2,
-            RecordKind::Drop => 3,
-            RecordKind::DefineForm => 4,
-            RecordKind::DeleteForm => 5,
-            RecordKind::DefineCharacteristic => 6,
-            RecordKind::DeleteCharacteristic => 7,
-            RecordKind::InitializeQueue => 8,
-            RecordKind::SetQueue => 9,
-            RecordKind::StartQueue => 10,
-            RecordKind::StopQueue => 11,
-            RecordKind::AbortJob => 12,
-            RecordKind::DeleteQueue => 13,
-            RecordKind::Merge => 14,
-            RecordKind::Submit => 15,
-            RecordKind::SetEntry => 16,
-            RecordKind::DeleteEntry => 17,
+            RecordKind::Request(kind) => kind.number(),
             RecordKind::Mark => 18,
             RecordKind::Done => 19,
             RecordKind::Tick => 20,
@@ -72,34 +43,9 @@ impl RecordKind {
     pub(crate) fn of(number: u8) -> Option<RecordKind>
         ensures { result ≡ kind_of number }
     {
-        match number {
-            1 => Some(RecordKind::Append),
-            2 => Some(RecordKind::Fill),
-            3 => Some(RecordKind::Drop),
-            4 => Some(RecordKind::DefineForm),
-            5 => Some(RecordKind::DeleteForm),
-            6 => Some(RecordKind::DefineCharacteristic),
-            7 => Some(RecordKind::DeleteCharacteristic),
-            8 => Some(RecordKind::InitializeQueue),
-            9 => Some(RecordKind::SetQueue),
-            10 => Some(RecordKind::StartQueue),
-            11 => Some(RecordKind::StopQueue),
-            12 => Some(RecordKind::AbortJob),
-            13 => Some(RecordKind::DeleteQueue),
-            14 => Some(RecordKind::Merge),
-            15 => Some(RecordKind::Submit),
-            16 => Some(RecordKind::SetEntry),
-            17 => Some(RecordKind::DeleteEntry),
-            18 => Some(RecordKind::Mark),
-            19 => Some(RecordKind::Done),
-            20 => Some(RecordKind::Tick),
-            21 => Some(RecordKind::NodeUp),
-            22 => Some(RecordKind::NodeLost),
-            23 => Some(RecordKind::Took),
-            33 => Some(RecordKind::Head),
-            34 => Some(RecordKind::Form),
-            37 => Some(RecordKind::Queue),
-            _ => None,
+        match RequestKind::of(u16::from(number)) {
+            Some(kind) => Some(RecordKind::Request(kind)),
+            None => other_kind(number),
         }
     }
 
@@ -111,5 +57,23 @@ impl RecordKind {
             RecordKind::Head | RecordKind::Form | RecordKind::Queue => true,
             _ => false,
         }
+    }
+}
+
+// The kind of this number, if it is one that neither a user nor a program asks for.
+fn other_kind(number: u8) -> Option<RecordKind>
+    ensures { result ≡ other_kind number }
+{
+    match number {
+        18 => Some(RecordKind::Mark),
+        19 => Some(RecordKind::Done),
+        20 => Some(RecordKind::Tick),
+        21 => Some(RecordKind::NodeUp),
+        22 => Some(RecordKind::NodeLost),
+        23 => Some(RecordKind::Took),
+        33 => Some(RecordKind::Head),
+        34 => Some(RecordKind::Form),
+        37 => Some(RecordKind::Queue),
+        _ => None,
     }
 }

@@ -1,3 +1,4 @@
+// Records are read.
 ghost use Rattle.std.specs.Prelude.{◌≡◌, ◌-◌, ◌≤◌, ◌++◌, [], ℕ, List, length, IfOk, IsErrOf};
 ghost use Rattle.qm_bytes.specs.Reading.{Gives, GivesKept};
 ghost use Rattle.qm_bytes.specs.Laws.{Spells};
@@ -22,7 +23,7 @@ use crate::queue_request::{
 use crate::request::{read_done, read_run_mark, read_submit};
 use crate::row::{read_form_row, read_head, read_queue_row};
 use qm_bytes::{BadField, Width, read_byte, read_number_up_to};
-use qm_kinds::{Body, LAST_MOMENT, Moment, Record, Request};
+use qm_kinds::{Body, LAST_MOMENT, Moment, Record, Request, RequestKind};
 use std::alloc::{AllocError, Global};
 
 // Reads the kind of a record.
@@ -54,23 +55,23 @@ fn read_body(
     ensures { GivesKept result bytes.new.now (body_at kind bytes.old.now) }
 {
     match kind {
-        RecordKind::Append => read_append(alloc, bytes),
-        RecordKind::Fill => read_fill(bytes),
-        RecordKind::Drop => read_drop(bytes),
-        RecordKind::DefineForm => read_define_form(bytes),
-        RecordKind::DeleteForm => read_delete_form(bytes),
-        RecordKind::DefineCharacteristic => read_define_characteristic(bytes),
-        RecordKind::DeleteCharacteristic => read_delete_characteristic(bytes),
-        RecordKind::InitializeQueue => read_initialize(alloc, bytes),
-        RecordKind::SetQueue => read_set_queue(alloc, bytes),
-        RecordKind::StartQueue => read_start_queue(alloc, bytes),
-        RecordKind::StopQueue => read_stop_queue(bytes),
-        RecordKind::AbortJob => read_abort_job(bytes),
-        RecordKind::DeleteQueue => read_delete_queue(bytes),
-        RecordKind::Merge => read_merge(bytes),
-        RecordKind::Submit => read_submit(alloc, bytes),
-        RecordKind::SetEntry => read_set_entry(alloc, bytes),
-        RecordKind::DeleteEntry => read_delete_entry(bytes),
+        RecordKind::Request(RequestKind::Append) => read_append(alloc, bytes),
+        RecordKind::Request(RequestKind::Fill) => read_fill(bytes),
+        RecordKind::Request(RequestKind::Drop) => read_drop(bytes),
+        RecordKind::Request(RequestKind::DefineForm) => read_define_form(bytes),
+        RecordKind::Request(RequestKind::DeleteForm) => read_delete_form(bytes),
+        RecordKind::Request(RequestKind::DefineCharacteristic) => read_define_characteristic(bytes),
+        RecordKind::Request(RequestKind::DeleteCharacteristic) => read_delete_characteristic(bytes),
+        RecordKind::Request(RequestKind::InitializeQueue) => read_initialize(alloc, bytes),
+        RecordKind::Request(RequestKind::SetQueue) => read_set_queue(alloc, bytes),
+        RecordKind::Request(RequestKind::StartQueue) => read_start_queue(alloc, bytes),
+        RecordKind::Request(RequestKind::StopQueue) => read_stop_queue(bytes),
+        RecordKind::Request(RequestKind::AbortJob) => read_abort_job(bytes),
+        RecordKind::Request(RequestKind::DeleteQueue) => read_delete_queue(bytes),
+        RecordKind::Request(RequestKind::Merge) => read_merge(bytes),
+        RecordKind::Request(RequestKind::Submit) => read_submit(alloc, bytes),
+        RecordKind::Request(RequestKind::SetEntry) => read_set_entry(alloc, bytes),
+        RecordKind::Request(RequestKind::DeleteEntry) => read_delete_entry(bytes),
         RecordKind::Mark => read_run_mark(bytes),
         RecordKind::Done => read_done(bytes),
         RecordKind::Tick => Ok(Ok(Body::Ask(Request::Tick))),

@@ -19,7 +19,7 @@ use qm_bytes::{
     put_optional_moment, put_truth, read_byte, read_file_name, read_mark, read_name, read_number,
     read_optional_moment, read_truth,
 };
-use qm_kinds::{Body, Job, Mark, Moment, Request};
+use qm_kinds::{Body, Job, Mark, Moment, Request, RequestKind};
 use std::alloc::{AllocError, Global};
 
 /// Appends what stands before the fields of each record: the version, the number, the moment and the node.
@@ -43,23 +43,25 @@ fn kind_of(request: &Request) -> RecordKind
     ensures { request_parts request.now ≡ Some (result, fields_in (request_parts request.now)) }
 {
     match request {
-        Request::Append { .. } => RecordKind::Append,
-        Request::Fill { .. } => RecordKind::Fill,
-        Request::Drop { .. } => RecordKind::Drop,
-        Request::DefineForm(_) => RecordKind::DefineForm,
-        Request::DeleteForm { .. } => RecordKind::DeleteForm,
-        Request::DefineCharacteristic(_) => RecordKind::DefineCharacteristic,
-        Request::DeleteCharacteristic { .. } => RecordKind::DeleteCharacteristic,
-        Request::InitializeQueue(_) => RecordKind::InitializeQueue,
-        Request::SetQueue { .. } => RecordKind::SetQueue,
-        Request::StartQueue { .. } => RecordKind::StartQueue,
-        Request::StopQueue { .. } => RecordKind::StopQueue,
-        Request::AbortJob { .. } => RecordKind::AbortJob,
-        Request::DeleteQueue { .. } => RecordKind::DeleteQueue,
-        Request::Merge { .. } => RecordKind::Merge,
-        Request::Submit(_) => RecordKind::Submit,
-        Request::SetEntry { .. } => RecordKind::SetEntry,
-        Request::DeleteEntry { .. } => RecordKind::DeleteEntry,
+        Request::Append { .. } => RecordKind::Request(RequestKind::Append),
+        Request::Fill { .. } => RecordKind::Request(RequestKind::Fill),
+        Request::Drop { .. } => RecordKind::Request(RequestKind::Drop),
+        Request::DefineForm(_) => RecordKind::Request(RequestKind::DefineForm),
+        Request::DeleteForm { .. } => RecordKind::Request(RequestKind::DeleteForm),
+        Request::DefineCharacteristic(_) => RecordKind::Request(RequestKind::DefineCharacteristic),
+        Request::DeleteCharacteristic { .. } => RecordKind::Request(
+            RequestKind::DeleteCharacteristic,
+        ),
+        Request::InitializeQueue(_) => RecordKind::Request(RequestKind::InitializeQueue),
+        Request::SetQueue { .. } => RecordKind::Request(RequestKind::SetQueue),
+        Request::StartQueue { .. } => RecordKind::Request(RequestKind::StartQueue),
+        Request::StopQueue { .. } => RecordKind::Request(RequestKind::StopQueue),
+        Request::AbortJob { .. } => RecordKind::Request(RequestKind::AbortJob),
+        Request::DeleteQueue { .. } => RecordKind::Request(RequestKind::DeleteQueue),
+        Request::Merge { .. } => RecordKind::Request(RequestKind::Merge),
+        Request::Submit(_) => RecordKind::Request(RequestKind::Submit),
+        Request::SetEntry { .. } => RecordKind::Request(RequestKind::SetEntry),
+        Request::DeleteEntry { .. } => RecordKind::Request(RequestKind::DeleteEntry),
         Request::Mark { .. } => RecordKind::Mark,
         Request::Done { .. } => RecordKind::Done,
         Request::Tick => RecordKind::Tick,

@@ -1,3 +1,4 @@
+// Records are written.
 ghost use Rattle.std.specs.Prelude.{◌≡◌, ◌<◌, ◌^◌, ◌++◌, OnOk, IfOk};
 ghost use Rattle.qm_bytes.specs.Laws.{Spells};
 ghost use Rattle.qm_bytes.specs.Spelling.{IsMoment};

@@ -30,6 +30,7 @@ use Rattle.qm_model.specs.Built.{is_built, is_definable, is_short}
 use Rattle.qm_values.specs.declared.codes.TheConstants.{CHARACTERISTIC, DEVICE, FILE, KIND, LINES, NAME, NUMBER, QUEUE, STOCK, TARGET, TO_QUEUE}
 use Rattle.qm_sjc.specs.declared.fault.Fault.{Fault}
 use Rattle.qm_values.specs.declared.holds.Holds.{Holds}
+use Rattle.qm_kinds.specs.declared.request_kind.RequestKind.TheVariants as requests
 use Rattle.qm_values.specs.declared.function.Function.{Function}
 use Rattle.qm_values.specs.declared.function.Function.TheVariants as function
 use Rattle.qm_values.specs.declared.looking.Lists.{Lists}
@@ -247,36 +248,36 @@ module _ {P : Input → Type 0} (each : OfEach P) (user : List ℕ) (items : Lis
   of_queue name kind is = each.initializes (new_queue items lists name kind) (both _ _ is (given_short (read_in short_name_said DEVICE items) (name_in is_short (value_in DEVICE items)))) few_of_targets few
 
   of_function : (f : Function) → IfSome (asked user f items lists) P
-  of_function function.Append = two_parts P (λ (file : FileName). Unit {0}) request.Append (read_in file_name_of FILE items) lists.bytes (any _) (λ file bytes is. each.appends file bytes)
-  of_function function.Fill = two_parts P (λ (file : FileName). Unit {0}) request.Fill (read_in file_name_of FILE items) (read_in short_said LINES items) (any _) (λ file lines is. each.fills file lines)
-  of_function function.Drop = one_part P request.Drop _ each.drops
-  of_function function.DefineForm =
+  of_function (function.Request requests.Append) = two_parts P (λ (file : FileName). Unit {0}) request.Append (read_in file_name_of FILE items) lists.bytes (any _) (λ file bytes is. each.appends file bytes)
+  of_function (function.Request requests.Fill) = two_parts P (λ (file : FileName). Unit {0}) request.Fill (read_in file_name_of FILE items) (read_in short_said LINES items) (any _) (λ file lines is. each.fills file lines)
+  of_function (function.Request requests.Drop) = one_part P request.Drop _ each.drops
+  of_function (function.Request requests.DefineForm) =
       two_parts P (λ (name : List ℕ). is_definable name ≡ true) (λ (name : List ℕ) (number : ℕ). request.DefineForm (form_of items name number)) (read_in definable_name_said NAME items)
       (read_in short_said NUMBER items) (name_in is_definable (value_in NAME items)) of_form
-  of_function function.DeleteForm = one_part P request.DeleteForm _ each.deletes_form
-  of_function function.DefineCharacteristic =
+  of_function (function.Request requests.DeleteForm) = one_part P request.DeleteForm _ each.deletes_form
+  of_function (function.Request requests.DefineCharacteristic) =
       two_parts P (λ (name : List ℕ). is_definable name ≡ true) (λ (name : List ℕ) (number : ℕ). request.DefineCharacteristic (record { name = name; number = number }))
       (read_in definable_name_said NAME items) (read_in small_said NUMBER items) (name_in is_definable (value_in NAME items))
       (λ name number is. each.defines_characteristic (record { name = name; number = number }) is)
-  of_function function.DeleteCharacteristic = one_part P request.DeleteCharacteristic _ each.deletes_characteristic
-  of_function function.InitializeQueue =
+  of_function (function.Request requests.DeleteCharacteristic) = one_part P request.DeleteCharacteristic _ each.deletes_characteristic
+  of_function (function.Request requests.InitializeQueue) =
       two_parts P (λ (name : List ℕ). is_short name ≡ true) (λ (name : List ℕ) (kind : QueueKind). request.InitializeQueue (new_queue items lists name kind)) (read_in short_name_said QUEUE items)
       (read_in queue_kind_said KIND items) (name_in is_short (value_in QUEUE items)) of_queue
-  of_function function.SetQueue =
+  of_function (function.Request requests.SetQueue) =
       if_more P (has_more items) (λ (name : List ℕ). request.SetQueue name (change_of items lists.characteristics)) _ (λ name. each.sets name (change_of items lists.characteristics) few)
-  of_function function.StartQueue =
+  of_function (function.Request requests.StartQueue) =
       one_part P (λ (name : List ℕ). request.StartQueue name (change_of items lists.characteristics)) _ (λ name. each.starts name (change_of items lists.characteristics) few)
-  of_function function.StopQueue = one_part P _ _ (λ name. each.stops name _)
-  of_function function.AbortJob = one_part P _ _ (λ name. each.aborts name _ _)
-  of_function function.DeleteQueue = one_part P request.DeleteQueue _ each.deletes_queue
-  of_function function.Merge = two_parts P (λ (to : List ℕ). Unit {0}) request.Merge (read_in short_name_said TO_QUEUE items) (read_in short_name_said QUEUE items) (any _) (λ to from is. each.merges to from)
-  of_function function.Submit =
+  of_function (function.Request requests.StopQueue) = one_part P _ _ (λ name. each.stops name _)
+  of_function (function.Request requests.AbortJob) = one_part P _ _ (λ name. each.aborts name _ _)
+  of_function (function.Request requests.DeleteQueue) = one_part P request.DeleteQueue _ each.deletes_queue
+  of_function (function.Request requests.Merge) = two_parts P (λ (to : List ℕ). Unit {0}) request.Merge (read_in short_name_said TO_QUEUE items) (read_in short_name_said QUEUE items) (any _) (λ to from is. each.merges to from)
+  of_function (function.Request requests.Submit) =
       two_parts P (λ (kind : JobKind). Unit {0}) (λ (kind : JobKind) (file : FileName). request.Submit (job_of user items lists kind file)) (read_in job_kind_said KIND items)
       (read_in file_name_of FILE items) (any _)
       (λ kind file is. each.submits (job_of user items lists kind file) (or_empty lists.characteristics few))
-  of_function function.SetEntry =
+  of_function (function.Request requests.SetEntry) =
       if_more P (has_more items) (λ (number : ℕ). request.SetEntry number (entry_change items lists)) _ (λ number. each.sets_entry number (entry_change items lists) few)
-  of_function function.DeleteEntry = one_part P request.DeleteEntry _ each.deletes_entry
+  of_function (function.Request requests.DeleteEntry) = one_part P request.DeleteEntry _ each.deletes_entry
   of_function function.DisplayQueue = each.shows _
   of_function function.DisplayJob = each.shows _
   of_function function.DisplayEntry = each.shows _

@@ -8,7 +8,7 @@ use crate::fault::{CallFault, Fault};
 use crate::jobs::submit_of;
 use crate::judging::first_fault;
 use qm_item::Item;
-use qm_kinds::{Input, Listing, Name, ParseKind, Request};
+use qm_kinds::{Input, Listing, Name, ParseKind, Request, RequestKind};
 use qm_values::{
     Function, Lists, append_of, function_of, initialize_of, listless_of, lists_in, query_of,
     set_entry, set_queue, start_queue,
@@ -27,12 +27,12 @@ fn request_of(
     ensures { result ≡ request_of user function items.now lists }
 {
     match function {
-        Function::Append => append_of(items, lists.bytes),
-        Function::InitializeQueue => initialize_of(items, lists),
-        Function::SetQueue => set_queue(items, lists),
-        Function::StartQueue => start_queue(items, lists),
-        Function::Submit => submit_of(alloc, user, items, lists),
-        Function::SetEntry => set_entry(items, lists),
+        Function::Request(RequestKind::Append) => append_of(items, lists.bytes),
+        Function::Request(RequestKind::InitializeQueue) => initialize_of(items, lists),
+        Function::Request(RequestKind::SetQueue) => set_queue(items, lists),
+        Function::Request(RequestKind::StartQueue) => start_queue(items, lists),
+        Function::Request(RequestKind::Submit) => submit_of(alloc, user, items, lists),
+        Function::Request(RequestKind::SetEntry) => set_entry(items, lists),
         _ => listless_of(function, items),
     }
 }

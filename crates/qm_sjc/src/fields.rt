@@ -2,6 +2,7 @@
 ghost use Rattle.std.specs.Prelude.{◌≡◌};
 ghost use Rattle.qm_sjc.specs.Fields.{fields_of};
 
+use qm_kinds::RequestKind;
 use qm_values::codes::*;
 use qm_values::{Function, Holds};
 
@@ -106,21 +107,22 @@ pub(crate) fn fields_of(function: Function) -> &'static [Field]
     ensures { result.now ≡ fields_of function }
 {
     match function {
-        Function::Append => &APPEND_ITEMS,
-        Function::Fill => &FILL_ITEMS,
-        Function::Drop => &FILE_ITEMS,
-        Function::DefineForm => &DEFINE_FORM_ITEMS,
-        Function::DeleteForm | Function::DeleteCharacteristic => &NAME_ITEMS,
-        Function::DefineCharacteristic => &DEFINE_CHARACTERISTIC_ITEMS,
-        Function::InitializeQueue => &INITIALIZE_ITEMS,
-        Function::SetQueue | Function::StartQueue => &SET_QUEUE_ITEMS,
-        Function::StopQueue => &STOP_ITEMS,
-        Function::AbortJob => &ABORT_ITEMS,
-        Function::DeleteQueue => &QUEUE_ITEMS,
-        Function::Merge => &MERGE_ITEMS,
-        Function::Submit => &SUBMIT_ITEMS,
-        Function::SetEntry => &SET_ENTRY_ITEMS,
-        Function::DeleteEntry => &ENTRY_ITEMS,
+        Function::Request(RequestKind::Append) => &APPEND_ITEMS,
+        Function::Request(RequestKind::Fill) => &FILL_ITEMS,
+        Function::Request(RequestKind::Drop) => &FILE_ITEMS,
+        Function::Request(RequestKind::DefineForm) => &DEFINE_FORM_ITEMS,
+        Function::Request(RequestKind::DeleteForm | RequestKind::DeleteCharacteristic) =>
+            &NAME_ITEMS,
+        Function::Request(RequestKind::DefineCharacteristic) => &DEFINE_CHARACTERISTIC_ITEMS,
+        Function::Request(RequestKind::InitializeQueue) => &INITIALIZE_ITEMS,
+        Function::Request(RequestKind::SetQueue | RequestKind::StartQueue) => &SET_QUEUE_ITEMS,
+        Function::Request(RequestKind::StopQueue) => &STOP_ITEMS,
+        Function::Request(RequestKind::AbortJob) => &ABORT_ITEMS,
+        Function::Request(RequestKind::DeleteQueue) => &QUEUE_ITEMS,
+        Function::Request(RequestKind::Merge) => &MERGE_ITEMS,
+        Function::Request(RequestKind::Submit) => &SUBMIT_ITEMS,
+        Function::Request(RequestKind::SetEntry) => &SET_ENTRY_ITEMS,
+        Function::Request(RequestKind::DeleteEntry) => &ENTRY_ITEMS,
         Function::DisplayQueue
         | Function::DisplayEntry
         | Function::DisplayForm

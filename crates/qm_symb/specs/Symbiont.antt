@@ -6,13 +6,14 @@ use Rattle.qm_kinds.specs.declared.work.Report.{Report}
 use Rattle.qm_kinds.specs.declared.work.Report.TheVariants.{Done, Mark}
 use Rattle.qm_model.specs.Reports.{course, next_report, blocks_before_report}
 use Rattle.qm_symb.specs.Device.{Meaning, Takes, TakesNotAll, OneFailed, IsQuiet}
-use Rattle.qm_symb.specs.declared.symbiont.TheConstants.{DEVICE_FAULT_STATUS, TEXT_BYTES}
+use Rattle.qm_kinds.specs.declared.limits.TheConstants.{TEXT_LIMIT}
+use Rattle.qm_symb.specs.declared.symbiont.TheConstants.{DEVICE_FAULT_STATUS}
 
 -- a page has a row and a column between its margins, and the text isn't too long
 pub record IsWithinLimits (w : Work) : Type 0 where
   pub has_rows : w.shape.top + w.shape.bottom < w.shape.length
   pub has_columns : w.shape.left + w.shape.right < w.shape.width
-  pub text : length w.text ≤ TEXT_BYTES
+  pub text : length w.text ≤ TEXT_LIMIT
 
 -- a fact of the place where a run goes on behind a report, if it does
 abbrev pub IfGoesOn : Report → (Place → Type 0) → Type 0

@@ -1,3 +1,4 @@
+// What a run hands to a device.
 use qm_kinds::{Name, Seq};
 
 /// A block that a run handed to a device.

@@ -16,6 +16,7 @@ mod standard;
 mod symbiont;
 #[cfg(test)]
 mod tests;
+mod text;
 
 pub use device::{Device, DeviceFault};
 pub use files::FileDevice;
@@ -23,4 +24,4 @@ pub use handed::HandOver;
 pub use laws::runs_have_limits;
 pub use memory::MemoryDevice;
 pub use standard::{Standard, StandardCursor};
-pub use symbiont::{Beginning, DEVICE_FAULT_STATUS, Symbiont, TEXT_BYTES};
+pub use symbiont::{Beginning, DEVICE_FAULT_STATUS, Symbiont};

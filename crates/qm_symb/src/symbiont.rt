@@ -12,9 +12,6 @@ use std::alloc::AllocError;
 /// The status with which a run ends whose device failed.
 pub const DEVICE_FAULT_STATUS: u32 = 1028;
 
-/// The most bytes of the text of a work.
-pub const TEXT_BYTES: usize = 16_777_216;
-
 /// Where a run begins: its place, and the cursor that stands there.
 #[derive(Drop)]
 pub struct Beginning<C> {
@@ -23,7 +20,7 @@ pub struct Beginning<C> {
 }
 
 /// What carries out runs, report by report. Of each work its shape has a row and a column at least between the
-/// margins, and its text at most `TEXT_BYTES` bytes.
+/// margins, and its text at most `TEXT_LIMIT` bytes.
 ///
 /// A run is kept as its place and a cursor. The place says what the run does from there on; the cursor is where that
 /// stands in the work, so that no step looks at what stands before it. Each belongs to its work.

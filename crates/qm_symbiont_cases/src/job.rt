@@ -4,10 +4,10 @@ ghost use Rattle.qm_symb.specs.Symbiont.{IsWithinLimits};
 
 use crate::moments::tell_moment;
 use crate::node::tell_two_runs;
-use qm_kinds::{JobKind, Mark, Name, Report, Seq, Shape, Work, system_user};
+use qm_kinds::{JobKind, Mark, Name, Report, Seq, Shape, TEXT_LIMIT, Work, system_user};
 use qm_plans::{number_and_rest, numbers, push_bytes, push_line, push_times};
 use qm_symb::print::page_blocks;
-use qm_symb::{HandOver, MemoryDevice, Standard, Symbiont, TEXT_BYTES};
+use qm_symb::{HandOver, MemoryDevice, Standard, Symbiont};
 use std::alloc::{AllocError, Global};
 
 /// A job of entry 7, which runs as run 3 on the device LPA0, and the calls at which the device fails.
@@ -53,7 +53,7 @@ pub(crate) fn is_within_limits(work: &Work) -> bool
     let shape = work.shape;
     shape.top as u32 + (shape.bottom as u32) < shape.length as u32
         && shape.left as u32 + (shape.right as u32) < shape.width as u32
-        && work.text.len() <= TEXT_BYTES
+        && work.text.len() <= TEXT_LIMIT
 }
 
 // Carries out a run, keeps its marks, a line each, and gives how many there were and the status of the end.

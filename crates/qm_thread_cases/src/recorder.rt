@@ -7,10 +7,9 @@ ghost use Rattle.qm_node.specs.Node.{CanBeHeard};
 ghost use Rattle.qm_symb.specs.Symbiont.{IsWithinLimits};
 
 use qm_history::{Answer, Call, Turn, Why};
-use qm_kinds::{Duty, JobKind, Mark, Moment, Seq, Shape, Work, system_user};
+use qm_kinds::{Duty, JobKind, Mark, Moment, Seq, Shape, TEXT_LIMIT, Work, system_user};
 use qm_program::Serve;
 use qm_rows::Rows;
-use qm_symb::TEXT_BYTES;
 use std::alloc::{AllocError, Global};
 
 // How many turns it keeps at most.
@@ -59,7 +58,7 @@ fn is_within_limits(work: &Work) -> bool
     let shape = work.shape;
     shape.top as u32 + (shape.bottom as u32) < shape.length as u32
         && shape.left as u32 + (shape.right as u32) < shape.width as u32
-        && work.text.len() <= TEXT_BYTES
+        && work.text.len() <= TEXT_LIMIT
 }
 
 // A batch job that writes a line, and runs as this run.

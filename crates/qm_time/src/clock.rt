@@ -5,6 +5,7 @@ ghost use Rattle.qm_time.specs.Clocks.{hundredths_at, seconds_at, minutes_at, cl
 
 use crate::fault::TimeFault;
 use crate::number::{Number, long_number_at, number_at, stands, two_digits_at};
+use qm_kinds::DAY;
 
 /// A clock time of the form `hh:mm`, `hh:mm:ss` or `hh:mm:ss.cc`.
 #[tactic(auto, unfolding(crate::specs::Clocks::clock_at))]
@@ -104,7 +105,7 @@ fn delta_behind(text: &[u8], place: usize, number: Number) -> Result<Number, Tim
     if stands(text, number.end, b'-') {
         let clock = clock_at(text, number.end + 1)?;
         return Ok(Number {
-            value: number.value * 8_640_000 + clock.value,
+            value: number.value * DAY + clock.value,
             end: clock.end,
         });
     }

@@ -1,3 +1,4 @@
+// Why a text gives no moment.
 use std::error::Error;
 use std::fmt;
 

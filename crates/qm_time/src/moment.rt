@@ -1,3 +1,4 @@
+// The moment that a text names.
 ghost use Rattle.std.specs.Prelude.{◌≡◌, ◌≤◌, IfSome};
 ghost use Rattle.qm_time.specs.Times.{IsBase, IsTime};
 ghost use Rattle.qm_time.specs.Moments.{start_of, within_limits, moment_of, moment_at};
@@ -5,10 +6,7 @@ ghost use Rattle.qm_time.specs.Moments.{start_of, within_limits, moment_of, mome
 use crate::date::day_of_date;
 use crate::fault::TimeFault;
 use crate::time::{Base, Time, time_at};
-use qm_kinds::Moment;
-
-// Hundredths of a second in a day.
-const DAY: u64 = 8_640_000;
+use qm_kinds::{DAY, Moment};
 
 // Hundredths of a second from the first of January of the year 0 to 17-NOV-1858.
 const BASE: u64 = 678_941 * DAY;

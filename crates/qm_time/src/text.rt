@@ -1,16 +1,14 @@
+// The text of a moment.
 ghost use Rattle.std.specs.Prelude.{◌≡◌, ◌<◌, ◌≤◌, pos, Some, IfOk, vec_len};
 ghost use Rattle.std.specs.Str.{IsAscii};
 ghost use Rattle.qm_model.specs.Calendar.{date_of_day};
 ghost use Rattle.qm_model.specs.MomentText.{two_digits, four_digits, right_in_two, month_letters, clock_text, date_text, moment_text};
 
 use crate::date::date_of_day;
-use qm_kinds::Moment;
+use qm_kinds::{DAY, Moment};
 use std::alloc::{AllocError, Global};
 use std::fmt;
 use std::marker::Model;
-
-// Hundredths of a second in a day.
-const DAY: u64 = 8_640_000;
 
 /// The text of a moment, 23 bytes as `17-NOV-1858 00:00:00.00`, in the value itself.
 #[derive(Clone, Copy)]

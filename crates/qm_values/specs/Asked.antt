@@ -25,6 +25,7 @@ use Rattle.qm_kinds.specs.declared.request.Request.TheVariants as request
 use Rattle.qm_kinds.specs.declared.request.StopMode.TheVariants.{Pause}
 use Rattle.qm_item.specs.declared.item.Item.{Item}
 use Rattle.qm_values.specs.declared.codes.TheConstants.{QUEUE, FILE, JOB_NAME, PRIORITY, AFTER, HOLD, RETAIN, RESTART, FORM, COPIES, FLAG, KIND, NODE, DEVICE, JOB_LIMIT, BLOCK_LOWER, BLOCK_UPPER, BY_SIZE, QUEUE_RETAIN, START, ENTRY, HOW, REQUEUE, TO_QUEUE, NAME, NUMBER, STOCK, SHAPE, LINES, SEARCH, RELEASE}
+use Rattle.qm_kinds.specs.declared.request_kind.RequestKind.TheVariants as requests
 use Rattle.qm_values.specs.declared.function.Function.{Function}
 use Rattle.qm_values.specs.declared.function.Function.TheVariants as function
 use Rattle.qm_values.specs.declared.looking.Lists.{Lists}
@@ -194,27 +195,27 @@ query_of list items = record {
 
 -- what a function changes that takes no list of values, where nothing that it needs is missing
 abbrev pub listless_of : Function → List Item → Option Request
-listless_of function.Fill items = fill_of items
-listless_of function.Drop items = option_map request.Drop (read_in file_name_of FILE items)
-listless_of function.DefineForm items = define_form items
-listless_of function.DeleteForm items = option_map request.DeleteForm (read_in definable_name_said NAME items)
-listless_of function.DefineCharacteristic items = define_characteristic items
-listless_of function.DeleteCharacteristic items = option_map request.DeleteCharacteristic (read_in definable_name_said NAME items)
-listless_of function.StopQueue items = stop_queue items
-listless_of function.AbortJob items = abort_job items
-listless_of function.DeleteQueue items = option_map request.DeleteQueue (read_in short_name_said QUEUE items)
-listless_of function.Merge items = merge_of items
-listless_of function.DeleteEntry items = option_map request.DeleteEntry (read_in long_said ENTRY items)
+listless_of (function.Request requests.Fill) items = fill_of items
+listless_of (function.Request requests.Drop) items = option_map request.Drop (read_in file_name_of FILE items)
+listless_of (function.Request requests.DefineForm) items = define_form items
+listless_of (function.Request requests.DeleteForm) items = option_map request.DeleteForm (read_in definable_name_said NAME items)
+listless_of (function.Request requests.DefineCharacteristic) items = define_characteristic items
+listless_of (function.Request requests.DeleteCharacteristic) items = option_map request.DeleteCharacteristic (read_in definable_name_said NAME items)
+listless_of (function.Request requests.StopQueue) items = stop_queue items
+listless_of (function.Request requests.AbortJob) items = abort_job items
+listless_of (function.Request requests.DeleteQueue) items = option_map request.DeleteQueue (read_in short_name_said QUEUE items)
+listless_of (function.Request requests.Merge) items = merge_of items
+listless_of (function.Request requests.DeleteEntry) items = option_map request.DeleteEntry (read_in long_said ENTRY items)
 listless_of _ items = None
 
 -- what a function changes, where nothing that it needs is missing
 abbrev pub request_of : List ℕ → Function → List Item → Lists → Option Request
-request_of user function.Append items lists = append_of items lists.bytes
-request_of user function.InitializeQueue items lists = initialize_of items lists
-request_of user function.SetQueue items lists = set_queue items lists
-request_of user function.StartQueue items lists = start_queue items lists
-request_of user function.Submit items lists = submit_of user items lists
-request_of user function.SetEntry items lists = set_entry items lists
+request_of user (function.Request requests.Append) items lists = append_of items lists.bytes
+request_of user (function.Request requests.InitializeQueue) items lists = initialize_of items lists
+request_of user (function.Request requests.SetQueue) items lists = set_queue items lists
+request_of user (function.Request requests.StartQueue) items lists = start_queue items lists
+request_of user (function.Request requests.Submit) items lists = submit_of user items lists
+request_of user (function.Request requests.SetEntry) items lists = set_entry items lists
 request_of user f items lists = listless_of f items
 
 -- what a function asks for, where nothing that it needs is missing

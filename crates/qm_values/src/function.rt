@@ -1,44 +1,14 @@
 // The functions that a program calls.
 ghost use Rattle.std.specs.Prelude.{◌≡◌};
-ghost use Rattle.qm_values.specs.Functions.{function_of};
+ghost use Rattle.qm_values.specs.Functions.{function_of, listing_of};
+
+use qm_kinds::RequestKind;
 
 /// What a program asks for.
 #[derive(Clone, Copy)]
 pub enum Function {
-    /// Bytes are added to a file.
-    Append,
-    /// Lines are added to a file.
-    Fill,
-    /// A file is deleted.
-    Drop,
-    /// A form is defined.
-    DefineForm,
-    /// A form is deleted.
-    DeleteForm,
-    /// A characteristic is defined.
-    DefineCharacteristic,
-    /// A characteristic is deleted.
-    DeleteCharacteristic,
-    /// A queue is made, or made anew.
-    InitializeQueue,
-    /// Other settings of a queue.
-    SetQueue,
-    /// A queue is started.
-    StartQueue,
-    /// A queue is stopped.
-    StopQueue,
-    /// A job of a queue is cut short.
-    AbortJob,
-    /// A queue is deleted.
-    DeleteQueue,
-    /// The jobs that wait in a queue go to another.
-    Merge,
-    /// A job is submitted.
-    Submit,
-    /// An entry is changed.
-    SetEntry,
-    /// An entry is deleted.
-    DeleteEntry,
+    /// A change.
+    Request(RequestKind),
     /// The queues, one by one.
     DisplayQueue,
     /// The jobs of queues, one by one.
@@ -55,28 +25,11 @@ pub enum Function {
     CancelOperation,
 }
 
-/// The function of a number.
-pub fn function_of(number: u16) -> Option<Function>
-    ensures { result ≡ function_of number }
+// The function of a number, if it changes nothing.
+fn listing_of(number: u16) -> Option<Function>
+    ensures { result ≡ listing_of number }
 {
     match number {
-        1 => Some(Function::Append),
-        2 => Some(Function::Fill),
-        3 => Some(Function::Drop),
-        4 => Some(Function::DefineForm),
-        5 => Some(Function::DeleteForm),
-        6 => Some(Function::DefineCharacteristic),
-        7 => Some(Function::DeleteCharacteristic),
-        8 => Some(Function::InitializeQueue),
-        9 => Some(Function::SetQueue),
-        10 => Some(Function::StartQueue),
-        11 => Some(Function::StopQueue),
-        12 => Some(Function::AbortJob),
-        13 => Some(Function::DeleteQueue),
-        14 => Some(Function::Merge),
-        15 => Some(Function::Submit),
-        16 => Some(Function::SetEntry),
-        17 => Some(Function::DeleteEntry),
         41 => Some(Function::DisplayQueue),
         42 => Some(Function::DisplayJob),
         43 => Some(Function::DisplayEntry),
@@ -85,5 +38,15 @@ pub fn function_of(number: u16) -> Option<Function>
         46 => Some(Function::DisplayManager),
         47 => Some(Function::CancelOperation),
         _ => None,
+    }
+}
+
+/// The function of a number.
+pub fn function_of(number: u16) -> Option<Function>
+    ensures { result ≡ function_of number }
+{
+    match RequestKind::of(number) {
+        Some(kind) => Some(Function::Request(kind)),
+        None => listing_of(number),
     }
 }

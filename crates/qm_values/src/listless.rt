@@ -9,24 +9,24 @@ use crate::others::{
 };
 use crate::queues::{abort_job, delete_queue, merge_of, stop_queue};
 use qm_item::Item;
-use qm_kinds::Request;
+use qm_kinds::{Request, RequestKind};
 
 /// What a function changes that takes no list of values, where nothing that it needs is missing.
 pub fn listless_of(function: Function, items: &[Item]) -> Option<Request>
     ensures { result ≡ listless_of function items.now }
 {
     match function {
-        Function::Fill => fill_of(items),
-        Function::Drop => drop_of(items),
-        Function::DefineForm => define_form(items),
-        Function::DeleteForm => delete_form(items),
-        Function::DefineCharacteristic => define_characteristic(items),
-        Function::DeleteCharacteristic => delete_characteristic(items),
-        Function::StopQueue => stop_queue(items),
-        Function::AbortJob => abort_job(items),
-        Function::DeleteQueue => delete_queue(items),
-        Function::Merge => merge_of(items),
-        Function::DeleteEntry => delete_entry(items),
+        Function::Request(RequestKind::Fill) => fill_of(items),
+        Function::Request(RequestKind::Drop) => drop_of(items),
+        Function::Request(RequestKind::DefineForm) => define_form(items),
+        Function::Request(RequestKind::DeleteForm) => delete_form(items),
+        Function::Request(RequestKind::DefineCharacteristic) => define_characteristic(items),
+        Function::Request(RequestKind::DeleteCharacteristic) => delete_characteristic(items),
+        Function::Request(RequestKind::StopQueue) => stop_queue(items),
+        Function::Request(RequestKind::AbortJob) => abort_job(items),
+        Function::Request(RequestKind::DeleteQueue) => delete_queue(items),
+        Function::Request(RequestKind::Merge) => merge_of(items),
+        Function::Request(RequestKind::DeleteEntry) => delete_entry(items),
         _ => None,
     }
 }

@@ -9,10 +9,9 @@ ghost use Rattle.qm_model.specs.Reports.{begin};
 ghost use Rattle.qm_symb.specs.TextParts.{part_in_front, part_behind};
 ghost use Rattle.qm_symb.specs.BatchCursors.{is_line_feed, IsInText, IsLineAt, Stands};
 
-use crate::TEXT_BYTES;
 use crate::batch::line::is_label_line;
-
-pub(crate) const LINE_FEED: u8 = 10;
+use crate::text::LINE_FEED;
+use qm_kinds::TEXT_LIMIT;
 
 /// Where a batch run is in its text: in front of a line, or behind the last one. It belongs to the work that it was
 /// made for.
@@ -76,7 +75,7 @@ fn first_line(text: &[u8]) -> FirstLine
 
 /// The line at a cursor and the cursor behind it, or none behind the last line.
 pub(crate) fn line_at(text: &[u8], at: Cursor) -> Option<LineAt>
-    requires short { length text.now ≤ TEXT_BYTES }
+    requires short { length text.now ≤ TEXT_LIMIT }
     requires in_text { IsInText text.now at }
     ensures { MatchOption result (drop at.line (lines text.now) ≡ []) (λ found. IsLineAt text.now at found.line.now found.next) }
 {
@@ -96,7 +95,7 @@ pub(crate) fn line_at(text: &[u8], at: Cursor) -> Option<LineAt>
 
 /// The cursor in front of the first line that is this label. It walks the text once.
 pub(crate) fn find_label(text: &[u8], label: &[u8]) -> Option<Cursor>
-    requires { length text.now ≤ TEXT_BYTES }
+    requires { length text.now ≤ TEXT_LIMIT }
     ensures place { option_map (λ found. found.line) result ≡ place_of_label label.now (lines text.now) }
     ensures in_text { IfSome result (λ found. IsInText text.now found) }
 {

@@ -5,13 +5,9 @@ ghost use Rattle.qm_model.specs.Batch.{move_at, move_to, place_of_label};
 ghost use Rattle.qm_symb.specs.BatchCursors.{IsInText};
 ghost use Rattle.qm_symb.specs.BatchMoves.{move_meaning, restart_label, StaysWithin};
 
-use crate::TEXT_BYTES;
 use crate::batch::cursor::{Cursor, find_label, line_at};
 use crate::batch::line::{Line, read_line};
-use qm_kinds::Work;
-
-// The status of a run that goes to its end.
-pub(crate) const NORMAL_STATUS: u32 = 1;
+use qm_kinds::{NORMAL_STATUS, TEXT_LIMIT, Work};
 
 // The status of a run that is to go on at a label that isn't there.
 const NO_LABEL_STATUS: u32 = 1044;
@@ -34,7 +30,7 @@ pub(crate) enum Move<'a> {
 
 // The run goes on at the first line with the label, and ends where there is none.
 fn move_to<'a>(text: &'a [u8], label: &[u8]) -> Move<'a>
-    requires { length text.now ≤ TEXT_BYTES }
+    requires { length text.now ≤ TEXT_LIMIT }
     ensures meaning { move_meaning result ≡ move_to (place_of_label label.now (lines text.now)) }
     ensures within { StaysWithin text.now result }
 {
@@ -60,7 +56,7 @@ fn restart_label(work: &Work) -> Option<&[u8]>
 ///
 /// OpenVMS User's Manual, on command procedures and `$RESTART`; DCL Dictionary, SUBMIT, /RESTART.
 pub(crate) fn move_at(work: &Work, here: Cursor) -> Move
-    requires short { length work.now.text ≤ TEXT_BYTES }
+    requires short { length work.now.text ≤ TEXT_LIMIT }
     requires in_text { IsInText work.now.text here }
     ensures meaning { move_meaning result ≡ move_at (lines work.now.text) work.now.again work.now.mark here.line }
     ensures within { StaysWithin work.now.text result }

@@ -6,10 +6,11 @@ ghost use Rattle.qm_symb.specs.Device.{Meaning};
 ghost use Rattle.qm_symb.specs.Symbiont.{IfGoesOn, IsWithinLimits, Steps};
 ghost use Rattle.qm_symb.specs.BatchCursors.{IsInText, Stands};
 
-use crate::batch::cursor::{Cursor, LINE_FEED};
-use crate::batch::moves::{Move, NORMAL_STATUS, move_at};
-use crate::{DEVICE_FAULT_STATUS, Device, TEXT_BYTES};
-use qm_kinds::{Mark, Place, Report, Work};
+use crate::batch::cursor::Cursor;
+use crate::batch::moves::{Move, move_at};
+use crate::text::LINE_FEED;
+use crate::{DEVICE_FAULT_STATUS, Device};
+use qm_kinds::{Mark, NORMAL_STATUS, Place, Report, TEXT_LIMIT, Work};
 use std::alloc::{AllocError, Global};
 
 /// How many lines a run may read.
@@ -32,7 +33,7 @@ fn spell(block: &mut Vec<u8>, text: &[u8])
 // The report of a mark, of a run that goes on at a cursor and has read so many lines.
 fn mark_report(mark: &[u8], next: Cursor, used: u32) -> Report
     requires mark { length mark.now ≤ 255 }
-    requires line { next.line ≤ TEXT_BYTES }
+    requires line { next.line ≤ TEXT_LIMIT }
     ensures { result ≡ Report.Mark mark.now (record { at = next.line + 1; used = used }) }
 {
     Report::Mark {

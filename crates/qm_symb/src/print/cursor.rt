@@ -5,8 +5,8 @@ ghost use Rattle.qm_model.specs.Pages.{flag_block, page_blocks, text_blocks};
 ghost use Rattle.qm_symb.specs.Symbiont.{IsWithinLimits};
 ghost use Rattle.qm_symb.specs.PagePlaces.{blocks_from, IsOneLess, IsDone};
 
-use crate::print::line::{FORM_FEED, LINE_FEED};
 use crate::print::page::{behind_page, page_of};
+use crate::text::{FORM_FEED, LINE_FEED};
 use qm_kinds::Work;
 use std::alloc::{AllocError, Global};
 

@@ -5,11 +5,8 @@ ghost use Rattle.qm_model.specs.Pages.{columns};
 ghost use Rattle.qm_symb.specs.TextParts.{ends_line, is_in_section, is_section_over, behind_line, bytes_of_line};
 ghost use Rattle.qm_symb.specs.PageLines.{IsFirstLine};
 
+use crate::text::{FORM_FEED, LINE_FEED};
 use qm_kinds::Shape;
-
-pub(crate) const LINE_FEED: u8 = 10;
-
-pub(crate) const FORM_FEED: u8 = 12;
 
 /// The first line that is printed of a text.
 #[derive(Clone, Copy)]

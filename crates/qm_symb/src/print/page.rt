@@ -3,7 +3,8 @@ ghost use Rattle.std.specs.Prelude.{◌≡◌, ◌<◌, ◌≤◌, ◌+◌, ◌+
 ghost use Rattle.qm_model.specs.Pages.{rows, line_block, page_block};
 ghost use Rattle.qm_symb.specs.PageLines.{first_page, IsFirstPage};
 
-use crate::print::line::{FORM_FEED, LINE_FEED, first_line};
+use crate::print::line::first_line;
+use crate::text::{FORM_FEED, LINE_FEED};
 use qm_kinds::Shape;
 use std::alloc::{AllocError, Global};
 

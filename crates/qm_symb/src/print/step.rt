@@ -10,11 +10,8 @@ ghost use Rattle.qm_symb.specs.PagePlaces.{blocks_from};
 use crate::print::cursor::{Cursor, next_block};
 use crate::{DEVICE_FAULT_STATUS, Device};
 use itoa::Buffer;
-use qm_kinds::{Mark, Place, Report, Work};
+use qm_kinds::{Mark, NORMAL_STATUS, Place, Report, Work};
 use std::alloc::{AllocError, Global};
-
-// The status of a run that goes to its end.
-const NORMAL_STATUS: u32 = 1;
 
 // The mark that says how many blocks were printed.
 fn mark_of(count: u32) -> Mark

@@ -1,3 +1,4 @@
+// Where a file stands among those that are in order of their names.
 ghost use Rattle.qm_model.specs.Find.{file_name_cmp};
 ghost use Rattle.qm_model.specs.Consistent.{IsInOrder};
 ghost use Rattle.qm_keyed.specs.Places.{IsPlace};
