@@ -2,7 +2,8 @@
 use qm_disk::{Clock, Disk, MemoryDisk, MemorySink, MemorySource};
 use qm_history::Turn;
 use qm_kinds::{Moment, NODES_LIMIT};
-use qm_program::{End, Outcome, Station, qman};
+use qm_node::Station;
+use qm_program::{End, Outcome, qman};
 use qm_symb::{MemoryDevice, Standard};
 use std::alloc::{AllocError, Global};
 use std::marker::{Send, Sync};

@@ -28,7 +28,7 @@ use Rattle.qm_chest.specs.declared.serving.Served.{Served}
 use Rattle.qm_chest.specs.At.{IsDeskOf, IsWithout}
 use Rattle.qm_chest.specs.Books.{IsBookOf}
 use Rattle.qm_chest.specs.Desk.{IsReadyDesk, desk_disk}
-use Rattle.qm_chest.specs.Duties.{ShowsDuties}
+use Rattle.qm_chest.specs.Duties.{ShowsNodeDuties}
 use Rattle.qm_chest.specs.Steps.{IsOfNodes, IsToldStep, goes_then, is_plain, is_recorded, is_step}
 use Rattle.qm_chest.specs.Whole.{IsToldBy, Leaves, both}
 
@@ -78,8 +78,8 @@ pub told_behind : (first : Event) (o : Option Event) (told : Answer) → IsSome 
 told_behind first None told some step = cc
 told_behind first (Some e) told some step = (not_full told step.1, λ hides. step.2)
 
-pub shows_duties : (took : Option Takeover) (o : Option Event) (told : Answer) → IsToldStep took o told → ShowsDuties told
-shows_duties took None told step = subst ShowsDuties (sym step) tt
+pub shows_duties : (took : Option Takeover) (o : Option Event) (told : Answer) → IsToldStep took o told → ShowsNodeDuties told
+shows_duties took None told step = subst ShowsNodeDuties (sym step) tt
 shows_duties took (Some e) told step = step.3
 
 pub recorded_some : (o : Option Event) → is_recorded o ≡ true → IsSome o

@@ -33,3 +33,8 @@ pub mod Begun
 pub mod Parted
 pub mod Served
 pub mod InPlace
+pub mod Called
+pub mod Noted
+pub mod Recordable
+pub mod SiteOpened
+pub mod Spared

@@ -27,7 +27,7 @@ use Rattle.qm_chest.specs.declared.book.Book.{Book}
 use Rattle.qm_chest.specs.declared.place.Place.{Place}
 use Rattle.qm_chest.specs.declared.serving.Served.{Served}
 use Rattle.qm_chest.specs.At.{CanBeAskedFor}
-use Rattle.qm_chest.specs.Duties.{ShowsDuties}
+use Rattle.qm_chest.specs.Duties.{ShowsNodeDuties}
 use Rattle.qm_chest.specs.Taking.{IsReadOf, IsTaking, LeavesFrom, failed, told_of_failed}
 use Rattle.qm_chest.specs.Whole.{IsServedAs, IsToldBy, both}
 use Rattle.qm_chest.proofs.Failed as failing
@@ -49,7 +49,7 @@ fault_told m before after P is tells = record { fault = λ told. tells.fault is;
 -- a takeover that failed leaves no manager
 pub failed_leaves : {D : Type 0} (m : Meaning D) (book after : Book) (disk : D) (greatest : ℕ) (closed : Closed D) (place : Option Place) (node tried : ℕ) (kept : Option Bool) (second : Option Event) (told : Answer) (s : Served D)
     → after.names.items ≡ book.names.items → after.greatest ≤ greatest → TellsFaults m disk (closed_disk closed) (is_journal told ≡ true) → (IsTrue m.tells → KeepsSpare m disk (closed_disk closed))
-    → IsToldBy (both (Some (event.TakeDoubt node tried kept)) second) told → ShowsDuties told → s ≡ failed closed place node tried kept second told → LeavesFrom m book disk greatest after s
+    → IsToldBy (both (Some (event.TakeDoubt node tried kept)) second) told → ShowsNodeDuties told → s ≡ failed closed place node tried kept second told → LeavesFrom m book disk greatest after s
 failed_leaves m book after disk greatest closed place node tried kept second told s names rises faults spare says duties is =
     subst (λ (x : Served _). LeavesFrom m book disk greatest after x) (sym is)
     (record { desk = tt; names = names; rises = rises; first = refl; faults = faults; spare = spare; down = λ journal. tt; told = says; duties = duties })

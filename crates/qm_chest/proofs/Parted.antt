@@ -27,7 +27,7 @@ use Rattle.qm_chest.specs.declared.serving.Served.{Served}
 use Rattle.qm_chest.specs.declared.taken.Taken.{Taken}
 use Rattle.qm_chest.specs.At.{CanBeAskedFor, IsDeskOf, IsWithout}
 use Rattle.qm_chest.specs.Desk.{desk_disk}
-use Rattle.qm_chest.specs.Duties.{ShowsDuties}
+use Rattle.qm_chest.specs.Duties.{ShowsNodeDuties}
 use Rattle.qm_chest.specs.Steps.{IsToldStep, OwnComes, is_plain, start_refusal_of}
 use Rattle.qm_chest.specs.Taking.{FollowsTaken, LeavesFrom, event_of, told_of}
 use Rattle.qm_chest.specs.Whole.{IsToldBy, both}
@@ -48,7 +48,7 @@ told_behind first took (Some e) told step = (not_full told step.1, λ hides. ste
 -- a manager is up, and no disk failed
 pub up_leaves : {D : Type 0} (m : Meaning D) (book after : Book) (disk : D) (manager : Manager D) (node : ℕ) (first : Event) (second : Option Event) (told : Answer) (s : Served D)
     → IsDeskOf m book.names.items (Up manager node) → after.names.items ≡ book.names.items → after.greatest ≡ book.greatest → disk_of manager ≡ disk → is_journal told ≡ false
-    → IsToldBy (both (Some first) second) told → ShowsDuties told → s ≡ record { desk = Up manager node; first = Some first; second = second; answer = told } → LeavesFrom m book disk book.greatest after s
+    → IsToldBy (both (Some first) second) told → ShowsNodeDuties told → s ≡ record { desk = Up manager node; first = Some first; second = second; answer = told } → LeavesFrom m book disk book.greatest after s
 up_leaves m book after disk manager node first second told s desk names greatest same quiet says duties is =
     subst (λ (x : Served _). LeavesFrom m book disk book.greatest after x) (sym is) (record {
       desk = subst (λ (l : List (List ℕ)). IsDeskOf m l (Up manager node)) (sym names) desk;

@@ -17,14 +17,15 @@ use Rattle.qm_history.specs.Calls.{input_of, why_of}
 use Rattle.qm_history.specs.Chest.{Adds, AddsNone, IsMadeFor, LeavesTurn, MayLeaveNone, turns_kept}
 use Rattle.qm_history.specs.Contents.{HoldWorld}
 use Rattle.qm_history.specs.Faults.{is_journal}
+use Rattle.qm_history.specs.Serving.{TellsDisk, behind}
+use Rattle.qm_chest.specs.Duties.{ShowsNodeDuties}
 use Rattle.qm_history.specs.Step.{CanAllCome, after_events}
 use Rattle.qm_history.specs.World.{IsSound}
 use Rattle.qm_chest.specs.declared.chest.Chest.{Chest}
 use Rattle.qm_chest.specs.declared.chest.State.{State}
 use Rattle.qm_chest.specs.declared.wanted.Outcome.{Outcome}
 use Rattle.qm_chest.specs.declared.wanted.Wanted.{Wanted}
-use Rattle.qm_chest.specs.At.{CanBeAskedFor, IsAt, IsServing, IsStateAt, IsSteady, LeavesOne, Serves, TellsDisk, behind, chest_disk, chest_names, state_disk}
-use Rattle.qm_chest.specs.Duties.{ShowsDuties}
+use Rattle.qm_chest.specs.At.{CanBeAskedFor, IsAt, IsServing, IsStateAt, IsSteady, LeavesOne, Serves, chest_disk, chest_names, state_disk}
 use Rattle.qm_chest.specs.Serving.{CanServe, Serving, maker_of, turn_made, wanted_by}
 use Rattle.qm_chest.specs.Whole.{IsServedAs, IsToldBy, both, turn_left}
 use Rattle.qm_chest.proofs.Holding.{SiteFilesAreAccepted, grows}
@@ -78,8 +79,8 @@ module _ (accepted : SiteFilesAreAccepted) {D : Type 0} (m : Meaning D) (only_no
     }
 
 -- why there is no turn shows no duties
-pub none_shows : (turns : List Turn) (told : Answer) → MayLeaveNone turns told → ShowsDuties told
-none_shows turns told why = ⊎_elim (λ full. subst ShowsDuties (sym full.0) tt) (λ short. subst ShowsDuties (sym short) tt) why
+pub none_shows : (turns : List Turn) (told : Answer) → MayLeaveNone turns told → ShowsNodeDuties told
+none_shows turns told why = ⊎_elim (λ full. subst ShowsNodeDuties (sym full.0) tt) (λ short. subst ShowsNodeDuties (sym short) tt) why
 
 pub none_down : (turns : List Turn) (told : Answer) → MayLeaveNone turns told → (P : Type 0) → is_journal told ≡ true → P
 none_down turns told why P is = let no : false ≡ true = sym (none_quiet turns told why) ∙ is in cc

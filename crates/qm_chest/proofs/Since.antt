@@ -23,10 +23,11 @@ use Rattle.qm_history.specs.Faults.{faults_told, is_journal, tells_disk_fault}
 use Rattle.qm_history.specs.Legal.{after_turn, after_turns}
 use Rattle.qm_history.specs.Master.{MasterState, master_text}
 use Rattle.qm_history.specs.Room.{AreAboveCap, IsAboveCap, IsRoomTold, Room, UnlessFailed, room_after_events, room_in}
+use Rattle.qm_history.specs.Serving.{TellsDisk, behind}
 use Rattle.qm_history.specs.Start.{HoldRecords, Starts}
 use Rattle.qm_history.specs.Turn.{IsCutShort, IsTurnOf}
 use Rattle.qm_history.proofs.EventLemmas.{turns_append}
-use Rattle.qm_chest.specs.At.{IsAt, IsWithout, LeavesOne, Serves, TellsDisk, behind, chest_disk}
+use Rattle.qm_chest.specs.At.{IsAt, IsWithout, LeavesOne, Serves, chest_disk}
 use Rattle.qm_chest.specs.Desk.{IsDeskAt, desk_disk}
 use Rattle.qm_chest.specs.Noting.{AreQuiet, StandsSince, chest_told, failed_with, note_of, role_at, room_behind}
 use Rattle.qm_chest.specs.declared.chest.Chest.{Chest}

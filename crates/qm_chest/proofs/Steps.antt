@@ -22,7 +22,7 @@ use Rattle.qm_store.specs.Database.{disk_of as closed_disk}
 use Rattle.qm_store.specs.Recorded.{Recorded, Holds, HoldsEither, IsAtRest, with_body}
 use Rattle.qm_store.proofs.Moving.{left_at_rest}
 use Rattle.qm_store.specs.declared.closed.Closed.{Closed}
-use Rattle.qm_store.specs.declared.master.state.TheConstants.{GREATEST_QUEUE_CAP}
+use Rattle.qm_kinds.specs.declared.limits.TheConstants.{GREATEST_CAP}
 use Rattle.qm_restore.specs.QueueFile.{IsSiteFile}
 use Rattle.qm_acting.specs.Asking.{Does, IsInDoubt, Lacks, text_of}
 use Rattle.qm_acting.specs.Standing.{Standing, standing_of, disk_of}
@@ -150,7 +150,7 @@ module _ (accepted : SiteFilesAreAccepted) (goes_on : SiteFilesGoOn) {D : Type 0
 
     -- ---- what is answered
 
-    module _ (small : cap ≤ GREATEST_QUEUE_CAP) (node reading acted : ℕ) (asked : Input) (request : Request) (took : Option Takeover) (own : own_request w node asked ≡ Some request)
+    module _ (small : cap ≤ GREATEST_CAP) (node reading acted : ℕ) (asked : Input) (request : Request) (took : Option Takeover) (own : own_request w node asked ≡ Some request)
         (mo : ℕ) (mo_is : mo ≡ acting reading (standing_of manager).system)
       where
         abbrev at_moment : ℕ

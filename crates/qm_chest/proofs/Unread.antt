@@ -32,7 +32,7 @@ use Rattle.qm_chest.specs.declared.serving.Served.{Served}
 use Rattle.qm_chest.specs.At.{CanBeAskedFor}
 use Rattle.qm_chest.specs.Books.{IsBookOf}
 use Rattle.qm_chest.specs.Desk.{IsDown}
-use Rattle.qm_chest.specs.Duties.{ShowsDuties}
+use Rattle.qm_chest.specs.Duties.{ShowsNodeDuties}
 use Rattle.qm_chest.specs.Holding.{MayHold, AllHold}
 use Rattle.qm_chest.specs.Parts.{HoldsWithin, Part}
 use Rattle.qm_chest.specs.Taking.{AreEarly, IsTaking, LeavesFrom, failed, unread_answer}
@@ -57,7 +57,7 @@ unread_told node tried live (opening.Unformatted byte) = ((λ is. cc), (λ h. cc
 unread_told node tried live (opening.Damaged file place) = ((λ is. cc), (λ h. cc))
 unread_told node tried live opening.NoMemory = ((λ is. cc), (λ h. cc))
 
-unread_duties : (live : Bool) (fault : OpenFault) → ShowsDuties (unread_answer live fault)
+unread_duties : (live : Bool) (fault : OpenFault) → ShowsNodeDuties (unread_answer live fault)
 unread_duties live opening.Disk = tt
 unread_duties live (opening.Unformatted byte) = tt
 unread_duties live (opening.Damaged file place) = tt

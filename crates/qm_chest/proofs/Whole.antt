@@ -35,7 +35,7 @@ use Rattle.qm_chest.specs.declared.desk.Desk.{Desk}
 use Rattle.qm_chest.specs.declared.desk.Desk.TheVariants.{Up, Down}
 use Rattle.qm_chest.specs.declared.chest.State.{State}
 use Rattle.qm_chest.specs.At.{IsStateAt, state_disk}
-use Rattle.qm_store.specs.declared.master.state.TheConstants.{GREATEST_QUEUE_CAP}
+use Rattle.qm_kinds.specs.declared.limits.TheConstants.{GREATEST_CAP}
 use Rattle.qm_chest.specs.declared.asking.Came.{Came}
 use Rattle.qm_chest.specs.declared.book.Book.{Book}
 use Rattle.qm_chest.specs.Books.{IsBookOf}
@@ -279,7 +279,7 @@ module _ {D : Type 0} (m : Meaning D) (cap : ℕ) (w : World) (node now : ℕ) (
 
   -- a step of a manager that is up is the whole call
   pub step_served : (old : D) (came : Came D) (book : Book) (e : Event) → is_simple e ≡ true → IsStep m cap w now now (input_of asked) None old came e → IsOwn w node now asked Nothing (input_of asked) (e ∷ [])
-      → is_down w node (input_of asked) ≡ false → takes_over w (input_of asked) ≡ false → IsBookOf (after_event w e) book → cap ≤ GREATEST_QUEUE_CAP
+      → is_down w node (input_of asked) ≡ false → takes_over w (input_of asked) ≡ false → IsBookOf (after_event w e) book → cap ≤ GREATEST_CAP
       → IsServedAs m cap w node now asked old (record { book = book; desk = came.desk }) (e ∷ []) came.answer
   step_served old came book e simple step own up none kept small =
       one_served e came.answer (is_journal came.answer) old (record { book = book; desk = came.desk }) simple step.part (own_served (e ∷ []) up none own) refl (step.told (why_of asked))

@@ -1,7 +1,7 @@
 -- The chest at a world, and what a call does to it.
 -- OpenVMS System Manager's Manual, Managing the Queue Manager and Queue Database, on the queue manager process and its files.
 -- This site's own: turns, epochs, and the record in doubt.
-use Rattle.std.specs.Prelude.{◌≡◌, ℕ, ◌+◌, ◌^◌, ◌<◌, ◌≤◌, false, IsTrue, IsOk, List, ◌++◌, length, map, option_to_list, Option, None, Some}
+use Rattle.std.specs.Prelude.{◌≡◌, ℕ, ◌+◌, ◌^◌, ◌<◌, ◌≤◌, IsTrue, IsOk, List, ◌++◌, length, map, option_to_list, Option}
 use Rattle.qm_disk.specs.Disk.{Meaning}
 use Rattle.qm_glog.specs.Records.{IsLog}
 use Rattle.qm_kinds.specs.declared.input.Input.{Input}
@@ -9,7 +9,7 @@ use Rattle.qm_kinds.specs.declared.input.Input.TheVariants as input
 use Rattle.qm_kinds.specs.declared.moment.TheConstants.{LAST_MOMENT}
 use Rattle.qm_kinds.specs.declared.request.Request.{Request}
 use Rattle.qm_kinds.specs.declared.system.System.{System}
-use Rattle.qm_store.specs.declared.master.state.TheConstants.{GREATEST_QUEUE_CAP}
+use Rattle.qm_kinds.specs.declared.limits.TheConstants.{GREATEST_CAP}
 use Rattle.qm_model.specs.Applied.{applied}
 use Rattle.qm_model.specs.Lawful.{IsLawful}
 use Rattle.qm_model.specs.Log.{request_record}
@@ -21,9 +21,8 @@ use Rattle.qm_history.specs.declared.call.Call.{Call}
 use Rattle.qm_history.specs.declared.turn.Turn.{Turn}
 use Rattle.qm_history.specs.declared.world.World.{World}
 use Rattle.qm_history.specs.Calls.{IsForUsers}
-use Rattle.qm_history.specs.Chest.{Adds, IsMadeFor, LeavesTurn, TellsRoom, hides_events}
-use Rattle.qm_history.specs.Faults.{is_journal, tells_disk_fault}
-use Rattle.qm_history.specs.Legal.{after_turn}
+use Rattle.qm_history.specs.Chest.{Adds, IsMadeFor, LeavesTurn, TellsRoom}
+use Rattle.qm_history.specs.Serving.{TellsDisk, behind}
 use Rattle.qm_history.specs.World.{IsSound}
 use Rattle.qm_chest.specs.Desk.{desk_disk, IsDeskAt}
 use Rattle.qm_chest.specs.Books.{IsBookOf}
@@ -38,7 +37,7 @@ use Rattle.qm_chest.specs.declared.desk.Desk.TheVariants.{Up, Down}
 pub record IsStateAt {D : Type 0} (m : Meaning D) (cap : ℕ) (w : World) (state : State D) : Type 0 where
   pub book : IsBookOf w state.book
   pub desk : IsDeskAt m cap w state.desk
-  pub small : cap ≤ GREATEST_QUEUE_CAP
+  pub small : cap ≤ GREATEST_CAP
 
 -- The same of a chest, in a sound world whose epochs are so early that all turns that the chest can still keep find epochs that a
 -- master can hold.
@@ -57,6 +56,10 @@ chest_disk chest = state_disk chest.state
 -- the names of its nodes
 abbrev pub chest_names : {D : Type 0} → Chest D → List (List ℕ)
 chest_names chest = chest.state.book.names.items
+
+-- the turns that were made on it
+abbrev pub chest_turns : {D : Type 0} → Chest D → List Turn
+chest_turns chest = chest.turns.items
 
 -- ---- whatever the disks tell
 
@@ -95,16 +98,6 @@ CanBeAskedFor node input.StopNode = Unit {0}
 CanBeAskedFor node (input.Fault place kind) = Unit {0}
 
 -- ---- what a call does
-
--- the world behind a turn, if one was left
-abbrev pub behind : World → Option Turn → World
-behind w None = w
-behind w (Some t) = after_turn w t
-
--- the answer tells that a disk failed just where the turn does, unless it hides what the turn tells
-abbrev pub TellsDisk : Option Turn → Answer → Type 0
-TellsDisk None told = Unit {0}
-TellsDisk (Some t) told = hides_events told ≡ false → is_journal told ≡ tells_disk_fault t.events
 
 -- The call of this node at this reading left one turn more, of that node, moment and call, or none for a reason.
 pub record LeavesOne (node now : ℕ) (asked : Call) (old new : List Turn) (told : Answer) : Type 0 where

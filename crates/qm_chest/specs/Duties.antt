@@ -16,6 +16,6 @@ pub record AreOfSome (shown : List Duty) : Type 0 where
   pub consistent : IsConsistent system
   pub are : shown ≡ duties system node known
 
-abbrev pub ShowsDuties : Answer → Type 0
-ShowsDuties (answer.Duties took moment shown) = AreOfSome shown
-ShowsDuties told = Unit {0}
+abbrev pub ShowsNodeDuties : Answer → Type 0
+ShowsNodeDuties (answer.Duties took moment shown) = AreOfSome shown
+ShowsNodeDuties told = Unit {0}

@@ -3,7 +3,6 @@ pub mod Parts
 pub mod Turns
 pub mod Books
 pub mod Desk
-pub mod Duties
 pub mod Steps
 pub mod At
 pub mod Whole
@@ -12,3 +11,8 @@ pub mod Taking
 pub mod Checking
 pub mod Noting
 pub mod Serving
+pub mod Fitting
+pub mod Manager
+pub mod Noted
+pub mod Opening
+pub mod Duties

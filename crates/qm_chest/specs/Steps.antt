@@ -10,7 +10,7 @@ use Rattle.qm_kinds.specs.declared.refusal.Refusal.TheVariants as refused
 use Rattle.qm_kinds.specs.declared.request.Request.{Request}
 use Rattle.qm_kinds.specs.declared.request.Request.TheVariants as request
 use Rattle.qm_kinds.specs.declared.system.System.{System}
-use Rattle.qm_store.specs.declared.master.state.TheConstants.{GREATEST_QUEUE_CAP}
+use Rattle.qm_kinds.specs.declared.limits.TheConstants.{GREATEST_CAP}
 use Rattle.qm_model.specs.Applied.{are_numbers_spent}
 use Rattle.qm_model.specs.Rows.{ManagerRole, view}
 use Rattle.qm_store.specs.Database.{disk_of as closed_disk}
@@ -34,7 +34,7 @@ use Rattle.qm_history.specs.Step.{after_event}
 use Rattle.qm_history.specs.Turn.{Beside, IsAsked, IsOwn, Nothing}
 use Rattle.qm_history.specs.World.{is_live}
 use Rattle.qm_chest.specs.Desk.{desk_disk, IsDeskAt, IsUp}
-use Rattle.qm_chest.specs.Duties.{ShowsDuties}
+use Rattle.qm_chest.specs.Duties.{ShowsNodeDuties}
 use Rattle.qm_chest.specs.Parts.{Part}
 use Rattle.qm_chest.specs.Books.{IsBookOf}
 use Rattle.qm_chest.specs.declared.answering.Step.{Step}
@@ -87,7 +87,7 @@ ComesTo m cap w node reading acted asked wanted took old came (Some e) =
 -- the same in each world for which the manager stands, of each call whose own request it is
 abbrev pub Comes : {D : Type 0} → Meaning D → Manager D → ℕ → Bool → ℕ → ℕ → Request → Option Takeover → Came D → Type 0
 Comes m manager at live node reading wanted took came =
-    (cap : ℕ) (w : World) (asked : Input) (acted : ℕ) → cap ≤ GREATEST_QUEUE_CAP → IsUp m cap w manager at → is_live w node ≡ live
+    (cap : ℕ) (w : World) (asked : Input) (acted : ℕ) → cap ≤ GREATEST_CAP → IsUp m cap w manager at → is_live w node ≡ live
     → own_request w node asked ≡ Some wanted
     → ComesTo m cap w node reading acted asked wanted took (disk_of manager) came came.event
 
@@ -100,7 +100,7 @@ OwnComesTo m cap w node reading acted asked beside took old came (Some e) =
 -- the same in each world for which the manager and what is kept of the nodes stand
 abbrev pub OwnComes : {D : Type 0} → Meaning D → Book → Manager D → ℕ → ℕ → ℕ → ℕ → Input → Beside → Option Takeover → Came D → Type 0
 OwnComes m book manager at node reading acted asked beside took came =
-    (cap : ℕ) (w : World) → cap ≤ GREATEST_QUEUE_CAP → IsBookOf w book → IsUp m cap w manager at
+    (cap : ℕ) (w : World) → cap ≤ GREATEST_CAP → IsBookOf w book → IsUp m cap w manager at
     → OwnComesTo m cap w node reading acted asked beside took (disk_of manager) came came.event
 
 -- ---- whatever the disks tell
@@ -139,7 +139,7 @@ is_step (event.CompactDoubt node) = false
 -- A step without an event is told that memory was short. Another one has an answer, which tells of a disk where the event does.
 abbrev pub IsToldStep : Option Takeover → Option Event → Answer → Type 0
 IsToldStep took None told = told ≡ answer.NoMemory took
-IsToldStep took (Some e) told = (is_step e ≡ true) × (is_plain told ≡ true) × (is_journal told ≡ is_disk_fault e) × ShowsDuties told
+IsToldStep took (Some e) told = (is_step e ≡ true) × (is_plain told ≡ true) × (is_journal told ≡ is_disk_fault e) × ShowsNodeDuties told
 
 -- a manager that is still up is of these nodes, and on this one
 abbrev pub IsOfNodes : {D : Type 0} → List (List ℕ) → ℕ → Desk D → Type 0

@@ -10,7 +10,7 @@ use Rattle.qm_kinds.specs.declared.request.Request.{Request}
 use Rattle.qm_kinds.specs.declared.request.Request.TheVariants as request
 use Rattle.qm_kinds.specs.declared.system.Node.{Node}
 use Rattle.qm_kinds.specs.declared.system.System.{System}
-use Rattle.qm_store.specs.declared.master.state.TheConstants.{GREATEST_QUEUE_CAP}
+use Rattle.qm_kinds.specs.declared.limits.TheConstants.{GREATEST_CAP}
 use Rattle.qm_model.specs.Acting.{acting}
 use Rattle.qm_model.specs.Find.{is_among}
 use Rattle.qm_model.specs.Folding.{system_of}
@@ -40,7 +40,7 @@ use Rattle.qm_history.specs.World.{doubt_read, log_read, nodes_where, system_in}
 use Rattle.qm_chest.specs.At.{IsDeskOf, IsWithout}
 use Rattle.qm_chest.specs.Books.{IsBookOf}
 use Rattle.qm_chest.specs.Desk.{IsUp, desk_disk}
-use Rattle.qm_chest.specs.Duties.{ShowsDuties}
+use Rattle.qm_chest.specs.Duties.{ShowsNodeDuties}
 use Rattle.qm_chest.specs.Holding.{MayHold, AllHold}
 use Rattle.qm_chest.specs.Parts.{HoldsWithin, Part}
 use Rattle.qm_chest.specs.Whole.{AsksToTake, IsServedAs, IsToldBy, both}
@@ -119,7 +119,7 @@ unread_answer live opening.NoMemory = answer.NoMemory None
 pub record IsTaking (known : Book) (node : ℕ) (what : Input) (cap : ℕ) (w : World) (asked : Call) : Type 0 where
   pub asks : AsksToTake node what w asked
   pub book : IsBookOf w known
-  pub small : cap ≤ GREATEST_QUEUE_CAP
+  pub small : cap ≤ GREATEST_CAP
   pub early : w.greatest + 1 < 2 ^ 62
   pub named : not (is_none w.manager || is_named (system_in w) (nodes_on what) node) ≡ false
 
@@ -195,7 +195,7 @@ pub record LeavesFrom {D : Type 0} (m : Meaning D) (old : Book) (disk : D) (grea
   pub spare : IsTrue m.tells → KeepsSpare m disk (desk_disk served.desk)
   pub down : is_journal served.answer ≡ true → IsWithout served.desk
   pub told : IsToldBy (both served.first served.second) served.answer
-  pub duties : ShowsDuties served.answer
+  pub duties : ShowsNodeDuties served.answer
 
 -- a manager of the same nodes is up behind a takeover that stands, and no disk failed
 pub record TakesFrom {D : Type 0} (m : Meaning D) (old : Book) (disk : D) (node : ℕ) (new : Book) (taken : Taken D) : Type 0 where

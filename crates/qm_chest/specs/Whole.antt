@@ -18,12 +18,13 @@ use Rattle.qm_history.specs.Answers.{plain}
 use Rattle.qm_history.specs.Calls.{input_of}
 use Rattle.qm_history.specs.Chest.{Adds, TellsRoom, hides_events}
 use Rattle.qm_history.specs.Faults.{is_journal, tells_disk_fault}
+use Rattle.qm_history.specs.Serving.{behind}
+use Rattle.qm_chest.specs.Duties.{ShowsNodeDuties}
 use Rattle.qm_history.specs.Takeover.{takes_over}
 use Rattle.qm_history.specs.Turn.{is_down}
 use Rattle.qm_history.specs.World.{IsSound}
-use Rattle.qm_chest.specs.At.{IsDeskOf, IsStateAt, IsWithout, behind, state_disk}
+use Rattle.qm_chest.specs.At.{IsDeskOf, IsStateAt, IsWithout, state_disk}
 use Rattle.qm_chest.specs.Desk.{desk_disk}
-use Rattle.qm_chest.specs.Duties.{ShowsDuties}
 use Rattle.qm_chest.specs.Turns.{made_turn}
 use Rattle.qm_chest.specs.declared.book.Book.{Book}
 use Rattle.qm_chest.specs.declared.chest.State.{State}
@@ -109,7 +110,7 @@ pub record Leaves {D : Type 0} (m : Meaning D) (old : Book) (was : Desk D) (new 
   pub spare : IsTrue m.tells → KeepsSpare m (desk_disk was) (desk_disk served.desk)
   pub down : is_journal served.answer ≡ true → IsWithout served.desk
   pub told : IsToldBy (both served.first served.second) served.answer
-  pub duties : ShowsDuties served.answer
+  pub duties : ShowsNodeDuties served.answer
 
 -- Where the disks tell, it stands for a world, whose greatest epoch is so early that one more can be tried.
 pub record StandsEarly {D : Type 0} (m : Meaning D) (state : State D) : Type 0 where

@@ -5,9 +5,9 @@ ghost use Rattle.qm_store.specs.Database.{disk_of as closed_disk};
 ghost use Rattle.qm_acting.specs.Spare.{KeepsSpare};
 ghost use Rattle.qm_history.specs.Calls.{input_of};
 ghost use Rattle.qm_history.specs.Faults.{is_journal};
+ghost use Rattle.qm_chest.specs.Duties.{ShowsNodeDuties};
 ghost use Rattle.qm_history.specs.declared.world.World.{World};
 ghost use Rattle.qm_chest.specs.At.{CanBeAskedFor, IsAt, IsServing, IsWithout, LeavesOne, Serves, chest_disk, chest_names};
-ghost use Rattle.qm_chest.specs.Duties.{ShowsDuties};
 ghost use Rattle.qm_chest.specs.Checking.{Begins, IsChecked, checked_disk, checked_standing};
 
 use crate::book::Book;
@@ -28,7 +28,10 @@ use std::alloc::{AllocError, Global};
 
 impl<D: Disk> Chest<D> {
     /// A chest that begins on files that were read, each node of theirs being live. An `Err` hands them back, for want of memory.
-    pub fn new(alloc: Global, checked: Checked<D>) -> Result<Chest<D>, (Closed<D>, AllocError)>
+    pub(crate) fn new(
+        alloc: Global,
+        checked: Checked<D>,
+    ) -> Result<Chest<D>, (Closed<D>, AllocError)>
         requires checked { IsChecked D.meaning checked }
         requires early { IsTrue D.meaning.tells → (checked_standing checked).recorded.says.epoch < 2 ^ 61 }
         ensures begins { IfOk result (Begins D.meaning checked) }
@@ -58,9 +61,9 @@ impl<D: Disk> Chest<D> {
         self.state.book.names.as_slice()
     }
 
-    /// Serves a call of a node, whose clock told this before. It leaves one turn more, or none: where as many are kept as can be, or
-    /// memory was short before a takeover.
-    pub fn serve(&mut self, node: u8, now: Moment, call: Call) -> Answer
+    /// Serves a call of a node, whose clock told this before. It leaves one turn more, or none: where as many are kept as can be,
+    /// or memory was short before a takeover.
+    pub(crate) fn serve_call(&mut self, node: u8, now: Moment, call: Call) -> Answer
         requires serving { IsServing D.meaning self.old }
         requires there { node < length (chest_names self.old) }
         requires can { CanBeAskedFor node (input_of call) }
@@ -71,7 +74,7 @@ impl<D: Disk> Chest<D> {
         ensures one { LeavesOne node now call self.old.turns.items self.new.turns.items result }
         ensures serving { IsServing D.meaning self.new }
         ensures names { chest_names self.new ≡ chest_names self.old }
-        ensures duties { ShowsDuties result }
+        ensures duties { ShowsNodeDuties result }
 
         // That a disk failed is told just where one did, and then no manager is up.
         ensures faults { TellsFaults D.meaning (chest_disk self.old) (chest_disk self.new) (is_journal result ≡ true) }
@@ -112,7 +115,7 @@ impl<D: Disk> Chest<D> {
     }
 
     /// The files, and the turns that were made.
-    pub fn end(self) -> (Closed<D>, Vec<Turn>)
+    pub(crate) fn end(self) -> (Closed<D>, Vec<Turn>)
         ensures disk { closed_disk result.0 ≡ chest_disk self }
         ensures turns { result.1.items ≡ self.turns.items }
     {

@@ -17,7 +17,7 @@ const GREATEST_SIZE: u64 = 1 << 62;
 /// Reads the master and the live queue file of a device, each behind a sync, and makes the image for which they stand. Nothing is
 /// changed. `Unformatted` comes where the master doesn't begin with a record, `Damaged` with the place of the first record that is
 /// cut short or can't stand there. An `Err` hands the device back.
-pub fn check<D: Disk>(alloc: Global, disk: D) -> Result<Checked<D>, (D, LoadFault)>
+pub(crate) fn check<D: Disk>(alloc: Global, disk: D) -> Result<Checked<D>, (D, LoadFault)>
     ensures found { IsTrue D.meaning.tells → Checks (D.meaning.seen disk) result }
     ensures checked { IfOk result (IsChecked D.meaning) }
 

@@ -18,7 +18,7 @@ use qm_restore::site_files_are_accepted;
 
 /// A chest that begins on files that were read stands for no notes, since then: in the world with which a program begins there, where the
 /// disks tell.
-pub fn chests_begin_without_notes<D: Disk>()
+pub(crate) fn chests_begin_without_notes<D: Disk>()
     ensures { (checked : Checked D) (chest : Chest D) (w : World) → Begins D.meaning checked chest
         → D.meaning.faults (chest_disk chest) < 2 ^ 64 → (IsTrue D.meaning.tells → StartsEarly (D.meaning.seen (chest_disk chest)) w)
         → StandsSince D.meaning (checked_standing checked).recorded.says.cap w (chest_disk chest) chest 0 [] }

@@ -14,11 +14,11 @@ use crate::book::Book;
 use qm_acting::Manager;
 use qm_disk::Disk;
 use qm_history::{Answer, Takeover};
+use qm_image::Refused;
 use qm_kinds::{Input, Listing, Moment, Query, Row, Seq};
 use qm_restore::{site_files_are_accepted, site_files_are_consistent};
 use qm_rows::Rows;
 use qm_scan::the_manager_shows_in_its_listing;
-use qm_image::Refused;
 use std::alloc::AllocError;
 
 /// The runs of a node.

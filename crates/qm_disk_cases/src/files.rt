@@ -1,11 +1,12 @@
 // Files that are logs, and files that are none.
 ghost use Rattle.std.specs.Prelude.{◌≤◌};
-ghost use Rattle.qm_glog.specs.declared.log.TheConstants.{GREATEST_CAP};
+ghost use Rattle.qm_kinds.specs.declared.limits.TheConstants.{GREATEST_CAP};
 
 use crate::crashes::disk_of;
 use crate::told::{Cases, assert_told, bytes};
 use qm_disk::MemoryDisk;
-use qm_glog::{GREATEST_CAP, OpenFault, open};
+use qm_glog::{OpenFault, open};
+use qm_kinds::GREATEST_CAP;
 use std::alloc::{AllocError, Global};
 
 /// How many records a log in file 1 has, or why it can't be opened.

@@ -1,12 +1,13 @@
 // A stop within a call, and a device that fails at each call.
 ghost use Rattle.std.specs.Prelude.{◌≤◌};
-ghost use Rattle.qm_glog.specs.declared.log.TheConstants.{GREATEST_CAP};
+ghost use Rattle.qm_kinds.specs.declared.limits.TheConstants.{GREATEST_CAP};
 
 use crate::crashes::{disk_of, ending};
 use crate::files::opened;
 use crate::told::{Cases, assert_told, number};
 use qm_disk::{Disk, MemoryDisk};
-use qm_glog::{AppendFault, GREATEST_CAP, Log, MakeFault, OpenFault, create, format, open};
+use qm_glog::{AppendFault, Log, MakeFault, OpenFault, create, format, open};
+use qm_kinds::GREATEST_CAP;
 use std::alloc::{AllocError, Global};
 
 const BODY: [u8; 3] = [7, 8, 9];

@@ -6,12 +6,12 @@ ghost use Rattle.qm_model.specs.Ending.{queue_retain, ended, requeued, fated, en
 ghost use Rattle.qm_model.specs.Runs.{after_report, report_act};
 ghost use Rattle.qm_rules.specs.Ending.{report_of};
 
-use qm_kinds::{Act, Entry, EntryState, Fate, JobRetain, Mark, Moment, Name, QueueRetain, success};
+use qm_kinds::{
+    ABORTED_STATUS, Act, Entry, EntryState, Fate, JobRetain, Mark, Moment, Name, QueueRetain,
+    success,
+};
 use qm_queues::QueueTable;
 use qm_rules::Reported;
-
-/// The status of a job that was aborted.
-const ABORTED_STATUS: u32 = 44;
 
 // Whether a job is kept: by its own setting, or by that of the queue where it ran.
 fn is_retained(retain: JobRetain, queue: QueueRetain, success: bool, now: Moment) -> bool

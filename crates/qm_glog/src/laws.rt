@@ -1,7 +1,7 @@
 // Laws of files of records: what `open` finds is determined by the bytes.
 ghost use Rattle.std.specs.Prelude.{◌≡◌, ℕ, List};
 ghost use Rattle.qm_glog.specs.Records.{IsLog, IsDamaged};
-ghost use Rattle.qm_glog.specs.declared.log.TheConstants.{GREATEST_CAP};
+ghost use Rattle.qm_kinds.specs.declared.limits.TheConstants.{GREATEST_CAP};
 
 /// A file is the log of one list of records.
 pub fn one_list()

@@ -15,6 +15,6 @@ mod through;
 
 pub use fault::{AppendFault, MakeFault, OpenFault};
 pub use laws::{a_log_has_a_greatest_cap, one_list, one_place, sound_if_log};
-pub use log::{GREATEST_CAP, Log};
+pub use log::Log;
 pub use making::{create, format};
 pub use opening::open;

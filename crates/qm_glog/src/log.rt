@@ -3,17 +3,15 @@ ghost use Rattle.std.specs.Prelude.{◌≡◌, ◌+◌, ◌<◌, ◌≤◌, IsTr
 ghost use Rattle.qm_disk.specs.Disk.{TellsFaults};
 ghost use Rattle.qm_glog.specs.Records.{size_of};
 ghost use Rattle.qm_glog.specs.Bodies.{list_of, free_bytes, free_ends};
-ghost use Rattle.qm_glog.specs.declared.log.TheConstants.{GREATEST_CAP};
+ghost use Rattle.qm_kinds.specs.declared.limits.TheConstants.{GREATEST_CAP};
 
 use crate::AppendFault;
 use crate::bodies::Bodies;
 use crate::spare::spell;
 use crate::through::write_through;
 use qm_disk::Disk;
+use qm_kinds::GREATEST_CAP;
 use std::alloc::{AllocError, Global};
-
-/// The greatest cap of a log, in bytes.
-pub const GREATEST_CAP: u64 = 268_435_456;
 
 /// The records of one file of a disk, which it doesn't own.
 #[derive(Drop)]

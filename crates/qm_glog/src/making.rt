@@ -7,9 +7,10 @@ ghost use Rattle.qm_glog.specs.Log.{bodies_of, IsAsLeft, StandsIn};
 
 use crate::MakeFault;
 use crate::bodies::Bodies;
-use crate::log::{GREATEST_CAP, Log};
+use crate::log::Log;
 use crate::through::replace;
 use qm_disk::{Disk, DiskFault};
+use qm_kinds::GREATEST_CAP;
 use std::alloc::{AllocError, Global};
 
 // Adds an open record to the text of a file.

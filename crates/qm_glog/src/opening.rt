@@ -3,9 +3,10 @@ ghost use Rattle.std.specs.Prelude.{◌≡◌, ◌≤◌, IsTrue, IsErr, length,
 ghost use Rattle.qm_disk.specs.Disk.{Only, OnlyLooks, TellsFaults};
 ghost use Rattle.qm_glog.specs.Log.{IsAsLeft, StandsIn};
 ghost use Rattle.qm_glog.specs.Opened.{Opens};
+ghost use Rattle.qm_kinds.specs.declared.limits.TheConstants.{GREATEST_CAP};
 
 use crate::OpenFault;
-use crate::log::{GREATEST_CAP, Log};
+use crate::log::Log;
 use crate::reading::read_records;
 use qm_disk::{Disk, DiskFault};
 use std::alloc::Global;

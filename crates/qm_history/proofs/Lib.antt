@@ -38,3 +38,4 @@ pub mod RequeueLemmas
 pub mod MasterLemmas
 pub mod LeftOut
 pub mod ReportLemmas
+pub mod ShownDuties

@@ -39,3 +39,6 @@ pub mod Judged
 pub mod Laws
 pub mod FileLaws
 pub mod CourseLaws
+pub mod ShownDuties
+pub mod Askable
+pub mod Serving

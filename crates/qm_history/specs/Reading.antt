@@ -1,11 +1,12 @@
 -- What a line of a script asks for.
 -- DCL Dictionary; OpenVMS System Services Reference Manual, $SNDJBC and $GETQUI. This site's own: acts at the site, and item lists
 -- in hexadecimal.
-use Rattle.std.specs.Prelude.{ℕ, nat_le, Bool, ◌&&◌, ◌||◌, if◌then◌else◌, List, Option, None, Some}
+use Rattle.std.specs.Prelude.{ℕ, nat_le, Bool, ◌&&◌, ◌||◌, if◌then◌else◌, is_some, List, Option, None, Some}
 use Rattle.std.specs.Option.{option_and_then}
 use Rattle.qm_kinds.specs.declared.input.Input.{Input}
 use Rattle.qm_kinds.specs.declared.input.Input.TheVariants as input
 use Rattle.qm_kinds.specs.declared.refusal.ParseKind.TheVariants as parse
+use Rattle.qm_kinds.specs.Requests.{request_kind}
 use Rattle.qm_model.specs.Script.{act_number}
 use Rattle.qm_model.specs.Texts.{cut_at_blank}
 use Rattle.qm_dcl.specs.Command.{command_of}
@@ -17,7 +18,7 @@ use Rattle.qm_history.specs.Visits.{Visit}
 
 -- a function of requests, or of listings
 abbrev pub is_function : ℕ → Bool
-is_function n = nat_le 1 n && nat_le n 17 || nat_le 41 n && nat_le n 47
+is_function n = is_some (request_kind n) || nat_le 41 n && nat_le n 47
 
 -- the function that a number names
 abbrev pub function_of : List ℕ → Option ℕ

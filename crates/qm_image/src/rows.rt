@@ -18,33 +18,12 @@ use qm_queues::{FormTable, QueueTable};
 use qm_timers::Spool;
 use std::alloc::{AllocError, Global};
 
-// A copy of a queue.
-fn copy_queue(alloc: Global, queue: &Queue) -> Result<Queue, AllocError>
-    ensures { IfOk result (λ copy. copy ≡ queue.now) }
-{
-    Ok(Queue {
-        name: queue.name,
-        kind: queue.kind,
-        state: queue.state,
-        node: queue.node,
-        device: queue.device,
-        limit: queue.limit,
-        characteristics: queue.characteristics,
-        mounted: queue.mounted,
-        lower: queue.lower,
-        upper: queue.upper,
-        by_size: queue.by_size,
-        retain: queue.retain,
-        targets: Seq::of(Vec::from_slice(alloc, queue.targets.as_slice())?),
-    })
-}
-
 fn copy_queues(alloc: Global, queues: &[Queue]) -> Result<Vec<Queue>, AllocError>
     ensures { IfOk result (λ copies. copies.items ≡ queues.now) }
 {
     let mut copies = Vec::new(alloc);
     for queue in queues {
-        copies.push(copy_queue(alloc, queue)?)?;
+        copies.push(queue.copy(alloc)?)?;
     }
     Ok(copies)
 }

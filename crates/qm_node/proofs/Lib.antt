@@ -4,3 +4,10 @@ pub mod Stepped
 pub mod Fetched
 pub mod Learning
 pub mod Measure
+pub mod Askable
+pub mod Called
+pub mod Ends
+pub mod Fronts
+pub mod Lives
+pub mod Heard
+pub mod Made

@@ -4,3 +4,12 @@ pub mod Steps
 pub mod Rows
 pub mod Measure
 pub mod Node
+pub mod Answered
+pub mod Asking
+pub mod Ends
+pub mod Living
+pub mod Seats
+pub mod Sides
+pub mod Standing
+pub mod Taken
+pub mod Coming

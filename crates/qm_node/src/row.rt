@@ -6,12 +6,9 @@ ghost use Rattle.qm_node.specs.Rows.{bare};
 ghost use Rattle.qm_node.specs.Steps.{IsStep};
 
 use qm_keyed::Keyed;
-use qm_kinds::{Place, Report, Work};
+use qm_kinds::{ABORTED_STATUS, Place, Report, Work};
 use qm_symb::Symbiont;
 use std::alloc::AllocError;
-
-/// The status with which a run ends that is cut short.
-pub const ABORTED_STATUS: u32 = 44;
 
 /// A run, what the last fetch said of it, and how far it is: its place, and the cursor of its symbiont.
 #[derive(Drop)]

@@ -3,7 +3,7 @@ use Rattle.std.proofs.Common.{inl, ℕ, List, [], Option, None, Some, refl}
 use Rattle.qm_acting.proofs.Spare.{keeps_same}
 use Rattle.qm_disk.proofs.Moments.{looks_not}
 use Rattle.qm_disk.specs.Disk.{CrashState, IsLeft, Meaning}
-use Rattle.qm_service.specs.Serving.{Outside}
+use Rattle.qm_serving.specs.Serving.{Outside}
 use Rattle.qm_symb.specs.Device as symb
 use Rattle.qm_program.specs.Doing.{Does, SpareStays}
 use Rattle.qm_program.specs.declared.outcome.End.TheVariants as ends

@@ -6,8 +6,8 @@ use Rattle.qm_acting.specs.Reading.{IsRestoreFault}
 use Rattle.qm_acting.specs.Spare.{KeepsSpare}
 use Rattle.qm_acting.proofs.Spare.{keeps_on, looks_keep}
 use Rattle.qm_chest.specs.Noting.{StartsEarly}
-use Rattle.qm_course.specs.Runs.{Side}
-use Rattle.qm_course.specs.Taken.{RoseBy}
+use Rattle.qm_node.specs.Sides.{Side}
+use Rattle.qm_node.specs.Taken.{RoseBy}
 use Rattle.qm_disk.specs.Disk.{Meaning, OnlyLooks, TellsFaults}
 use Rattle.qm_glog.specs.declared.fault.OpenFault.{OpenFault}
 use Rattle.qm_glog.specs.declared.fault.OpenFault.TheVariants as opening
@@ -23,12 +23,12 @@ use Rattle.qm_kinds.specs.declared.script.ScriptKind.TheVariants.{Long}
 use Rattle.qm_script.specs.ClusterLines.{ReadsLines}
 use Rattle.qm_script.specs.declared.lines.LinesEnd.{LinesEnd}
 use Rattle.qm_script.specs.declared.lines.LinesEnd.TheVariants as lines
-use Rattle.qm_script.specs.declared.script.TheConstants.{SCRIPT_BYTES}
-use Rattle.qm_service.specs.Ends.{CountsSink}
-use Rattle.qm_service.specs.Opening.{IsOpened}
-use Rattle.qm_service.specs.Serving.{Outside, outside}
-use Rattle.qm_service.specs.Value.{service_disk, service_names}
-use Rattle.qm_service.specs.declared.service.Service.{Service}
+use Rattle.qm_kinds.specs.declared.limits.TheConstants.{TEXT_LIMIT}
+use Rattle.qm_cluster.specs.Ends.{CountsSink}
+use Rattle.qm_chest.specs.Opening.{IsOpened}
+use Rattle.qm_serving.specs.Serving.{Outside, outside}
+use Rattle.qm_chest.specs.At.{chest_disk, chest_names}
+use Rattle.qm_chest.specs.declared.chest.Chest.{Chest}
 use Rattle.qm_program.specs.Causes.{HasCause, HasReason}
 use Rattle.qm_program.specs.Ends.{EndsUnopened, EndsUnserved, IsBehindText, end_of_lines, end_of_serving}
 use Rattle.qm_program.specs.Reading.{AreKnown, HoldCluster, IsFaulty, IsFirstFault, IsRead, IsScript, Reads}
@@ -109,30 +109,30 @@ module _ {D Y : Type 0} (m : Meaning D)
 
   -- ---- over a site that was opened
 
-  module _ (source sink later : ℕ) (disk : D) (service : Service D) (opened : IsOpened m disk service) where
-    holds : IsTrue m.tells → HoldCluster (m.seen disk) (service_names service)
+  module _ (source sink later : ℕ) (disk : D) (chest : Chest D) (opened : IsOpened m disk chest) where
+    holds : IsTrue m.tells → HoldCluster (m.seen disk) (chest_names chest)
     holds tells = holds_in (opened.begins tells)
       where
-        holds_in : (w : World) × StartsEarly (m.seen disk) w → HoldCluster (m.seen disk) (service_names service)
+        holds_in : (w : World) × StartsEarly (m.seen disk) w → HoldCluster (m.seen disk) (chest_names chest)
         holds_in begins = record { world = begins.0; starts = begins.1; names_are = opened.names tells }
 
     -- no lines were read
-    pub unread : {X : Type 0} (view : X → List UserLine) (taken : Option (List ℕ)) (sides : List (Side Y)) (end : LinesEnd) → ReadsLines view (script_lines (Some (service_names service)) text) (Err end)
-        → Ends source sink disk (service_disk service) taken sides opened.looks (end_of_lines end)
+    pub unread : {X : Type 0} (view : X → List UserLine) (taken : Option (List ℕ)) (sides : List (Side Y)) (end : LinesEnd) → ReadsLines view (script_lines (Some (chest_names chest)) text) (Err end)
+        → Ends source sink disk (chest_disk chest) taken sides opened.looks (end_of_lines end)
     unread view taken sides (lines.Fault line kind) is =
-        ends_faulty source sink disk (service_disk service) taken sides opened.looks (Some (service_names service)) (opened.quiet, holds) (record { line = line; kind = kind }) is
+        ends_faulty source sink disk (chest_disk chest) taken sides opened.looks (Some (chest_names chest)) (opened.quiet, holds) (record { line = line; kind = kind }) is
     unread view taken sides lines.NoMemory is =
-        ends_short source sink disk (service_disk service) taken sides opened.looks (Some (service_names service)) (opened.quiet, holds) is
+        ends_short source sink disk (chest_disk chest) taken sides opened.looks (Some (chest_names chest)) (opened.quiet, holds) is
 
-    module _ (script : List UserLine) (is : script_lines (Some (service_names service)) text ≡ Ok script) (taken now : Option (List ℕ)) (was are : List (Side Y)) (new : D) (turns : List Turn) where
+    module _ (script : List UserLine) (is : script_lines (Some (chest_names chest)) text ≡ Ok script) (taken now : Option (List ℕ)) (was are : List (Side Y)) (new : D) (turns : List Turn) where
       abbrev Served : ServingEnd → Type 0
-      Served end = S disk (service_names service) script (outside (service_disk service) taken was) (outside new now are) turns end
+      Served end = S disk (chest_names chest) script (outside (chest_disk chest) taken was) (outside new now are) turns end
 
       served_so : (end : ServingEnd) → Served end → ServesScript m S left turns (outside disk taken was) (outside new now are) end
       served_so end serves = record {
-        names = service_names service;
+        names = chest_names chest;
         cluster = holds;
-        opened = service_disk service;
+        opened = chest_disk chest;
         looks = opened.looks;
         quiet = opened.quiet;
         served = record { text = text; lines = script; read = read; script = is; so = serves };
@@ -146,10 +146,10 @@ module _ {D Y : Type 0} (m : Meaning D)
       served_to (serving.Damaged file place) serves = inr (served_so (serving.Damaged file place) serves)
       served_to serving.NoMemory serves = inr (inr (served_so serving.NoMemory serves))
 
-      since_opening : RoseBy (faults_told turns) (m.faults (service_disk service)) (m.faults new) → RoseBy (faults_told turns) (m.faults disk) (m.faults new)
+      since_opening : RoseBy (faults_told turns) (m.faults (chest_disk chest)) (m.faults new) → RoseBy (faults_told turns) (m.faults disk) (m.faults new)
       since_opening rose = subst (λ (n : ℕ). RoseBy (faults_told turns) n (m.faults new)) opened.quiet rose
 
-      pub served_cause : (end : ServingEnd) → CountsSink end sink later → HasReason m.tells end turns (m.faults (service_disk service)) (m.faults new)
+      pub served_cause : (end : ServingEnd) → CountsSink end sink later → HasReason m.tells end turns (m.faults (chest_disk chest)) (m.faults new)
           → HasCause m.tells (m.seen disk) left turns (counts_of source sink (m.faults disk)) (counts_of source later (m.faults new)) (end_of_serving end)
       served_cause serving.Served counts reason =
           same_counts source sink (m.faults disk) later (m.faults new) counts (none_rose turns (m.faults disk) (m.faults new) reason.ends (since_opening reason.failed))
@@ -182,30 +182,30 @@ module _ {D Y : Type 0} (m : Meaning D)
     spare = λ tells. looks_keep m old new looks;
   }
 
-  module _ (disk : D) (service : Service D) (opened : IsOpened m disk service) where
+  module _ (disk : D) (chest : Chest D) (opened : IsOpened m disk chest) where
     pub unread_ends : {X : Type 0} (view : X → List UserLine) (taken : Option (List ℕ)) (sides : List (Side Y)) (end : LinesEnd)
-        → ReadsLines view (script_lines (Some (service_names service)) text) (Err end)
-        → EndsBehind m S text [] (outside disk taken sides) (outside (service_disk service) taken sides) sink sink (end_of_lines end)
+        → ReadsLines view (script_lines (Some (chest_names chest)) text) (Err end)
+        → EndsBehind m S text [] (outside disk taken sides) (outside (chest_disk chest) taken sides) sink sink (end_of_lines end)
     unread_ends view taken sides end is = record {
-      behind = (unread m S (Some text) text refl 0 sink sink disk service opened view taken sides end is).0;
-      cause = λ left source read. (unread m S left text read source sink sink disk service opened view taken sides end is).1;
-      serves = λ left read. (unread m S left text read 0 sink sink disk service opened view taken sides end is).2;
-      spare = λ tells. looks_keep m disk (service_disk service) opened.looks;
+      behind = (unread m S (Some text) text refl 0 sink sink disk chest opened view taken sides end is).0;
+      cause = λ left source read. (unread m S left text read source sink sink disk chest opened view taken sides end is).1;
+      serves = λ left read. (unread m S left text read 0 sink sink disk chest opened view taken sides end is).2;
+      spare = λ tells. looks_keep m disk (chest_disk chest) opened.looks;
     }
 
-    pub served_ends : (later : ℕ) (script : List UserLine) → script_lines (Some (service_names service)) text ≡ Ok script
+    pub served_ends : (later : ℕ) (script : List UserLine) → script_lines (Some (chest_names chest)) text ≡ Ok script
         → (taken now : Option (List ℕ)) (was are : List (Side Y)) (new : D) (turns : List Turn) (end : ServingEnd) → CountsSink end sink later
-        → HasReason m.tells end turns (m.faults (service_disk service)) (m.faults new) → (IsTrue m.tells → KeepsSpare m (service_disk service) new)
-        → S disk (service_names service) script (outside (service_disk service) taken was) (outside new now are) turns end
+        → HasReason m.tells end turns (m.faults (chest_disk chest)) (m.faults new) → (IsTrue m.tells → KeepsSpare m (chest_disk chest) new)
+        → S disk (chest_names chest) script (outside (chest_disk chest) taken was) (outside new now are) turns end
         → EndsBehind m S text turns (outside disk taken was) (outside new now are) sink later (end_of_serving end)
     served_ends later script is taken now was are new turns end counts reason spare serves = record {
       behind = served_behind end;
-      cause = λ left source read. served_cause m S left text read source sink later disk service opened script is taken now was are new turns end counts reason;
-      serves = λ left read. served_to m S left text read 0 sink later disk service opened script is taken now was are new turns end serves;
-      spare = λ tells. keeps_on m disk (service_disk service) new (looks_keep m disk (service_disk service) opened.looks) (spare tells);
+      cause = λ left source read. served_cause m S left text read source sink later disk chest opened script is taken now was are new turns end counts reason;
+      serves = λ left read. served_to m S left text read 0 sink later disk chest opened script is taken now was are new turns end serves;
+      spare = λ tells. keeps_on m disk (chest_disk chest) new (looks_keep m disk (chest_disk chest) opened.looks) (spare tells);
     }
 
-pub reads_whole : (left rest : Option (List ℕ)) (end : End) → IsBehindText end → LosesAtMost (SCRIPT_BYTES + 1) left rest → IsAtEnd rest → Reads left rest end
+pub reads_whole : (left rest : Option (List ℕ)) (end : End) → IsBehindText end → LosesAtMost (TEXT_LIMIT + 1) left rest → IsAtEnd rest → Reads left rest end
 reads_whole left rest ends.Ok behind lost at_end = at_end
 reads_whole left rest ends.Usage behind lost at_end = absurd behind
 reads_whole left rest ends.Read behind lost at_end = absurd behind
@@ -224,7 +224,7 @@ too_long_by n is names bytes long = rw is_less refl
     is_less : nat_lt script_bytes (length bytes) ≡ true
     is_less = grind (arith, nat_tests)
 
-pub too_long : SCRIPT_BYTES ≡ script_bytes → (left : Option (List ℕ)) → IfSome left (λ bytes. SCRIPT_BYTES < length bytes)
+pub too_long : TEXT_LIMIT ≡ script_bytes → (left : Option (List ℕ)) → IfSome left (λ bytes. TEXT_LIMIT < length bytes)
     → (names : Option (List (List ℕ))) → IsFirstFault names left (record { line = 0; kind = Long })
 too_long limit None long names = tt
-too_long limit (Some bytes) long names = too_long_by SCRIPT_BYTES limit names bytes long
+too_long limit (Some bytes) long names = too_long_by TEXT_LIMIT limit names bytes long

@@ -1,14 +1,14 @@
 -- What the serving of lines says of its end: by one thread, and by a thread for each node.
 use Rattle.std.proofs.Common.{ℕ, List, length}
-use Rattle.qm_program.specs.ClusterServing.{ServesAtOnce}
-use Rattle.qm_program.specs.ClusterServing as at_once
+use Rattle.qm_serving.specs.ClusterServing.{ServesAtOnce}
+use Rattle.qm_serving.specs.ClusterServing as at_once
 use Rattle.qm_disk.specs.Disk.{Meaning}
 use Rattle.qm_history.specs.Ends.{ServingEnd}
 use Rattle.qm_history.specs.Ends as serving
 use Rattle.qm_history.specs.Script.{UserLine}
 use Rattle.qm_history.specs.declared.turn.Turn.{Turn}
-use Rattle.qm_service.specs.Ends.{CountsDisk, stop_of}
-use Rattle.qm_service.specs.Serving.{Outside, Serves}
+use Rattle.qm_cluster.specs.Ends.{CountsDisk, stop_of}
+use Rattle.qm_serving.specs.Serving.{Outside, Serves}
 use Rattle.qm_symb.specs.Device as symb
 use Rattle.qm_program.specs.Causes.{FailedAsTold, HasReason}
 use Rattle.qm_program.proofs.Counting.{told_at_full, told_at_write, told_but_none}

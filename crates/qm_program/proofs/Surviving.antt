@@ -2,11 +2,12 @@
 use Rattle.std.proofs.Common.{◌≡◌, ◌≢◌, ◌⊎◌, inl, inr, ⊎_elim, ℕ, List, [], ◌∷◌, ◌++◌, slice_get, Option, None, Some, Contains, IsTrue, option_to_list, sym, ◌∙◌, ap, subst}
 use Rattle.std.specs.List.{AllByRecursion}
 use Rattle.std.proofs.lemmas.List.Elements.{Contains-append_left}
-use Rattle.qm_program.specs.ClusterServing.{ServesAtOnce}
-use Rattle.qm_program.specs.ClusterServing as at_once
-use Rattle.qm_course.specs.Asking.{read_built}
-use Rattle.qm_course.specs.Runs.{IsNodeOf, Side}
-use Rattle.qm_course.specs.Taken.{AreTaken}
+use Rattle.qm_serving.specs.ClusterServing.{ServesAtOnce}
+use Rattle.qm_serving.specs.ClusterServing as at_once
+use Rattle.qm_node.specs.Asking.{read_built}
+use Rattle.qm_cluster.specs.Runs.{IsNodeOf}
+use Rattle.qm_node.specs.Sides.{Side}
+use Rattle.qm_node.specs.Taken.{AreTaken}
 use Rattle.qm_disk.specs.Disk.{CrashState, IsLeft, LeavesOnly, Meaning}
 use Rattle.qm_disk.proofs.Moments.{goes_further, started, weaker}
 use Rattle.qm_glog.specs.Records.{IsLog}
@@ -31,11 +32,11 @@ use Rattle.qm_history.specs.declared.world.World.{World}
 use Rattle.qm_kinds.specs.declared.record.Record.{Record}
 use Rattle.qm_model.specs.Folding.{system_of}
 use Rattle.qm_record.specs.Spelling.{HasSpelling, record_text}
-use Rattle.qm_service.specs.Ends.{extent_to, stop_of}
-use Rattle.qm_service.specs.Noted.{HasNoted}
-use Rattle.qm_service.specs.Opening.{MayBegin}
-use Rattle.qm_service.specs.Serving.{Outside, Serves}
-use Rattle.qm_service.specs.Value.{meaning_of}
+use Rattle.qm_cluster.specs.Ends.{extent_to, stop_of}
+use Rattle.qm_chest.specs.Noted.{HasNoted}
+use Rattle.qm_chest.specs.Opening.{MayBegin}
+use Rattle.qm_serving.specs.Serving.{Outside, Serves}
+use Rattle.qm_chest.specs.Manager.{meaning_of}
 use Rattle.qm_symb.specs.Device as symb
 use Rattle.qm_program.specs.Running.{ServesScript, ServesTo, Stays, TouchesNothing}
 use Rattle.qm_program.specs.Surviving.{GoesOnBehind, GoesOnFrom, GoesOnIn, GoesOnWithin, HasAcknowledged, TakesInStretches}

@@ -1,7 +1,7 @@
 -- Why the program ended so: how often the outside failed, and what was wrong with what was read.
 use Rattle.std.specs.Prelude.{◌≡◌, ◌⊎◌, ◌<◌, ℕ, Bool, List, [], length, Option, IsTrue}
 use Rattle.qm_acting.specs.Reading.{IsRestoreFault}
-use Rattle.qm_course.specs.Taken.{RoseBy}
+use Rattle.qm_node.specs.Taken.{RoseBy}
 use Rattle.qm_disk.specs.Disk.{CrashState}
 use Rattle.qm_glog.specs.declared.fault.OpenFault.TheVariants as opening
 use Rattle.qm_history.specs.Chest.{turns_kept}
@@ -10,7 +10,7 @@ use Rattle.qm_history.specs.Ends as serving
 use Rattle.qm_history.specs.Faults.{faults_told}
 use Rattle.qm_history.specs.declared.turn.Turn.{Turn}
 use Rattle.qm_disk.specs.Faults.{counted}
-use Rattle.qm_service.specs.Ends.{EndsBy, IsUndamaged}
+use Rattle.qm_cluster.specs.Ends.{EndsBy, IsUndamaged}
 use Rattle.qm_program.specs.Reading.{IsFaulty}
 use Rattle.qm_program.specs.declared.outcome.End.{End}
 use Rattle.qm_program.specs.declared.outcome.End.TheVariants as ends

@@ -4,7 +4,7 @@ use Rattle.qm_acting.specs.Spare.{KeepsSpare}
 use Rattle.qm_disk.specs.Disk.{CrashState, Meaning, OnlyLooks}
 use Rattle.qm_store.specs.Making.{KeepsFile}
 use Rattle.qm_history.specs.declared.turn.Turn.{Turn}
-use Rattle.qm_service.specs.Serving.{Outside}
+use Rattle.qm_serving.specs.Serving.{Outside}
 use Rattle.qm_symb.specs.Device as symb
 use Rattle.qm_program.specs.Making.{Makes}
 use Rattle.qm_program.specs.Reading.{AreSite, HoldCluster, IsScript, Reads}

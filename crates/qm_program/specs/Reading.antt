@@ -16,7 +16,7 @@ use Rattle.qm_disk.specs.Bytes.{LosesAtMost}
 use Rattle.qm_kinds.specs.declared.script.ScriptKind.TheVariants.{Long}
 use Rattle.qm_kinds.specs.declared.system.System.{System}
 use Rattle.qm_restore.specs.QueueFile.{IsSiteFile}
-use Rattle.qm_script.specs.declared.script.TheConstants.{SCRIPT_BYTES}
+use Rattle.qm_kinds.specs.declared.limits.TheConstants.{TEXT_LIMIT}
 use Rattle.qm_program.specs.declared.outcome.End.{End}
 use Rattle.qm_program.specs.declared.outcome.End.TheVariants as ends
 
@@ -80,8 +80,8 @@ IsFaulty tells files before now left fault =
 abbrev pub Reads : Option (List ℕ) → Option (List ℕ) → End → Type 0
 Reads left rest ends.Ok = IsAtEnd rest
 Reads left rest ends.Usage = ⊥
-Reads left rest ends.Read = LosesAtMost (SCRIPT_BYTES + 1) left rest
-Reads left rest (ends.Script line kind) = LosesAtMost (SCRIPT_BYTES + 1) left rest × (kind ≢ Long → IsAtEnd rest)
+Reads left rest ends.Read = LosesAtMost (TEXT_LIMIT + 1) left rest
+Reads left rest (ends.Script line kind) = LosesAtMost (TEXT_LIMIT + 1) left rest × (kind ≢ Long → IsAtEnd rest)
 Reads left rest ends.Write = IsAtEnd rest
 Reads left rest ends.Journal = IsAtEnd rest
 Reads left rest (ends.Unformatted byte) = IsAtEnd rest

@@ -2,14 +2,14 @@
 use Rattle.std.specs.Prelude.{◌≡◌, ◌⊎◌, ℕ, List, [], Option, Some, None, IsTrue}
 use Rattle.qm_acting.specs.Reading.{IsRestoreFault}
 use Rattle.qm_acting.specs.Spare.{KeepsSpare}
-use Rattle.qm_program.specs.ClusterServing.{ServesAtOnce}
+use Rattle.qm_serving.specs.ClusterServing.{ServesAtOnce}
 use Rattle.qm_disk.specs.Disk.{Meaning, IsQuiet, OnlyLooks}
 use Rattle.qm_glog.specs.declared.fault.OpenFault.TheVariants as opening
 use Rattle.qm_history.specs.Ends.{ServingEnd}
 use Rattle.qm_history.specs.Ends as serving
 use Rattle.qm_history.specs.Script.{UserLine}
 use Rattle.qm_history.specs.declared.turn.Turn.{Turn}
-use Rattle.qm_service.specs.Serving.{Outside, Serves}
+use Rattle.qm_serving.specs.Serving.{Outside, Serves}
 use Rattle.qm_symb.specs.Device as symb
 use Rattle.qm_program.specs.Causes.{HasCause}
 use Rattle.qm_program.specs.Ends.{IsBehindText}

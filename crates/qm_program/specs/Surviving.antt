@@ -1,8 +1,8 @@
 -- What is left of a run: by a crash, and at the devices.
 use Rattle.std.specs.Prelude.{◌≡◌, ◌⊎◌, ℕ, List, [], ◌∷◌, ◌++◌, Some, Contains}
 use Rattle.std.specs.List.{AllByRecursion}
-use Rattle.qm_course.specs.Asking.{read_built}
-use Rattle.qm_course.specs.Taken.{AreTaken}
+use Rattle.qm_node.specs.Asking.{read_built}
+use Rattle.qm_node.specs.Taken.{AreTaken}
 use Rattle.qm_disk.specs.Disk.{CrashState}
 use Rattle.qm_glog.specs.Records.{IsLog}
 use Rattle.qm_history.specs.Blocks.{ComeInStretches, IsGiven, all_steps}

@@ -1,6 +1,6 @@
 // What follows from what a run leaves, whether one thread serves its script or each node has its own.
 ghost use Rattle.std.specs.Prelude.{◌≡◌, ◌≢◌, ◌⊎◌, ℕ, Bool, List, [], Option, Some, IsTrue, length, slice_get};
-ghost use Rattle.qm_course.specs.Runs.{Side};
+ghost use Rattle.qm_node.specs.Sides.{Side};
 ghost use Rattle.qm_disk.specs.Disk.{CrashState, IsLeft, LeavesOnly};
 ghost use Rattle.qm_glog.specs.Records.{IsLog};
 ghost use Rattle.qm_history.specs.Accepted.{cluster};
@@ -17,9 +17,9 @@ ghost use Rattle.qm_kinds.specs.declared.limits.TheConstants.{NODES_LIMIT};
 ghost use Rattle.qm_kinds.specs.declared.moment.TheConstants.{LAST_MOMENT};
 ghost use Rattle.qm_kinds.specs.declared.name.TheConstants.{NODE_NAME_BYTES, SHORT_NAME_BYTES};
 ghost use Rattle.qm_record.specs.Spelling.{HasSpelling, record_text};
-ghost use Rattle.qm_script.specs.declared.sites.TheConstants.{GREATEST_CAP, LEAST_CAP};
-ghost use Rattle.qm_service.specs.Opening.{MayBegin};
-ghost use Rattle.qm_service.specs.Serving.{Outside};
+ghost use Rattle.qm_kinds.specs.declared.limits.TheConstants.{GREATEST_CAP, LEAST_CAP};
+ghost use Rattle.qm_chest.specs.Opening.{MayBegin};
+ghost use Rattle.qm_serving.specs.Serving.{Outside};
 ghost use Rattle.qm_program.specs.Causes.{Counts, HasCause};
 ghost use Rattle.qm_program.specs.Doing.{HasSoundScript, IsWithoutFault};
 ghost use Rattle.qm_program.specs.Running.{RunsAtOnce, RunsTo};

@@ -2,29 +2,30 @@
 // by a thread of its own.
 ghost use Rattle.std.specs.Prelude.{◌≡◌, ◌≤◌, ℕ, List, Option, IfErr, IfOk, IsTrue, None, Ok, Some, length, map};
 ghost use Rattle.qm_acting.specs.Spare.{KeepsSpare};
-ghost use Rattle.qm_course.specs.Runs.{side_of};
+ghost use Rattle.qm_node.specs.Sides.{side_of};
 ghost use Rattle.qm_history.specs.Lines.{script_lines};
 ghost use Rattle.qm_kinds.specs.declared.limits.TheConstants.{NODES_LIMIT};
 ghost use Rattle.qm_script.specs.ClusterLines.{user_lines_view};
-ghost use Rattle.qm_service.specs.Ends.{serving_end};
-ghost use Rattle.qm_service.specs.Opening.{IsOpened};
-ghost use Rattle.qm_service.specs.Serving.{outside};
-ghost use Rattle.qm_service.specs.Value.{service_names};
-ghost use Rattle.qm_program.specs.ClusterServing.{ServesAtOnce};
-ghost use Rattle.qm_service.specs.Serving.{Serves};
+ghost use Rattle.qm_cluster.specs.Ends.{serving_end};
+ghost use Rattle.qm_chest.specs.Opening.{IsOpened};
+ghost use Rattle.qm_serving.specs.Serving.{outside};
+ghost use Rattle.qm_chest.specs.At.{chest_names};
+ghost use Rattle.qm_serving.specs.ClusterServing.{ServesAtOnce};
+ghost use Rattle.qm_serving.specs.Serving.{Serves};
 ghost use Rattle.qm_program.specs.Causes.{HasCause};
 ghost use Rattle.qm_program.specs.Ends.{EndsUnopened, EndsUnserved, end_of_lines, end_of_opening, end_of_reading, end_of_serving, status_of};
 ghost use Rattle.qm_program.specs.Reading.{Reads};
 ghost use Rattle.qm_program.specs.Running.{EndsBehind, RunsAtOnce, RunsTo};
 
-use crate::cluster_serving::serve_nodes;
 use crate::outcome::{End, Outcome};
 use crate::serving::{AtOnce, InOrder, Way};
-use qm_course::Station;
+use qm_chest::Chest;
+use qm_cluster::ServeEnd;
 use qm_disk::{Clock, Disk, ReadEnd, Sink, Source, read_whole};
-use qm_kinds::ScriptKind;
-use qm_script::{LinesEnd, SCRIPT_BYTES, UserLine, a_script_has_a_limit, read_lines};
-use qm_service::{ServeEnd, Served, Service};
+use qm_kinds::{ScriptKind, TEXT_LIMIT};
+use qm_node::Station;
+use qm_script::{LinesEnd, UserLine, a_script_has_a_limit, read_lines};
+use qm_serving::{Served, serve_by_each, serve_by_one};
 use qm_store::LoadFault;
 use qm_symb::Symbiont;
 use std::alloc::Global;
@@ -95,7 +96,7 @@ fn unopened_end(alloc: Global, script: &[u8], fault: LoadFault) -> End
 
 // A site that was opened for the lines of a script.
 struct Ready<'a, D> {
-    service: Service<D>,
+    chest: Chest<D>,
     lines: Vec<UserLine<'a>>,
 }
 
@@ -103,21 +104,21 @@ struct Ready<'a, D> {
 fn lines_for<'a, W: Way<D, Y>, O: Sink, D: Disk, C: Clock, Y: Symbiont>(
     alloc: Global,
     script: &'a [u8],
-    service: Service<D>,
+    chest: Chest<D>,
     stations: &[Station<C, Y>],
     sink: &O,
 ) -> Result<Ready<'a, D>, Outcome<D>>
-    ensures same { IfOk result (λ ready. ready.service ≡ service) }
-    ensures lines { IfOk result (λ ready. script_lines (Some (service_names service)) script.now ≡ Ok (user_lines_view ready.lines.items)) }
+    ensures same { IfOk result (λ ready. ready.chest ≡ chest) }
+    ensures lines { IfOk result (λ ready. script_lines (Some (chest_names chest)) script.now ≡ Ok (user_lines_view ready.lines.items)) }
     ensures status { IfErr result (λ over. over.status ≡ status_of over.end) }
-    ensures ends { (disk : D) → IsOpened D.meaning disk service → IfErr result (λ over. EndsBehind D.meaning W.served script.now over.turns.items
+    ensures ends { (disk : D) → IsOpened D.meaning disk chest → IfErr result (λ over. EndsBehind D.meaning W.served script.now over.turns.items
         (outside disk (O.taken sink.now) (map (side_of C.told) stations.now)) (outside over.disk (O.taken sink.now) (map (side_of C.told) stations.now))
         (O.faults sink.now) (O.faults sink.now) over.end) }
 {
-    let names = service.names();
+    let names = chest.names();
     match read_lines(alloc, Some(names), script) {
-        Ok(lines) => Ok(Ready { service, lines }),
-        Err(end) => Err(Outcome::of(alloc, End::from(end), service.give_back())),
+        Ok(lines) => Ok(Ready { chest, lines }),
+        Err(end) => Err(Outcome::of(alloc, End::from(end), chest.give_back())),
     }
 }
 
@@ -129,15 +130,15 @@ fn open_lines<'a, W: Way<D, Y>, O: Sink, D: Disk, C: Clock, Y: Symbiont>(
     stations: &[Station<C, Y>],
     sink: &O,
 ) -> Result<Ready<'a, D>, Outcome<D>>
-    ensures opened { IfOk result (λ ready. IsOpened D.meaning disk ready.service) }
-    ensures lines { IfOk result (λ ready. script_lines (Some (service_names ready.service)) script.now ≡ Ok (user_lines_view ready.lines.items)) }
+    ensures opened { IfOk result (λ ready. IsOpened D.meaning disk ready.chest) }
+    ensures lines { IfOk result (λ ready. script_lines (Some (chest_names ready.chest)) script.now ≡ Ok (user_lines_view ready.lines.items)) }
     ensures status { IfErr result (λ over. over.status ≡ status_of over.end) }
     ensures ends { IfErr result (λ over. EndsBehind D.meaning W.served script.now over.turns.items
         (outside disk (O.taken sink.now) (map (side_of C.told) stations.now)) (outside over.disk (O.taken sink.now) (map (side_of C.told) stations.now))
         (O.faults sink.now) (O.faults sink.now) over.end) }
 {
-    match Service::open(alloc, disk) {
-        Ok(service) => lines_for::<W, O, D, C, Y>(alloc, script, service, stations, sink),
+    match Chest::open(alloc, disk) {
+        Ok(chest) => lines_for::<W, O, D, C, Y>(alloc, script, chest, stations, sink),
         Err((disk, fault)) => {
             let end = unopened_end(alloc, script, fault);
             Err(Outcome::of(alloc, end, disk))
@@ -171,7 +172,9 @@ fn serve_text_in_order<O: Sink, D: Disk, C: Clock, Y: Symbiont>(
         (O.faults sink.old) (O.faults sink.new) result.end }
 {
     match open_lines::<InOrder, O, D, C, Y>(alloc, script, disk, stations, sink) {
-        Ok(Ready { service, lines }) => outcome_of(service.serve(alloc, &lines, stations, sink)),
+        Ok(Ready { chest, lines }) => outcome_of(serve_by_one(
+            alloc, chest, &lines, stations, sink,
+        )),
         Err(over) => over,
     }
 }
@@ -200,8 +203,8 @@ where
         (O.faults sink.old) (O.faults sink.new) result.end }
 {
     match open_lines::<AtOnce, O, D, C, Y>(alloc, script, disk, stations, sink) {
-        Ok(Ready { service, lines }) => outcome_of(serve_nodes(
-            rt, alloc, service, &lines, stations, sink,
+        Ok(Ready { chest, lines }) => outcome_of(serve_by_each(
+            rt, alloc, chest, &lines, stations, sink,
         )),
         Err(over) => over,
     }
@@ -227,7 +230,7 @@ pub(crate) fn serve_in_order<S: Source, O: Sink, D: Disk, C: Clock, Y: Symbiont>
     ensures spare { IsTrue D.meaning.tells → KeepsSpare D.meaning disk result.disk }
 {
     a_script_has_a_limit();
-    match read_whole(alloc, source, SCRIPT_BYTES) {
+    match read_whole(alloc, source, TEXT_LIMIT) {
         Ok(script) => serve_text_in_order(alloc, &script, disk, stations, sink),
         Err(end) => Outcome::of(alloc, End::from(end), disk),
     }
@@ -263,7 +266,7 @@ where
     ensures spare { IsTrue D.meaning.tells → KeepsSpare D.meaning disk result.disk }
 {
     a_script_has_a_limit();
-    match read_whole(alloc, source, SCRIPT_BYTES) {
+    match read_whole(alloc, source, TEXT_LIMIT) {
         Ok(script) => serve_text_at_once(rt, alloc, &script, disk, stations, sink),
         Err(end) => Outcome::of(alloc, End::from(end), disk),
     }

@@ -1,10 +1,10 @@
 // How the lines of a script are served.
 ghost use Rattle.std.specs.Prelude.{ℕ, List};
-ghost use Rattle.qm_program.specs.ClusterServing.{ServesAtOnce};
+ghost use Rattle.qm_serving.specs.ClusterServing.{ServesAtOnce};
 ghost use Rattle.qm_history.specs.Ends.{ServingEnd};
 ghost use Rattle.qm_history.specs.Script.{UserLine};
 ghost use Rattle.qm_history.specs.declared.turn.Turn.{Turn};
-ghost use Rattle.qm_service.specs.Serving.{Outside, Serves};
+ghost use Rattle.qm_serving.specs.Serving.{Outside, Serves};
 
 use qm_disk::Disk;
 use qm_symb::Symbiont;

@@ -1,7 +1,7 @@
 // The top call.
 ghost use Rattle.std.specs.Prelude.{◌≡◌, ◌≢◌, ◌⊎◌, ◌≤◌, List, [], map, length, IsTrue, None, Some};
 ghost use Rattle.std.specs.String.{string_bytes};
-ghost use Rattle.qm_course.specs.Runs.{side_of};
+ghost use Rattle.qm_node.specs.Sides.{side_of};
 ghost use Rattle.qm_history.specs.Chest.{turns_kept};
 ghost use Rattle.qm_kinds.specs.declared.limits.TheConstants.{NODES_LIMIT};
 ghost use Rattle.qm_program.specs.Causes.{HasCause};
@@ -17,8 +17,8 @@ use crate::outcome::{End, Outcome};
 use crate::running::{serve_at_once, serve_in_order};
 use crate::showing::show;
 use crate::task::{Task, asks_for_cluster, read_task};
-use qm_course::Station;
 use qm_disk::{Clock, Disk, Sink, Source};
+use qm_node::Station;
 use qm_symb::Symbiont;
 use std::alloc::{AllocError, Global};
 use std::marker::{Send, Sync};

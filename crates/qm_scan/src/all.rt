@@ -15,32 +15,17 @@ use crate::below::groups_of;
 use crate::group::Group;
 use crate::listed::{is_entry_listed, is_named, is_queue_listed};
 use qm_kinds::{
-    Boxed, Characteristic, Entry, Form, ListedEntry, Listing, Name, Pattern, Query, Queue, Row, Seq,
+    Boxed, Characteristic, Entry, Form, ListedEntry, Listing, Name, Pattern, Query, Queue, Row,
 };
 use qm_parts::Parts;
 use qm_rows::{Part, Rows};
 use std::alloc::{AllocError, Global};
 
-/// A copy of a queue.
+/// A copy of a queue, in memory of its own.
 pub(crate) fn copy_of(alloc: Global, queue: &Queue) -> Result<Boxed<Queue>, AllocError>
     ensures { IfOk result (λ copy. copy ≡ queue.now) }
 {
-    let copy = Queue {
-        name: queue.name,
-        kind: queue.kind,
-        state: queue.state,
-        node: queue.node,
-        device: queue.device,
-        limit: queue.limit,
-        characteristics: queue.characteristics,
-        mounted: queue.mounted,
-        lower: queue.lower,
-        upper: queue.upper,
-        by_size: queue.by_size,
-        retain: queue.retain,
-        targets: Seq::of(Vec::from_slice(alloc, queue.targets.as_slice())?),
-    };
-    Boxed::new(alloc, copy)
+    Boxed::new(alloc, queue.copy(alloc)?)
 }
 
 // The rows of groups, as the parts of a listing.

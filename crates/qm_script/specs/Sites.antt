@@ -4,7 +4,7 @@ use Rattle.std.specs.List.{slice_split}
 use Rattle.qm_kinds.specs.declared.limits.TheConstants.{NODES_LIMIT}
 use Rattle.qm_model.specs.Find.{is_among}
 use Rattle.qm_model.specs.Script.{act_number, node_name_of}
-use Rattle.qm_script.specs.declared.sites.TheConstants.{GREATEST_CAP, LEAST_CAP}
+use Rattle.qm_kinds.specs.declared.limits.TheConstants.{GREATEST_CAP, LEAST_CAP}
 
 -- one more node behind these, if it isn't one of them and they aren't too many
 abbrev pub with_node : List (List ℕ) → List ℕ → Option (List (List ℕ))

@@ -1,10 +1,10 @@
 // How far the text of a line goes, which may go on in the next line.
 ghost use Rattle.std.specs.Prelude.{◌≡◌, ◌==◌, ◌+◌, ◌≤◌, ◌<◌, true, length, position, IfOk, IfSome};
 ghost use Rattle.std.specs.List.{list_all};
+ghost use Rattle.qm_kinds.specs.declared.limits.TheConstants.{TEXT_LIMIT};
 ghost use Rattle.qm_model.specs.Script.{is_line_byte};
 ghost use Rattle.qm_script.specs.Extents.{GoesOn, IsFirstLine, joined};
 
-use crate::script::SCRIPT_BYTES;
 use std::alloc::{AllocError, Global};
 
 /// A text of a script, as far as it goes.
@@ -50,7 +50,7 @@ pub(crate) fn first_line(script: &[u8]) -> Extent<'_>
 
 /// The text of a command with which a script begins, which goes on behind each line that ends in `-`.
 pub(crate) fn whole_text(script: &[u8]) -> Extent<'_>
-    requires { length script.now ≤ SCRIPT_BYTES }
+    requires { length script.now ≤ TEXT_LIMIT }
     ensures text { GoesOn script.now result }
     ensures within { result.lines + length result.rest.now ≤ length script.now }
     ensures ended { result.is_ended ≡ true → length result.rest.now < length script.now }

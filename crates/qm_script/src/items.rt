@@ -8,7 +8,7 @@ ghost use Rattle.qm_history.specs.Acts.{hex_bytes};
 use crate::act::fault;
 use crate::hexadecimal::read_bytes;
 use crate::script::cut_at_blank;
-use qm_kinds::{Input, Name, ParseKind};
+use qm_kinds::{Input, Name, ParseKind, RequestKind};
 use qm_scans::Scans;
 use qm_sjc::read_item_list;
 use qm_time::plain_number_up_to;
@@ -17,10 +17,11 @@ use std::alloc::{AllocError, Global};
 /// The greatest number that is read of a function.
 const FUNCTION_LIMIT: u64 = 65_535;
 
-fn is_function(number: u64) -> bool
+// Whether a number is that of a function: of a request, or of a listing.
+fn is_function(number: u16) -> bool
     ensures { result ≡ is_function number }
 {
-    matches!(number, 1..=17 | 41..=47)
+    RequestKind::of(number).is_some() || matches!(number, 41..=47)
 }
 
 // The function that a number names.
@@ -28,7 +29,7 @@ fn function_of(text: &[u8]) -> Option<u16>
     ensures { result ≡ function_of text.now }
 {
     match plain_number_up_to(FUNCTION_LIMIT, text) {
-        Some(number) if is_function(number) => Some(number as u16),
+        Some(number) if is_function(number as u16) => Some(number as u16),
         _ => None,
     }
 }

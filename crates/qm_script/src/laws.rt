@@ -4,11 +4,11 @@ ghost use Rattle.qm_history.specs.Scans.{scans_of};
 ghost use Rattle.qm_history.specs.Script.{UserLine};
 ghost use Rattle.qm_history.specs.Visits.{Visit};
 ghost use Rattle.qm_script.specs.Asked.{line_asked, line_with};
-ghost use Rattle.qm_script.specs.declared.script.TheConstants.{SCRIPT_BYTES};
+ghost use Rattle.qm_kinds.specs.declared.limits.TheConstants.{TEXT_LIMIT};
 
 /// A script has 16,777,216 bytes at most. Definitions cite the number by its name, so here it is said.
 pub fn a_script_has_a_limit()
-    ensures { SCRIPT_BYTES ≡ 16777216 }
+    ensures { TEXT_LIMIT ≡ 16777216 }
 {}
 
 /// Of a node's turns a line asks by the listings alone that they have begun.

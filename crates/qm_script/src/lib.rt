@@ -20,6 +20,6 @@ pub use extent::joined;
 pub use items::items_asked;
 pub use laws::{a_script_has_a_limit, lines_ask_by_listings};
 pub use lines::{LineSort, LinesEnd, UserLine, read_lines};
-pub use script::{SCRIPT_BYTES, read_node_name};
+pub use script::read_node_name;
 pub use served::{caps_have_limits, named_nodes_make_a_site};
-pub use sites::{GREATEST_CAP, LEAST_CAP, read_cap, read_nodes};
+pub use sites::{read_cap, read_nodes};

@@ -13,8 +13,8 @@ ghost use Rattle.qm_script.specs.ClusterLines.{ReadsLines, line_sort_view, user_
 ghost use Rattle.qm_script.specs.Lines.{parts_view};
 
 use crate::extent::{Extent, are_of_line, first_line, is_of_line, whole_text};
-use crate::script::{SCRIPT_BYTES, cut_at_blank, read_node_name};
-use qm_kinds::{Name, ScriptKind, system_user};
+use crate::script::{cut_at_blank, read_node_name};
+use qm_kinds::{Name, ScriptKind, TEXT_LIMIT, system_user};
 use std::alloc::Global;
 
 /// What a line of a script holds.
@@ -174,7 +174,7 @@ fn headless(text: &[u8]) -> ScriptKind
 // The text of a line whose first line and whose text there these are, as far as it goes. With that text the script begins.
 #[tactic(auto, using(crate::proofs::Exits::cut_within, crate::proofs::Exits::cut_less))]
 fn text_of<'a>(sort: LineSort, script: &'a [u8], first: Extent<'a>, text: &'a [u8]) -> Extent<'a>
-    requires few { length script.now ≤ SCRIPT_BYTES }
+    requires few { length script.now ≤ TEXT_LIMIT }
     requires first { CutsFirst script.now text.now first.is_ended first.rest.now }
     requires lines { first.lines ≡ (if first.is_ended then 1 else 0) }
     ensures text { IsTextOf (line_sort_view sort) script.now first.entry text.now result }
@@ -212,8 +212,8 @@ fn take_line<'a>(
 ) -> Result<Taken<'a>, ScriptKind>
     requires first { IsFirstLine script.now first }
     requires full { 0 < length first.text.now }
-    requires few { length script.now ≤ SCRIPT_BYTES }
-    requires number { number + length script.now ≤ SCRIPT_BYTES + 1 }
+    requires few { length script.now ≤ TEXT_LIMIT }
+    requires number { number + length script.now ≤ TEXT_LIMIT + 1 }
     ensures line { TakesLine (option_copied nodes.entry) number script.now result }
     ensures behind { IfOk result (λ taken. taken.next + length taken.rest.now ≤ number + length script.now) }
     ensures less { IfOk result (λ taken. length taken.rest.now < length script.now) }
@@ -252,8 +252,8 @@ fn first_taken<'a>(
     script: &'a [u8],
 ) -> Result<Taken<'a>, ScriptKind>
     requires some { 0 < length script.now }
-    requires few { length script.now ≤ SCRIPT_BYTES }
-    requires number { number + length script.now ≤ SCRIPT_BYTES + 1 }
+    requires few { length script.now ≤ TEXT_LIMIT }
+    requires number { number + length script.now ≤ TEXT_LIMIT + 1 }
     ensures line { TakesLine (option_copied nodes.entry) number script.now result }
     ensures behind { IfOk result (λ taken. taken.next + length taken.rest.now ≤ number + length script.now) }
     ensures less { IfOk result (λ taken. length taken.rest.now < length script.now) }
@@ -275,8 +275,8 @@ fn next_line<'a>(
     number: u32,
     script: &'a [u8],
 ) -> Option<Result<Taken<'a>, ScriptKind>>
-    requires few { length script.now ≤ SCRIPT_BYTES }
-    requires number { number + length script.now ≤ SCRIPT_BYTES + 1 }
+    requires few { length script.now ≤ TEXT_LIMIT }
+    requires number { number + length script.now ≤ TEXT_LIMIT + 1 }
     ensures line { TakesNext (option_copied nodes.entry) number script.now result }
     ensures behind { IfSome result (λ step. IfOk step (λ taken. taken.next + length taken.rest.now ≤ number + length script.now)) }
     ensures less { IfSome result (λ step. IfOk step (λ taken. length taken.rest.now < length script.now)) }
@@ -294,7 +294,7 @@ fn read_all<'a>(
     nodes: Option<&[Name]>,
     script: &'a [u8],
 ) -> Result<Vec<UserLine<'a>>, LinesEnd>
-    requires { length script.now ≤ SCRIPT_BYTES }
+    requires { length script.now ≤ TEXT_LIMIT }
     ensures { ReadsLines (λ lines. user_lines_view lines.items) (lines_from (option_copied nodes.entry) None 1 (parts_of script.now)) result }
 {
     let mut lines = Vec::new(alloc);
@@ -336,7 +336,7 @@ pub fn read_lines<'a>(
 ) -> Result<Vec<UserLine<'a>>, LinesEnd>
     ensures { ReadsLines (λ lines. user_lines_view lines.items) (script_lines (option_copied nodes.entry) script.now) result }
 {
-    if SCRIPT_BYTES < script.len() {
+    if TEXT_LIMIT < script.len() {
         return Err(LinesEnd::Fault {
             line: 0,
             kind: ScriptKind::Long,

@@ -7,9 +7,6 @@ ghost use Rattle.qm_script.specs.Lines.{parts_view};
 
 use qm_kinds::{NODE_NAME_BYTES, Name};
 
-/// The most bytes that a script may have.
-pub const SCRIPT_BYTES: usize = 16_777_216;
-
 // The place of the first such byte.
 fn first(byte: u8, text: &[u8]) -> Option<usize>
     ensures value { result ≡ position (λ b. b == byte) text.now }

@@ -4,15 +4,9 @@ ghost use Rattle.qm_model.specs.Script.{node_name_of};
 ghost use Rattle.qm_script.specs.Sites.{cap_of, nodes_of, with_node};
 
 use crate::script::read_node_name;
-use qm_kinds::{NODES_LIMIT, Name};
+use qm_kinds::{GREATEST_CAP, LEAST_CAP, NODES_LIMIT, Name};
 use qm_time::plain_number_up_to;
 use std::alloc::{AllocError, Global};
-
-/// The least number of bytes that a queue file may be given.
-pub const LEAST_CAP: u64 = 4096;
-
-/// The greatest number of bytes that a queue file may be given.
-pub const GREATEST_CAP: u64 = 268_435_456;
 
 // The place of the first comma.
 fn comma(text: &[u8]) -> Option<usize>

@@ -3,7 +3,7 @@ use Rattle.std.specs.Prelude.{◌≡◌, ◌<◌, ◌≤◌, ◌+◌, ◌-◌, �
 use Rattle.qm_disk.specs.Disk.{Meaning, CrashState, LeavesOnly}
 use Rattle.qm_glog.specs.Records.{size_of}
 use Rattle.qm_kinds.specs.declared.record.Record.{Record}
-use Rattle.qm_store.specs.declared.master.state.TheConstants.{LEAST_QUEUE_CAP, GREATEST_QUEUE_CAP}
+use Rattle.qm_kinds.specs.declared.limits.TheConstants.{LEAST_CAP, GREATEST_CAP}
 use Rattle.qm_record.specs.Spelling.{record_text}
 use Rattle.qm_store.specs.Database.{disk_of}
 use Rattle.qm_store.specs.Recorded.{IsAtRest, new_database, database_of}
@@ -13,8 +13,8 @@ use Rattle.qm_store.specs.declared.fault.WriteFault.TheVariants.{Disk, Full, NoM
 
 -- a cap that a queue file can have
 pub record IsQueueCap (cap : ℕ) : Type 0 where
-  pub least : LEAST_QUEUE_CAP ≤ cap
-  pub greatest : cap ≤ GREATEST_QUEUE_CAP
+  pub least : LEAST_CAP ≤ cap
+  pub greatest : cap ≤ GREATEST_CAP
 
 -- the spellings of rows
 abbrev pub texts_of : List Record → List (List ℕ)

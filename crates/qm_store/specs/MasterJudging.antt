@@ -5,7 +5,7 @@ use Rattle.qm_history.specs.Master.{MasterRecord, MasterState as State, master_t
 use Rattle.qm_history.specs.Start.{IsFirstBadMaster}
 use Rattle.qm_store.specs.MasterRecords.{state_of}
 use Rattle.qm_store.specs.declared.master.state.MasterState.{MasterState}
-use Rattle.qm_store.specs.declared.master.state.TheConstants.{LEAST_QUEUE_CAP, GREATEST_QUEUE_CAP}
+use Rattle.qm_kinds.specs.declared.limits.TheConstants.{LEAST_CAP, GREATEST_CAP}
 use Rattle.qm_record.specs.Spelling.{HasSpelling, record_text}
 
 -- the bodies are those of a master that says this
@@ -17,8 +17,8 @@ pub record IsMaster (bodies : List (List ℕ)) (says : State) : Type 0 where
 
 -- what a master can say: its cap is within the limits, one of the two queue files is live, and more epochs can come
 pub record IsLawful (says : State) : Type 0 where
-  pub least : LEAST_QUEUE_CAP ≤ says.cap
-  pub greatest : says.cap ≤ GREATEST_QUEUE_CAP
+  pub least : LEAST_CAP ≤ says.cap
+  pub greatest : says.cap ≤ GREATEST_CAP
   pub live : IsQueueFile says.live
   pub epoch : says.epoch < 2 ^ 62
 

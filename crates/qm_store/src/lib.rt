@@ -22,8 +22,7 @@ pub use laws::{at_rest_is_held, held_by_records, held_files_load, one_content};
 pub use loaded::Loaded;
 pub use making::init;
 pub use master::{
-    GREATEST_QUEUE_CAP, LEAST_QUEUE_CAP, MASTER_RECORD_BYTES, MasterRecord, MasterState,
-    judge_master, read_master, write_master,
+    MASTER_RECORD_BYTES, MasterRecord, MasterState, judge_master, read_master, write_master,
 };
 pub use opened::Open;
 pub use qm_glog::OpenFault as LoadFault;

@@ -6,4 +6,4 @@ mod state;
 
 pub use judging::judge_master;
 pub use record::{MASTER_RECORD_BYTES, MasterRecord, read_master, write_master};
-pub use state::{GREATEST_QUEUE_CAP, LEAST_QUEUE_CAP, MasterState};
+pub use state::MasterState;

@@ -2,7 +2,7 @@
 ghost use Rattle.std.specs.Prelude.{◌≡◌, ◌<◌, ◌≤◌, ◌^◌, ◌↔◌, ℕ, List, IsTrue, IsErr, length, IfOk, IsErrOf};
 ghost use Rattle.qm_disk.specs.Disk.{OnlyLooks, TellsFaults};
 ghost use Rattle.qm_glog.specs.Log.{bodies_of, IsAsLeft, StandsIn};
-ghost use Rattle.qm_glog.specs.declared.log.TheConstants.{GREATEST_CAP};
+ghost use Rattle.qm_kinds.specs.declared.limits.TheConstants.{GREATEST_CAP};
 ghost use Rattle.qm_glog.specs.Opened.{IsOpenFault};
 ghost use Rattle.qm_glog.specs.declared.fault.OpenFault.TheVariants as opening;
 ghost use Rattle.qm_history.specs.Start.{first_byte};

@@ -1,26 +1,33 @@
 // The cases.
-ghost use Rattle.std.specs.Prelude.{◌≡◌, [], IfOk};
+ghost use Rattle.std.specs.Prelude.{◌≡◌, ◌<◌, ◌∷◌, [], length, IfOk, IfSome};
+ghost use Rattle.std.specs.List.{AllByRecursion};
 ghost use Rattle.qm_turn.specs.Turns.{fresh};
 
-use crate::expected::lines_of;
+use crate::expected::{lines_of, names_of};
 use crate::nodes::{Doors, Driven, Meeting, drive_node};
 use crate::recorder::Recorder;
+use qm_cluster::{Begins, Shared};
 use qm_history::{Turn, Why};
-use qm_program::{DriveEnd, OpenGate, Shared};
+use qm_node::{OpenGate, TurnEnd};
 use qm_script::UserLine;
 use qm_turn::{PassOf, Turnstile};
 use std::alloc::{AllocError, Global};
+use std::marker::{Brand, PhantomData, Send, Sync};
 use std::sync::Wait;
 use std::sync::atomic::AtomicUsize;
 use std::test::Fail;
 use std::thread::{Threads, join};
 
-fn recorder(alloc: Global, jobs: bool) -> Shared<Recorder>
-    ensures { result.manager.asked.items ≡ [] }
+// A new recorder, for so many nodes.
+fn recorder_for(alloc: Global, nodes: usize, jobs: bool) -> Option<Recorder>
+    ensures asked { IfSome result (λ recorder. recorder.asked.items ≡ []) }
+    ensures names { IfSome result (λ recorder. length recorder.names.items ≡ nodes) }
 {
-    Shared {
-        manager: Recorder::new(alloc, jobs),
+    let names = names_of(alloc, nodes)?;
+    if names.len() != nodes {
+        return None;
     }
+    Some(Recorder::new(alloc, names, jobs))
 }
 
 // Whether a node fetched its job, told of a step of it, fetched again, and left, in this order.
@@ -39,10 +46,10 @@ fn did_its_job(asked: &[Turn], node: u8) -> bool {
 }
 
 // What two nodes left: whether they met, whether both did their jobs, and how many calls there were.
-fn what_is_left(
-    turnstile: Turnstile<Shared<Recorder>>,
-    first: Result<Driven<Meeting<'_>>, AllocError>,
-    second: Result<Driven<Meeting<'_>>, AllocError>,
+fn what_is_left<J: Begins<Recorder>>(
+    turnstile: Turnstile<Shared<Recorder, J>>,
+    first: Result<Driven<J, Meeting<'_>>, AllocError>,
+    second: Result<Driven<J, Meeting<'_>>, AllocError>,
 ) -> Option<(bool, bool, u32)>
     requires passes { turnstile.passes ≡ 2 }
     requires first { IfOk first (λ d. (d.pass.place ≡ turnstile.place) × (d.pass.number ≡ 0) × (d.pass.took ≡ [])) }
@@ -69,26 +76,29 @@ fn what_is_left(
 }
 
 // Lets two nodes make their turns, each by a thread of its own, which wait for each other within a step.
-fn drive_both<'a, R: Threads + Wait + Sync>(
+fn drive_both<'a, J: Begins<Recorder> + Send + Sync, R: Threads + Wait + Sync>(
     rt: &R,
     alloc: Global,
-    turnstile: &Turnstile<Shared<Recorder>>,
-    first: PassOf<Shared<Recorder>>,
-    second: PassOf<Shared<Recorder>>,
+    turnstile: &Turnstile<Shared<Recorder, J>>,
+    first: PassOf<Shared<Recorder, J>>,
+    second: PassOf<Shared<Recorder, J>>,
     doors: &'a Doors,
 ) -> (
-    Result<Driven<Meeting<'a>>, AllocError>,
-    Result<Driven<Meeting<'a>>, AllocError>,
+    Result<Driven<J, Meeting<'a>>, AllocError>,
+    Result<Driven<J, Meeting<'a>>, AllocError>,
 )
     requires first { first ≡ fresh turnstile.now.place 0 }
     requires second { second ≡ fresh turnstile.now.place 1 }
+    requires first_there { AllByRecursion (λ recorder. 0 < length recorder.names.items) J.began }
+    requires second_there { AllByRecursion (λ recorder. 1 < length recorder.names.items) J.began }
     ensures first { IfOk result.0 (λ d. (d.pass.place ≡ turnstile.now.place) × (d.pass.number ≡ 0) × (d.pass.took ≡ [])) }
     ensures second { IfOk result.1 (λ d. (d.pass.place ≡ turnstile.now.place) × (d.pass.number ≡ 1) × (d.pass.took ≡ [])) }
 {
     join(
         rt,
-        move || -> Result<Driven<Meeting<'_>>, AllocError>
-            requires { first ≡ fresh turnstile.now.place 0 }
+        move || -> Result<Driven<J, Meeting<'_>>, AllocError>
+            requires new { first ≡ fresh turnstile.now.place 0 }
+            requires there { AllByRecursion (λ recorder. 0 < length recorder.names.items) J.began }
             ensures { IfOk result (λ d. (d.pass.place ≡ turnstile.entry.now.place) × (d.pass.number ≡ 0) × (d.pass.took ≡ [])) }
         {
             drive_node(
@@ -101,8 +111,9 @@ fn drive_both<'a, R: Threads + Wait + Sync>(
                 Meeting::new(doors, true),
             )
         },
-        move || -> Result<Driven<Meeting<'_>>, AllocError>
-            requires { second ≡ fresh turnstile.now.place 1 }
+        move || -> Result<Driven<J, Meeting<'_>>, AllocError>
+            requires new { second ≡ fresh turnstile.now.place 1 }
+            requires there { AllByRecursion (λ recorder. 1 < length recorder.names.items) J.began }
             ensures { IfOk result (λ d. (d.pass.place ≡ turnstile.entry.now.place) × (d.pass.number ≡ 1) × (d.pass.took ≡ [])) }
         {
             drive_node(
@@ -118,9 +129,21 @@ fn drive_both<'a, R: Threads + Wait + Sync>(
     )
 }
 
-// Two nodes with a job each, which wait for each other within a step.
-fn two_nodes<R: Threads + Wait + Sync>(rt: &R, alloc: Global) -> Option<(bool, bool, u32)> {
-    let Ok((turnstile, mut list)) = Turnstile::open(alloc, recorder(alloc, true), 2) else {
+// Lets the two nodes of a new recorder meet.
+fn meet<J: Begins<Recorder> + Send + Sync, R: Threads + Wait + Sync>(
+    rt: &R,
+    alloc: Global,
+    recorder: Recorder,
+) -> Option<(bool, bool, u32)>
+    requires began { J.began ≡ recorder ∷ [] }
+    requires none { recorder.asked.items ≡ [] }
+    requires names { length recorder.names.items ≡ 2 }
+{
+    let shared: Shared<Recorder, J> = Shared {
+        manager: recorder,
+        began: PhantomData,
+    };
+    let Ok((turnstile, mut list)) = Turnstile::open(alloc, shared, 2) else {
         return None;
     };
     let second = list.pop()?;
@@ -133,13 +156,28 @@ fn two_nodes<R: Threads + Wait + Sync>(rt: &R, alloc: Global) -> Option<(bool, b
     what_is_left(turnstile, first, second)
 }
 
-// One node with these lines: how its turns ended, how many calls there were, and how many turns.
-fn one_node<'a, R: Wait>(
+// Two nodes with a job each, which wait for each other within a step.
+fn two_nodes<R: Threads + Wait + Sync>(rt: &R, alloc: Global) -> Option<(bool, bool, u32)> {
+    let recorder = recorder_for(alloc, 2, true)?;
+    meet::<Brand, R>(rt, alloc, recorder)
+}
+
+// Lets the node of a new recorder make its turns for these lines.
+fn drive_alone<'a, J: Begins<Recorder>, R: Wait>(
     rt: &R,
     alloc: Global,
+    recorder: Recorder,
     lines: &'a [UserLine<'a>],
-) -> Option<(Result<(), DriveEnd>, u32, usize)> {
-    let Ok((turnstile, mut list)) = Turnstile::open(alloc, recorder(alloc, false), 1) else {
+) -> Option<(Result<(), TurnEnd>, u32, usize)>
+    requires began { J.began ≡ recorder ∷ [] }
+    requires none { recorder.asked.items ≡ [] }
+    requires names { length recorder.names.items ≡ 1 }
+{
+    let shared: Shared<Recorder, J> = Shared {
+        manager: recorder,
+        began: PhantomData,
+    };
+    let Ok((turnstile, mut list)) = Turnstile::open(alloc, shared, 1) else {
         return None;
     };
     let pass = list.pop()?;
@@ -150,23 +188,36 @@ fn one_node<'a, R: Wait>(
     Some((end, recorder.calls, recorder.asked.len()))
 }
 
+// One node with these lines: how its turns ended, how many calls there were, and how many turns.
+fn one_node<'a, R: Wait>(
+    rt: &R,
+    alloc: Global,
+    lines: &'a [UserLine<'a>],
+) -> Option<(Result<(), TurnEnd>, u32, usize)> {
+    let recorder = recorder_for(alloc, 1, false)?;
+    drive_alone::<Brand, R>(rt, alloc, recorder, lines)
+}
+
 #[test]
 fn nodes_make_their_steps_at_once(rt: HostRuntime) -> Result<(), Fail> {
     assert_eq!(rt; two_nodes(&rt, rt.alloc()), Some((true, true, 8)));
     Ok(())
 }
 
-// One node with 60 lines.
-fn long_node<R: Wait>(rt: &R, alloc: Global) -> Option<(Result<(), DriveEnd>, u32, usize)> {
+// One node with five lines more than turns are kept.
+fn long_node<R: Wait>(rt: &R, alloc: Global) -> Option<(Result<(), TurnEnd>, u32, usize)> {
     let text = b"TICK".to_vec(alloc).ok()?;
-    let lines = lines_of(alloc, &text, 60).ok()?;
+    let lines = lines_of(alloc, &text, 1_000_005).ok()?;
     one_node(rt, alloc, &lines)
 }
 
 #[test]
 fn a_history_is_full_at_the_first_call_too_many(rt: HostRuntime) -> Result<(), Fail> {
     let left = long_node(&rt, rt.alloc());
-    assert_eq!(rt; left, Some((Err(DriveEnd::HistoryFull), 50, 49)));
+    assert_eq!(rt;
+        left,
+        Some((Err(TurnEnd::HistoryFull), 1_000_001, 1_000_000))
+    );
     Ok(())
 }
 

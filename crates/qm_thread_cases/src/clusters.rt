@@ -1,17 +1,19 @@
 // The nodes of a cluster at once.
+ghost use Rattle.std.specs.Prelude.{◌≡◌, ◌≤◌, ◌∷◌, [], length};
+ghost use Rattle.qm_kinds.specs.declared.limits.TheConstants.{NODES_LIMIT};
 
 use crate::expected::{lines_of_all, names_of, push_leave, push_lines, push_turns, whys, whys_of};
 use crate::nodes::{Doors, Meeting, MeetingDevice};
 use crate::recorder::Recorder;
-use qm_course::Station;
+use qm_cluster::{Begins, LeftText, MadeTurns, make_turns, print_all};
 use qm_disk::{Clock, MemorySink};
 use qm_history::{Turn, Why};
 use qm_kinds::{Moment, NODES_LIMIT, Name, Seq};
-use qm_program::{DriveEnd, LeftText, MadeTurns, make_turns, print_all};
+use qm_node::Station;
 use qm_script::UserLine;
 use qm_symb::{Device, MemoryDevice, Standard};
 use std::alloc::Global;
-use std::marker::{Send, Sync};
+use std::marker::{Brand, Send, Sync};
 use std::sync::Wait;
 use std::sync::atomic::AtomicUsize;
 use std::test::Fail;
@@ -47,6 +49,39 @@ struct Left {
     printed: Vec<u8>,
 }
 
+// Lets the nodes of a new recorder make their turns for these lines.
+fn make_from<'a, J: Begins<Recorder> + Send + Sync, R: Threads + Wait + Sync, D: Device + Send>(
+    rt: &R,
+    alloc: Global,
+    recorder: Recorder,
+    names: &[Name],
+    lines: &'a [Vec<UserLine<'a>>],
+    stations: &mut [Station<StillClock, Standard<D>>],
+) -> Option<Left>
+    requires began { J.began ≡ recorder ∷ [] }
+    requires none { recorder.asked.items ≡ [] }
+    requires names { names.now ≡ recorder.names.items }
+    requires some { 1 ≤ length names.now }
+    requires few { length names.now ≤ NODES_LIMIT }
+    requires lines { length lines.now ≡ length names.now }
+    requires stations { length stations.old ≡ length names.now }
+{
+    let made = make_turns::<R, Recorder, J, StillClock, Standard<D>>(
+        rt, alloc, recorder, names, lines, stations,
+    );
+    let Ok(MadeTurns { manager, texts }) = made else {
+        return None;
+    };
+    let mut sink = MemorySink::new(alloc, Vec::new(alloc));
+    print_all(&mut sink, names, &texts, &manager.asked).ok()?;
+    let printed = sink.held().to_vec(alloc).ok()?;
+    Some(Left {
+        recorder: manager,
+        texts,
+        printed,
+    })
+}
+
 // Lets nodes of these names make their turns for these lines.
 fn make_all<'a, R: Threads + Wait + Sync, D: Device + Send>(
     rt: &R,
@@ -60,19 +95,8 @@ fn make_all<'a, R: Threads + Wait + Sync, D: Device + Send>(
     if count == 0 || count > NODES_LIMIT || lines.len() != count || stations.len() != count {
         return None;
     }
-    let recorder = Recorder::new(alloc, jobs);
-    let Ok(MadeTurns { manager, texts }) = make_turns(rt, alloc, recorder, &names, &lines, stations)
-    else {
-        return None;
-    };
-    let mut sink = MemorySink::new(alloc, Vec::new(alloc));
-    print_all(&mut sink, &names, &texts, &manager.asked).ok()?;
-    let printed = sink.held().to_vec(alloc).ok()?;
-    Some(Left {
-        recorder: manager,
-        texts,
-        printed,
-    })
+    let recorder = Recorder::new(alloc, names.to_vec(alloc).ok()?, jobs);
+    make_from::<Brand, R, D>(rt, alloc, recorder, &names, &lines, stations)
 }
 
 // What nodes left of which each has so many lines, and no jobs.
@@ -104,28 +128,6 @@ fn all_are_served<R: Threads + Wait + Sync>(rt: &R, alloc: Global, counts: &[u32
     }
     push_turns(&mut wanted, &names, &left.recorder.asked)?;
     Some(holds && left.printed == wanted)
-}
-
-// Whether each of two nodes with more lines than turns are kept made turns of its first lines until it was told so, and what is
-// printed of these; how often they asked; and how many turns are kept.
-fn overfull<R: Threads + Wait + Sync>(rt: &R, alloc: Global) -> Option<(bool, u32, usize)> {
-    let names = names_of(alloc, 2)?;
-    let left = make_lines(rt, alloc, &[60, 60])?;
-    let mut wanted = Vec::new(alloc);
-    let mut holds = left.texts.len() == 2;
-    for (node, name) in names.iter().enumerate() {
-        let made = whys_of(alloc, &left.recorder.asked, node).ok()?;
-        let count = u32::try_from(made.len()).ok()?;
-        holds = holds && made == whys(alloc, count, &[]).ok()?;
-        holds = holds && left.texts.get(node)?.end == Err(DriveEnd::HistoryFull);
-        push_lines(&mut wanted, name, count)?;
-    }
-    push_turns(&mut wanted, &names, &left.recorder.asked)?;
-    Some((
-        holds && left.printed == wanted,
-        left.recorder.calls,
-        left.recorder.asked.len(),
-    ))
 }
 
 // Whether two nodes with a job each met within a step of it, and whether both did their jobs.
@@ -189,12 +191,6 @@ fn nodes_serve_their_lines_in_order_whatever_the_others_do(rt: HostRuntime) -> R
             "of {counts:?}"
         );
     }
-    Ok(())
-}
-
-#[test]
-fn a_full_history_ends_the_turns_of_each_node(rt: HostRuntime) -> Result<(), Fail> {
-    assert_eq!(rt; overfull(&rt, rt.alloc()), Some((true, 51, 49)));
     Ok(())
 }
 

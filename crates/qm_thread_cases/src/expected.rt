@@ -22,12 +22,13 @@ pub(crate) fn lines_of<'a>(
     text: &'a [u8],
     count: u32,
 ) -> Result<Vec<UserLine<'a>>, AllocError> {
+    let name = system_user();
     let mut lines = Vec::new(alloc);
     for number in 1..=count {
         let line = UserLine {
             number,
-            node: system_user(),
-            user: system_user(),
+            node: name,
+            user: name,
             sort: LineSort::Act,
             text,
         };

@@ -1,14 +1,15 @@
 // Nodes on threads of their own.
-ghost use Rattle.std.specs.Prelude.{◌≡◌, [], IfOk};
+ghost use Rattle.std.specs.Prelude.{◌≡◌, ◌<◌, [], length, IfOk};
+ghost use Rattle.std.specs.List.{AllByRecursion};
 
 use crate::recorder::Recorder;
-use qm_course::Station;
-use qm_disk::MemoryClock;
+use qm_cluster::{Begins, Noted, Shared, drive};
+use qm_disk::{MemoryClock, MemorySink};
 use qm_kinds::{Moment, Name, system_user};
-use qm_program::{DriveEnd, Gate, Point, Shared, drive};
+use qm_node::{Gate, Point, Station, TurnEnd};
 use qm_script::UserLine;
 use qm_symb::{Device, DeviceFault, MemoryDevice, Standard};
-use qm_turn::{PassOf, Turnstile};
+use qm_turn::{Pass, PassOf, Turnstile};
 use std::alloc::{AllocError, Global};
 use std::sync::Wait;
 use std::sync::atomic::AtomicUsize;
@@ -106,9 +107,9 @@ impl<'a> Device for MeetingDevice<'a> {
 
 /// A node that has made its turns.
 #[derive(Drop)]
-pub(crate) struct Driven<G> {
-    pub(crate) pass: PassOf<Shared<Recorder>>,
-    pub(crate) end: Result<(), DriveEnd>,
+pub(crate) struct Driven<J, G> {
+    pub(crate) pass: Pass<Shared<Recorder, J>, Noted>,
+    pub(crate) end: Result<(), TurnEnd>,
     pub(crate) gate: G,
 }
 
@@ -126,22 +127,23 @@ fn station_of<D: Device + Drop>(
 }
 
 /// Lets a node make its turns.
-pub(crate) fn drive_node<'a, R: Wait, G: Gate + Drop>(
+pub(crate) fn drive_node<'a, J: Begins<Recorder>, R: Wait, G: Gate + Drop>(
     rt: &R,
     alloc: Global,
-    turnstile: &Turnstile<Shared<Recorder>>,
-    mut pass: PassOf<Shared<Recorder>>,
+    turnstile: &Turnstile<Shared<Recorder, J>>,
+    mut pass: PassOf<Shared<Recorder, J>>,
     node: u8,
     lines: &'a [UserLine<'a>],
     mut gate: G,
-) -> Result<Driven<G>, AllocError>
+) -> Result<Driven<J, G>, AllocError>
     requires here { pass.place ≡ turnstile.now.place }
     requires number { pass.number ≡ node }
     requires new { (pass.seen ≡ []) × (pass.mine ≡ []) × (pass.took ≡ []) }
+    requires there { AllByRecursion (λ recorder. node < length recorder.names.items) J.began }
     ensures { IfOk result (λ d. (d.pass.place ≡ turnstile.now.place) × (d.pass.number ≡ node) × (d.pass.took ≡ [])) }
 {
     let mut station = station_of(alloc, MemoryDevice::new(alloc, Vec::new(alloc)))?;
-    let mut text = Vec::new(alloc);
+    let mut text = MemorySink::new(alloc, Vec::new(alloc));
     let end = drive(
         rt,
         alloc,

@@ -1,24 +1,25 @@
 // A value in memory that records what it was asked.
-ghost use Rattle.std.specs.Prelude.{◌≡◌, ◌≢◌, [], IfOk, IsTrue};
+ghost use Rattle.std.specs.Prelude.{◌≡◌, ◌≢◌, [], false, IfOk, IsTrue};
 ghost use Rattle.qm_history.specs.Calls.{why_of};
+ghost use Rattle.qm_history.specs.Faults.{is_journal};
 ghost use Rattle.qm_history.specs.declared.call.Answer.TheVariants as answer;
-ghost use Rattle.qm_node.specs.Duties.{AreLearnable};
-ghost use Rattle.qm_node.specs.Node.{CanBeHeard};
-ghost use Rattle.qm_symb.specs.Symbiont.{IsWithinLimits};
+ghost use Rattle.qm_history.specs.ShownDuties.{AreShown, ShowsDuties};
+ghost use Rattle.qm_model.specs.Duties.{IsProperWork};
 
-use qm_history::{Answer, Call, Turn, Why};
-use qm_kinds::{Duty, JobKind, Mark, Moment, Seq, Shape, TEXT_LIMIT, Work, system_user};
-use qm_program::Serve;
+use qm_history::{Answer, Call, Serve, Turn, Why};
+use qm_kinds::{Duty, FILE_LIMIT, JobKind, Mark, Moment, Name, Seq, Shape, Work, system_user};
 use qm_rows::Rows;
 use std::alloc::{AllocError, Global};
 
-// How many turns it keeps at most.
-const TURNS: usize = 49;
+/// How many turns it keeps at most.
+pub(crate) const TURNS: usize = 1_000_000;
 
 /// What it was asked: a turn for each call but those that were told that no more are kept.
 #[derive(Drop)]
 pub(crate) struct Recorder {
     pub(crate) alloc: Global,
+    /// The nodes that ask it.
+    pub(crate) names: Vec<Name>,
     /// Whether a node whose first call is a fetch gets a batch job.
     pub(crate) jobs: bool,
     pub(crate) calls: u32,
@@ -27,11 +28,13 @@ pub(crate) struct Recorder {
 
 impl Recorder {
     /// It was asked nothing yet.
-    pub(crate) fn new(alloc: Global, jobs: bool) -> Recorder
-        ensures { result.asked.items ≡ [] }
+    pub(crate) fn new(alloc: Global, names: Vec<Name>, jobs: bool) -> Recorder
+        ensures asked { result.asked.items ≡ [] }
+        ensures names { result.names ≡ names }
     {
         Recorder {
             alloc,
+            names,
             jobs,
             calls: 0,
             asked: Vec::new(alloc),
@@ -51,14 +54,14 @@ fn why_of(call: &Call) -> Why
     }
 }
 
-/// Whether a symbiont can carry it out.
+/// Whether it can be carried out.
 fn is_within_limits(work: &Work) -> bool
-    ensures { IsTrue result → IsWithinLimits work.now }
+    ensures { IsTrue result → IsProperWork work.now }
 {
     let shape = work.shape;
     shape.top as u32 + (shape.bottom as u32) < shape.length as u32
         && shape.left as u32 + (shape.right as u32) < shape.width as u32
-        && work.text.len() <= TEXT_LIMIT
+        && work.text.len() <= FILE_LIMIT
 }
 
 // A batch job that writes a line, and runs as this run.
@@ -90,7 +93,7 @@ fn work_of(alloc: Global, run: u64) -> Result<Work, AllocError> {
 
 // The run of a job.
 fn duties_of(alloc: Global, run: u64) -> Result<Vec<Duty>, AllocError>
-    ensures { IfOk result (λ duties. AreLearnable duties.items) }
+    ensures { IfOk result (λ duties. AreShown duties.items) }
 {
     let mut duties = Vec::with_capacity(alloc, 1)?;
     let work = work_of(alloc, run)?;
@@ -107,8 +110,9 @@ fn duties_of(alloc: Global, run: u64) -> Result<Vec<Duty>, AllocError>
 
 // A fetch shows the node's job, if it is to get one; any other call shows no rows.
 fn answer_to(alloc: Global, job: bool, node: u8, moment: Moment, call: &Call) -> Answer
-    ensures heard { CanBeHeard result }
+    ensures duties { ShowsDuties result }
     ensures kept { result ≢ answer.HistoryFull }
+    ensures quiet { is_journal result ≡ false }
 {
     let took = None;
     let Call::Fetch { .. } = call else {
@@ -147,18 +151,17 @@ fn is_new(asked: &[Turn], node: u8) -> bool {
 
 impl Serve for Recorder {
     ghost use Rattle.std.specs.Prelude.{◌≤◌, false, length};
+    ghost use Rattle.qm_history.specs.Chest.{turns_kept};
 
-    ghost may_begin = { λ w. Unit {0} };
-
-    ghost tells = { false };
-
-    ghost kept = { λ recorder. recorder.asked.items };
-
-    ghost most = { 49 };
-
-    ghost stands = { λ recorder notes. length recorder.asked.items ≤ 49 };
-
-    ghost can_ask = { λ node asked. Unit {0} };
+    ghost meaning = { record {
+      turns = λ recorder. recorder.asked.items;
+      nodes = λ recorder. recorder.names.items;
+      failed = λ recorder. 0;
+      tells = false;
+      serves = λ recorder. length recorder.asked.items ≤ turns_kept;
+      stands = λ w recorder. ⊥;
+      does = λ w old new asked turn told. Unit {0};
+    } };
 
     fn serve(&mut self, node: u8, now: Moment, call: Call) -> Answer {
         self.calls = self.calls.saturating_add(1);

@@ -10,7 +10,7 @@ ghost use Rattle.qm_image.specs.Image.{system_of};
 use crate::copying::put;
 use crate::following::replay;
 use qm_image::Image;
-use qm_kinds::{Body, Entry, File, Moment, Name, Node, Queue, Record, Seq, System};
+use qm_kinds::{Body, Entry, File, Moment, Name, Node, Record, Seq, System};
 use qm_model::requests_keep_consistent;
 use std::alloc::{AllocError, Global};
 use std::{mem, slice};
@@ -97,26 +97,6 @@ fn copy_file(alloc: Global, file: &File) -> Result<File, AllocError>
     })
 }
 
-fn copy_queue(alloc: Global, queue: &Queue) -> Result<Queue, AllocError>
-    ensures { IfOk result (λ copy. copy ≡ queue.now) }
-{
-    Ok(Queue {
-        name: queue.name,
-        kind: queue.kind,
-        state: queue.state,
-        node: queue.node,
-        device: queue.device,
-        limit: queue.limit,
-        characteristics: queue.characteristics,
-        mounted: queue.mounted,
-        lower: queue.lower,
-        upper: queue.upper,
-        by_size: queue.by_size,
-        retain: queue.retain,
-        targets: Seq::of(Vec::from_slice(alloc, queue.targets.as_slice())?),
-    })
-}
-
 // Adds an entry to a system.
 fn add_entry(alloc: Global, system: &mut System, entry: &Entry) -> Result<(), AllocError>
     ensures { OnOk result (system.new ≡ record system.old { entries = system.old.entries ++ entry.now ∷ [] }) }
@@ -156,7 +136,7 @@ fn add_row(alloc: Global, system: &mut System, row: &Body) -> Result<(), AllocEr
             put(alloc, &mut system.characteristics, *characteristic)
         }
         Body::File(file) => put(alloc, &mut system.files, copy_file(alloc, file)?),
-        Body::Queue(queue) => put(alloc, &mut system.queues, copy_queue(alloc, queue)?),
+        Body::Queue(queue) => put(alloc, &mut system.queues, queue.copy(alloc)?),
         Body::Entry(entry) => add_entry(alloc, system, entry),
         Body::Ask(_) => unreachable!(),
     }

@@ -10,10 +10,10 @@ ghost use Rattle.qm_program.specs.Ends.{status_of};
 mod advice;
 
 use advice::{Folder, advice};
-use qm_course::Station;
 use qm_disk::{InputSource, OutputSink, SystemClock};
 use qm_files::FileDisk;
 use qm_kinds::NODES_LIMIT;
+use qm_node::Station;
 use qm_program::{End, Outcome, qman};
 use qm_symb::{FileDevice, Standard};
 use std::alloc::AllocError;

@@ -4,12 +4,7 @@ ghost use Rattle.qm_history.specs.Master.{IsQueueFile};
 ghost use Rattle.qm_store.specs.MasterRecords.{record_of, state_of, SaysFirst, SaysNext, SaysBehind, IsBegun};
 
 use crate::master::record::{MasterRecord, read_master};
-
-/// The least cap of a queue file, in bytes.
-pub const LEAST_QUEUE_CAP: u64 = 4_096;
-
-/// The greatest cap of a queue file, in bytes.
-pub const GREATEST_QUEUE_CAP: u64 = 268_435_456;
+use qm_kinds::{GREATEST_CAP, LEAST_CAP};
 
 // Each epoch is below this one.
 const EPOCH_END: u64 = 1 << 62;
@@ -37,7 +32,7 @@ fn first_state(said: MasterRecord) -> Option<MasterState>
 {
     match said {
         MasterRecord::Found { cap, file } => {
-            if LEAST_QUEUE_CAP <= cap && cap <= GREATEST_QUEUE_CAP && is_queue_file(file) {
+            if LEAST_CAP <= cap && cap <= GREATEST_CAP && is_queue_file(file) {
                 Some(MasterState {
                     cap,
                     live: file,

@@ -1,5 +1,5 @@
-use Rattle.qm_program.specs.ClusterServing.{ServesAtOnce}
-use Rattle.qm_service.specs.Serving.{Serves}
+use Rattle.qm_serving.specs.ClusterServing.{ServesAtOnce}
+use Rattle.qm_serving.specs.Serving.{Serves}
 use Rattle.qm_program.proofs.Surviving.{nodes_noted, one_noted, served_moments}
 use Rattle.qm_program.proofs.laws.a_crash_leaves_a_moment_of_the_run.Goals as goal
 

@@ -1,6 +1,6 @@
-use Rattle.qm_program.specs.ClusterServing.{ServesAtOnce}
-use Rattle.qm_course.specs.Asking.{read_built}
-use Rattle.qm_service.specs.Serving.{Serves}
+use Rattle.qm_serving.specs.ClusterServing.{ServesAtOnce}
+use Rattle.qm_node.specs.Asking.{read_built}
+use Rattle.qm_serving.specs.Serving.{Serves}
 use Rattle.qm_program.proofs.Surviving.{nodes_taken, one_taken, served_taken}
 use Rattle.qm_program.proofs.laws.blocks_come_in_stretches.Goals as goal
 

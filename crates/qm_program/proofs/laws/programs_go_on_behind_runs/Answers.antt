@@ -1,5 +1,5 @@
-use Rattle.qm_program.specs.ClusterServing.{ServesAtOnce}
-use Rattle.qm_service.specs.Serving.{Serves}
+use Rattle.qm_serving.specs.ClusterServing.{ServesAtOnce}
+use Rattle.qm_serving.specs.Serving.{Serves}
 use Rattle.qm_program.proofs.Surviving.{nodes_noted, one_noted, served_behind}
 use Rattle.qm_program.proofs.laws.programs_go_on_behind_runs.Goals as goal
 

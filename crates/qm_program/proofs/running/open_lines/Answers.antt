@@ -1,5 +1,5 @@
 use Rattle.std.proofs.Common.{map}
-use Rattle.qm_course.specs.Runs.{side_of}
+use Rattle.qm_node.specs.Sides.{side_of}
 use Rattle.qm_program.proofs.Leaving.{unopened_ends}
 use Rattle.qm_program.proofs.running.open_lines.Goals as goal
 

@@ -1,7 +1,7 @@
 use Rattle.std.proofs.Common.{map}
 use Rattle.std.specs.String.{string_bytes}
-use Rattle.qm_course.specs.Runs.{side_of}
-use Rattle.qm_service.specs.Serving.{outside}
+use Rattle.qm_node.specs.Sides.{side_of}
+use Rattle.qm_serving.specs.Serving.{outside}
 use Rattle.qm_program.specs.Task.{task_of}
 use Rattle.qm_program.proofs.Asking.{spare_untouched, untouched}
 use Rattle.qm_program.proofs.top_call.alone.Goals as goal

@@ -1,5 +1,0 @@
-use Rattle.qm_living.proofs.Lives.{who_left}
-use Rattle.qm_living.proofs.laws.nodes_that_left_are_not_live.Goals as goal
-
-pub returns : goal.returns
-returns g c = λ w t turn. who_left g.F.Format.has_spelling w t turn

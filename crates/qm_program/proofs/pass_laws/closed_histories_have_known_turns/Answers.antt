@@ -1,5 +1,0 @@
-use Rattle.qm_program.proofs.Owning.{own_of_each}
-use Rattle.qm_program.proofs.pass_laws.closed_histories_have_known_turns.Goals as goal
-
-pub returns : goal.returns
-returns c = own_of_each

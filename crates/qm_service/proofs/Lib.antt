@@ -1,8 +1,0 @@
-pub mod Called
-pub mod Empty
-pub mod Overlooked
-pub mod Recordable
-pub mod Noted
-pub mod Opened
-pub mod Script
-pub mod Spared

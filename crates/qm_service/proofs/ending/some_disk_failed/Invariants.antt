@@ -1,6 +1,0 @@
-use Rattle.std.proofs.Common.{◌≡◌, false, take}
-use Rattle.qm_service.specs.Ends.{some_disk_failed}
-use Rattle.qm_service.proofs.ending.some_disk_failed.Given as goal
-
-abbrev pub invariant-turns : goal.invariant-turns
-invariant-turns l = some_disk_failed (take l.turn-index l.turns) ≡ false

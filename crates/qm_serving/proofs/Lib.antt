@@ -1,0 +1,10 @@
+pub mod Begun
+pub mod Called
+pub mod ClusterServing
+pub mod Empty
+pub mod Left
+pub mod Naming
+pub mod Opened
+pub mod Script
+pub mod Texts
+pub mod Told
