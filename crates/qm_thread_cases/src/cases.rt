@@ -7,12 +7,13 @@ use crate::expected::{lines_of, names_of};
 use crate::nodes::{Doors, Driven, Meeting, drive_node};
 use crate::recorder::Recorder;
 use qm_cluster::{Begins, Shared};
-use qm_history::{Turn, Why};
+use qm_history::{Answer, Call, Serve, Turn, Why};
+use qm_kinds::Moment;
 use qm_node::{OpenGate, TurnEnd};
 use qm_script::UserLine;
-use qm_turn::{PassOf, Turnstile};
+use qm_turn::{PassOf, Task, Turnstile};
 use std::alloc::{AllocError, Global};
-use std::marker::{Brand, PhantomData, Send, Sync};
+use std::marker::{Brand, Model, PhantomData, Send, Sync};
 use std::sync::Wait;
 use std::sync::atomic::AtomicUsize;
 use std::test::Fail;
@@ -162,40 +163,98 @@ fn two_nodes<R: Threads + Wait + Sync>(rt: &R, alloc: Global) -> Option<(bool, b
     meet::<Brand, R>(rt, alloc, recorder)
 }
 
-// Lets the node of a new recorder make its turns for these lines.
-fn drive_alone<'a, J: Begins<Recorder>, R: Wait>(
+// A turn of the second node, which only leaves: no line is read, and nothing printed.
+#[derive(Drop)]
+struct Leaving<J: Begins<Recorder>> {
+    began: PhantomData<J>,
+}
+
+impl<J: Begins<Recorder>> Model for Leaving<J> {
+    ghost use Rattle.std.specs.Prelude.{◌<◌, length};
+    ghost use Rattle.std.specs.List.{AllByRecursion};
+
+    ghost Value = { Unit {0} };
+
+    ghost view = { λ leaving. tt };
+
+    ghost invariant = { λ leaving. AllByRecursion (λ recorder. 1 < length recorder.names.items) J.began };
+}
+
+impl<J: Begins<Recorder>> Task<Shared<Recorder, J>> for Leaving<J> {
+    ghost use Rattle.qm_history.specs.declared.call.Call.TheVariants as call;
+    ghost use Rattle.qm_cluster.specs.Sharing.{note_of};
+
+    type Answer = Answer;
+
+    ghost note = { λ task before after answer. note_of call.Leave before.manager.asked.items after.manager.asked.items answer };
+
+    ghost does = { λ task before after answer. Unit {0} };
+
+    fn work(self, shared: &mut Shared<Recorder, J>) -> Answer {
+        let Leaving { began: _ } = self;
+        shared.manager.serve(1, Moment::BASE, Call::Leave)
+    }
+}
+
+// Makes so many turns of the second node.
+fn leave_often<J: Begins<Recorder>, R: Wait>(
+    rt: &R,
+    turnstile: &Turnstile<Shared<Recorder, J>>,
+    mut pass: PassOf<Shared<Recorder, J>>,
+    turns: u32,
+) -> PassOf<Shared<Recorder, J>>
+    requires here { pass.place ≡ turnstile.now.place }
+    requires there { AllByRecursion (λ recorder. 1 < length recorder.names.items) J.began }
+    ensures { (result.place ≡ pass.place) × (result.number ≡ pass.number) }
+{
+    for _turn in 0..turns {
+        let leaving: Leaving<J> = Leaving { began: PhantomData };
+        let _told = turnstile.turn(rt, &mut pass, leaving);
+    }
+    pass
+}
+
+// Lets the first node of a new recorder make its turns for these lines, behind so many turns of the second one.
+fn drive_behind<'a, J: Begins<Recorder>, R: Wait>(
     rt: &R,
     alloc: Global,
     recorder: Recorder,
+    turns: u32,
     lines: &'a [UserLine<'a>],
 ) -> Option<(Result<(), TurnEnd>, u32, usize)>
     requires began { J.began ≡ recorder ∷ [] }
     requires none { recorder.asked.items ≡ [] }
-    requires names { length recorder.names.items ≡ 1 }
+    requires names { length recorder.names.items ≡ 2 }
 {
     let shared: Shared<Recorder, J> = Shared {
         manager: recorder,
         began: PhantomData,
     };
-    let Ok((turnstile, mut list)) = Turnstile::open(alloc, shared, 1) else {
+    let Ok((turnstile, mut list)) = Turnstile::open(alloc, shared, 2) else {
         return None;
     };
-    let pass = list.pop()?;
-    let Driven { pass, end, gate: _ } = drive_node(
-        rt, alloc, &turnstile, pass, 0, lines, OpenGate,
-    ).ok()?;
+    let second = list.pop()?;
+    let first = list.pop()?;
+    let second = leave_often(rt, &turnstile, second, turns);
+    let Driven {
+        mut pass,
+        end,
+        gate: _,
+    } = drive_node(rt, alloc, &turnstile, first, 0, lines, OpenGate).ok()?;
+    turnstile.join(&mut pass, second);
     let recorder = turnstile.close(pass).manager;
     Some((end, recorder.calls, recorder.asked.len()))
 }
 
-// One node with these lines: how its turns ended, how many calls there were, and how many turns.
+// A node with these lines, behind so many turns of another: how its turns ended, how many calls there were, and how many turns.
 fn one_node<'a, R: Wait>(
     rt: &R,
     alloc: Global,
+    turns: u32,
     lines: &'a [UserLine<'a>],
 ) -> Option<(Result<(), TurnEnd>, u32, usize)> {
-    let recorder = recorder_for(alloc, 1, false)?;
-    drive_alone::<Brand, R>(rt, alloc, recorder, lines)
+    let recorder = recorder_for(alloc, 2, false)?;
+    drive_behind::<Brand, R>(rt, alloc, recorder, turns, lines)
 }
 
 #[test]
@@ -204,11 +263,11 @@ fn nodes_make_their_steps_at_once(rt: HostRuntime) -> Result<(), Fail> {
     Ok(())
 }
 
-// One node with five lines more than turns are kept.
+// A node with 60 lines, where 49 turns more are kept.
 fn long_node<R: Wait>(rt: &R, alloc: Global) -> Option<(Result<(), TurnEnd>, u32, usize)> {
     let text = b"TICK".to_vec(alloc).ok()?;
-    let lines = lines_of(alloc, &text, 1_000_005).ok()?;
-    one_node(rt, alloc, &lines)
+    let lines = lines_of(alloc, &text, 60).ok()?;
+    one_node(rt, alloc, 999_951, &lines)
 }
 
 #[test]
@@ -223,6 +282,6 @@ fn a_history_is_full_at_the_first_call_too_many(rt: HostRuntime) -> Result<(), F
 
 #[test]
 fn a_node_without_lines_fetches_and_leaves(rt: HostRuntime) -> Result<(), Fail> {
-    assert_eq!(rt; one_node(&rt, rt.alloc(), &[]), Some((Ok(()), 2, 2)));
+    assert_eq!(rt; one_node(&rt, rt.alloc(), 0, &[]), Some((Ok(()), 2, 2)));
     Ok(())
 }

@@ -1,5 +1,5 @@
 use Rattle.std.proofs.Common.{[], ◌∷◌}
 use Rattle.qm_thread_cases.proofs.cases.one_node.Given as goal
 
-abbrev pub ghosts-drive_alone : goal.ghosts-drive_alone
-ghosts-drive_alone g a = record { began = a.recorder ∷ [] }
+abbrev pub ghosts-drive_behind : goal.ghosts-drive_behind
+ghosts-drive_behind g a = record { began = a.recorder ∷ [] }

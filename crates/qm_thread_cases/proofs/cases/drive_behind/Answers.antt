@@ -1,6 +1,6 @@
 use Rattle.std.proofs.Common.{◌≡◌, ◌≤◌, length, refl, ap, arith, true, false}
 use Rattle.qm_history.specs.Chest.{turns_kept}
-use Rattle.qm_thread_cases.proofs.cases.drive_alone.Goals as goal
+use Rattle.qm_thread_cases.proofs.cases.drive_behind.Goals as goal
 
 pub open-requires-clause-untouched : goal.open-requires-clause-untouched
 open-requires-clause-untouched g c =
