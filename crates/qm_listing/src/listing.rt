@@ -9,9 +9,9 @@ ghost use Rattle.qm_listing.specs.Listing.{IsListingOf};
 
 use qm_acting::{Restored, restore};
 use qm_disk::Disk;
+use qm_image::Refused;
 use qm_kinds::{Kinds, Listing, Pattern, Query};
 use qm_show::show_rows;
-use qm_image::Refused;
 use qm_store::{Closed, LoadFault, held_files_load};
 use std::alloc::{AllocError, Global};
 
