@@ -1,12 +1,7 @@
 -- What the record of a request that was decided on is to what image and files stand for.
 use Rattle.std.proofs.Common.{◌≡◌, ◌∙◌, ◌<◌, ◌≤◌, ◌^◌, ℕ, List, length, Ok, Err, sym, ap, subst, arith}
-use Rattle.qm_disk.specs.Disk.{Meaning}
+use Rattle.qm_history.specs.Common.{Meaning, CanFollow, Reply, Request, System}
 use Rattle.qm_store.specs.Recorded.{with_body}
-use Rattle.qm_history.specs.Accepted.{CanFollow}
-use Rattle.qm_kinds.specs.declared.reply.Reply.{Reply}
-use Rattle.qm_kinds.specs.declared.request.Request.{Request}
-use Rattle.qm_kinds.specs.declared.system.System.{System}
-use Rattle.qm_record.specs.Spelling.{HasSpelling}
 use Rattle.qm_restore.specs.QueueFile.{IsSiteFile}
 use Rattle.qm_image.specs.Preparing.{made}
 use Rattle.qm_image.specs.declared.image.Image.{Image}
@@ -23,8 +18,8 @@ module _ (old : Standing) (moment node : ℕ) (asked : Request) (image : Image) 
     text_is : decision.body.items ≡ text_of moment node asked
     text_is = decides.spells.is
 
-    next : CanFollow HasSpelling old.system moment node asked
-    next = follows old.system moment node asked (made decision.prepared old.system) can decides.accepted
+    next : CanFollow old.system moment node asked
+    next = follows old.system moment node asked (made decision.prepared old.system) can decides.spells.fits decides.accepted
 
     short : length (text_of moment node asked) < 2 ^ 63
     short =
@@ -34,7 +29,7 @@ module _ (old : Standing) (moment node : ℕ) (asked : Request) (image : Image) 
     -- the files stand for what is made
     pub site_with : IsSiteFile old.recorded.bodies old.system → IsSiteFile (standing_with old decision).recorded.bodies (standing_with old decision).system
     site_with site =
-        goes_on_so old.recorded.bodies old.system moment node asked (made decision.prepared old.system) decision.body.items site can decides.accepted text_is
+        goes_on_so old.recorded.bodies old.system moment node asked (made decision.prepared old.system) decision.body.items site next decides.accepted text_is
 
     within : need_with old.recorded decision.body.items ≤ old.recorded.says.cap → need_with old.recorded (text_of moment node asked) ≤ old.recorded.says.cap
     within room = subst (λ (t : List ℕ). need_with old.recorded t ≤ old.recorded.says.cap) text_is room

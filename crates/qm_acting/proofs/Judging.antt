@@ -1,15 +1,12 @@
 -- What is told of files whose records stand for no site, and that nothing is told of those that do.
-use Rattle.std.proofs.Common.{◌≡◌, ◌+◌, inl, inr, refl, sym, subst, arith, ℕ, List, length, take, drop}
+use Rattle.std.proofs.Common.{◌≡◌, ◌+◌, inl, inr, refl, sym, subst, arith, ℕ, List, length, take, drop, take-append-drop}
 use Rattle.std.proofs.lemmas.Bool.{cases_lt}
-use Rattle.std.proofs.lemmas.List.{take-append-drop}
-use Rattle.qm_disk.specs.Disk.{CrashState}
+use Rattle.qm_history.specs.Common.{CrashState, OpenFault, System}
 use Rattle.qm_store.proofs.Contents.{one_content}
 use Rattle.qm_store.proofs.Faults.{held_is_open}
 use Rattle.qm_store.specs.Loading.{IsLoadFault}
 use Rattle.qm_store.specs.Recorded.{Recorded, Holds}
-use Rattle.qm_glog.specs.declared.fault.OpenFault.{OpenFault}
 use Rattle.qm_glog.specs.declared.fault.OpenFault.TheVariants.{Disk, Unformatted, Damaged, NoMemory}
-use Rattle.qm_kinds.specs.declared.system.System.{System}
 use Rattle.qm_restore.specs.QueueFile.{Begins, IsFirstUnlawful, IsSiteFile}
 use Rattle.qm_restore.specs.Restoring.{Judges}
 use Rattle.qm_restore.specs.declared.fault.RestoreFault.{RestoreFault}

@@ -2,5 +2,6 @@ pub mod Short
 pub mod Following
 pub mod Judging
 pub mod Decided
-pub mod Taken
 pub mod Spare
+pub mod Leaving
+pub mod Taken

@@ -2,9 +2,8 @@
 use Rattle.std.proofs.Common.{◌≡◌, ◌≢◌, ◌≤◌, ◌⊎◌, ◌∙◌, ⊎_elim, ℕ, List, refl, sym, ap, subst, arith}
 use Rattle.qm_disk.specs.Disk.{CrashState, Meaning, IsLeft, KeepsOthers, LeavesOnly, OnlyLooks}
 use Rattle.qm_disk.proofs.Moments.{reads_now}
-use Rattle.qm_glog.specs.Records.{IsLog}
+use Rattle.qm_history.specs.Common.{IsLog, MasterState}
 use Rattle.qm_glog.proofs.Texts.{one_list}
-use Rattle.qm_history.specs.Master.{MasterState}
 use Rattle.qm_store.specs.MasterJudging.{IsMaster}
 use Rattle.qm_store.proofs.Masters.{one_master, says_lawful}
 use Rattle.qm_store.specs.Opening.{in_next_epoch}

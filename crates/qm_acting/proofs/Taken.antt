@@ -1,20 +1,17 @@
 -- What a takeover comes to, by what the epoch and then the record of its request did.
-use Rattle.std.proofs.Common.{◌≡◌, ◌≤◌, ⊎_elim, inl, inr, ℕ, IsTrue, List, Ok, Err, refl, sym, subst}
-use Rattle.std.specs.Prelude.{IsErrOf}
-use Rattle.qm_disk.specs.Disk.{Meaning, LeavesOnly}
+use Rattle.std.proofs.Common.{◌≡◌, ◌≤◌, ⊎_elim, inl, inr, ℕ, IsTrue, List, Ok, Err, refl, sym, subst, IsErrOf}
+use Rattle.qm_history.specs.Common.{Meaning, LeavesOnly, Reply, Request}
 use Rattle.qm_disk.proofs.Moments.{weaker, goes_further}
 use Rattle.qm_store.specs.Opening.{next_need}
 use Rattle.qm_store.specs.Recorded.{Recorded, HoldsEither, with_body}
 use Rattle.qm_store.specs.declared.fault.WriteFault.{WriteFault}
 use Rattle.qm_store.specs.declared.fault.WriteFault.TheVariants as writing
 use Rattle.qm_store.specs.declared.files.TheConstants.{MASTER_CAP}
-use Rattle.qm_disk.specs.Faults.{Tells}
-use Rattle.qm_kinds.specs.declared.reply.Reply.{Reply}
-use Rattle.qm_kinds.specs.declared.request.Request.{Request}
 use Rattle.qm_restore.specs.QueueFile.{IsSiteFile}
 use Rattle.qm_image.specs.declared.image.Image.{Image}
 use Rattle.qm_acting.specs.Asking.{text_of, CanBeAsked, Does, Writes}
 use Rattle.qm_acting.specs.Deciding.{standing_with, Decides, LeavesFull, Records}
+use Rattle.qm_acting.specs.Leaving.{LeavesDisk}
 use Rattle.qm_acting.specs.Standing.{Standing, StandsFor}
 use Rattle.qm_acting.specs.Taking.{in_next, taking_fault, recording_fault, HoldsTaken, HoldsEpoch, FailLeaves, IsDiskFault, TakesNot}
 use Rattle.qm_acting.specs.declared.decision.Decision.{Decision}
@@ -22,22 +19,23 @@ use Rattle.qm_acting.specs.declared.fault.RecordFault.{RecordFault}
 use Rattle.qm_acting.specs.declared.fault.RecordFault.TheVariants as recording
 use Rattle.qm_acting.specs.declared.fault.TakeFault.{TakeFault}
 use Rattle.qm_acting.proofs.Decided.{site_with, done_so, lacks_so, doubt_so, writes_so}
+use Rattle.qm_acting.proofs.Leaving.{leaves_so}
 
 -- ---- the epoch
 
-disk_is : (fault : WriteFault) (need cap : ℕ) → writing.Full need cap ≡ writing.Disk → ⊥
-disk_is fault need cap same = cc
+epoch_told : (fault : WriteFault) → fault ≡ writing.Disk → IsDiskFault (taking_fault fault)
+epoch_told fault is = subst (λ (f : WriteFault). IsDiskFault (taking_fault f)) (sym is) tt
 
-no_memory_is : writing.NoMemory ≡ writing.Disk → ⊥
-no_memory_is same = cc
+epoch_is : (fault : WriteFault) → IsDiskFault (taking_fault fault) → fault ≡ writing.Disk
+epoch_is writing.Disk is = refl
+epoch_is (writing.Full need cap) is = absurd is
+epoch_is writing.NoMemory is = absurd is
 
-epoch_faults_so : (before after : ℕ) (fault : WriteFault) → Tells before after (fault ≡ writing.Disk) → Tells before after (IsDiskFault (taking_fault fault))
-epoch_faults_so before after writing.Disk told = record { fault = λ is. told.fault refl; quiet = λ not. absurd (not tt) }
-epoch_faults_so before after (writing.Full need cap) told = record { fault = λ is. absurd is; quiet = λ not. told.quiet (disk_is (writing.Full need cap) need cap) }
-epoch_faults_so before after writing.NoMemory told = record { fault = λ is. absurd is; quiet = λ not. told.quiet no_memory_is }
-
-pub epoch_faults : (before after : ℕ) (fault : WriteFault) (taken : TakeFault) → taken ≡ taking_fault fault → Tells before after (fault ≡ writing.Disk) → Tells before after (IsDiskFault taken)
-epoch_faults before after fault taken is told = subst (λ (t : TakeFault). Tells before after (IsDiskFault t)) (sym is) (epoch_faults_so before after fault told)
+pub epoch_disk : {D : Type 0} (m : Meaning D) (before after : D) (fault : WriteFault) (taken : TakeFault) → taken ≡ taking_fault fault → LeavesDisk m before after (fault ≡ writing.Disk)
+    → LeavesDisk m before after (IsDiskFault taken)
+epoch_disk m before after fault taken is leaves =
+    subst (λ (t : TakeFault). LeavesDisk m before after (IsDiskFault t)) (sym is)
+    (leaves_so m before after (fault ≡ writing.Disk) (IsDiskFault (taking_fault fault)) (epoch_told fault) (epoch_is fault) leaves)
 
 module _ {D : Type 0} (m : Meaning D) (r next : Recorded) (text : List ℕ) (file : ℕ) (before after : D) where
   pub epoch_leaves : LeavesOnly m before after (HoldsEither (m.may_leave before) file r next) → LeavesOnly m before after (HoldsEpoch r next)
@@ -123,17 +121,19 @@ full_is need cap same = cc
 pub done_is : (reply : Reply) → IsErrOf (Ok reply) recording.Disk → ⊥
 done_is reply same = cc
 
-record_faults_so : (before after : ℕ) (fault : RecordFault) → Tells before after (IsErrOf {T = Reply} (Err fault) recording.Disk) → Tells before after (IsDiskFault (recording_fault fault))
-record_faults_so before after recording.Disk told = record { fault = λ is. told.fault refl; quiet = λ not. absurd (not tt) }
-record_faults_so before after (recording.Full need cap) told = record { fault = λ is. absurd is; quiet = λ not. told.quiet (full_is need cap) }
+record_told_of : (fault : RecordFault) → IsErrOf {T = Reply} (Err fault) recording.Disk → IsDiskFault (recording_fault fault)
+record_told_of recording.Disk is = tt
+record_told_of (recording.Full need cap) is = absurd (full_is need cap is)
 
-pub record_faults : (before after : ℕ) (fault : RecordFault) (taken : TakeFault) → taken ≡ recording_fault fault → Tells before after (IsErrOf {T = Reply} (Err fault) recording.Disk)
-    → Tells before after (IsDiskFault taken)
-record_faults before after fault taken is told = subst (λ (t : TakeFault). Tells before after (IsDiskFault t)) (sym is) (record_faults_so before after fault told)
+record_is : (fault : RecordFault) → IsDiskFault (recording_fault fault) → IsErrOf {T = Reply} (Err fault) recording.Disk
+record_is recording.Disk is = refl
+record_is (recording.Full need cap) is = absurd is
 
--- behind calls of which none failed
-pub faults_behind : (P : Type 0) (before between after : ℕ) → between ≡ before → Tells between after P → Tells before after P
-faults_behind P before between after quiet told = subst (λ (n : ℕ). Tells n after P) quiet told
+pub record_disk : {D : Type 0} (m : Meaning D) (before after : D) (fault : RecordFault) (taken : TakeFault) → taken ≡ recording_fault fault
+    → LeavesDisk m before after (IsErrOf {T = Reply} (Err fault) recording.Disk) → LeavesDisk m before after (IsDiskFault taken)
+record_disk m before after fault taken is leaves =
+    subst (λ (t : TakeFault). LeavesDisk m before after (IsDiskFault t)) (sym is)
+    (leaves_so m before after (IsErrOf {T = Reply} (Err fault) recording.Disk) (IsDiskFault (recording_fault fault)) (record_told_of fault) (record_is fault) leaves)
 
 -- ---- what memory was taken for is as it was
 

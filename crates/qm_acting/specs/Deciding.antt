@@ -1,13 +1,7 @@
 -- What a request is that was decided on, and what its record leaves.
 use Rattle.std.specs.Prelude.{◌≡◌, ◌<◌, ◌≤◌, ℕ, Result, Ok, Err}
-use Rattle.qm_bytes.specs.Laws.{Spells}
+use Rattle.qm_history.specs.Common.{Spells, Reply, Request, System, applied, request_record, HasSpelling, record_text}
 use Rattle.qm_store.specs.Recorded.{with_body}
-use Rattle.qm_kinds.specs.declared.reply.Reply.{Reply}
-use Rattle.qm_kinds.specs.declared.request.Request.{Request}
-use Rattle.qm_kinds.specs.declared.system.System.{System}
-use Rattle.qm_model.specs.Applied.{applied}
-use Rattle.qm_model.specs.Log.{request_record}
-use Rattle.qm_record.specs.Spelling.{HasSpelling, record_text}
 use Rattle.qm_image.specs.Preparing.{made, IsPrepared}
 use Rattle.qm_image.specs.declared.image.Image.{Image}
 use Rattle.qm_acting.specs.Asking.{need_with}

@@ -5,3 +5,4 @@ pub mod Reading
 pub mod Files
 pub mod Taking
 pub mod Spare
+pub mod Leaving

@@ -1,15 +1,12 @@
 -- What the files are that were read.
 use Rattle.std.specs.Prelude.{◌≡◌, ◌⊎◌, ℕ, Bool, if◌then◌else◌, List, [], ◌∷◌, ◌++◌, length, Result, Ok, Err}
-use Rattle.qm_disk.specs.Disk.{CrashState}
+use Rattle.qm_history.specs.Common.{CrashState, OpenFault, first_byte, place_of}
 use Rattle.qm_store.specs.Database.{disk_of as closed_disk}
 use Rattle.qm_store.specs.Loading.{IsLoadFault}
 use Rattle.qm_store.specs.Recorded.{Recorded, Holds}
 use Rattle.qm_store.specs.declared.closed.Closed.{Closed}
 use Rattle.qm_store.specs.declared.files.TheConstants.{MASTER_FILE}
-use Rattle.qm_glog.specs.declared.fault.OpenFault.{OpenFault}
 use Rattle.qm_glog.specs.declared.fault.OpenFault.TheVariants.{Disk, Unformatted, Damaged, NoMemory}
-use Rattle.qm_history.specs.Start.{first_byte}
-use Rattle.qm_store.specs.MasterJudging.{place_of}
 use Rattle.qm_restore.specs.QueueFile.{IsFirstUnlawful}
 use Rattle.qm_restore.specs.declared.fault.RestoreFault.{RestoreFault}
 use Rattle.qm_restore.specs.declared.fault.RestoreFault.TheVariants.{Unlawful}

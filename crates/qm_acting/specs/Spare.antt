@@ -2,9 +2,7 @@
 -- OpenVMS System Manager's Manual, Managing the Queue Manager and Queue Database, on the files of the queue database.
 -- This site's own: two queue files, of which the master says which is live.
 use Rattle.std.specs.Prelude.{◌≡◌, ◌≢◌, ◌≤◌, ℕ, List}
-use Rattle.qm_disk.specs.Disk.{CrashState, Meaning}
-use Rattle.qm_glog.specs.Records.{IsLog}
-use Rattle.qm_history.specs.Master.{MasterState}
+use Rattle.qm_history.specs.Common.{CrashState, Meaning, IsLog, MasterState}
 use Rattle.qm_store.specs.MasterJudging.{IsMaster}
 use Rattle.qm_store.specs.declared.files.TheConstants.{MASTER_FILE}
 

@@ -1,10 +1,9 @@
 -- What a manager at work stands for, and what files that were read do.
 -- OpenVMS System Manager's Manual, Managing the Queue Manager and Queue Database, on the queue manager process and its files.
 use Rattle.std.specs.Prelude.{IsTrue}
-use Rattle.qm_disk.specs.Disk.{Meaning}
+use Rattle.qm_history.specs.Common.{Meaning, System}
 use Rattle.qm_store.specs.Database.{loaded_disk, loaded_record, open_disk, open_record}
 use Rattle.qm_store.specs.Recorded.{Recorded, IsAtRest}
-use Rattle.qm_kinds.specs.declared.system.System.{System}
 use Rattle.qm_restore.specs.QueueFile.{IsSiteFile}
 use Rattle.qm_image.specs.Image.{system_of}
 use Rattle.qm_acting.specs.declared.manager.Manager.{Manager}
@@ -15,9 +14,13 @@ pub record Standing : Type 0 where
   pub system : System
   pub recorded : Recorded
 
+-- the records of the live file are those of a site with this system
+abbrev pub IsOfSite : Standing → Type 0
+IsOfSite st = IsSiteFile st.recorded.bodies st.system
+
 -- The records of the live file are those of a site with this system, and no crash can take any of it away.
 pub record StandsFor {D : Type 0} (m : Meaning D) (st : Standing) (disk : D) : Type 0 where
-  pub file : IsSiteFile st.recorded.bodies st.system
+  pub file : IsOfSite st
   pub at_rest : IsTrue m.tells → IsAtRest m st.recorded disk
 
 -- the image of a manager at work, and what its database holds

@@ -1,15 +1,13 @@
 -- What taking over answers, and what it leaves.
-use Rattle.std.specs.Prelude.{◌≡◌, ◌⊎◌, ◌<◌, ◌≤◌, ℕ, IsTrue, List, Result, Ok, Err}
-use Rattle.qm_disk.specs.Disk.{Meaning, CrashState, LeavesOnly}
+use Rattle.std.specs.Prelude.{◌≡◌, ◌⊎◌, ◌<◌, ◌≤◌, ◌^◌, ℕ, IsTrue, List, Result, Ok, Err}
+use Rattle.qm_history.specs.Common.{Meaning, CrashState, LeavesOnly, Reply, Request}
 use Rattle.qm_store.specs.Database.{disk_of as closed_disk, loaded_spare, spare_of}
 use Rattle.qm_store.specs.Opening.{in_next_epoch, next_need, IsNotOpened}
-use Rattle.qm_store.specs.Recorded.{Recorded, Holds, IsAtRest, with_body}
+use Rattle.qm_store.specs.Recorded.{Recorded, Holds, IsAtRest, epoch_behind, with_body}
 use Rattle.qm_store.specs.declared.closed.Closed.{Closed}
 use Rattle.qm_store.specs.declared.fault.WriteFault.{WriteFault}
 use Rattle.qm_store.specs.declared.fault.WriteFault.TheVariants as writing
 use Rattle.qm_store.specs.declared.files.TheConstants.{MASTER_CAP}
-use Rattle.qm_kinds.specs.declared.reply.Reply.{Reply}
-use Rattle.qm_kinds.specs.declared.request.Request.{Request}
 use Rattle.qm_acting.specs.Asking.{Does, IsInDoubt, Lacks}
 use Rattle.qm_acting.specs.Standing.{Standing, standing_of, disk_of, IsReady, restored_standing, restored_disk}
 use Rattle.qm_acting.specs.declared.fault.RecordFault.{RecordFault}
@@ -22,6 +20,10 @@ use Rattle.qm_acting.specs.declared.restored.Restored.{Restored}
 -- the same system, and its records in the next epoch
 abbrev pub in_next : Standing → ℕ → ℕ → Standing
 in_next st tried node = record { system = st.system; recorded = in_next_epoch st.recorded tried node }
+
+-- the next epoch is one that a master can hold, where the disks tell
+abbrev pub IsEarly : {D : Type 0} → Meaning D → ℕ → Restored D → Type 0
+IsEarly m tried old = IsTrue m.tells → epoch_behind (restored_standing old).recorded tried < 2 ^ 62
 
 -- ---- the epoch alone
 

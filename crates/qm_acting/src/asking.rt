@@ -1,12 +1,10 @@
 // How a request is done: decided, written down, and only then made and answered.
-ghost use Rattle.std.specs.Prelude.{◌≡◌, ◌<◌, ◌≤◌, [], length, vec_capacity, IfOk, IsErrOf, IsTrue};
+ghost use Rattle.std.specs.Prelude.{◌≡◌, ◌<◌, ◌≤◌, [], length, vec_capacity, IfOk, IsErrOf};
 ghost use Rattle.qm_store.specs.Database.{spare_of};
-ghost use Rattle.qm_disk.specs.Disk.{TellsFaults};
-ghost use Rattle.qm_restore.specs.QueueFile.{IsSiteFile};
 ghost use Rattle.qm_image.specs.Preparing.{made, IsPrepared};
-ghost use Rattle.qm_acting.specs.Asking.{text_of, Answers, CanBeAsked, LeavesDevice, Writes};
+ghost use Rattle.qm_acting.specs.Asking.{text_of, Answers, CanBeAsked, MayWrite, Writes};
 ghost use Rattle.qm_acting.specs.Deciding.{standing_with, Records, LeavesFull};
-ghost use Rattle.qm_acting.specs.Spare.{KeepsSpare};
+ghost use Rattle.qm_acting.specs.Leaving.{LeavesDisk};
 
 use crate::decision::{Decision, decide};
 use crate::fault::{AskFault, RecordFault};
@@ -21,7 +19,7 @@ use qm_store::AppendFault;
 use std::alloc::AllocError;
 
 impl<D: Disk> Manager<D> {
-    ghost use Rattle.qm_acting.specs.Standing.{standing_of, disk_of, IsReady};
+    ghost use Rattle.qm_acting.specs.Standing.{standing_of, disk_of, IsOfSite, IsReady};
 
     /// Does a request of a node at its acting moment. What is due by then is done where the request is accepted, and only
     /// there. At `Ok` its record is on the disk, and no crash can take it away. All memory is taken before anything is
@@ -33,13 +31,16 @@ impl<D: Disk> Manager<D> {
         requires ready { IsReady D.meaning self.old }
         requires can { CanBeAsked (standing_of self.old).system moment node request.now }
 
-        ensures answer { Answers moment node request.now (standing_of self.old) (standing_of self.new) result }
+        ensures answer { Answers moment node request.now
+            (standing_of self.old) (standing_of self.new) result }
         ensures ready { (IsErrOf result AskFault.Disk → ⊥) → IsReady D.meaning self.new }
 
         // A crash at any moment of the call leaves the records before it, or these and the new one.
-        ensures device { LeavesDevice D.meaning (standing_of self.old).recorded (text_of moment node request.now)
+        ensures writes { MayWrite D.meaning (standing_of self.old).recorded
+            (text_of moment node request.now)
             (disk_of self.old) (disk_of self.new) result }
-        ensures spare { IsTrue D.meaning.tells → KeepsSpare D.meaning (disk_of self.old) (disk_of self.new) }
+        ensures leaves { LeavesDisk D.meaning (disk_of self.old) (disk_of self.new)
+            (IsErrOf result AskFault.Disk) }
     {
         site_files_are_consistent();
         let decision = match decide(self.alloc, &mut self.image, moment, node, request) {
@@ -66,9 +67,12 @@ impl<D: Disk> Manager<D> {
         ensures standing { standing_of self.new ≡ standing_of self.old }
         ensures disk { disk_of self.new ≡ disk_of self.old }
         ensures prepared { IsPrepared self.new.image decision.now.prepared }
-        ensures spare { IfOk result (λ room. length decision.now.body.items < spare_of self.new.store) }
+        ensures spare { IfOk result (λ room.
+            length decision.now.body.items < spare_of self.new.store) }
         ensures empty { IfOk result (λ room. room.items ≡ []) }
-        ensures room { IfOk result (λ room. length (made decision.now.prepared (standing_of self.old).system).reply.started ≤ vec_capacity room) }
+        ensures room { IfOk result (λ room.
+            length (made decision.now.prepared
+            (standing_of self.old).system).reply.started ≤ vec_capacity room) }
     {
         let room = Vec::with_capacity(self.alloc, decision.prepared.most_started())?;
         self.store.reserve(decision.body.len())?;
@@ -79,13 +83,16 @@ impl<D: Disk> Manager<D> {
     pub(crate) fn record(&mut self, decision: Decision<'_>) -> Result<Reply, RecordFault>
         requires ready { IsReady D.meaning self.old }
         requires prepared { IsPrepared self.old.image decision.prepared }
-        requires goes_on { IsSiteFile (standing_with (standing_of self.old) decision).recorded.bodies (standing_with (standing_of self.old) decision).system }
+        requires goes_on { IsOfSite (standing_with (standing_of self.old) decision) }
         requires room { length decision.body.items < spare_of self.old.store }
-        ensures answer { Records decision.entry (standing_of self.old) (standing_of self.new) result }
+        ensures answer { Records decision.entry
+            (standing_of self.old) (standing_of self.new) result }
         ensures ready { (IsErrOf result RecordFault.Disk → ⊥) → IsReady D.meaning self.new }
-        ensures writes { Writes D.meaning (standing_of self.old).recorded decision.entry.body.items (disk_of self.old) (disk_of self.new) }
+        ensures writes { Writes D.meaning (standing_of self.old).recorded decision.entry.body.items
+            (disk_of self.old) (disk_of self.new) }
         ensures full { LeavesFull (disk_of self.old) (disk_of self.new) result }
-        ensures faults { TellsFaults D.meaning (disk_of self.old) (disk_of self.new) (IsErrOf result RecordFault.Disk) }
+        ensures leaves { LeavesDisk D.meaning (disk_of self.old) (disk_of self.new)
+            (IsErrOf result RecordFault.Disk) }
     {
         site_files_are_consistent();
         let Decision { prepared, body } = decision;

@@ -1,7 +1,6 @@
 // A request that was decided on, with the memory that doing it takes.
 ghost use Rattle.std.specs.Prelude.{◌≡◌, IfOk};
-ghost use Rattle.qm_model.specs.Applied.{applied};
-ghost use Rattle.qm_model.specs.Consistent.{IsConsistent};
+ghost use Rattle.qm_history.specs.Common.{applied, IsConsistent};
 ghost use Rattle.qm_image.specs.Image.{system_of};
 ghost use Rattle.qm_image.specs.Refusing.{Refuses};
 ghost use Rattle.qm_acting.specs.Asking.{CanBeAsked};
@@ -32,7 +31,8 @@ pub(crate) fn decide<'a>(
     requires can { CanBeAsked (system_of image.old) moment node request.now }
     ensures rows { system_of image.new ≡ system_of image.old }
     ensures refused { Refuses result (applied (system_of image.old) moment node request.now) }
-    ensures decides { IfOk result (Decides (system_of image.old) moment node request.now image.new) }
+    ensures decides { IfOk result
+        (Decides (system_of image.old) moment node request.now image.new) }
 {
     // A `?` would copy the prepared change more than once.
     let prepared = match prepare(image, moment, node, request) {

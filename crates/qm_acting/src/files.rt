@@ -27,12 +27,14 @@ impl<D: Disk> Files<D> {
     /// hands the database back.
     pub fn read(self, alloc: Global) -> Result<Restored<D>, (Closed<D>, LoadFault)>
         requires { AreSound D.meaning self }
-        ensures found { IsTrue D.meaning.tells → Restores (D.meaning.seen (files_disk self)) result }
+        ensures found { IsTrue D.meaning.tells
+            → Restores (D.meaning.seen (files_disk self)) result }
         ensures restored { IfOk result (IsRestored D.meaning) }
 
         // The files read as before, and a crash at any moment leaves what it might before.
         ensures looks { OnlyLooks D.meaning (files_disk self) (disk_after result) }
-        ensures faults { TellsFaults D.meaning (files_disk self) (disk_after result) (FailsBy result fault.Disk) }
+        ensures faults { TellsFaults D.meaning (files_disk self) (disk_after result)
+            (FailsBy result fault.Disk) }
     {
         match self {
             Files::Closed(closed) => restore(alloc, closed),

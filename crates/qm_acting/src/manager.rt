@@ -1,11 +1,7 @@
 // The manager at work, and what it shows.
 ghost use Rattle.std.specs.Prelude.{◌≡◌, ◌<◌, length, None, Ok, IfOk};
 ghost use Rattle.qm_store.specs.Database.{disk_of as closed_disk};
-ghost use Rattle.qm_model.specs.Acting.{acting};
-ghost use Rattle.qm_model.specs.Applied.{are_numbers_spent};
-ghost use Rattle.qm_model.specs.Duties.{duties};
-ghost use Rattle.qm_model.specs.Rows.{view};
-ghost use Rattle.qm_model.specs.Standing.{node_at};
+ghost use Rattle.qm_history.specs.Common.{acting, are_numbers_spent, duties, view, node_at};
 ghost use Rattle.qm_image.specs.Refusing.{Refuses};
 
 use crate::letting_go::let_go;
@@ -81,7 +77,8 @@ impl<D: Disk> Manager<D> {
     /// The rows that a query asks for, but none of the queue manager itself. It is refused where the entry that is asked for isn't
     /// there, where no queue is named whose entries are asked for, and where rows are asked for one by one and none is left.
     pub fn view(&self, query: &Query) -> Result<Rows, Refused>
-        ensures rows { IfOk result (λ rows. view (standing_of self.now).system None query.now ≡ Ok rows) }
+        ensures rows { IfOk result (λ rows.
+            view (standing_of self.now).system None query.now ≡ Ok rows) }
         ensures refused { Refuses result (view (standing_of self.now).system None query.now) }
     {
         view(self.alloc, &self.image, query)
@@ -95,7 +92,9 @@ impl<D: Disk> Manager<D> {
     pub fn duties(&self, node: u8, known: &[u64]) -> Result<Vec<Duty>, AllocError>
         requires ready { IsReady D.meaning self.now }
         requires there { node < length (standing_of self.now).system.nodes }
-        ensures { IfOk result (λ list. list.items ≡ duties (standing_of self.now).system (node_at node (standing_of self.now).system.nodes) known.now) }
+        ensures { IfOk result (λ list. list.items
+            ≡ duties (standing_of self.now).system
+            (node_at node (standing_of self.now).system.nodes) known.now) }
     {
         site_files_are_consistent();
         let name = self.node_name(node);

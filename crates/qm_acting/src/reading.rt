@@ -60,7 +60,8 @@ pub fn restore<D: Disk>(
 
     // The files read as before, and a crash at any moment leaves what it might before.
     ensures looks { OnlyLooks D.meaning (closed_disk closed) (disk_after result) }
-    ensures faults { TellsFaults D.meaning (closed_disk closed) (disk_after result) (FailsBy result fault.Disk) }
+    ensures faults { TellsFaults D.meaning (closed_disk closed) (disk_after result)
+        (FailsBy result fault.Disk) }
 {
     let records = match closed.load() {
         Ok(loaded) => Records { loaded },

@@ -2,8 +2,7 @@
 ghost use Rattle.std.specs.Prelude.{◌≡◌, ◌<◌, ◌^◌, length};
 ghost use Rattle.qm_store.specs.Database.{disk_of as closed_disk};
 ghost use Rattle.qm_store.specs.Recorded.{epoch_behind};
-ghost use Rattle.qm_glog.specs.Records.{size_of};
-ghost use Rattle.qm_model.specs.Acting.{acting};
+ghost use Rattle.qm_history.specs.Common.{size_of, acting};
 
 use crate::letting_go::let_go;
 use qm_disk::Disk;

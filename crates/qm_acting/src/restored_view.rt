@@ -16,7 +16,8 @@ impl<D: Disk> Restored<D> {
     /// The rows that a query asks for, but none of the queue manager: no node is. It is refused where the entry that is asked for
     /// isn't there, where no queue is named whose entries are asked for, and where rows are asked for one by one and none is left.
     pub fn view(&self, query: &Query) -> Result<Rows, Refused>
-        ensures rows { IfOk result (λ rows. view (restored_standing self.now).system None query.now ≡ Ok rows) }
+        ensures rows { IfOk result (λ rows.
+            view (restored_standing self.now).system None query.now ≡ Ok rows) }
         ensures refused { Refuses result (view (restored_standing self.now).system None query.now) }
     {
         view(self.alloc, &self.image, query)

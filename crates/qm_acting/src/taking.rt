@@ -2,14 +2,13 @@
 ghost use Rattle.std.specs.Prelude.{◌≡◌, ◌<◌, ◌^◌, IsTrue, IsOk, IfOk, length};
 ghost use Rattle.qm_store.specs.Database.{loaded_spare};
 ghost use Rattle.qm_store.specs.Opening.{in_next_epoch};
-ghost use Rattle.qm_store.specs.Recorded.{epoch_behind, HoldsEither};
+ghost use Rattle.qm_store.specs.Recorded.{HoldsEither};
 ghost use Rattle.qm_store.specs.declared.files.TheConstants.{MASTER_FILE};
-ghost use Rattle.qm_disk.specs.Disk.{KeepsOthers, LeavesOnly, TellsFaults};
-ghost use Rattle.qm_model.specs.Applied.{applied};
+ghost use Rattle.qm_history.specs.Common.{KeepsOthers, LeavesOnly, applied};
 ghost use Rattle.qm_acting.specs.Asking.{text_of, CanBeAsked};
 ghost use Rattle.qm_acting.specs.Deciding.{Decides};
-ghost use Rattle.qm_acting.specs.Spare.{KeepsSpare};
-ghost use Rattle.qm_acting.specs.Taking.{taking_fault, recording_fault, Opens, OpenFails, disk_behind, TakesOver, TakeLeaves, TakeFails, taken_disk};
+ghost use Rattle.qm_acting.specs.Leaving.{LeavesDisk};
+ghost use Rattle.qm_acting.specs.Taking.{IsEarly, taking_fault, recording_fault, Opens, OpenFails, disk_behind, TakesOver, TakeLeaves, TakeFails, taken_disk};
 
 use crate::decision::{Decision, decide};
 use crate::fault::{RecordFault, TakeFault};
@@ -53,15 +52,19 @@ impl<D: Disk> Restored<D> {
     pub fn open(self, tried: u64, node: u8) -> Result<Manager<D>, (Closed<D>, WriteFault, u64)>
         requires tried { tried < 2 ^ 63 }
         requires restored { IsRestored D.meaning self }
-        requires early { IsTrue D.meaning.tells → epoch_behind (restored_standing self).recorded tried < 2 ^ 62 }
+        requires early { IsEarly D.meaning tried self }
         ensures answer { Opens D.meaning tried node self result }
 
         // A crash at any moment leaves the same records, in the new epoch or before it.
-        ensures any_moment { IsTrue D.meaning.tells → LeavesOnly D.meaning (restored_disk self) (disk_behind result)
-            (HoldsEither (D.meaning.may_leave (restored_disk self)) MASTER_FILE (restored_standing self).recorded (in_next_epoch (restored_standing self).recorded tried node)) }
-        ensures others { KeepsOthers D.meaning MASTER_FILE (restored_disk self) (disk_behind result) }
-        ensures spare { IsTrue D.meaning.tells → KeepsSpare D.meaning (restored_disk self) (disk_behind result) }
-        ensures faults { TellsFaults D.meaning (restored_disk self) (disk_behind result) (OpenFails result WriteFault.Disk) }
+        ensures any_moment { IsTrue D.meaning.tells
+            → LeavesOnly D.meaning (restored_disk self) (disk_behind result)
+            (HoldsEither (D.meaning.may_leave (restored_disk self)) MASTER_FILE
+            (restored_standing self).recorded
+            (in_next_epoch (restored_standing self).recorded tried node)) }
+        ensures others { KeepsOthers D.meaning MASTER_FILE
+            (restored_disk self) (disk_behind result) }
+        ensures leaves { LeavesDisk D.meaning (restored_disk self) (disk_behind result)
+            (OpenFails result WriteFault.Disk) }
     {
         let Restored {
             alloc,
@@ -90,11 +93,14 @@ impl<D: Disk> Restored<D> {
     ) -> Result<Decision<'a>, AllocError>
         requires restored { IsRestored D.meaning self.old }
         requires can { CanBeAsked (restored_standing self.old).system moment node request.now }
-        requires accepted { IsOk (applied (restored_standing self.old).system moment node request.now) }
+        requires accepted { IsOk
+            (applied (restored_standing self.old).system moment node request.now) }
         ensures standing { restored_standing self.new ≡ restored_standing self.old }
         ensures disk { restored_disk self.new ≡ restored_disk self.old }
-        ensures decides { IfOk result (Decides (restored_standing self.old).system moment node request.now self.new.image) }
-        ensures room { IfOk result (λ decision. length decision.body.items < loaded_spare self.new.loaded) }
+        ensures decides { IfOk result
+            (Decides (restored_standing self.old).system moment node request.now self.new.image) }
+        ensures room { IfOk result (λ decision.
+            length decision.body.items < loaded_spare self.new.loaded) }
     {
         site_files_are_consistent();
         let decision = match decide(self.alloc, &mut self.image, moment, node, request) {
@@ -118,16 +124,18 @@ impl<D: Disk> Restored<D> {
     ) -> Result<(Manager<D>, Reply), (Closed<D>, TakeFault)>
         requires tried { tried < 2 ^ 63 }
         requires restored { IsRestored D.meaning self }
-        requires early { IsTrue D.meaning.tells → epoch_behind (restored_standing self).recorded tried < 2 ^ 62 }
+        requires early { IsEarly D.meaning tried self }
         requires can { CanBeAsked (restored_standing self).system moment node request.now }
         requires accepted { IsOk (applied (restored_standing self).system moment node request.now) }
         ensures answer { TakesOver D.meaning tried moment node request.now self result }
 
         // A crash at any moment leaves what was read; the same in the next epoch; or that and the record.
-        ensures any_moment { IsTrue D.meaning.tells → TakeLeaves D.meaning (restored_standing self).recorded
-            (in_next_epoch (restored_standing self).recorded tried node) (text_of moment node request.now) (restored_disk self) result }
-        ensures spare { IsTrue D.meaning.tells → KeepsSpare D.meaning (restored_disk self) (taken_disk result) }
-        ensures faults { TellsFaults D.meaning (restored_disk self) (taken_disk result) (TakeFails result) }
+        ensures any_moment { IsTrue D.meaning.tells
+            → TakeLeaves D.meaning (restored_standing self).recorded
+            (in_next_epoch (restored_standing self).recorded tried node)
+            (text_of moment node request.now) (restored_disk self) result }
+        ensures leaves { LeavesDisk D.meaning (restored_disk self) (taken_disk result)
+            (TakeFails result) }
     {
         let mut restored = self;
         let Ok(decision) = restored.decide(moment, node, request) else {

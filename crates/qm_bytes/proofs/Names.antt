@@ -1,10 +1,8 @@
 -- Names, as the code reads them.
-use Rattle.std.proofs.Common.{◌≡◌, ℕ, suc, ◌+◌, ◌-◌, ◌<◌, ◌≤◌, Bool, true, false, not, ◌&&◌, None, Option, List, [], ◌∷◌, ◌++◌, length, take, drop, map, Result, Ok, Err, refl, sym, ap, ◌∙◌, arith, length-append}
+use Rattle.std.proofs.Common.{◌≡◌, ℕ, suc, ◌+◌, ◌-◌, ◌<◌, ◌≤◌, Bool, true, false, not, ◌&&◌, None, Option, List, [], ◌∷◌, ◌++◌, length, take, drop, map, Result, Ok, Err, refl, sym, ap, ◌∙◌, arith, length-append, le-ltb, drop_at, length-drop, drop-drop}
 use Rattle.std.specs.List.{list_all, position, position_or_len}
 use Rattle.std.specs.Char.{to_ascii_uppercase}
 use Rattle.std.proofs.lemmas.Bool.Decides.{nat_tests}
-use Rattle.std.proofs.lemmas.Bool.{le-ltb}
-use Rattle.std.proofs.lemmas.List.{drop_at, length-drop, drop-drop}
 use Rattle.qm_kinds.specs.declared.fault.NameFault.{NameFault}
 use Rattle.qm_kinds.specs.Text.{IsText, is_name_byte, text_of, text_unless}
 use Rattle.qm_bytes.specs.Reading.{◌>>=◌, onward, pure, byte_where, between, repeat_at, name_bytes_at, name_at}

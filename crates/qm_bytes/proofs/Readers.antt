@@ -1,6 +1,5 @@
 -- Readers that are put together from readers.
-use Rattle.std.proofs.Common.{◌≡◌, ℕ, zero, suc, Bool, true, false, cond, List, [], ◌∷◌, ◌++◌, length, Result, Ok, Err, refl, sym, ap, ◌∙◌, append_assoc, arith}
-use Rattle.std.proofs.lemmas.List.{append-nil}
+use Rattle.std.proofs.Common.{◌≡◌, ℕ, zero, suc, Bool, true, false, cond, List, [], ◌∷◌, ◌++◌, length, Result, Ok, Err, refl, sym, ap, ◌∙◌, append_assoc, arith, append-nil}
 use Rattle.qm_bytes.specs.Reading.{Reader, ◌>>=◌, onward, pure, byte_where, repeat_at}
 use Rattle.qm_bytes.specs.Laws.{Spells, Stops, IsReader}
 use Rattle.qm_bytes.specs.Spelling.{each, byte}

@@ -28,3 +28,7 @@ pub record IsReader {T : Type 0} (Spelled : T → List ℕ → Type 0) (read : R
       → (front : List ℕ) × Spelled x front × (bytes ≡ front ++ rest)
   pub again : (x : T) (front rest : List ℕ) → Spelled x front → read (front ++ rest) ≡ Ok (x, rest)
   pub stops : (bytes : List ℕ) (left : ℕ) → read bytes ≡ Err left → Stops Spelled read bytes left
+
+-- each value that fits is read as it is spelled, and nothing else is read
+abbrev pub ReadsAsSpelled : {T : Type 0} → (T → Type 0) → (T → List ℕ) → Reader T → Type 0
+ReadsAsSpelled Fits spelling read = IsReader (Spells Fits spelling) read

@@ -2,6 +2,10 @@
 use Rattle.std.specs.Prelude.{◌≡◌, ℕ, ◌+◌, ◌<◌, ◌^◌, List, ◌++◌, length, drop}
 use Rattle.qm_bytes.specs.Spelling.{low_first, short_bytes, IsName}
 
+-- from one place to another the bytes are this text
+abbrev pub StandsBetween : ℕ → ℕ → List ℕ → List ℕ → Type 0
+StandsBetween at next text bytes = drop at bytes ≡ text ++ drop next bytes
+
 -- so many bytes in front spell the number
 pub record IsSplit (count : ℕ) (bytes : List ℕ) (number : ℕ) (rest : List ℕ) : Type 0 where
   pub parts : bytes ≡ low_first count number ++ rest

@@ -3,7 +3,7 @@ ghost use Rattle.std.specs.Prelude.{◌≡◌, ◌+◌, ◌<◌, ◌≤◌, ◌+
 ghost use Rattle.qm_kinds.specs.Text.{is_name_byte};
 ghost use Rattle.qm_bytes.specs.Spelling.{short_bytes, IsName, file_name, IsFileName};
 ghost use Rattle.qm_bytes.specs.Reading.{Gives, Splits, byte_where, name_bytes_at, name_at, optional_at, file_name_at};
-ghost use Rattle.qm_bytes.specs.Splitting.{IsAhead, IsInFront};
+ghost use Rattle.qm_bytes.specs.Splitting.{StandsBetween, IsAhead, IsInFront};
 
 use crate::fault::BadField;
 use crate::number::byte_between;
@@ -29,10 +29,12 @@ pub fn put_name(out: &mut Vec<u8>, name: &Name) -> Result<(), AllocError>
 /// stands there.
 pub fn take_name(bytes: &[u8], at: usize) -> Option<(Name, usize)>
     ensures lawful { IfSome result (λ found. IsName found.0) }
-    ensures spelled { IfSome result (λ found. drop at bytes.now ≡ short_bytes found.0 ++ drop found.1 bytes.now) }
+    ensures spelled { IfSome result (λ found. StandsBetween at found.1
+        (short_bytes found.0) bytes.now) }
     ensures next { IfSome result (λ found. found.1 ≡ at + 1 + length found.0) }
     ensures within { IfSome result (λ found. found.1 ≤ length bytes.now) }
-    ensures none { IfNone result ((name rest : List ℕ) → IsName name → drop at bytes.now ≡ short_bytes name ++ rest → ⊥) }
+    ensures none { IfNone result ((name rest : List ℕ) → IsName name
+        → drop at bytes.now ≡ short_bytes name ++ rest → ⊥) }
 {
     if bytes.len() < at {
         return None;
@@ -112,7 +114,8 @@ fn name_at(bytes: &[u8]) -> Result<(Name, &[u8]), BadField>
 // What stands behind so many bytes of a name.
 #[tactic(auto, using(crate::proofs::Names::no_bytes, crate::proofs::Names::first_byte))]
 fn behind_name_bytes(bytes: &[u8], count: usize) -> Result<&[u8], BadField>
-    ensures value { Splits (λ rest. (take count bytes.now, rest.now)) result (name_bytes_at count bytes.now) }
+    ensures value { Splits (λ rest. (take count bytes.now, rest.now)) result
+        (name_bytes_at count bytes.now) }
     ensures within { OnOk result (count ≤ length bytes.now) }
 {
     if count == 0 {

@@ -1,9 +1,9 @@
 // Numbers, the lowest byte first.
-ghost use Rattle.std.specs.Prelude.{◌≡◌, ◌+◌, ◌^◌, ◌<◌, ◌≤◌, ◌++◌, ◌↔◌, IfOk, OnOk, OnErr, IsErrOf, IsSome, IfSome, length, drop};
+ghost use Rattle.std.specs.Prelude.{◌≡◌, ◌+◌, ◌^◌, ◌<◌, ◌≤◌, ◌++◌, ◌↔◌, IfOk, OnOk, OnErr, IsErrOf, IsSome, IfSome, length};
 ghost use Rattle.qm_bytes.specs.Spelling.{low_first};
 ghost use Rattle.qm_bytes.specs.Widths.{bytes_of};
 ghost use Rattle.qm_bytes.specs.Reading.{Gives, Splits, byte_where, between, number_up_to, number_at};
-ghost use Rattle.qm_bytes.specs.Splitting.{IsSplit};
+ghost use Rattle.qm_bytes.specs.Splitting.{StandsBetween, IsSplit};
 
 use crate::fault::BadField;
 use crate::width::Width;
@@ -22,7 +22,8 @@ pub fn put_number(out: &mut Vec<u8>, width: Width, value: u64) -> Result<(), All
 /// The number that stands at a place, and the place behind it. There is none exactly where fewer bytes are left.
 pub fn take_number(bytes: &[u8], at: usize, width: Width) -> Option<(u64, usize)>
     ensures there { IsSome result ↔ (at + bytes_of width ≤ length bytes.now) }
-    ensures spelled { IfSome result (λ found. drop at bytes.now ≡ low_first (bytes_of width) found.0 ++ drop found.1 bytes.now) }
+    ensures spelled { IfSome result (λ found. StandsBetween at found.1
+        (low_first (bytes_of width) found.0) bytes.now) }
     ensures fits { IfSome result (λ found. found.0 < 256 ^ bytes_of width) }
     ensures next { IfSome result (λ found. found.1 ≡ at + bytes_of width) }
 {
@@ -100,7 +101,8 @@ fn split_number(bytes: &[u8], width: Width) -> Option<(u64, &[u8])>
 
 // A number that is at most a limit. Where there is none, the bytes are gone through one by one for the first that is wrong.
 fn number_up_to(bytes: &[u8], width: Width, limit: u64) -> Result<(u64, &[u8]), BadField>
-    ensures value { Splits (λ x. (x.0, x.1.now)) result (number_up_to (bytes_of width) limit bytes.now) }
+    ensures value { Splits (λ x. (x.0, x.1.now)) result
+        (number_up_to (bytes_of width) limit bytes.now) }
     ensures within { IfOk result (λ x. x.0 ≤ limit) }
 {
     match split_number(bytes, width) {

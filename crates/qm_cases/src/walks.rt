@@ -1,7 +1,6 @@
 // Walks along the turns of runs.
 ghost use Rattle.qm_store.specs.Database.{loaded_record};
 ghost use Rattle.qm_history.specs.World.{IsSound};
-ghost use Rattle.qm_record.specs.Spelling.{HasSpelling};
 
 use crate::files::Files;
 use qm_disk::MemoryDisk;
@@ -69,7 +68,7 @@ fn holds(file: &LiveFile, texts: &[Vec<u8>], least: usize) -> bool {
 
 // Whether a file holds the log of a world, and perhaps the record in doubt behind it.
 fn holds_log(alloc: Global, file: &LiveFile, world: &World) -> Result<bool, AllocError>
-    requires { IsSound HasSpelling world.now }
+    requires { IsSound world.now }
 {
     let texts = texts_of(alloc, world)?;
     Ok(holds(file, &texts, world.log.as_slice().len()))
@@ -77,7 +76,7 @@ fn holds_log(alloc: Global, file: &LiveFile, world: &World) -> Result<bool, Allo
 
 // Whether files hold the log of a world, and perhaps the record in doubt behind it.
 fn hold_log(alloc: Global, files: &Files, world: &World) -> Result<bool, AllocError>
-    requires { IsSound HasSpelling world.now }
+    requires { IsSound world.now }
 {
     let Some(file) = live_file(alloc, files)? else {
         return Ok(false);
@@ -89,7 +88,7 @@ fn hold_log(alloc: Global, files: &Files, world: &World) -> Result<bool, AllocEr
 
 // Whether all of these files hold it.
 fn all_hold_log(alloc: Global, all: &[Files], world: &World) -> Result<bool, AllocError>
-    requires { IsSound HasSpelling world.now }
+    requires { IsSound world.now }
 {
     for files in all {
         if !hold_log(alloc, files, world)? {
@@ -136,7 +135,7 @@ fn lead_behind(
     events: &[Event],
     behind: &[Files],
 ) -> Result<bool, AllocError>
-    requires { IsSound HasSpelling start.now }
+    requires { IsSound start.now }
 {
     match walk(alloc, start, events) {
         Ok(world) => {

@@ -1,9 +1,6 @@
 -- What comes of a request that the rules accept.
-use Rattle.std.proofs.Common.{◌≡◌, ℕ, true, false, [], ◌∷◌, refl, ap, Some, Result, Ok, Err}
-use Rattle.std.specs.Prelude.{IsOk}
-use Rattle.qm_kinds.specs.declared.refusal.Refusal.{Refusal}
-use Rattle.qm_kinds.specs.declared.request.Request.{Request}
-use Rattle.qm_model.specs.Outcome.{Accepted}
+use Rattle.std.proofs.Common.{◌≡◌, ℕ, true, false, [], ◌∷◌, refl, ap, Some, Result, Ok, Err, IsOk}
+use Rattle.qm_history.specs.Common.{Refusal, Request, Accepted}
 use Rattle.qm_history.specs.declared.event.Event.{Event}
 use Rattle.qm_history.specs.declared.event.Event.TheVariants as event
 use Rattle.qm_history.specs.Turn.{IsDecided}

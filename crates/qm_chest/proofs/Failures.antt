@@ -1,14 +1,7 @@
 -- A call whose takeover failed behind the reading: what it leaves, by what failed.
-use Rattle.std.proofs.Common.{◌≡◌, ℕ, ◌+◌, ◌<◌, ◌≤◌, Bool, true, false, not, List, [], ◌∷◌, length, refl, sym, ◌∙◌, ap, subst, Option, None, Some}
-use Rattle.std.specs.Prelude.{◌||◌, is_none, slice_get}
-use Rattle.qm_disk.specs.Disk.{Meaning}
-use Rattle.qm_kinds.specs.declared.input.Input.{Input}
+use Rattle.std.proofs.Common.{◌≡◌, ℕ, ◌+◌, ◌<◌, ◌≤◌, Bool, true, false, not, List, [], ◌∷◌, length, refl, sym, ◌∙◌, ap, subst, Option, None, Some, ◌||◌, is_none, slice_get}
+use Rattle.qm_history.specs.Common.{Meaning, Input, Record, System, system_of, node_at, cluster, answer_of, takeover_of, input_of, IsFromOutside, compacted_by, tells_disk_fault, after_events, log_read, system_in}
 use Rattle.qm_kinds.specs.declared.input.Input.TheVariants as input
-use Rattle.qm_kinds.specs.declared.record.Record.{Record}
-use Rattle.qm_kinds.specs.declared.system.System.{System}
-use Rattle.qm_model.specs.Folding.{system_of}
-use Rattle.qm_model.specs.Standing.{node_at}
-use Rattle.qm_record.specs.Spelling.{HasSpelling, record_text}
 use Rattle.qm_acting.specs.Standing.{Standing}
 use Rattle.qm_history.specs.declared.call.Answer.{Answer}
 use Rattle.qm_history.specs.declared.call.Answer.TheVariants as answer
@@ -17,22 +10,15 @@ use Rattle.qm_history.specs.declared.call.Takeover.{Takeover}
 use Rattle.qm_history.specs.declared.event.Event.{Event}
 use Rattle.qm_history.specs.declared.event.Event.TheVariants as event
 use Rattle.qm_history.specs.declared.world.World.{World}
-use Rattle.qm_history.specs.Accepted.{cluster}
 use Rattle.qm_history.specs.Answering.{MayAnswer, IsOneTakeover}
-use Rattle.qm_history.specs.Answers.{answer_of, takeover_of}
-use Rattle.qm_history.specs.Calls.{input_of, IsFromOutside}
-use Rattle.qm_history.specs.Contents.{compacted_by}
-use Rattle.qm_history.specs.Faults.{tells_disk_fault}
 use Rattle.qm_history.specs.Room.{Room, HasRoomInDoubt, LacksForTakeover, Lacks, record_need, tried_takeover}
-use Rattle.qm_history.specs.Step.{after_events}
 use Rattle.qm_history.specs.Takeover.{StandsOrFails, UnlessRefused, is_named, nodes_on, takes_over}
 use Rattle.qm_history.specs.Turn.{ATakeover, IsBehindTakeover, IsOwn, IsServed, IsTakeoverAlone, UnlessDown, is_down}
-use Rattle.qm_history.specs.World.{log_read, system_in}
-use Rattle.qm_chest.specs.declared.book.Book.{Book}
-use Rattle.qm_chest.specs.declared.desk.Desk.{Desk}
+use Rattle.qm_chest.specs.declared.members.Members.{Members}
+use Rattle.qm_chest.specs.declared.work.Work.{Work}
 use Rattle.qm_chest.specs.At.{CanBeAskedFor}
-use Rattle.qm_chest.specs.Books.{IsBookOf}
-use Rattle.qm_chest.specs.Desk.{IsDeskAt, desk_disk}
+use Rattle.qm_chest.specs.Members.{AreMembersOf}
+use Rattle.qm_chest.specs.Work.{IsWorkAt, work_disk}
 use Rattle.qm_chest.specs.Parts.{HoldSome, Part}
 use Rattle.qm_chest.specs.Steps.{is_plain}
 use Rattle.qm_chest.specs.Taking.{IsReadOf, IsTaking, told_of_failed}
@@ -58,7 +44,7 @@ not_compact : (node : ℕ) (what : Input) → CanBeAskedFor node what → what �
 not_compact node what can is = subst (CanBeAskedFor node) is can
 
 pub lacks_takeover : (w : World) (room : Room) (node reading : ℕ) (what : Input) (e : Event) → (what ≡ input.Compact → ⊥)
-    → Lacks (record_need record_text room (tried_takeover w node reading (nodes_on what))) room.cap e → LacksForTakeover record_text w room node reading what e
+    → Lacks (record_need room (tried_takeover w node reading (nodes_on what))) room.cap e → LacksForTakeover w room node reading what e
 lacks_takeover w room node reading input.Compact e plain h = absurd (plain refl)
 lacks_takeover w room node reading (input.Ask asked) e plain h = h
 lacks_takeover w room node reading (input.Show query) e plain h = h
@@ -68,7 +54,7 @@ lacks_takeover w room node reading input.StartNode e plain h = h
 lacks_takeover w room node reading input.StopNode e plain h = h
 lacks_takeover w room node reading (input.Fault place kind) e plain h = h
 
-pub doubt_room : (w : World) (room : Room) (what : Input) (r : Record) → (what ≡ input.Compact → ⊥) → record_need record_text room r ≤ room.cap → HasRoomInDoubt record_text w room what r
+pub doubt_room : (w : World) (room : Room) (what : Input) (r : Record) → (what ≡ input.Compact → ⊥) → record_need room r ≤ room.cap → HasRoomInDoubt w room what r
 doubt_room w room input.Compact r plain h = absurd (plain refl)
 doubt_room w room (input.Ask asked) r plain h = h
 doubt_room w room (input.Show query) r plain h = h
@@ -81,20 +67,20 @@ doubt_room w room (input.Fault place kind) r plain h = h
 -- ---- the whole call
 
 -- what is kept of the nodes, with this as the greatest epoch
-pub record IsBookWith (old new : Book) (greatest : ℕ) : Type 0 where
+pub record AreMembersWith (old new : Members) (greatest : ℕ) : Type 0 where
   pub names : new.names.items ≡ old.names.items
   pub live : new.live.items ≡ old.live.items
   pub held : new.held.items ≡ old.held.items
   pub greatest_is : new.greatest ≡ greatest
 
-module _ {D : Type 0} (m : Meaning D) (cap : ℕ) (w : World) (asked : Call) (book : Book) (node now : ℕ) (what : Input) (taking : IsTaking book node what cap w asked) (there : node < length book.names.items)
+module _ {D : Type 0} (m : Meaning D) (cap : ℕ) (w : World) (asked : Call) (members : Members) (node now : ℕ) (what : Input) (taking : IsTaking members node what cap w asked) (there : node < length members.names.items)
     (can : CanBeAskedFor node what)
   where
     pub outside : IsFromOutside (input_of asked)
     outside = subst IsFromOutside (sym taking.asks.0) (outside_of node what can)
 
     pub within : node < length (system_in w).nodes
-    within = node_within (system_in w) book.names.items node taking.book.names there
+    within = node_within (system_in w) members.names.items node taking.members.names there
 
     pub plain : input_of asked ≡ input.Compact → ⊥
     plain is = not_compact node what can (sym taking.asks.0 ∙ is)
@@ -127,47 +113,47 @@ module _ {D : Type 0} (m : Meaning D) (cap : ℕ) (w : World) (asked : Call) (bo
 
     -- ---- the whole call
 
-    module _ (e : Event) (events : List Event) (failed : Bool) (after : Book) (old : D) (desk : Desk D) (part : Part m None w now (input_of asked) failed (e ∷ events) old (desk_disk desk))
-        (quiet : tells_disk_fault (e ∷ events) ≡ false → failed ≡ false) (none : compacted_by (e ∷ events) ≡ None) (book_at : IsBookOf (after_events w (e ∷ events)) after)
-        (desk_at : IsDeskAt m cap (after_events w (e ∷ events)) desk) (rises : (after_events w (e ∷ events)).greatest ≤ w.greatest + 1)
+    module _ (e : Event) (events : List Event) (failed : Bool) (after : Members) (old : D) (work : Work D) (part : Part m None w now (input_of asked) failed (e ∷ events) old (work_disk work))
+        (quiet : tells_disk_fault (e ∷ events) ≡ false → failed ≡ false) (none : compacted_by (e ∷ events) ≡ None) (members_at : AreMembersOf (after_events w (e ∷ events)) after)
+        (work_at : IsWorkAt m cap (after_events w (e ∷ events)) work) (rises : (after_events w (e ∷ events)).greatest ≤ w.greatest + 1)
       where
-        told_so : (told : Answer) → MayAnswer HasSpelling w asked (made_turn node now asked (e ∷ events)) told → ((file place : ℕ) → told ≡ answer.Damaged file place → ⊥)
-            → IsServedAs m cap w node now asked old (record { book = after; desk = desk }) (e ∷ events) told
+        told_so : (told : Answer) → MayAnswer w asked (made_turn node now asked (e ∷ events)) told → ((file place : ℕ) → told ≡ answer.Damaged file place → ⊥)
+            → IsServedAs m cap w node now asked old (record { members = after; work = work }) (e ∷ events) told
         told_so told may undamaged = record {
-          adds = adds m w node now asked failed (e ∷ events) old (desk_disk desk) within outside part told may undamaged quiet none;
-          room = tells_room m w node now asked failed (e ∷ events) old (desk_disk desk) within outside part;
-          at = record { book = book_at; desk = desk_at; small = taking.small };
+          adds = adds m w node now asked failed (e ∷ events) old (work_disk work) within outside part told may undamaged quiet none;
+          room = tells_room m w node now asked failed (e ∷ events) old (work_disk work) within outside part;
+          at = record { members = members_at; work = work_at; small = taking.small };
           rises = rises;
         }
 
         -- it is answered what its last event says
         pub put_plain : (told : Answer) → is_plain told ≡ true → told ≡ answer_of w (made_turn node now asked (e ∷ events)) → IsServed w node now asked (e ∷ events)
-            → IsServedAs m cap w node now asked old (record { book = after; desk = desk }) (e ∷ events) told
+            → IsServedAs m cap w node now asked old (record { members = after; work = work }) (e ∷ events) told
         put_plain told plainly is serves =
-            told_so told (says w asked (made_turn node now asked (e ∷ events)) told plainly (turning.whole m w node now asked failed (e ∷ events) old (desk_disk desk) within outside part serves, is))
+            told_so told (says w asked (made_turn node now asked (e ∷ events)) told plainly (turning.whole m w node now asked failed (e ∷ events) old (work_disk work) within outside part serves, is))
             (plain_undamaged told plainly)
 
         -- memory was short behind its takeover
         pub put_alone : (took : Option Takeover) → took ≡ takeover_of w (e ∷ events) → IsOneTakeover (e ∷ events) → IsTakeoverAlone w node now (input_of asked) (e ∷ events)
-            → IsServedAs m cap w node now asked old (record { book = after; desk = desk }) (e ∷ events) (answer.NoMemory took)
+            → IsServedAs m cap w node now asked old (record { members = after; work = work }) (e ∷ events) (answer.NoMemory took)
         put_alone took is one only =
-            told_so (answer.NoMemory took) (cut_short m w node now asked failed (e ∷ events) old (desk_disk desk) within outside part only, one, is) (λ file place same. cc)
+            told_so (answer.NoMemory took) (cut_short m w node now asked failed (e ∷ events) old (work_disk work) within outside part only, one, is) (λ file place same. cc)
 
 -- ---- on files that were read
 
 module _ (accepted : SiteFilesAreAccepted) {D : Type 0} (m : Meaning D) (cap : ℕ) (w : World) (asked : Call) (kept : Option Bool) (old mid : D) (st : Standing) (read : IsReadOf m cap w kept old st mid)
-    (book : Book) (node now : ℕ) (what : Input) (taking : IsTaking book node what cap w asked) (there : node < length book.names.items) (can : CanBeAskedFor node what)
-    (nodes : cluster st.system ≡ book.names.items)
+    (members : Members) (node now : ℕ) (what : Input) (taking : IsTaking members node what cap w asked) (there : node < length members.names.items) (can : CanBeAskedFor node what)
+    (nodes : cluster st.system ≡ members.names.items)
   where
     abbrev pub s : System
     s = system_of (log_read w kept)
 
-    pub cluster_is : cluster s ≡ book.names.items
+    pub cluster_is : cluster s ≡ members.names.items
     cluster_is = ap cluster (sym read.system) ∙ nodes
 
-    pub name_is : (name : List ℕ) → slice_get book.names.items node ≡ Some name → name ≡ node_at node s.nodes
+    pub name_is : (name : List ℕ) → slice_get members.names.items node ≡ Some name → name ≡ node_at node s.nodes
     name_is name is =
-        let found = name_there node s.nodes book.names.items cluster_is there in
+        let found = name_there node s.nodes members.names.items cluster_is there in
         let same : Some name ≡ Some found.0 = sym is ∙ found.1 in
         let one : name ≡ found.0 = one_name name found.0 same in
         one ∙ found.2
@@ -175,25 +161,25 @@ module _ (accepted : SiteFilesAreAccepted) {D : Type 0} (m : Meaning D) (cap : �
     between : HoldSome (m.seen mid)
     between = holds_some accepted (m.seen mid) st.recorded (system_of read.may.log) read.at_rest.holds read.may.site
 
-    module _ (e : Event) (events : List Event) (failed : Bool) (after : Book) (desk : Desk D) (part : Part m None w now (input_of asked) failed (e ∷ events) mid (desk_disk desk))
-        (quiet : tells_disk_fault (e ∷ events) ≡ false → failed ≡ false) (none : compacted_by (e ∷ events) ≡ None) (book_at : IsBookOf (after_events w (e ∷ events)) after)
-        (desk_at : IsDeskAt m cap (after_events w (e ∷ events)) desk) (rises : (after_events w (e ∷ events)).greatest ≤ w.greatest + 1)
+    module _ (e : Event) (events : List Event) (failed : Bool) (after : Members) (work : Work D) (part : Part m None w now (input_of asked) failed (e ∷ events) mid (work_disk work))
+        (quiet : tells_disk_fault (e ∷ events) ≡ false → failed ≡ false) (none : compacted_by (e ∷ events) ≡ None) (members_at : AreMembersOf (after_events w (e ∷ events)) after)
+        (work_at : IsWorkAt m cap (after_events w (e ∷ events)) work) (rises : (after_events w (e ∷ events)).greatest ≤ w.greatest + 1)
       where
-        from_old : Part m None w now (input_of asked) failed (e ∷ events) old (desk_disk desk)
+        from_old : Part m None w now (input_of asked) failed (e ∷ events) old (work_disk work)
         from_old =
-            read_first accepted m w now (input_of asked) failed (e ∷ events) old mid (desk_disk desk) st.recorded (held_before m old mid st.recorded read.at_rest read.looks) read.at_rest.holds between
+            read_first accepted m w now (input_of asked) failed (e ∷ events) old mid (work_disk work) st.recorded (held_before m old mid st.recorded read.at_rest read.looks) read.at_rest.holds between
             read.looks (read.before (e ∷ events)) part
 
         -- it is answered what its last event says
-        pub put : (told : Answer) → is_plain told ≡ true → told ≡ answer_of w (made_turn node now asked (e ∷ events)) → StandsOrFails w node now (nodes_on (input_of asked)) (Behind m cap w asked book node now what taking there can) (e ∷ events)
-            → IsServedAs m cap w node now asked old (record { book = after; desk = desk }) (e ∷ events) told
+        pub put : (told : Answer) → is_plain told ≡ true → told ≡ answer_of w (made_turn node now asked (e ∷ events)) → StandsOrFails w node now (nodes_on (input_of asked)) (Behind m cap w asked members node now what taking there can) (e ∷ events)
+            → IsServedAs m cap w node now asked old (record { members = after; work = work }) (e ∷ events) told
         put told plainly is stands =
-            put_plain m cap w asked book node now what taking there can e events failed after old desk from_old quiet none book_at desk_at rises told plainly is
-            (served m cap w asked book node now what taking there can (e ∷ events) stands)
+            put_plain m cap w asked members node now what taking there can e events failed after old work from_old quiet none members_at work_at rises told plainly is
+            (served m cap w asked members node now what taking there can (e ∷ events) stands)
 
         -- memory was short behind its takeover
         pub put_short : (took : Option Takeover) → took ≡ takeover_of w (e ∷ events) → IsOneTakeover (e ∷ events) → StandsOrFails w node now (nodes_on (input_of asked)) (λ after own. own ≡ []) (e ∷ events)
-            → IsServedAs m cap w node now asked old (record { book = after; desk = desk }) (e ∷ events) (answer.NoMemory took)
+            → IsServedAs m cap w node now asked old (record { members = after; work = work }) (e ∷ events) (answer.NoMemory took)
         put_short took is one stands =
-            put_alone m cap w asked book node now what taking there can e events failed after old desk from_old quiet none book_at desk_at rises took is one
-            (alone m cap w asked book node now what taking there can (e ∷ events) stands)
+            put_alone m cap w asked members node now what taking there can e events failed after old work from_old quiet none members_at work_at rises took is one
+            (alone m cap w asked members node now what taking there can (e ∷ events) stands)

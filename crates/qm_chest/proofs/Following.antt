@@ -1,17 +1,10 @@
 -- What a call does behind its takeover.
-use Rattle.std.proofs.Common.{◌≡◌, ℕ, ◌+◌, ◌<◌, Bool, true, false, cond, List, [], ◌∷◌, length, refl, sym, ◌∙◌, ap, subst, arith, Option, None, Some}
-use Rattle.std.specs.Prelude.{option_to_list, slice_get, slice_set, unwrap_or}
+use Rattle.std.proofs.Common.{◌≡◌, ℕ, ◌+◌, ◌<◌, Bool, true, false, cond, List, [], ◌∷◌, length, refl, sym, ◌∙◌, ap, subst, arith, Option, None, Some, option_to_list, slice_get, slice_set, unwrap_or}
 use Rattle.qm_disk.specs.Disk.{CrashState, Meaning, IsLeft}
-use Rattle.qm_kinds.specs.declared.input.Input.{Input}
+use Rattle.qm_history.specs.Common.{Input, Refusal, System, acting, are_numbers_spent, system_of, node_at, event_answer, moment_of, plain, taken_answer, input_of, why_of, is_disk_fault, is_journal, told_by, after_event, is_live, system_in}
 use Rattle.qm_kinds.specs.declared.input.Input.TheVariants as input
-use Rattle.qm_kinds.specs.declared.refusal.Refusal.{Refusal}
 use Rattle.qm_kinds.specs.declared.refusal.Refusal.TheVariants as refused
 use Rattle.qm_kinds.specs.declared.reply.Act.TheVariants as act
-use Rattle.qm_kinds.specs.declared.system.System.{System}
-use Rattle.qm_model.specs.Acting.{acting}
-use Rattle.qm_model.specs.Applied.{are_numbers_spent}
-use Rattle.qm_model.specs.Folding.{system_of}
-use Rattle.qm_model.specs.Standing.{node_at}
 use Rattle.qm_acting.specs.Standing.{disk_of, standing_of}
 use Rattle.qm_history.specs.declared.call.Answer.{Answer}
 use Rattle.qm_history.specs.declared.call.Answer.TheVariants as answer
@@ -21,23 +14,17 @@ use Rattle.qm_history.specs.declared.call.Takeover.{Takeover}
 use Rattle.qm_history.specs.declared.event.Event.{Event}
 use Rattle.qm_history.specs.declared.event.Event.TheVariants as event
 use Rattle.qm_history.specs.declared.world.World.{World}
-use Rattle.qm_history.specs.Answers.{event_answer, moment_of, plain, taken_answer}
-use Rattle.qm_history.specs.Calls.{input_of, why_of}
 use Rattle.qm_history.specs.Contents.{compacted_file}
-use Rattle.qm_history.specs.Faults.{is_disk_fault, is_journal}
-use Rattle.qm_history.specs.Leaving.{told_by}
 use Rattle.qm_history.specs.Room.{is_compacted_next}
-use Rattle.qm_history.specs.Step.{after_event}
 use Rattle.qm_history.specs.Turn.{ATakeover, IsOwn, IsStarted, start_refusal}
-use Rattle.qm_history.specs.World.{is_live, system_in}
 use Rattle.qm_chest.specs.declared.asking.Came.{Came}
-use Rattle.qm_chest.specs.declared.book.Book.{Book}
-use Rattle.qm_chest.specs.declared.desk.Desk.{Desk}
-use Rattle.qm_chest.specs.declared.desk.Desk.TheVariants.{Up}
+use Rattle.qm_chest.specs.declared.members.Members.{Members}
+use Rattle.qm_chest.specs.declared.work.Work.{Work}
+use Rattle.qm_chest.specs.declared.work.Work.TheVariants.{Up}
 use Rattle.qm_chest.specs.declared.taken.Taken.{Taken}
 use Rattle.qm_chest.specs.At.{CanBeAskedFor}
-use Rattle.qm_chest.specs.Books.{IsBookOf}
-use Rattle.qm_chest.specs.Desk.{IsDeskAt, desk_disk}
+use Rattle.qm_chest.specs.Members.{AreMembersOf}
+use Rattle.qm_chest.specs.Work.{IsWorkAt, work_disk}
 use Rattle.qm_chest.specs.Parts.{HoldSome, Part}
 use Rattle.qm_chest.specs.Steps.{OwnComesTo, is_plain, is_step, start_refusal_of}
 use Rattle.qm_chest.specs.Taking.{IsTaken, IsTaking, event_of, told_of}
@@ -45,10 +32,10 @@ use Rattle.qm_chest.specs.Whole.{IsServedAs}
 use Rattle.qm_chest.proofs.Failures as failures
 use Rattle.qm_chest.proofs.Holding.{SiteFilesAreAccepted, holds_some}
 use Rattle.qm_chest.proofs.Joining.{joined}
-use Rattle.qm_chest.proofs.Kept.{NodesKeepTheirNames, book_step}
+use Rattle.qm_chest.proofs.Kept.{NodesKeepTheirNames, members_step}
 use Rattle.qm_chest.proofs.Names.{name_there, one_name}
 use Rattle.qm_chest.proofs.Relived.{up_there}
-use Rattle.qm_chest.proofs.Whole.{desk_still}
+use Rattle.qm_chest.proofs.Whole.{work_still}
 
 -- ---- events that may follow
 
@@ -97,8 +84,8 @@ not_live false false h = refl
 -- ---- behind a takeover that stands
 
 module _ (accepted : SiteFilesAreAccepted) {D : Type 0} (m : Meaning D) (only_now : (disk : D) (crashed : CrashState) → m.left_since disk (m.moment disk) crashed → IsLeft (m.may_leave disk) crashed)
-    (cap : ℕ) (w : World) (asked : Call) (old : D) (before : Book) (node now : ℕ) (what : Input) (taking : IsTaking before node what cap w asked) (there : node < length before.names.items)
-    (can : CanBeAskedFor node what) (book : Book) (taken : Taken D) (is : IsTaken m cap w node now (input_of asked) old book taken)
+    (cap : ℕ) (w : World) (asked : Call) (old : D) (before : Members) (node now : ℕ) (what : Input) (taking : IsTaking before node what cap w asked) (there : node < length before.names.items)
+    (can : CanBeAskedFor node what) (members : Members) (taken : Taken D) (is : IsTaken m cap w node now (input_of asked) old members taken)
   where
     abbrev took : Event
     took = event_of node taken
@@ -113,23 +100,23 @@ module _ (accepted : SiteFilesAreAccepted) {D : Type 0} (m : Meaning D) (only_no
     between = holds_some accepted (m.seen (disk_of taken.manager)) (standing_of taken.manager).recorded (system_of is.up.may.log) is.up.at_rest.holds is.up.may.site
 
     -- the takeover is the whole call
-    alone_at : (desk : Desk D) → desk_disk desk ≡ disk_of taken.manager → IsDeskAt m cap v desk
-        → IsServedAs m cap w node now asked old (record { book = book; desk = desk }) (took ∷ []) (answer.NoMemory (Some (told_of taken)))
-    alone_at desk same at =
-        failures.put_alone m cap w asked before node now what taking there can took [] false book old desk
-        (subst (λ (d : D). Part m None w now (input_of asked) false (took ∷ []) old d) (sym same) is.part) (λ said. refl) refl is.book at (omega (arith, epoch_is))
+    alone_at : (work : Work D) → work_disk work ≡ disk_of taken.manager → IsWorkAt m cap v work
+        → IsServedAs m cap w node now asked old (record { members = members; work = work }) (took ∷ []) (answer.NoMemory (Some (told_of taken)))
+    alone_at work same at =
+        failures.put_alone m cap w asked before node now what taking there can took [] false members old work
+        (subst (λ (d : D). Part m None w now (input_of asked) false (took ∷ []) old d) (sym same) is.part) (λ said. refl) refl is.members at (omega (arith, epoch_is))
         (Some (told_of taken)) (sym is.told) refl
         (failures.alone m cap w asked before node now what taking there can (took ∷ []) (refl, is.moment, is.may, refl))
 
     pub managed : (on : Option (List (List ℕ))) → what ≡ input.TakeManager on → (name : List ℕ) → slice_get before.names.items node ≡ Some name
-        → IsServedAs m cap w node now asked old (record { book = book; desk = Up taken.manager node }) (took ∷ [])
+        → IsServedAs m cap w node now asked old (record { members = members; work = Up taken.manager node }) (took ∷ [])
         (answer.Done (Some (told_of taken)) taken.moment (plain (act.Managing name taken.epoch)))
     managed on on_is name found =
-        let named = name_there node (system_in w).nodes before.names.items taking.book.names there in
+        let named = name_there node (system_in w).nodes before.names.items taking.members.names there in
         let same : Some name ≡ Some named.0 = sym found ∙ named.1 in
         let one : name ≡ named.0 = one_name name named.0 same in
         let name_is : name ≡ node_at node (system_in w).nodes = one ∙ named.2 in
-        failures.put_plain m cap w asked before node now what taking there can took [] false book old (Up taken.manager node) is.part (λ said. refl) refl is.book is.up (omega (arith, epoch_is))
+        failures.put_plain m cap w asked before node now what taking there can took [] false members old (Up taken.manager node) is.part (λ said. refl) refl is.members is.up (omega (arith, epoch_is))
         (answer.Done (Some (told_of taken)) taken.moment (plain (act.Managing name taken.epoch))) refl
         (managing asked on (Some (told_of taken)) taken.moment name taken.epoch (taking.asks.0 ∙ on_is)
         ∙ (λ i. taken_answer (sym is.told i) taken.moment (name_is i) taken.epoch (why_of asked)))
@@ -139,72 +126,72 @@ module _ (accepted : SiteFilesAreAccepted) {D : Type 0} (m : Meaning D) (only_no
         own_nothing on on_is = subst (λ (i : Input). IsOwn v node now asked ATakeover i []) (sym (taking.asks.0 ∙ on_is)) refl
 
     -- one event follows
-    pub then_served : (e : Event) (told : Answer) (after : Book) (desk : Desk D) → IsFollowing v e
-        → Part m None v now (input_of asked) (is_journal told) (e ∷ []) (disk_of taken.manager) (desk_disk desk)
+    pub then_served : (e : Event) (told : Answer) (after : Members) (work : Work D) → IsFollowing v e
+        → Part m None v now (input_of asked) (is_journal told) (e ∷ []) (disk_of taken.manager) (work_disk work)
         → is_plain told ≡ true → is_journal told ≡ is_disk_fault e → told ≡ event_answer v (Some (told_of taken)) (why_of asked) (unwrap_or (moment_of e) taken.moment) e
-        → IsOwn v node now asked ATakeover (input_of asked) (e ∷ []) → IsBookOf (after_event v e) after → IsDeskAt m cap (after_event v e) desk
-        → IsServedAs m cap w node now asked old (record { book = after; desk = desk }) (took ∷ e ∷ []) told
-    then_served e told after desk follows part plainly disk says own book_at desk_at =
-        failures.put_plain m cap w asked before node now what taking there can took (e ∷ []) (is_journal told) after old desk
-        (joined m w now (input_of asked) (is_journal told) took (e ∷ []) old (disk_of taken.manager) (desk_disk desk) refl follows.tells follows.next is.low between is.part part)
-        (λ said. disk ∙ said) follows.image book_at desk_at (omega (arith, epoch_is, follows.greatest)) told plainly
+        → IsOwn v node now asked ATakeover (input_of asked) (e ∷ []) → AreMembersOf (after_event v e) after → IsWorkAt m cap (after_event v e) work
+        → IsServedAs m cap w node now asked old (record { members = after; work = work }) (took ∷ e ∷ []) told
+    then_served e told after work follows part plainly disk says own members_at work_at =
+        failures.put_plain m cap w asked before node now what taking there can took (e ∷ []) (is_journal told) after old work
+        (joined m w now (input_of asked) (is_journal told) took (e ∷ []) old (disk_of taken.manager) (work_disk work) refl follows.tells follows.next is.low between is.part part)
+        (λ said. disk ∙ said) follows.image members_at work_at (omega (arith, epoch_is, follows.greatest)) told plainly
         (says ∙ ap (λ (o : Option Takeover). event_answer v o (why_of asked) (unwrap_or (moment_of e) taken.moment) e) (sym is.told))
         (failures.served m cap w asked before node now what taking there can (took ∷ e ∷ []) (refl, is.moment, is.may, own))
 
     -- ---- a request, a listing or a fetch
 
     pub own_served : NodesKeepTheirNames → (came : Came D) (o : Option Event) → OwnComesTo m cap v node now taken.moment what ATakeover (Some (told_of taken)) (disk_of taken.manager) came o
-        → told_step o came.answer → IsServedAs m cap w node now asked old (record { book = book; desk = came.desk }) (took ∷ option_to_list o) came.answer
-    own_served names came None short step = subst (λ (a : Answer). IsServedAs m cap w node now asked old (record { book = book; desk = came.desk }) (took ∷ []) a) (sym short.told) (alone_at came.desk short.same short.desk)
+        → told_step o came.answer → IsServedAs m cap w node now asked old (record { members = members; work = came.work }) (took ∷ option_to_list o) came.answer
+    own_served names came None short step = subst (λ (a : Answer). IsServedAs m cap w node now asked old (record { members = members; work = came.work }) (took ∷ []) a) (sym short.told) (alone_at came.work short.same short.work)
     own_served names came (Some e) comes step =
-        then_served e came.answer book came.desk (step_follows v e step.0)
-        (subst (λ (i : Input). Part m None v now i (is_journal came.answer) (e ∷ []) (disk_of taken.manager) (desk_disk came.desk)) (sym taking.asks.0) comes.0.part)
+        then_served e came.answer members came.work (step_follows v e step.0)
+        (subst (λ (i : Input). Part m None v now i (is_journal came.answer) (e ∷ []) (disk_of taken.manager) (work_disk came.work)) (sym taking.asks.0) comes.0.part)
         step.1 step.2 (comes.0.told (why_of asked)) (subst (λ (i : Input). IsOwn v node now asked ATakeover i (e ∷ [])) (sym taking.asks.0) (comes.1 asked))
-        (book_step names v e book step.0 comes.0.part.comes.0 is.book) comes.0.desk
+        (members_step names v e members step.0 comes.0.part.comes.0 is.members) comes.0.work
 
     -- ---- a node that comes up
 
     -- why it can't
-    pub start_refused : (refusal : Refusal) → what ≡ input.StartNode → start_refusal_of (standing_of taken.manager).system (unwrap_or (slice_get book.live.items node) false) ≡ Some refusal
-        → IsServedAs m cap w node now asked old (record { book = book; desk = Up taken.manager node })
+    pub start_refused : (refusal : Refusal) → what ≡ input.StartNode → start_refusal_of (standing_of taken.manager).system (unwrap_or (slice_get members.live.items node) false) ≡ Some refusal
+        → IsServedAs m cap w node now asked old (record { members = members; work = Up taken.manager node })
         (took ∷ event.Refused node (acting now (standing_of taken.manager).system) input.StartNode refusal ∷ []) (answer.Refused (Some (told_of taken)) refusal)
     start_refused refusal start found =
         let moment : ℕ = acting now (standing_of taken.manager).system in
         let e : Event = event.Refused node moment input.StartNode refusal in
-        then_served e (answer.Refused (Some (told_of taken)) refusal) book (Up taken.manager node) (record { tells = refl; next = refl; image = refl; greatest = refl })
-        (desk_still accepted m cap v only_now (Up taken.manager node) is.up now (input_of asked) e tt (λ room. refl) (λ room. tt)) refl refl refl
+        then_served e (answer.Refused (Some (told_of taken)) refusal) members (Up taken.manager node) (record { tells = refl; next = refl; image = refl; greatest = refl })
+        (work_still accepted m cap v only_now (Up taken.manager node) is.up now (input_of asked) e tt (λ room. refl) (λ room. tt)) refl refl refl
         (own_start start e (subst (λ (o : Option Refusal). IsStarted v node (acting now (system_in v)) ATakeover o (e ∷ [])) (sym (refusal_there (Some refusal) found))
-        (ap (λ (s : System). event.Refused node (acting now s) input.StartNode refusal ∷ []) is.up.system))) is.book is.up
+        (ap (λ (s : System). event.Refused node (acting now s) input.StartNode refusal ∷ []) is.up.system))) is.members is.up
       where
-        refusal_there : (o : Option Refusal) → start_refusal_of (standing_of taken.manager).system (unwrap_or (slice_get book.live.items node) false) ≡ o → start_refusal v node ≡ o
+        refusal_there : (o : Option Refusal) → start_refusal_of (standing_of taken.manager).system (unwrap_or (slice_get members.live.items node) false) ≡ o → start_refusal v node ≡ o
         refusal_there o found =
-            (λ i. start_refusal_of (sym is.up.system i) (unwrap_or (slice_get (sym is.book.live i) node) false)) ∙ found
+            (λ i. start_refusal_of (sym is.up.system i) (unwrap_or (slice_get (sym is.members.live i) node) false)) ∙ found
 
         own_start : what ≡ input.StartNode → (e : Event) → IsStarted v node (acting now (system_in v)) ATakeover (start_refusal v node) (e ∷ []) → IsOwn v node now asked ATakeover (input_of asked) (e ∷ [])
         own_start start e h = subst (λ (i : Input). IsOwn v node now asked ATakeover i (e ∷ [])) (sym (taking.asks.0 ∙ start)) h
 
     -- its takeover has told that it is up
-    pub started : (after : Book) (name : List ℕ) → what ≡ input.StartNode → start_refusal_of (standing_of taken.manager).system (unwrap_or (slice_get book.live.items node) false) ≡ None
-        → slice_get book.names.items node ≡ Some name → book.names.items ≡ before.names.items → after.names.items ≡ book.names.items → after.live.items ≡ slice_set book.live.items node true
-        → after.held.items ≡ book.held.items → after.greatest ≡ book.greatest
-        → IsServedAs m cap w node now asked old (record { book = after; desk = Up taken.manager node }) (took ∷ event.Started node ∷ [])
+    pub started : (after : Members) (name : List ℕ) → what ≡ input.StartNode → start_refusal_of (standing_of taken.manager).system (unwrap_or (slice_get members.live.items node) false) ≡ None
+        → slice_get members.names.items node ≡ Some name → members.names.items ≡ before.names.items → after.names.items ≡ members.names.items → after.live.items ≡ slice_set members.live.items node true
+        → after.held.items ≡ members.held.items → after.greatest ≡ members.greatest
+        → IsServedAs m cap w node now asked old (record { members = after; work = Up taken.manager node }) (took ∷ event.Started node ∷ [])
         (answer.Done (Some (told_of taken)) taken.moment (plain (act.NodeStarted name)))
     started after name start found named same names live held greatest =
         let e : Event = event.Started node in
         let off : is_live v node ≡ false = not_live (are_numbers_spent (system_in v)) (is_live v node) (refusal_there None found) in
-        let there_ = name_there node (system_in v).nodes book.names.items is.book.names (subst (λ (l : List (List ℕ)). node < length l) (sym same) there) in
+        let there_ = name_there node (system_in v).nodes members.names.items is.members.names (subst (λ (l : List (List ℕ)). node < length l) (sym same) there) in
         let both_ : Some name ≡ Some there_.0 = sym named ∙ there_.1 in
         let one : name ≡ there_.0 = one_name name there_.0 both_ in
         then_served e (answer.Done (Some (told_of taken)) taken.moment (plain (act.NodeStarted name))) after (Up taken.manager node) (record { tells = refl; next = refl; image = refl; greatest = refl })
-        (desk_still accepted m cap v only_now (Up taken.manager node) is.up now (input_of asked) e off (λ room. refl) (λ room. tt)) refl refl
+        (work_still accepted m cap v only_now (Up taken.manager node) is.up now (input_of asked) e off (λ room. refl) (λ room. tt)) refl refl
         (ap (λ (n : List ℕ). answer.Done (Some (told_of taken)) taken.moment (plain (act.NodeStarted n))) (one ∙ there_.2))
         (own_start start e (subst (λ (o : Option Refusal). IsStarted v node (acting now (system_in v)) ATakeover o (e ∷ [])) (sym (refusal_there None found)) refl))
-        (record { names = is.book.names ∙ sym names; live = live ∙ ap (λ (l : List Bool). slice_set l node true) is.book.live; held = held ∙ is.book.held; greatest = greatest ∙ is.book.greatest })
+        (record { names = is.members.names ∙ sym names; live = live ∙ ap (λ (l : List Bool). slice_set l node true) is.members.live; held = held ∙ is.members.held; greatest = greatest ∙ is.members.greatest })
         (up_there m cap v (slice_set v.live node true) taken.manager node is.up)
       where
-        refusal_there : (o : Option Refusal) → start_refusal_of (standing_of taken.manager).system (unwrap_or (slice_get book.live.items node) false) ≡ o → start_refusal v node ≡ o
+        refusal_there : (o : Option Refusal) → start_refusal_of (standing_of taken.manager).system (unwrap_or (slice_get members.live.items node) false) ≡ o → start_refusal v node ≡ o
         refusal_there o found =
-            (λ i. start_refusal_of (sym is.up.system i) (unwrap_or (slice_get (sym is.book.live i) node) false)) ∙ found
+            (λ i. start_refusal_of (sym is.up.system i) (unwrap_or (slice_get (sym is.members.live i) node) false)) ∙ found
 
         own_start : what ≡ input.StartNode → (e : Event) → IsStarted v node (acting now (system_in v)) ATakeover (start_refusal v node) (e ∷ []) → IsOwn v node now asked ATakeover (input_of asked) (e ∷ [])
         own_start start e h = subst (λ (i : Input). IsOwn v node now asked ATakeover i (e ∷ [])) (sym (taking.asks.0 ∙ start)) h

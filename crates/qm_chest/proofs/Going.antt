@@ -1,14 +1,11 @@
 -- A node that goes where no manager elsewhere records it.
-use Rattle.std.proofs.Common.{◌≡◌, ℕ, ◌<◌, Bool, true, false, cond, List, [], ◌∷◌, length, refl, sym, ◌∙◌, ap, subst, arith, Option, None, Some}
-use Rattle.std.specs.Prelude.{◌==◌, ◌&&◌, not, slice_set}
+use Rattle.std.proofs.Common.{◌≡◌, ℕ, ◌<◌, Bool, true, false, cond, List, [], ◌∷◌, length, refl, sym, ◌∙◌, ap, subst, arith, Option, None, Some, ◌==◌, ◌&&◌, not, slice_set}
 use Rattle.std.specs.Option.{option_map_or}
 use Rattle.std.proofs.lemmas.Bool.Decides.{nat_tests}
 use Rattle.qm_disk.specs.Disk.{CrashState, Meaning, IsLeft}
-use Rattle.qm_kinds.specs.declared.input.Input.{Input}
+use Rattle.qm_history.specs.Common.{Input, acting, node_at, plain, input_of, IsFromOutside, unless_of, without, takes_over, is_live, system_in}
 use Rattle.qm_kinds.specs.declared.input.Input.TheVariants as input
 use Rattle.qm_kinds.specs.declared.reply.Act.TheVariants as act
-use Rattle.qm_model.specs.Acting.{acting}
-use Rattle.qm_model.specs.Standing.{node_at}
 use Rattle.qm_store.specs.Recorded.{Recorded}
 use Rattle.qm_store.proofs.Moving.{left_at_rest}
 use Rattle.qm_acting.specs.Standing.{standing_of, disk_of}
@@ -21,24 +18,19 @@ use Rattle.qm_history.specs.declared.call.Call.TheVariants as call
 use Rattle.qm_history.specs.declared.event.Event.TheVariants as event
 use Rattle.qm_history.specs.declared.world.Role.{Role}
 use Rattle.qm_history.specs.declared.world.World.{World}
-use Rattle.qm_history.specs.Answers.{plain}
-use Rattle.qm_history.specs.Calls.{input_of, IsFromOutside}
 use Rattle.qm_history.specs.Computed.{goes}
-use Rattle.qm_history.specs.Step.{unless_of, without}
-use Rattle.qm_history.specs.Takeover.{takes_over}
 use Rattle.qm_history.specs.Turn.{IsLeft as IsLeftBy, IsOwn, IsStopped, Nothing, has_other_manager, is_down}
-use Rattle.qm_history.specs.World.{is_live, system_in}
-use Rattle.qm_chest.specs.declared.book.Book.{Book}
+use Rattle.qm_chest.specs.declared.members.Members.{Members}
 use Rattle.qm_chest.specs.declared.chest.State.{State}
-use Rattle.qm_chest.specs.declared.desk.Desk.TheVariants.{Down}
+use Rattle.qm_chest.specs.declared.work.Work.TheVariants.{Down}
 use Rattle.qm_chest.specs.declared.place.Place.{Place}
 use Rattle.qm_chest.specs.At.{IsStateAt, state_disk}
-use Rattle.qm_chest.specs.Desk.{IsUp}
+use Rattle.qm_chest.specs.Work.{IsUp}
 use Rattle.qm_chest.specs.Holding.{MayHold, SomeHold, AllHold}
 use Rattle.qm_chest.specs.Parts.{Part}
 use Rattle.qm_chest.specs.Whole.{IsServedAs, goes_by, is_leave}
 use Rattle.qm_chest.proofs.Holding.{SiteFilesAreAccepted}
-use Rattle.qm_chest.proofs.Whole.{desk_still, one_served, own_served}
+use Rattle.qm_chest.proofs.Whole.{work_still, one_served, own_served}
 
 -- ---- the files hold the same without the node
 
@@ -85,21 +77,21 @@ none_is_no_other node o is = ap (λ (x : Option Role). option_map_or (λ (role :
 module _ (accepted : SiteFilesAreAccepted) {D : Type 0} (m : Meaning D) (only_now : (disk : D) (crashed : CrashState) → m.left_since disk (m.moment disk) crashed → IsLeft (m.may_leave disk) crashed)
     (cap : ℕ) (w : World) (node now : ℕ) (there : node < length (system_in w).nodes) (live : is_live w node ≡ true) (state : State D) (at : IsStateAt m cap w state)
     (files : Files D) (place : Option Place) (same : files_disk files ≡ state_disk state) (holds : AllHold m (MayHold cap w place) (files_disk files)) (alone : unless_of node w.manager ≡ None)
-    (no_other : has_other_manager w node ≡ false) (book : Book) (names : book.names.items ≡ state.book.names.items) (lives : book.live.items ≡ slice_set state.book.live.items node false)
-    (held : book.held.items ≡ state.book.held.items) (greatest : book.greatest ≡ state.book.greatest) (name : List ℕ) (named : name ≡ node_at node (system_in w).nodes)
+    (no_other : has_other_manager w node ≡ false) (members : Members) (names : members.names.items ≡ state.members.names.items) (lives : members.live.items ≡ slice_set state.members.live.items node false)
+    (held : members.held.items ≡ state.members.held.items) (greatest : members.greatest ≡ state.members.greatest) (name : List ℕ) (named : name ≡ node_at node (system_in w).nodes)
   where
     abbrev new : State D
-    new = record { book = book; desk = Down files place }
+    new = record { members = members; work = Down files place }
 
     at_without : IsStateAt m cap (without w node) new
     at_without = record {
-      book = record {
-        names = at.book.names ∙ sym names;
-        live = lives ∙ ap (λ (l : List Bool). slice_set l node false) at.book.live;
-        held = held ∙ at.book.held;
-        greatest = greatest ∙ at.book.greatest;
+      members = record {
+        names = at.members.names ∙ sym names;
+        live = lives ∙ ap (λ (l : List Bool). slice_set l node false) at.members.live;
+        held = held ∙ at.members.held;
+        greatest = greatest ∙ at.members.greatest;
       };
-      desk = record { none = alone; holds = all_stay m cap w node place (files_disk files) holds };
+      work = record { none = alone; holds = all_stay m cap w node place (files_disk files) holds };
       small = at.small;
     }
 
@@ -123,7 +115,7 @@ module _ (accepted : SiteFilesAreAccepted) {D : Type 0} (m : Meaning D) (only_no
     stopped asked is stays =
         one_served m cap w node now asked there (subst IsFromOutside (sym is) tt) (event.Stopped node) (answer.Done None now (plain (act.NodeStopped name))) false (state_disk state) new refl
         (subst (λ (d : D). Part m None w now (input_of asked) false (event.Stopped node ∷ []) (state_disk state) d) (sym same)
-        (desk_still accepted m cap w only_now state.desk at.desk now (input_of asked) (event.Stopped node) live (λ room. refl) (λ room. tt)))
+        (work_still accepted m cap w only_now state.work at.work now (input_of asked) (event.Stopped node) live (λ room. refl) (λ room. tt)))
         (own_served m cap w node now asked there (subst IsFromOutside (sym is) tt) (event.Stopped node ∷ []) (up_is asked is) (ap (takes_over w) is)
         (subst (λ (i : Input). IsOwn w node now asked Nothing i (event.Stopped node ∷ [])) (sym is) (stop_own asked stays))) refl
         (ap (λ (n : List ℕ). answer.Done None now (plain (act.NodeStopped n))) named) at_without
@@ -133,7 +125,7 @@ module _ (accepted : SiteFilesAreAccepted) {D : Type 0} (m : Meaning D) (only_no
     left asked is goes =
         one_served m cap w node now asked there (subst IsFromOutside (sym is) tt) (event.Left node) (answer.Done None now (plain (act.NodeStopped name))) false (state_disk state) new refl
         (subst (λ (d : D). Part m None w now (input_of asked) false (event.Left node ∷ []) (state_disk state) d) (sym same)
-        (desk_still accepted m cap w only_now state.desk at.desk now (input_of asked) (event.Left node) live (λ room. refl) (λ room. tt)))
+        (work_still accepted m cap w only_now state.work at.work now (input_of asked) (event.Left node) live (λ room. refl) (λ room. tt)))
         (own_served m cap w node now asked there (subst IsFromOutside (sym is) tt) (event.Left node ∷ []) (up_is asked is) (ap (takes_over w) is)
         (subst (λ (i : Input). IsOwn w node now asked Nothing i (event.Left node ∷ [])) (sym is) (leave_own asked goes))) refl
         (ap (λ (n : List ℕ). answer.Done None now (plain (act.NodeStopped n))) named) at_without

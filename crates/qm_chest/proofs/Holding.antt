@@ -1,28 +1,17 @@
 -- Files that hold a world: what they are to the definitions of histories, and how much room they take.
-use Rattle.std.proofs.Common.{◌≡◌, ◌⊎◌, inl, inr, ⊎_elim, ℕ, ◌+◌, ◌≤◌, Bool, true, false, List, [], ◌∷◌, ◌++◌, map, refl, sym, ◌∙◌, ap, subst, Option, None, Some}
-use Rattle.std.specs.Prelude.{◌&&◌, option_to_list, sum_by}
+use Rattle.std.proofs.Common.{◌≡◌, ◌⊎◌, inl, inr, ⊎_elim, ℕ, ◌+◌, ◌≤◌, Bool, true, false, List, [], ◌∷◌, ◌++◌, map, refl, sym, ◌∙◌, ap, subst, Option, None, Some, ◌&&◌, option_to_list, sum_by}
 use Rattle.std.proofs.lemmas.List.Sums.{sum_by-cons}
 use Rattle.qm_disk.specs.Disk.{CrashState, Meaning, IsLeft}
 use Rattle.qm_disk.proofs.Moments.{started, looks_not}
-use Rattle.qm_glog.specs.Records.{IsLog, size_of}
-use Rattle.qm_kinds.specs.declared.input.Input.{Input}
-use Rattle.qm_kinds.specs.declared.record.Record.{Record}
-use Rattle.qm_kinds.specs.declared.system.System.{System}
-use Rattle.qm_model.specs.Folding.{system_of}
-use Rattle.qm_record.specs.Spelling.{HasSpelling, record_text}
+use Rattle.qm_history.specs.Common.{size_of, Input, Record, System, system_of, record_text, IsAccepted, Grow, MasterState, master_text, Hold, HoldRecords, CanCome}
 use Rattle.qm_store.specs.Recorded.{Recorded, Holds}
 use Rattle.qm_store.proofs.Contents.{one_content, held_records, held_bodies}
 use Rattle.qm_restore.specs.QueueFile.{IsSiteFile}
 use Rattle.qm_history.specs.declared.event.Event.{Event}
 use Rattle.qm_history.specs.declared.world.Role.{Role}
 use Rattle.qm_history.specs.declared.world.World.{World}
-use Rattle.qm_history.specs.Accepted.{IsAccepted}
-use Rattle.qm_history.specs.Chest.{Grow}
 use Rattle.qm_history.specs.Contents.{HoldWorld, IsEpochOf, Keeps, LeavesFiles, is_without_write}
-use Rattle.qm_history.specs.Master.{MasterState, master_text}
 use Rattle.qm_history.specs.Room.{Room, HasRoom, room_after, room_in, taken}
-use Rattle.qm_history.specs.Start.{Hold, HoldRecords}
-use Rattle.qm_history.specs.Step.{CanCome}
 use Rattle.qm_chest.specs.declared.place.Place.{Place}
 use Rattle.qm_chest.specs.Holding.{IsFound, MayHold, SomeHold, AllHold}
 use Rattle.qm_chest.specs.Parts.{HoldsWithin, HoldSome, Part}
@@ -39,8 +28,8 @@ sizes text (x ∷ xs) =
     let more = sizes text xs in
     sum_by-cons (λ x. taken (text x)) x xs ∙ ap (λ n. taken (text x) + n) more
 
-pub room_is : (files : CrashState) (says : MasterState) (records : List Record) (h : HoldRecords IsLog HasSpelling record_text files says records) (r : Recorded) → Holds files r
-    → room_in record_text says h.masters records ≡ room_of r
+pub room_is : (files : CrashState) (says : MasterState) (records : List Record) (h : HoldRecords files says records) (r : Recorded) → Holds files r
+    → room_in says h.masters records ≡ room_of r
 room_is files says records h r holds =
     let same : ◌≡◌ {A = Recorded} (record { master = map master_text h.masters; says = says; bodies = map record_text records }) r =
     one_content files (record { master = map master_text h.masters; says = says; bodies = map record_text records }) r (held_bodies files says records h) holds in
@@ -48,7 +37,7 @@ room_is files says records h r holds =
 
 -- where files hold this before and that behind, they grow as these do
 pub grows : {D : Type 0} (m : Meaning D) (before after : CrashState) (r s : Recorded) (grown : Room → Room) → Holds before r → Holds after s → room_of s ≡ grown (room_of r)
-    → Grow IsLog HasSpelling record_text m before after grown
+    → Grow m before after grown
 grows m before after r s grown was is same said says old new hold_was hold_is =
     room_is after says new hold_is s is ∙ same ∙ ap grown (sym (room_is before said old hold_was r was))
 
@@ -62,10 +51,10 @@ left_of (Some d) (Some place) before log r found = ⊎_elim (λ no. inl no.1) (�
 
 -- the bodies of a site's files are records, which are accepted
 abbrev pub SiteFilesAreAccepted : Type 0
-SiteFilesAreAccepted = (bodies : List (List ℕ)) (s : System) → IsSiteFile bodies s → (log : List Record) × (bodies ≡ map record_text log) × IsAccepted HasSpelling log × (system_of log ≡ s)
+SiteFilesAreAccepted = (bodies : List (List ℕ)) (s : System) → IsSiteFile bodies s → (log : List Record) × (bodies ≡ map record_text log) × IsAccepted log × (system_of log ≡ s)
 
 module _ (accepted : SiteFilesAreAccepted) where
-  abbrev pub holds_log : (files : CrashState) (r : Recorded) (log : List Record) → Holds files r → IsSiteFile r.bodies (system_of log) → Hold IsLog HasSpelling record_text files log
+  abbrev pub holds_log : (files : CrashState) (r : Recorded) (log : List Record) → Holds files r → IsSiteFile r.bodies (system_of log) → Hold files log
   holds_log files r log holds site =
       let found = accepted r.bodies (system_of log) site in
       record { says = r.says; records = found.0; hold = held_records files r found.0 holds found.1 found.2; same = found.3 }
@@ -76,7 +65,7 @@ module _ (accepted : SiteFilesAreAccepted) where
       record { says = r.says; records = found.0; holds = held_records files r found.0 holds found.1 found.2 }
 
   pub holds_world : (cap : ℕ) (w : World) (place : Option Place) (files : CrashState) (r : Recorded) → Holds files r → MayHold cap w place r → IsEpochOf w w.manager r.says.epoch
-      → HoldWorld IsLog HasSpelling record_text files w
+      → HoldWorld files w
   holds_world cap w place files r holds may epoch = record {
     log = may.log;
     left = left_of w.doubt place w.log may.log r may.found;
@@ -91,18 +80,18 @@ epoch_of_none w epoch None none low = low
 epoch_of_none w epoch (Some role) none low = cc
 
 module _ (accepted : SiteFilesAreAccepted) {D : Type 0} (m : Meaning D) (cap : ℕ) (w : World) (place : Option Place) (none : w.manager ≡ None) where
-  some_world : (files : CrashState) → SomeHold (MayHold cap w place) files → HoldWorld IsLog HasSpelling record_text files w
+  some_world : (files : CrashState) → SomeHold (MayHold cap w place) files → HoldWorld files w
   some_world files some = holds_world accepted cap w place files some.recorded some.holds some.is (epoch_of_none w some.recorded.says.epoch w.manager none some.is.epoch)
 
 module _ (accepted : SiteFilesAreAccepted) {D : Type 0} (m : Meaning D) (cap : ℕ) (w : World) (place : Option Place) (disk : D) (none : w.manager ≡ None) where
-  pub world_kept : AllHold m (MayHold cap w place) disk → Keeps IsLog HasSpelling record_text m w disk
+  pub world_kept : AllHold m (MayHold cap w place) disk → Keeps m w disk
   world_kept holds = record {
     reads = some_world accepted m cap w place none (m.seen disk) holds.reads;
     crash = λ crashed left. some_world accepted m cap w place none crashed (holds.crash crashed left);
   }
 
 -- what holds a world holds what a crash within any events may leave
-pub world_within : (w : World) (events : List Event) (files : CrashState) → HoldWorld IsLog HasSpelling record_text files w → HoldsWithin w events files
+pub world_within : (w : World) (events : List Event) (files : CrashState) → HoldWorld files w → HoldsWithin w events files
 world_within w events files h = record { log = h.log; left = ⊎_elim (λ a. inl a) (λ b. inr (inl b)) h.left; holds = h.holds; recorded = h.recorded }
 
 -- ---- an event that writes nothing
@@ -113,13 +102,13 @@ module _ {D : Type 0} (m : Meaning D) (disk : D) (only_now : (crashed : CrashSta
   looks false = tt
 
   pub still : (behind : Option Bool) (w : World) (reading : ℕ) (asked : Input) (failed : Bool) (e : Event) (r : Recorded) → Holds (m.seen disk) r
-      → ((crashed : CrashState) → IsLeft (m.may_leave disk) crashed → HoldWorld IsLog HasSpelling record_text crashed w)
-      → CanCome HasSpelling w e → ((room : Room) → room_after record_text w room e ≡ room) → HasRoom record_text behind w (room_of r) reading asked e []
+      → ((crashed : CrashState) → IsLeft (m.may_leave disk) crashed → HoldWorld crashed w)
+      → CanCome w e → ((room : Room) → room_after w room e ≡ room) → HasRoom behind w (room_of r) reading asked e []
       → Part m behind w reading asked failed (e ∷ []) disk disk
   still behind w reading asked failed e r holds crash comes stays has = record {
     comes = (comes, tt);
     moments = started m disk (HoldsWithin w (e ∷ [])) (λ crashed since. world_within w (e ∷ []) crashed (crash crashed (only_now crashed since)));
     files = looks (is_without_write e && true);
-    reaches = λ quiet. grows m (m.seen disk) (m.seen disk) r r (λ room. room_after record_text w room e) holds holds (sym (stays (room_of r)));
-    room = λ says records h. (subst (λ (room : Room). HasRoom record_text behind w room reading asked e []) (sym (room_is (m.seen disk) says records h r holds)) has, tt);
+    reaches = λ quiet. grows m (m.seen disk) (m.seen disk) r r (λ room. room_after w room e) holds holds (sym (stays (room_of r)));
+    room = λ says records h. (subst (λ (room : Room). HasRoom behind w room reading asked e []) (sym (room_is (m.seen disk) says records h r holds)) has, tt);
   }

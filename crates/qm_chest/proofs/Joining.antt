@@ -1,29 +1,16 @@
 -- Two parts of a call, one behind the other, are a part.
-use Rattle.std.proofs.Common.{◌≡◌, ◌⊎◌, inl, inr, ℕ, zero, suc, ◌<◌, ◌≤◌, Bool, true, false, List, [], ◌∷◌, ◌++◌, take, refl, sym, ◌∙◌, ap, subst, arith, Option, None, Some}
-use Rattle.std.specs.Prelude.{◌&&◌, filter_map, option_to_list, slice_set}
+use Rattle.std.proofs.Common.{◌≡◌, ◌⊎◌, inl, inr, ℕ, zero, suc, ◌<◌, ◌≤◌, Bool, true, false, List, [], ◌∷◌, ◌++◌, take, refl, sym, ◌∙◌, ap, subst, arith, Option, None, Some, ◌&&◌, filter_map, option_to_list, slice_set, append_assoc, append-nil}
 use Rattle.std.specs.List.{AllByRecursion, cons_option}
-use Rattle.std.proofs.lemmas.List.{append_assoc, append-nil}
-use Rattle.qm_disk.specs.Disk.{CrashState, Meaning}
+use Rattle.qm_history.specs.Common.{CrashState, Meaning, Input, Record, request_record, Grow, MasterState, record_of, HoldRecords, CanCome, after_event, log_read}
 use Rattle.qm_disk.proofs.Moments.{weaker, goes_further, looks_on}
-use Rattle.qm_glog.specs.Records.{IsLog}
-use Rattle.qm_kinds.specs.declared.input.Input.{Input}
-use Rattle.qm_kinds.specs.declared.record.Record.{Record}
 use Rattle.qm_kinds.specs.declared.request.Request.TheVariants as request
-use Rattle.qm_model.specs.Log.{request_record}
-use Rattle.qm_record.specs.Spelling.{HasSpelling, record_text}
 use Rattle.qm_history.specs.declared.event.Event.{Event}
 use Rattle.qm_history.specs.declared.event.Event.TheVariants as event
 use Rattle.qm_history.specs.declared.world.World.{World}
-use Rattle.qm_history.specs.Chest.{Grow}
 use Rattle.qm_history.specs.Contents.{LeavesFiles, is_without_write, are_without_write}
 use Rattle.qm_history.specs.Happening.{may_come_first, told_of_doubt}
 use Rattle.qm_history.specs.Leaving.{MayBeLeft, told_by}
-use Rattle.qm_history.specs.Master.{MasterState}
-use Rattle.qm_history.specs.Records.{record_of}
 use Rattle.qm_history.specs.Room.{Room, HasRoom, HaveRoom, Unless, record_need, failed_by, is_compacted_next, room_after_events, room_in}
-use Rattle.qm_history.specs.Start.{HoldRecords}
-use Rattle.qm_history.specs.Step.{CanCome, after_event}
-use Rattle.qm_history.specs.World.{log_read}
 use Rattle.qm_chest.specs.Parts.{turn_with, HoldsWithin, HoldSome, Part}
 
 -- ---- what a crash leaves within the second part
@@ -126,7 +113,7 @@ smaller_before (h ∷ held) zero epoch most greatest rises low all =
     (omega arith, all.1)
 smaller_before (h ∷ held) (suc node) epoch most greatest rises low all = (all.0, smaller_before held node epoch most greatest rises low.1 all.1)
 
-held_before : (w : World) (e : Event) (most : ℕ) → may_come_first e ≡ true → CanCome HasSpelling w e → AllByRecursion (λ (h : ℕ). h ≤ w.greatest) w.held
+held_before : (w : World) (e : Event) (most : ℕ) → may_come_first e ≡ true → CanCome w e → AllByRecursion (λ (h : ℕ). h ≤ w.greatest) w.held
     → AllByRecursion (λ (h : ℕ). h ≤ most) (after_event w e).held → AllByRecursion (λ (h : ℕ). h ≤ most) w.held
 held_before w (event.Took node moment epoch gone up may kept) most first comes low all =
     let rises : w.greatest < epoch = omega (arith, comes.next_epoch) in
@@ -158,8 +145,8 @@ files_alone m false old new h = tt
 
 -- whether an image comes next counts at a takeover alone
 room_first : (behind : Option Bool) (w : World) (room : Room) (reading : ℕ) (asked : Input) (e : Event) (events : List Event) → is_compacted_next events ≡ false
-    → HasRoom record_text behind w room reading asked e [] → HasRoom record_text behind w room reading asked e events
-room_first behind w room reading asked (event.Took node moment epoch gone up may kept) events none has = (has.0, subst (λ (b : Bool). Unless b (record_need record_text room (request_record moment node (request.Took epoch gone up may)) ≤ room.cap)) (sym none) has.1)
+    → HasRoom behind w room reading asked e [] → HasRoom behind w room reading asked e events
+room_first behind w room reading asked (event.Took node moment epoch gone up may kept) events none has = (has.0, subst (λ (b : Bool). Unless b (record_need room (request_record moment node (request.Took epoch gone up may)) ≤ room.cap)) (sym none) has.1)
 room_first behind w room reading asked (event.TakeDoubt node tried kept) events none has = has
 room_first behind w room reading asked (event.Stopped node) events none has = has
 room_first behind w room reading asked (event.Left node) events none has = has
@@ -191,18 +178,18 @@ module _ {D : Type 0} (m : Meaning D) (w : World) (reading : ℕ) (asked : Input
       recorded = held_before w e h.holds.says.epoch first one.comes.0 low h.recorded;
     }
 
-    room_then : (says : MasterState) (records : List Record) (h : HoldRecords IsLog HasSpelling record_text (m.seen old) says records)
-        → HaveRoom record_text None w (room_in record_text says h.masters records) reading asked (e ∷ events)
+    room_then : (says : MasterState) (records : List Record) (h : HoldRecords (m.seen old) says records)
+        → HaveRoom None w (room_in says h.masters records) reading asked (e ∷ events)
     room_then says records h = (
-      room_first None w (room_in record_text says h.masters records) reading asked e events no_image (one.room says records h).0,
-      subst (λ (room : Room). HaveRoom record_text (failed_by w e) (after_event w e) room reading asked events) (one.reaches refl says between.says records between.records h between.holds)
+      room_first None w (room_in says h.masters records) reading asked e events no_image (one.room says records h).0,
+      subst (λ (room : Room). HaveRoom (failed_by w e) (after_event w e) room reading asked events) (one.reaches refl says between.says records between.records h between.holds)
           (others.room between.says between.records between.holds),
     )
 
-    grows : failed ≡ false → Grow IsLog HasSpelling record_text m (m.seen old) (m.seen new) (λ room. room_after_events record_text w room (e ∷ events))
+    grows : failed ≡ false → Grow m (m.seen old) (m.seen new) (λ room. room_after_events w room (e ∷ events))
     grows quiet said says before after was is =
         others.reaches quiet between.says says between.records after between.holds is
-        ∙ ap (λ (room : Room). room_after_events record_text (after_event w e) room events) (one.reaches refl said between.says before between.records was between.holds)
+        ∙ ap (λ (room : Room). room_after_events (after_event w e) room events) (one.reaches refl said between.says before between.records was between.holds)
 
     pub joined : Part m None w reading asked failed (e ∷ events) old new
     joined = record {

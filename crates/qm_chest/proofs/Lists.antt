@@ -1,32 +1,19 @@
 -- The lists of nodes of a takeover: they are those of histories, and its request can be asked.
-use Rattle.std.proofs.Common.{◌≡◌, inl, inr, ℕ, zero, suc, ◌<◌, ◌≤◌, ◌^◌, arith, Bool, true, false, not, cond, List, [], ◌∷◌, length, map, refl, sym, ◌∙◌, ap, subst, Option, None, Some}
-use Rattle.std.specs.Prelude.{◌==◌, ◌&&◌, ◌||◌, filter, slice_set}
-use Rattle.std.specs.List.{AllByRecursion, list_all}
-use Rattle.std.specs.Str.{bytes_eq}
+use Rattle.std.proofs.Common.{◌≡◌, inl, inr, ℕ, zero, suc, ◌<◌, ◌≤◌, ◌^◌, arith, Bool, true, false, not, cond, List, [], ◌∷◌, length, map, refl, sym, ◌∙◌, ap, subst, Option, None, Some, ◌==◌, ◌&&◌, ◌||◌, filter, slice_set, bytes_eq}
+use Rattle.std.specs.List.{list_all}
 use Rattle.std.proofs.lemmas.Bool.Decides.{nat_tests}
 use Rattle.std.proofs.lemmas.List.{length-map}
 use Rattle.std.proofs.lemmas.Slice.Eq.{bytes_eq-Decides}
-use Rattle.qm_kinds.specs.declared.input.Input.{Input}
-use Rattle.qm_kinds.specs.declared.moment.TheConstants.{LAST_MOMENT}
+use Rattle.qm_history.specs.Common.{Input, Node, System, IsConsistent, is_among, node_at, IsListOfNodes, cluster, gone_in, nodes_where, up_with}
 use Rattle.qm_kinds.specs.declared.request.Request.TheVariants as request
-use Rattle.qm_kinds.specs.declared.system.Node.{Node}
-use Rattle.qm_kinds.specs.declared.system.System.{System}
-use Rattle.qm_model.specs.Consistent.{IsConsistent}
-use Rattle.qm_model.specs.Find.{is_among}
-use Rattle.qm_model.specs.Standing.{node_at}
-use Rattle.qm_record.specs.Spelling.{NodeFits}
-use Rattle.qm_restore.specs.QueueFile.{IsFileOf, IsSiteFile}
-use Rattle.qm_restore.specs.Site.{names_of}
 use Rattle.qm_acting.specs.Asking.{CanBeAsked}
 use Rattle.qm_history.specs.declared.world.World.{World}
-use Rattle.qm_history.specs.Accepted.{IsListOfNodes, cluster}
 use Rattle.qm_history.specs.Takeover.{is_named, may_after, nodes_on}
-use Rattle.qm_history.specs.World.{gone_in, nodes_where, up_with}
 use Rattle.qm_history.proofs.NodeLemmas.{ArePicked, all_picked, distinct_apart, filter_picked, picked_is_list, where_picked}
-use Rattle.qm_chest.specs.declared.book.Book.{Book}
-use Rattle.qm_chest.specs.Books.{IsBookOf}
-use Rattle.qm_chest.specs.Nodes.{are_called}
-use Rattle.qm_chest.specs.Taking.{gone_by, may_by, request_of, up_by}
+use Rattle.qm_chest.specs.declared.members.Members.{Members}
+use Rattle.qm_chest.specs.Members.{AreMembersOf}
+use Rattle.qm_chest.specs.Nodes.{are_called, nodes_among, nodes_listed}
+use Rattle.qm_chest.specs.Taking.{gone_by, may_by, request_of, took_by, up_by}
 
 -- ---- in the words of histories
 
@@ -38,11 +25,11 @@ may_is s (Some (name ∷ names)) = refl
 pub named_is : (s : System) (on : Option (List (List ℕ))) (node : ℕ) → is_among (may_by s.nodes s.may on) (node_at node s.nodes) ≡ is_named s on node
 named_is s on node = ap (λ (l : List (List ℕ)). is_among l (node_at node s.nodes)) (may_is s on)
 
-pub gone_is : (w : World) (s : System) (book : Book) → IsBookOf w book → gone_by book.live.items book.held.items s.nodes ≡ gone_in w s
-gone_is w s book of = λ i. gone_by (of.live i) (of.held i) s.nodes
+pub gone_is : (w : World) (s : System) (members : Members) → AreMembersOf w members → gone_by members.live.items members.held.items s.nodes ≡ gone_in w s
+gone_is w s members of = λ i. gone_by (of.live i) (of.held i) s.nodes
 
-pub up_is : (w : World) (s : System) (node : ℕ) (book : Book) → IsBookOf w book → up_by book.live.items node s.nodes ≡ up_with w node s
-up_is w s node book of = ap (λ (live : List Bool). up_by live node s.nodes) of.live
+pub up_is : (w : World) (s : System) (node : ℕ) (members : Members) → AreMembersOf w members → up_by members.live.items node s.nodes ≡ up_with w node s
+up_is w s node members of = ap (λ (live : List Bool). up_by live node s.nodes) of.live
 
 -- ---- nodes of the cluster, in its order
 
@@ -69,69 +56,35 @@ picked_few names [] picked = omega (arith, ap length picked)
 picked_few names (y ∷ all) (ys, h, inl is) = let more = picked_few ys all h in omega (arith, more, ap length is)
 picked_few names (y ∷ all) (ys, h, inr is) = let more = picked_few ys all h in omega (arith, more, ap length is)
 
-picked_all : (P : List ℕ → Type 0) (names all : List (List ℕ)) → ArePicked names all → AllByRecursion P all → AllByRecursion P names
-picked_all P names [] picked each = subst (AllByRecursion P) (sym picked) tt
-picked_all P names (y ∷ all) (ys, h, inl is) each = subst (AllByRecursion P) (sym is) (each.0, picked_all P ys all h each.1)
-picked_all P names (y ∷ all) (ys, h, inr is) each = subst (AllByRecursion P) (sym is) (picked_all P ys all h each.1)
-
--- ---- the names of a site's nodes
-
--- the names of nodes stay through the records of their file
-abbrev pub NamesStay : Type 0
-NamesStay = (nodes : List Node) (bodies : List (List ℕ)) (s : System) → IsFileOf nodes bodies s → names_of s.nodes ≡ names_of nodes
-
--- the name of a node
-abbrev IsName : List ℕ → Type 0
-IsName name = NodeFits (record { name = name; up = true })
-
-each_name : (nodes : List Node) → AllByRecursion NodeFits nodes → AllByRecursion IsName (names_of nodes)
-each_name [] fit = tt
-each_name (n ∷ nodes) fit = (fit.0, each_name nodes fit.1)
-
-names_fit : NamesStay → (bodies : List (List ℕ)) (s : System) → IsSiteFile bodies s → AllByRecursion IsName (cluster s)
-names_fit stay bodies s site =
-    subst (AllByRecursion IsName) (sym (stay site.nodes bodies s site.file)) (each_name site.nodes site.file.fit.0.body_fits.0.each)
-
 -- ---- the request
 
-module _ (stay : NamesStay) (bodies : List (List ℕ)) (s : System) (site : IsSiteFile bodies s) (consistent : IsConsistent s) where
-  few : length (cluster s) ≤ 8
-  few = let limit = consistent.nodes.few in omega (arith, limit, length-map s.nodes (λ (n : Node). n.name))
-
+module _ (s : System) (consistent : IsConsistent s) where
   few_of : (names : List (List ℕ)) → ArePicked names (cluster s) → length names < 2 ^ 16
-  few_of names picked = let less = picked_few names (cluster s) picked in omega (arith, less, few)
+  few_of names picked =
+      let less = picked_few names (cluster s) picked in
+      let limit = consistent.nodes.few in
+      omega (arith, less, limit, length-map s.nodes (λ (n : Node). n.name))
 
-  each_of : (names : List (List ℕ)) → ArePicked names (cluster s) → AllByRecursion IsName names
-  each_of names picked = picked_all IsName names (cluster s) picked (names_fit stay bodies s site)
-
-  pub took_can_be_asked : (book : Book) (node : ℕ) (what : Input) (moment epoch : ℕ) → node < length s.nodes → s.last ≤ moment → moment ≤ LAST_MOMENT → epoch < 2 ^ 64
-      → CanBeAsked s moment node (request_of book s node what epoch)
-  took_can_be_asked book node what moment epoch there later fits low =
+  pub took_can_be_asked : (members : Members) (node : ℕ) (what : Input) (moment epoch : ℕ) → node < length s.nodes → s.last ≤ moment → CanBeAsked s moment node (request_of members s node what epoch)
+  took_can_be_asked members node what moment epoch there later =
       let on : Option (List (List ℕ)) = nodes_on what in
-      let gone = gone_picked book.live.items book.held.items s.nodes in
-      let up = up_picked book.live.items node s.nodes in
+      let gone = gone_picked members.live.items members.held.items s.nodes in
+      let up = up_picked members.live.items node s.nodes in
       let may = may_picked s on consistent in
       record {
         node_there = there;
         not_earlier = later;
         names = list_of s (may_by s.nodes s.may on) consistent may;
         lists = (
-          list_of s (gone_by book.live.items book.held.items s.nodes) consistent gone,
-          list_of s (up_by book.live.items node s.nodes) consistent up,
+          list_of s (gone_by members.live.items members.held.items s.nodes) consistent gone,
+          list_of s (up_by members.live.items node s.nodes) consistent up,
           list_of s (may_by s.nodes s.may on) consistent may,
         );
-        spelled = λ ok. record {
-          moment_fits = fits;
-          node_fits = let limit = consistent.nodes.few in omega (arith, there, limit);
-          body_fits = (
-            low,
-            record { few = few_of (gone_by book.live.items book.held.items s.nodes) gone; each = each_of (gone_by book.live.items book.held.items s.nodes) gone },
-            record { few = few_of (up_by book.live.items node s.nodes) up; each = each_of (up_by book.live.items node s.nodes) up },
-            record { few = few_of (may_by s.nodes s.may on) may; each = each_of (may_by s.nodes s.may on) may },
-          );
-          row_moment = λ is. cc;
-          row_node = λ is. cc;
-        };
+        short = λ ok. (
+          few_of (gone_by members.live.items members.held.items s.nodes) gone,
+          few_of (up_by members.live.items node s.nodes) up,
+          few_of (may_by s.nodes s.may on) may,
+        );
       }
 
 -- ---- whether a node may take over
@@ -210,17 +163,17 @@ own_names : (nodes : List Node) → are_called nodes (map (λ (n : Node). n.name
 own_names [] = refl
 own_names (n ∷ nodes) = ap (λ (b : Bool). b && are_called nodes (map (λ (n : Node). n.name) nodes)) (same_name n.name) ∙ own_names nodes
 
-pub some_listed : (nodes : List Node) (may names : List (List ℕ)) → (names ≡ [] → ⊥) → may_by nodes may (Some names) ≡ filter (is_among names) (map (λ (n : Node). n.name) nodes)
-some_listed nodes may [] some = absurd (some refl)
-some_listed nodes may (name ∷ names) some = refl
+pub some_listed : (nodes : List Node) (names : List (List ℕ)) → (names ≡ [] → ⊥) → nodes_listed nodes names ≡ nodes_among names nodes
+some_listed nodes [] some = absurd (some refl)
+some_listed nodes (name ∷ names) some = refl
 
 some_length : (n : ℕ) → (suc n == 0) ≡ false
 some_length n = grind (arith, nat_tests)
 
-pub listed_all : (nodes : List Node) (may names : List (List ℕ)) (node : ℕ) (b : Bool) → node < length nodes → b ≡ (length names == 0) → b ≡ true
-    → b ≡ is_among (may_by nodes may (Some names)) (node_at node nodes)
-listed_all nodes may [] node b within is so = so ∙ sym (in_cluster node nodes within)
-listed_all nodes may (name ∷ names) node b within is so = let never : false ≡ true = sym (some_length (length names)) ∙ sym is ∙ so in cc
+pub listed_all : (nodes : List Node) (names : List (List ℕ)) (node : ℕ) (b : Bool) → node < length nodes → b ≡ (length names == 0) → b ≡ true
+    → b ≡ is_among (nodes_listed nodes names) (node_at node nodes)
+listed_all nodes [] node b within is so = so ∙ sym (in_cluster node nodes within)
+listed_all nodes (name ∷ names) node b within is so = let never : false ≡ true = sym (some_length (length names)) ∙ sym is ∙ so in cc
 
 pub not_empty : (names : List (List ℕ)) (b : Bool) → b ≡ (length names == 0) → b ≡ false → names ≡ [] → ⊥
 not_empty [] b is other empty = let both : true ≡ false = sym is ∙ other in cc
@@ -251,16 +204,16 @@ are_so nodes names is = subst (λ (l : List (List ℕ)). are_called nodes l ≡ 
 -- ---- the request, in the words of histories
 
 -- on nodes and a list that were read
-pub request_read : (book : Book) (s : System) (node : ℕ) (what : Input) (epoch : ℕ) (nodes : List Node) (may : List (List ℕ)) → nodes ≡ s.nodes → may ≡ s.may
-    → request.Took epoch (gone_by book.live.items book.held.items nodes) (up_by book.live.items node nodes) (may_by nodes may (nodes_on what)) ≡ request_of book s node what epoch
-request_read book s node what epoch nodes may nodes_are may_are =
-    λ i. request.Took epoch (gone_by book.live.items book.held.items (nodes_are i)) (up_by book.live.items node (nodes_are i)) (may_by (nodes_are i) (may_are i) (nodes_on what))
+pub request_read : (members : Members) (s : System) (node : ℕ) (what : Input) (epoch : ℕ) (nodes : List Node) (may : List (List ℕ)) → nodes ≡ s.nodes → may ≡ s.may
+    → took_by members nodes may node what epoch ≡ request_of members s node what epoch
+request_read members s node what epoch nodes may nodes_are may_are =
+    λ i. took_by members (nodes_are i) (may_are i) node what epoch
 
-pub request_is : (w : World) (s t : System) (node : ℕ) (what : Input) (epoch : ℕ) (book : Book) → IsBookOf w book → t ≡ s
-    → request_of book t node what epoch ≡ request.Took epoch (gone_in w s) (up_with w node s) (may_after s (nodes_on what))
-request_is w s t node what epoch book of same =
-    ap (λ (x : System). request_of book x node what epoch) same
-    ∙ (λ i. request.Took epoch (gone_is w s book of i) (up_is w s node book of i) (may_is s (nodes_on what) i))
+pub request_is : (w : World) (s t : System) (node : ℕ) (what : Input) (epoch : ℕ) (members : Members) → AreMembersOf w members → t ≡ s
+    → request_of members t node what epoch ≡ request.Took epoch (gone_in w s) (up_with w node s) (may_after s (nodes_on what))
+request_is w s t node what epoch members of same =
+    ap (λ (x : System). request_of members x node what epoch) same
+    ∙ (λ i. request.Took epoch (gone_is w s members of i) (up_is w s node members of i) (may_is s (nodes_on what) i))
 
 pub named_read : (s : System) (nodes : List Node) (may : List (List ℕ)) (on : Option (List (List ℕ))) (node : ℕ) → nodes ≡ s.nodes → may ≡ s.may
     → is_among (may_by nodes may on) (node_at node nodes) ≡ is_named s on node

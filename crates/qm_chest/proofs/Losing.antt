@@ -1,18 +1,11 @@
 -- A node that stops or leaves while a manager is up elsewhere, which records its loss.
-use Rattle.std.proofs.Common.{◌≡◌, ◌≢◌, inl, inr, ℕ, ◌<◌, Bool, true, false, List, [], ◌∷◌, length, refl, sym, ◌∙◌, ap, subst, arith, Option, None, Some, Result}
-use Rattle.std.specs.Prelude.{◌==◌, ◌&&◌, ◌||◌, not, IsOk, slice_set}
+use Rattle.std.proofs.Common.{◌≡◌, ◌≢◌, inl, inr, ℕ, ◌<◌, Bool, true, false, List, [], ◌∷◌, length, refl, sym, ◌∙◌, ap, subst, arith, Option, None, Some, Result, ◌==◌, ◌&&◌, ◌||◌, not, IsOk, slice_set}
 use Rattle.std.specs.Option.{option_map_or}
 use Rattle.std.proofs.lemmas.Bool.Decides.{nat_tests}
 use Rattle.qm_disk.specs.Disk.{CrashState, Meaning, IsLeft}
-use Rattle.qm_kinds.specs.declared.input.Input.{Input}
+use Rattle.qm_history.specs.Common.{Input, Refusal, Request, acting, applied, Accepted, node_at, input_of, why_of, IsFromOutside, is_journal, after_event, without, takes_over, is_live, system_in}
 use Rattle.qm_kinds.specs.declared.input.Input.TheVariants as input
-use Rattle.qm_kinds.specs.declared.refusal.Refusal.{Refusal}
-use Rattle.qm_kinds.specs.declared.request.Request.{Request}
 use Rattle.qm_kinds.specs.declared.request.Request.TheVariants as request
-use Rattle.qm_model.specs.Acting.{acting}
-use Rattle.qm_model.specs.Applied.{applied}
-use Rattle.qm_model.specs.Outcome.{Accepted}
-use Rattle.qm_model.specs.Standing.{node_at}
 use Rattle.qm_acting.specs.Standing.{disk_of}
 use Rattle.qm_acting.specs.declared.manager.Manager.{Manager}
 use Rattle.qm_history.specs.declared.call.Call.{Call}
@@ -21,27 +14,21 @@ use Rattle.qm_history.specs.declared.event.Event.{Event}
 use Rattle.qm_history.specs.declared.event.Event.TheVariants as event
 use Rattle.qm_history.specs.declared.world.Role.{Role}
 use Rattle.qm_history.specs.declared.world.World.{World}
-use Rattle.qm_history.specs.Calls.{input_of, why_of, IsFromOutside}
-use Rattle.qm_history.specs.Faults.{is_journal}
-use Rattle.qm_history.specs.Step.{after_event, without}
-use Rattle.qm_history.specs.Takeover.{takes_over}
-use Rattle.qm_history.specs.Turn.{IsDecided, IsGoing, IsLost, IsOwn, IsServed, IsStopped, Nothing, has_other_manager, is_down, loss_of}
-use Rattle.qm_history.specs.Turn.{IsLeft as IsLeftBy}
-use Rattle.qm_history.specs.World.{is_live, system_in}
+use Rattle.qm_history.specs.Turn.{IsDecided, IsGoing, IsLost, IsOwn, IsServed, IsStopped, Nothing, has_other_manager, is_down, loss_of, IsLeft as IsLeftBy}
 use Rattle.qm_chest.specs.declared.asking.Came.{Came}
-use Rattle.qm_chest.specs.declared.book.Book.{Book}
-use Rattle.qm_chest.specs.declared.desk.Desk.TheVariants.{Up}
+use Rattle.qm_chest.specs.declared.members.Members.{Members}
+use Rattle.qm_chest.specs.declared.work.Work.TheVariants.{Up}
 use Rattle.qm_chest.specs.At.{IsStateAt}
-use Rattle.qm_chest.specs.Books.{IsBookOf}
-use Rattle.qm_chest.specs.Desk.{IsUp, desk_disk}
+use Rattle.qm_chest.specs.Members.{AreMembersOf}
+use Rattle.qm_chest.specs.Work.{IsUp, work_disk}
 use Rattle.qm_chest.specs.Parts.{Part}
 use Rattle.qm_chest.specs.Steps.{Comes, ComesTo, IsShort, IsStep, goes_then, is_full, is_recorded, is_step}
 use Rattle.qm_chest.specs.Whole.{IsServedAs, both, goes_by, is_leave}
 use Rattle.qm_chest.proofs.Deciding.{full_alone, recorded_step}
 use Rattle.qm_chest.proofs.Holding.{SiteFilesAreAccepted}
-use Rattle.qm_chest.proofs.Kept.{NodesKeepTheirNames, book_step}
+use Rattle.qm_chest.proofs.Kept.{NodesKeepTheirNames, members_step}
 use Rattle.qm_chest.proofs.Moves.{change_is, goes_and, other_stays, set_off, up_without}
-use Rattle.qm_chest.proofs.Relived.{relive, desk_back, full_stop_back, short_back, without_is}
+use Rattle.qm_chest.proofs.Relived.{relive, work_back, full_stop_back, short_back, without_is}
 use Rattle.qm_chest.proofs.Whole.{one_served, own_served, short_served, two_served}
 
 -- ---- the events of a node that goes where a manager elsewhere is told
@@ -80,14 +67,14 @@ recorded_or_full leaves e goes recorded = both_true leaves (is_full (Some e)) (a
     both_true false b is = cc
 
 module _ (accepted : SiteFilesAreAccepted) (names : NodesKeepTheirNames) {D : Type 0} (m : Meaning D) (only_now : (disk : D) (crashed : CrashState) → m.left_since disk (m.moment disk) crashed → IsLeft (m.may_leave disk) crashed)
-    (cap : ℕ) (w : World) (manager : Manager D) (at node now : ℕ) (there : node < length (system_in w).nodes) (book : Book) (state : IsStateAt m cap w (record { book = book; desk = Up manager at }))
+    (cap : ℕ) (w : World) (manager : Manager D) (at node now : ℕ) (there : node < length (system_in w).nodes) (members : Members) (state : IsStateAt m cap w (record { members = members; work = Up manager at }))
     (asked : Call) (is : input_of asked ≡ input.StopNode) (leaves : Bool) (leaves_is : is_leave asked ≡ leaves) (elsewhere : at ≢ node) (down_not : is_down w node input.StopNode ≡ false)
   where
     abbrev old : D
     old = disk_of manager
 
     up : IsUp m cap w manager at
-    up = state.desk
+    up = state.work
 
     outside : IsFromOutside (input_of asked)
     outside = subst IsFromOutside (sym is) tt
@@ -113,8 +100,8 @@ module _ (accepted : SiteFilesAreAccepted) (names : NodesKeepTheirNames) {D : Ty
         (going w node moment asked leaves events leaves_is (subst (λ (b : Bool). GoesBy w node moment b leaves events) (sym other) goes)))
 
     -- memory was short before the manager was asked
-    pub lost_short : (came : Came D) → IsShort m cap w None old came → IsServedAs m cap w node now asked old (record { book = book; desk = came.desk }) [] came.answer
-    lost_short came short = short_served m cap w node now asked there outside accepted only_now (record { book = book; desk = Up manager at }) state came short
+    pub lost_short : (came : Came D) → IsShort m cap w None old came → IsServedAs m cap w node now asked old (record { members = members; work = came.work }) [] came.answer
+    lost_short came short = short_served m cap w node now asked there outside accepted only_now (record { members = members; work = Up manager at }) state came short
 
     module _ (came : Came D) (name : List ℕ) (named : name ≡ node_at node (system_in w).nodes) (comes : Comes m manager at false node now (request.NodeLost (name ∷ [])) None came)
         (accepts : (nodes : List (List ℕ)) → IsOk (applied (system_in w) moment node (request.NodeLost nodes)))
@@ -149,22 +136,22 @@ module _ (accepted : SiteFilesAreAccepted) (names : NodesKeepTheirNames) {D : Ty
             (refl, subst (λ (b : Bool). GoesBy w node moment true b (goes_by node b ∷ event.Full node full.0 full.1 ∷ [])) (sym leaving) (inr (refl, refl)))
 
         -- a node that goes, and that record
-        two_by : (b : Bool) (e : Event) (after : Book) → is_step e ≡ true → IsStep m cap off now now input.StopNode None old came e → IsServed w node now asked (goes_by node b ∷ e ∷ [])
-            → IsStateAt m cap (after_event off e) (record { book = after; desk = came.desk })
-            → IsServedAs m cap w node now asked old (record { book = after; desk = came.desk }) (goes_by node b ∷ e ∷ []) came.answer
+        two_by : (b : Bool) (e : Event) (after : Members) → is_step e ≡ true → IsStep m cap off now now input.StopNode None old came e → IsServed w node now asked (goes_by node b ∷ e ∷ [])
+            → IsStateAt m cap (after_event off e) (record { members = after; work = came.work })
+            → IsServedAs m cap w node now asked old (record { members = after; work = came.work }) (goes_by node b ∷ e ∷ []) came.answer
         two_by true e after is_a_step step served then_ =
-            two_served m cap w node now asked there outside (event.Left node) e came.answer (is_journal came.answer) old (record { book = after; desk = came.desk }) refl is_a_step
-            (subst (λ (i : Input). Part m None w now i (is_journal came.answer) (event.Left node ∷ e ∷ []) old (desk_disk came.desk)) (sym is)
-            (goes_and accepted m only_now cap w manager at up node now input.StopNode (is_journal came.answer) e is_a_step (desk_disk came.desk) live true step.part))
+            two_served m cap w node now asked there outside (event.Left node) e came.answer (is_journal came.answer) old (record { members = after; work = came.work }) refl is_a_step
+            (subst (λ (i : Input). Part m None w now i (is_journal came.answer) (event.Left node ∷ e ∷ []) old (work_disk came.work)) (sym is)
+            (goes_and accepted m only_now cap w manager at up node now input.StopNode (is_journal came.answer) e is_a_step (work_disk came.work) live true step.part))
             served refl (step.told (why_of asked)) then_
         two_by false e after is_a_step step served then_ =
-            two_served m cap w node now asked there outside (event.Stopped node) e came.answer (is_journal came.answer) old (record { book = after; desk = came.desk }) refl is_a_step
-            (subst (λ (i : Input). Part m None w now i (is_journal came.answer) (event.Stopped node ∷ e ∷ []) old (desk_disk came.desk)) (sym is)
-            (goes_and accepted m only_now cap w manager at up node now input.StopNode (is_journal came.answer) e is_a_step (desk_disk came.desk) live false step.part))
+            two_served m cap w node now asked there outside (event.Stopped node) e came.answer (is_journal came.answer) old (record { members = after; work = came.work }) refl is_a_step
+            (subst (λ (i : Input). Part m None w now i (is_journal came.answer) (event.Stopped node ∷ e ∷ []) old (work_disk came.work)) (sym is)
+            (goes_and accepted m only_now cap w manager at up node now input.StopNode (is_journal came.answer) e is_a_step (work_disk came.work) live false step.part))
             served refl (step.told (why_of asked)) then_
 
-        moved : (after : Book) → IsBookOf off after → (o : Option Event) → goes_then leaves o ≡ true → ComesTo m cap off node now now input.StopNode wanted None old came o
-            → IsServedAs m cap w node now asked old (record { book = after; desk = came.desk }) (both (Some (goes_by node leaves)) o) came.answer
+        moved : (after : Members) → AreMembersOf off after → (o : Option Event) → goes_then leaves o ≡ true → ComesTo m cap off node now now input.StopNode wanted None old came o
+            → IsServedAs m cap w node now asked old (record { members = after; work = came.work }) (both (Some (goes_by node leaves)) o) came.answer
         moved after kept None goes comes_to = absurd (nothing leaves goes)
           where
             nothing : (b : Bool) → (false || b && false) ≡ true → ⊥
@@ -174,16 +161,16 @@ module _ (accepted : SiteFilesAreAccepted) (names : NodesKeepTheirNames) {D : Ty
             let step = comes_to.0 in
             let with_ = goes_with e goes comes_to.1 (is_recorded (Some e)) refl in
             two_by leaves e after with_.0 step (served_by (goes_by node leaves ∷ e ∷ []) with_.1)
-            (record { book = book_step names off e after with_.0 step.part.comes.0 kept; desk = step.desk; small = state.small })
+            (record { members = members_step names off e after with_.0 step.part.comes.0 kept; work = step.work; small = state.small })
 
-        pub loss_moves : (after : Book) → after.names.items ≡ book.names.items → after.live.items ≡ slice_set book.live.items node false → after.held.items ≡ book.held.items → after.greatest ≡ book.greatest
+        pub loss_moves : (after : Members) → after.names.items ≡ members.names.items → after.live.items ≡ slice_set members.live.items node false → after.held.items ≡ members.held.items → after.greatest ≡ members.greatest
             → goes_then leaves came.event ≡ true
-            → IsServedAs m cap w node now asked old (record { book = after; desk = came.desk }) (both (Some (goes_by node leaves)) came.event) came.answer
+            → IsServedAs m cap w node now asked old (record { members = after; work = came.work }) (both (Some (goes_by node leaves)) came.event) came.answer
         loss_moves after same lives held greatest goes = moved after (record {
-          names = state.book.names ∙ sym same;
-          live = lives ∙ ap (λ (l : List Bool). slice_set l node false) state.book.live;
-          held = held ∙ state.book.held;
-          greatest = greatest ∙ state.book.greatest;
+          names = state.members.names ∙ sym same;
+          live = lives ∙ ap (λ (l : List Bool). slice_set l node false) state.members.live;
+          held = held ∙ state.members.held;
+          greatest = greatest ∙ state.members.greatest;
         }) came.event goes come
 
         -- ---- it stays
@@ -195,13 +182,13 @@ module _ (accepted : SiteFilesAreAccepted) (names : NodesKeepTheirNames) {D : Ty
         off_is = without_is w node (other_stays node at w.greatest w.manager up.role elsewhere ∙ sym up.role)
 
         stays_full : (need most : ℕ) → leaves ≡ false → IsStep m cap (relive w gone) now now input.StopNode None old came (event.Full node need most)
-            → IsServedAs m cap w node now asked old (record { book = book; desk = came.desk }) (event.Full node need most ∷ []) came.answer
+            → IsServedAs m cap w node now asked old (record { members = members; work = came.work }) (event.Full node need most ∷ []) came.answer
         stays_full need most stops step =
-            one_served m cap w node now asked there outside (event.Full node need most) came.answer (is_journal came.answer) old (record { book = book; desk = came.desk }) refl
-            (subst (λ (i : Input). Part m None w now i (is_journal came.answer) (event.Full node need most ∷ []) old (desk_disk came.desk)) (sym is)
-            (full_stop_back m cap w gone now (is_journal came.answer) node need most old (desk_disk came.desk) step.part))
+            one_served m cap w node now asked there outside (event.Full node need most) came.answer (is_journal came.answer) old (record { members = members; work = came.work }) refl
+            (subst (λ (i : Input). Part m None w now i (is_journal came.answer) (event.Full node need most ∷ []) old (work_disk came.work)) (sym is)
+            (full_stop_back m cap w gone now (is_journal came.answer) node need most old (work_disk came.work) step.part))
             (served_by (event.Full node need most ∷ []) (subst (λ (b : Bool). GoesBy w node moment true b (event.Full node need most ∷ [])) (sym stops) (inr refl)))
-            refl (step.told (why_of asked)) (record { book = state.book; desk = desk_back m cap w gone came.desk step.desk; small = state.small })
+            refl (step.told (why_of asked)) (record { members = state.members; work = work_back m cap w gone came.work step.work; small = state.small })
 
         -- without a record, and with one that has no room, of a node that only stops
         not_recorded : (a b c : Bool) → (a || b && c) ≡ false → a ≡ false
@@ -213,15 +200,15 @@ module _ (accepted : SiteFilesAreAccepted) (names : NodesKeepTheirNames) {D : Ty
         only_stops false h = refl
 
         stays : (o : Option Event) → goes_then leaves o ≡ false → ComesTo m cap (relive w gone) node now now input.StopNode wanted None old came o
-            → IsServedAs m cap w node now asked old (record { book = book; desk = came.desk }) (both o None) came.answer
+            → IsServedAs m cap w node now asked old (record { members = members; work = came.work }) (both o None) came.answer
         stays None goes short = lost_short came (short_back m cap w gone None old came short)
         stays (Some e) goes comes_to =
             let recorded = not_recorded (is_recorded (Some e)) leaves (is_full (Some e)) goes in
             let full = full_alone res node moment wanted e (accepts (node_at node (system_in w).nodes ∷ [])) recorded comes_to.1 in
-            subst (λ (x : Event). IsServedAs m cap w node now asked old (record { book = book; desk = came.desk }) (x ∷ []) came.answer) (sym full.2)
+            subst (λ (x : Event). IsServedAs m cap w node now asked old (record { members = members; work = came.work }) (x ∷ []) came.answer) (sym full.2)
             (stays_full full.0 full.1 (only_stops leaves (subst (λ (x : Event). goes_then leaves (Some x) ≡ false) full.2 goes))
             (subst (λ (x : Event). IsStep m cap (relive w gone) now now input.StopNode None old came x) full.2 comes_to.0))
 
-        pub loss_stays : goes_then leaves came.event ≡ false → IsServedAs m cap w node now asked old (record { book = book; desk = came.desk }) (both came.event None) came.answer
+        pub loss_stays : goes_then leaves came.event ≡ false → IsServedAs m cap w node now asked old (record { members = members; work = came.work }) (both came.event None) came.answer
         loss_stays goes =
             stays came.event goes (subst (λ (v : World). ComesTo m cap v node now now input.StopNode wanted None old came came.event) off_is come)

@@ -1,15 +1,9 @@
 -- A node that goes, or comes up, where a manager elsewhere records it: its event, and then the record's.
-use Rattle.std.proofs.Common.{◌≡◌, ◌≢◌, ℕ, zero, suc, ◌≤◌, Bool, true, false, cond, List, [], ◌∷◌, refl, ◌∙◌, ap, subst, arith, Option, None, Some, Result, Ok, Err}
-use Rattle.std.specs.Prelude.{◌==◌, slice_get, slice_set, unwrap_or}
+use Rattle.std.proofs.Common.{◌≡◌, ◌≢◌, ℕ, zero, suc, ◌≤◌, Bool, true, false, cond, List, [], ◌∷◌, refl, ◌∙◌, ap, subst, arith, Option, None, Some, Result, Ok, Err, ◌==◌, slice_get, slice_set, unwrap_or}
 use Rattle.std.specs.List.{AllByRecursion}
 use Rattle.std.proofs.lemmas.Bool.Decides.{nat_tests}
 use Rattle.qm_disk.specs.Disk.{CrashState, Meaning, IsLeft}
-use Rattle.qm_kinds.specs.declared.input.Input.{Input}
-use Rattle.qm_kinds.specs.declared.refusal.Refusal.{Refusal}
-use Rattle.qm_kinds.specs.declared.request.Request.{Request}
-use Rattle.qm_record.specs.Spelling.{HasSpelling, record_text}
-use Rattle.qm_model.specs.Folding.{system_of}
-use Rattle.qm_model.specs.Outcome.{Accepted}
+use Rattle.qm_history.specs.Common.{Input, Refusal, Request, system_of, Accepted, told_by, CanCome, after_event, unless_of, without, is_live}
 use Rattle.qm_acting.specs.Standing.{standing_of, disk_of}
 use Rattle.qm_acting.specs.declared.manager.Manager.{Manager}
 use Rattle.qm_history.specs.declared.event.Event.{Event}
@@ -17,20 +11,17 @@ use Rattle.qm_history.specs.declared.event.Event.TheVariants as event
 use Rattle.qm_history.specs.declared.world.Role.{Role}
 use Rattle.qm_history.specs.declared.world.World.{World}
 use Rattle.qm_history.specs.Happening.{may_come_first}
-use Rattle.qm_history.specs.Leaving.{told_by}
 use Rattle.qm_history.specs.Room.{Room, HasRoom, failed_by, is_compacted_next, room_after}
-use Rattle.qm_history.specs.Step.{CanCome, after_event, unless_of, without}
 use Rattle.qm_history.specs.Turn.{IsChange, IsDecided}
-use Rattle.qm_history.specs.World.{is_live}
-use Rattle.qm_chest.specs.declared.desk.Desk.TheVariants.{Up}
-use Rattle.qm_chest.specs.Desk.{IsUp}
+use Rattle.qm_chest.specs.declared.work.Work.TheVariants.{Up}
+use Rattle.qm_chest.specs.Work.{IsUp}
 use Rattle.qm_chest.specs.Parts.{HoldSome, Part}
 use Rattle.qm_chest.specs.Steps.{is_recorded, is_step}
 use Rattle.qm_chest.specs.Whole.{goes_by}
 use Rattle.qm_chest.proofs.Going.{may_stay}
 use Rattle.qm_chest.proofs.Holding.{SiteFilesAreAccepted, holds_some}
 use Rattle.qm_chest.proofs.Joining.{joined}
-use Rattle.qm_chest.proofs.Whole.{desk_still}
+use Rattle.qm_chest.proofs.Whole.{work_still}
 
 -- a node that is set is what it was set to, where it has a place
 pub set_off : (live : List Bool) (node : ℕ) → unwrap_or (slice_get (slice_set live node false) node) false ≡ false
@@ -108,13 +99,13 @@ module _ (accepted : SiteFilesAreAccepted) {D : Type 0} (m : Meaning D) (only_no
     between = holds_some accepted (m.seen (disk_of manager)) (standing_of manager).recorded (system_of up.may.log) up.at_rest.holds up.may.site
 
     -- a node stops or leaves, or comes up, and then a step of the manager comes
-    behind : (first : Event) → may_come_first first ≡ true → failed_by w first ≡ None → CanCome HasSpelling w first → ((room : Room) → room_after record_text w room first ≡ room)
-        → ((room : Room) → HasRoom record_text None w room now asked first []) → Part m (failed_by w first) (after_event w first) now asked failed (e ∷ []) (disk_of manager) new
+    behind : (first : Event) → may_come_first first ≡ true → failed_by w first ≡ None → CanCome w first → ((room : Room) → room_after w room first ≡ room)
+        → ((room : Room) → HasRoom None w room now asked first []) → Part m (failed_by w first) (after_event w first) now asked failed (e ∷ []) (disk_of manager) new
         → Part m None w now asked failed (first ∷ e ∷ []) (disk_of manager) new
     behind first comes_first unfailed comes stays has part =
         let of = plain_step e step in
         joined m w now asked failed first (e ∷ []) (disk_of manager) (disk_of manager) new comes_first of.0 of.1 low between
-        (desk_still accepted m cap w only_now (Up manager at) up now asked first comes stays has) part
+        (work_still accepted m cap w only_now (Up manager at) up now asked first comes stays has) part
 
     pub goes_and : is_live w node ≡ true → (leaves : Bool) → Part m None (without w node) now asked failed (e ∷ []) (disk_of manager) new
         → Part m None w now asked failed (goes_by node leaves ∷ e ∷ []) (disk_of manager) new

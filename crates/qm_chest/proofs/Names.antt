@@ -1,13 +1,7 @@
 -- The names of the nodes, by their places.
-use Rattle.std.proofs.Common.{◌≡◌, ℕ, zero, suc, ◌<◌, List, [], ◌∷◌, length, map, refl, ap, subst, arith, Option, Some}
-use Rattle.std.specs.Prelude.{slice_get}
-use Rattle.qm_kinds.specs.declared.system.Node.{Node}
-use Rattle.qm_kinds.specs.declared.input.Input.{Input}
+use Rattle.std.proofs.Common.{◌≡◌, ℕ, zero, suc, ◌<◌, List, [], ◌∷◌, length, map, refl, ap, subst, arith, Option, Some, slice_get}
+use Rattle.qm_history.specs.Common.{Node, Input, System, node_at, cluster, IsFromOutside}
 use Rattle.qm_kinds.specs.declared.input.Input.TheVariants as input
-use Rattle.qm_kinds.specs.declared.system.System.{System}
-use Rattle.qm_model.specs.Standing.{node_at}
-use Rattle.qm_history.specs.Accepted.{cluster}
-use Rattle.qm_history.specs.Calls.{IsFromOutside}
 use Rattle.qm_chest.specs.At.{CanBeAskedFor}
 
 -- the name at a place of the cluster is that of its node

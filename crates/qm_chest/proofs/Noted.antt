@@ -1,21 +1,17 @@
 -- Calls that a chest served, one behind another, are noted.
-use Rattle.std.proofs.Common.{◌≡◌, inl, inr, ℕ, List, [], ◌∷◌, ◌++◌, refl, sym, subst, Option, None, Some, append_assoc}
-use Rattle.std.proofs.lemmas.List.{append-nil}
+use Rattle.std.proofs.Common.{◌≡◌, inl, inr, ℕ, List, [], ◌∷◌, ◌++◌, refl, sym, subst, Option, None, Some, append_assoc, append-nil}
 use Rattle.qm_chest.specs.At.{chest_disk, chest_turns}
 use Rattle.qm_chest.specs.Manager.{HasDone, meaning_of}
 use Rattle.qm_chest.specs.Noted.{AreServed, HasNoted}
 use Rattle.qm_chest.specs.Noting.{HasServed, StandsSince, chest_told, failed_with, note_of}
 use Rattle.qm_chest.specs.declared.chest.Chest.{Chest as CodeChest}
-use Rattle.qm_disk.specs.Disk.{Meaning}
-use Rattle.qm_glog.specs.Records.{IsLog}
+use Rattle.qm_history.specs.Common.{Meaning, after_turn}
 use Rattle.qm_history.specs.declared.call.Answer.{Answer}
 use Rattle.qm_history.specs.declared.call.Call.{Call}
 use Rattle.qm_history.specs.declared.turn.Turn.{Turn}
 use Rattle.qm_history.specs.declared.world.World.{World}
 use Rattle.qm_history.specs.Chest.{Chest as ChestTold, Note, Serves as NotesCall}
-use Rattle.qm_history.specs.Legal.{after_turn}
 use Rattle.qm_history.specs.Serving.{AreMade, LeavesNone}
-use Rattle.qm_record.specs.Spelling.{HasSpelling, record_text}
 
 -- a chest that stands for notes stands for one more behind a call that it served, and that is what the call does
 abbrev pub StandsOn : {D : Type 0} → Meaning D → Type 0
@@ -27,7 +23,7 @@ abbrev pub NotesOn : {D : Type 0} → Meaning D → Type 0
 NotesOn {D} m =
     (cap : ℕ) (w : World) (began : D) (old new : CodeChest D) (failed : ℕ) (notes : List Note) (node now : ℕ) (asked : Call) (told : Answer) → StandsSince m cap w began old failed notes
     → (served : HasServed m cap node now asked old new told)
-    → NotesCall IsLog HasSpelling record_text m w began (chest_told old failed) (chest_told new (failed_with failed told)) notes node now (note_of asked served.one.turn told) told
+    → NotesCall m w began (chest_told old failed) (chest_told new (failed_with failed told)) notes node now (note_of asked served.one.turn told) told
 
 module _ {D : Type 0} (m : Meaning D) (stands_on : StandsOn m) (notes_on : NotesOn m) (cap : ℕ) (w : World) (began : D) where
   -- behind these notes more calls were served

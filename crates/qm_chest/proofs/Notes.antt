@@ -1,14 +1,9 @@
 -- What a chest stands for behind one note more.
-use Rattle.std.proofs.Common.{◌≡◌, inl, inr, ⊎_elim, ℕ, ◌+◌, ◌-◌, ◌^◌, Bool, true, false, cond, List, [], ◌∷◌, ◌++◌, refl, sym, ◌∙◌, ap, subst, arith, Option, None, Some}
-use Rattle.std.specs.Prelude.{◌&&◌, min, count_by, option_to_list, is_some}
+use Rattle.std.proofs.Common.{◌≡◌, inl, inr, ⊎_elim, ℕ, ◌+◌, ◌-◌, ◌^◌, Bool, true, false, cond, List, [], ◌∷◌, ◌++◌, refl, sym, ◌∙◌, ap, subst, arith, Option, None, Some, ◌&&◌, min, count_by, option_to_list, is_some, option_map}
 use Rattle.std.specs.List.{AllByRecursion}
-use Rattle.std.specs.Option.{option_map}
 use Rattle.std.proofs.lemmas.List.Elements.{filter_map-append}
 use Rattle.std.proofs.lemmas.List.Sums.{sum_by_push}
-use Rattle.qm_disk.specs.Disk.{CrashState, Meaning, TellsFaults}
-use Rattle.qm_glog.specs.Records.{IsLog}
-use Rattle.qm_kinds.specs.declared.record.Record.{Record}
-use Rattle.qm_record.specs.Spelling.{HasSpelling, record_text}
+use Rattle.qm_history.specs.Common.{CrashState, Meaning, TellsFaults, Record, HoldIn, HoldWithin, HoldWorld, Keeps, is_journal, tells_disk_fault, after_turn, after_turns, system_in}
 use Rattle.qm_acting.specs.Standing.{standing_of}
 use Rattle.qm_store.specs.Recorded.{Recorded}
 use Rattle.qm_history.specs.declared.call.Answer.{Answer}
@@ -17,23 +12,19 @@ use Rattle.qm_history.specs.declared.turn.Turn.{Turn}
 use Rattle.qm_history.specs.declared.world.Role.{Role}
 use Rattle.qm_history.specs.declared.world.World.{World}
 use Rattle.qm_history.specs.Chest.{AreNoted, AreRoomTold, IsNoted, IsNotedInRoom, MayLeaveNone, Note, TellsWorld, hides_events, image_in, turns_noted}
-use Rattle.qm_history.specs.Contents.{HoldIn, HoldWithin, HoldWorld, Keeps}
-use Rattle.qm_history.specs.Faults.{is_journal, tells_disk_fault}
 use Rattle.qm_history.specs.Leaving.{MayBeLeft, MayBeLeftBehind, MayBeLeftIn}
-use Rattle.qm_history.specs.Legal.{after_turn, after_turns}
 use Rattle.qm_history.specs.Room.{AreAboveCap, IsAboveCap, Room, UnlessFailed, room_after_events}
-use Rattle.qm_history.specs.World.{system_in}
 use Rattle.qm_chest.specs.At.{IsStateAt}
-use Rattle.qm_chest.specs.Desk.{IsDeskAt, desk_disk}
+use Rattle.qm_chest.specs.Work.{IsWorkAt, work_disk}
 use Rattle.qm_chest.specs.Holding.{IsFound}
 use Rattle.qm_chest.specs.Noting.{AreQuiet, chest_told, doubts_at, image_at, role_at, room_behind}
 use Rattle.qm_chest.specs.declared.chest.Chest.{Chest}
-use Rattle.qm_chest.specs.declared.desk.Desk.{Desk}
-use Rattle.qm_chest.specs.declared.desk.Desk.TheVariants.{Up, Down}
+use Rattle.qm_chest.specs.declared.work.Work.{Work}
+use Rattle.qm_chest.specs.declared.work.Work.TheVariants.{Up, Down}
 use Rattle.qm_chest.specs.declared.place.Place.{Place}
 use Rattle.qm_chest.proofs.Holding.{SiteFilesAreAccepted, epoch_of_none, holds_world}
 use Rattle.qm_chest.proofs.Steps.{epoch_of_role}
-use Rattle.qm_chest.proofs.Whole.{desk_crash}
+use Rattle.qm_chest.proofs.Whole.{work_crash}
 
 -- ---- what is kept in memory is the world's
 
@@ -44,42 +35,42 @@ found_tells (Some d) None before log r found = absurd found
 found_tells (Some d) (Some place) before log r found = refl
 
 module _ {D : Type 0} (m : Meaning D) (cap : ℕ) (w : World) where
-  role_told : (desk : Desk D) → IsDeskAt m cap w desk → role_at desk ≡ w.manager
+  role_told : (work : Work D) → IsWorkAt m cap w work → role_at work ≡ w.manager
   role_told (Up manager node) up = ap (λ (epoch : ℕ). Some (record { node = node; epoch = epoch })) up.epoch ∙ sym up.role
   role_told (Down files place) down = sym down.none
 
-  image_told : (desk : Desk D) → IsDeskAt m cap w desk → image_at desk ≡ image_in w
+  image_told : (work : Work D) → IsWorkAt m cap w work → image_at work ≡ image_in w
   image_told (Up manager node) up = ap Some up.system ∙ sym (ap (option_map (λ (role : Role). system_in w)) up.role)
   image_told (Down files place) down = sym (ap (option_map (λ (role : Role). system_in w)) down.none)
 
-  doubt_told : (desk : Desk D) → IsDeskAt m cap w desk → doubts_at desk ≡ is_some w.doubt
+  doubt_told : (work : Work D) → IsWorkAt m cap w work → doubts_at work ≡ is_some w.doubt
   doubt_told (Up manager node) up = sym (ap is_some up.sure)
   doubt_told (Down files place) down =
       let reads = down.holds.reads in found_tells w.doubt place w.log reads.is.log reads.recorded reads.is.found
 
   pub world_told : (chest : Chest D) (failed : ℕ) → IsStateAt m cap w chest.state → TellsWorld w (chest_told chest failed)
   world_told chest failed at = record {
-    manager = role_told chest.state.desk at.desk;
-    image = image_told chest.state.desk at.desk;
-    greatest = at.book.greatest;
-    doubt = doubt_told chest.state.desk at.desk;
-    live = at.book.live;
-    held = at.book.held;
+    manager = role_told chest.state.work at.work;
+    image = image_told chest.state.work at.work;
+    greatest = at.members.greatest;
+    doubt = doubt_told chest.state.work at.work;
+    live = at.members.live;
+    held = at.members.held;
   }
 
   -- ---- and so is what the disks hold
 
   module _ (accepted : SiteFilesAreAccepted) where
-    desk_world : (desk : Desk D) → IsDeskAt m cap w desk → HoldWorld IsLog HasSpelling record_text (m.seen (desk_disk desk)) w
-    desk_world (Up manager node) up =
-        holds_world accepted cap w None (m.seen (desk_disk (Up manager node))) (standing_of manager).recorded up.at_rest.holds up.may
+    work_world : (work : Work D) → IsWorkAt m cap w work → HoldWorld (m.seen (work_disk work)) w
+    work_world (Up manager node) up =
+        holds_world accepted cap w None (m.seen (work_disk (Up manager node))) (standing_of manager).recorded up.at_rest.holds up.may
         (epoch_of_role w (standing_of manager).recorded.says.epoch w.manager (record { node = node; epoch = w.greatest }) up.role up.epoch)
-    desk_world (Down files place) down =
+    work_world (Down files place) down =
         let some = down.holds.reads in
-        holds_world accepted cap w place (m.seen (desk_disk (Down files place))) some.recorded some.holds some.is (epoch_of_none w some.recorded.says.epoch w.manager down.none some.is.epoch)
+        holds_world accepted cap w place (m.seen (work_disk (Down files place))) some.recorded some.holds some.is (epoch_of_none w some.recorded.says.epoch w.manager down.none some.is.epoch)
 
-    pub desk_keeps : (desk : Desk D) → IsDeskAt m cap w desk → Keeps IsLog HasSpelling record_text m w (desk_disk desk)
-    desk_keeps desk at = record { reads = desk_world desk at; crash = λ crashed left. desk_crash accepted m cap w desk at crashed left }
+    pub work_keeps : (work : Work D) → IsWorkAt m cap w work → Keeps m w (work_disk work)
+    work_keeps work at = record { reads = work_world work at; crash = λ crashed left. work_crash accepted m cap w work at crashed left }
 
 -- ---- one note more
 
@@ -104,53 +95,53 @@ first_kept n notes t some = grind (arith, some)
 
 -- each noted turn is one of its call
 abbrev pub IsNotedLast : World → Note → Type 0
-IsNotedLast w n = IsNoted HasSpelling w n.asked n.turn (λ after. Unit {0})
+IsNotedLast w n = IsNoted w n.asked n.turn (λ after. Unit {0})
 
 module _ (last : Note) where
   noted_on : (k : Note) (notes : List Note) (w : World) (turn : Option Turn) → k.turn ≡ turn
-      → ((v : World) → AreNoted HasSpelling v notes → IsNotedLast (after_turns v (turns_noted notes)) last → AreNoted HasSpelling v (notes ++ last ∷ []))
-      → IsNoted HasSpelling w k.asked turn (λ after. AreNoted HasSpelling after notes) → IsNotedLast (after_turns w (turns_noted (k ∷ notes))) last
-      → IsNoted HasSpelling w k.asked turn (λ after. AreNoted HasSpelling after (notes ++ last ∷ []))
+      → ((v : World) → AreNoted v notes → IsNotedLast (after_turns v (turns_noted notes)) last → AreNoted v (notes ++ last ∷ []))
+      → IsNoted w k.asked turn (λ after. AreNoted after notes) → IsNotedLast (after_turns w (turns_noted (k ∷ notes))) last
+      → IsNoted w k.asked turn (λ after. AreNoted after (notes ++ last ∷ []))
   noted_on k notes w None is rest h there = rest w h (subst (λ (turns : List Turn). IsNotedLast (after_turns w turns) last) (first_skipped k notes is) there)
   noted_on k notes w (Some t) is rest h there =
       (h.0, rest (after_turn w t) h.1 (subst (λ (turns : List Turn). IsNotedLast (after_turns w turns) last) (first_kept k notes t is) there))
 
-  pub noted_more : (notes : List Note) (w : World) → AreNoted HasSpelling w notes → IsNotedLast (after_turns w (turns_noted notes)) last → AreNoted HasSpelling w (notes ++ last ∷ [])
+  pub noted_more : (notes : List Note) (w : World) → AreNoted w notes → IsNotedLast (after_turns w (turns_noted notes)) last → AreNoted w (notes ++ last ∷ [])
   noted_more [] w h there = there
   noted_more (k ∷ notes) w h there = noted_on k notes w k.turn refl (λ v so this. noted_more notes v so this) h there
 
 -- what is told of room
 abbrev pub IsInRoomLast : World → Room → Note → Type 0
-IsInRoomLast w room n = IsNotedInRoom record_text HasSpelling w room n.asked n.turn (λ after then. Unit {0})
+IsInRoomLast w room n = IsNotedInRoom w room n.asked n.turn (λ after then. Unit {0})
 
 abbrev pub LastFits : World → Room → List Turn → Note → Type 0
 LastFits w room turns last = AreQuiet turns → IsInRoomLast (after_turns w turns) (room_behind w room turns) last
 
-unless_more : (failed : Bool) (A B : Type 0) → (failed ≡ false → A → B) → UnlessFailed record_text HasSpelling failed A → UnlessFailed record_text HasSpelling failed B
+unless_more : (failed : Bool) (A B : Type 0) → (failed ≡ false → A → B) → UnlessFailed failed A → UnlessFailed failed B
 unless_more true A B goes h = h
 unless_more false A B goes h = goes refl h
 
 module _ (last : Note) where
   room_on : (k : Note) (notes : List Note) (w : World) (room : Room) (turn : Option Turn) → k.turn ≡ turn
-      → ((v : World) (then : Room) → AreRoomTold record_text HasSpelling v then notes → LastFits v then (turns_noted notes) last → AreRoomTold record_text HasSpelling v then (notes ++ last ∷ []))
-      → IsNotedInRoom record_text HasSpelling w room k.asked turn (λ after then. AreRoomTold record_text HasSpelling after then notes) → LastFits w room (turns_noted (k ∷ notes)) last
-      → IsNotedInRoom record_text HasSpelling w room k.asked turn (λ after then. AreRoomTold record_text HasSpelling after then (notes ++ last ∷ []))
+      → ((v : World) (then : Room) → AreRoomTold v then notes → LastFits v then (turns_noted notes) last → AreRoomTold v then (notes ++ last ∷ []))
+      → IsNotedInRoom w room k.asked turn (λ after then. AreRoomTold after then notes) → LastFits w room (turns_noted (k ∷ notes)) last
+      → IsNotedInRoom w room k.asked turn (λ after then. AreRoomTold after then (notes ++ last ∷ []))
   room_on k notes w room None is rest h there = rest w room h (subst (λ (turns : List Turn). LastFits w room turns last) (first_skipped k notes is) there)
   room_on k notes w room (Some t) is rest h there =
       let fits : LastFits w room (t ∷ turns_noted notes) last = subst (λ (turns : List Turn). LastFits w room turns last) (first_kept k notes t is) there in
       let after : World = after_turn w t in
-      let then : Room = room_after_events record_text w room t.events in (
+      let then : Room = room_after_events w room t.events in (
         h.0,
-        unless_more (tells_disk_fault t.events) (AreRoomTold record_text HasSpelling after then notes) (AreRoomTold record_text HasSpelling after then (notes ++ last ∷ []))
+        unless_more (tells_disk_fault t.events) (AreRoomTold after then notes) (AreRoomTold after then (notes ++ last ∷ []))
             (λ quiet told. rest after then told (λ others. fits (quiet, others))) h.1,
       )
 
-  room_last : (w : World) (room : Room) (turn : Option Turn) → IsNotedInRoom record_text HasSpelling w room last.asked turn (λ after then. Unit {0})
-      → IsNotedInRoom record_text HasSpelling w room last.asked turn (λ after then. AreRoomTold record_text HasSpelling after then [])
+  room_last : (w : World) (room : Room) (turn : Option Turn) → IsNotedInRoom w room last.asked turn (λ after then. Unit {0})
+      → IsNotedInRoom w room last.asked turn (λ after then. AreRoomTold after then [])
   room_last w room None h = tt
   room_last w room (Some t) h = h
 
-  pub room_more : (notes : List Note) (w : World) (room : Room) → AreRoomTold record_text HasSpelling w room notes → LastFits w room (turns_noted notes) last → AreRoomTold record_text HasSpelling w room (notes ++ last ∷ [])
+  pub room_more : (notes : List Note) (w : World) (room : Room) → AreRoomTold w room notes → LastFits w room (turns_noted notes) last → AreRoomTold w room (notes ++ last ∷ [])
   room_more [] w room h there = room_last w room last.turn (there tt)
   room_more (k ∷ notes) w room h there = room_on k notes w room k.turn refl (λ v then so this. room_more notes v then so this) h there
 
@@ -160,9 +151,9 @@ pub quiet_more : (turns : List Turn) (t : Turn) → AreQuiet (turns ++ t ∷ [])
 quiet_more [] t h = (tt, h.0)
 quiet_more (s ∷ turns) t h = let rest = quiet_more turns t h.1 in ((h.0, rest.0), rest.1)
 
-pub reach_more : (w : World) (room : Room) (turns : List Turn) (t : Turn) → room_behind w room (turns ++ t ∷ []) ≡ room_after_events record_text (after_turns w turns) (room_behind w room turns) t.events
+pub reach_more : (w : World) (room : Room) (turns : List Turn) (t : Turn) → room_behind w room (turns ++ t ∷ []) ≡ room_after_events (after_turns w turns) (room_behind w room turns) t.events
 reach_more w room [] t = refl
-reach_more w room (s ∷ turns) t = reach_more (after_turn w s) (room_after_events record_text w room s.events) turns t
+reach_more w room (s ∷ turns) t = reach_more (after_turn w s) (room_after_events w room s.events) turns t
 
 pub above_more : (cap : ℕ) (turns : List Turn) (t : Turn) → AreAboveCap cap turns → AllByRecursion (IsAboveCap cap) t.events → AreAboveCap cap (turns ++ t ∷ [])
 above_more cap [] t all one = (one, tt)
@@ -181,15 +172,15 @@ left_behind w [] log left = left
 left_behind w (s ∷ turns) log left = inr (left_behind (after_turn w s) turns log left)
 
 abbrev pub HoldsIn : World → List Turn → CrashState → Type 0
-HoldsIn w turns crashed = HoldIn IsLog HasSpelling record_text crashed w turns
+HoldsIn w turns crashed = HoldIn crashed w turns
 
 pub in_longer : (w : World) (turns : List Turn) (t : Turn) (crashed : CrashState) → HoldsIn w turns crashed → HoldsIn w (turns ++ t ∷ []) crashed
 in_longer w turns t crashed h = record { log = h.log; left = left_longer w turns t h.log h.left; holds = h.holds }
 
-pub in_last : (w : World) (turns : List Turn) (t : Turn) (crashed : CrashState) → HoldWithin IsLog HasSpelling record_text crashed (after_turns w turns) t → HoldsIn w (turns ++ t ∷ []) crashed
+pub in_last : (w : World) (turns : List Turn) (t : Turn) (crashed : CrashState) → HoldWithin crashed (after_turns w turns) t → HoldsIn w (turns ++ t ∷ []) crashed
 in_last w turns t crashed h = record { log = h.log; left = left_last w turns t h.log h.left; holds = h.holds }
 
-pub in_behind : (w : World) (turns : List Turn) (crashed : CrashState) → HoldWorld IsLog HasSpelling record_text crashed (after_turns w turns) → HoldsIn w turns crashed
+pub in_behind : (w : World) (turns : List Turn) (crashed : CrashState) → HoldWorld crashed (after_turns w turns) → HoldsIn w turns crashed
 in_behind w turns crashed h = record { log = h.log; left = left_behind w turns h.log h.left; holds = h.holds }
 
 -- ---- how many disks failed

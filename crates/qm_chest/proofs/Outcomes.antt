@@ -1,10 +1,9 @@
 -- What a takeover comes to, by what its calls answered.
-use Rattle.std.proofs.Common.{◌≡◌, ◌⊎◌, inl, inr, ⊎_elim, ℕ, ◌+◌, ◌-◌, ◌^◌, ◌<◌, ◌≤◌, Bool, true, false, length, refl, sym, ap, subst, arith, Option, None, Some}
-use Rattle.std.specs.Prelude.{IsTrue}
+use Rattle.std.proofs.Common.{◌≡◌, ◌⊎◌, inl, inr, ⊎_elim, ℕ, ◌+◌, ◌-◌, ◌^◌, ◌<◌, ◌≤◌, Bool, true, false, length, refl, sym, ap, subst, arith, Option, None, Some, IsTrue}
 use Rattle.std.proofs.lemmas.Bool.{cases_eq}
 use Rattle.qm_disk.specs.Disk.{CrashState, Meaning, IsLeft, LeavesOnly, TellsFaults}
 use Rattle.qm_disk.proofs.Moments.{weaker}
-use Rattle.qm_kinds.specs.declared.input.Input.{Input}
+use Rattle.qm_history.specs.Common.{Input, cluster, is_journal}
 use Rattle.qm_store.specs.Database.{disk_of as closed_disk}
 use Rattle.qm_store.specs.Opening.{in_next_epoch, next_need}
 use Rattle.qm_store.specs.Recorded.{Recorded, HoldsEither, IsAtRest}
@@ -21,9 +20,7 @@ use Rattle.qm_history.specs.declared.call.Call.{Call}
 use Rattle.qm_history.specs.declared.event.Event.{Event}
 use Rattle.qm_history.specs.declared.event.Event.TheVariants as event
 use Rattle.qm_history.specs.declared.world.World.{World}
-use Rattle.qm_history.specs.Accepted.{cluster}
-use Rattle.qm_history.specs.Faults.{is_journal}
-use Rattle.qm_chest.specs.declared.book.Book.{Book}
+use Rattle.qm_chest.specs.declared.members.Members.{Members}
 use Rattle.qm_chest.specs.declared.place.Place.{Place}
 use Rattle.qm_chest.specs.declared.serving.Served.{Served}
 use Rattle.qm_chest.specs.At.{CanBeAskedFor}
@@ -47,12 +44,12 @@ pub fault_told : {D : Type 0} (m : Meaning D) (before after : D) (P : Type 0) �
 fault_told m before after P is tells = record { fault = λ told. tells.fault is; quiet = λ not. absurd (not refl) }
 
 -- a takeover that failed leaves no manager
-pub failed_leaves : {D : Type 0} (m : Meaning D) (book after : Book) (disk : D) (greatest : ℕ) (closed : Closed D) (place : Option Place) (node tried : ℕ) (kept : Option Bool) (second : Option Event) (told : Answer) (s : Served D)
-    → after.names.items ≡ book.names.items → after.greatest ≤ greatest → TellsFaults m disk (closed_disk closed) (is_journal told ≡ true) → (IsTrue m.tells → KeepsSpare m disk (closed_disk closed))
-    → IsToldBy (both (Some (event.TakeDoubt node tried kept)) second) told → ShowsNodeDuties told → s ≡ failed closed place node tried kept second told → LeavesFrom m book disk greatest after s
-failed_leaves m book after disk greatest closed place node tried kept second told s names rises faults spare says duties is =
-    subst (λ (x : Served _). LeavesFrom m book disk greatest after x) (sym is)
-    (record { desk = tt; names = names; rises = rises; first = refl; faults = faults; spare = spare; down = λ journal. tt; told = says; duties = duties })
+pub failed_leaves : {D : Type 0} (m : Meaning D) (members after : Members) (disk : D) (greatest : ℕ) (closed : Closed D) (place : Option Place) (node tried : ℕ) (kept : Option Bool) (second : Option Event) (told : Answer) (s : Served D)
+    → after.names.items ≡ members.names.items → after.greatest ≤ greatest → TellsFaults m disk (closed_disk closed) (is_journal told ≡ true) → (IsTrue m.tells → KeepsSpare m disk (closed_disk closed))
+    → IsToldBy (both (Some (event.TakeDoubt node tried kept)) second) told → ShowsNodeDuties told → s ≡ failed closed place node tried kept second told → LeavesFrom m members disk greatest after s
+failed_leaves m members after disk greatest closed place node tried kept second told s names rises faults spare says duties is =
+    subst (λ (x : Served _). LeavesFrom m members disk greatest after x) (sym is)
+    (record { work = tt; names = names; rises = rises; first = refl; leaves = record { faults = faults; spare = spare }; down = λ journal. tt; told = says; duties = duties })
 
 -- ---- what was opened
 
@@ -69,41 +66,41 @@ epoch_run m file r next before after closed same run =
 
 -- ---- the whole call, by what it is
 
-pub served_as : {D : Type 0} (m : Meaning D) (cap : ℕ) (w : World) (node now : ℕ) (asked : Call) (old : D) (book : Book) (s t : Served D) → s ≡ t
-    → IsServedAs m cap w node now asked old (record { book = book; desk = t.desk }) (both t.first t.second) t.answer
-    → IsServedAs m cap w node now asked old (record { book = book; desk = s.desk }) (both s.first s.second) s.answer
-served_as m cap w node now asked old book s t is h =
-    subst (λ (x : Served _). IsServedAs m cap w node now asked old (record { book = book; desk = x.desk }) (both x.first x.second) x.answer) (sym is) h
+pub served_as : {D : Type 0} (m : Meaning D) (cap : ℕ) (w : World) (node now : ℕ) (asked : Call) (old : D) (members : Members) (s t : Served D) → s ≡ t
+    → IsServedAs m cap w node now asked old (record { members = members; work = t.work }) (both t.first t.second) t.answer
+    → IsServedAs m cap w node now asked old (record { members = members; work = s.work }) (both s.first s.second) s.answer
+served_as m cap w node now asked old members s t is h =
+    subst (λ (x : Served _). IsServedAs m cap w node now asked old (record { members = members; work = x.work }) (both x.first x.second) x.answer) (sym is) h
 
 -- a number up to a bound is below it or is it
 pub below_or_at : (n bound : ℕ) → n ≤ bound → (n < bound) ⊎ (n ≡ bound)
 below_or_at n bound le = ⊎_elim (λ same. inr same) (λ other. inl (omega (arith, le, other))) (cases_eq n bound)
 
 -- a master without room
-pub full_leaves : {D : Type 0} (m : Meaning D) (book : Book) (disk : D) (closed : Closed D) (node : ℕ) (kept : Option Bool) (need most : ℕ) (s : Served D) → closed_disk closed ≡ disk → need ≤ 2 ^ 64 - 1
-    → (need < 2 ^ 64 - 1 → s ≡ failed closed None node book.greatest kept (Some (event.Full node need most)) (answer.Full (told_of_failed book.greatest kept) need most))
-    → (need ≡ 2 ^ 64 - 1 → s ≡ failed closed None node book.greatest kept None (answer.NoMemory (told_of_failed book.greatest kept)))
-    → LeavesFrom m book disk (book.greatest + 1) book s
-full_leaves m book disk closed node kept need most s same le full short =
-    ⊎_elim (λ below. failed_leaves m book book disk (book.greatest + 1) closed None node book.greatest kept (Some (event.Full node need most)) (answer.Full (told_of_failed book.greatest kept) need most) s
+pub full_leaves : {D : Type 0} (m : Meaning D) (members : Members) (disk : D) (closed : Closed D) (node : ℕ) (kept : Option Bool) (need most : ℕ) (s : Served D) → closed_disk closed ≡ disk → need ≤ 2 ^ 64 - 1
+    → (need < 2 ^ 64 - 1 → s ≡ failed closed None node members.greatest kept (Some (event.Full node need most)) (answer.Full (told_of_failed members.greatest kept) need most))
+    → (need ≡ 2 ^ 64 - 1 → s ≡ failed closed None node members.greatest kept None (answer.NoMemory (told_of_failed members.greatest kept)))
+    → LeavesFrom m members disk (members.greatest + 1) members s
+full_leaves m members disk closed node kept need most s same le full short =
+    ⊎_elim (λ below. failed_leaves m members members disk (members.greatest + 1) closed None node members.greatest kept (Some (event.Full node need most)) (answer.Full (told_of_failed members.greatest kept) need most) s
     refl (omega arith) (same_faults m disk (closed_disk closed) same) (λ tells. keeps_at m disk (closed_disk closed) same) ((λ is. cc), (λ h. refl)) tt (full below))
-    (λ at. failed_leaves m book book disk (book.greatest + 1) closed None node book.greatest kept None (answer.NoMemory (told_of_failed book.greatest kept)) s
+    (λ at. failed_leaves m members members disk (members.greatest + 1) closed None node members.greatest kept None (answer.NoMemory (told_of_failed members.greatest kept)) s
     refl (omega arith) (same_faults m disk (closed_disk closed) same) (λ tells. keeps_at m disk (closed_disk closed) same) ((λ is. cc), (λ h. cc)) tt (short at))
     (below_or_at need (2 ^ 64 - 1) le)
 
 module _ (accepted : SiteFilesAreAccepted) {D : Type 0} (m : Meaning D) (only_now : (disk : D) (crashed : CrashState) → m.left_since disk (m.moment disk) crashed → IsLeft (m.may_leave disk) crashed)
     (counts_now : (disk : D) (t : ℕ) (crashed : CrashState) → t ≤ m.moment disk → IsLeft (m.may_leave disk) crashed → m.left_since disk t crashed)
     (reads : (disk : D) → IsLeft (m.may_leave disk) (m.seen disk)) (cap : ℕ) (w : World) (asked : Call) (kept : Option Bool) (old mid : D) (st : Standing) (read : IsReadOf m cap w kept old st mid)
-    (book : Book) (node now : ℕ) (what : Input) (taking : IsTaking book node what cap w asked) (there : node < length book.names.items) (can : CanBeAskedFor node what)
-    (nodes : cluster st.system ≡ book.names.items)
+    (members : Members) (node now : ℕ) (what : Input) (taking : IsTaking members node what cap w asked) (there : node < length members.names.items) (can : CanBeAskedFor node what)
+    (nodes : cluster st.system ≡ members.names.items)
   where
-    pub master_full : (closed : Closed D) (need most : ℕ) (s : Served D) → closed_disk closed ≡ mid → most < need → need ≡ next_need st.recorded book.greatest node → most ≡ MASTER_CAP → need ≤ 2 ^ 64 - 1
-        → (need < 2 ^ 64 - 1 → s ≡ failed closed None node book.greatest kept (Some (event.Full node need most)) (answer.Full (told_of_failed book.greatest kept) need most))
-        → (need ≡ 2 ^ 64 - 1 → s ≡ failed closed None node book.greatest kept None (answer.NoMemory (told_of_failed book.greatest kept)))
-        → IsServedAs m cap w node now asked old (record { book = book; desk = s.desk }) (both s.first s.second) s.answer
+    pub master_full : (closed : Closed D) (need most : ℕ) (s : Served D) → closed_disk closed ≡ mid → most < need → need ≡ next_need st.recorded members.greatest node → most ≡ MASTER_CAP → need ≤ 2 ^ 64 - 1
+        → (need < 2 ^ 64 - 1 → s ≡ failed closed None node members.greatest kept (Some (event.Full node need most)) (answer.Full (told_of_failed members.greatest kept) need most))
+        → (need ≡ 2 ^ 64 - 1 → s ≡ failed closed None node members.greatest kept None (answer.NoMemory (told_of_failed members.greatest kept)))
+        → IsServedAs m cap w node now asked old (record { members = members; work = s.work }) (both s.first s.second) s.answer
     master_full closed need most s same over need_is most_is le full short =
-        ⊎_elim (λ below. served_as m cap w node now asked old book s (failed closed None node book.greatest kept (Some (event.Full node need most)) (answer.Full (told_of_failed book.greatest kept) need most)) (full below)
-        (failing.master_full_served accepted m only_now counts_now reads cap w asked kept old mid st read book node now what taking there can nodes closed same need most over need_is most_is below))
-        (λ at. served_as m cap w node now asked old book s (failed closed None node book.greatest kept None (answer.NoMemory (told_of_failed book.greatest kept))) (short at)
-        (failing.short_served accepted m only_now counts_now reads cap w asked kept old mid st read book node now what taking there can nodes closed same))
+        ⊎_elim (λ below. served_as m cap w node now asked old members s (failed closed None node members.greatest kept (Some (event.Full node need most)) (answer.Full (told_of_failed members.greatest kept) need most)) (full below)
+        (failing.master_full_served accepted m only_now counts_now reads cap w asked kept old mid st read members node now what taking there can nodes closed same need most over need_is most_is below))
+        (λ at. served_as m cap w node now asked old members s (failed closed None node members.greatest kept None (answer.NoMemory (told_of_failed members.greatest kept))) (short at)
+        (failing.short_served accepted m only_now counts_now reads cap w asked kept old mid st read members node now what taking there can nodes closed same))
         (below_or_at need (2 ^ 64 - 1) le)

@@ -1,23 +1,11 @@
 -- What a manager at work shows, and a node that it fences: what comes of it in a world.
-use Rattle.std.proofs.Common.{◌≡◌, ◌≢◌, ℕ, Bool, true, false, cond, List, [], ◌∷◌, refl, sym, ◌∙◌, ap, subst, arith, Option, None, Some, Result, Ok, Err}
-use Rattle.std.specs.Prelude.{◌==◌}
+use Rattle.std.proofs.Common.{◌≡◌, ◌≢◌, ℕ, Bool, true, false, cond, List, [], ◌∷◌, refl, sym, ◌∙◌, ap, subst, arith, Option, None, Some, Result, Ok, Err, ◌==◌, option_and_then, option_map}
 use Rattle.std.proofs.lemmas.Bool.Decides.{nat_tests}
-use Rattle.std.specs.Option.{option_and_then, option_map}
 use Rattle.qm_disk.specs.Disk.{CrashState, Meaning, IsLeft}
-use Rattle.qm_kinds.specs.declared.input.Input.{Input}
+use Rattle.qm_history.specs.Common.{Input, Query, Row, Refusal, Request, System, Duty, acting, duties, node_at, CanCome, held_by, role_in, system_in}
 use Rattle.qm_kinds.specs.declared.input.Input.TheVariants as input
-use Rattle.qm_kinds.specs.declared.query.Query.{Query}
-use Rattle.qm_kinds.specs.declared.query.Row.{Row}
-use Rattle.qm_kinds.specs.declared.refusal.Refusal.{Refusal}
-use Rattle.qm_kinds.specs.declared.request.Request.{Request}
 use Rattle.qm_kinds.specs.declared.request.Request.TheVariants as request
-use Rattle.qm_kinds.specs.declared.system.System.{System}
-use Rattle.qm_kinds.specs.declared.work.Duty.{Duty}
-use Rattle.qm_model.specs.Acting.{acting}
-use Rattle.qm_model.specs.Duties.{duties}
 use Rattle.qm_model.specs.Rows.{ManagerRole, view}
-use Rattle.qm_model.specs.Standing.{node_at}
-use Rattle.qm_record.specs.Spelling.{HasSpelling, record_text}
 use Rattle.qm_acting.specs.Standing.{standing_of, disk_of}
 use Rattle.qm_acting.specs.declared.manager.Manager.{Manager}
 use Rattle.qm_history.specs.declared.call.Answer.TheVariants as answer
@@ -28,16 +16,14 @@ use Rattle.qm_history.specs.declared.world.Role.{Role}
 use Rattle.qm_history.specs.declared.world.World.{World}
 use Rattle.qm_history.specs.Answers.{rows_shown}
 use Rattle.qm_history.specs.Room.{Room, HasRoom, room_after}
-use Rattle.qm_history.specs.Step.{CanCome}
 use Rattle.qm_history.specs.Turn.{Beside, FencedOr, IsAsked, IsViewed, fence, fence_of}
-use Rattle.qm_history.specs.World.{held_by, role_in, system_in}
 use Rattle.qm_chest.specs.declared.asking.Came.{Came}
-use Rattle.qm_chest.specs.declared.desk.Desk.TheVariants.{Up}
-use Rattle.qm_chest.specs.Desk.{IsUp}
+use Rattle.qm_chest.specs.declared.work.Work.TheVariants.{Up}
+use Rattle.qm_chest.specs.Work.{IsUp}
 use Rattle.qm_chest.specs.Parts.{Part}
 use Rattle.qm_chest.specs.Steps.{ComesTo, OwnComesTo}
 use Rattle.qm_chest.proofs.Holding.{SiteFilesAreAccepted}
-use Rattle.qm_chest.proofs.Whole.{desk_still}
+use Rattle.qm_chest.proofs.Whole.{work_still}
 
 module _ (accepted : SiteFilesAreAccepted) {D : Type 0} (m : Meaning D) (only_now : (disk : D) (crashed : CrashState) → m.left_since disk (m.moment disk) crashed → IsLeft (m.may_leave disk) crashed)
     (cap : ℕ) (w : World) (manager : Manager D) (at : ℕ) (up : IsUp m cap w manager at) (node reading acted : ℕ) (beside : Beside) (took : Option Takeover) (mo : ℕ) (mo_is : mo ≡ acting reading (standing_of manager).system)
@@ -48,19 +34,19 @@ module _ (accepted : SiteFilesAreAccepted) {D : Type 0} (m : Meaning D) (only_no
     at_is : mo ≡ acting reading (system_in w)
     at_is = mo_is ∙ ap (acting reading) up.system
 
-    quiet : (asked : Input) (e : Event) → CanCome HasSpelling w e → ((room : Room) → room_after record_text w room e ≡ room) → ((room : Room) → HasRoom record_text None w room reading asked e [])
+    quiet : (asked : Input) (e : Event) → CanCome w e → ((room : Room) → room_after w room e ≡ room) → ((room : Room) → HasRoom None w room reading asked e [])
         → Part m None w reading asked false (e ∷ []) disk disk
-    quiet asked e comes stays has = desk_still accepted m cap w only_now (Up manager at) up reading asked e comes stays has
+    quiet asked e comes stays has = work_still accepted m cap w only_now (Up manager at) up reading asked e comes stays has
 
     -- ---- fetches and listings
 
     pub fetch_comes : (known : List ℕ) (list : List Duty) → list ≡ duties (standing_of manager).system (node_at node (standing_of manager).system.nodes) known
         → OwnComesTo m cap w node reading acted (input.Fetch known) beside took disk
-        (record { desk = Up manager at; event = Some (event.Shown node mo (input.Fetch known)); answer = answer.Duties took mo list }) (Some (event.Shown node mo (input.Fetch known)))
+        (record { work = Up manager at; event = Some (event.Shown node mo (input.Fetch known)); answer = answer.Duties took mo list }) (Some (event.Shown node mo (input.Fetch known)))
     fetch_comes known list is = (
       record {
         part = quiet (input.Fetch known) (event.Shown node mo (input.Fetch known)) tt (λ room. refl) (λ room. tt);
-        desk = up;
+        work = up;
         told = λ because. ap (answer.Duties took mo) (is ∙ ap (λ (s : System). duties s (node_at node s.nodes) known) up.system);
       },
       λ called. ap (λ (x : ℕ). event.Shown node x (input.Fetch known) ∷ []) at_is,
@@ -87,12 +73,12 @@ module _ (accepted : SiteFilesAreAccepted) {D : Type 0} (m : Meaning D) (only_no
 
     pub shown_comes : (query : Query) (name : List ℕ) (rows : List Row) → name ≡ node_at at (standing_of manager).system.nodes → view_is query name (Ok rows)
         → OwnComesTo m cap w node reading acted (input.Show query) beside took disk
-        (record { desk = Up manager at; event = Some (event.Shown node mo (input.Show query)); answer = answer.Shown took mo rows }) (Some (event.Shown node mo (input.Show query)))
+        (record { work = Up manager at; event = Some (event.Shown node mo (input.Show query)); answer = answer.Shown took mo rows }) (Some (event.Shown node mo (input.Show query)))
     shown_comes query name rows named is =
         let there : view (system_in w) (role_in w) query ≡ Ok rows = in_world query name (Ok rows) named is in (
           record {
             part = quiet (input.Show query) (event.Shown node mo (input.Show query)) tt (λ room. refl) (λ room. tt);
-            desk = up;
+            work = up;
             told = λ because. ap (λ (res : Result (List Row) Refusal). answer.Shown took mo (rows_shown res)) (sym there);
           },
           λ called. subst (λ (res : Result (List Row) Refusal). IsViewed node (acting reading (system_in w)) query res (event.Shown node mo (input.Show query) ∷ [])) (sym there)
@@ -101,12 +87,12 @@ module _ (accepted : SiteFilesAreAccepted) {D : Type 0} (m : Meaning D) (only_no
 
     pub view_refused_comes : (query : Query) (name : List ℕ) (refusal : Refusal) → name ≡ node_at at (standing_of manager).system.nodes → view_is query name (Err refusal)
         → OwnComesTo m cap w node reading acted (input.Show query) beside took disk
-        (record { desk = Up manager at; event = Some (event.Refused node mo (input.Show query) refusal); answer = answer.Refused took refusal }) (Some (event.Refused node mo (input.Show query) refusal))
+        (record { work = Up manager at; event = Some (event.Refused node mo (input.Show query) refusal); answer = answer.Refused took refusal }) (Some (event.Refused node mo (input.Show query) refusal))
     view_refused_comes query name refusal named is =
         let there : view (system_in w) (role_in w) query ≡ Err refusal = in_world query name (Err refusal) named is in (
           record {
             part = quiet (input.Show query) (event.Refused node mo (input.Show query) refusal) tt (λ room. refl) (λ room. tt);
-            desk = up;
+            work = up;
             told = λ because. refl;
           },
           λ called. subst (λ (res : Result (List Row) Refusal). IsViewed node (acting reading (system_in w)) query res (event.Refused node mo (input.Show query) refusal ∷ [])) (sym there)
@@ -131,14 +117,14 @@ module _ (accepted : SiteFilesAreAccepted) {D : Type 0} (m : Meaning D) (only_no
 
     pub fence_comes : (held current : ℕ) → held ≡ held_by w node → current ≡ (standing_of manager).recorded.says.epoch → held ≢ current
         → OwnComesTo m cap w node reading acted (input.Ask request.Tick) beside took disk
-        (record { desk = Up manager at; event = Some (event.Fenced node held current); answer = answer.Fenced held current }) (Some (event.Fenced node held current))
+        (record { work = Up manager at; event = Some (event.Fenced node held current); answer = answer.Fenced held current }) (Some (event.Fenced node held current))
     fence_comes held current held_is current_is differ =
         let greatest : current ≡ w.greatest = current_is ∙ up.epoch in
         let is : fence w node ≡ Some (event.Fenced node held current) = fenced_by w.manager up.role held current held_is greatest differ in (
           record {
             part = quiet (input.Ask request.Tick) (event.Fenced node held current)
                 (ap (option_map (λ (role : Role). role.epoch)) up.role ∙ ap (λ (x : ℕ). Some x) (sym greatest), held_is, differ) (λ room. refl) (λ room. tt);
-            desk = up;
+            work = up;
             told = λ because. refl;
           },
           λ called. subst (λ (o : Option Event). FencedOr o (IsAsked w node reading request.Tick (event.Fenced node held current ∷ [])) (event.Fenced node held current ∷ [])) (sym is) refl,

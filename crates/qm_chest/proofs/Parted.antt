@@ -1,13 +1,9 @@
 -- What a call does behind its takeover, by the parts into which the takeover was taken.
-use Rattle.std.proofs.Common.{◌≡◌, ◌≢◌, ℕ, ◌<◌, true, false, List, [], ◌∷◌, length, refl, sym, ◌∙◌, ap, subst, arith, Option, None, Some}
-use Rattle.std.specs.Prelude.{slice_get, slice_set, unwrap_or, IsTrue}
-use Rattle.qm_disk.specs.Disk.{CrashState, Meaning, IsLeft, TellsFaults}
-use Rattle.qm_kinds.specs.declared.input.Input.{Input}
+use Rattle.std.proofs.Common.{◌≡◌, ◌≢◌, ℕ, ◌<◌, true, false, List, [], ◌∷◌, length, refl, sym, ◌∙◌, ap, subst, arith, Option, None, Some, slice_get, slice_set, unwrap_or}
+use Rattle.qm_disk.specs.Disk.{CrashState, Meaning, IsLeft}
+use Rattle.qm_history.specs.Common.{Input, Refusal, acting, plain, is_journal, tells_disk_fault, after_event, ATakeover}
 use Rattle.qm_kinds.specs.declared.input.Input.TheVariants as input
-use Rattle.qm_kinds.specs.declared.refusal.Refusal.{Refusal}
 use Rattle.qm_kinds.specs.declared.reply.Act.TheVariants as act
-use Rattle.qm_model.specs.Acting.{acting}
-use Rattle.qm_acting.specs.Spare.{KeepsSpare}
 use Rattle.qm_acting.proofs.Spare.{keeps_at}
 use Rattle.qm_acting.specs.Standing.{disk_of, standing_of}
 use Rattle.qm_acting.specs.declared.manager.Manager.{Manager}
@@ -16,19 +12,14 @@ use Rattle.qm_history.specs.declared.call.Answer.TheVariants as answer
 use Rattle.qm_history.specs.declared.call.Takeover.{Takeover}
 use Rattle.qm_history.specs.declared.event.Event.{Event}
 use Rattle.qm_history.specs.declared.event.Event.TheVariants as event
-use Rattle.qm_history.specs.Answers.{plain}
-use Rattle.qm_history.specs.Faults.{is_journal, tells_disk_fault}
-use Rattle.qm_history.specs.Step.{after_event}
-use Rattle.qm_history.specs.Turn.{ATakeover}
 use Rattle.qm_chest.specs.declared.asking.Came.{Came}
-use Rattle.qm_chest.specs.declared.book.Book.{Book}
-use Rattle.qm_chest.specs.declared.desk.Desk.TheVariants.{Up}
+use Rattle.qm_chest.specs.declared.members.Members.{Members}
+use Rattle.qm_chest.specs.declared.work.Work.TheVariants.{Up}
 use Rattle.qm_chest.specs.declared.serving.Served.{Served}
 use Rattle.qm_chest.specs.declared.taken.Taken.{Taken}
-use Rattle.qm_chest.specs.At.{CanBeAskedFor, IsDeskOf, IsWithout}
-use Rattle.qm_chest.specs.Desk.{desk_disk}
+use Rattle.qm_chest.specs.At.{CanBeAskedFor, IsWorkOf}
 use Rattle.qm_chest.specs.Duties.{ShowsNodeDuties}
-use Rattle.qm_chest.specs.Steps.{IsToldStep, OwnComes, is_plain, start_refusal_of}
+use Rattle.qm_chest.specs.Steps.{IsToldStep, LeavesOwn, LeavesStep, OwnComes, OwnStep, is_plain, start_refusal_of}
 use Rattle.qm_chest.specs.Taking.{FollowsTaken, LeavesFrom, event_of, told_of}
 use Rattle.qm_chest.specs.Whole.{IsToldBy, both}
 use Rattle.qm_chest.proofs.Following as following
@@ -46,37 +37,34 @@ told_behind first took None told step = subst (λ (a : Answer). IsToldBy (first 
 told_behind first took (Some e) told step = (not_full told step.1, λ hides. step.2)
 
 -- a manager is up, and no disk failed
-pub up_leaves : {D : Type 0} (m : Meaning D) (book after : Book) (disk : D) (manager : Manager D) (node : ℕ) (first : Event) (second : Option Event) (told : Answer) (s : Served D)
-    → IsDeskOf m book.names.items (Up manager node) → after.names.items ≡ book.names.items → after.greatest ≡ book.greatest → disk_of manager ≡ disk → is_journal told ≡ false
-    → IsToldBy (both (Some first) second) told → ShowsNodeDuties told → s ≡ record { desk = Up manager node; first = Some first; second = second; answer = told } → LeavesFrom m book disk book.greatest after s
-up_leaves m book after disk manager node first second told s desk names greatest same quiet says duties is =
-    subst (λ (x : Served _). LeavesFrom m book disk book.greatest after x) (sym is) (record {
-      desk = subst (λ (l : List (List ℕ)). IsDeskOf m l (Up manager node)) (sym names) desk;
+pub up_leaves : {D : Type 0} (m : Meaning D) (members after : Members) (disk : D) (manager : Manager D) (node : ℕ) (first : Event) (second : Option Event) (told : Answer) (s : Served D)
+    → IsWorkOf m members.names.items (Up manager node) → after.names.items ≡ members.names.items → after.greatest ≡ members.greatest → disk_of manager ≡ disk → is_journal told ≡ false
+    → IsToldBy (both (Some first) second) told → ShowsNodeDuties told → s ≡ record { work = Up manager node; first = Some first; second = second; answer = told } → LeavesFrom m members disk members.greatest after s
+up_leaves m members after disk manager node first second told s work names greatest same quiet says duties is =
+    subst (λ (x : Served _). LeavesFrom m members disk members.greatest after x) (sym is) (record {
+      work = subst (λ (l : List (List ℕ)). IsWorkOf m l (Up manager node)) (sym names) work;
       names = names;
       rises = omega (arith, greatest);
       first = refl;
-      faults = record { fault = λ journal. let both_ : false ≡ true = sym quiet ∙ journal in cc; quiet = λ not. ap m.faults same };
-      spare = λ tells. keeps_at m disk (disk_of manager) same;
+      leaves = record { faults = record { fault = λ journal. let both_ : false ≡ true = sym quiet ∙ journal in cc; quiet = λ not. ap m.faults same }; spare = λ tells. keeps_at m disk (disk_of manager) same };
       down = λ journal. let both_ : false ≡ true = sym quiet ∙ journal in cc;
       told = says;
       duties = duties;
     })
 
 -- a step of that manager
-pub step_leaves : {D : Type 0} (m : Meaning D) (book : Book) (disk : D) (first : Event) (took : Option Takeover) (came : Came D) (s : Served D) → IsDeskOf m book.names.items came.desk
-    → (is_journal came.answer ≡ true → IsWithout came.desk) → IsToldStep took came.event came.answer → TellsFaults m disk (desk_disk came.desk) (is_journal came.answer ≡ true)
-    → (IsTrue m.tells → KeepsSpare m disk (desk_disk came.desk)) → s ≡ record { desk = came.desk; first = Some first; second = came.event; answer = came.answer } → LeavesFrom m book disk book.greatest book s
-step_leaves m book disk first took came s desk down step faults spare is =
-    subst (λ (x : Served _). LeavesFrom m book disk book.greatest book x) (sym is) (record {
-      desk = desk;
+pub step_leaves : {D : Type 0} (m : Meaning D) (members : Members) (disk : D) (first : Event) (took : Option Takeover) (came : Came D) (s : Served D)
+    → LeavesStep m (IsWorkOf m members.names.items) took disk came → s ≡ record { work = came.work; first = Some first; second = came.event; answer = came.answer } → LeavesFrom m members disk members.greatest members s
+step_leaves m members disk first took came s left is =
+    subst (λ (x : Served _). LeavesFrom m members disk members.greatest members x) (sym is) (record {
+      work = left.work;
       names = refl;
       rises = omega arith;
       first = refl;
-      faults = faults;
-      spare = spare;
-      down = down;
-      told = told_behind first took came.event came.answer step;
-      duties = shows_duties took came.event came.answer step;
+      leaves = left.leaves;
+      down = left.down;
+      told = told_behind first took came.event came.answer left.told;
+      duties = shows_duties took came.event came.answer left.told;
     })
 
 -- ---- where they tell
@@ -85,105 +73,103 @@ step_leaves m book disk first took came s desk down step faults spare is =
 abbrev pub PartsOf : Type 0 → Type 0
 PartsOf D = Manager D × ℕ × Event × Takeover
 
-module _ {D : Type 0} (m : Meaning D) (book : Book) (taken : Taken D) (node : ℕ) (desk : IsDeskOf m book.names.items (Up taken.manager node)) (q : PartsOf D)
+module _ {D : Type 0} (m : Meaning D) (members : Members) (taken : Taken D) (node : ℕ) (work : IsWorkOf m members.names.items (Up taken.manager node)) (q : PartsOf D)
     (q_is : q ≡ (taken.manager, taken.moment, event_of node taken, told_of taken)) (s : Served D)
   where
     same_disk : disk_of q.0 ≡ disk_of taken.manager
     same_disk = ap (λ (p : PartsOf D). disk_of p.0) q_is
 
-    same_desk : IsDeskOf m book.names.items (Up q.0 node)
-    same_desk = subst (λ (p : PartsOf D). IsDeskOf m book.names.items (Up p.0 node)) (sym q_is) desk
+    same_work : IsWorkOf m members.names.items (Up q.0 node)
+    same_work = subst (λ (p : PartsOf D). IsWorkOf m members.names.items (Up p.0 node)) (sym q_is) work
 
-    pub managing_leaves : (name : List ℕ) → s ≡ record { desk = Up q.0 node; first = Some q.2; second = None; answer = answer.Done (Some q.3) q.1 (plain (act.Managing name q.3.epoch)) }
-        → LeavesFrom m book (disk_of taken.manager) book.greatest book s
+    pub managing_leaves : (name : List ℕ) → s ≡ record { work = Up q.0 node; first = Some q.2; second = None; answer = answer.Done (Some q.3) q.1 (plain (act.Managing name q.3.epoch)) }
+        → LeavesFrom m members (disk_of taken.manager) members.greatest members s
     managing_leaves name is =
-        up_leaves m book book (disk_of taken.manager) q.0 node q.2 None (answer.Done (Some q.3) q.1 (plain (act.Managing name q.3.epoch))) s same_desk refl refl same_disk refl
+        up_leaves m members members (disk_of taken.manager) q.0 node q.2 None (answer.Done (Some q.3) q.1 (plain (act.Managing name q.3.epoch))) s same_work refl refl same_disk refl
         ((λ same. cc), (λ h. subst (λ (p : PartsOf D). false ≡ tells_disk_fault (p.2 ∷ [])) (sym q_is) refl)) tt is
 
-    pub refused_leaves : (came : Came D) (refusal : Refusal) (moment : ℕ) → came ≡ record { desk = Up q.0 node; event = Some (event.Refused node moment input.StartNode refusal); answer = answer.Refused (Some q.3) refusal }
-        → s ≡ record { desk = came.desk; first = Some q.2; second = came.event; answer = came.answer } → LeavesFrom m book (disk_of taken.manager) book.greatest book s
+    pub refused_leaves : (came : Came D) (refusal : Refusal) (moment : ℕ) → came ≡ record { work = Up q.0 node; event = Some (event.Refused node moment input.StartNode refusal); answer = answer.Refused (Some q.3) refusal }
+        → s ≡ record { work = came.work; first = Some q.2; second = came.event; answer = came.answer } → LeavesFrom m members (disk_of taken.manager) members.greatest members s
     refused_leaves came refusal moment came_is is =
-        up_leaves m book book (disk_of taken.manager) q.0 node q.2 (Some (event.Refused node moment input.StartNode refusal)) (answer.Refused (Some q.3) refusal) s same_desk refl refl same_disk refl
-        ((λ same. cc), (λ h. refl)) tt (is ∙ ap (λ (x : Came D). record { desk = x.desk; first = Some q.2; second = x.event; answer = x.answer }) came_is)
+        up_leaves m members members (disk_of taken.manager) q.0 node q.2 (Some (event.Refused node moment input.StartNode refusal)) (answer.Refused (Some q.3) refusal) s same_work refl refl same_disk refl
+        ((λ same. cc), (λ h. refl)) tt (is ∙ ap (λ (x : Came D). record { work = x.work; first = Some q.2; second = x.event; answer = x.answer }) came_is)
 
-    pub started_leaves : (after : Book) (came : Came D) (name : List ℕ) → after.names.items ≡ book.names.items → after.greatest ≡ book.greatest
-        → came ≡ record { desk = Up q.0 node; event = Some (event.Started node); answer = answer.Done (Some q.3) q.1 (plain (act.NodeStarted name)) }
-        → s ≡ record { desk = came.desk; first = Some q.2; second = came.event; answer = came.answer } → LeavesFrom m book (disk_of taken.manager) book.greatest after s
+    pub started_leaves : (after : Members) (came : Came D) (name : List ℕ) → after.names.items ≡ members.names.items → after.greatest ≡ members.greatest
+        → came ≡ record { work = Up q.0 node; event = Some (event.Started node); answer = answer.Done (Some q.3) q.1 (plain (act.NodeStarted name)) }
+        → s ≡ record { work = came.work; first = Some q.2; second = came.event; answer = came.answer } → LeavesFrom m members (disk_of taken.manager) members.greatest after s
     started_leaves after came name names greatest came_is is =
-        up_leaves m book after (disk_of taken.manager) q.0 node q.2 (Some (event.Started node)) (answer.Done (Some q.3) q.1 (plain (act.NodeStarted name))) s same_desk names greatest same_disk refl
-        ((λ same. cc), (λ h. refl)) tt (is ∙ ap (λ (x : Came D). record { desk = x.desk; first = Some q.2; second = x.event; answer = x.answer }) came_is)
+        up_leaves m members after (disk_of taken.manager) q.0 node q.2 (Some (event.Started node)) (answer.Done (Some q.3) q.1 (plain (act.NodeStarted name))) s same_work names greatest same_disk refl
+        ((λ same. cc), (λ h. refl)) tt (is ∙ ap (λ (x : Came D). record { work = x.work; first = Some q.2; second = x.event; answer = x.answer }) came_is)
 
-    pub own_leaves : (came : Came D) → IsDeskOf m book.names.items came.desk → (is_journal came.answer ≡ true → IsWithout came.desk) → IsToldStep (Some q.3) came.event came.answer
-        → TellsFaults m (disk_of q.0) (desk_disk came.desk) (is_journal came.answer ≡ true)
-        → (IsTrue m.tells → KeepsSpare m (disk_of q.0) (desk_disk came.desk)) → s ≡ record { desk = came.desk; first = Some q.2; second = came.event; answer = came.answer }
-        → LeavesFrom m book (disk_of taken.manager) book.greatest book s
-    own_leaves came there down step faults spare is =
-        step_leaves m book (disk_of taken.manager) q.2 (Some q.3) came s there down step (subst (λ (d : D). TellsFaults m d (desk_disk came.desk) (is_journal came.answer ≡ true)) same_disk faults)
-        (λ tells. subst (λ (d : D). KeepsSpare m d (desk_disk came.desk)) same_disk (spare tells)) is
+    pub own_leaves : (came : Came D) → LeavesOwn m members (Some q.3) q.0 came → s ≡ record { work = came.work; first = Some q.2; second = came.event; answer = came.answer }
+        → LeavesFrom m members (disk_of taken.manager) members.greatest members s
+    own_leaves came left is =
+        step_leaves m members (disk_of taken.manager) q.2 (Some q.3) came s
+        (subst (λ (d : D). LeavesStep m (IsWorkOf m members.names.items) (Some q.3) d came) same_disk left) is
 
 module _ (accepted : SiteFilesAreAccepted) (names : NodesKeepTheirNames) {D : Type 0} (m : Meaning D)
-    (only_now : (disk : D) (crashed : CrashState) → m.left_since disk (m.moment disk) crashed → IsLeft (m.may_leave disk) crashed) (book : Book) (taken : Taken D) (node now : ℕ) (what : Input)
-    (there : node < length book.names.items) (can : CanBeAskedFor node what) (q : PartsOf D) (q_is : q ≡ (taken.manager, taken.moment, event_of node taken, told_of taken)) (s : Served D)
+    (only_now : (disk : D) (crashed : CrashState) → m.left_since disk (m.moment disk) crashed → IsLeft (m.may_leave disk) crashed) (members : Members) (taken : Taken D) (node now : ℕ) (what : Input)
+    (there : node < length members.names.items) (can : CanBeAskedFor node what) (q : PartsOf D) (q_is : q ≡ (taken.manager, taken.moment, event_of node taken, told_of taken)) (s : Served D)
   where
-    pub managing_follows : (on : Option (List (List ℕ))) (name : List ℕ) → what ≡ input.TakeManager on → slice_get book.names.items node ≡ Some name
-        → s ≡ record { desk = Up q.0 node; first = Some q.2; second = None; answer = answer.Done (Some q.3) q.1 (plain (act.Managing name q.3.epoch)) } → FollowsTaken m book taken node now what book s
-    managing_follows on name on_is found is = λ cap w asked old before same taking took.
-        served_as m cap w node now asked old book s
-        (record { desk = Up taken.manager node; first = Some (event_of node taken); second = None; answer = answer.Done (Some (told_of taken)) taken.moment (plain (act.Managing name taken.epoch)) })
-        (is ∙ ap (λ (p : PartsOf D). record { desk = Up p.0 node; first = Some p.2; second = None; answer = answer.Done (Some p.3) p.1 (plain (act.Managing name p.3.epoch)) }) q_is)
-        (following.managed accepted m only_now cap w asked old before node now what taking (subst (λ (l : List (List ℕ)). node < length l) (sym same) there) can book taken took on on_is name
+    pub managing_follows : (on : Option (List (List ℕ))) (name : List ℕ) → what ≡ input.TakeManager on → slice_get members.names.items node ≡ Some name
+        → s ≡ record { work = Up q.0 node; first = Some q.2; second = None; answer = answer.Done (Some q.3) q.1 (plain (act.Managing name q.3.epoch)) } → FollowsTaken m members taken node now what members s
+    managing_follows on name on_is found is = λ tells cap w asked old before same taking took.
+        served_as m cap w node now asked old members s
+        (record { work = Up taken.manager node; first = Some (event_of node taken); second = None; answer = answer.Done (Some (told_of taken)) taken.moment (plain (act.Managing name taken.epoch)) })
+        (is ∙ ap (λ (p : PartsOf D). record { work = Up p.0 node; first = Some p.2; second = None; answer = answer.Done (Some p.3) p.1 (plain (act.Managing name p.3.epoch)) }) q_is)
+        (following.managed accepted m only_now cap w asked old before node now what taking (subst (λ (l : List (List ℕ)). node < length l) (sym same) there) can members taken took on on_is name
         (subst (λ (l : List (List ℕ)). slice_get l node ≡ Some name) (sym same) found))
 
     told_so : (took : Option Takeover) (o : Option Event) (told : Answer) → IsToldStep took o told → following.told_step o told
     told_so took None told step = tt
     told_so took (Some e) told step = (step.0, step.1, step.2)
 
-    pub own_follows : (came : Came D) → IsToldStep (Some q.3) came.event came.answer → OwnComes m book q.0 node node now taken.moment what ATakeover (Some q.3) came
-        → s ≡ record { desk = came.desk; first = Some q.2; second = came.event; answer = came.answer } → FollowsTaken m book taken node now what book s
-    own_follows came step comes is = λ cap w asked old before same taking took.
-        let canonical : OwnComes m book taken.manager node node now taken.moment what ATakeover (Some (told_of taken)) came =
-        subst (λ (p : PartsOf D). OwnComes m book p.0 node node now taken.moment what ATakeover (Some p.3) came) q_is comes in
-        served_as m cap w node now asked old book s (record { desk = came.desk; first = Some (event_of node taken); second = came.event; answer = came.answer })
-        (is ∙ ap (λ (p : PartsOf D). record { desk = came.desk; first = Some p.2; second = came.event; answer = came.answer }) q_is)
-        (following.own_served accepted m only_now cap w asked old before node now what taking (subst (λ (l : List (List ℕ)). node < length l) (sym same) there) can book taken took names came came.event
-        (canonical cap (after_event w (event_of node taken)) taking.small took.book took.up) (told_so (Some q.3) came.event came.answer step))
+    pub own_follows : (came : Came D) → IsToldStep (Some q.3) came.event came.answer → OwnStep m members q.0 node node now what (Some q.3) came
+        → s ≡ record { work = came.work; first = Some q.2; second = came.event; answer = came.answer } → FollowsTaken m members taken node now what members s
+    own_follows came step comes is = λ tells cap w asked old before same taking took.
+        let canonical : OwnComes m members taken.manager node node now taken.moment what ATakeover (Some (told_of taken)) came =
+        subst (λ (p : PartsOf D). OwnComes m members p.0 node node now taken.moment what ATakeover (Some p.3) came) q_is (comes tells taken.moment ATakeover) in
+        served_as m cap w node now asked old members s (record { work = came.work; first = Some (event_of node taken); second = came.event; answer = came.answer })
+        (is ∙ ap (λ (p : PartsOf D). record { work = came.work; first = Some p.2; second = came.event; answer = came.answer }) q_is)
+        (following.own_served accepted m only_now cap w asked old before node now what taking (subst (λ (l : List (List ℕ)). node < length l) (sym same) there) can members taken took names came came.event
+        (canonical cap (after_event w (event_of node taken)) taking.small took.members took.up) (told_so (Some q.3) came.event came.answer step))
 
     pub refused_follows : (came : Came D) (refusal : Refusal) (moment : ℕ) (o : Option Refusal) → what ≡ input.StartNode → moment ≡ acting now (standing_of q.0).system
-        → o ≡ start_refusal_of (standing_of q.0).system (unwrap_or (slice_get book.live.items node) false) → o ≡ Some refusal
-        → came ≡ record { desk = Up q.0 node; event = Some (event.Refused node moment input.StartNode refusal); answer = answer.Refused (Some q.3) refusal }
-        → s ≡ record { desk = came.desk; first = Some q.2; second = came.event; answer = came.answer } → FollowsTaken m book taken node now what book s
-    refused_follows came refusal moment o start moment_is found some came_is is = λ cap w asked old before same taking took.
-        let canonical : o ≡ start_refusal_of (standing_of taken.manager).system (unwrap_or (slice_get book.live.items node) false) =
-        found ∙ ap (λ (p : PartsOf D). start_refusal_of (standing_of p.0).system (unwrap_or (slice_get book.live.items node) false)) q_is in
-        served_as m cap w node now asked old book s
+        → o ≡ start_refusal_of (standing_of q.0).system (unwrap_or (slice_get members.live.items node) false) → o ≡ Some refusal
+        → came ≡ record { work = Up q.0 node; event = Some (event.Refused node moment input.StartNode refusal); answer = answer.Refused (Some q.3) refusal }
+        → s ≡ record { work = came.work; first = Some q.2; second = came.event; answer = came.answer } → FollowsTaken m members taken node now what members s
+    refused_follows came refusal moment o start moment_is found some came_is is = λ tells cap w asked old before same taking took.
+        let canonical : o ≡ start_refusal_of (standing_of taken.manager).system (unwrap_or (slice_get members.live.items node) false) =
+        found ∙ ap (λ (p : PartsOf D). start_refusal_of (standing_of p.0).system (unwrap_or (slice_get members.live.items node) false)) q_is in
+        served_as m cap w node now asked old members s
         (record {
-          desk = Up taken.manager node;
+          work = Up taken.manager node;
           first = Some (event_of node taken);
           second = Some (event.Refused node (acting now (standing_of taken.manager).system) input.StartNode refusal);
           answer = answer.Refused (Some (told_of taken)) refusal;
         })
-        (is ∙ ap (λ (x : Came D). record { desk = x.desk; first = Some q.2; second = x.event; answer = x.answer }) came_is
-        ∙ ap (λ (k : ℕ). record { desk = Up q.0 node; first = Some q.2; second = Some (event.Refused node k input.StartNode refusal); answer = answer.Refused (Some q.3) refusal }) moment_is
-        ∙ ap (λ (p : PartsOf D). record { desk = Up p.0 node; first = Some p.2; second = Some (event.Refused node (acting now (standing_of p.0).system) input.StartNode refusal); answer = answer.Refused (Some p.3) refusal }) q_is)
-        (following.start_refused accepted m only_now cap w asked old before node now what taking (subst (λ (l : List (List ℕ)). node < length l) (sym same) there) can book taken took refusal start
+        (is ∙ ap (λ (x : Came D). record { work = x.work; first = Some q.2; second = x.event; answer = x.answer }) came_is
+        ∙ ap (λ (k : ℕ). record { work = Up q.0 node; first = Some q.2; second = Some (event.Refused node k input.StartNode refusal); answer = answer.Refused (Some q.3) refusal }) moment_is
+        ∙ ap (λ (p : PartsOf D). record { work = Up p.0 node; first = Some p.2; second = Some (event.Refused node (acting now (standing_of p.0).system) input.StartNode refusal); answer = answer.Refused (Some p.3) refusal }) q_is)
+        (following.start_refused accepted m only_now cap w asked old before node now what taking (subst (λ (l : List (List ℕ)). node < length l) (sym same) there) can members taken took refusal start
         (sym canonical ∙ some))
 
-    pub started_follows : (after : Book) (came : Came D) (name : List ℕ) (o : Option Refusal) → what ≡ input.StartNode → o ≡ start_refusal_of (standing_of q.0).system (unwrap_or (slice_get book.live.items node) false)
-        → o ≡ None → slice_get book.names.items node ≡ Some name → after.names.items ≡ book.names.items → after.live.items ≡ slice_set book.live.items node true
-        → after.held.items ≡ book.held.items → after.greatest ≡ book.greatest
-        → came ≡ record { desk = Up q.0 node; event = Some (event.Started node); answer = answer.Done (Some q.3) q.1 (plain (act.NodeStarted name)) }
-        → s ≡ record { desk = came.desk; first = Some q.2; second = came.event; answer = came.answer } → FollowsTaken m book taken node now what after s
-    started_follows after came name o start found none named after_names live held greatest came_is is = λ cap w asked old before same taking took.
-        let canonical : o ≡ start_refusal_of (standing_of taken.manager).system (unwrap_or (slice_get book.live.items node) false) =
-        found ∙ ap (λ (p : PartsOf D). start_refusal_of (standing_of p.0).system (unwrap_or (slice_get book.live.items node) false)) q_is in
+    pub started_follows : (after : Members) (came : Came D) (name : List ℕ) (o : Option Refusal) → what ≡ input.StartNode → o ≡ start_refusal_of (standing_of q.0).system (unwrap_or (slice_get members.live.items node) false)
+        → o ≡ None → slice_get members.names.items node ≡ Some name → after.names.items ≡ members.names.items → after.live.items ≡ slice_set members.live.items node true
+        → after.held.items ≡ members.held.items → after.greatest ≡ members.greatest
+        → came ≡ record { work = Up q.0 node; event = Some (event.Started node); answer = answer.Done (Some q.3) q.1 (plain (act.NodeStarted name)) }
+        → s ≡ record { work = came.work; first = Some q.2; second = came.event; answer = came.answer } → FollowsTaken m members taken node now what after s
+    started_follows after came name o start found none named after_names live held greatest came_is is = λ tells cap w asked old before same taking took.
+        let canonical : o ≡ start_refusal_of (standing_of taken.manager).system (unwrap_or (slice_get members.live.items node) false) =
+        found ∙ ap (λ (p : PartsOf D). start_refusal_of (standing_of p.0).system (unwrap_or (slice_get members.live.items node) false)) q_is in
         served_as m cap w node now asked old after s
         (record {
-          desk = Up taken.manager node;
+          work = Up taken.manager node;
           first = Some (event_of node taken);
           second = Some (event.Started node);
           answer = answer.Done (Some (told_of taken)) taken.moment (plain (act.NodeStarted name));
         })
-        (is ∙ ap (λ (x : Came D). record { desk = x.desk; first = Some q.2; second = x.event; answer = x.answer }) came_is
-        ∙ ap (λ (p : PartsOf D). record { desk = Up p.0 node; first = Some p.2; second = Some (event.Started node); answer = answer.Done (Some p.3) p.1 (plain (act.NodeStarted name)) }) q_is)
-        (following.started accepted m only_now cap w asked old before node now what taking (subst (λ (l : List (List ℕ)). node < length l) (sym same) there) can book taken took after name start
+        (is ∙ ap (λ (x : Came D). record { work = x.work; first = Some q.2; second = x.event; answer = x.answer }) came_is
+        ∙ ap (λ (p : PartsOf D). record { work = Up p.0 node; first = Some p.2; second = Some (event.Started node); answer = answer.Done (Some p.3) p.1 (plain (act.NodeStarted name)) }) q_is)
+        (following.started accepted m only_now cap w asked old before node now what taking (subst (λ (l : List (List ℕ)). node < length l) (sym same) there) can members taken took after name start
         (sym canonical ∙ none) named (sym same) after_names live held greatest)

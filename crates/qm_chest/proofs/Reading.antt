@@ -1,26 +1,16 @@
 -- What was read before a takeover: the world's log, with what it tells of a record in doubt.
-use Rattle.std.proofs.Common.{◌≡◌, inl, inr, ⊎_elim, ℕ, zero, suc, ◌+◌, arith, Bool, true, false, List, [], ◌∷◌, ◌++◌, length, map, refl, sym, ◌∙◌, ap, subst, Option, None, Some}
-use Rattle.std.specs.Prelude.{is_some, option_to_list}
+use Rattle.std.proofs.Common.{◌≡◌, inl, inr, ⊎_elim, ℕ, zero, suc, ◌+◌, arith, Bool, true, false, List, [], ◌∷◌, ◌++◌, length, map, refl, sym, ◌∙◌, ap, subst, Option, None, Some, is_some, option_to_list, append-nil, length-append}
 use Rattle.std.specs.List.{AllByRecursion}
-use Rattle.std.proofs.lemmas.List.{append-nil, length-append}
-use Rattle.qm_disk.specs.Disk.{CrashState, Meaning, OnlyLooks}
-use Rattle.qm_glog.specs.Records.{IsLog}
-use Rattle.qm_kinds.specs.declared.record.Record.{Record}
-use Rattle.qm_kinds.specs.declared.system.System.{System}
-use Rattle.qm_model.specs.Folding.{no_system, replayed, system_of}
-use Rattle.qm_record.specs.Spelling.{HasSpelling, record_text}
+use Rattle.qm_history.specs.Common.{CrashState, Meaning, OnlyLooks, IsLog, Record, System, no_system, replayed, system_of, HasSpelling, record_text, image_of, cluster, IsSound, doubt_read, log_read, system_in}
 use Rattle.qm_record.proofs.Records.{no_prefix}
 use Rattle.qm_store.specs.Recorded.{Recorded, Holds, IsAtRest}
 use Rattle.qm_store.proofs.Contents.{one_content}
 use Rattle.qm_store.proofs.Moving.{live_le}
 use Rattle.qm_restore.specs.QueueFile.{IsSiteFile}
-use Rattle.qm_restore.specs.Site.{new_rows, new_system}
 use Rattle.qm_acting.specs.Reading.{IsTold}
 use Rattle.qm_acting.specs.Standing.{Standing}
 use Rattle.qm_history.specs.declared.event.Event.{Event}
 use Rattle.qm_history.specs.declared.world.World.{World}
-use Rattle.qm_history.specs.Accepted.{cluster}
-use Rattle.qm_history.specs.World.{IsSound, doubt_read, log_read, system_in}
 use Rattle.qm_history.proofs.LogLemmas.{image_stands, replayed_append}
 use Rattle.qm_history.proofs.SoundLemmas.{read_log}
 use Rattle.qm_chest.specs.declared.place.Place.{Place}
@@ -52,17 +42,17 @@ one_list (x ∷ xs) (y ∷ ys) all others same =
 
 -- its records, and the system that they stand for
 records_of : (bodies : List (List ℕ)) (s : System) → IsSiteFile bodies s → List Record
-records_of bodies s site = new_rows site.nodes ++ site.file.requests
+records_of bodies s site = image_of site.first ++ site.file.requests
 
-stand_for : (bodies : List (List ℕ)) (s : System) (site : IsSiteFile bodies s) → system_of (new_rows site.nodes ++ site.file.requests) ≡ s
+stand_for : (bodies : List (List ℕ)) (s : System) (site : IsSiteFile bodies s) → system_of (image_of site.first ++ site.file.requests) ≡ s
 stand_for bodies s site =
-    replayed_append no_system (new_rows site.nodes) site.file.requests
-    ∙ ap (λ (t : System). replayed t site.file.requests) (image_stands (new_system site.nodes)) ∙ site.file.lead.leave
+    replayed_append no_system (image_of site.first) site.file.requests
+    ∙ ap (λ (t : System). replayed t site.file.requests) (image_stands site.first) ∙ site.file.lead.leave
 
 pub one_system : (bodies : List (List ℕ)) (s t : System) → IsSiteFile bodies s → IsSiteFile bodies t → s ≡ t
 one_system bodies s t a b =
-    let same : new_rows a.nodes ++ a.file.requests ≡ new_rows b.nodes ++ b.file.requests =
-    one_list (new_rows a.nodes ++ a.file.requests) (new_rows b.nodes ++ b.file.requests) a.file.fit b.file.fit (sym a.file.spelled ∙ b.file.spelled) in
+    let same : image_of a.first ++ a.file.requests ≡ image_of b.first ++ b.file.requests =
+    one_list (image_of a.first ++ a.file.requests) (image_of b.first ++ b.file.requests) a.file.fit b.file.fit (sym a.file.spelled ∙ b.file.spelled) in
     sym (stand_for bodies s a) ∙ ap system_of same ∙ stand_for bodies t b
 
 -- ---- what was found of a record in doubt
@@ -162,5 +152,5 @@ module _ (accepted : SiteFilesAreAccepted) {D : Type 0} (m : Meaning D) (cap : �
 -- ---- the nodes
 
 -- what was read is of the same nodes
-pub nodes_read : NodesKeepTheirNames → (w : World) (kept : Option Bool) → IsSound HasSpelling w → cluster (system_of (log_read w kept)) ≡ cluster (system_in w)
-nodes_read names w kept sound = (read_log HasSpelling names w kept sound).same
+pub nodes_read : NodesKeepTheirNames → (w : World) (kept : Option Bool) → IsSound w → cluster (system_of (log_read w kept)) ≡ cluster (system_in w)
+nodes_read names w kept sound = (read_log names w kept sound).same

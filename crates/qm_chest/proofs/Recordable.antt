@@ -1,32 +1,19 @@
 -- What nodes ask for can be recorded.
-use Rattle.std.proofs.Common.{◌≡◌, ℕ, ◌+◌, ◌^◌, ◌<◌, ◌≤◌, Bool, true, false, cond, nat_lt, ◌&&◌, ◌||◌, List, [], ◌∷◌, ◌++◌, length, take, get_or, refl, sym, ◌∙◌, ap, subst, arith, Option, None, Some}
-use Rattle.std.specs.List.{AllByRecursion}
-use Rattle.std.specs.Prelude.{IsOk}
+use Rattle.std.proofs.Common.{◌≡◌, ℕ, ◌+◌, ◌^◌, ◌<◌, ◌≤◌, Bool, true, false, cond, nat_lt, ◌&&◌, ◌||◌, List, [], ◌∷◌, length, refl, arith, Option, None, Some, IsOk}
 use Rattle.std.proofs.lemmas.Bool.Decides.{nat_tests}
-use Rattle.std.proofs.lemmas.List.{take_more}
-use Rattle.qm_bytes.specs.Spelling.{AllOf, IsList}
-use Rattle.qm_chest.specs.At.{CanBeRecorded}
-use Rattle.qm_history.specs.Askable.{HasShortLists}
-use Rattle.qm_history.specs.Calls.{IsForUsers, request_of_report}
-use Rattle.qm_kinds.specs.declared.file.FileName.{FileName}
-use Rattle.qm_kinds.specs.declared.moment.TheConstants.{LAST_MOMENT}
-use Rattle.qm_kinds.specs.declared.refusal.Refusal.{Refusal}
+use Rattle.qm_chest.specs.At.{CanBeAskedFor, CanBeRecorded}
+use Rattle.qm_history.specs.Askable.{HasShortLists, IsAskable}
+use Rattle.qm_history.specs.Common.{IsForUsers, FileName, Input, Refusal, Request, System, node_at}
+use Rattle.qm_kinds.specs.declared.input.Input.TheVariants as input
 use Rattle.qm_kinds.specs.declared.refusal.Refusal.TheVariants.{NumbersSpent, SpoolFull}
-use Rattle.qm_kinds.specs.declared.request.Request.{Request}
 use Rattle.qm_kinds.specs.declared.request.Request.TheVariants as request
-use Rattle.qm_kinds.specs.declared.system.System.{System}
-use Rattle.qm_kinds.specs.declared.work.Report.{Report}
-use Rattle.qm_kinds.specs.declared.work.Report.TheVariants as report
 use Rattle.qm_model.specs.Appending.{bytes_of, is_spool_full, refused_as_named}
 use Rattle.qm_model.specs.Applied.{applied, are_numbers_spent, asks_for_numbers, at_moment, change_of, completed, first_refusal_of, refusal_of}
 use Rattle.qm_model.specs.Built.{is_built}
 use Rattle.qm_model.specs.Due.{due}
-use Rattle.qm_model.specs.Log.{request_record}
 use Rattle.qm_model.specs.Outcome.{Accepted, first_refusal, refused_where, unless_refused}
-use Rattle.qm_model.specs.Standing.{node_at}
 use Rattle.qm_model.proofs.BuiltLemmas.{built_lawful}
-use Rattle.qm_record.specs.Spelling.{AreListsShort, HasSpelling, RequestFits}
-use Rattle.qm_chest.specs.Fitting.{RequestMayFit}
+use Rattle.qm_record.specs.Spelling.{AreListsShort}
 
 -- ---- what is accepted
 
@@ -115,39 +102,20 @@ built_outside (request.Took epoch gone up may) built = cc
 
 -- ---- what can be recorded
 
-spelled : (moment node : ℕ) (r : Request) → moment ≤ LAST_MOMENT → node < 2 ^ 8 → RequestFits r → HasSpelling (request_record moment node r)
-spelled moment node r early small fits = record {
-  moment_fits = early;
-  node_fits = small;
-  body_fits = fits;
-  row_moment = λ row. cc;
-  row_node = λ row. cc;
-}
-
-pub asked_recorded : (node : ℕ) (r : Request) → node < 2 ^ 8 → is_built r ≡ true → HasShortLists r → RequestMayFit r → CanBeRecorded node r
-asked_recorded node r small built short fits = record {
+asked_recorded : (node : ℕ) (r : Request) → is_built r ≡ true → HasShortLists r → CanBeRecorded node r
+asked_recorded node r built short = record {
   outside = built_outside r built;
   names = λ s there. built_lawful s node r there built;
-  spelled = λ s moment early ok. spelled moment node r early small (fits (accepted_short s moment node r built short ok));
+  short = λ s moment ok. accepted_short s moment node r built short ok;
 }
 
-pub report_recorded : (node run : ℕ) (told : Report) → node < 2 ^ 8 → RequestFits (request_of_report run told) → CanBeRecorded node (request_of_report run told)
-report_recorded node run (report.Mark value next) small fits = asked_recorded node (request.Mark run value) small refl tt (λ short. fits)
-report_recorded node run (report.Done status) small fits = asked_recorded node (request.Done run status) small refl tt (λ short. fits)
-
--- ---- lists
-
-pub list_fits : {X : Type 0} (Fits : X → Type 0) (xs : List X) → length xs < 2 ^ 16 → AllByRecursion Fits xs → IsList Fits xs
-list_fits Fits xs few each = record { few = few; each = each }
-
-pub optional_fits : {X : Type 0} (Fits : X → Type 0) (o : Option (List X)) → AllOf (λ (xs : List X). length xs < 2 ^ 16) o → AllOf (AllByRecursion Fits) o → AllOf (IsList Fits) o
-optional_fits Fits None few each = tt
-optional_fits Fits (Some xs) few each = list_fits Fits xs few each
-
-all_and_one : {X : Type 0} (P : X → Type 0) (xs : List X) (y : X) → AllByRecursion P xs → P y → AllByRecursion P (xs ++ y ∷ [])
-all_and_one P [] y each one = (one, tt)
-all_and_one P (x ∷ xs) y each one = (each.0, all_and_one P xs y each.1 one)
-
-pub looked_more : {X : Type 0} (P : X → Type 0) (xs : List X) (i : ℕ) (x : X) → i < length xs → get_or xs i x ≡ x → AllByRecursion P (take i xs) → P x → AllByRecursion P (take (i + 1) xs)
-looked_more {X} P xs i x within at each one =
-    subst (AllByRecursion P) (sym (take_more xs i x within ∙ ap (λ (y : X). take i xs ++ y ∷ []) at)) (all_and_one P (take i xs) x each one)
+-- what nodes ask for
+pub askable_can : (node : ℕ) (what : Input) → IsAskable what → CanBeAskedFor node what
+askable_can node (input.Ask asked) can = asked_recorded node asked can.0 can.1
+askable_can node (input.Show query) can = tt
+askable_can node (input.Fetch known) can = tt
+askable_can node input.Compact can = can
+askable_can node (input.TakeManager on) can = tt
+askable_can node input.StartNode can = tt
+askable_can node input.StopNode can = tt
+askable_can node (input.Fault place kind) can = tt

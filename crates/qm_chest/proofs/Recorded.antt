@@ -1,26 +1,10 @@
 -- The record of a takeover, which is there behind its epoch, or in doubt.
-use Rattle.std.proofs.Common.{◌≡◌, inl, inr, ℕ, zero, suc, ◌+◌, ◌^◌, ◌<◌, ◌≤◌, Bool, true, false, List, [], ◌∷◌, ◌++◌, length, take, refl, sym, ◌∙◌, ap, subst, arith, Option, None, Some, Result, Ok}
-use Rattle.std.specs.Prelude.{filter_map, max, slice_get, slice_set, unwrap_or, IsTrue}
+use Rattle.std.proofs.Common.{◌≡◌, inl, inr, ℕ, zero, suc, ◌+◌, ◌^◌, ◌<◌, ◌≤◌, Bool, true, false, List, [], ◌∷◌, ◌++◌, length, take, refl, sym, ◌∙◌, ap, subst, arith, Option, None, Some, Result, Ok, filter_map, max, slice_get, slice_set, unwrap_or, IsTrue, length-append}
 use Rattle.std.specs.List.{AllByRecursion}
-use Rattle.std.proofs.lemmas.List.{length-append}
 use Rattle.qm_disk.specs.Disk.{CrashState, Meaning, IsLeft, LeavesOnly}
 use Rattle.qm_disk.proofs.Moments.{holds_now, weaker}
-use Rattle.qm_glog.specs.Records.{size_of}
-use Rattle.qm_kinds.specs.declared.input.Input.{Input}
-use Rattle.qm_kinds.specs.declared.record.Record.{Record}
-use Rattle.qm_kinds.specs.declared.refusal.Refusal.{Refusal}
-use Rattle.qm_kinds.specs.declared.reply.Reply.{Reply}
-use Rattle.qm_kinds.specs.declared.request.Request.{Request}
+use Rattle.qm_history.specs.Common.{size_of, Input, Record, Refusal, Reply, Request, System, acting, applied, is_among, system_after, system_of, request_record, Accepted, node_at, record_text, CanFollow, cluster, input_of, told_by, Epoch, master_text, record_of, doubt_read, gone_in, log_read, up_with}
 use Rattle.qm_kinds.specs.declared.request.Request.TheVariants as request
-use Rattle.qm_kinds.specs.declared.system.System.{System}
-use Rattle.qm_model.specs.Acting.{acting}
-use Rattle.qm_model.specs.Applied.{applied}
-use Rattle.qm_model.specs.Find.{is_among}
-use Rattle.qm_model.specs.Folding.{system_after, system_of}
-use Rattle.qm_model.specs.Log.{request_record}
-use Rattle.qm_model.specs.Outcome.{Accepted}
-use Rattle.qm_model.specs.Standing.{node_at}
-use Rattle.qm_record.specs.Spelling.{HasSpelling, record_text}
 use Rattle.qm_store.specs.Database.{disk_of as closed_disk}
 use Rattle.qm_store.specs.Opening.{in_next_epoch, next_need}
 use Rattle.qm_store.specs.Recorded.{Recorded, Holds, IsAtRest, epoch_behind, with_body}
@@ -37,28 +21,22 @@ use Rattle.qm_history.specs.declared.call.Call.{Call}
 use Rattle.qm_history.specs.declared.event.Event.{Event}
 use Rattle.qm_history.specs.declared.event.Event.TheVariants as event
 use Rattle.qm_history.specs.declared.world.World.{World}
-use Rattle.qm_history.specs.Accepted.{CanFollow, cluster}
 use Rattle.qm_history.specs.Answers.{started_by}
-use Rattle.qm_history.specs.Calls.{input_of}
-use Rattle.qm_history.specs.Leaving.{told_by}
-use Rattle.qm_history.specs.Master.{Epoch, master_text}
-use Rattle.qm_history.specs.Records.{record_of}
 use Rattle.qm_history.specs.Room.{Room, HasRoomInDoubt, HaveRoom, epoch_need, record_need, room_after, taken}
 use Rattle.qm_history.specs.Step.{CanBeInDoubt, IsTakeover, NamesNodes, after_event}
 use Rattle.qm_history.specs.Takeover.{is_named, may_after, nodes_on}
-use Rattle.qm_history.specs.World.{doubt_read, gone_in, log_read, up_with}
 use Rattle.qm_history.proofs.LogLemmas.{one_more}
-use Rattle.qm_chest.specs.declared.book.Book.{Book}
-use Rattle.qm_chest.specs.declared.desk.Desk.TheVariants.{Down}
+use Rattle.qm_chest.specs.declared.members.Members.{Members}
+use Rattle.qm_chest.specs.declared.work.Work.TheVariants.{Down}
 use Rattle.qm_chest.specs.declared.place.Place.{Place}
 use Rattle.qm_chest.specs.At.{CanBeAskedFor}
-use Rattle.qm_chest.specs.Books.{IsBookOf}
-use Rattle.qm_chest.specs.Desk.{IsUp}
+use Rattle.qm_chest.specs.Members.{AreMembersOf}
+use Rattle.qm_chest.specs.Work.{IsUp}
 use Rattle.qm_chest.specs.Holding.{MayHold, SomeHold, AllHold}
 use Rattle.qm_chest.specs.Parts.{HoldsWithin, Part}
 use Rattle.qm_chest.specs.Taking.{IsReadOf, IsTaken, IsTaking, told_of_failed}
 use Rattle.qm_chest.specs.Whole.{IsServedAs}
-use Rattle.qm_chest.proofs.Failures.{IsBookWith, doubt_room, took_is}
+use Rattle.qm_chest.proofs.Failures.{AreMembersWith, doubt_room, took_is}
 use Rattle.qm_chest.proofs.Failures as failures
 use Rattle.qm_chest.proofs.Failed as failed
 use Rattle.qm_chest.proofs.Holding.{SiteFilesAreAccepted, grows, holds_log, holds_some, room_is, room_of}
@@ -79,16 +57,16 @@ module _ (accepted : SiteFilesAreAccepted) (goes_on : SiteFilesGoOn) (names : No
     (only_now : (disk : D) (crashed : CrashState) → m.left_since disk (m.moment disk) crashed → IsLeft (m.may_leave disk) crashed)
     (counts_now : (disk : D) (t : ℕ) (crashed : CrashState) → t ≤ m.moment disk → IsLeft (m.may_leave disk) crashed → m.left_since disk t crashed)
     (reads : (disk : D) → IsLeft (m.may_leave disk) (m.seen disk)) (cap : ℕ) (w : World) (asked : Call) (kept : Option Bool) (old mid : D) (st : Standing) (read : IsReadOf m cap w kept old st mid)
-    (book : Book) (node now : ℕ) (what : Input) (taking : IsTaking book node what cap w asked) (there : node < length book.names.items) (can : CanBeAskedFor node what)
-    (nodes : cluster st.system ≡ book.names.items) (moment : ℕ) (moment_is : moment ≡ acting now (system_of (log_read w kept)))
-    (e : ℕ) (g u y : List (List ℕ)) (e_is : e ≡ epoch_behind st.recorded book.greatest) (g_is : g ≡ gone_in w (system_of (log_read w kept))) (u_is : u ≡ up_with w node (system_of (log_read w kept)))
+    (members : Members) (node now : ℕ) (what : Input) (taking : IsTaking members node what cap w asked) (there : node < length members.names.items) (can : CanBeAskedFor node what)
+    (nodes : cluster st.system ≡ members.names.items) (moment : ℕ) (moment_is : moment ≡ acting now (system_of (log_read w kept)))
+    (e : ℕ) (g u y : List (List ℕ)) (e_is : e ≡ epoch_behind st.recorded members.greatest) (g_is : g ≡ gone_in w (system_of (log_read w kept))) (u_is : u ≡ up_with w node (system_of (log_read w kept)))
     (y_is : y ≡ may_after (system_of (log_read w kept)) (nodes_on what)) (named : is_named (system_of (log_read w kept)) (nodes_on what) node ≡ true)
-    (follows : CanFollow HasSpelling (system_of (log_read w kept)) moment node (request.Took e g u y))
-    (has : next_need st.recorded book.greatest node ≤ MASTER_CAP)
+    (follows : CanFollow (system_of (log_read w kept)) moment node (request.Took e g u y))
+    (has : next_need st.recorded members.greatest node ≤ MASTER_CAP)
     (room : size_of st.recorded.bodies + (5 + length (text_of moment node (request.Took e g u y))) + 1 ≤ cap)
   where
     abbrev tried : ℕ
-    tried = book.greatest
+    tried = members.greatest
 
     abbrev r : Recorded
     r = st.recorded
@@ -115,7 +93,7 @@ module _ (accepted : SiteFilesAreAccepted) (goes_on : SiteFilesGoOn) (names : No
     more = with_body next (record_text rec)
 
     tried_is : tried ≡ w.greatest
-    tried_is = taking.book.greatest
+    tried_is = taking.members.greatest
 
     epoch_is : epoch ≡ w.greatest + 1
     epoch_is = trying.epoch_is accepted m only_now counts_now reads cap w kept old mid st read node now tried tried_is (input_of asked)
@@ -158,12 +136,12 @@ module _ (accepted : SiteFilesAreAccepted) (goes_on : SiteFilesGoOn) (names : No
     more_fits : size_of more.bodies ≤ max cap (2 ^ 62)
     more_fits = let larger = one_larger r.bodies (record_text rec) in omega (arith, larger, room)
 
-    within_cap : record_need record_text (room_of next) rec ≤ (room_of next).cap
+    within_cap : record_need (room_of next) rec ≤ (room_of next).cap
     within_cap = let is = read.may.cap_is in omega (arith, room, is)
 
     -- ---- the record is in doubt
 
-    module _ (closed : Closed D) (after : Book) (with_ : IsBookWith book after epoch) (run : LeavesOnly m mid (closed_disk closed) (HoldsTaken r next (record_text rec))) where
+    module _ (closed : Closed D) (after : Members) (with_ : AreMembersWith members after epoch) (run : LeavesOnly m mid (closed_disk closed) (HoldsTaken r next (record_text rec))) where
       abbrev v : World
       v = after_event w (event.TakeDoubt node epoch kept)
 
@@ -204,7 +182,7 @@ module _ (accepted : SiteFilesAreAccepted) (goes_on : SiteFilesGoOn) (names : No
         crash = λ crashed left. in_doubt crashed (holds_now m mid (closed_disk closed) (HoldsTaken r next (record_text rec)) run (counts_now (closed_disk closed)) crashed left);
       }
 
-      can_doubt : CanBeInDoubt HasSpelling v node moment asks
+      can_doubt : CanBeInDoubt v node moment asks
       can_doubt = record {
         no_manager = refl;
         no_doubt = failed.is_none_so (doubt_read w kept) sure;
@@ -225,40 +203,40 @@ module _ (accepted : SiteFilesAreAccepted) (goes_on : SiteFilesGoOn) (names : No
                 (λ crashed h. within_taken (event.TakeDoubt node epoch kept ∷ event.Doubt node moment asks ∷ []) refl refl crashed h);
             files = tt;
             reaches = λ quiet. cc;
-            room = λ says records h. subst (λ (x : Room). HaveRoom record_text None w x now (input_of asked) (event.TakeDoubt node epoch kept ∷ event.Doubt node moment asks ∷ []))
+            room = λ says records h. subst (λ (x : Room). HaveRoom None w x now (input_of asked) (event.TakeDoubt node epoch kept ∷ event.Doubt node moment asks ∷ []))
                 (sym (room_is (m.seen mid) says records h r read.at_rest.holds)) (
                   first.1,
                   (
-                    subst (λ (x : Room). HasRoomInDoubt record_text v x (input_of asked) rec)
+                    subst (λ (x : Room). HasRoomInDoubt v x (input_of asked) rec)
                         (trying.next_room accepted m only_now counts_now reads cap w kept old mid st read node now tried tried_is (input_of asked))
-                        (doubt_room v (room_of next) (input_of asked) rec (failures.plain m cap w asked book node now what taking there can) within_cap),
+                        (doubt_room v (room_of next) (input_of asked) rec (failures.plain m cap w asked members node now what taking there can) within_cap),
                     tt,
                   ),
                 );
           }
 
-      pub doubt_served : (live : Bool) → live ≡ unwrap_or (slice_get book.live.items node) false
-          → IsServedAs m cap w node now asked old (record { book = after; desk = Down (site_files.Closed closed) (Some place) })
+      pub doubt_served : (live : Bool) → live ≡ unwrap_or (slice_get members.live.items node) false
+          → IsServedAs m cap w node now asked old (record { members = after; work = Down (site_files.Closed closed) (Some place) })
           (event.TakeDoubt node epoch kept ∷ event.Doubt node moment asks ∷ []) (answer.Journal (told_of_failed epoch kept) live)
       doubt_served live is =
-          failures.put accepted m cap w asked kept old mid st read book node now what taking there can nodes (event.TakeDoubt node epoch kept) (event.Doubt node moment asks ∷ []) true after (Down (site_files.Closed closed) (Some place))
+          failures.put accepted m cap w asked kept old mid st read members node now what taking there can nodes (event.TakeDoubt node epoch kept) (event.Doubt node moment asks ∷ []) true after (Down (site_files.Closed closed) (Some place))
           doubt_part (λ said. cc) refl
           (record {
-            names = failures.cluster_is accepted m cap w asked kept old mid st read book node now what taking there can nodes ∙ sym with_.names;
-            live = with_.live ∙ taking.book.live;
-            held = with_.held ∙ taking.book.held;
+            names = failures.cluster_is accepted m cap w asked kept old mid st read members node now what taking there can nodes ∙ sym with_.names;
+            live = with_.live ∙ taking.members.live;
+            held = with_.held ∙ taking.members.held;
             greatest = with_.greatest_is;
           })
           (record { none = refl; holds = doubt_holds }) (omega (arith, epoch_is)) (answer.Journal (told_of_failed epoch kept) live) refl
           ((λ i. answer.Journal (sym (took_is w node epoch kept (event.Doubt node moment asks ∷ [])) i)
-          ((is ∙ ap (λ (l : List Bool). unwrap_or (slice_get l node) false) taking.book.live) i)))
+          ((is ∙ ap (λ (l : List Bool). unwrap_or (slice_get l node) false) taking.members.live) i)))
           (refl, (refl, moment_is, may_is, epoch_is, failed.is_none_so (doubt_read w kept) sure))
 
     -- ---- the record is there
 
     module _ (manager : Manager D) (reply : Reply) (accept : applied s moment node asks ≡ Ok (record { system = (standing_of manager).system; reply = reply }))
         (recorded : (standing_of manager).recorded ≡ more) (rest : IsAtRest m (standing_of manager).recorded (disk_of manager)) (run : LeavesOnly m mid (disk_of manager) (HoldsTaken r next (record_text rec)))
-        (after : Book) (after_names : after.names.items ≡ book.names.items) (after_live : after.live.items ≡ book.live.items) (after_held : after.held.items ≡ slice_set book.held.items node e)
+        (after : Members) (after_names : after.names.items ≡ members.names.items) (after_live : after.live.items ≡ members.live.items) (after_held : after.held.items ≡ slice_set members.held.items node e)
         (after_greatest : after.greatest ≡ e)
       where
         abbrev took : Event
@@ -267,10 +245,10 @@ module _ (accepted : SiteFilesAreAccepted) (goes_on : SiteFilesGoOn) (names : No
         abbrev behind : World
         behind = after_event w (event.Took node moment e g u y kept)
 
-        can_take : IsTakeover HasSpelling w node moment e g u y kept
+        can_take : IsTakeover w node moment e g u y kept
         can_take = record { next_epoch = e_next; told = read.told; nodes = names_nodes; follows = follows }
 
-        took_room : room_of more ≡ room_after record_text w (room_of r) took
+        took_room : room_of more ≡ room_after w (room_of r) took
         took_room =
             (λ i. record { master = one_larger r.master (master_text (Epoch epoch node)) i; live = one_larger r.bodies (record_text rec) i; file = r.says.live; cap = r.says.cap })
             ∙ ap (λ (x : ℕ). record { master = size_of r.master + taken (master_text (Epoch x node)); live = size_of r.bodies + taken (record_text rec); file = r.says.live; cap = r.says.cap }) (sym e_is)
@@ -283,8 +261,8 @@ module _ (accepted : SiteFilesAreAccepted) (goes_on : SiteFilesGoOn) (names : No
           comes = (can_take, tt);
           moments = weaker m mid (disk_of manager) (HoldsTaken r next (record_text rec)) (HoldsWithin w (took ∷ [])) run (λ crashed h. within_taken (took ∷ []) refl refl crashed h);
           files = tt;
-          reaches = λ quiet. grows m (m.seen mid) (m.seen (disk_of manager)) r more (λ room. room_after record_text w room took) read.at_rest.holds more_holds took_room;
-          room = λ says records h. subst (λ (x : Room). HaveRoom record_text None w x now (input_of asked) (took ∷ [])) (sym (room_is (m.seen mid) says records h r read.at_rest.holds)) (
+          reaches = λ quiet. grows m (m.seen mid) (m.seen (disk_of manager)) r more (λ room. room_after w room took) read.at_rest.holds more_holds took_room;
+          room = λ says records h. subst (λ (x : Room). HaveRoom None w x now (input_of asked) (took ∷ [])) (sym (room_is (m.seen mid) says records h r read.at_rest.holds)) (
             (
               subst (λ (x : ℕ). epoch_need (room_of r) x node ≤ 1048576) (sym e_is)
                   (trying.epoch_room accepted m only_now counts_now reads cap w kept old mid st read node now tried tried_is (input_of asked) has),
@@ -312,13 +290,13 @@ module _ (accepted : SiteFilesAreAccepted) (goes_on : SiteFilesGoOn) (names : No
           epoch = ap (λ (x : Recorded). x.says.epoch) recorded ∙ sym e_is;
         }
 
-        is_book : IsBookOf behind after
-        is_book = record {
+        are_members : AreMembersOf behind after
+        are_members = record {
           names = ap cluster (one_more log rec ∙ ap (system_after s) accept)
               ∙ names s moment node asks (record { system = (standing_of manager).system; reply = reply }) accept
-              ∙ failures.cluster_is accepted m cap w asked kept old mid st read book node now what taking there can nodes ∙ sym after_names;
-          live = after_live ∙ taking.book.live;
-          held = after_held ∙ ap (λ (l : List ℕ). slice_set l node e) taking.book.held;
+              ∙ failures.cluster_is accepted m cap w asked kept old mid st read members node now what taking there can nodes ∙ sym after_names;
+          live = after_live ∙ taking.members.live;
+          held = after_held ∙ ap (λ (l : List ℕ). slice_set l node e) taking.members.held;
           greatest = after_greatest;
         }
 
@@ -331,6 +309,6 @@ module _ (accepted : SiteFilesAreAccepted) (goes_on : SiteFilesGoOn) (names : No
           may = may_is;
           told = ap (λ (res : Result Accepted Refusal). Some (record { epoch = e; kept = kept; started = started_by res })) accept;
           low = trying.low accepted m only_now counts_now reads cap w kept old mid st read node now tried tried_is (input_of asked);
-          book = is_book;
+          members = are_members;
           up = is_up;
         }

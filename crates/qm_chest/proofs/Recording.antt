@@ -1,33 +1,17 @@
 -- A request whose record is written, has no room, or is in doubt: what comes of it, and what the files then hold.
-use Rattle.std.proofs.Common.{◌≡◌, ◌⊎◌, inl, inr, ℕ, ◌+◌, ◌-◌, ◌^◌, ◌<◌, ◌≤◌, Bool, true, false, List, [], ◌∷◌, ◌++◌, length, take, refl, sym, ◌∙◌, ap, subst, arith, Option, None, Some}
-use Rattle.std.specs.Prelude.{IsSome, max}
+use Rattle.std.proofs.Common.{◌≡◌, ◌⊎◌, inl, inr, ℕ, ◌+◌, ◌-◌, ◌^◌, ◌<◌, ◌≤◌, Bool, true, false, List, [], ◌∷◌, ◌++◌, length, take, refl, sym, ◌∙◌, ap, subst, arith, Option, None, Some, IsSome, max, length-append}
 use Rattle.std.specs.List.{cons_option}
-use Rattle.std.proofs.lemmas.List.{length-append}
 use Rattle.qm_disk.specs.Disk.{CrashState, Meaning, IsLeft, LeavesOnly}
 use Rattle.qm_disk.proofs.Moments.{weaker, holds_now}
-use Rattle.qm_glog.specs.Log.{need_of}
-use Rattle.qm_glog.specs.Records.{size_of}
-use Rattle.qm_kinds.specs.declared.input.Input.{Input}
+use Rattle.qm_history.specs.Common.{need_of, size_of, Input, Record, Reply, Request, acting, applied, system_of, request_record, record_text, CanFollow, record_of, CanBeInDoubt, IsReply, after_event, system_in, log_read}
 use Rattle.qm_kinds.specs.declared.input.Input.TheVariants as input
-use Rattle.qm_kinds.specs.declared.record.Record.{Record}
-use Rattle.qm_kinds.specs.declared.reply.Reply.{Reply}
-use Rattle.qm_kinds.specs.declared.request.Request.{Request}
-use Rattle.qm_model.specs.Acting.{acting}
-use Rattle.qm_model.specs.Applied.{applied}
-use Rattle.qm_model.specs.Folding.{system_of}
-use Rattle.qm_model.specs.Log.{request_record}
-use Rattle.qm_record.specs.Spelling.{HasSpelling, record_text}
 use Rattle.qm_store.specs.Recorded.{Recorded, Holds, HoldsEither, with_body}
 use Rattle.qm_restore.specs.QueueFile.{IsSiteFile}
 use Rattle.qm_history.specs.declared.event.Event.{Event}
 use Rattle.qm_history.specs.declared.event.Event.TheVariants as event
 use Rattle.qm_history.specs.declared.world.World.{World}
-use Rattle.qm_history.specs.Accepted.{CanFollow}
 use Rattle.qm_history.specs.Happening.{told_of_doubt}
-use Rattle.qm_history.specs.Records.{record_of}
 use Rattle.qm_history.specs.Room.{Room, HasRoomInDoubt, LacksForOwn, LacksForRecord, Lacks, own_request, record_need, room_after}
-use Rattle.qm_history.specs.Step.{CanBeInDoubt, IsReply, after_event}
-use Rattle.qm_history.specs.World.{system_in, log_read}
 use Rattle.qm_chest.specs.Holding.{IsFound, MayHold, SomeHold, AllHold}
 use Rattle.qm_chest.specs.Parts.{HoldsWithin, Part}
 use Rattle.qm_chest.proofs.Holding.{SiteFilesAreAccepted, room_of, grows, room_is, holds_log}
@@ -47,18 +31,18 @@ whole_need bodies body cap small within = omega (arith, small, within)
 
 -- what a call's own request lacks, and what has room in doubt
 pub lacks_own : (w : World) (room : Room) (node reading : ℕ) (asked : Input) (request : Request) (e : Event) → own_request w node asked ≡ Some request
-    → Lacks (record_need record_text room (request_record (acting reading (system_in w)) node request)) room.cap e → LacksForOwn record_text w room node reading asked e
+    → Lacks (record_need room (request_record (acting reading (system_in w)) node request)) room.cap e → LacksForOwn w room node reading asked e
 lacks_own w room node reading input.Compact request e is h = cc
-lacks_own w room node reading (input.Ask asked) request e is h = subst (λ (o : Option Request). LacksForRecord record_text w room node reading o e) (sym is) h
-lacks_own w room node reading input.StartNode request e is h = subst (λ (o : Option Request). LacksForRecord record_text w room node reading o e) (sym is) h
-lacks_own w room node reading input.StopNode request e is h = subst (λ (o : Option Request). LacksForRecord record_text w room node reading o e) (sym is) h
+lacks_own w room node reading (input.Ask asked) request e is h = subst (λ (o : Option Request). LacksForRecord w room node reading o e) (sym is) h
+lacks_own w room node reading input.StartNode request e is h = subst (λ (o : Option Request). LacksForRecord w room node reading o e) (sym is) h
+lacks_own w room node reading input.StopNode request e is h = subst (λ (o : Option Request). LacksForRecord w room node reading o e) (sym is) h
 lacks_own w room node reading (input.Show query) request e is h = cc
 lacks_own w room node reading (input.Fetch known) request e is h = cc
 lacks_own w room node reading (input.TakeManager on) request e is h = cc
 lacks_own w room node reading (input.Fault place kind) request e is h = cc
 
-pub room_in_doubt : (w : World) (room : Room) (node : ℕ) (asked : Input) (request : Request) (r : Record) → own_request w node asked ≡ Some request → record_need record_text room r ≤ room.cap
-    → HasRoomInDoubt record_text w room asked r
+pub room_in_doubt : (w : World) (room : Room) (node : ℕ) (asked : Input) (request : Request) (r : Record) → own_request w node asked ≡ Some request → record_need room r ≤ room.cap
+    → HasRoomInDoubt w room asked r
 room_in_doubt w room node input.Compact request r is h = cc
 room_in_doubt w room node (input.Ask asked) request r is h = h
 room_in_doubt w room node input.StartNode request r is h = h
@@ -159,26 +143,26 @@ module _ (accepted : SiteFilesAreAccepted) {D : Type 0} (m : Meaning D) (cap : �
     -- ---- the part of the call
 
     module _ (reading : ℕ) (asked : Input) (own : own_request w node asked ≡ Some request) (old new : D) (holds : Holds (m.seen old) r) (small : r.says.cap < 2 ^ 64 - 1) (managed : IsSome w.manager)
-        (follows : CanFollow HasSpelling (system_in w) moment node request) (run : LeavesOnly m old new (HoldsEither (m.may_leave old) r.says.live r more)) (has : need_of r.bodies (record_text rec) ≤ r.says.cap)
+        (follows : CanFollow (system_in w) moment node request) (run : LeavesOnly m old new (HoldsEither (m.may_leave old) r.says.live r more)) (has : need_of r.bodies (record_text rec) ≤ r.says.cap)
       where
         pub done_part : (reply : Reply) → IsReply reply (applied (system_in w) moment node request) → Holds (m.seen new) more → Part m None w reading asked false (event.Done node moment request reply ∷ []) old new
         done_part reply replies then_holds = record {
           comes = ((managed, follows, replies), tt);
           moments = moments old new (event.Done node moment request reply) refl refl run;
           files = tt;
-          reaches = λ quiet. grows m (m.seen old) (m.seen new) r more (λ room. room_after record_text w room (event.Done node moment request reply)) holds then_holds
+          reaches = λ quiet. grows m (m.seen old) (m.seen new) r more (λ room. room_after w room (event.Done node moment request reply)) holds then_holds
               (λ i. record { master = size_of r.master; live = one_larger r.bodies (record_text rec) i; file = r.says.live; cap = r.says.cap });
-          room = λ says records h. (subst (λ (room : Room). record_need record_text room rec ≤ room.cap) (sym (room_is (m.seen old) says records h r holds)) (whole_need r.bodies (record_text rec) r.says.cap small has), tt);
+          room = λ says records h. (subst (λ (room : Room). record_need room rec ≤ room.cap) (sym (room_is (m.seen old) says records h r holds)) (whole_need r.bodies (record_text rec) r.says.cap small has), tt);
         }
 
-        pub doubt_part : CanBeInDoubt HasSpelling w node moment request → Part m None w reading asked true (event.Doubt node moment request ∷ []) old new
+        pub doubt_part : CanBeInDoubt w node moment request → Part m None w reading asked true (event.Doubt node moment request ∷ []) old new
         doubt_part can = record {
           comes = (can, tt);
           moments = moments old new (event.Doubt node moment request) refl refl run;
           files = tt;
           reaches = λ quiet. cc;
           room = λ says records h. (
-            subst (λ (room : Room). HasRoomInDoubt record_text w room asked rec) (sym (room_is (m.seen old) says records h r holds))
+            subst (λ (room : Room). HasRoomInDoubt w room asked rec) (sym (room_is (m.seen old) says records h r holds))
                 (room_in_doubt w (room_of r) node asked request rec own (whole_need r.bodies (record_text rec) r.says.cap small has)),
             tt,
           );

@@ -1,7 +1,6 @@
 -- The same world with other nodes live: what stands for the one stands for the other.
-use Rattle.std.proofs.Common.{◌≡◌, ℕ, Bool, false, List, [], ◌∷◌, Option, None}
-use Rattle.std.specs.Prelude.{slice_set}
-use Rattle.qm_disk.specs.Disk.{CrashState, Meaning}
+use Rattle.std.proofs.Common.{◌≡◌, ℕ, Bool, false, List, [], ◌∷◌, Option, None, slice_set}
+use Rattle.qm_history.specs.Common.{CrashState, Meaning, unless_of, without}
 use Rattle.qm_disk.proofs.Moments.{weaker}
 use Rattle.qm_kinds.specs.declared.input.Input.TheVariants as input
 use Rattle.qm_acting.specs.declared.manager.Manager.{Manager}
@@ -9,12 +8,11 @@ use Rattle.qm_store.specs.Recorded.{Recorded}
 use Rattle.qm_history.specs.declared.call.Takeover.{Takeover}
 use Rattle.qm_history.specs.declared.event.Event.TheVariants as event
 use Rattle.qm_history.specs.declared.world.World.{World}
-use Rattle.qm_history.specs.Step.{unless_of, without}
 use Rattle.qm_chest.specs.declared.asking.Came.{Came}
-use Rattle.qm_chest.specs.declared.desk.Desk.{Desk}
-use Rattle.qm_chest.specs.declared.desk.Desk.TheVariants.{Up, Down}
+use Rattle.qm_chest.specs.declared.work.Work.{Work}
+use Rattle.qm_chest.specs.declared.work.Work.TheVariants.{Up, Down}
 use Rattle.qm_chest.specs.declared.place.Place.{Place}
-use Rattle.qm_chest.specs.Desk.{IsDeskAt, IsUp}
+use Rattle.qm_chest.specs.Work.{IsWorkAt, IsUp}
 use Rattle.qm_chest.specs.Holding.{MayHold, SomeHold, AllHold}
 use Rattle.qm_chest.specs.Parts.{HoldsWithin, Part}
 use Rattle.qm_chest.specs.Steps.{IsShort}
@@ -49,8 +47,8 @@ module _ {D : Type 0} (m : Meaning D) (cap : ℕ) (w : World) (live : List Bool)
     epoch = up.epoch;
   }
 
-  pub desk_back : (desk : Desk D) → IsDeskAt m cap (relive w live) desk → IsDeskAt m cap w desk
-  desk_back (Up manager at) up = record {
+  pub work_back : (work : Work D) → IsWorkAt m cap (relive w live) work → IsWorkAt m cap w work
+  work_back (Up manager at) up = record {
     role = up.role;
     sure = up.sure;
     system = up.system;
@@ -58,10 +56,10 @@ module _ {D : Type 0} (m : Meaning D) (cap : ℕ) (w : World) (live : List Bool)
     may = may_back None _ up.may;
     epoch = up.epoch;
   }
-  desk_back (Down files place) down = record { none = down.none; holds = all_back place _ down.holds }
+  work_back (Down files place) down = record { none = down.none; holds = all_back place _ down.holds }
 
   pub short_back : (took : Option Takeover) (old : D) (came : Came D) → IsShort m cap (relive w live) took old came → IsShort m cap w took old came
-  short_back took old came short = record { same = short.same; desk = desk_back came.desk short.desk; told = short.told }
+  short_back took old came short = record { same = short.same; work = work_back came.work short.work; told = short.told }
 
   -- that a node's own record has no room
   module _ (now : ℕ) (failed : Bool) (node need most : ℕ) (old new : D) where

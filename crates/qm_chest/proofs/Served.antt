@@ -1,26 +1,17 @@
 -- A call that is served: where it leaves the chest as it was, and where a turn more is kept.
-use Rattle.std.proofs.Common.{◌≡◌, ℕ, ◌+◌, ◌^◌, ◌<◌, ◌≤◌, true, false, IsTrue, List, [], ◌∷◌, ◌++◌, length, inr, ⊎_elim, refl, sym, ◌∙◌, ap, subst, arith, Option, None, Some}
-use Rattle.std.specs.Prelude.{option_to_list}
-use Rattle.std.proofs.lemmas.List.{append-nil, length-append}
+use Rattle.std.proofs.Common.{◌≡◌, ℕ, ◌+◌, ◌^◌, ◌<◌, ◌≤◌, true, false, IsTrue, List, [], ◌∷◌, ◌++◌, length, inr, ⊎_elim, refl, sym, ◌∙◌, ap, subst, arith, Option, None, Some, option_to_list, append-nil, length-append}
 use Rattle.qm_disk.specs.Disk.{CrashState, Meaning, IsLeft, TellsFaults}
 use Rattle.qm_disk.proofs.Moments.{started, looks_not}
-use Rattle.qm_glog.specs.Records.{IsLog}
-use Rattle.qm_record.specs.Spelling.{HasSpelling, record_text}
 use Rattle.qm_history.specs.declared.call.Answer.{Answer}
 use Rattle.qm_history.specs.declared.call.Answer.TheVariants as answer
 use Rattle.qm_history.specs.declared.call.Call.{Call}
 use Rattle.qm_history.specs.declared.event.Event.{Event}
 use Rattle.qm_history.specs.declared.turn.Turn.{Turn}
 use Rattle.qm_history.specs.declared.world.World.{World}
-use Rattle.qm_history.specs.Answering.{MayAnswer}
-use Rattle.qm_history.specs.Calls.{input_of, why_of}
+use Rattle.qm_history.specs.Common.{MayAnswer, input_of, why_of, HoldWorld, is_journal, CanAllCome, after_events, IsSound}
 use Rattle.qm_history.specs.Chest.{Adds, AddsNone, IsMadeFor, LeavesTurn, MayLeaveNone, turns_kept}
-use Rattle.qm_history.specs.Contents.{HoldWorld}
-use Rattle.qm_history.specs.Faults.{is_journal}
 use Rattle.qm_history.specs.Serving.{TellsDisk, behind}
 use Rattle.qm_chest.specs.Duties.{ShowsNodeDuties}
-use Rattle.qm_history.specs.Step.{CanAllCome, after_events}
-use Rattle.qm_history.specs.World.{IsSound}
 use Rattle.qm_chest.specs.declared.chest.Chest.{Chest}
 use Rattle.qm_chest.specs.declared.chest.State.{State}
 use Rattle.qm_chest.specs.declared.wanted.Outcome.{Outcome}
@@ -30,7 +21,7 @@ use Rattle.qm_chest.specs.Serving.{CanServe, Serving, maker_of, turn_made, wante
 use Rattle.qm_chest.specs.Whole.{IsServedAs, IsToldBy, both, turn_left}
 use Rattle.qm_chest.proofs.Holding.{SiteFilesAreAccepted, grows}
 use Rattle.qm_chest.proofs.Notes.{none_quiet}
-use Rattle.qm_chest.proofs.Whole.{desk_crash, desk_reads}
+use Rattle.qm_chest.proofs.Whole.{work_crash, work_reads}
 
 -- ---- a chest that is as it was
 
@@ -58,14 +49,14 @@ none_failed m disk turns told why = record { fault = λ is. let no : false ≡ t
 module _ (accepted : SiteFilesAreAccepted) {D : Type 0} (m : Meaning D) (only_now : (disk : D) (crashed : CrashState) → m.left_since disk (m.moment disk) crashed → IsLeft (m.may_leave disk) crashed)
     (cap : ℕ) (w : World)
   where
-    nothing_added : (chest : Chest D) → IsAt m cap w chest → (told : Answer) → AddsNone IsLog HasSpelling record_text m w (chest_disk chest) (chest_disk chest) told
+    nothing_added : (chest : Chest D) → IsAt m cap w chest → (told : Answer) → AddsNone m w (chest_disk chest) (chest_disk chest) told
     nothing_added chest at told =
         let disk = chest_disk chest in
-        let reads = desk_reads accepted m cap w chest.state.desk at.state.desk in
+        let reads = work_reads accepted m cap w chest.state.work at.state.work in
         record {
           files = λ full. looks_not m disk (only_now disk);
-          moments = started m disk (λ (crashed : CrashState). HoldWorld IsLog HasSpelling record_text crashed w)
-              (λ crashed since. desk_crash accepted m cap w chest.state.desk at.state.desk crashed (only_now disk crashed since));
+          moments = started m disk (λ (crashed : CrashState). HoldWorld crashed w)
+              (λ crashed since. work_crash accepted m cap w chest.state.work at.state.work crashed (only_now disk crashed since));
           reaches = grows m (m.seen disk) (m.seen disk) reads.0 reads.0 (λ room. room) reads.1 reads.1 refl;
         }
 
@@ -73,7 +64,7 @@ module _ (accepted : SiteFilesAreAccepted) {D : Type 0} (m : Meaning D) (only_no
         → MayLeaveNone old.turns.items told → Serves m cap w node now asked old new told
     none_served old new same kept at node now asked told why = record {
       one = none_left old.turns.items new.turns.items kept node now asked told why;
-      adds = subst (λ (state : State D). AddsNone IsLog HasSpelling record_text m w (chest_disk old) (state_disk state) told) (sym same) (nothing_added old at told);
+      adds = subst (λ (state : State D). AddsNone m w (chest_disk old) (state_disk state) told) (sym same) (nothing_added old at told);
       room = tt;
       at = at_still m old new same kept cap w at;
     }
@@ -104,7 +95,7 @@ left_tells node now asked [] told is = tt
 left_tells node now asked (e ∷ events) told is = is.1
 
 -- the events of a turn that may be answered so can come
-may_come : (w : World) (asked : Call) (t : Turn) (told : Answer) → MayAnswer HasSpelling w asked t told → CanAllCome HasSpelling w t.events
+may_come : (w : World) (asked : Call) (t : Turn) (told : Answer) → MayAnswer w asked t told → CanAllCome w t.events
 may_come w asked t (answer.NoMemory took) may = may.0.0.can_come
 may_come w asked t (answer.Damaged file place) may = may.0.0.can_come
 may_come w asked t answer.HistoryFull may = absurd may
@@ -117,11 +108,11 @@ may_come w asked t (answer.Journal took live) may = may.0.0.can_come
 may_come w asked t (answer.Fenced held current) may = may.0.0.can_come
 may_come w asked t (answer.NoManager took name) may = may.0.0.can_come
 
-abbrev StaySound : Type 0
-StaySound = (w : World) (events : List Event) → IsSound HasSpelling w → CanAllCome HasSpelling w events → IsSound HasSpelling (after_events w events)
+abbrev pub StaySound : Type 0
+StaySound = (w : World) (events : List Event) → IsSound w → CanAllCome w events → IsSound (after_events w events)
 
-sound_behind : StaySound → {D : Type 0} (m : Meaning D) (w : World) (node now : ℕ) (asked : Call) (events : List Event) (old new : D) (told : Answer) → IsSound HasSpelling w
-    → Adds IsLog HasSpelling record_text m w old new asked (turn_left node now asked events) told → IsSound HasSpelling (behind w (turn_left node now asked events))
+sound_behind : StaySound → {D : Type 0} (m : Meaning D) (w : World) (node now : ℕ) (asked : Call) (events : List Event) (old new : D) (told : Answer) → IsSound w
+    → Adds m w old new asked (turn_left node now asked events) told → IsSound (behind w (turn_left node now asked events))
 sound_behind stay m w node now asked [] old new told sound adds = sound
 sound_behind stay m w node now asked (e ∷ events) old new told sound adds =
     let t : Turn = record { node = node; why = why_of asked; moment = now; events = e ∷ events } in stay w (e ∷ events) sound (may_come w asked t told adds.answers)
@@ -180,7 +171,7 @@ module _ {D : Type 0} (m : Meaning D) (node now : ℕ) (asked : Call) (old new :
         ap length turns_are ∙ length-append old.turns.items (option_to_list turn) ∙ ap (λ (n : ℕ). length old.turns.items + n) (longer node now asked outcome.first outcome.second) in
         let rises = serving.leaves.rises in
         let low = steady.epochs in
-        record { desk = serving.leaves.desk; epochs = omega (arith, more, rises, low) }
+        record { work = serving.leaves.work; epochs = omega (arith, more, rises, low) }
 
     module _ (stay : StaySound) (tells : IsTrue m.tells) (few : length old.turns.items < turns_kept) where
       pub served_at : (cap : ℕ) (w : World) → IsAt m cap w old → Serves m cap w node now asked old new outcome.answer
@@ -212,7 +203,7 @@ pub can_serve : {D : Type 0} (m : Meaning D) (node now : ℕ) (asked : Call) (ch
 can_serve m node now asked chest serving there can few =
     let low = serving.steady.epochs in
     record {
-      desk = serving.steady.desk;
+      work = serving.steady.work;
       there = there;
       can = can;
       epochs = omega (arith, low, few);

@@ -1,6 +1,5 @@
 -- A chest that was opened on a site's files.
-use Rattle.std.proofs.Common.{◌≡◌, ◌≢◌, ◌⊎◌, inl, inr, ℕ, ◌^◌, ◌<◌, ◌≤◌, true, false, IsTrue, List, [], length, map, replicate, AllPairs, sym, ◌∙◌, ap, subst, arith, Some, Result, Ok, Err}
-use Rattle.std.specs.Prelude.{IfOk, IfErr, OnOk, slice_get}
+use Rattle.std.proofs.Common.{◌≡◌, ◌≢◌, ◌⊎◌, inl, inr, ℕ, ◌^◌, ◌<◌, ◌≤◌, true, false, IsTrue, List, [], length, map, replicate, AllPairs, sym, ◌∙◌, ap, subst, arith, Some, Result, Ok, Err, IfOk, IfErr, OnOk, slice_get}
 use Rattle.std.proofs.lemmas.List.{get_or-map, get_or-replicate, length-map}
 use Rattle.std.proofs.lemmas.Bool.{cases_lt}
 use Rattle.std.proofs.lemmas.Option.{get_or_from_slice_get, slice_get_within, unwrap_or-slice_get}
@@ -14,22 +13,11 @@ use Rattle.qm_chest.specs.declared.chest.Chest.{Chest}
 use Rattle.qm_store.proofs.Contents.{held_bodies, one_content}
 use Rattle.qm_store.proofs.Faults.{held_is_open}
 use Rattle.qm_store.specs.Recorded.{Holds, Recorded}
-use Rattle.qm_disk.specs.Disk.{CrashState, Meaning, OnlyLooks, TellsFaults}
-use Rattle.qm_glog.specs.Records.{IsLog}
-use Rattle.qm_glog.specs.declared.fault.OpenFault.{OpenFault}
+use Rattle.qm_history.specs.Common.{CrashState, Meaning, OnlyLooks, TellsFaults, IsLog, OpenFault, cluster, Starts, is_live, system_in, NODES_LIMIT, Node, System, AreNodes, IsConsistent, system_of, record_text}
 use Rattle.qm_glog.specs.declared.fault.OpenFault.TheVariants as fault
-use Rattle.qm_history.specs.Accepted.{cluster}
 use Rattle.qm_history.specs.Master.{IsQueueFile, master_text}
-use Rattle.qm_history.specs.Start.{Starts}
-use Rattle.qm_history.specs.World.{is_live, system_in}
 use Rattle.qm_history.specs.declared.world.World.{World}
-use Rattle.qm_kinds.specs.declared.limits.TheConstants.{NODES_LIMIT}
-use Rattle.qm_kinds.specs.declared.system.Node.{Node}
-use Rattle.qm_kinds.specs.declared.system.System.{System}
 use Rattle.qm_store.proofs.Masters.{says_lawful}
-use Rattle.qm_model.specs.Consistent.{AreNodes, IsConsistent}
-use Rattle.qm_model.specs.Folding.{system_of}
-use Rattle.qm_record.specs.Spelling.{HasSpelling, record_text}
 use Rattle.qm_restore.specs.QueueFile.{IsSiteFile}
 
 -- ---- names
@@ -87,7 +75,7 @@ starts_moved old new same w early =
       early = early.early;
     }
 
-starts_early : (files : CrashState) (r : Recorded) → Holds files r → r.says.epoch < 2 ^ 61 → (w : World) → Starts IsLog HasSpelling record_text files w → StartsEarly files w
+starts_early : (files : CrashState) (r : Recorded) → Holds files r → r.says.epoch < 2 ^ 61 → (w : World) → Starts files w → StartsEarly files w
 starts_early files r holds epoch w s = record {
   starts = s;
   early =
@@ -96,7 +84,7 @@ starts_early files r holds epoch w s = record {
 }
 
 -- in it each node is live
-pub first_live : (files : CrashState) (w : World) → Starts IsLog HasSpelling record_text files w → (node : ℕ) → node < length (cluster (system_in w)) → is_live w node ≡ true
+pub first_live : (files : CrashState) (w : World) → Starts files w → (node : ℕ) → node < length (cluster (system_in w)) → is_live w node ≡ true
 first_live files w s node within =
     let count : ℕ = length (system_of s.records).nodes in
     let log : w.log ≡ s.records = ap (λ (v : World). v.log) s.begins in
@@ -107,10 +95,10 @@ first_live files w s node within =
 -- ---- an opening
 
 abbrev BeginsSome : Type 0
-BeginsSome = (files : CrashState) (r : Recorded) (s : System) → Holds files r → IsSiteFile r.bodies s → (w : World) × Starts IsLog HasSpelling record_text files w
+BeginsSome = (files : CrashState) (r : Recorded) (s : System) → Holds files r → IsSiteFile r.bodies s → (w : World) × Starts files w
 
 abbrev BeginsOne : Type 0
-BeginsOne = (files : CrashState) (r : Recorded) (s : System) (w : World) → Holds files r → IsSiteFile r.bodies s → Starts IsLog HasSpelling record_text files w → BeginsWorld r s w
+BeginsOne = (files : CrashState) (r : Recorded) (s : System) (w : World) → Holds files r → IsSiteFile r.bodies s → Starts files w → BeginsWorld r s w
 
 abbrev Consistent : Type 0
 Consistent = (bodies : List (List ℕ)) (s : System) → IsSiteFile bodies s → IsConsistent s

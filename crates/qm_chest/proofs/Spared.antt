@@ -5,10 +5,9 @@ use Rattle.qm_acting.proofs.Spare.{keeps_on, keeps_same}
 use Rattle.qm_chest.specs.At.{chest_disk}
 use Rattle.qm_chest.specs.Manager.{meaning_of}
 use Rattle.qm_chest.specs.declared.chest.Chest.{Chest}
-use Rattle.qm_disk.specs.Disk.{Meaning}
+use Rattle.qm_history.specs.Common.{Meaning, after_turn}
 use Rattle.qm_history.specs.declared.turn.Turn.{Turn}
 use Rattle.qm_history.specs.declared.world.World.{World}
-use Rattle.qm_history.specs.Legal.{after_turn}
 use Rattle.qm_history.specs.Serving.{AreMade, LeavesNone}
 
 module _ {D : Type 0} (m : Meaning D) (tells : IsTrue m.tells) where

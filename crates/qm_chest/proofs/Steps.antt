@@ -1,28 +1,13 @@
 -- What a request comes to that is asked of a manager which stands for a world.
-use Rattle.std.proofs.Common.{◌≡◌, ℕ, ◌+◌, ◌-◌, ◌^◌, ◌<◌, ◌≤◌, Bool, true, false, List, [], ◌∷◌, ◌++◌, length, refl, sym, ◌∙◌, ap, subst, arith, Option, None, Some, Result, Ok, Err}
-use Rattle.std.specs.Prelude.{IsSome, IsOk}
+use Rattle.std.proofs.Common.{◌≡◌, ℕ, ◌+◌, ◌-◌, ◌^◌, ◌<◌, ◌≤◌, Bool, true, false, List, [], ◌∷◌, ◌++◌, length, refl, sym, ◌∙◌, ap, subst, arith, Option, None, Some, Result, Ok, Err, IsSome, IsOk}
 use Rattle.qm_disk.specs.Disk.{CrashState, Meaning, IsLeft, LeavesOnly}
-use Rattle.qm_glog.specs.Log.{need_of}
-use Rattle.qm_glog.specs.Records.{IsLog, size_of}
-use Rattle.qm_kinds.specs.declared.input.Input.{Input}
+use Rattle.qm_history.specs.Common.{need_of, size_of, Input, Record, Refusal, Reply, Request, System, acting, applied, after_record, system_after, system_of, request_record, Accepted, record_text, GREATEST_CAP, CanFollow, CanBeInDoubt, CanCome, IsReply, after_event, is_live, system_in}
 use Rattle.qm_kinds.specs.declared.input.Input.TheVariants as input
-use Rattle.qm_kinds.specs.declared.record.Record.{Record}
-use Rattle.qm_kinds.specs.declared.refusal.Refusal.{Refusal}
-use Rattle.qm_kinds.specs.declared.reply.Reply.{Reply}
-use Rattle.qm_kinds.specs.declared.request.Request.{Request}
 use Rattle.qm_kinds.specs.declared.request.Request.TheVariants as request
-use Rattle.qm_kinds.specs.declared.system.System.{System}
-use Rattle.qm_model.specs.Acting.{acting}
-use Rattle.qm_model.specs.Applied.{applied}
-use Rattle.qm_model.specs.Folding.{after_record, system_after, system_of}
-use Rattle.qm_model.specs.Log.{request_record}
-use Rattle.qm_model.specs.Outcome.{Accepted}
-use Rattle.qm_record.specs.Spelling.{HasSpelling, record_text}
 use Rattle.qm_store.specs.Database.{disk_of as closed_disk}
 use Rattle.qm_store.specs.Recorded.{Recorded, Holds, HoldsEither, IsAtRest, with_body}
 use Rattle.qm_store.proofs.Moving.{left_at_rest}
 use Rattle.qm_store.specs.declared.closed.Closed.{Closed}
-use Rattle.qm_kinds.specs.declared.limits.TheConstants.{GREATEST_CAP}
 use Rattle.qm_restore.specs.QueueFile.{IsSiteFile}
 use Rattle.qm_acting.specs.Asking.{Does, IsInDoubt, Lacks, text_of}
 use Rattle.qm_acting.specs.Standing.{Standing, standing_of, disk_of}
@@ -33,17 +18,13 @@ use Rattle.qm_history.specs.declared.call.Takeover.{Takeover}
 use Rattle.qm_history.specs.declared.event.Event.{Event}
 use Rattle.qm_history.specs.declared.event.Event.TheVariants as event
 use Rattle.qm_history.specs.declared.world.World.{World}
-use Rattle.qm_history.specs.Accepted.{CanFollow}
 use Rattle.qm_history.specs.declared.world.Role.{Role}
 use Rattle.qm_history.specs.Contents.{HoldWorld, IsEpochOf}
-use Rattle.qm_history.specs.Room.{Room, HasRoom, own_request, record_need, room_after}
-use Rattle.qm_history.specs.Room.{Lacks as LacksRoom}
+use Rattle.qm_history.specs.Room.{Room, HasRoom, own_request, record_need, room_after, Lacks as LacksRoom}
 use Rattle.qm_history.specs.Turn.{IsDecided}
-use Rattle.qm_history.specs.Step.{CanBeInDoubt, CanCome, IsReply, after_event}
-use Rattle.qm_history.specs.World.{is_live, system_in}
 use Rattle.qm_history.proofs.LogLemmas.{one_more}
-use Rattle.qm_chest.specs.declared.desk.Desk.TheVariants.{Up, Down}
-use Rattle.qm_chest.specs.Desk.{IsUp, IsDown}
+use Rattle.qm_chest.specs.declared.work.Work.TheVariants.{Up, Down}
+use Rattle.qm_chest.specs.Work.{IsUp, IsDown}
 use Rattle.qm_chest.specs.Steps.{ComesTo, IsToManager}
 use Rattle.qm_chest.specs.Holding.{MayHold}
 use Rattle.qm_chest.specs.Parts.{Part}
@@ -52,7 +33,7 @@ use Rattle.qm_chest.proofs.Recording.{whole_need, done_part, doubt_part, doubt_h
 
 -- files of a site go on with the record of each request that can follow
 abbrev pub SiteFilesGoOn : Type 0
-SiteFilesGoOn = (bodies : List (List ℕ)) (s : System) (moment node : ℕ) (asked : Request) → IsSiteFile bodies s → CanFollow HasSpelling s moment node asked
+SiteFilesGoOn = (bodies : List (List ℕ)) (s : System) (moment node : ℕ) (asked : Request) → IsSiteFile bodies s → CanFollow s moment node asked
     → IsSiteFile (bodies ++ text_of moment node asked ∷ []) (after_record s (request_record moment node asked))
 
 is_some : {X : Type 0} (o : Option X) (x : X) → o ≡ Some x → IsSome o
@@ -73,7 +54,7 @@ accepted_system : (s : System) (res : Result Accepted Refusal) (system : System)
 accepted_system s (Ok a) system reply is = let same : ◌≡◌ {A = Accepted} a (record { system = system; reply = reply }) = cc in ap (λ (x : Accepted). x.system) same
 accepted_system s (Err refusal) system reply is = cc
 
-can_be_in_doubt : (w : World) (node moment : ℕ) (asked : Request) → IsToManager asked → IsSome w.manager → CanFollow HasSpelling (system_in w) moment node asked → CanBeInDoubt HasSpelling w node moment asked
+can_be_in_doubt : (w : World) (node moment : ℕ) (asked : Request) → IsToManager asked → IsSome w.manager → CanFollow (system_in w) moment node asked → CanBeInDoubt w node moment asked
 can_be_in_doubt w node moment (request.Took epoch gone up may) plain managed follows = absurd plain
 can_be_in_doubt w node moment _ plain managed follows = (managed, follows)
 
@@ -94,10 +75,10 @@ module _ (accepted : SiteFilesAreAccepted) (goes_on : SiteFilesGoOn) {D : Type 0
     site = subst (λ (log : List Record). IsSiteFile r.bodies (system_of log)) (found_sure w.log up.may.log r w.doubt up.sure up.may.found) up.may.site
 
     -- what a manager's files hold is the world's
-    pub world_held : (files : CrashState) → Holds files r → HoldWorld IsLog HasSpelling record_text files w
+    pub world_held : (files : CrashState) → Holds files r → HoldWorld files w
     world_held files holds = holds_world accepted cap w None files r holds up.may (epoch_of_role w r.says.epoch w.manager (record { node = at; epoch = w.greatest }) up.role up.epoch)
 
-    pub crash_holds : (crashed : CrashState) → IsLeft (m.may_leave disk) crashed → HoldWorld IsLog HasSpelling record_text crashed w
+    pub crash_holds : (crashed : CrashState) → IsLeft (m.may_leave disk) crashed → HoldWorld crashed w
     crash_holds crashed left = world_held crashed (left_at_rest m r disk up.at_rest crashed left)
 
     -- ---- a request, at its acting moment
@@ -109,10 +90,10 @@ module _ (accepted : SiteFilesAreAccepted) (goes_on : SiteFilesGoOn) {D : Type 0
       abbrev rec : Record
       rec = request_record moment node request
 
-      grown : CanFollow HasSpelling (system_in w) moment node request → IsSiteFile (r.bodies ++ record_text rec ∷ []) (system_of (w.log ++ rec ∷ []))
+      grown : CanFollow (system_in w) moment node request → IsSiteFile (r.bodies ++ record_text rec ∷ []) (system_of (w.log ++ rec ∷ []))
       grown follows = subst (IsSiteFile (r.bodies ++ record_text rec ∷ [])) (sym (one_more w.log rec)) (goes_on r.bodies (system_in w) moment node request site follows)
 
-      module _ (follows : CanFollow HasSpelling (system_in w) moment node request) (room : need_of r.bodies (record_text rec) ≤ r.says.cap) (small : r.says.cap < 2 ^ 64 - 1) where
+      module _ (follows : CanFollow (system_in w) moment node request) (room : need_of r.bodies (record_text rec) ≤ r.says.cap) (small : r.says.cap < 2 ^ 64 - 1) where
         within : size_of r.bodies + (5 + length (record_text rec)) + 1 ≤ cap
         within = let has = whole_need r.bodies (record_text rec) r.says.cap small room in omega (arith, has, up.may.cap_is)
 
@@ -136,7 +117,7 @@ module _ (accepted : SiteFilesAreAccepted) (goes_on : SiteFilesGoOn) {D : Type 0
         )
 
         -- it is in doubt
-        pub doubt_step : (closed : Closed D) → CanBeInDoubt HasSpelling w node moment request
+        pub doubt_step : (closed : Closed D) → CanBeInDoubt w node moment request
             → LeavesOnly m disk (closed_disk closed) (HoldsEither (m.may_leave disk) r.says.live r (with_body r (record_text rec)))
             → Part m None w reading asked true (event.Doubt node moment request ∷ []) disk (closed_disk closed)
             × IsDown m cap (after_event w (event.Doubt node moment request)) (site_files.Closed closed) (Some (record { file = r.says.live; before = length r.bodies }))
@@ -168,23 +149,23 @@ module _ (accepted : SiteFilesAreAccepted) (goes_on : SiteFilesGoOn) {D : Type 0
 
         done_there : (new : Manager D) (kept : Reply) → Does (standing_of manager) at_moment node request (standing_of new) kept → IsAtRest m (standing_of new).recorded (disk_of new)
             → LeavesOnly m disk (disk_of new) (HoldsEither (m.may_leave disk) r.says.live r (with_body r (text_of at_moment node request)))
-            → ComesTo m cap w node reading acted asked request took disk (record { desk = Up new at; event = Some (event.Done node at_moment request kept); answer = answer.Done took at_moment kept })
+            → ComesTo m cap w node reading acted asked request took disk (record { work = Up new at; event = Some (event.Done node at_moment request kept); answer = answer.Done took at_moment kept })
             (Some (event.Done node at_moment request kept))
         done_there new kept does rest run =
             let is = in_world (λ (s : System). applied s at_moment node request ≡ Ok (record { system = (standing_of new).system; reply = kept })) does.accepted in
-            let both = done_step node reading asked request own (in_world (λ (s : System). CanFollow HasSpelling s at_moment node request) does.follows) does.room little new kept is does.recorded rest run in (
-              record { part = both.0; desk = both.1; told = λ because. refl },
+            let both = done_step node reading asked request own (in_world (λ (s : System). CanFollow s at_moment node request) does.follows) does.room little new kept is does.recorded rest run in (
+              record { part = both.0; work = both.1; told = λ because. refl },
               subst (λ (res : Result Accepted Refusal). IsDecided node at_moment request res (event.Done node at_moment request kept ∷ [])) (sym is) (refl, refl, refl, refl),
             )
 
         pub done_comes : (new : Manager D) (kept told : Reply) → told ≡ kept → Does (standing_of manager) mo node request (standing_of new) kept → IsAtRest m (standing_of new).recorded (disk_of new)
             → LeavesOnly m disk (disk_of new) (HoldsEither (m.may_leave disk) r.says.live r (with_body r (text_of mo node request)))
-            → ComesTo m cap w node reading acted asked request took disk (record { desk = Up new at; event = Some (event.Done node mo request kept); answer = answer.Done took mo told }) (Some (event.Done node mo request kept))
+            → ComesTo m cap w node reading acted asked request took disk (record { work = Up new at; event = Some (event.Done node mo request kept); answer = answer.Done took mo told }) (Some (event.Done node mo request kept))
         done_comes new kept told same does rest run =
-            subst (λ (t : Reply). ComesTo m cap w node reading acted asked request took disk (record { desk = Up new at; event = Some (event.Done node mo request kept); answer = answer.Done took mo t }) (Some (event.Done node mo request kept))) (sym same)
+            subst (λ (t : Reply). ComesTo m cap w node reading acted asked request took disk (record { work = Up new at; event = Some (event.Done node mo request kept); answer = answer.Done took mo t }) (Some (event.Done node mo request kept))) (sym same)
             (subst (λ (x : ℕ). Does (standing_of manager) x node request (standing_of new) kept
             → LeavesOnly m disk (disk_of new) (HoldsEither (m.may_leave disk) r.says.live r (with_body r (text_of x node request)))
-            → ComesTo m cap w node reading acted asked request took disk (record { desk = Up new at; event = Some (event.Done node x request kept); answer = answer.Done took x kept }) (Some (event.Done node x request kept)))
+            → ComesTo m cap w node reading acted asked request took disk (record { work = Up new at; event = Some (event.Done node x request kept); answer = answer.Done took x kept }) (Some (event.Done node x request kept)))
             (sym at_is) (λ does run. done_there new kept does rest run) does run)
 
         -- a request that is accepted is in doubt where its record is
@@ -199,29 +180,29 @@ module _ (accepted : SiteFilesAreAccepted) (goes_on : SiteFilesGoOn) {D : Type 0
         doubt_there : (live : Bool) (live_is : is_live w node ≡ live) → IsToManager request → (closed : Closed D) → IsInDoubt (standing_of manager) at_moment node request
             → LeavesOnly m disk (closed_disk closed) (HoldsEither (m.may_leave disk) r.says.live r (with_body r (text_of at_moment node request)))
             → ComesTo m cap w node reading acted asked request took disk
-            (record { desk = Down (site_files.Closed closed) (Some (record { file = r.says.live; before = length r.bodies })); event = Some (event.Doubt node at_moment request); answer = answer.Journal took live })
+            (record { work = Down (site_files.Closed closed) (Some (record { file = r.says.live; before = length r.bodies })); event = Some (event.Doubt node at_moment request); answer = answer.Journal took live })
             (Some (event.Doubt node at_moment request))
         doubt_there live live_is plain closed doubt run =
-            let follows = in_world (λ (s : System). CanFollow HasSpelling s at_moment node request) doubt.follows in
+            let follows = in_world (λ (s : System). CanFollow s at_moment node request) doubt.follows in
             let both = doubt_step node reading asked request own follows doubt.room little closed (can_be_in_doubt w node at_moment request plain managed follows) run in (
-              record { part = both.0; desk = both.1; told = λ because. ap (λ (b : Bool). answer.Journal took b) (sym live_is) },
+              record { part = both.0; work = both.1; told = λ because. ap (λ (b : Bool). answer.Journal took b) (sym live_is) },
               in_doubt_decided (applied (system_in w) at_moment node request) follows.accepted,
             )
 
         pub doubt_comes : (live : Bool) (live_is : is_live w node ≡ live) → IsToManager request → (closed : Closed D) (file before : ℕ) → file ≡ r.says.live → before ≡ length r.bodies → IsInDoubt (standing_of manager) mo node request
             → LeavesOnly m disk (closed_disk closed) (HoldsEither (m.may_leave disk) r.says.live r (with_body r (text_of mo node request)))
             → ComesTo m cap w node reading acted asked request took disk
-            (record { desk = Down (site_files.Closed closed) (Some (record { file = file; before = before })); event = Some (event.Doubt node mo request); answer = answer.Journal took live })
+            (record { work = Down (site_files.Closed closed) (Some (record { file = file; before = before })); event = Some (event.Doubt node mo request); answer = answer.Journal took live })
             (Some (event.Doubt node mo request))
         doubt_comes live live_is plain closed file before file_is before_is doubt run =
             subst (λ (f : ℕ). ComesTo m cap w node reading acted asked request took disk
-            (record { desk = Down (site_files.Closed closed) (Some (record { file = f; before = before })); event = Some (event.Doubt node mo request); answer = answer.Journal took live }) (Some (event.Doubt node mo request))) (sym file_is)
+            (record { work = Down (site_files.Closed closed) (Some (record { file = f; before = before })); event = Some (event.Doubt node mo request); answer = answer.Journal took live }) (Some (event.Doubt node mo request))) (sym file_is)
             (subst (λ (n : ℕ). ComesTo m cap w node reading acted asked request took disk
-            (record { desk = Down (site_files.Closed closed) (Some (record { file = r.says.live; before = n })); event = Some (event.Doubt node mo request); answer = answer.Journal took live }) (Some (event.Doubt node mo request))) (sym before_is)
+            (record { work = Down (site_files.Closed closed) (Some (record { file = r.says.live; before = n })); event = Some (event.Doubt node mo request); answer = answer.Journal took live }) (Some (event.Doubt node mo request))) (sym before_is)
             (subst (λ (x : ℕ). IsInDoubt (standing_of manager) x node request
             → LeavesOnly m disk (closed_disk closed) (HoldsEither (m.may_leave disk) r.says.live r (with_body r (text_of x node request)))
             → ComesTo m cap w node reading acted asked request took disk
-            (record { desk = Down (site_files.Closed closed) (Some (record { file = r.says.live; before = length r.bodies })); event = Some (event.Doubt node x request); answer = answer.Journal took live })
+            (record { work = Down (site_files.Closed closed) (Some (record { file = r.says.live; before = length r.bodies })); event = Some (event.Doubt node x request); answer = answer.Journal took live })
             (Some (event.Doubt node x request)))
             (sym at_is) (λ doubt run. doubt_there live live_is plain closed doubt run) doubt run))
 
@@ -236,20 +217,20 @@ module _ (accepted : SiteFilesAreAccepted) (goes_on : SiteFilesGoOn) {D : Type 0
           epoch = ap (λ (s : Standing). s.recorded.says.epoch) same ∙ up.epoch;
         }
 
-        still_there : (new : Manager D) → disk_of new ≡ disk → (e : Event) → CanCome HasSpelling w e → ((room : Room) → room_after record_text w room e ≡ room) → HasRoom record_text None w (room_of r) reading asked e []
+        still_there : (new : Manager D) → disk_of new ≡ disk → (e : Event) → CanCome w e → ((room : Room) → room_after w room e ≡ room) → HasRoom None w (room_of r) reading asked e []
             → Part m None w reading asked false (e ∷ []) disk (disk_of new)
         still_there new there e comes stays has =
             subst (λ (d : D). Part m None w reading asked false (e ∷ []) disk d) (sym there) (still m disk (only_now disk) None w reading asked false e r up.at_rest.holds crash_holds comes stays has)
 
         pub refused_comes : (new : Manager D) (refusal : Refusal) → standing_of new ≡ standing_of manager → disk_of new ≡ disk → applied (standing_of manager).system mo node request ≡ Err refusal
             → ComesTo m cap w node reading acted asked request took disk
-            (record { desk = Up new at; event = Some (event.Refused node mo (input.Ask request) refusal); answer = answer.Refused took refusal }) (Some (event.Refused node mo (input.Ask request) refusal))
+            (record { work = Up new at; event = Some (event.Refused node mo (input.Ask request) refusal); answer = answer.Refused took refusal }) (Some (event.Refused node mo (input.Ask request) refusal))
         refused_comes new refusal same there is =
             let is_there : applied (system_in w) at_moment node request ≡ Err refusal =
             subst (λ (x : ℕ). applied (system_in w) x node request ≡ Err refusal) at_is (in_world (λ (s : System). applied s mo node request ≡ Err refusal) is) in (
               record {
                 part = still_there new there (event.Refused node mo (input.Ask request) refusal) tt (λ room. refl) tt;
-                desk = stays_up new same there;
+                work = stays_up new same there;
                 told = λ because. refl;
               },
               subst (λ (res : Result Accepted Refusal). IsDecided node at_moment request res (event.Refused node mo (input.Ask request) refusal ∷ [])) (sym is_there)
@@ -258,23 +239,23 @@ module _ (accepted : SiteFilesAreAccepted) (goes_on : SiteFilesGoOn) {D : Type 0
 
         pub full_comes : (new : Manager D) (need most : ℕ) → standing_of new ≡ standing_of manager → disk_of new ≡ disk → Lacks (standing_of manager) mo node request need most
             → length (text_of mo node request) < 2 ^ 63
-            → ComesTo m cap w node reading acted asked request took disk (record { desk = Up new at; event = Some (event.Full node need most); answer = answer.Full took need most }) (Some (event.Full node need most))
+            → ComesTo m cap w node reading acted asked request took disk (record { work = Up new at; event = Some (event.Full node need most); answer = answer.Full took need most }) (Some (event.Full node need most))
         full_comes new need most same there lacks short =
-            let follows : CanFollow HasSpelling (system_in w) at_moment node request =
-            subst (λ (x : ℕ). CanFollow HasSpelling (system_in w) x node request) at_is (in_world (λ (s : System). CanFollow HasSpelling s mo node request) lacks.follows) in
+            let follows : CanFollow (system_in w) at_moment node request =
+            subst (λ (x : ℕ). CanFollow (system_in w) x node request) at_is (in_world (λ (s : System). CanFollow s mo node request) lacks.follows) in
             let fits = up.may.fits in
-            let whole : need ≡ record_need record_text (room_of r) (request_record mo node request) = omega (arith, lacks.need_is, short, fits, small) in (
+            let whole : need ≡ record_need (room_of r) (request_record mo node request) = omega (arith, lacks.need_is, short, fits, small) in (
               record {
                 part = still_there new there (event.Full node need most) tt (λ room. refl)
                     (lacks_own w (room_of r) node reading asked request (event.Full node need most) own
-                    (subst (λ (x : ℕ). LacksRoom (record_need record_text (room_of r) (request_record x node request)) (room_of r).cap (event.Full node need most)) at_is
+                    (subst (λ (x : ℕ). LacksRoom (record_need (room_of r) (request_record x node request)) (room_of r).cap (event.Full node need most)) at_is
                     (whole, lacks.cap_is, subst (λ (n : ℕ). r.says.cap < n) whole (subst (λ (c : ℕ). c < need) lacks.cap_is lacks.over))));
-                desk = stays_up new same there;
+                work = stays_up new same there;
                 told = λ because. refl;
               },
               full_decided need most (applied (system_in w) at_moment node request) follows.accepted,
             )
 
         pub short_comes : (new : Manager D) → standing_of new ≡ standing_of manager → disk_of new ≡ disk
-            → ComesTo m cap w node reading acted asked request took disk (record { desk = Up new at; event = None; answer = answer.NoMemory took }) None
-        short_comes new same there = record { same = there; desk = stays_up new same there; told = refl }
+            → ComesTo m cap w node reading acted asked request took disk (record { work = Up new at; event = None; answer = answer.NoMemory took }) None
+        short_comes new same there = record { same = there; work = stays_up new same there; told = refl }

@@ -1,16 +1,10 @@
 -- The parts of a takeover, on files that were read: what is tried before the record is written, and how the whole call is put together.
-use Rattle.std.proofs.Common.{◌≡◌, ◌≢◌, inl, inr, ℕ, ◌+◌, ◌≤◌, Bool, true, false, cond, List, [], ◌∷◌, length, refl, sym, ◌∙◌, ap, subst, arith, Option, None}
-use Rattle.std.specs.Prelude.{◌==◌, IsSome}
+use Rattle.std.proofs.Common.{◌≡◌, ◌≢◌, inl, inr, ℕ, ◌+◌, ◌≤◌, Bool, true, false, cond, List, [], ◌∷◌, length, refl, sym, ◌∙◌, ap, subst, arith, Option, None, ◌==◌, IsSome, append-nil}
 use Rattle.std.specs.List.{AllByRecursion}
 use Rattle.std.proofs.lemmas.Bool.Decides.{nat_tests}
-use Rattle.std.proofs.lemmas.List.{append-nil}
 use Rattle.qm_disk.specs.Disk.{CrashState, Meaning, IsLeft, LeavesOnly, OnlyLooks}
 use Rattle.qm_disk.proofs.Moments.{goes_further, holds_now, looks_on, started, weaker}
-use Rattle.qm_glog.specs.Records.{IsLog, size_of}
-use Rattle.qm_kinds.specs.declared.input.Input.{Input}
-use Rattle.qm_kinds.specs.declared.record.Record.{Record}
-use Rattle.qm_model.specs.Folding.{system_of}
-use Rattle.qm_record.specs.Spelling.{HasSpelling, record_text}
+use Rattle.qm_history.specs.Common.{size_of, Input, Record, system_of, told_by, Epoch, master_text, CanCome, after_event, doubt_read, log_read}
 use Rattle.qm_store.specs.Opening.{in_next_epoch, next_need}
 use Rattle.qm_store.specs.Recorded.{Recorded, Holds, IsAtRest, epoch_behind}
 use Rattle.qm_store.specs.declared.files.TheConstants.{MASTER_CAP}
@@ -22,11 +16,7 @@ use Rattle.qm_history.specs.declared.event.Event.{Event}
 use Rattle.qm_history.specs.declared.event.Event.TheVariants as event
 use Rattle.qm_history.specs.declared.world.World.{World}
 use Rattle.qm_history.specs.Contents.{HoldWorld, LeavesFiles, are_without_write}
-use Rattle.qm_history.specs.Leaving.{told_by}
-use Rattle.qm_history.specs.Master.{Epoch, master_text}
 use Rattle.qm_history.specs.Room.{Room, HasRoom, HaveRoom, Unless, epoch_need, room_after, room_after_events, room_in}
-use Rattle.qm_history.specs.Step.{CanCome, after_event}
-use Rattle.qm_history.specs.World.{doubt_read, log_read}
 use Rattle.qm_chest.specs.Holding.{MayHold, SomeHold, AllHold}
 use Rattle.qm_chest.specs.Parts.{HoldsWithin, HoldSome, Part}
 use Rattle.qm_chest.specs.Taking.{IsReadOf}
@@ -65,8 +55,8 @@ module _ (accepted : SiteFilesAreAccepted) {D : Type 0} (m : Meaning D) (w : Wor
       files = files_on (are_without_write events) part.files;
       reaches = λ quiet said says records more was_held is_held.
           part.reaches quiet between.says says between.records more between.holds is_held
-          ∙ ap (λ (room : Room). room_after_events record_text w room events) (room_is (m.seen mid) between.says between.records between.holds r is ∙ sym (room_is (m.seen old) said records was_held r was));
-      room = λ says records h. subst (λ (room : Room). HaveRoom record_text None w room reading asked events)
+          ∙ ap (λ (room : Room). room_after_events w room events) (room_is (m.seen mid) between.says between.records between.holds r is ∙ sym (room_is (m.seen old) said records was_held r was));
+      room = λ says records h. subst (λ (room : Room). HaveRoom None w room reading asked events)
           (room_is (m.seen mid) between.says between.records between.holds r is ∙ sym (room_is (m.seen old) says records h r was)) (part.room between.says between.records between.holds);
     }
 
@@ -185,11 +175,11 @@ module _ (accepted : SiteFilesAreAccepted) {D : Type 0} (m : Meaning D) (only_no
     }
 
     -- the same in the words of histories
-    pub crash_next : (new : D) → IsAtRest m next new → (crashed : CrashState) → IsLeft (m.may_leave new) crashed → HoldWorld IsLog HasSpelling record_text crashed (failed_world epoch)
+    pub crash_next : (new : D) → IsAtRest m next new → (crashed : CrashState) → IsLeft (m.may_leave new) crashed → HoldWorld crashed (failed_world epoch)
     crash_next new rest crashed left =
         holds_world accepted cap (failed_world epoch) None crashed next (left_at_rest m next new rest crashed left) may_next (epoch_of_none (failed_world epoch) next.says.epoch None refl (omega arith))
 
-    pub crash_still : (crashed : CrashState) → IsLeft (m.may_leave mid) crashed → HoldWorld IsLog HasSpelling record_text crashed (failed_world tried)
+    pub crash_still : (crashed : CrashState) → IsLeft (m.may_leave mid) crashed → HoldWorld crashed (failed_world tried)
     crash_still crashed left =
         let le = read.may.epoch in
         let before : r.says.epoch ≤ tried = omega (arith, le, tried_is) in
@@ -206,9 +196,9 @@ module _ (accepted : SiteFilesAreAccepted) {D : Type 0} (m : Meaning D) (only_no
       moments = started m mid (HoldsWithin w (event.TakeDoubt node tried kept ∷ []))
           (λ crashed since. within_log (event.TakeDoubt node tried kept ∷ []) refl crashed r (left_at_rest m r mid read.at_rest crashed (only_now mid crashed since)) site read.may.recorded);
       files = tt;
-      reaches = λ quiet. grows m (m.seen mid) (m.seen mid) r r (λ room. room_after record_text w room (event.TakeDoubt node tried kept)) holds holds
+      reaches = λ quiet. grows m (m.seen mid) (m.seen mid) r r (λ room. room_after w room (event.TakeDoubt node tried kept)) holds holds
           (sym (ap (λ (b : Bool). cond b (room_of r) (record (room_of r) { master = size_of r.master + (5 + length (master_text (Epoch tried node))) })) (same_number tried w.greatest tried_is)));
-      room = λ says records h. (subst (λ (b : Bool). Unless b (epoch_need (room_in record_text says h.masters records) tried node ≤ 1048576)) (sym (same_number tried w.greatest tried_is)) tt, tt);
+      room = λ says records h. (subst (λ (b : Bool). Unless b (epoch_need (room_in says h.masters records) tried node ≤ 1048576)) (sym (same_number tried w.greatest tried_is)) tt, tt);
     }
 
     -- ---- and at its epoch, or behind it
@@ -216,13 +206,13 @@ module _ (accepted : SiteFilesAreAccepted) {D : Type 0} (m : Meaning D) (only_no
     pub epoch_room : next_need r tried node ≤ MASTER_CAP → epoch_need (room_of r) epoch node ≤ 1048576
     epoch_room has = whole_need r.master (master_text (Epoch epoch node)) MASTER_CAP (omega arith) has
 
-    pub next_room : room_of next ≡ room_after record_text w (room_of r) (event.TakeDoubt node epoch kept)
+    pub next_room : room_of next ≡ room_after w (room_of r) (event.TakeDoubt node epoch kept)
     next_room =
         (λ i. record { master = one_larger r.master (master_text (Epoch epoch node)) i; live = size_of r.bodies; file = r.says.live; cap = r.says.cap })
         ∙ sym (ap (λ (b : Bool). cond b (room_of r) (record (room_of r) { master = size_of r.master + (5 + length (master_text (Epoch epoch node))) })) (other_number epoch w.greatest is_later))
 
     -- the event may come, and has room
-    pub epoch_told : next_need r tried node ≤ MASTER_CAP → CanCome HasSpelling w (event.TakeDoubt node epoch kept) × HasRoom record_text None w (room_of r) now asked (event.TakeDoubt node epoch kept) []
+    pub epoch_told : next_need r tried node ≤ MASTER_CAP → CanCome w (event.TakeDoubt node epoch kept) × HasRoom None w (room_of r) now asked (event.TakeDoubt node epoch kept) []
     epoch_told has = (
       (inr epoch_is, doubt_told),
       subst (λ (b : Bool). Unless b (epoch_need (room_of r) epoch node ≤ 1048576)) (sym (other_number epoch w.greatest is_later)) (epoch_room has),
@@ -234,9 +224,9 @@ module _ (accepted : SiteFilesAreAccepted) {D : Type 0} (m : Meaning D) (only_no
       comes = ((epoch_told has).0, tt);
       moments = weaker m mid new (HoldsEpoch r next) (HoldsWithin w (event.TakeDoubt node epoch kept ∷ [])) run (λ crashed h. within_epoch (event.TakeDoubt node epoch kept ∷ []) refl crashed h);
       files = tt;
-      reaches = λ quiet. grows m (m.seen mid) (m.seen new) r next (λ room. room_after record_text w room (event.TakeDoubt node epoch kept)) holds (then_ quiet) next_room;
+      reaches = λ quiet. grows m (m.seen mid) (m.seen new) r next (λ room. room_after w room (event.TakeDoubt node epoch kept)) holds (then_ quiet) next_room;
       room = λ says records h. (
-        subst (λ (room : Room). HasRoom record_text None w room now asked (event.TakeDoubt node epoch kept) []) (sym (room_is (m.seen mid) says records h r holds)) (epoch_told has).1,
+        subst (λ (room : Room). HasRoom None w room now asked (event.TakeDoubt node epoch kept) []) (sym (room_is (m.seen mid) says records h r holds)) (epoch_told has).1,
         tt,
       );
     }

@@ -1,14 +1,10 @@
 -- Files that couldn't be read before a takeover, or may not be: what the call leaves.
-use Rattle.std.proofs.Common.{◌≡◌, inl, ℕ, ◌+◌, ◌^◌, ◌<◌, ◌≤◌, Bool, true, false, List, [], ◌∷◌, length, refl, sym, ◌∙◌, ap, subst, arith, Option, None}
-use Rattle.std.specs.Prelude.{slice_get, unwrap_or, IsTrue}
+use Rattle.std.proofs.Common.{◌≡◌, inl, ℕ, ◌+◌, ◌^◌, ◌<◌, ◌≤◌, Bool, true, false, List, [], ◌∷◌, length, refl, sym, ◌∙◌, ap, subst, arith, Option, None, slice_get, unwrap_or, IsTrue}
 use Rattle.qm_disk.specs.Disk.{Meaning, IsLeft, OnlyLooks, TellsFaults}
 use Rattle.qm_disk.proofs.Moments.{weaker}
-use Rattle.qm_glog.specs.Records.{IsLog}
-use Rattle.qm_glog.specs.declared.fault.OpenFault.{OpenFault}
+use Rattle.qm_history.specs.Common.{IsLog, OpenFault, Input, input_of, is_journal, after_event}
 use Rattle.qm_glog.specs.declared.fault.OpenFault.TheVariants as opening
-use Rattle.qm_kinds.specs.declared.input.Input.{Input}
 use Rattle.qm_store.proofs.Masters.{says_lawful}
-use Rattle.qm_record.specs.Spelling.{record_text}
 use Rattle.qm_store.specs.Database.{disk_of as closed_disk}
 use Rattle.qm_store.specs.Recorded.{Recorded, Holds, epoch_behind}
 use Rattle.qm_store.specs.declared.closed.Closed.{Closed}
@@ -21,17 +17,14 @@ use Rattle.qm_history.specs.declared.call.Call.{Call}
 use Rattle.qm_history.specs.declared.event.Event.{Event}
 use Rattle.qm_history.specs.declared.event.Event.TheVariants as event
 use Rattle.qm_history.specs.declared.world.World.{World}
-use Rattle.qm_history.specs.Calls.{input_of}
-use Rattle.qm_history.specs.Faults.{is_journal}
 use Rattle.qm_history.specs.Room.{Unless, epoch_need, room_in}
-use Rattle.qm_history.specs.Step.{after_event}
-use Rattle.qm_chest.specs.declared.book.Book.{Book}
-use Rattle.qm_chest.specs.declared.desk.Desk.TheVariants.{Down}
+use Rattle.qm_chest.specs.declared.members.Members.{Members}
+use Rattle.qm_chest.specs.declared.work.Work.TheVariants.{Down}
 use Rattle.qm_chest.specs.declared.place.Place.{Place}
 use Rattle.qm_chest.specs.declared.serving.Served.{Served}
 use Rattle.qm_chest.specs.At.{CanBeAskedFor}
-use Rattle.qm_chest.specs.Books.{IsBookOf}
-use Rattle.qm_chest.specs.Desk.{IsDown}
+use Rattle.qm_chest.specs.Members.{AreMembersOf}
+use Rattle.qm_chest.specs.Work.{IsDown}
 use Rattle.qm_chest.specs.Duties.{ShowsNodeDuties}
 use Rattle.qm_chest.specs.Holding.{MayHold, AllHold}
 use Rattle.qm_chest.specs.Parts.{HoldsWithin, Part}
@@ -63,11 +56,11 @@ unread_duties live (opening.Unformatted byte) = tt
 unread_duties live (opening.Damaged file place) = tt
 unread_duties live opening.NoMemory = tt
 
-pub unread_leaves : {D : Type 0} (m : Meaning D) (book : Book) (disk : D) (closed : Closed D) (place : Option Place) (node : ℕ) (live : Bool) (fault : OpenFault) (s : Served D)
-    → TellsFaults m disk (closed_disk closed) (fault ≡ opening.Disk) → (IsTrue m.tells → KeepsSpare m disk (closed_disk closed)) → s ≡ failed closed place node book.greatest None None (unread_answer live fault) → LeavesFrom m book disk (book.greatest + 1) book s
-unread_leaves m book disk closed place node live fault s tells spare is =
-    failed_leaves m book book disk (book.greatest + 1) closed place node book.greatest None None (unread_answer live fault) s refl (omega arith) (unread_faults m disk (closed_disk closed) live fault tells)
-    spare (unread_told node book.greatest live fault) (unread_duties live fault) is
+pub unread_leaves : {D : Type 0} (m : Meaning D) (members : Members) (disk : D) (closed : Closed D) (place : Option Place) (node : ℕ) (live : Bool) (fault : OpenFault) (s : Served D)
+    → TellsFaults m disk (closed_disk closed) (fault ≡ opening.Disk) → (IsTrue m.tells → KeepsSpare m disk (closed_disk closed)) → s ≡ failed closed place node members.greatest None None (unread_answer live fault) → LeavesFrom m members disk (members.greatest + 1) members s
+unread_leaves m members disk closed place node live fault s tells spare is =
+    failed_leaves m members members disk (members.greatest + 1) closed place node members.greatest None None (unread_answer live fault) s refl (omega arith) (unread_faults m disk (closed_disk closed) live fault tells)
+    spare (unread_told node members.greatest live fault) (unread_duties live fault) is
 
 -- a disk that didn't fail, at a file that isn't taken
 pub damaged_faults : {D : Type 0} (m : Meaning D) (before after : D) (file place : ℕ) → m.faults after ≡ m.faults before → TellsFaults m before after (opening.Damaged file place ≡ opening.Disk)
@@ -82,21 +75,21 @@ held_after m old new r holds looks = record {
   live_is_log = subst (λ (f : List ℕ). IsLog f r.bodies) (sym (looks.reads r.says.live (live_within r.says.live (says_lawful r.master r.says holds.is_master).live))) holds.live_is_log;
 }
 
-module _ (accepted : SiteFilesAreAccepted) {D : Type 0} (m : Meaning D) (cap : ℕ) (w : World) (asked : Call) (book : Book) (node now : ℕ) (what : Input) (taking : IsTaking book node what cap w asked)
-    (there : node < length book.names.items) (can : CanBeAskedFor node what) (place : Option Place) (old : D) (all : AllHold m (MayHold cap w place) old) (closed : Closed D)
+module _ (accepted : SiteFilesAreAccepted) {D : Type 0} (m : Meaning D) (cap : ℕ) (w : World) (asked : Call) (members : Members) (node now : ℕ) (what : Input) (taking : IsTaking members node what cap w asked)
+    (there : node < length members.names.items) (can : CanBeAskedFor node what) (place : Option Place) (old : D) (all : AllHold m (MayHold cap w place) old) (closed : Closed D)
     (looks : OnlyLooks m old (closed_disk closed))
   where
     abbrev tried : ℕ
-    tried = book.greatest
+    tried = members.greatest
 
     tried_is : tried ≡ w.greatest
-    tried_is = taking.book.greatest
+    tried_is = taking.members.greatest
 
     abbrev e : Event
-    e = event.TakeDoubt node book.greatest None
+    e = event.TakeDoubt node members.greatest None
 
     abbrev v : World
-    v = after_event w (event.TakeDoubt node book.greatest None)
+    v = after_event w (event.TakeDoubt node members.greatest None)
 
     may_still : (r : Recorded) → MayHold cap w place r → MayHold cap v place r
     may_still r may =
@@ -120,34 +113,34 @@ module _ (accepted : SiteFilesAreAccepted) {D : Type 0} (m : Meaning D) (cap : �
       moments = weaker m old (closed_disk closed) (IsLeft (m.may_leave old)) (HoldsWithin w (e ∷ [])) looks.any_moment (λ crashed left. some_within accepted cap w place (e ∷ []) crashed (all.crash crashed left));
       files = tt;
       reaches = λ quiet. cc;
-      room = λ says records h. (subst (λ (b : Bool). Unless b (epoch_need (room_in record_text says h.masters records) tried node ≤ 1048576)) (sym (same_number tried w.greatest tried_is)) tt, tt);
+      room = λ says records h. (subst (λ (b : Bool). Unless b (epoch_need (room_in says h.masters records) tried node ≤ 1048576)) (sym (same_number tried w.greatest tried_is)) tt, tt);
     }
 
-    book_still : IsBookOf v book
-    book_still = record { names = taking.book.names; live = taking.book.live; held = taking.book.held; greatest = refl }
+    members_still : AreMembersOf v members
+    members_still = record { names = taking.members.names; live = taking.members.live; held = taking.members.held; greatest = refl }
 
     rises : v.greatest ≤ w.greatest + 1
     rises = omega (arith, tried_is)
 
-    pub unread_served : (fault : OpenFault) (live : Bool) (s : Served D) → live ≡ unwrap_or (slice_get book.live.items node) false → ((file at : ℕ) → fault ≡ opening.Damaged file at → ⊥) → ((byte : ℕ) → fault ≡ opening.Unformatted byte → ⊥)
-        → s ≡ failed closed place node book.greatest None None (unread_answer live fault)
-        → IsServedAs m cap w node now asked old (record { book = book; desk = s.desk }) (both s.first s.second) s.answer
+    pub unread_served : (fault : OpenFault) (live : Bool) (s : Served D) → live ≡ unwrap_or (slice_get members.live.items node) false → ((file at : ℕ) → fault ≡ opening.Damaged file at → ⊥) → ((byte : ℕ) → fault ≡ opening.Unformatted byte → ⊥)
+        → s ≡ failed closed place node members.greatest None None (unread_answer live fault)
+        → IsServedAs m cap w node now asked old (record { members = members; work = s.work }) (both s.first s.second) s.answer
     unread_served opening.Disk live s live_is undamaged formatted is =
-        served_as m cap w node now asked old book s (failed closed place node book.greatest None None (answer.Journal None live)) is
-        (failures.put_plain m cap w asked book node now what taking there can e [] true book old (Down (site_files.Closed closed) place) part (λ said. cc) refl book_still down rises (answer.Journal None live) refl
-        (ap (λ (b : Bool). answer.Journal None b) (live_is ∙ ap (λ (l : List Bool). unwrap_or (slice_get l node) false) taking.book.live))
-        (failures.served m cap w asked book node now what taking there can (e ∷ []) (refl, λ later. absurd (omega (arith, later, tried_is)))))
+        served_as m cap w node now asked old members s (failed closed place node members.greatest None None (answer.Journal None live)) is
+        (failures.put_plain m cap w asked members node now what taking there can e [] true members old (Down (site_files.Closed closed) place) part (λ said. cc) refl members_still down rises (answer.Journal None live) refl
+        (ap (λ (b : Bool). answer.Journal None b) (live_is ∙ ap (λ (l : List Bool). unwrap_or (slice_get l node) false) taking.members.live))
+        (failures.served m cap w asked members node now what taking there can (e ∷ []) (refl, λ later. absurd (omega (arith, later, tried_is)))))
     unread_served opening.NoMemory live s live_is undamaged formatted is =
-        served_as m cap w node now asked old book s (failed closed place node book.greatest None None (answer.NoMemory None)) is
-        (failures.put_alone m cap w asked book node now what taking there can e [] true book old (Down (site_files.Closed closed) place) part (λ said. cc) refl book_still down rises None refl refl
-        (failures.alone m cap w asked book node now what taking there can (e ∷ []) (refl, λ later. absurd (omega (arith, later, tried_is)))))
+        served_as m cap w node now asked old members s (failed closed place node members.greatest None None (answer.NoMemory None)) is
+        (failures.put_alone m cap w asked members node now what taking there can e [] true members old (Down (site_files.Closed closed) place) part (λ said. cc) refl members_still down rises None refl refl
+        (failures.alone m cap w asked members node now what taking there can (e ∷ []) (refl, λ later. absurd (omega (arith, later, tried_is)))))
     unread_served (opening.Damaged file at) live s live_is undamaged formatted is = absurd (undamaged file at refl)
     unread_served (opening.Unformatted byte) live s live_is undamaged formatted is = absurd (formatted byte refl)
 
 -- ---- epochs
 
-pub early_of : {D : Type 0} (m : Meaning D) (book : Book) (disk : D) (place : Option Place) (r : Recorded) → AreEarly m book disk place → Holds (m.seen disk) r → epoch_behind r book.greatest < 2 ^ 62
-early_of m book disk place r are holds =
+pub early_of : {D : Type 0} (m : Meaning D) (members : Members) (disk : D) (place : Option Place) (r : Recorded) → AreEarly m members disk place → Holds (m.seen disk) r → epoch_behind r members.greatest < 2 ^ 62
+early_of m members disk place r are holds =
     let same : are.holds.reads.recorded ≡ r = one_content (m.seen disk) are.holds.reads.recorded r are.holds.reads.holds holds in
     let low : r.says.epoch ≤ are.w.greatest = subst (λ (x : Recorded). x.says.epoch ≤ are.w.greatest) same are.holds.reads.is.epoch in
     let is = are.greatest in

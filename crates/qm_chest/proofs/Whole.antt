@@ -1,14 +1,11 @@
 -- Calls that write nothing: what they leave.
-use Rattle.std.proofs.Common.{◌≡◌, ℕ, ◌<◌, ◌≤◌, Bool, true, false, List, [], ◌∷◌, length, refl, sym, ◌∙◌, ap, subst, arith, Option, None}
-use Rattle.std.specs.Prelude.{unwrap_or}
+use Rattle.std.proofs.Common.{◌≡◌, ℕ, ◌<◌, ◌≤◌, Bool, true, false, List, [], ◌∷◌, length, refl, sym, ◌∙◌, ap, subst, arith, Option, None, unwrap_or}
 use Rattle.qm_disk.specs.Disk.{CrashState, Meaning, IsLeft}
 use Rattle.qm_disk.proofs.Moments.{started}
-use Rattle.qm_glog.specs.Records.{IsLog}
-use Rattle.qm_kinds.specs.declared.input.Input.{Input}
+use Rattle.qm_history.specs.Common.{Input, answer_of, event_answer, moment_of, shown_answer, takeover_of, input_of, why_of, IsFromOutside, HoldWorld, compacted_by, is_disk_fault, is_journal, tells_disk_fault, CanCome, after_event, takes_over, IsBehindTakeover, IsOwn, IsServed, Nothing, UnlessDown, is_down, system_in, GREATEST_CAP}
 use Rattle.qm_kinds.specs.declared.input.Input.TheVariants as input
 use Rattle.qm_kinds.specs.declared.refusal.ParseKind.{ParseKind}
 use Rattle.qm_kinds.specs.declared.refusal.Refusal.TheVariants as refused
-use Rattle.qm_record.specs.Spelling.{HasSpelling, record_text}
 use Rattle.qm_store.specs.Recorded.{Recorded, Holds}
 use Rattle.qm_acting.specs.Standing.{standing_of}
 use Rattle.qm_history.specs.declared.call.Answer.{Answer}
@@ -21,26 +18,17 @@ use Rattle.qm_history.specs.declared.turn.Turn.{Turn}
 use Rattle.qm_history.specs.declared.turn.Why.{Why}
 use Rattle.qm_history.specs.declared.world.World.{World}
 use Rattle.qm_history.specs.Answering.{MayAnswer, SaysItsEvents}
-use Rattle.qm_history.specs.Answers.{answer_of, event_answer, moment_of, shown_answer, takeover_of}
-use Rattle.qm_history.specs.Calls.{input_of, why_of, IsFromOutside}
 use Rattle.qm_history.specs.Chest.{AddsNone}
-use Rattle.qm_history.specs.Contents.{HoldWorld, compacted_by}
-use Rattle.qm_history.specs.Faults.{is_disk_fault, is_journal, tells_disk_fault}
 use Rattle.qm_history.specs.Room.{Room, HasRoom, room_after}
-use Rattle.qm_history.specs.Step.{CanCome, after_event}
-use Rattle.qm_history.specs.Takeover.{takes_over}
-use Rattle.qm_history.specs.Turn.{IsBehindTakeover, IsOwn, IsServed, Nothing, UnlessDown, is_down}
-use Rattle.qm_history.specs.World.{system_in}
-use Rattle.qm_chest.specs.declared.desk.Desk.{Desk}
-use Rattle.qm_chest.specs.declared.desk.Desk.TheVariants.{Up, Down}
+use Rattle.qm_chest.specs.declared.work.Work.{Work}
+use Rattle.qm_chest.specs.declared.work.Work.TheVariants.{Up, Down}
 use Rattle.qm_chest.specs.declared.chest.State.{State}
 use Rattle.qm_chest.specs.At.{IsStateAt, state_disk}
-use Rattle.qm_kinds.specs.declared.limits.TheConstants.{GREATEST_CAP}
 use Rattle.qm_chest.specs.declared.asking.Came.{Came}
-use Rattle.qm_chest.specs.declared.book.Book.{Book}
-use Rattle.qm_chest.specs.Books.{IsBookOf}
+use Rattle.qm_chest.specs.declared.members.Members.{Members}
+use Rattle.qm_chest.specs.Members.{AreMembersOf}
 use Rattle.qm_chest.specs.Steps.{IsShort, IsStep, is_plain, is_step}
-use Rattle.qm_chest.specs.Desk.{IsDeskAt, desk_disk}
+use Rattle.qm_chest.specs.Work.{IsWorkAt, work_disk}
 use Rattle.qm_chest.specs.Parts.{Part}
 use Rattle.qm_chest.specs.Turns.{made_turn}
 use Rattle.qm_chest.specs.declared.serving.Served.{Served}
@@ -50,32 +38,32 @@ use Rattle.qm_chest.proofs.Turning.{adds, tells_room, whole}
 use Rattle.qm_chest.proofs.Steps.{epoch_of_role}
 use Rattle.qm_store.proofs.Moving.{left_at_rest}
 
--- ---- what a desk's files hold
+-- ---- what its files hold
 
 module _ (accepted : SiteFilesAreAccepted) {D : Type 0} (m : Meaning D) (cap : ℕ) (w : World) where
-  pub desk_reads : (desk : Desk D) → IsDeskAt m cap w desk → (r : Recorded) × Holds (m.seen (desk_disk desk)) r
-  desk_reads (Up manager node) up = ((standing_of manager).recorded, up.at_rest.holds)
-  desk_reads (Down files place) down = (down.holds.reads.recorded, down.holds.reads.holds)
+  pub work_reads : (work : Work D) → IsWorkAt m cap w work → (r : Recorded) × Holds (m.seen (work_disk work)) r
+  work_reads (Up manager node) up = ((standing_of manager).recorded, up.at_rest.holds)
+  work_reads (Down files place) down = (down.holds.reads.recorded, down.holds.reads.holds)
 
-  pub desk_crash : (desk : Desk D) → IsDeskAt m cap w desk → (crashed : CrashState) → IsLeft (m.may_leave (desk_disk desk)) crashed → HoldWorld IsLog HasSpelling record_text crashed w
-  desk_crash (Up manager node) up crashed left =
-      holds_world accepted cap w None crashed (standing_of manager).recorded (left_at_rest m (standing_of manager).recorded (desk_disk (Up manager node)) up.at_rest crashed left) up.may
+  pub work_crash : (work : Work D) → IsWorkAt m cap w work → (crashed : CrashState) → IsLeft (m.may_leave (work_disk work)) crashed → HoldWorld crashed w
+  work_crash (Up manager node) up crashed left =
+      holds_world accepted cap w None crashed (standing_of manager).recorded (left_at_rest m (standing_of manager).recorded (work_disk (Up manager node)) up.at_rest crashed left) up.may
       (epoch_of_role w (standing_of manager).recorded.says.epoch w.manager (record { node = node; epoch = w.greatest }) up.role up.epoch)
-  desk_crash (Down files place) down crashed left =
+  work_crash (Down files place) down crashed left =
       let some = down.holds.crash crashed left in
       holds_world accepted cap w place crashed some.recorded some.holds some.is (epoch_of_none w some.recorded.says.epoch w.manager down.none some.is.epoch)
 
   -- an event that writes nothing, whatever the chest works with
-  pub desk_still : (only_now : (disk : D) (crashed : CrashState) → m.left_since disk (m.moment disk) crashed → IsLeft (m.may_leave disk) crashed) (desk : Desk D) → IsDeskAt m cap w desk
-      → (reading : ℕ) (asked : Input) (e : Event) → CanCome HasSpelling w e → ((room : Room) → room_after record_text w room e ≡ room) → ((room : Room) → HasRoom record_text None w room reading asked e [])
-      → Part m None w reading asked false (e ∷ []) (desk_disk desk) (desk_disk desk)
-  desk_still only_now desk at reading asked e comes stays has =
-      let reads = desk_reads desk at in
-      still m (desk_disk desk) (only_now (desk_disk desk)) None w reading asked false e reads.0 reads.1 (desk_crash desk at) comes stays (has (room_of reads.0))
+  pub work_still : (only_now : (disk : D) (crashed : CrashState) → m.left_since disk (m.moment disk) crashed → IsLeft (m.may_leave disk) crashed) (work : Work D) → IsWorkAt m cap w work
+      → (reading : ℕ) (asked : Input) (e : Event) → CanCome w e → ((room : Room) → room_after w room e ≡ room) → ((room : Room) → HasRoom None w room reading asked e [])
+      → Part m None w reading asked false (e ∷ []) (work_disk work) (work_disk work)
+  work_still only_now work at reading asked e comes stays has =
+      let reads = work_reads work at in
+      still m (work_disk work) (only_now (work_disk work)) None w reading asked false e reads.0 reads.1 (work_crash work at) comes stays (has (room_of reads.0))
 
 -- ---- an answer that says what the events do
 
-pub says : (w : World) (asked : Call) (t : Turn) (told : Answer) → is_plain told ≡ true → SaysItsEvents HasSpelling w asked t told → MayAnswer HasSpelling w asked t told
+pub says : (w : World) (asked : Call) (t : Turn) (told : Answer) → is_plain told ≡ true → SaysItsEvents w asked t told → MayAnswer w asked t told
 says w asked t (answer.NoMemory took) plain h = cc
 says w asked t (answer.Damaged file place) plain h = cc
 says w asked t answer.HistoryFull plain h = cc
@@ -249,44 +237,44 @@ module _ {D : Type 0} (m : Meaning D) (cap : ℕ) (w : World) (node now : ℕ) (
         → IsServedAs m cap w node now asked (state_disk state) state (event.Refused node now (input_of asked) refused.NodeDown ∷ []) (answer.Refused None refused.NodeDown)
     node_down down =
         one_served (event.Refused node now (input_of asked) refused.NodeDown) (answer.Refused None refused.NodeDown) false (state_disk state) state refl
-        (desk_still accepted m cap w only_now state.desk at.desk now (input_of asked) (event.Refused node now (input_of asked) refused.NodeDown) tt (λ room. refl) (λ room. tt))
+        (work_still accepted m cap w only_now state.work at.work now (input_of asked) (event.Refused node now (input_of asked) refused.NodeDown) tt (λ room. refl) (λ room. tt))
         (down_served down) refl refl at
 
     pub not_read : (place : ℕ) (kind : ParseKind) → input_of asked ≡ input.Fault place kind → is_down w node (input_of asked) ≡ false
         → IsServedAs m cap w node now asked (state_disk state) state (event.Refused node now (input.Fault place kind) (refused.ParseFault place kind) ∷ []) (answer.Refused None (refused.ParseFault place kind))
     not_read place kind is up =
         one_served (event.Refused node now (input.Fault place kind) (refused.ParseFault place kind)) (answer.Refused None (refused.ParseFault place kind)) false (state_disk state) state refl
-        (desk_still accepted m cap w only_now state.desk at.desk now (input_of asked) (event.Refused node now (input.Fault place kind) (refused.ParseFault place kind)) tt (λ room. refl) (λ room. tt))
+        (work_still accepted m cap w only_now state.work at.work now (input_of asked) (event.Refused node now (input.Fault place kind) (refused.ParseFault place kind)) tt (λ room. refl) (λ room. tt))
         (own_served (event.Refused node now (input.Fault place kind) (refused.ParseFault place kind) ∷ []) up (ap (takes_over w) is)
         (subst (λ (i : Input). IsOwn w node now asked Nothing i (event.Refused node now (input.Fault place kind) (refused.ParseFault place kind) ∷ [])) (sym is) refl)) refl refl at
 
     -- memory was short, and nothing has changed
-    pub short_served : (came : Came D) → IsShort m cap w None (state_disk state) came → IsServedAs m cap w node now asked (state_disk state) (record { book = state.book; desk = came.desk }) [] came.answer
+    pub short_served : (came : Came D) → IsShort m cap w None (state_disk state) came → IsServedAs m cap w node now asked (state_disk state) (record { members = state.members; work = came.work }) [] came.answer
     short_served came short =
         let old = state_disk state in
-        let reads = desk_reads accepted m cap w state.desk at.desk in
-        let crash = desk_crash accepted m cap w state.desk at.desk in
+        let reads = work_reads accepted m cap w state.work at.work in
+        let crash = work_crash accepted m cap w state.work at.work in
         record {
-          adds = subst (λ (d : D). AddsNone IsLog HasSpelling record_text m w old d came.answer) (sym short.same) (record {
+          adds = subst (λ (d : D). AddsNone m w old d came.answer) (sym short.same) (record {
             files = λ full. let no : answer.NoMemory None ≡ answer.HistoryFull = sym short.told ∙ full in cc;
-            moments = started m old (λ (crashed : CrashState). HoldWorld IsLog HasSpelling record_text crashed w) (λ crashed since. crash crashed (only_now old crashed since));
+            moments = started m old (λ (crashed : CrashState). HoldWorld crashed w) (λ crashed since. crash crashed (only_now old crashed since));
             reaches = grows m (m.seen old) (m.seen old) reads.0 reads.0 (λ room. room) reads.1 reads.1 refl;
           });
           room = tt;
-          at = record { book = at.book; desk = short.desk; small = at.small };
+          at = record { members = at.members; work = short.work; small = at.small };
           rises = omega arith;
         }
 
   -- a step of a manager that is up is the whole call
-  pub step_served : (old : D) (came : Came D) (book : Book) (e : Event) → is_simple e ≡ true → IsStep m cap w now now (input_of asked) None old came e → IsOwn w node now asked Nothing (input_of asked) (e ∷ [])
-      → is_down w node (input_of asked) ≡ false → takes_over w (input_of asked) ≡ false → IsBookOf (after_event w e) book → cap ≤ GREATEST_CAP
-      → IsServedAs m cap w node now asked old (record { book = book; desk = came.desk }) (e ∷ []) came.answer
-  step_served old came book e simple step own up none kept small =
-      one_served e came.answer (is_journal came.answer) old (record { book = book; desk = came.desk }) simple step.part (own_served (e ∷ []) up none own) refl (step.told (why_of asked))
-      (record { book = kept; desk = step.desk; small = small })
+  pub step_served : (old : D) (came : Came D) (members : Members) (e : Event) → is_simple e ≡ true → IsStep m cap w now now (input_of asked) None old came e → IsOwn w node now asked Nothing (input_of asked) (e ∷ [])
+      → is_down w node (input_of asked) ≡ false → takes_over w (input_of asked) ≡ false → AreMembersOf (after_event w e) members → cap ≤ GREATEST_CAP
+      → IsServedAs m cap w node now asked old (record { members = members; work = came.work }) (e ∷ []) came.answer
+  step_served old came members e simple step own up none kept small =
+      one_served e came.answer (is_journal came.answer) old (record { members = members; work = came.work }) simple step.part (own_served (e ∷ []) up none own) refl (step.told (why_of asked))
+      (record { members = kept; work = step.work; small = small })
 
 -- what is told by an equation
-module _ {D : Type 0} {m : Meaning D} {cap : ℕ} {w : World} {node now : ℕ} {asked : Call} {old : D} {book : Book} (served other : Served D) where
-  pub served_as : served ≡ other → IsServedAs m cap w node now asked old (record { book = book; desk = other.desk }) (both other.first other.second) other.answer
-      → IsServedAs m cap w node now asked old (record { book = book; desk = served.desk }) (both served.first served.second) served.answer
-  served_as is serves = subst (λ (x : Served D). IsServedAs m cap w node now asked old (record { book = book; desk = x.desk }) (both x.first x.second) x.answer) (sym is) serves
+module _ {D : Type 0} {m : Meaning D} {cap : ℕ} {w : World} {node now : ℕ} {asked : Call} {old : D} {members : Members} (served other : Served D) where
+  pub served_as : served ≡ other → IsServedAs m cap w node now asked old (record { members = members; work = other.work }) (both other.first other.second) other.answer
+      → IsServedAs m cap w node now asked old (record { members = members; work = served.work }) (both served.first served.second) served.answer
+  served_as is serves = subst (λ (x : Served D). IsServedAs m cap w node now asked old (record { members = members; work = x.work }) (both x.first x.second) x.answer) (sym is) serves

@@ -2,60 +2,49 @@
 -- OpenVMS System Manager's Manual, Managing the Queue Manager and Queue Database, on the queue manager process and its files.
 -- This site's own: turns, epochs, and the record in doubt.
 use Rattle.std.specs.Prelude.{◌≡◌, ℕ, ◌+◌, ◌^◌, ◌<◌, ◌≤◌, IsTrue, IsOk, List, ◌++◌, length, map, option_to_list, Option}
-use Rattle.qm_disk.specs.Disk.{Meaning}
-use Rattle.qm_glog.specs.Records.{IsLog}
-use Rattle.qm_kinds.specs.declared.input.Input.{Input}
+use Rattle.qm_history.specs.Common.{Meaning, Input, Request, System, GREATEST_CAP, applied, IsLawful, IsForUsers, IsSound}
 use Rattle.qm_kinds.specs.declared.input.Input.TheVariants as input
-use Rattle.qm_kinds.specs.declared.moment.TheConstants.{LAST_MOMENT}
-use Rattle.qm_kinds.specs.declared.request.Request.{Request}
-use Rattle.qm_kinds.specs.declared.system.System.{System}
-use Rattle.qm_kinds.specs.declared.limits.TheConstants.{GREATEST_CAP}
-use Rattle.qm_model.specs.Applied.{applied}
-use Rattle.qm_model.specs.Lawful.{IsLawful}
-use Rattle.qm_model.specs.Log.{request_record}
-use Rattle.qm_record.specs.Spelling.{HasSpelling, record_text}
+use Rattle.qm_record.specs.Spelling.{AreListsShort}
 use Rattle.qm_acting.specs.Files.{AreSound}
 use Rattle.qm_acting.specs.Standing.{standing_of, IsReady}
 use Rattle.qm_history.specs.declared.call.Answer.{Answer}
 use Rattle.qm_history.specs.declared.call.Call.{Call}
 use Rattle.qm_history.specs.declared.turn.Turn.{Turn}
 use Rattle.qm_history.specs.declared.world.World.{World}
-use Rattle.qm_history.specs.Calls.{IsForUsers}
 use Rattle.qm_history.specs.Chest.{Adds, IsMadeFor, LeavesTurn, TellsRoom}
 use Rattle.qm_history.specs.Serving.{TellsDisk, behind}
-use Rattle.qm_history.specs.World.{IsSound}
-use Rattle.qm_chest.specs.Desk.{desk_disk, IsDeskAt}
-use Rattle.qm_chest.specs.Books.{IsBookOf}
+use Rattle.qm_chest.specs.Work.{work_disk, IsWorkAt}
+use Rattle.qm_chest.specs.Members.{AreMembersOf}
 use Rattle.qm_chest.specs.declared.chest.Chest.{Chest}
 use Rattle.qm_chest.specs.declared.chest.State.{State}
-use Rattle.qm_chest.specs.declared.desk.Desk.{Desk}
-use Rattle.qm_chest.specs.declared.desk.Desk.TheVariants.{Up, Down}
+use Rattle.qm_chest.specs.declared.work.Work.{Work}
+use Rattle.qm_chest.specs.declared.work.Work.TheVariants.{Up, Down}
 
 -- ---- the chest at a world
 
 -- What the chest works with stands for a world of a site whose queue files have this cap.
 pub record IsStateAt {D : Type 0} (m : Meaning D) (cap : ℕ) (w : World) (state : State D) : Type 0 where
-  pub book : IsBookOf w state.book
-  pub desk : IsDeskAt m cap w state.desk
+  pub members : AreMembersOf w state.members
+  pub work : IsWorkAt m cap w state.work
   pub small : cap ≤ GREATEST_CAP
 
 -- The same of a chest, in a sound world whose epochs are so early that all turns that the chest can still keep find epochs that a
 -- master can hold.
 pub record IsAt {D : Type 0} (m : Meaning D) (cap : ℕ) (w : World) (chest : Chest D) : Type 0 where
   pub state : IsStateAt m cap w chest.state
-  pub sound : IsSound HasSpelling w
+  pub sound : IsSound w
   pub early : w.greatest ≤ 2 ^ 61 + length chest.turns.items
 
 -- its device
 abbrev pub state_disk : {D : Type 0} → State D → D
-state_disk state = desk_disk state.desk
+state_disk state = work_disk state.work
 
 abbrev pub chest_disk : {D : Type 0} → Chest D → D
 chest_disk chest = state_disk chest.state
 
 -- the names of its nodes
 abbrev pub chest_names : {D : Type 0} → Chest D → List (List ℕ)
-chest_names chest = chest.state.book.names.items
+chest_names chest = chest.state.members.names.items
 
 -- the turns that were made on it
 abbrev pub chest_turns : {D : Type 0} → Chest D → List Turn
@@ -64,14 +53,14 @@ chest_turns chest = chest.turns.items
 -- ---- whatever the disks tell
 
 -- a manager can be asked, of the nodes that are kept, of which one is its node; files that were read are as they were read
-abbrev pub IsDeskOf : {D : Type 0} → Meaning D → List (List ℕ) → Desk D → Type 0
-IsDeskOf m names (Up manager node) = IsReady m manager × (map (λ n. n.name) (standing_of manager).system.nodes ≡ names) × (node < length names)
-IsDeskOf m names (Down files place) = AreSound m files
+abbrev pub IsWorkOf : {D : Type 0} → Meaning D → List (List ℕ) → Work D → Type 0
+IsWorkOf m names (Up manager node) = IsReady m manager × (map (λ n. n.name) (standing_of manager).system.nodes ≡ names) × (node < length names)
+IsWorkOf m names (Down files place) = AreSound m files
 
 -- So many turns are kept, of which each may have tried an epoch.
 pub record IsSteady {D : Type 0} (m : Meaning D) (turns : ℕ) (state : State D) : Type 0 where
-  pub desk : IsDeskOf m state.book.names.items state.desk
-  pub epochs : state.book.greatest ≤ 2 ^ 62 + turns
+  pub work : IsWorkOf m state.members.names.items state.work
+  pub epochs : state.members.greatest ≤ 2 ^ 62 + turns
 
 -- A call can be served: what the chest keeps fits together, and where the disks tell, it stands for some world.
 pub record IsServing {D : Type 0} (m : Meaning D) (chest : Chest D) : Type 0 where
@@ -80,11 +69,11 @@ pub record IsServing {D : Type 0} (m : Meaning D) (chest : Chest D) : Type 0 whe
 
 -- ---- what can be asked for
 
--- In each system the request's names keep their rules, and its record has a spelling where it is accepted.
+-- In each system the request's names keep their rules, and where it is accepted its lists are short enough for a record.
 pub record CanBeRecorded (node : ℕ) (asked : Request) : Type 0 where
   pub outside : IsForUsers asked
   pub names : (s : System) → node < length s.nodes → IsLawful s node asked
-  pub spelled : (s : System) (moment : ℕ) → moment ≤ LAST_MOMENT → IsOk (applied s moment node asked) → HasSpelling (request_record moment node asked)
+  pub short : (s : System) (moment : ℕ) → IsOk (applied s moment node asked) → AreListsShort asked
 
 -- A node's call can ask for this. No compaction is made so far.
 abbrev pub CanBeAskedFor : ℕ → Input → Type 0
@@ -111,11 +100,11 @@ pub record LeavesOne (node now : ℕ) (asked : Call) (old new : List Turn) (told
 -- told as it is, and the chest then stands for the world behind it.
 pub record Serves {D : Type 0} (m : Meaning D) (cap : ℕ) (w : World) (node now : ℕ) (asked : Call) (old new : Chest D) (told : Answer) : Type 0 where
   pub one : LeavesOne node now asked old.turns.items new.turns.items told
-  pub adds : Adds IsLog HasSpelling record_text m w (chest_disk old) (chest_disk new) asked one.turn told
-  pub room : TellsRoom IsLog HasSpelling record_text m w (m.seen (chest_disk old)) asked one.turn
+  pub adds : Adds m w (chest_disk old) (chest_disk new) asked one.turn told
+  pub room : TellsRoom m w (m.seen (chest_disk old)) asked one.turn
   pub at : IsAt m cap (behind w one.turn) new
 
 -- no manager is up
-abbrev pub IsWithout : {D : Type 0} → Desk D → Type 0
+abbrev pub IsWithout : {D : Type 0} → Work D → Type 0
 IsWithout (Up manager node) = ⊥
 IsWithout (Down files place) = Unit {0}

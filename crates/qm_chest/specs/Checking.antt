@@ -1,22 +1,13 @@
 -- What was read of a site's files before a chest begins on them, and how it begins.
 -- OpenVMS System Manager's Manual, Managing the Queue Manager and Queue Database, on starting the queue manager.
 use Rattle.std.specs.Prelude.{◌≡◌, ◌<◌, ◌^◌, ℕ, true, IsTrue, List, [], length, map, replicate, Result, Ok, Err}
-use Rattle.qm_disk.specs.Disk.{CrashState, Meaning}
-use Rattle.qm_glog.specs.Records.{IsLog, size_of}
-use Rattle.qm_glog.specs.declared.fault.OpenFault.{OpenFault}
-use Rattle.qm_kinds.specs.declared.system.Node.{Node}
-use Rattle.qm_kinds.specs.declared.system.System.{System}
-use Rattle.qm_model.specs.Folding.{system_of}
-use Rattle.qm_record.specs.Spelling.{HasSpelling, record_text}
+use Rattle.qm_history.specs.Common.{CrashState, Meaning, size_of, OpenFault, Node, System, system_of, record_text, cluster, Starts, first_world, IsSound}
 use Rattle.qm_store.specs.Recorded.{Recorded, Holds}
 use Rattle.qm_acting.specs.Reading.{IsRestoreFault}
 use Rattle.qm_acting.specs.Standing.{Standing, restored_standing, restored_disk, IsRestored}
-use Rattle.qm_history.specs.Accepted.{cluster}
-use Rattle.qm_history.specs.Start.{Starts, first_world}
-use Rattle.qm_history.specs.World.{IsSound}
 use Rattle.qm_history.specs.declared.world.World.{World}
 use Rattle.qm_chest.specs.At.{IsAt, IsServing, chest_disk, chest_names}
-use Rattle.qm_chest.specs.declared.book.Book.{Book}
+use Rattle.qm_chest.specs.declared.members.Members.{Members}
 use Rattle.qm_chest.specs.declared.checked.Checked.{Checked}
 use Rattle.qm_chest.specs.declared.chest.Chest.{Chest}
 
@@ -38,7 +29,7 @@ pub record BeginsWorld (r : Recorded) (s : System) (w : World) : Type 0 where
   pub first : w ≡ first_world w.log r.says.epoch
   pub spelled : r.bodies ≡ map record_text w.log
   pub system : system_of w.log ≡ s
-  pub sound : IsSound HasSpelling w
+  pub sound : IsSound w
 
 -- what the files hold, or why they are those of no site
 abbrev pub Checks : {D : Type 0} → CrashState → Result (Checked D) (D × OpenFault) → Type 0
@@ -57,12 +48,12 @@ pub record Begins {D : Type 0} (m : Meaning D) (checked : Checked D) (chest : Ch
   pub names : chest_names chest ≡ cluster (checked_standing checked).system
   pub turns : chest.turns.items ≡ []
   pub serving : IsServing m chest
-  pub at : IsTrue m.tells → (w : World) → Starts IsLog HasSpelling record_text (m.seen (checked_disk checked)) w
+  pub at : IsTrue m.tells → (w : World) → Starts (m.seen (checked_disk checked)) w
       → IsAt m (checked_standing checked).recorded.says.cap w chest
 
 -- what is kept of these nodes before the first call: each is live, and none holds an epoch
-pub record IsFirstBook (nodes : List Node) (greatest : ℕ) (book : Book) : Type 0 where
-  pub names : book.names.items ≡ map (λ (n : Node). n.name) nodes
-  pub live : book.live.items ≡ replicate (length nodes) true
-  pub held : book.held.items ≡ replicate (length nodes) 0
-  pub greatest_is : book.greatest ≡ greatest
+pub record AreFirstMembers (nodes : List Node) (greatest : ℕ) (members : Members) : Type 0 where
+  pub names : members.names.items ≡ map (λ (n : Node). n.name) nodes
+  pub live : members.live.items ≡ replicate (length nodes) true
+  pub held : members.held.items ≡ replicate (length nodes) 0
+  pub greatest_is : members.greatest ≡ greatest

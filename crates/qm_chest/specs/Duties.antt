@@ -1,10 +1,7 @@
 -- What an answer shows of runs, whatever the disks tell.
 -- OpenVMS System Services Reference Manual, $GETQUI, on executing jobs.
 use Rattle.std.specs.Prelude.{◌≡◌, ℕ, List}
-use Rattle.qm_kinds.specs.declared.system.System.{System}
-use Rattle.qm_kinds.specs.declared.work.Duty.{Duty}
-use Rattle.qm_model.specs.Consistent.{IsConsistent}
-use Rattle.qm_model.specs.Duties.{duties}
+use Rattle.qm_history.specs.Common.{System, Duty, IsConsistent, duties}
 use Rattle.qm_history.specs.declared.call.Answer.{Answer}
 use Rattle.qm_history.specs.declared.call.Answer.TheVariants as answer
 

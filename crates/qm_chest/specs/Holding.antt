@@ -4,9 +4,7 @@
 use Rattle.std.specs.Prelude.{◌≡◌, ◌⊎◌, ℕ, ◌+◌, ◌^◌, ◌≤◌, max, List, [], ◌∷◌, ◌++◌, length, Option, None, Some}
 use Rattle.std.specs.List.{AllByRecursion}
 use Rattle.qm_disk.specs.Disk.{CrashState, Meaning, IsLeft}
-use Rattle.qm_glog.specs.Records.{size_of}
-use Rattle.qm_kinds.specs.declared.record.Record.{Record}
-use Rattle.qm_model.specs.Folding.{system_of}
+use Rattle.qm_history.specs.Common.{size_of, Record, system_of}
 use Rattle.qm_history.specs.declared.world.World.{World}
 use Rattle.qm_store.specs.Recorded.{Recorded, Holds}
 use Rattle.qm_restore.specs.QueueFile.{IsSiteFile}

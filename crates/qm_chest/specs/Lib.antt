@@ -1,8 +1,8 @@
 pub mod Holding
 pub mod Parts
 pub mod Turns
-pub mod Books
-pub mod Desk
+pub mod Members
+pub mod Work
 pub mod Steps
 pub mod At
 pub mod Whole
@@ -11,7 +11,6 @@ pub mod Taking
 pub mod Checking
 pub mod Noting
 pub mod Serving
-pub mod Fitting
 pub mod Manager
 pub mod Noted
 pub mod Opening

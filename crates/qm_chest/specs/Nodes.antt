@@ -1,7 +1,6 @@
 -- Nodes of a cluster, by whether each is live, and by their names.
-use Rattle.std.specs.Prelude.{ℕ, Bool, true, false, not, ◌&&◌, List, [], ◌∷◌}
-use Rattle.std.specs.Str.{bytes_eq}
-use Rattle.qm_kinds.specs.declared.system.Node.{Node}
+use Rattle.std.specs.Prelude.{ℕ, Bool, true, false, not, ◌&&◌, List, [], ◌∷◌, filter, map, bytes_eq}
+use Rattle.qm_history.specs.Common.{Node, is_among}
 use Rattle.qm_chest.specs.declared.nodes.Which.{Which}
 use Rattle.qm_chest.specs.declared.nodes.Which.TheVariants.{Lost, Live}
 
@@ -16,3 +15,12 @@ are_called [] [] = true
 are_called (n ∷ nodes) (name ∷ names) = bytes_eq n.name name && are_called nodes names
 are_called [] (name ∷ names) = false
 are_called (n ∷ nodes) [] = false
+
+-- the names of those that are among these, in the cluster's order
+abbrev pub nodes_among : List (List ℕ) → List Node → List (List ℕ)
+nodes_among names nodes = filter (is_among names) (map (λ n. n.name) nodes)
+
+-- the same, where an empty list stands for all nodes
+abbrev pub nodes_listed : List Node → List (List ℕ) → List (List ℕ)
+nodes_listed nodes [] = map (λ n. n.name) nodes
+nodes_listed nodes (name ∷ names) = nodes_among (name ∷ names) nodes

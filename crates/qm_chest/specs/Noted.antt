@@ -3,12 +3,10 @@
 -- This site's own: the notes of turns.
 use Rattle.std.specs.Prelude.{◌≡◌, ℕ, List, [], ◌∷◌, ◌++◌}
 use Rattle.qm_disk.specs.Disk.{Meaning}
-use Rattle.qm_glog.specs.Records.{IsLog}
 use Rattle.qm_history.specs.declared.call.Answer.{Answer}
 use Rattle.qm_history.specs.declared.turn.Turn.{Turn}
 use Rattle.qm_history.specs.declared.world.World.{World}
 use Rattle.qm_history.specs.Chest.{Chest, Note, Serves, Stands}
-use Rattle.qm_record.specs.Spelling.{HasSpelling, record_text}
 
 module _ {D : Type 0} (m : Meaning D) (w : World) (began : D) where
   -- Behind the calls that are noted before, these were served one behind another: each of a node with a reading of its clock, and
@@ -17,17 +15,17 @@ module _ {D : Type 0} (m : Meaning D) (w : World) (began : D) where
   AreServed before old [] new = new ≡ old
   AreServed before old (n ∷ notes) new =
       (node : ℕ) × (now : ℕ) × (told : Answer) × (next : Chest D)
-      × Serves IsLog HasSpelling record_text m w began old next before node now n told × AreServed (before ++ n ∷ []) next notes new
+      × Serves m w began old next before node now n told × AreServed (before ++ n ∷ []) next notes new
 
   -- A chest began in this world on this device, with no note. All calls since then are noted, and it stands for their notes; it
   -- has this device now, and these turns.
   pub record HasNoted (disk : D) (turns : List Turn) : Type 0 where
     pub first : Chest D
-    pub begins : Stands IsLog HasSpelling record_text m w began first []
+    pub begins : Stands m w began first []
     pub on : first.disk ≡ began
     pub last : Chest D
     pub notes : List Note
     pub calls : AreServed [] first notes last
-    pub stands : Stands IsLog HasSpelling record_text m w began last notes
+    pub stands : Stands m w began last notes
     pub disk_is : last.disk ≡ disk
     pub turns_are : last.turns ≡ turns

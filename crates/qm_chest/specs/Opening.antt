@@ -5,13 +5,8 @@ use Rattle.qm_chest.specs.At.{IsAt, IsServing, chest_disk, chest_names, chest_tu
 use Rattle.qm_chest.specs.Noting.{StandsSince, StartsEarly}
 use Rattle.qm_chest.specs.declared.chest.Chest.{Chest}
 use Rattle.qm_disk.specs.Disk.{Meaning, IsQuiet, OnlyLooks}
-use Rattle.qm_glog.specs.declared.fault.OpenFault.{OpenFault}
+use Rattle.qm_history.specs.Common.{OpenFault, cluster, script_lines, UserLine, system_in, NODES_LIMIT}
 use Rattle.qm_history.specs.declared.world.World.{World}
-use Rattle.qm_history.specs.Accepted.{cluster}
-use Rattle.qm_history.specs.Lines.{script_lines}
-use Rattle.qm_history.specs.Script.{UserLine}
-use Rattle.qm_history.specs.World.{system_in}
-use Rattle.qm_kinds.specs.declared.limits.TheConstants.{NODES_LIMIT}
 
 -- the names of a cluster's nodes, each there once
 pub record AreNames (names : List (List ℕ)) : Type 0 where

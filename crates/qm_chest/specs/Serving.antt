@@ -1,12 +1,11 @@
 -- What a call wants of the chest, and what it comes to.
 use Rattle.std.specs.Prelude.{ℕ, ◌^◌, ◌<◌, Bool, false, ◌&&◌, if◌then◌else◌, IsTrue, List, [], ◌∷◌, length, slice_get, unwrap_or, Option, None, Some}
-use Rattle.qm_disk.specs.Disk.{Meaning}
+use Rattle.qm_history.specs.Common.{Meaning, input_of, why_of}
 use Rattle.qm_history.specs.declared.call.Call.{Call}
 use Rattle.qm_history.specs.declared.event.Event.{Event}
 use Rattle.qm_history.specs.declared.turn.Turn.{Turn}
-use Rattle.qm_history.specs.Calls.{input_of, why_of}
-use Rattle.qm_chest.specs.At.{CanBeAskedFor, IsDeskOf}
-use Rattle.qm_chest.specs.Desk.{makes_step}
+use Rattle.qm_chest.specs.At.{CanBeAskedFor, IsWorkOf}
+use Rattle.qm_chest.specs.Work.{makes_step}
 use Rattle.qm_chest.specs.Whole.{Asks, Leaves, ServesWhere, StandsEarly, is_leave}
 use Rattle.qm_chest.specs.declared.chest.State.{State}
 use Rattle.qm_chest.specs.declared.serving.Served.{Served}
@@ -32,11 +31,11 @@ turn_made maker (e ∷ events) = Some (turn_of maker (e ∷ events))
 
 -- what the call came to, with what the chest then works with
 abbrev pub served_of : {D : Type 0} → State D → Outcome → Served D
-served_of state outcome = record { desk = state.desk; first = outcome.first; second = outcome.second; answer = outcome.answer }
+served_of state outcome = record { work = state.work; first = outcome.first; second = outcome.second; answer = outcome.answer }
 
 -- the call is a step of the manager that is up, of a node that is live
 abbrev pub is_step_alone : {D : Type 0} → Wanted → State D → Bool
-is_step_alone wanted state = unwrap_or (slice_get state.book.live.items wanted.maker.node) false && makes_step state.desk wanted.input
+is_step_alone wanted state = unwrap_or (slice_get state.members.live.items wanted.maker.node) false && makes_step state.work wanted.input
 
 -- how many events it can have at most
 abbrev pub most_events : {D : Type 0} → Wanted → State D → ℕ
@@ -44,14 +43,14 @@ most_events wanted state = if is_step_alone wanted state then 1 else 2
 
 -- the call can be served: what the chest works with fits together, and stands for some world of early epochs where the disks tell
 pub record CanServe {D : Type 0} (m : Meaning D) (wanted : Wanted) (state : State D) : Type 0 where
-  pub desk : IsDeskOf m state.book.names.items state.desk
-  pub there : wanted.maker.node < length state.book.names.items
+  pub work : IsWorkOf m state.members.names.items state.work
+  pub there : wanted.maker.node < length state.members.names.items
   pub can : CanBeAskedFor wanted.maker.node wanted.input
-  pub epochs : state.book.greatest < 2 ^ 63
+  pub epochs : state.members.greatest < 2 ^ 63
   pub stands : IsTrue m.tells → StandsEarly m state
 
 -- what serving it comes to, whatever the disks tell and where they do
 pub record Serving {D : Type 0} (m : Meaning D) (wanted : Wanted) (old new : State D) (outcome : Outcome) : Type 0 where
-  pub leaves : Leaves m old.book old.desk new.book (served_of new outcome)
-  pub serves : IsTrue m.tells
-      → ServesWhere m old.book old.desk wanted.maker.node wanted.maker.moment (Asks wanted.input wanted.leaves) new.book (served_of new outcome)
+  pub leaves : Leaves m old.members old.work new.members (served_of new outcome)
+  pub serves : ServesWhere m old.members old.work wanted.maker.node wanted.maker.moment (Asks wanted.input wanted.leaves) new.members
+      (served_of new outcome)

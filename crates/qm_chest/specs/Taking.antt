@@ -1,27 +1,22 @@
 -- How a takeover goes that comes before a call: its lists of nodes, what was read, and what it comes to.
 -- OpenVMS System Manager's Manual, Managing the Queue Manager and Queue Database, on failover; DCL Dictionary,
 -- START/QUEUE/MANAGER, /ON. This site's own: epochs, and the record in doubt.
-use Rattle.std.specs.Prelude.{◌≡◌, ℕ, ◌+◌, ◌^◌, ◌<◌, ◌≤◌, ◌==◌, Bool, true, false, not, ◌&&◌, ◌||◌, if◌then◌else◌, List, [], ◌∷◌, filter, length, map, slice_set, is_none, is_some, Option, None, Some, IsSome, IsTrue, Result, Ok, Err}
+use Rattle.std.specs.Prelude.{◌≡◌, ℕ, ◌+◌, ◌^◌, ◌<◌, ◌≤◌, ◌==◌, Bool, true, false, not, ◌&&◌, ◌||◌, if◌then◌else◌, List, [], ◌∷◌, length, map, slice_set, is_none, is_some, Option, None, Some, IsSome, IsTrue, Result, Ok, Err}
 use Rattle.std.specs.List.{list_all, AllByRecursion}
-use Rattle.qm_disk.specs.Disk.{CrashState, Meaning, IsLeft, IsQuiet, OnlyLooks, TellsFaults}
-use Rattle.qm_kinds.specs.declared.input.Input.{Input}
+use Rattle.qm_disk.specs.Disk.{CrashState, Meaning, IsLeft, IsQuiet, OnlyLooks}
+use Rattle.qm_history.specs.Common.{Input, Request, Node, System, GREATEST_CAP, acting, is_among, system_of, node_at, OpenFault, cluster, takeover_of, input_of, is_journal, after_event, doubt_read, log_read, nodes_where, system_in}
 use Rattle.qm_kinds.specs.declared.input.Input.TheVariants as input
-use Rattle.qm_kinds.specs.declared.request.Request.{Request}
 use Rattle.qm_kinds.specs.declared.request.Request.TheVariants as request
-use Rattle.qm_kinds.specs.declared.system.Node.{Node}
-use Rattle.qm_kinds.specs.declared.system.System.{System}
-use Rattle.qm_kinds.specs.declared.limits.TheConstants.{GREATEST_CAP}
-use Rattle.qm_model.specs.Acting.{acting}
-use Rattle.qm_model.specs.Find.{is_among}
-use Rattle.qm_model.specs.Folding.{system_of}
+use Rattle.qm_kinds.specs.declared.run.Start.{Start}
 use Rattle.qm_store.specs.Recorded.{Recorded, IsAtRest, epoch_behind}
 use Rattle.qm_store.specs.declared.closed.Closed.{Closed}
-use Rattle.qm_glog.specs.declared.fault.OpenFault.{OpenFault}
 use Rattle.qm_glog.specs.declared.fault.OpenFault.TheVariants as opening
 use Rattle.qm_acting.specs.Reading.{IsTold}
+use Rattle.qm_acting.specs.Leaving.{LeavesDisk}
 use Rattle.qm_acting.specs.Spare.{KeepsSpare}
 use Rattle.qm_acting.specs.Standing.{Standing, disk_of, restored_standing, restored_disk, IsRestored}
 use Rattle.qm_acting.specs.declared.files.Files.TheVariants as site_files
+use Rattle.qm_acting.specs.declared.manager.Manager.{Manager}
 use Rattle.qm_acting.specs.declared.restored.Restored.{Restored}
 use Rattle.qm_history.specs.declared.call.Answer.{Answer}
 use Rattle.qm_history.specs.declared.call.Answer.TheVariants as answer
@@ -30,22 +25,17 @@ use Rattle.qm_history.specs.declared.call.Takeover.{Takeover}
 use Rattle.qm_history.specs.declared.event.Event.{Event}
 use Rattle.qm_history.specs.declared.event.Event.TheVariants as event
 use Rattle.qm_history.specs.declared.world.World.{World}
-use Rattle.qm_history.specs.Accepted.{cluster}
-use Rattle.qm_history.specs.Answers.{takeover_of}
-use Rattle.qm_history.specs.Calls.{input_of}
-use Rattle.qm_history.specs.Faults.{is_journal}
-use Rattle.qm_history.specs.Step.{after_event}
 use Rattle.qm_history.specs.Takeover.{is_named, may_after, nodes_on}
-use Rattle.qm_history.specs.World.{doubt_read, log_read, nodes_where, system_in}
-use Rattle.qm_chest.specs.At.{IsDeskOf, IsWithout}
-use Rattle.qm_chest.specs.Books.{IsBookOf}
-use Rattle.qm_chest.specs.Desk.{IsUp, desk_disk}
+use Rattle.qm_chest.specs.At.{IsWorkOf, IsWithout}
+use Rattle.qm_chest.specs.Members.{AreMembersOf}
+use Rattle.qm_chest.specs.Work.{IsUp, work_disk}
 use Rattle.qm_chest.specs.Duties.{ShowsNodeDuties}
 use Rattle.qm_chest.specs.Holding.{MayHold, AllHold}
+use Rattle.qm_chest.specs.Nodes.{nodes_listed}
 use Rattle.qm_chest.specs.Parts.{HoldsWithin, Part}
 use Rattle.qm_chest.specs.Whole.{AsksToTake, IsServedAs, IsToldBy, both}
-use Rattle.qm_chest.specs.declared.book.Book.{Book}
-use Rattle.qm_chest.specs.declared.desk.Desk.TheVariants.{Up, Down}
+use Rattle.qm_chest.specs.declared.members.Members.{Members}
+use Rattle.qm_chest.specs.declared.work.Work.TheVariants.{Up, Down}
 use Rattle.qm_chest.specs.declared.place.Place.{Place}
 use Rattle.qm_chest.specs.declared.serving.Served.{Served}
 use Rattle.qm_chest.specs.declared.taken.Taken.{Taken}
@@ -64,13 +54,24 @@ up_by live node nodes = nodes_where (λ live n. live) (slice_set live node true)
 -- the nodes that may be manager: those that a command lists, or those that may so far
 abbrev pub may_by : List Node → List (List ℕ) → Option (List (List ℕ)) → List (List ℕ)
 may_by nodes may None = may
-may_by nodes may (Some []) = map (λ n. n.name) nodes
-may_by nodes may (Some (name ∷ names)) = filter (is_among (name ∷ names)) (map (λ n. n.name) nodes)
+may_by nodes may (Some names) = nodes_listed nodes names
 
--- the request that a takeover of this node records, on a system that was read
-abbrev pub request_of : Book → System → ℕ → Input → ℕ → Request
-request_of book s node what epoch =
-    request.Took epoch (gone_by book.live.items book.held.items s.nodes) (up_by book.live.items node s.nodes) (may_by s.nodes s.may (nodes_on what))
+-- the node of this place may be manager by the list that a command gives, or by the one that is kept
+abbrev pub may_manage : List Node → List (List ℕ) → Input → ℕ → Bool
+may_manage nodes may what node = is_among (may_by nodes may (nodes_on what)) (node_at node nodes)
+
+-- the nodes whose runs a takeover finds lost, by what is kept of the nodes
+abbrev pub lost_by : Members → List Node → List (List ℕ)
+lost_by members nodes = gone_by members.live.items members.held.items nodes
+
+-- the request that a takeover of this node records, on nodes and a list that were read
+abbrev pub took_by : Members → List Node → List (List ℕ) → ℕ → Input → ℕ → Request
+took_by members nodes may node what epoch =
+    request.Took epoch (lost_by members nodes) (up_by members.live.items node nodes) (may_by nodes may (nodes_on what))
+
+-- the same on a system that was read
+abbrev pub request_of : Members → System → ℕ → Input → ℕ → Request
+request_of members s node what epoch = took_by members s.nodes s.may node what epoch
 
 -- ---- what was read
 
@@ -104,7 +105,26 @@ told_of_failed tried (Some kept) = Some (record { epoch = tried; kept = Some kep
 -- what the whole call then is: the epoch that may be recorded, and what followed
 abbrev pub failed : {D : Type 0} → Closed D → Option Place → ℕ → ℕ → Option Bool → Option Event → Answer → Served D
 failed closed place node tried kept second told =
-    record { desk = Down (site_files.Closed closed) place; first = Some (event.TakeDoubt node tried kept); second = second; answer = told }
+    record { work = Down (site_files.Closed closed) place; first = Some (event.TakeDoubt node tried kept); second = second; answer = told }
+
+-- its own record has no room, or that of its epoch
+abbrev pub full_failed : {D : Type 0} → Closed D → ℕ → ℕ → Option Bool → ℕ → ℕ → Served D
+full_failed closed node tried kept need cap =
+    failed closed None node tried kept (Some (event.Full node need cap)) (answer.Full (told_of_failed tried kept) need cap)
+
+-- memory was short
+abbrev pub short_failed : {D : Type 0} → Closed D → ℕ → ℕ → Option Bool → Served D
+short_failed closed node tried kept = failed closed None node tried kept None (answer.NoMemory (told_of_failed tried kept))
+
+-- the node, which has this name, may not be manager
+abbrev pub unnamed_failed : {D : Type 0} → Closed D → ℕ → ℕ → Option Bool → List ℕ → Served D
+unnamed_failed closed node tried kept name =
+    failed closed None node tried kept (Some (event.NoManager node)) (answer.NoManager (told_of_failed tried kept) name)
+
+-- a disk failed, where the node is live or not
+abbrev pub journal_failed : {D : Type 0} → Closed D → Option Place → ℕ → ℕ → Option Bool → Option Event → Bool → Served D
+journal_failed closed place node tried kept second live =
+    failed closed place node tried kept second (answer.Journal (told_of_failed tried kept) live)
 
 -- what is answered where the files can't be read
 abbrev pub unread_answer : Bool → OpenFault → Answer
@@ -115,10 +135,10 @@ unread_answer live opening.NoMemory = answer.NoMemory None
 
 -- ---- what a takeover comes to
 
--- A call that asks for this takes over in this world, for which the book stands, and isn't refused beside a manager.
-pub record IsTaking (known : Book) (node : ℕ) (what : Input) (cap : ℕ) (w : World) (asked : Call) : Type 0 where
+-- A call that asks for this takes over in this world, for which the members stand, and isn't refused beside a manager.
+pub record IsTaking (known : Members) (node : ℕ) (what : Input) (cap : ℕ) (w : World) (asked : Call) : Type 0 where
   pub asks : AsksToTake node what w asked
-  pub book : IsBookOf w known
+  pub members : AreMembersOf w known
   pub small : cap ≤ GREATEST_CAP
   pub early : w.greatest + 1 < 2 ^ 62
   pub named : not (is_none w.manager || is_named (system_in w) (nodes_on what) node) ≡ false
@@ -130,84 +150,94 @@ event_of node taken = event.Took node taken.moment taken.epoch taken.gone taken.
 abbrev pub told_of : {D : Type 0} → Taken D → Takeover
 told_of taken = record { epoch = taken.epoch; kept = taken.kept; started = taken.started }
 
+-- a takeover of these epoch and lists, which recorded them at this moment and started these jobs
+abbrev pub taken_with : {D : Type 0} → Manager D → ℕ → ℕ → List (List ℕ) → List (List ℕ) → List (List ℕ) → Option Bool → List Start → Taken D
+taken_with manager moment epoch gone up may kept started =
+    record { manager = manager; moment = moment; epoch = epoch; gone = gone; up = up; may = may; kept = kept; started = started }
+
 -- A takeover stands: its event is a part of the call, at the moment and with the list that it is to have, and tells what is told;
--- book and manager stand for the world behind it.
-pub record IsTaken {D : Type 0} (m : Meaning D) (cap : ℕ) (w : World) (node now : ℕ) (what : Input) (old : D) (known : Book) (taken : Taken D) : Type 0 where
+-- members and manager stand for the world behind it.
+pub record IsTaken {D : Type 0} (m : Meaning D) (cap : ℕ) (w : World) (node now : ℕ) (what : Input) (old : D) (known : Members) (taken : Taken D) : Type 0 where
   pub part : Part m None w now what false (event_of node taken ∷ []) old (disk_of taken.manager)
   pub moment : taken.moment ≡ acting now (system_of (log_read w taken.kept))
   pub may : taken.may ≡ may_after (system_of (log_read w taken.kept)) (nodes_on what)
   pub told : takeover_of w (event_of node taken ∷ []) ≡ Some (told_of taken)
   pub low : AllByRecursion (λ (held : ℕ). held ≤ w.greatest) w.held
-  pub book : IsBookOf (after_event w (event_of node taken)) known
+  pub members : AreMembersOf (after_event w (event_of node taken)) known
   pub up : IsUp m cap (after_event w (event_of node taken)) taken.manager node
 
 -- it stands; or it fails, and that is the whole call
-abbrev pub TakesOrFails : {D : Type 0} → Meaning D → ℕ → World → ℕ → ℕ → Call → D → Book → Result (Taken D) (Served D) → Type 0
-TakesOrFails m cap w node now asked old book (Ok taken) = IsTaken m cap w node now (input_of asked) old book taken
-TakesOrFails m cap w node now asked old book (Err served) =
-    IsServedAs m cap w node now asked old (record { book = book; desk = served.desk }) (both served.first served.second) served.answer
+abbrev pub TakesOrFails : {D : Type 0} → Meaning D → ℕ → World → ℕ → ℕ → Call → D → Members → Result (Taken D) (Served D) → Type 0
+TakesOrFails m cap w node now asked old members (Ok taken) = IsTaken m cap w node now (input_of asked) old members taken
+TakesOrFails m cap w node now asked old members (Err served) =
+    IsServedAs m cap w node now asked old (record { members = members; work = served.work }) (both served.first served.second) served.answer
 
 -- the same in each world in which the call takes over and whose files were read
-abbrev pub TakesWhere : {D : Type 0} → Meaning D → Book → Restored D → Option Bool → ℕ → ℕ → Input → Book → Result (Taken D) (Served D) → Type 0
-TakesWhere {D} m book restored kept node now what after result =
-    (cap : ℕ) (w : World) (asked : Call) (old : D) → IsTaking book node what cap w asked
+abbrev pub TakesWhere : {D : Type 0} → Meaning D → Members → Restored D → Option Bool → ℕ → ℕ → Input → Members → Result (Taken D) (Served D) → Type 0
+TakesWhere {D} m members restored kept node now what after result =
+    IsTrue m.tells → (cap : ℕ) (w : World) (asked : Call) (old : D) → IsTaking members node what cap w asked
     → IsReadOf m cap w kept old (restored_standing restored) (restored_disk restored) → TakesOrFails m cap w node now asked old after result
 
 -- the same of a call in each world which the files hold and in which it takes over
-abbrev pub TakesOnFiles : {D : Type 0} → Meaning D → Book → D → Option Place → ℕ → ℕ → Input → Book → Served D → Type 0
-TakesOnFiles m book old place node now what after served =
-    (cap : ℕ) (w : World) (asked : Call) → IsTaking book node what cap w asked → AllHold m (MayHold cap w place) old
-    → IsServedAs m cap w node now asked old (record { book = after; desk = served.desk }) (both served.first served.second) served.answer
+abbrev pub TakesOnFiles : {D : Type 0} → Meaning D → Members → D → Option Place → ℕ → ℕ → Input → Members → Served D → Type 0
+TakesOnFiles m members old place node now what after served =
+    IsTrue m.tells → (cap : ℕ) (w : World) (asked : Call) → IsTaking members node what cap w asked → AllHold m (MayHold cap w place) old
+    → IsServedAs m cap w node now asked old (record { members = after; work = served.work }) (both served.first served.second) served.answer
 
--- and of what it does behind a takeover that stands, which began on some disk and with some book of the same nodes
-abbrev pub FollowsTaken : {D : Type 0} → Meaning D → Book → Taken D → ℕ → ℕ → Input → Book → Served D → Type 0
-FollowsTaken {D} m book taken node now what after served =
-    (cap : ℕ) (w : World) (asked : Call) (old : D) (before : Book) → before.names.items ≡ book.names.items → IsTaking before node what cap w asked
-    → IsTaken m cap w node now (input_of asked) old book taken
-    → IsServedAs m cap w node now asked old (record { book = after; desk = served.desk }) (both served.first served.second) served.answer
+-- and of what it does behind a takeover that stands, which began on some disk and with some members of the same nodes
+abbrev pub FollowsTaken : {D : Type 0} → Meaning D → Members → Taken D → ℕ → ℕ → Input → Members → Served D → Type 0
+FollowsTaken {D} m members taken node now what after served =
+    IsTrue m.tells → (cap : ℕ) (w : World) (asked : Call) (old : D) (before : Members) → before.names.items ≡ members.names.items → IsTaking before node what cap w asked
+    → IsTaken m cap w node now (input_of asked) old members taken
+    → IsServedAs m cap w node now asked old (record { members = after; work = served.work }) (both served.first served.second) served.answer
 
--- the files hold some world whose greatest epoch is the book's, and so early that one more can be tried
-pub record AreEarly {D : Type 0} (m : Meaning D) (book : Book) (disk : D) (place : Option Place) : Type 0 where
+-- the files hold some world whose greatest epoch is the one that is kept, and so early that one more can be tried
+pub record AreEarly {D : Type 0} (m : Meaning D) (members : Members) (disk : D) (place : Option Place) : Type 0 where
   pub cap : ℕ
   pub w : World
   pub holds : AllHold m (MayHold cap w place) disk
-  pub greatest : book.greatest ≡ w.greatest
+  pub greatest : members.greatest ≡ w.greatest
   pub early : w.greatest + 1 < 2 ^ 62
 
 -- ---- whatever the disks tell
 
--- A takeover can be tried on files that were read: they are of the book's nodes, and of epochs so early that one more can come.
-pub record CanTake {D : Type 0} (m : Meaning D) (book : Book) (read : Restored D) (node : ℕ) : Type 0 where
+-- A takeover can be tried on files that were read: they are of the nodes that are kept, and of epochs so early that one more can come.
+pub record CanTake {D : Type 0} (m : Meaning D) (members : Members) (read : Restored D) (node : ℕ) : Type 0 where
   pub restored : IsRestored m read
-  pub nodes : cluster (restored_standing read).system ≡ book.names.items
-  pub there : node < length book.names.items
-  pub epochs : book.greatest < 2 ^ 63
-  pub early : IsTrue m.tells → epoch_behind (restored_standing read).recorded book.greatest < 2 ^ 62
+  pub nodes : cluster (restored_standing read).system ≡ members.names.items
+  pub there : node < length members.names.items
+  pub epochs : members.greatest < 2 ^ 63
+  pub early : IsTrue m.tells → epoch_behind (restored_standing read).recorded members.greatest < 2 ^ 62
 
 -- A call began on this disk, with this as the greatest epoch that it may have tried: a manager that is up is of the same nodes, a fault
 -- is told just where one was counted, and then no manager is up; the queue file that isn't live stays.
-pub record LeavesFrom {D : Type 0} (m : Meaning D) (old : Book) (disk : D) (greatest : ℕ) (new : Book) (served : Served D) : Type 0 where
-  pub desk : IsDeskOf m new.names.items served.desk
+pub record LeavesFrom {D : Type 0} (m : Meaning D) (old : Members) (disk : D) (greatest : ℕ) (new : Members) (served : Served D) : Type 0 where
+  pub work : IsWorkOf m new.names.items served.work
   pub names : new.names.items ≡ old.names.items
   pub rises : new.greatest ≤ greatest
   pub first : IsSome served.first
-  pub faults : TellsFaults m disk (desk_disk served.desk) (is_journal served.answer ≡ true)
-  pub spare : IsTrue m.tells → KeepsSpare m disk (desk_disk served.desk)
-  pub down : is_journal served.answer ≡ true → IsWithout served.desk
+  pub leaves : LeavesDisk m disk (work_disk served.work) (is_journal served.answer ≡ true)
+  pub down : is_journal served.answer ≡ true → IsWithout served.work
   pub told : IsToldBy (both served.first served.second) served.answer
   pub duties : ShowsNodeDuties served.answer
 
 -- a manager of the same nodes is up behind a takeover that stands, and no disk failed
-pub record TakesFrom {D : Type 0} (m : Meaning D) (old : Book) (disk : D) (node : ℕ) (new : Book) (taken : Taken D) : Type 0 where
-  pub desk : IsDeskOf m new.names.items (Up taken.manager node)
+pub record TakesFrom {D : Type 0} (m : Meaning D) (old : Members) (disk : D) (node : ℕ) (new : Members) (taken : Taken D) : Type 0 where
+  pub work : IsWorkOf m new.names.items (Up taken.manager node)
   pub names : new.names.items ≡ old.names.items
   pub rises : new.greatest ≤ old.greatest + 1
   pub quiet : IsQuiet m disk (disk_of taken.manager)
   pub spare : IsTrue m.tells → KeepsSpare m disk (disk_of taken.manager)
 
-abbrev pub LeavesTaken : {D : Type 0} → Meaning D → Book → D → ℕ → Book → Result (Taken D) (Served D) → Type 0
+abbrev pub LeavesTaken : {D : Type 0} → Meaning D → Members → D → ℕ → Members → Result (Taken D) (Served D) → Type 0
 LeavesTaken m old disk node new (Ok taken) = TakesFrom m old disk node new taken
 LeavesTaken m old disk node new (Err served) = LeavesFrom m old disk (old.greatest + 1) new served
+
+-- at this moment the request tells of the takeover of a node that may be manager, before a call that asks for this
+pub record TellsTakeover (members : Members) (st : Standing) (node now : ℕ) (what : Input) (moment : ℕ) (asked : Request) : Type 0 where
+  pub named : is_named st.system (nodes_on what) node ≡ true
+  pub moment_is : moment ≡ acting now st.system
+  pub is : asked ≡ request_of members st.system node what (epoch_behind st.recorded members.greatest)
 
 -- ---- what a call asks for that a takeover can precede
 

@@ -1,13 +1,11 @@
 // What a step of a manager at work came to, by its answer.
-ghost use Rattle.std.specs.Prelude.{◌≡◌, None, Some};
-ghost use Rattle.qm_kinds.specs.declared.input.Input.TheVariants as input;
+ghost use Rattle.std.specs.Prelude.{◌≡◌, None};
 ghost use Rattle.qm_history.specs.declared.call.Answer.TheVariants as answer;
-ghost use Rattle.qm_history.specs.declared.event.Event.TheVariants as event;
-ghost use Rattle.qm_chest.specs.declared.desk.Desk.TheVariants as desk;
-ghost use Rattle.qm_chest.specs.Steps.{IsBehind, came_of, is_in_doubt};
+ghost use Rattle.qm_chest.specs.declared.work.Work.TheVariants as work;
+ghost use Rattle.qm_chest.specs.Steps.{IsBehind, came_of, done_step, full_step, is_in_doubt, refused_step, shown_step};
 
 use crate::asking::{Came, same};
-use crate::desk::Desk;
+use crate::work::Work;
 use qm_acting::{Manager, Replies};
 use qm_disk::Disk;
 use qm_history::{Answer, Event, Takeover};
@@ -29,11 +27,11 @@ impl Step {
 
     /// The step of a manager that stays up.
     pub(crate) fn up<D>(self, manager: Manager<D>, at: u8) -> Came<D>
-        ensures { result ≡ came_of self (desk.Up manager at) }
+        ensures { result ≡ came_of self (work.Up manager at) }
     {
         let Step { event, answer } = self;
         Came {
-            desk: Desk::Up { manager, node: at },
+            work: Work::Up { manager, node: at },
             event,
             answer,
         }
@@ -41,13 +39,13 @@ impl Step {
 
     /// The step of a manager that stays up unless its record is in doubt.
     pub(crate) fn of<D: Disk>(self, manager: Manager<D>, at: u8) -> Came<D>
-        ensures came { result ≡ came_of self result.desk }
-        ensures desk { IsBehind manager at (is_in_doubt self.event) result.desk }
+        ensures came { result ≡ came_of self result.work }
+        ensures work { IsBehind manager at (is_in_doubt self.event) result.work }
     {
         let is_in_doubt = self.is_in_doubt();
         let Step { event, answer } = self;
         Came {
-            desk: Desk::behind(manager, at, is_in_doubt),
+            work: Work::behind(manager, at, is_in_doubt),
             event,
             answer,
         }
@@ -62,7 +60,7 @@ pub(crate) fn done(
     replies: Replies,
     took: Option<Takeover>,
 ) -> Step
-    ensures { result ≡ record { event = Some (event.Done node moment request replies.kept); answer = answer.Done took moment replies.told } }
+    ensures { result ≡ done_step node moment request replies took }
 {
     let Replies { kept, told } = replies;
     Step {
@@ -82,7 +80,7 @@ pub(crate) fn done(
 
 /// What a listing or a fetch shows.
 pub(crate) fn shown(node: u8, moment: Moment, input: Input, answer: Answer) -> Step
-    ensures { result ≡ record { event = Some (event.Shown node moment input); answer = answer } }
+    ensures { result ≡ shown_step node moment input answer }
 {
     Step {
         event: Some(Event::Shown {
@@ -102,7 +100,7 @@ pub(crate) fn refused(
     refusal: Refusal,
     took: Option<Takeover>,
 ) -> Step
-    ensures { result ≡ record { event = Some (event.Refused node moment input refusal); answer = answer.Refused took refusal } }
+    ensures { result ≡ refused_step node moment input refusal took }
 {
     let told = same(&refusal);
     Step {
@@ -121,7 +119,7 @@ pub(crate) fn refused(
 
 /// The record has no room in the file.
 pub(crate) fn full(node: u8, need: u64, cap: u64, took: Option<Takeover>) -> Step
-    ensures { result ≡ record { event = Some (event.Full node need cap); answer = answer.Full took need cap } }
+    ensures { result ≡ full_step node need cap took }
 {
     Step {
         event: Some(Event::Full { node, need, cap }),

@@ -1,19 +1,11 @@
 // A request that is asked of the manager at work, and what comes of it.
-ghost use Rattle.std.specs.Prelude.{◌≡◌, IsTrue, true, Some, None};
-ghost use Rattle.qm_disk.specs.Disk.{TellsFaults};
-ghost use Rattle.qm_model.specs.Acting.{acting};
-ghost use Rattle.qm_history.specs.Faults.{is_journal};
-ghost use Rattle.qm_history.specs.Accepted.{cluster};
-ghost use Rattle.qm_acting.specs.Asking.{CanBeAsked};
-ghost use Rattle.qm_acting.specs.Spare.{KeepsSpare};
-ghost use Rattle.qm_acting.specs.Standing.{standing_of, disk_of, IsReady};
-ghost use Rattle.qm_chest.specs.At.{IsWithout};
-ghost use Rattle.qm_chest.specs.Desk.{desk_disk, IsReadyDesk};
-ghost use Rattle.qm_chest.specs.Steps.{Behind, Comes, IsOfNodes, IsToldStep, IsToManager, came_of, goes_then, is_in_doubt, is_recorded};
+ghost use Rattle.std.specs.Prelude.{◌≡◌};
+ghost use Rattle.qm_acting.specs.Standing.{IsReady};
+ghost use Rattle.qm_chest.specs.Steps.{AskStep, CanAsk, IsToManager, LeavesAsked, StepIs, goes_then, is_recorded, served_alone, served_behind};
 
 use crate::answering::{Step, done, full, refused, short};
-use crate::desk::Desk;
 use crate::serving::Served;
+use crate::work::Work;
 use core::mem::drop;
 use qm_acting::{AskFault, Manager, site_files_go_on};
 use qm_disk::Disk;
@@ -24,7 +16,7 @@ use qm_restore::site_files_are_accepted;
 
 /// What one step of a call came to: its event, unless memory was short, and its answer.
 pub struct Came<D> {
-    pub(crate) desk: Desk<D>,
+    pub(crate) work: Work<D>,
     pub(crate) event: Option<Event>,
     pub(crate) answer: Answer,
 }
@@ -49,15 +41,15 @@ impl<D> Came<D> {
 
     /// This step is the whole call.
     pub(crate) fn alone(self) -> Served<D>
-        ensures { result ≡ record { desk = self.desk; first = self.event; second = None; answer = self.answer } }
+        ensures { result ≡ served_alone self }
     {
         let Came {
-            desk,
+            work,
             event,
             answer,
         } = self;
         Served {
-            desk,
+            work,
             first: event,
             second: None,
             answer,
@@ -66,15 +58,15 @@ impl<D> Came<D> {
 
     /// This step behind another event.
     pub(crate) fn behind(self, first: Event) -> Served<D>
-        ensures { result ≡ record { desk = self.desk; first = Some first; second = self.event; answer = self.answer } }
+        ensures { result ≡ served_behind first self }
     {
         let Came {
-            desk,
+            work,
             event,
             answer,
         } = self;
         Served {
-            desk,
+            work,
             first: Some(first),
             second: event,
             answer,
@@ -95,18 +87,10 @@ pub(crate) fn ask_step<D: Disk>(
     took: Option<Takeover>,
 ) -> Step
     requires ready { IsReady D.meaning manager.old }
-    requires can { CanBeAsked (standing_of manager.old).system (acting now (standing_of manager.old).system) node request }
+    requires can { CanAsk manager.old node now request }
     requires to_manager { IsToManager request }
-
-    ensures ready { Behind (IsReadyDesk D.meaning) manager.new at (is_in_doubt result.event) }
-    ensures nodes { Behind (IsOfNodes (cluster (standing_of manager.old).system) at) manager.new at (is_in_doubt result.event) }
-    ensures down { is_journal result.answer ≡ true → Behind IsWithout manager.new at (is_in_doubt result.event) }
-    ensures told { IsToldStep took result.event result.answer }
-    ensures faults { TellsFaults D.meaning (disk_of manager.old) (disk_of manager.new) (is_journal result.answer ≡ true) }
-    ensures spare { IsTrue D.meaning.tells → KeepsSpare D.meaning (disk_of manager.old) (disk_of manager.new) }
-    ensures comes { IsTrue D.meaning.tells
-        → Behind (λ desk. Comes D.meaning manager.old at live node now request took (came_of result desk)) manager.new at
-        (is_in_doubt result.event) }
+    ensures leaves { StepIs (LeavesAsked D.meaning took manager.old at) result manager.new at }
+    ensures comes { StepIs (AskStep D.meaning manager.old at live node now request took) result manager.new at }
 {
     site_files_go_on();
     site_files_are_accepted();
@@ -147,16 +131,10 @@ pub(crate) fn ask<D: Disk>(
     took: Option<Takeover>,
 ) -> Came<D>
     requires ready { IsReady D.meaning manager }
-    requires can { CanBeAsked (standing_of manager).system (acting now (standing_of manager).system) node request }
+    requires can { CanAsk manager node now request }
     requires to_manager { IsToManager request }
-
-    ensures ready { IsReadyDesk D.meaning result.desk }
-    ensures nodes { IsOfNodes (cluster (standing_of manager).system) at result.desk }
-    ensures down { is_journal result.answer ≡ true → IsWithout result.desk }
-    ensures told { IsToldStep took result.event result.answer }
-    ensures faults { TellsFaults D.meaning (disk_of manager) (desk_disk result.desk) (is_journal result.answer ≡ true) }
-    ensures spare { IsTrue D.meaning.tells → KeepsSpare D.meaning (disk_of manager) (desk_disk result.desk) }
-    ensures comes { IsTrue D.meaning.tells → Comes D.meaning manager at live node now request took result }
+    ensures leaves { LeavesAsked D.meaning took manager at result }
+    ensures comes { AskStep D.meaning manager at live node now request took result }
 {
     let mut manager = manager;
     let step = ask_step(&mut manager, at, live, node, now, request, took);

@@ -1,20 +1,21 @@
 // What a call does behind its takeover.
-ghost use Rattle.std.specs.Prelude.{◌≡◌, ◌<◌, ℕ, List, IsTrue, true, None, Some, length, slice_get, slice_set};
+ghost use Rattle.std.specs.Prelude.{◌≡◌, ◌<◌, ℕ, List, true, None, Some, length, slice_get, slice_set};
 ghost use Rattle.qm_kinds.specs.declared.reply.Act.TheVariants as act;
 ghost use Rattle.qm_history.specs.Answers.{plain};
 ghost use Rattle.qm_history.specs.declared.call.Answer.TheVariants as answer;
 ghost use Rattle.qm_history.specs.declared.event.Event.TheVariants as event;
 ghost use Rattle.qm_acting.specs.Standing.{disk_of};
-ghost use Rattle.qm_chest.specs.declared.desk.Desk.TheVariants as desk;
-ghost use Rattle.qm_chest.specs.At.{CanBeAskedFor, IsDeskOf};
+ghost use Rattle.qm_chest.specs.declared.work.Work.TheVariants as work;
+ghost use Rattle.qm_chest.specs.At.{CanBeAskedFor, IsWorkOf};
+ghost use Rattle.qm_chest.specs.Members.{OnlyLiveChanges};
 ghost use Rattle.qm_chest.specs.Taking.{FollowsTaken, LeavesFrom, NeedsManager};
 
 use crate::answering::refused;
 use crate::asking::Came;
-use crate::book::Book;
-use crate::desk::Desk;
+use crate::members::Members;
 use crate::serving::Served;
 use crate::taken::Taken;
+use crate::work::Work;
 use core::mem::drop;
 use qm_acting::Manager;
 use qm_disk::Disk;
@@ -23,7 +24,7 @@ use qm_kinds::{Act, Input, Moment};
 use qm_model::nodes_keep_their_names;
 use qm_restore::site_files_are_accepted;
 
-impl Book {
+impl Members {
     /// The call behind a takeover that stands, of its node.
     pub(crate) fn behind<D: Disk>(
         &mut self,
@@ -32,11 +33,12 @@ impl Book {
         now: Moment,
         input: Input,
     ) -> Served<D>
-        requires desk { IsDeskOf D.meaning self.old.names.items (desk.Up taken.manager node) }
+        requires work { IsWorkOf D.meaning self.old.names.items (work.Up taken.manager node) }
         requires can { CanBeAskedFor node input }
         requires needs { NeedsManager input }
-        ensures leaves { LeavesFrom D.meaning self.old (disk_of taken.manager) self.old.greatest self.new result }
-        ensures follows { IsTrue D.meaning.tells → FollowsTaken D.meaning self.old taken node now input self.new result }
+        ensures leaves { LeavesFrom D.meaning self.old (disk_of taken.manager) self.old.greatest
+            self.new result }
+        ensures follows { FollowsTaken D.meaning self.old taken node now input self.new result }
     {
         site_files_are_accepted();
         nodes_keep_their_names();
@@ -74,7 +76,7 @@ impl Book {
         requires { node < length self.now.names.items }
         ensures { (name : List ℕ) → slice_get self.now.names.items node ≡ Some name
             → result ≡ record {
-              desk = desk.Up manager node;
+              work = work.Up manager node;
               first = Some event;
               second = None;
               answer = answer.Done (Some told) moment (plain (act.Managing name told.epoch));
@@ -85,7 +87,7 @@ impl Book {
             epoch: told.epoch,
         };
         Served {
-            desk: Desk::Up { manager, node },
+            work: Work::Up { manager, node },
             first: Some(event),
             second: None,
             answer: Answer::Done {
@@ -107,20 +109,19 @@ impl Book {
         requires { node < length self.old.names.items }
         ensures came { (name : List ℕ) → slice_get self.old.names.items node ≡ Some name
             → result ≡ record {
-              desk = desk.Up manager node;
+              work = work.Up manager node;
               event = Some (event.Started node);
               answer = answer.Done (Some told) moment (plain (act.NodeStarted name));
             } }
         ensures live { self.new.live.items ≡ slice_set self.old.live.items node true }
-        ensures others { (self.new.names.items ≡ self.old.names.items) × (self.new.held.items ≡ self.old.held.items)
-            × (self.new.greatest ≡ self.old.greatest) }
+        ensures others { OnlyLiveChanges self.old self.new }
     {
         self.live[usize::from(node)] = true;
         let act = Act::NodeStarted {
             node: self.name(node),
         };
         Came {
-            desk: Desk::Up { manager, node },
+            work: Work::Up { manager, node },
             event: Some(Event::Started { node }),
             answer: Answer::Done {
                 took: Some(told),

@@ -2,8 +2,8 @@
 ghost use Rattle.std.specs.Prelude.{◌≤◌, vec_len};
 ghost use Rattle.qm_history.specs.Chest.{turns_kept};
 
-use crate::book::Book;
-use crate::desk::Desk;
+use crate::members::Members;
+use crate::work::Work;
 use qm_history::Turn;
 use std::alloc::Global;
 
@@ -22,6 +22,6 @@ pub struct Chest<D> {
 /// What the chest works with, and what it keeps of the nodes.
 #[derive(Drop)]
 pub struct State<D> {
-    pub(crate) book: Book,
-    pub(crate) desk: Desk<D>,
+    pub(crate) members: Members,
+    pub(crate) work: Work<D>,
 }

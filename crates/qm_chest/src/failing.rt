@@ -1,13 +1,12 @@
 // What a call is answered whose takeover failed.
-ghost use Rattle.std.specs.Prelude.{◌≡◌, ◌<◌, ◌-◌, ◌^◌, ℕ, List, None, Some, false, length, slice_get, unwrap_or};
-ghost use Rattle.qm_history.specs.declared.call.Answer.TheVariants as answer;
-ghost use Rattle.qm_history.specs.declared.event.Event.TheVariants as event;
-ghost use Rattle.qm_chest.specs.Taking.{failed, told_of_failed, unread_answer};
+ghost use Rattle.std.specs.Prelude.{◌≡◌, ◌<◌, ◌-◌, ◌^◌, ℕ, List, None, Some, length, slice_get};
+ghost use Rattle.qm_chest.specs.Members.{is_live_in};
+ghost use Rattle.qm_chest.specs.Taking.{failed, full_failed, journal_failed, short_failed, told_of_failed, unnamed_failed, unread_answer};
 
-use crate::book::Book;
-use crate::desk::Desk;
+use crate::members::Members;
 use crate::place::Place;
 use crate::serving::Served;
+use crate::work::Work;
 use qm_acting::Files;
 use qm_history::{Answer, Event, Takeover};
 use qm_kinds::Seq;
@@ -26,7 +25,7 @@ fn failed<D>(
     ensures { result ≡ failed closed place node tried kept second answer }
 {
     Served {
-        desk: Desk::Down {
+        work: Work::Down {
             files: Files::Closed(closed),
             place,
         },
@@ -48,7 +47,7 @@ fn unread_answer(live: bool, fault: LoadFault) -> Answer
     }
 }
 
-impl Book {
+impl Members {
     // What is told of it.
     fn told(&self, tried: u64, kept: Option<bool>) -> Option<Takeover>
         ensures { result ≡ told_of_failed tried kept }
@@ -73,7 +72,7 @@ impl Book {
     ) -> Served<D>
         requires { node < length self.now.names.items }
         ensures { result ≡ failed closed place node self.now.greatest None None
-            (unread_answer (unwrap_or (slice_get self.now.live.items node) false) fault) }
+            (unread_answer (is_live_in self.now node) fault) }
     {
         let answer = unread_answer(self.is_live(node), fault);
         failed(closed, place, node, self.greatest, None, None, answer)
@@ -81,8 +80,7 @@ impl Book {
 
     /// Memory was short behind the reading, and no epoch was tried.
     pub(crate) fn short<D>(&self, closed: Closed<D>, node: u8, kept: Option<bool>) -> Served<D>
-        ensures { result ≡ failed closed None node self.now.greatest kept None
-            (answer.NoMemory (told_of_failed self.now.greatest kept)) }
+        ensures { result ≡ short_failed closed node self.now.greatest kept }
     {
         let took = self.told(self.greatest, kept);
         failed(
@@ -106,8 +104,7 @@ impl Book {
         need: u64,
         cap: u64,
     ) -> Served<D>
-        ensures { result ≡ failed closed None node tried kept (Some (event.Full node need cap))
-            (answer.Full (told_of_failed tried kept) need cap) }
+        ensures { result ≡ full_failed closed node tried kept need cap }
     {
         let took = self.told(tried, kept);
         let second = Event::Full { node, need, cap };
@@ -131,10 +128,8 @@ impl Book {
         need: u64,
         cap: u64,
     ) -> Served<D>
-        ensures full { need < 2 ^ 64 - 1 → result ≡ failed closed None node self.now.greatest kept (Some (event.Full node need cap))
-            (answer.Full (told_of_failed self.now.greatest kept) need cap) }
-        ensures short { need ≡ 2 ^ 64 - 1 → result ≡ failed closed None node self.now.greatest kept None
-            (answer.NoMemory (told_of_failed self.now.greatest kept)) }
+        ensures full { need < 2 ^ 64 - 1 → result ≡ full_failed closed node self.now.greatest kept need cap }
+        ensures short { need ≡ 2 ^ 64 - 1 → result ≡ short_failed closed node self.now.greatest kept }
     {
         if need == u64::MAX {
             self.short(closed, node, kept)
@@ -153,7 +148,7 @@ impl Book {
     ) -> Served<D>
         requires { node < length self.now.names.items }
         ensures { (name : List ℕ) → slice_get self.now.names.items node ≡ Some name
-            → result ≡ failed closed None node tried kept (Some (event.NoManager node)) (answer.NoManager (told_of_failed tried kept) name) }
+            → result ≡ unnamed_failed closed node tried kept name }
     {
         let took = self.told(tried, kept);
         let answer = Answer::NoManager {
@@ -182,8 +177,7 @@ impl Book {
         second: Option<Event>,
     ) -> Served<D>
         requires { node < length self.now.names.items }
-        ensures { result ≡ failed closed place node tried kept second
-            (answer.Journal (told_of_failed tried kept) (unwrap_or (slice_get self.now.live.items node) false)) }
+        ensures { result ≡ journal_failed closed place node tried kept second (is_live_in self.now node) }
     {
         let took = self.told(tried, kept);
         let live = self.is_live(node);

@@ -1,20 +1,19 @@
 // A node that stops, or leaves.
-ghost use Rattle.std.specs.Prelude.{◌≡◌, ◌<◌, ℕ, IsTrue, IfOk, List, [], ◌∷◌, Some, ◌≢◌, false, length, slice_get, slice_set};
-ghost use Rattle.qm_kinds.specs.Text.{IsText, is_name_byte};
+ghost use Rattle.std.specs.Prelude.{◌≡◌, ◌<◌, ℕ, IfOk, List, [], ◌∷◌, Some, ◌≢◌, false, length, slice_get, slice_set};
 ghost use Rattle.qm_kinds.specs.declared.input.Input.TheVariants as input;
 ghost use Rattle.qm_kinds.specs.declared.request.Request.TheVariants as request;
 ghost use Rattle.qm_history.specs.Answers.{plain};
-ghost use Rattle.qm_chest.specs.declared.desk.Desk.TheVariants as desk;
-ghost use Rattle.qm_chest.specs.At.{IsDeskOf};
+ghost use Rattle.qm_chest.specs.declared.work.Work.TheVariants as work;
+ghost use Rattle.qm_chest.specs.At.{IsWorkOf};
+ghost use Rattle.qm_chest.specs.Members.{OnlyLiveChanges};
 ghost use Rattle.qm_chest.specs.Whole.{AsksAlone, Leaves, ServesWhere, goes_alone, goes_by};
 
 use crate::answering::short;
 use crate::asking::ask;
-use crate::book::Book;
-use crate::desk::Desk;
-use crate::own::acts_in_time;
+use crate::members::Members;
 use crate::place::Place;
 use crate::serving::Served;
+use crate::work::Work;
 use qm_acting::{Files, Manager, own_requests_are_accepted};
 use qm_disk::Disk;
 use qm_history::{Answer, Event};
@@ -23,7 +22,7 @@ use qm_model::nodes_keep_their_names;
 use qm_restore::{site_files_are_accepted, site_files_are_consistent};
 use std::alloc::{AllocError, Global};
 
-impl Book {
+impl Members {
     /// A node goes while a manager is up. Where that is on the node itself, it ends with it, and the next takeover tells that the
     /// node is gone; else it records the loss.
     pub(crate) fn gone<D: Disk>(
@@ -34,10 +33,10 @@ impl Book {
         now: Moment,
         leaves: bool,
     ) -> Served<D>
-        requires desk { IsDeskOf D.meaning self.old.names.items (desk.Up manager at) }
+        requires work { IsWorkOf D.meaning self.old.names.items (work.Up manager at) }
         requires there { node < length self.old.names.items }
-        ensures leaves { Leaves D.meaning self.old (desk.Up manager at) self.new result }
-        ensures serves { IsTrue D.meaning.tells → ServesWhere D.meaning self.old (desk.Up manager at) node now
+        ensures leaves { Leaves D.meaning self.old (work.Up manager at) self.new result }
+        ensures serves { ServesWhere D.meaning self.old (work.Up manager at) node now
             (AsksAlone node input.StopNode leaves) self.new result }
     {
         site_files_are_accepted();
@@ -57,18 +56,17 @@ impl Book {
         now: Moment,
         leaves: bool,
     ) -> Served<D>
-        requires desk { IsDeskOf D.meaning self.old.names.items (desk.Up manager at) }
+        requires work { IsWorkOf D.meaning self.old.names.items (work.Up manager at) }
         requires there { node < length self.old.names.items }
         requires elsewhere { at ≢ node }
-        ensures leaves { Leaves D.meaning self.old (desk.Up manager at) self.new result }
-        ensures serves { IsTrue D.meaning.tells → ServesWhere D.meaning self.old (desk.Up manager at) node now
+        ensures leaves { Leaves D.meaning self.old (work.Up manager at) self.new result }
+        ensures serves { ServesWhere D.meaning self.old (work.Up manager at) node now
             (AsksAlone node input.StopNode leaves) self.new result }
     {
         site_files_are_accepted();
         site_files_are_consistent();
         own_requests_are_accepted();
         nodes_keep_their_names();
-        acts_in_time(&manager, now);
         let Ok(request) = self.loss(node) else {
             return short(None).up(manager, at).alone();
         };
@@ -83,14 +81,11 @@ impl Book {
     // The request that tells of the loss of a node.
     fn loss(&self, node: u8) -> Result<Boxed<Request>, AllocError>
         requires { node < length self.now.names.items }
-        ensures one { (name : List ℕ) → slice_get self.now.names.items node ≡ Some name
+        ensures { (name : List ℕ) → slice_get self.now.names.items node ≡ Some name
             → IfOk result (λ asked. asked ≡ request.NodeLost (name ∷ [])) }
-        ensures lawful { (name : List ℕ) → slice_get self.now.names.items node ≡ Some name → IsText is_name_byte name }
     {
-        let name = self.name(node);
-        name.as_bytes();
         let mut list = Vec::new(self.alloc);
-        list.push(name)?;
+        list.push(self.name(node))?;
         Boxed::new(
             self.alloc,
             Request::NodeLost {
@@ -110,17 +105,16 @@ impl Book {
     ) -> Served<D>
         requires { node < length self.old.names.items }
         ensures served { (name : List ℕ) → slice_get self.old.names.items node ≡ Some name
-            → result ≡ goes_alone (desk.Down files place) node now leaves name }
+            → result ≡ goes_alone (work.Down files place) node now leaves name }
         ensures live { self.new.live.items ≡ slice_set self.old.live.items node false }
-        ensures others { (self.new.names.items ≡ self.old.names.items) × (self.new.held.items ≡ self.old.held.items)
-            × (self.new.greatest ≡ self.old.greatest) }
+        ensures others { OnlyLiveChanges self.old self.new }
     {
         self.live[usize::from(node)] = false;
         let act = Act::NodeStopped {
             node: self.name(node),
         };
         Served {
-            desk: Desk::Down { files, place },
+            work: Work::Down { files, place },
             first: Some(gone(node, leaves)),
             second: None,
             answer: Answer::Done {

@@ -13,16 +13,14 @@
 mod answering;
 mod asking;
 mod behind;
-mod book;
 mod calls;
 mod checked;
 mod checking;
 mod chest;
-mod desk;
 mod failing;
-mod fitting;
 mod laws;
 mod leaving;
+mod members;
 mod nodes;
 mod noting;
 mod opening;
@@ -36,6 +34,7 @@ mod stepping;
 mod taken;
 mod taking;
 mod wanted;
+mod work;
 
 pub use chest::{Chest, TURNS_KEPT};
 pub use laws::{

@@ -1,14 +1,11 @@
 // The lists of nodes of a takeover.
-ghost use Rattle.std.specs.Prelude.{◌≡◌, ◌<◌, ℕ, List, filter, length, map, vec_len, IfOk, MatchOption, None, Some};
-ghost use Rattle.qm_model.specs.Find.{is_among};
-ghost use Rattle.qm_model.specs.Standing.{node_at};
+ghost use Rattle.std.specs.Prelude.{◌≡◌, ◌<◌, length, map, vec_len, IfOk, MatchOption, None, Some};
+ghost use Rattle.qm_history.specs.Common.{is_among, node_at, nodes_where};
 ghost use Rattle.qm_history.specs.Takeover.{nodes_on};
-ghost use Rattle.qm_history.specs.World.{nodes_where};
-ghost use Rattle.qm_kinds.specs.declared.request.Request.TheVariants as request;
-ghost use Rattle.qm_chest.specs.Nodes.{are_called, is_one};
-ghost use Rattle.qm_chest.specs.Taking.{gone_by, up_by, may_by};
+ghost use Rattle.qm_chest.specs.Nodes.{are_called, is_one, nodes_among, nodes_listed};
+ghost use Rattle.qm_chest.specs.Taking.{lost_by, may_by, may_manage, took_by, up_by};
 
-use crate::book::Book;
+use crate::members::Members;
 use qm_kinds::{Boxed, Input, Name, Node, Request, Seq};
 use std::alloc::{AllocError, Global};
 
@@ -66,7 +63,7 @@ fn is_among(names: &[Name], name: &Name) -> bool
 
 // The names of the nodes that are among these, in the cluster's order.
 fn names_among(alloc: Global, nodes: &[Node], names: &[Name]) -> Result<Vec<Name>, AllocError>
-    ensures { IfOk result (λ found. found.items ≡ filter (is_among names.now) (map (λ n. n.name) nodes.now)) }
+    ensures { IfOk result (λ found. found.items ≡ nodes_among names.now nodes.now) }
 {
     let mut found = Vec::new(alloc);
     for node in nodes {
@@ -79,7 +76,8 @@ fn names_among(alloc: Global, nodes: &[Node], names: &[Name]) -> Result<Vec<Name
 
 // The nodes that a command lists, if it lists some.
 fn listed(input: &Input) -> Option<&[Name]>
-    ensures { MatchOption result (nodes_on input.now ≡ None) (λ names. nodes_on input.now ≡ Some names.now) }
+    ensures { MatchOption result (nodes_on input.now ≡ None)
+        (λ names. nodes_on input.now ≡ Some names.now) }
 {
     match input {
         Input::TakeManager { on: Some(names) } => Some(names.as_slice()),
@@ -89,7 +87,7 @@ fn listed(input: &Input) -> Option<&[Name]>
 
 // The nodes that a command lists, where an empty list stands for all.
 fn names_listed(alloc: Global, nodes: &[Node], names: &[Name]) -> Result<Vec<Name>, AllocError>
-    ensures { (may : List (List ℕ)) → IfOk result (λ found. found.items ≡ may_by nodes.now may (Some names.now)) }
+    ensures { IfOk result (λ found. found.items ≡ nodes_listed nodes.now names.now) }
 {
     if names.is_empty() {
         names_of_all(alloc, nodes)
@@ -124,7 +122,7 @@ fn name_of(nodes: &[Node], node: u8) -> Name
 // Whether a command lists the node of this place.
 fn is_listed(nodes: &[Node], names: &[Name], node: u8) -> bool
     requires { node < length nodes.now }
-    ensures { (may : List (List ℕ)) → result ≡ is_among (may_by nodes.now may (Some names.now)) (node_at node nodes.now) }
+    ensures { result ≡ is_among (nodes_listed nodes.now names.now) (node_at node nodes.now) }
 {
     names.is_empty() || is_among(names, &name_of(nodes, node))
 }
@@ -132,7 +130,7 @@ fn is_listed(nodes: &[Node], names: &[Name], node: u8) -> bool
 /// Whether the node of this place may be manager by the list that a command gives, or by the one that is kept.
 pub(crate) fn is_named(nodes: &[Node], may: &[Name], input: &Input, node: u8) -> bool
     requires { node < length nodes.now }
-    ensures { result ≡ is_among (may_by nodes.now may.now (nodes_on input.now)) (node_at node nodes.now) }
+    ensures { result ≡ may_manage nodes.now may.now input.now node }
 {
     match listed(input) {
         Some(names) => is_listed(nodes, names, node),
@@ -140,7 +138,7 @@ pub(crate) fn is_named(nodes: &[Node], may: &[Name], input: &Input, node: u8) ->
     }
 }
 
-impl Book {
+impl Members {
     /// Whether the nodes are those of the cluster.
     pub(crate) fn are_nodes(&self, nodes: &[Node]) -> bool
         ensures { result ≡ are_called nodes.now self.now.names.items }
@@ -159,7 +157,7 @@ impl Book {
     // The nodes whose runs a takeover finds lost.
     fn nodes_lost(&self, nodes: &[Node]) -> Result<Vec<Name>, AllocError>
         requires { length nodes.now ≡ vec_len self.now.names }
-        ensures { IfOk result (λ names. names.items ≡ gone_by self.now.live.items self.now.held.items nodes.now) }
+        ensures { IfOk result (λ names. names.items ≡ lost_by self.now nodes.now) }
     {
         if self.is_none_taken() {
             names_of_all(self.alloc, nodes)
@@ -190,8 +188,7 @@ impl Book {
     ) -> Result<Boxed<Request>, AllocError>
         requires nodes { length nodes.now ≡ vec_len self.now.names }
         requires there { node < vec_len self.now.names }
-        ensures { IfOk result (λ asked. asked ≡ request.Took epoch (gone_by self.now.live.items self.now.held.items nodes.now)
-            (up_by self.now.live.items node nodes.now) (may_by nodes.now may.now (nodes_on input.now))) }
+        ensures { IfOk result (λ asked. asked ≡ took_by self.now nodes.now may.now node input.now epoch) }
     {
         let request = Request::Took {
             epoch,

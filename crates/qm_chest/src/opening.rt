@@ -28,9 +28,11 @@ impl<D: Disk> Chest<D> {
     /// and `NoMemory` also where a recorded epoch is so late that turns could reach the last one. An `Err` hands the device back.
     pub fn open(alloc: Global, disk: D) -> Result<Chest<D>, (D, LoadFault)>
         ensures opened { IfOk result (IsOpened D.meaning disk) }
-        ensures fault { IsTrue D.meaning.tells → IfErr result (λ failed. IsRestoreFault (D.meaning.seen disk) failed.1) }
+        ensures fault { IsTrue D.meaning.tells
+            → IfErr result (λ failed. IsRestoreFault (D.meaning.seen disk) failed.1) }
         ensures looks { OnlyLooks D.meaning disk (disk_opened result) }
-        ensures faults { TellsFaults D.meaning disk (disk_opened result) (FailsBy result fault.Disk) }
+        ensures faults { TellsFaults D.meaning disk (disk_opened result)
+            (FailsBy result fault.Disk) }
     {
         site_files_are_consistent();
         sites_begin_one_world();
@@ -46,7 +48,8 @@ impl<D: Disk> Chest<D> {
         requires { IsChecked D.meaning checked }
         ensures begins { IfOk result (Begins D.meaning checked) }
         ensures early { OnOk result ((checked_standing checked).recorded.says.epoch < 2 ^ 61) }
-        ensures back { IfErr result (λ failed. (failed.0 ≡ checked_disk checked) × (failed.1 ≡ fault.NoMemory)) }
+        ensures back { IfErr result
+            (λ failed. (failed.0 ≡ checked_disk checked) × (failed.1 ≡ fault.NoMemory)) }
     {
         if checked.epoch() >= EARLY_EPOCHS {
             return Err((checked.give_back(), LoadFault::NoMemory));

@@ -1,19 +1,17 @@
 // The call of a node: whether it is served, by whom, and what it came to.
-ghost use Rattle.std.specs.Prelude.{◌≡◌, ◌<◌, ◌^◌, IsTrue, Some, None, false, length};
+ghost use Rattle.std.specs.Prelude.{◌≡◌, ◌<◌, ◌^◌, IsTrue, false, length};
 ghost use Rattle.qm_kinds.specs.declared.input.Input.TheVariants as input;
 ghost use Rattle.qm_kinds.specs.declared.refusal.Refusal.TheVariants as refused;
-ghost use Rattle.qm_history.specs.declared.call.Answer.TheVariants as answer;
-ghost use Rattle.qm_history.specs.declared.event.Event.TheVariants as event;
 ghost use Rattle.qm_acting.specs.Files.{AreSound};
-ghost use Rattle.qm_chest.specs.declared.desk.Desk.TheVariants as desk;
-ghost use Rattle.qm_chest.specs.At.{CanBeAskedFor, IsDeskOf};
-ghost use Rattle.qm_chest.specs.Desk.{is_due};
-ghost use Rattle.qm_chest.specs.Whole.{Asks, AsksAlone, Leaves, ServesWhere, StandsEarly};
+ghost use Rattle.qm_chest.specs.declared.work.Work.TheVariants as work;
+ghost use Rattle.qm_chest.specs.At.{CanBeAskedFor, IsWorkOf};
+ghost use Rattle.qm_chest.specs.Work.{is_due};
+ghost use Rattle.qm_chest.specs.Whole.{Asks, AsksAlone, Leaves, ServesWhere, StandsEarly, refused_call};
 
 use crate::asking::same;
-use crate::book::Book;
-use crate::desk::Desk;
+use crate::members::Members;
 use crate::place::Place;
+use crate::work::Work;
 use qm_acting::{Files, Manager};
 use qm_disk::Disk;
 use qm_history::{Answer, Event};
@@ -23,24 +21,19 @@ use qm_restore::site_files_are_accepted;
 
 /// What a call came to: up to two events, none where memory was short and nothing has changed, and its answer.
 pub struct Served<D> {
-    pub(crate) desk: Desk<D>,
+    pub(crate) work: Work<D>,
     pub(crate) first: Option<Event>,
     pub(crate) second: Option<Event>,
     pub(crate) answer: Answer,
 }
 
 // A call that is refused before a system is asked: it has the reading's moment.
-fn refused<D>(desk: Desk<D>, node: u8, moment: Moment, input: Input, refusal: Refusal) -> Served<D>
-    ensures { result ≡ record {
-      desk = desk;
-      first = Some (event.Refused node moment input refusal);
-      second = None;
-      answer = answer.Refused None refusal;
-    } }
+fn refused<D>(work: Work<D>, node: u8, moment: Moment, input: Input, refusal: Refusal) -> Served<D>
+    ensures { result ≡ refused_call work node moment input refusal }
 {
     let told = same(&refusal);
     Served {
-        desk,
+        work,
         first: Some(Event::Refused {
             node,
             moment,
@@ -56,16 +49,12 @@ fn refused<D>(desk: Desk<D>, node: u8, moment: Moment, input: Input, refusal: Re
 }
 
 // A call whose line can't be read.
-fn unread<D>(desk: Desk<D>, node: u8, moment: Moment, place: usize, kind: ParseKind) -> Served<D>
-    ensures { result ≡ record {
-      desk = desk;
-      first = Some (event.Refused node moment (input.Fault place kind) (refused.ParseFault place kind));
-      second = None;
-      answer = answer.Refused None (refused.ParseFault place kind);
-    } }
+fn unread<D>(work: Work<D>, node: u8, moment: Moment, place: usize, kind: ParseKind) -> Served<D>
+    ensures { result ≡ refused_call work node moment (input.Fault place kind)
+        (refused.ParseFault place kind) }
 {
     refused(
-        desk,
+        work,
         node,
         moment,
         Input::Fault { place, kind },
@@ -73,54 +62,56 @@ fn unread<D>(desk: Desk<D>, node: u8, moment: Moment, place: usize, kind: ParseK
     )
 }
 
-impl Book {
+impl Members {
     /// A call of a node, whose clock told this before. A node that is down is told so, and a takeover comes first where one is due.
     /// `leaves` is whether it is the node's last call.
     pub(crate) fn served<D: Disk>(
         &mut self,
-        desk: Desk<D>,
+        work: Work<D>,
         node: u8,
         now: Moment,
         input: Input,
         leaves: bool,
     ) -> Served<D>
-        requires desk { IsDeskOf D.meaning self.old.names.items desk }
+        requires work { IsWorkOf D.meaning self.old.names.items work }
         requires there { node < length self.old.names.items }
         requires can { CanBeAskedFor node input }
         requires epochs { self.old.greatest < 2 ^ 63 }
-        requires stands { IsTrue D.meaning.tells → StandsEarly D.meaning (record { book = self.old; desk = desk }) }
-        ensures leaves { Leaves D.meaning self.old desk self.new result }
-        ensures serves { IsTrue D.meaning.tells → ServesWhere D.meaning self.old desk node now (Asks input leaves) self.new result }
+        requires stands { IsTrue D.meaning.tells
+            → StandsEarly D.meaning (record { members = self.old; work = work }) }
+        ensures leaves { Leaves D.meaning self.old work self.new result }
+        ensures serves { ServesWhere D.meaning self.old work node now (Asks input leaves) self.new result }
     {
         site_files_are_accepted();
         if self.is_down(node, &input) {
-            return refused(desk, node, now, input, Refusal::NodeDown);
+            return refused(work, node, now, input, Refusal::NodeDown);
         }
-        if desk.is_due(&input) {
-            return self.taken(desk, node, now, input);
+        if work.is_due(&input) {
+            return self.taken(work, node, now, input);
         }
-        self.served_alone(desk, node, now, input, leaves)
+        self.served_alone(work, node, now, input, leaves)
     }
 
     // A call before which no takeover comes.
     fn served_alone<D: Disk>(
         &mut self,
-        desk: Desk<D>,
+        work: Work<D>,
         node: u8,
         now: Moment,
         input: Input,
         leaves: bool,
     ) -> Served<D>
-        requires desk { IsDeskOf D.meaning self.old.names.items desk }
+        requires work { IsWorkOf D.meaning self.old.names.items work }
         requires there { node < length self.old.names.items }
         requires can { CanBeAskedFor node input }
-        requires due { is_due desk input ≡ false }
-        ensures leaves { Leaves D.meaning self.old desk self.new result }
-        ensures serves { IsTrue D.meaning.tells → ServesWhere D.meaning self.old desk node now (AsksAlone node input leaves) self.new result }
+        requires due { is_due work input ≡ false }
+        ensures leaves { Leaves D.meaning self.old work self.new result }
+        ensures serves { ServesWhere D.meaning self.old work node now (AsksAlone node input leaves)
+            self.new result }
     {
-        match desk {
-            Desk::Up { manager, node: at } => self.managed(manager, at, node, now, input, leaves),
-            Desk::Down { files, place } => {
+        match work {
+            Work::Up { manager, node: at } => self.managed(manager, at, node, now, input, leaves),
+            Work::Down { files, place } => {
                 self.unmanaged(files, place, node, now, input, leaves)
             }
         }
@@ -136,12 +127,12 @@ impl Book {
         input: Input,
         leaves: bool,
     ) -> Served<D>
-        requires desk { IsDeskOf D.meaning self.old.names.items (desk.Up manager at) }
+        requires work { IsWorkOf D.meaning self.old.names.items (work.Up manager at) }
         requires there { node < length self.old.names.items }
         requires can { CanBeAskedFor node input }
-        requires due { is_due (desk.Up manager at) input ≡ false }
-        ensures leaves { Leaves D.meaning self.old (desk.Up manager at) self.new result }
-        ensures serves { IsTrue D.meaning.tells → ServesWhere D.meaning self.old (desk.Up manager at) node now
+        requires due { is_due (work.Up manager at) input ≡ false }
+        ensures leaves { Leaves D.meaning self.old (work.Up manager at) self.new result }
+        ensures serves { ServesWhere D.meaning self.old (work.Up manager at) node now
             (AsksAlone node input leaves) self.new result }
     {
         site_files_are_accepted();
@@ -150,7 +141,7 @@ impl Book {
             Input::StartNode => self.started(manager, at, node, now),
             Input::StopNode => self.gone(manager, at, node, now, leaves),
             Input::Fault { place, kind } => {
-                unread(Desk::Up { manager, node: at }, node, now, place, kind)
+                unread(Work::Up { manager, node: at }, node, now, place, kind)
             }
             input => self.own(manager, at, node, now, input, None).alone(),
         }
@@ -168,15 +159,15 @@ impl Book {
     ) -> Served<D>
         requires there { node < length self.old.names.items }
         requires sound { AreSound D.meaning files }
-        requires due { is_due (desk.Down files place) input ≡ false }
-        ensures leaves { Leaves D.meaning self.old (desk.Down files place) self.new result }
-        ensures serves { IsTrue D.meaning.tells → ServesWhere D.meaning self.old (desk.Down files place) node now
+        requires due { is_due (work.Down files place) input ≡ false }
+        ensures leaves { Leaves D.meaning self.old (work.Down files place) self.new result }
+        ensures serves { ServesWhere D.meaning self.old (work.Down files place) node now
             (AsksAlone node input leaves) self.new result }
     {
         site_files_are_accepted();
         match input {
             Input::Fault { place: byte, kind } => {
-                unread(Desk::Down { files, place }, node, now, byte, kind)
+                unread(Work::Down { files, place }, node, now, byte, kind)
             }
             Input::StopNode => self.gone_alone(files, place, node, now, leaves),
             _ => unreachable!(),

@@ -1,16 +1,15 @@
 // What a manager at work shows.
-ghost use Rattle.std.specs.Prelude.{◌≡◌, ◌<◌, ℕ, IsTrue, IfOk, Ok, Some, List, false, length, map, slice_get};
+ghost use Rattle.std.specs.Prelude.{◌≡◌, ◌<◌, ℕ, IfOk, Ok, Some, List, false, length, slice_get};
 ghost use Rattle.qm_kinds.specs.declared.input.Input.TheVariants as input;
 ghost use Rattle.qm_image.specs.Refusing.{Refuses};
-ghost use Rattle.qm_history.specs.Faults.{is_journal};
-ghost use Rattle.qm_history.specs.Turn.{Beside};
+ghost use Rattle.qm_history.specs.Common.{is_journal, cluster};
 ghost use Rattle.qm_acting.specs.Standing.{standing_of, IsReady};
-ghost use Rattle.qm_chest.specs.declared.desk.Desk.TheVariants as desk;
-ghost use Rattle.qm_chest.specs.declared.book.Book.{Book as AnyBook};
-ghost use Rattle.qm_chest.specs.Steps.{IsToldStep, OwnComes, came_of, is_in_doubt, rows_of};
+ghost use Rattle.qm_chest.specs.declared.work.Work.TheVariants as work;
+ghost use Rattle.qm_chest.specs.declared.members.Members.{Members as AnyMembers};
+ghost use Rattle.qm_chest.specs.Steps.{IsToldStep, OwnStep, came_of, is_in_doubt, rows_of};
 
 use crate::answering::{Step, refused, short, shown};
-use crate::book::Book;
+use crate::members::Members;
 use qm_acting::Manager;
 use qm_disk::Disk;
 use qm_history::{Answer, Takeover};
@@ -36,8 +35,8 @@ pub(crate) fn fetch<D: Disk>(
     ensures up { is_in_doubt result.event ≡ false }
     ensures quiet { is_journal result.answer ≡ false }
     ensures told { IsToldStep took result.event result.answer }
-    ensures comes { IsTrue D.meaning.tells → (book : AnyBook) (acted : ℕ) (beside : Beside)
-        → OwnComes D.meaning book manager.now at node now acted (input.Fetch known) beside took (came_of result (desk.Up manager.now at)) }
+    ensures comes { (members : AnyMembers) → OwnStep D.meaning members manager.now at node now (input.Fetch known) took
+        (came_of result (work.Up manager.now at)) }
 {
     site_files_are_accepted();
     site_files_are_consistent();
@@ -57,7 +56,7 @@ pub(crate) fn fetch<D: Disk>(
     }
 }
 
-impl Book {
+impl Members {
     /// The rows of a listing.
     #[inline(never)]
     pub(crate) fn show<D: Disk>(
@@ -70,13 +69,13 @@ impl Book {
         took: Option<Takeover>,
     ) -> Step
         requires ready { IsReady D.meaning manager.now }
-        requires names { map (λ n. n.name) (standing_of manager.now).system.nodes ≡ self.now.names.items }
+        requires names { cluster (standing_of manager.now).system ≡ self.now.names.items }
         requires there { at < length self.now.names.items }
         ensures up { is_in_doubt result.event ≡ false }
         ensures quiet { is_journal result.answer ≡ false }
         ensures told { IsToldStep took result.event result.answer }
-        ensures comes { IsTrue D.meaning.tells → (acted : ℕ) (beside : Beside)
-            → OwnComes D.meaning self.now manager.now at node now acted (input.Show query) beside took (came_of result (desk.Up manager.now at)) }
+        ensures comes { OwnStep D.meaning self.now manager.now at node now (input.Show query) took
+            (came_of result (work.Up manager.now at)) }
     {
         site_files_are_accepted();
         let moment = manager.acting(now);

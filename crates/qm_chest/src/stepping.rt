@@ -8,6 +8,7 @@ use crate::answering::Step;
 use crate::chest::{State, TURNS_KEPT};
 use crate::serving::Served;
 use crate::wanted::{Maker, Outcome, Wanted};
+use crate::work::Work;
 use core::mem::{drop, replace_with};
 use qm_disk::Disk;
 use qm_history::{Answer, Event, Turn};
@@ -17,52 +18,50 @@ use qm_restore::site_files_are_accepted;
 use std::alloc::{AllocError, Global};
 
 impl<D: Disk> State<D> {
-    /// What a call makes of it. A manager stays in its place for a step of its own; for every other call it is moved.
+    /// What a call makes of it. A manager stays in its place for a step of its own, unless its record is in doubt; for every other
+    /// call it is moved.
     pub(crate) fn serve(&mut self, wanted: Wanted) -> Outcome
         requires { CanServe D.meaning wanted self.old }
         ensures serving { Serving D.meaning wanted self.old self.new result }
         ensures few { length (both result.first result.second) ≤ most_events wanted self.old }
     {
-        if self.is_step(&wanted) {
-            self.step(wanted)
-        } else {
-            replace_with(self, wanted, State::moved)
-        }
-    }
-
-    // Whether a call is a step of the manager that is up, of a node that is live.
-    fn is_step(&self, wanted: &Wanted) -> bool
-        requires { wanted.now.maker.node < vec_len self.now.book.names }
-        ensures { result ≡ is_step_alone wanted.now self.now }
-    {
-        self.book.is_live(wanted.maker.node) && self.desk.makes_step(&wanted.input)
-    }
-
-    /// How many events the call can have at most.
-    pub(crate) fn most_events(&self, wanted: &Wanted) -> usize
-        requires { wanted.now.maker.node < vec_len self.now.book.names }
-        ensures { result ≡ most_events wanted.now self.now }
-    {
-        if self.is_step(wanted) { 1 } else { 2 }
-    }
-
-    // What such a step makes of it.
-    #[inline(never)]
-    fn step(&mut self, wanted: Wanted) -> Outcome
-        requires can { CanServe D.meaning wanted self.old }
-        requires step { is_step_alone wanted self.old ≡ true }
-        ensures serving { Serving D.meaning wanted self.old self.new result }
-        ensures one { result.second ≡ None }
-    {
         site_files_are_accepted();
         nodes_keep_their_names();
+        if !self.is_step(&wanted) {
+            return replace_with(self, wanted, State::moved);
+        }
         let Wanted { maker, input, .. } = wanted;
-        let Step { event, answer } = self.desk.step(&self.book, maker, input);
+        let Work::Up { manager, node } = &mut self.work else {
+            unreachable!()
+        };
+        let step = self
+            .members
+            .own_step(manager, *node, maker.node, maker.moment, input, None);
+        if step.is_in_doubt() {
+            replace_with(&mut self.work, (), Work::let_go);
+        }
+        let Step { event, answer } = step;
         Outcome {
             first: event,
             second: None,
             answer,
         }
+    }
+
+    // Whether a call is a step of the manager that is up, of a node that is live.
+    fn is_step(&self, wanted: &Wanted) -> bool
+        requires { wanted.now.maker.node < vec_len self.now.members.names }
+        ensures { result ≡ is_step_alone wanted.now self.now }
+    {
+        self.members.is_live(wanted.maker.node) && self.work.makes_step(&wanted.input)
+    }
+
+    /// How many events the call can have at most.
+    pub(crate) fn most_events(&self, wanted: &Wanted) -> usize
+        requires { wanted.now.maker.node < vec_len self.now.members.names }
+        ensures { result ≡ most_events wanted.now self.now }
+    {
+        if self.is_step(wanted) { 1 } else { 2 }
     }
 
     // What a call makes of it, which moves it. (Inlined, its locals would be cleared at each step.)
@@ -71,20 +70,20 @@ impl<D: Disk> State<D> {
         requires { CanServe D.meaning wanted self }
         ensures { Serving D.meaning wanted self result.0 result.1 }
     {
-        let State { mut book, desk } = self;
+        let State { mut members, work } = self;
         let Wanted {
             maker,
             input,
             leaves,
         } = wanted;
         let Served {
-            desk,
+            work,
             first,
             second,
             answer,
-        } = book.served(desk, maker.node, maker.moment, input, leaves);
+        } = members.served(work, maker.node, maker.moment, input, leaves);
         (
-            State { book, desk },
+            State { members, work },
             Outcome {
                 first,
                 second,
@@ -131,7 +130,8 @@ pub(crate) fn keep(
     requires place { vec_len turns.old < vec_capacity turns.old }
     requires empty { room.items ≡ [] }
     requires room { length (both first second) ≤ vec_capacity room }
-    ensures { turns.new.items ≡ turns.old.items ++ option_to_list (turn_made maker (both first second)) }
+    ensures { turns.new.items
+        ≡ turns.old.items ++ option_to_list (turn_made maker (both first second)) }
 {
     let Some(first) = first else {
         drop(second);

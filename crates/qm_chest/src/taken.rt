@@ -1,7 +1,7 @@
 // A takeover that stands.
 ghost use Rattle.std.specs.Prelude.{◌≡◌, ℕ, List};
 ghost use Rattle.qm_kinds.specs.declared.request.Request.TheVariants.{Took};
-ghost use Rattle.qm_chest.specs.Taking.{IsTook, event_of, told_of};
+ghost use Rattle.qm_chest.specs.Taking.{IsTook, event_of, taken_with, told_of};
 
 use qm_acting::Manager;
 use qm_history::{Event, Takeover};
@@ -61,8 +61,9 @@ pub(crate) fn taken_by<D>(
     reply: Reply,
 ) -> Taken<D>
     requires { IsTook request }
-    ensures { (epoch : ℕ) (gone up may : List (List ℕ)) → request ≡ Took epoch gone up may
-        → result ≡ record { manager = manager; moment = moment; epoch = epoch; gone = gone; up = up; may = may; kept = kept; started = reply.started } }
+    ensures manager { result.manager ≡ manager }
+    ensures taken { (epoch : ℕ) (gone up may : List (List ℕ)) → request ≡ Took epoch gone up may
+        → result ≡ taken_with manager moment epoch gone up may kept reply.started }
 {
     let Request::Took {
         epoch,

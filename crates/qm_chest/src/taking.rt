@@ -1,21 +1,22 @@
 // How a node takes the role of queue manager over before its call is served.
 ghost use Rattle.std.specs.Prelude.{◌≡◌, ◌<◌, ◌+◌, ◌^◌, ℕ, IsTrue, Err, true, false, length};
 ghost use Rattle.qm_kinds.specs.declared.input.Input.{Input as AnyInput};
+ghost use Rattle.qm_acting.specs.Asking.{CanBeAsked};
 ghost use Rattle.qm_acting.specs.Files.{files_disk, AreSound};
 ghost use Rattle.qm_acting.specs.Standing.{restored_standing, restored_disk, disk_of};
 ghost use Rattle.qm_history.specs.Takeover.{is_named, nodes_on};
-ghost use Rattle.qm_chest.specs.declared.desk.Desk.TheVariants as desk;
-ghost use Rattle.qm_chest.specs.At.{CanBeAskedFor, IsDeskOf};
-ghost use Rattle.qm_chest.specs.Desk.{is_due};
-ghost use Rattle.qm_chest.specs.Taking.{AreEarly, CanTake, Finds, LeavesFrom, LeavesTaken, NeedsManager, TakesOnFiles, TakesWhere};
+ghost use Rattle.qm_chest.specs.declared.work.Work.TheVariants as work;
+ghost use Rattle.qm_chest.specs.At.{CanBeAskedFor, IsWorkOf};
+ghost use Rattle.qm_chest.specs.Work.{is_due};
+ghost use Rattle.qm_chest.specs.Taking.{AreEarly, CanTake, Finds, LeavesFrom, IsTook, LeavesTaken, NeedsManager, TakesOnFiles, TakesWhere, TellsTakeover};
 ghost use Rattle.qm_chest.specs.Whole.{AsksToTake, Leaves, ServesWhere, StandsEarly};
 
-use crate::book::Book;
-use crate::desk::Desk;
+use crate::members::Members;
 use crate::nodes::is_named;
 use crate::place::Place;
 use crate::serving::Served;
 use crate::taken::{Taken, taken_by};
+use crate::work::Work;
 use core::mem::drop;
 use qm_acting::{
     Files, Manager, Restored, TakeFault, own_requests_are_accepted, site_files_go_on,
@@ -23,9 +24,9 @@ use qm_acting::{
 };
 use qm_disk::Disk;
 use qm_history::{Answer, Event};
-use qm_kinds::{Act, Input, Moment};
+use qm_kinds::{Act, Boxed, Input, Moment, Request};
 use qm_model::nodes_keep_their_names;
-use qm_restore::{names_of_files_stay, site_files_are_accepted, site_files_are_consistent};
+use qm_restore::{site_files_are_accepted, site_files_are_consistent};
 use qm_store::{LoadFault, WriteFault};
 
 // Whether the record is there that was in doubt, where one was.
@@ -38,27 +39,28 @@ fn found<D: Disk>(restored: &Restored<D>, place: Option<Place>) -> Option<bool>
     }
 }
 
-impl Book {
+impl Members {
     /// A call before which a takeover comes.
     pub(crate) fn taken<D: Disk>(
         &mut self,
-        desk: Desk<D>,
+        work: Work<D>,
         node: u8,
         now: Moment,
         input: Input,
     ) -> Served<D>
-        requires desk { IsDeskOf D.meaning self.old.names.items desk }
+        requires work { IsWorkOf D.meaning self.old.names.items work }
         requires there { node < length self.old.names.items }
         requires can { CanBeAskedFor node input }
         requires epochs { self.old.greatest < 2 ^ 63 }
-        requires stands { IsTrue D.meaning.tells → StandsEarly D.meaning (record { book = self.old; desk = desk }) }
-        requires due { is_due desk input ≡ true }
-        ensures leaves { Leaves D.meaning self.old desk self.new result }
-        ensures serves { IsTrue D.meaning.tells → ServesWhere D.meaning self.old desk node now (AsksToTake node input) self.new result }
+        requires stands { IsTrue D.meaning.tells
+            → StandsEarly D.meaning (record { members = self.old; work = work }) }
+        requires due { is_due work input ≡ true }
+        ensures leaves { Leaves D.meaning self.old work self.new result }
+        ensures serves { ServesWhere D.meaning self.old work node now (AsksToTake node input) self.new result }
     {
-        match desk {
-            Desk::Up { manager, node: at } => self.taken_from(manager, at, node, now, input),
-            Desk::Down { files, place } => self.taken_up(files, place, node, now, input),
+        match work {
+            Work::Up { manager, node: at } => self.taken_from(manager, at, node, now, input),
+            Work::Down { files, place } => self.taken_up(files, place, node, now, input),
         }
     }
 
@@ -71,14 +73,17 @@ impl Book {
         now: Moment,
         input: Input,
     ) -> Served<D>
-        requires desk { IsDeskOf D.meaning self.old.names.items (desk.Up manager at) }
+        requires work { IsWorkOf D.meaning self.old.names.items (work.Up manager at) }
         requires there { node < length self.old.names.items }
         requires can { CanBeAskedFor node input }
         requires needs { NeedsManager input }
         requires epochs { self.old.greatest < 2 ^ 63 }
-        requires stands { IsTrue D.meaning.tells → StandsEarly D.meaning (record { book = self.old; desk = desk.Up manager at }) }
-        ensures leaves { LeavesFrom D.meaning self.old (disk_of manager) (self.old.greatest + 1) self.new result }
-        ensures serves { IsTrue D.meaning.tells → ServesWhere D.meaning self.old (desk.Up manager at) node now (AsksToTake node input) self.new result }
+        requires stands { IsTrue D.meaning.tells
+            → StandsEarly D.meaning (record { members = self.old; work = work.Up manager at }) }
+        ensures leaves { LeavesFrom D.meaning self.old (disk_of manager) (self.old.greatest + 1)
+            self.new result }
+        ensures serves { ServesWhere D.meaning self.old (work.Up manager at) node now
+            (AsksToTake node input) self.new result }
     {
         site_files_are_accepted();
         if is_named(manager.nodes(), manager.may(), &input, node) {
@@ -87,7 +92,7 @@ impl Book {
         }
         drop(input);
         Served {
-            desk: Desk::Up { manager, node: at },
+            work: Work::Up { manager, node: at },
             first: Some(Event::NoManager { node }),
             second: None,
             answer: Answer::NoManager {
@@ -111,9 +116,12 @@ impl Book {
         requires needs { NeedsManager input }
         requires epochs { self.old.greatest < 2 ^ 63 }
         requires sound { AreSound D.meaning files }
-        requires early { IsTrue D.meaning.tells → AreEarly D.meaning self.old (files_disk files) place }
-        ensures leaves { LeavesFrom D.meaning self.old (files_disk files) (self.old.greatest + 1) self.new result }
-        ensures serves { IsTrue D.meaning.tells → TakesOnFiles D.meaning self.old (files_disk files) place node now input self.new result }
+        requires early { IsTrue D.meaning.tells
+            → AreEarly D.meaning self.old (files_disk files) place }
+        ensures leaves { LeavesFrom D.meaning self.old (files_disk files) (self.old.greatest + 1)
+            self.new result }
+        ensures serves { TakesOnFiles D.meaning self.old (files_disk files) place node now input
+            self.new result }
     {
         site_files_are_accepted();
         sites_can_be_read();
@@ -155,7 +163,7 @@ impl Book {
         requires can { CanTake D.meaning self.old restored node }
         requires asks { CanBeAskedFor node input.now }
         ensures leaves { LeavesTaken D.meaning self.old (restored_disk restored) node self.new result }
-        ensures takes { IsTrue D.meaning.tells → TakesWhere D.meaning self.old restored kept node now input.now self.new result }
+        ensures takes { TakesWhere D.meaning self.old restored kept node now input.now self.new result }
     {
         if is_named(restored.nodes(), restored.may(), input, node) {
             self.recorded(restored, kept, node, now, input)
@@ -167,8 +175,9 @@ impl Book {
     // A node that may not be manager finds that out behind its epoch.
     fn unnamed<D: Disk>(&mut self, restored: Restored<D>, kept: Option<bool>, node: u8) -> Served<D>
         requires can { CanTake D.meaning self.old restored node }
-        ensures leaves { LeavesFrom D.meaning self.old (restored_disk restored) (self.old.greatest + 1) self.new result }
-        ensures serves { IsTrue D.meaning.tells → (now : ℕ) (what : AnyInput) → CanBeAskedFor node what
+        ensures leaves { LeavesFrom D.meaning self.old (restored_disk restored) (self.old.greatest + 1)
+            self.new result }
+        ensures serves { (now : ℕ) (what : AnyInput) → CanBeAskedFor node what
             → is_named (restored_standing restored).system (nodes_on what) node ≡ false
             → TakesWhere D.meaning self.old restored kept node now what self.new (Err result) }
     {
@@ -202,25 +211,47 @@ impl Book {
     ) -> Result<Taken<D>, Served<D>>
         requires can { CanTake D.meaning self.old restored node }
         requires asks { CanBeAskedFor node input.now }
-        requires named { is_named (restored_standing restored).system (nodes_on input.now) node ≡ true }
+        requires named { is_named (restored_standing restored).system (nodes_on input.now) node
+            ≡ true }
         ensures leaves { LeavesTaken D.meaning self.old (restored_disk restored) node self.new result }
-        ensures takes { IsTrue D.meaning.tells → TakesWhere D.meaning self.old restored kept node now input.now self.new result }
+        ensures takes { TakesWhere D.meaning self.old restored kept node now input.now self.new result }
     {
         site_files_are_accepted();
         site_files_are_consistent();
-        site_files_go_on();
-        names_of_files_stay();
-        nodes_keep_their_names();
         own_requests_are_accepted();
+        let epoch = restored.next_epoch(self.greatest);
+        let moment = restored.acting(now);
+        let Ok(request) = self.request(restored.nodes(), restored.may(), input, node, epoch) else {
+            return Err(self.short(restored.close(), node, kept));
+        };
+        self.written(restored, kept, node, moment, request)
+    }
+
+    // The epoch is written, and this request, which tells of the takeover.
+    fn written<D: Disk>(
+        &mut self,
+        restored: Restored<D>,
+        kept: Option<bool>,
+        node: u8,
+        moment: Moment,
+        request: Boxed<Request>,
+    ) -> Result<Taken<D>, Served<D>>
+        requires can { CanTake D.meaning self.old restored node }
+        requires asks { CanBeAsked (restored_standing restored).system moment node request }
+        requires took { IsTook request }
+        ensures leaves { LeavesTaken D.meaning self.old (restored_disk restored) node self.new result }
+        ensures takes { (now : ℕ) (what : AnyInput) → CanBeAskedFor node what
+            → TellsTakeover self.old (restored_standing restored) node now what moment request
+            → TakesWhere D.meaning self.old restored kept node now what self.new result }
+    {
+        site_files_are_accepted();
+        site_files_go_on();
+        nodes_keep_their_names();
         let tried = self.greatest;
         let epoch = restored.next_epoch(tried);
-        let moment = restored.acting(now);
         let place = Place {
             file: restored.live(),
             before: restored.count(),
-        };
-        let Ok(request) = self.request(restored.nodes(), restored.may(), input, node, epoch) else {
-            return Err(self.short(restored.close(), node, kept));
         };
         match restored.take_over(tried, moment, node, request.get()) {
             Ok((manager, reply)) => {

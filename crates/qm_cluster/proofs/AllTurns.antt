@@ -1,17 +1,14 @@
 -- From what the threads did to what is left.
-use Rattle.std.proofs.Common.{◌≡◌, ℕ, ◌≤◌, Bool, IsTrue, List, [], ◌∷◌, length, map, refl, sym, ◌∙◌, ap, subst, Some, arith, zero-add}
+use Rattle.std.proofs.Common.{◌≡◌, ℕ, ◌≤◌, Bool, IsTrue, List, [], ◌∷◌, length, map, refl, sym, ◌∙◌, ap, subst, Some, arith, zero-add, slice_get, sum_by, option_map}
 use mathlib.Core.List.{IsPrefix}
-use Rattle.std.specs.Prelude.{slice_get, sum_by}
 use Rattle.std.specs.List.{AllByRecursion, range_with_len}
-use Rattle.std.specs.Option.{option_map}
 use Rattle.std.proofs.lemmas.List.{length-append, length-map}
 use Rattle.std.proofs.lemmas.List.Sums.{sum_by-cons}
 use Rattle.std.proofs.lemmas.Option.{slice_get-map}
 use Rattle.atomic_table.specs.Seated.{TableId}
 use Rattle.qm_symb.specs.Device.{Meaning}
 use Rattle.qm_history.specs.declared.world.World.{World}
-use Rattle.qm_history.specs.Ends.{NodeText}
-use Rattle.qm_history.specs.Script.{UserLine}
+use Rattle.qm_history.specs.Common.{NodeText, UserLine}
 use Rattle.qm_node.specs.Sides.{Side}
 use Rattle.qm_turn.specs.History.{Agrees, notes, notes_by}
 use Rattle.qm_turn.specs.Turns.{Known, fresh}

@@ -1,53 +1,44 @@
 -- A turn with which a node's course breaks off, or a step within which it does.
-use Rattle.std.proofs.Common.{◌≡◌, ◌⊎◌, inl, inr, ℕ, Bool, true, false, List, [], ◌∷◌, ◌++◌, length, take, refl, sym, ◌∙◌, ap, subst, Option, None, Some, arith}
-use Rattle.std.specs.Prelude.{slice_get}
-use Rattle.std.specs.Option.{option_and_then}
-use Rattle.std.proofs.lemmas.List.{append-nil, take_all}
-use Rattle.qm_kinds.specs.declared.work.Report.{Report}
-use Rattle.qm_model.specs.Kept.{KeptRun, StepEnd, WentOn, DeviceFailed, CutShort, IsEndOf, known, next_kept, report_told, run_kept}
-use Rattle.qm_record.specs.Spelling.{HasSpelling}
+use Rattle.std.proofs.Common.{◌≡◌, ◌⊎◌, inl, inr, ℕ, Bool, true, false, List, [], ◌∷◌, ◌++◌, length, take, refl, sym, ◌∙◌, ap, subst, Option, None, Some, arith, slice_get, option_and_then, append-nil, take_all}
+use Rattle.qm_history.specs.Common.{Report, KeptRun, StepEnd, WentOn, DeviceFailed, CutShort, IsEndOf, known, next_kept, report_told, run_kept, Scans, scans_of, UserLine, IsTurnOf, IsCutShort, Visit}
 use Rattle.qm_symb.specs.Device.{Meaning, handed_by}
 use Rattle.qm_history.specs.declared.call.Call.{Call}
 use Rattle.qm_history.specs.declared.call.Call.TheVariants as call
 use Rattle.qm_history.specs.Blocks.{blocks_next}
 use Rattle.qm_history.specs.Course.{Begun, Follows, GoesOn, MadeStep, NextTurn, ALine, AStep, AFetch, ALeave, NodeState, ServesOrEnds, call_of_line, failed_steps, is_live_behind, next_at, next_run}
-use Rattle.qm_history.specs.Scans.{Scans, scans_of}
-use Rattle.qm_history.specs.Script.{UserLine}
-use Rattle.qm_history.specs.Turn.{IsTurnOf, IsCutShort}
-use Rattle.qm_history.specs.Visits.{Visit}
 use Rattle.qm_node.specs.Node.{HeldNode, IsCallOf, IsTurn}
 use Rattle.qm_node.specs.Steps.{Comes}
 use Rattle.qm_node.specs.declared.course.Asked.{Asked}
 use Rattle.qm_node.specs.declared.course.Next.{Next}
 use Rattle.qm_node.specs.declared.course.Next.TheVariants as next
-use Rattle.qm_script.specs.Asked.{line_with}
 use Rattle.qm_script.specs.ClusterLines.{user_line_view}
 use Rattle.qm_node.specs.Asking.{built, built_call, read_built}
 use Rattle.qm_node.specs.Taken.{AreTaken, Rises}
 use Rattle.qm_cluster.proofs.Stepping.{none_taken, step_first, step_rises, step_taken}
+use Rattle.qm_line.specs.Asked.{line_with}
 
 -- ---- a turn that is the last one
 
 module _ {Y : Type 0} (y : Meaning Y) (n : NodeState) (live : Bool) (begun : Scans) (a : Asked) (called : HeldNode) (was now : Y) (v : Visit)
-    (served : IsTurnOf HasSpelling v.before (built_call a.call) v.turn ⊎ IsCutShort HasSpelling v.before (built_call a.call) v.turn) (moment : v.turn.moment ≡ a.moment)
+    (served : IsTurnOf v.before (built_call a.call) v.turn ⊎ IsCutShort v.before (built_call a.call) v.turn) (moment : v.turn.moment ≡ a.moment)
   where
     -- the course goes so far, with these steps
     pub record LastOne : Type 0 where
       pub steps : List MadeStep
-      pub leads : (earlier : List Visit) → scans_of earlier ≡ begun → GoesOn HasSpelling read_built Begun None n earlier live (v ∷ []) steps
+      pub leads : (earlier : List Visit) → scans_of earlier ≡ begun → GoesOn read_built Begun None n earlier live (v ∷ []) steps
       pub rose : Rises y (failed_steps steps) was now
       pub taken : AreTaken y steps None was now
 
-    ends : (asked : Call) → built_call a.call ≡ asked → IsTurnOf HasSpelling v.before (built_call a.call) v.turn ⊎ IsCutShort HasSpelling v.before (built_call a.call) v.turn
-        → ServesOrEnds HasSpelling read_built Begun v.before asked v.turn []
-    ends asked is (inl whole) = inl (subst (λ (c : Call). IsTurnOf HasSpelling v.before c v.turn) is whole)
-    ends asked is (inr cut) = inr (subst (λ (c : Call). IsCutShort HasSpelling v.before c v.turn) is cut, refl)
+    ends : (asked : Call) → built_call a.call ≡ asked → IsTurnOf v.before (built_call a.call) v.turn ⊎ IsCutShort v.before (built_call a.call) v.turn
+        → ServesOrEnds read_built Begun v.before asked v.turn []
+    ends asked is (inl whole) = inl (subst (λ (c : Call). IsTurnOf v.before c v.turn) is whole)
+    ends asked is (inr cut) = inr (subst (λ (c : Call). IsCutShort v.before c v.turn) is cut, refl)
 
     leads_by : (steps : List MadeStep) (earlier : List Visit) (nt : NextTurn) → next_at live n n.stage ≡ nt
-        → Follows HasSpelling read_built Begun None n earlier steps v [] (λ after left. GoesOn HasSpelling read_built Begun None after (earlier ++ v ∷ []) (is_live_behind v) [] left) nt
-        → GoesOn HasSpelling read_built Begun None n earlier live (v ∷ []) steps
+        → Follows read_built Begun None n earlier steps v [] (λ after left. GoesOn read_built Begun None after (earlier ++ v ∷ []) (is_live_behind v) [] left) nt
+        → GoesOn read_built Begun None n earlier live (v ∷ []) steps
     leads_by steps earlier nt is h =
-        subst (λ (x : NextTurn). Follows HasSpelling read_built Begun None n earlier steps v [] (λ after left. GoesOn HasSpelling read_built Begun None after (earlier ++ v ∷ []) (is_live_behind v) [] left) x)
+        subst (λ (x : NextTurn). Follows read_built Begun None n earlier steps v [] (λ after left. GoesOn read_built Begun None after (earlier ++ v ∷ []) (is_live_behind v) [] left) x)
         (sym is) h
 
     run_found : (run : ℕ) (k : KeptRun) → slice_get n.kept.round 0 ≡ Some run → next_kept n.kept ≡ Some k → run_kept run n.kept.runs ≡ Some k
@@ -57,7 +48,7 @@ module _ {Y : Type 0} (y : Meaning Y) (n : NodeState) (live : Bool) (begun : Sca
     last_one (next.Line line) (ALine l lines) is turn called_by = record {
       steps = [];
       leads = λ earlier listings. leads_by [] earlier (ALine l lines) is (
-        ends (call_of_line HasSpelling read_built n earlier l v.turn)
+        ends (call_of_line read_built n earlier l v.turn)
             (ap built_call called_by.0
             ∙ ap (λ (s : Scans). call.Line line.now.number (built (line_with (user_line_view line.now) a.moment s (known n.kept)))) (sym listings)
             ∙ ap (λ (x : UserLine). call.Line x.line.number (read_built x a.moment earlier (known n.kept))) (sym turn)
@@ -102,7 +93,7 @@ module _ {Y : Type 0} (y : Meaning Y) (n : NodeState) (live : Bool) (a : Asked) 
   -- the course breaks off, within this step if there is one
   pub record BrokenOff : Type 0 where
     pub broken : Option KeptRun
-    pub leads : (earlier : List Visit) → GoesOn HasSpelling read_built Begun broken n earlier live [] []
+    pub leads : (earlier : List Visit) → GoesOn read_built Begun broken n earlier live [] []
     pub faults : ℕ
     pub rose : Rises y faults was now
     pub taken : AreTaken y [] broken was now
@@ -117,7 +108,7 @@ module _ {Y : Type 0} (y : Meaning Y) (n : NodeState) (live : Bool) (a : Asked) 
     taken = subst (λ (o : Y). AreTaken y [] None was o) (sym same) (none_taken y was);
   }
 
-  off_by : (k : KeptRun) (earlier : List Visit) (nt : NextTurn) → next_at live n n.stage ≡ nt → next_run n nt ≡ Some k → k.aborting ≡ false → GoesOn HasSpelling read_built Begun (Some k) n earlier live [] []
+  off_by : (k : KeptRun) (earlier : List Visit) (nt : NextTurn) → next_at live n n.stage ≡ nt → next_run n nt ≡ Some k → k.aborting ≡ false → GoesOn read_built Begun (Some k) n earlier live [] []
   off_by k earlier nt is found whole = (tt, refl, (ap (next_run n) is ∙ found, whole))
 
   run_there : (run : ℕ) (k : KeptRun) → slice_get n.kept.round 0 ≡ Some run → next_kept n.kept ≡ Some k → run_kept run n.kept.runs ≡ Some k

@@ -1,6 +1,5 @@
 -- Counts of calls that failed, and bytes that were appended.
-use Rattle.std.proofs.Common.{◌≡◌, ◌+◌, ℕ, zero, suc, List, [], ◌++◌, sym, ◌∙◌, ap, Option, None, Some, arith}
-use Rattle.std.proofs.lemmas.List.{append_assoc, append-nil}
+use Rattle.std.proofs.Common.{◌≡◌, ◌+◌, ℕ, zero, suc, List, [], ◌++◌, sym, ◌∙◌, ap, Option, None, Some, arith, append_assoc, append-nil}
 use Rattle.std.specs.Io.KnownBytes.{Appends}
 use Rattle.qm_disk.specs.Faults.{counted}
 use Rattle.qm_node.specs.Taken.{RoseBy, counted_often}

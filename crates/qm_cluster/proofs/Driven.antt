@@ -1,10 +1,8 @@
 -- From the course of one node to what is said of all.
-use Rattle.std.proofs.Common.{◌≡◌, ℕ, Bool, IsTrue, List, sym, ◌∙◌, subst, Result, Ok, Err}
-use Rattle.std.specs.Prelude.{IfErr}
+use Rattle.std.proofs.Common.{◌≡◌, ℕ, Bool, IsTrue, List, sym, ◌∙◌, subst, Result, Ok, Err, IfErr}
 use Rattle.qm_symb.specs.Device.{Meaning}
 use Rattle.qm_history.specs.declared.world.World.{World}
-use Rattle.qm_history.specs.Ends.{FileDamaged, NodeEnd}
-use Rattle.qm_history.specs.Script.{UserLine}
+use Rattle.qm_history.specs.Common.{FileDamaged, NodeEnd, UserLine}
 use Rattle.qm_node.specs.Sides.{Side}
 use Rattle.qm_node.specs.declared.turn.TurnEnd.{TurnEnd}
 use Rattle.qm_node.specs.declared.turn.TurnEnd.TheVariants as end

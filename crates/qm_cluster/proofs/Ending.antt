@@ -1,10 +1,7 @@
 -- A turn at which serving stopped, as what it leaves at each world and over any disk.
-use Rattle.std.proofs.Common.{◌≡◌, ◌≢◌, ◌⊎◌, inl, inr, ◌≤◌, lit≤, ℕ, Bool, true, false, List, [], ◌∷◌, ◌++◌, refl, sym, ◌∙◌, ap, subst, Option, None, Some, zero-add, arith}
-use Rattle.std.specs.Prelude.{IsTrue, slice_get, option_to_list}
+use Rattle.std.proofs.Common.{◌≡◌, ◌≢◌, ◌⊎◌, inl, inr, ◌≤◌, lit≤, ℕ, Bool, true, false, List, [], ◌∷◌, ◌++◌, refl, sym, ◌∙◌, ap, subst, Option, None, Some, zero-add, arith, IsTrue, slice_get, option_to_list, append-nil}
 use Rattle.std.specs.Io.KnownBytes.{Appends}
-use Rattle.std.proofs.lemmas.List.{append-nil}
-use Rattle.qm_disk.specs.Faults.{Tells}
-use Rattle.qm_record.specs.Spelling.{HasSpelling}
+use Rattle.qm_history.specs.Common.{Tells, MayAnswer, failed_steps, next_at, faults_told, is_journal, tells_disk_fault, text, IsTurnOf, IsCutShort, Visit}
 use Rattle.qm_symb.specs.Device as symb
 use Rattle.qm_history.specs.declared.call.Answer.{Answer}
 use Rattle.qm_history.specs.declared.call.Answer.TheVariants as answer
@@ -12,13 +9,7 @@ use Rattle.qm_history.specs.declared.call.Call.{Call}
 use Rattle.qm_history.specs.declared.call.Call.TheVariants as call
 use Rattle.qm_history.specs.declared.turn.Turn.{Turn}
 use Rattle.qm_history.specs.declared.world.World.{World}
-use Rattle.qm_history.specs.Answering.{MayAnswer}
 use Rattle.qm_history.specs.Chest.{IsMadeFor, LeavesTurn}
-use Rattle.qm_history.specs.Course.{failed_steps, next_at}
-use Rattle.qm_history.specs.Faults.{faults_told, is_journal, tells_disk_fault}
-use Rattle.qm_history.specs.Text.{text}
-use Rattle.qm_history.specs.Turn.{IsTurnOf, IsCutShort}
-use Rattle.qm_history.specs.Visits.{Visit}
 use Rattle.qm_sjc.specs.Printed.{items_line}
 use Rattle.qm_node.specs.Node.{HeldNode, IsCallOf, IsTurn}
 use Rattle.qm_node.specs.declared.course.Asked.{Asked}
@@ -27,7 +18,7 @@ use Rattle.qm_node.specs.Answered.{EndsAt, EndsBy, printed_of, stop_of}
 use Rattle.qm_node.specs.Asking.{built_call}
 use Rattle.qm_node.specs.Seats.{HeldSeat, standing_of}
 use Rattle.qm_history.specs.Serving.{Meaning, Serves, ServesAt, TellsDisk}
-use Rattle.qm_cluster.specs.Outside.{Outside, outside}
+use Rattle.qm_node.specs.Outside.{Outside, outside}
 use Rattle.qm_cluster.specs.Turning.{IsFullAt, IsToldTo, MayHide, StopsAt, StopsOnce, TakesUpTo}
 use Rattle.qm_node.specs.Coming.{why_next}
 use Rattle.qm_node.specs.Ends.{IsUndamaged, TakesFront}
@@ -58,8 +49,8 @@ none_failed : (told : Answer) (old new : ℕ) → is_journal told ≡ false → 
 none_failed told old new is h = h.quiet (λ bad. cc)
 
 -- a turn of it was served whole, or cut short
-served_or_cut : (w : World) (asked : Call) (t : Turn) (told : Answer) (stopped : TurnEnd) → stop_of told ≡ Some stopped → MayAnswer HasSpelling w asked t told
-    → IsTurnOf HasSpelling w asked t ⊎ IsCutShort HasSpelling w asked t
+served_or_cut : (w : World) (asked : Call) (t : Turn) (told : Answer) (stopped : TurnEnd) → stop_of told ≡ Some stopped → MayAnswer w asked t told
+    → IsTurnOf w asked t ⊎ IsCutShort w asked t
 served_or_cut w asked t (answer.NoMemory took) stopped is h = inr h.0
 served_or_cut w asked t (answer.Damaged file place) stopped is h = inl h.0
 served_or_cut w asked t answer.HistoryFull stopped is h = absurd h
@@ -219,7 +210,7 @@ module _ {S Y : Type 0} (m : Meaning S) (y : symb.Meaning Y) (node : ℕ) (comes
 
       -- what is so where it left this turn, whatever it was answered
       module _ (t : Turn) (told : Answer) (sv : Serves m node a.moment asked old new told) (is : sv.turn ≡ Some t) (made : IsMadeFor node a.moment asked (Some t)) where
-        stops_at : (w : World) → ServesAt m w asked old new (Some t) told → IsTurnOf HasSpelling w asked t ⊎ IsCutShort HasSpelling w asked t
+        stops_at : (w : World) → ServesAt m w asked old new (Some t) told → IsTurnOf w asked t ⊎ IsCutShort w asked t
             → TakesUpTo stopped taken then (text items_line w (t ∷ [])) → StopsAt m y w node (standing_of here) (t ∷ []) from to stopped
         stops_at w s served printed =
             let v : Visit = record { before = w; turn = t } in
@@ -241,7 +232,7 @@ module _ {S Y : Type 0} (m : Meaning S) (y : symb.Meaning Y) (node : ℕ) (comes
             }
 
         with_turn : IsFullAt stopped (m.turns new) → IsToldTo stopped (t ∷ []) (m.failed old) (m.failed new)
-            → ((w : World) → ServesAt m w asked old new (Some t) told → (IsTurnOf HasSpelling w asked t ⊎ IsCutShort HasSpelling w asked t) × TakesUpTo stopped taken then (text items_line w (t ∷ [])))
+            → ((w : World) → ServesAt m w asked old new (Some t) told → (IsTurnOf w asked t ⊎ IsCutShort w asked t) × TakesUpTo stopped taken then (text items_line w (t ∷ [])))
             → Stopped from to
         with_turn full failed at = (
           record {

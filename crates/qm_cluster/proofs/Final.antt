@@ -1,18 +1,11 @@
 -- A script that was served, and one that was served up to an end.
-use Rattle.std.proofs.Common.{◌≡◌, ℕ, Bool, List, [], ◌∷◌, length, refl, sym, ◌∙◌, ap, subst, Option, None, Some, arith}
-use Rattle.std.specs.Prelude.{slice_get, option_map}
+use Rattle.std.proofs.Common.{◌≡◌, ℕ, Bool, List, [], ◌∷◌, length, refl, sym, ◌∙◌, ap, subst, Option, None, Some, arith, slice_get, option_map}
 use Rattle.std.proofs.lemmas.Option.{slice_get-map, slice_get_within}
-use Rattle.qm_record.specs.Spelling.{HasSpelling}
 use Rattle.qm_symb.specs.Device as symb
 use Rattle.qm_history.specs.declared.turn.Turn.{Turn}
 use Rattle.qm_history.specs.declared.world.World.{World}
 use Rattle.qm_history.specs.Course.{Whole, Begun, GoesOn, NextTurn, NoTurn, NodeState, Reading, Fetching, Working, Leaving, Over, Stage, at_first, failed_steps, next_at}
-use Rattle.qm_history.specs.Legal.{after_turn, IsLegal}
-use Rattle.qm_history.specs.Order.{IsWaiting}
-use Rattle.qm_history.specs.Reaching.{Reaches}
-use Rattle.qm_history.specs.Script.{UserLine, lines_of}
-use Rattle.qm_history.specs.Visits.{visits_of}
-use Rattle.qm_history.specs.World.{is_live}
+use Rattle.qm_history.specs.Common.{after_turn, IsLegal, IsWaiting, Reaches, UserLine, lines_of, visits_of, is_live}
 use Rattle.qm_history.proofs.AnswerLemmas.{answers_legal}
 use Rattle.qm_node.specs.Asking.{read_built}
 use Rattle.qm_cluster.specs.Runs.{AllDown, AllGo, AllStop, AreFresh, AreReading, AreThrough, IsNodeOf, NodeGoes, NodeStops, Serving, Site, Stopping, names_of, numbers_of, so_far}
@@ -55,18 +48,18 @@ seat_of : (seats : List HeldSeat) (node : ℕ) (name : List ℕ) → slice_get (
 seat_of seats node name is = seat_found (slice_get seats node) name (sym (slice_get-map (λ (s : HeldSeat). s.name) seats node) ∙ is)
 
 module _ {S Y : Type 0} (m : Meaning S) (y : symb.Meaning Y) where
-  made_legal : (w : World) (turns : List Turn) (old new : S) → AreMade m w old turns new → IsLegal HasSpelling w turns
+  made_legal : (w : World) (turns : List Turn) (old new : S) → AreMade m w old turns new → IsLegal w turns
   made_legal w [] old new made = tt
-  made_legal w (t ∷ turns) old new (asked, told, next, may, does, rest) = (answers_legal HasSpelling w asked t told may, made_legal (after_turn w t) turns next new rest)
+  made_legal w (t ∷ turns) old new (asked, told, next, may, does, rest) = (answers_legal w asked t told may, made_legal (after_turn w t) turns next new rest)
 
   -- ---- the whole script
 
   node_whole : (w : World) (turns : List Turn) (node : ℕ) (lines : List UserLine) (here there : HeldSeat) (was now : Side Y) → here.node.state ≡ at_first lines → IsBehind [] (standing_of here) → here.live ≡ is_live w node
       → next_at there.live there.node.state there.node.state.stage ≡ NoTurn → NodeGoes m y w node (standing_of here) (standing_of there) turns was now → IsNodeOf m y Whole w turns node lines was now
   node_whole w turns node lines here there was now first none live over g =
-      let reached : Reaches HasSpelling read_built (at_first lines) [] (is_live w node) (visits_of node w turns) g.steps there.node.state there.live =
-      subst (λ (n : NodeState). Reaches HasSpelling read_built n [] (is_live w node) (visits_of node w turns) g.steps there.node.state there.live) first
-      (subst (λ (b : Bool). Reaches HasSpelling read_built here.node.state [] b (visits_of node w turns) g.steps there.node.state there.live) live (g.reaches [] none)) in
+      let reached : Reaches read_built (at_first lines) [] (is_live w node) (visits_of node w turns) g.steps there.node.state there.live =
+      subst (λ (n : NodeState). Reaches read_built n [] (is_live w node) (visits_of node w turns) g.steps there.node.state there.live) first
+      (subst (λ (b : Bool). Reaches read_built here.node.state [] b (visits_of node w turns) g.steps there.node.state there.live) live (g.reaches [] none)) in
       record {
         faults = failed_steps g.steps;
         course = record {
@@ -116,8 +109,8 @@ module _ {S Y : Type 0} (m : Meaning S) (y : symb.Meaning Y) where
       steps = g.steps;
       broken = g.broken;
       turns_are =
-          subst (λ (n : NodeState). GoesOn HasSpelling read_built Begun g.broken n [] (is_live w node) (visits_of node w turns) g.steps) first
-          (subst (λ (b : Bool). GoesOn HasSpelling read_built Begun g.broken here.node.state [] b (visits_of node w turns) g.steps) live (g.goes_on [] none));
+          subst (λ (n : NodeState). GoesOn read_built Begun g.broken n [] (is_live w node) (visits_of node w turns) g.steps) first
+          (subst (λ (b : Bool). GoesOn read_built Begun g.broken here.node.state [] b (visits_of node w turns) g.steps) live (g.goes_on [] none));
       few_faults = g.few_faults;
     };
     rose = g.rose;
@@ -127,8 +120,8 @@ module _ {S Y : Type 0} (m : Meaning S) (y : symb.Meaning Y) where
         let waiting = g.waits isnt [] none in (
           waiting.0,
           waiting.1,
-          subst (λ (n : NodeState). Reaches HasSpelling read_built n [] (is_live w node) (visits_of node w turns) g.steps waiting.0 waiting.1) first
-              (subst (λ (b : Bool). Reaches HasSpelling read_built here.node.state [] b (visits_of node w turns) g.steps waiting.0 waiting.1) live waiting.2),
+          subst (λ (n : NodeState). Reaches read_built n [] (is_live w node) (visits_of node w turns) g.steps waiting.0 waiting.1) first
+              (subst (λ (b : Bool). Reaches read_built here.node.state [] b (visits_of node w turns) g.steps waiting.0 waiting.1) live waiting.2),
           waiting.3,
         );
   }

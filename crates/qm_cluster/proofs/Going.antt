@@ -1,13 +1,11 @@
 -- How the turns of a node go on, whatever the disks tell.
-use Rattle.std.proofs.Common.{◌≡◌, ◌+◌, ◌-◌, ◌<◌, ◌≤◌, ℕ, zero, suc, Bool, true, false, List, [], ◌∷◌, length, drop, refl, sym, ◌∙◌, ap, subst, None, Some, arith}
-use Rattle.std.specs.Prelude.{slice_get}
+use Rattle.std.proofs.Common.{◌≡◌, ◌+◌, ◌-◌, ◌<◌, ◌≤◌, ℕ, zero, suc, Bool, true, false, List, [], ◌∷◌, length, drop, refl, sym, ◌∙◌, ap, subst, None, Some, arith, slice_get}
 use Rattle.qm_symb.specs.Device as symb
 use Rattle.qm_history.specs.declared.turn.Turn.{Turn}
 use Rattle.qm_history.specs.declared.turn.Why.{Why}
 use Rattle.qm_history.specs.declared.turn.Why.TheVariants as why
-use Rattle.qm_history.specs.Chest.{turns_kept}
+use Rattle.qm_history.specs.Common.{turns_kept, UserLine}
 use Rattle.qm_history.specs.Course.{NextTurn, ALine, AStep, AFetch, ALeave, NoTurn, NodeState, Reading, Fetching, Working, Leaving, Over, Stage, next_at, next_line, next_reading, next_working}
-use Rattle.qm_history.specs.Script.{UserLine}
 use Rattle.qm_node.specs.Node.{IsTurn}
 use Rattle.qm_node.specs.declared.course.Next.{Next}
 use Rattle.qm_node.specs.declared.course.Next.TheVariants as next
@@ -18,7 +16,7 @@ use Rattle.qm_cluster.specs.Runs.{IsReading}
 use Rattle.qm_node.specs.Seats.{HeldSeat, standing_of}
 use Rattle.qm_history.specs.Serving.{Meaning}
 use Rattle.qm_node.specs.Standing.{Standing}
-use Rattle.qm_cluster.specs.Outside.{Outside}
+use Rattle.qm_node.specs.Outside.{Outside}
 use Rattle.qm_cluster.specs.Turning.{AreOf, Goes, IsOwnWhy, Stops}
 use Rattle.qm_node.specs.Coming.{IsNoStep, why_next}
 use Rattle.qm_node.specs.declared.turn.TurnEnd.{TurnEnd}

@@ -1,21 +1,13 @@
 -- What an answer says of the turn of its call.
-use Rattle.std.proofs.Common.{◌≡◌, ◌⊎◌, ℕ, ◌≤◌, ◌==◌, cond, inl, inr, Bool, true, false, ◌&&◌, List, [], ◌∷◌, ◌++◌, length, refl, sym, ◌∙◌, ap, subst, arith, Option, None, Some, Err}
-use Rattle.std.specs.Prelude.{IfSome, option_to_list}
+use Rattle.std.proofs.Common.{◌≡◌, ◌⊎◌, ℕ, ◌≤◌, ◌==◌, cond, inl, inr, Bool, true, false, ◌&&◌, List, [], ◌∷◌, ◌++◌, length, refl, sym, ◌∙◌, ap, subst, arith, Option, None, Some, Err, IfSome, option_to_list, length-append}
 use Rattle.std.specs.List.{AllByRecursion}
-use Rattle.std.proofs.lemmas.List.{length-append}
-use Rattle.qm_record.specs.Spelling.{HasSpelling}
 use Rattle.qm_history.specs.declared.call.Answer.{Answer}
 use Rattle.qm_history.specs.declared.call.Answer.TheVariants as answer
 use Rattle.qm_history.specs.declared.call.Call.{Call}
 use Rattle.qm_history.specs.declared.turn.Turn.{Turn}
 use Rattle.qm_history.specs.declared.world.World.{World}
-use Rattle.qm_history.specs.Answering.{MayAnswer}
-use Rattle.qm_history.specs.Answers.{answer_of}
-use Rattle.qm_history.specs.Calls.{why_of}
+use Rattle.qm_history.specs.Common.{MayAnswer, answer_of, why_of, TurnsSpent, tells_disk_fault, IsCutShort, IsTurnOf}
 use Rattle.qm_history.specs.Chest.{IsMadeFor, hides_events, is_unread}
-use Rattle.qm_history.specs.Ends.{TurnsSpent}
-use Rattle.qm_history.specs.Faults.{tells_disk_fault}
-use Rattle.qm_history.specs.Turn.{IsCutShort, IsTurnOf}
 use Rattle.qm_turn.specs.History.{notes_by}
 use Rattle.qm_node.specs.declared.turn.TurnEnd.{TurnEnd}
 use Rattle.qm_node.specs.declared.turn.TurnEnd.TheVariants as end
@@ -40,7 +32,7 @@ told_all (answer.Fenced held current) h = refl
 told_all (answer.NoManager took name) h = refl
 
 -- an answer behind which more turns come says what the turn's events say
-pub says : (w : World) (asked : Call) (t : Turn) (told : Answer) → stop_of told ≡ None → MayAnswer HasSpelling w asked t told → IsTurnOf HasSpelling w asked t × (told ≡ answer_of w t)
+pub says : (w : World) (asked : Call) (t : Turn) (told : Answer) → stop_of told ≡ None → MayAnswer w asked t told → IsTurnOf w asked t × (told ≡ answer_of w t)
 says w asked t answer.HistoryFull h may = absurd may
 says w asked t (answer.Damaged file place) h may = cc
 says w asked t (answer.NoMemory took) h may = cc
@@ -54,7 +46,7 @@ says w asked t (answer.Fenced held current) h may = may
 says w asked t (answer.NoManager took name) h may = may
 
 -- and any other one is of a turn that was served whole, or cut short as the last one
-pub whole_or_cut : (w : World) (asked : Call) (t : Turn) (told : Answer) → MayAnswer HasSpelling w asked t told → IsTurnOf HasSpelling w asked t ⊎ IsCutShort HasSpelling w asked t
+pub whole_or_cut : (w : World) (asked : Call) (t : Turn) (told : Answer) → MayAnswer w asked t told → IsTurnOf w asked t ⊎ IsCutShort w asked t
 whole_or_cut w asked t answer.HistoryFull may = absurd may
 whole_or_cut w asked t (answer.Damaged file place) may = inl may.0
 whole_or_cut w asked t (answer.NoMemory took) may = inr may.0

@@ -1,13 +1,11 @@
 -- How many turns of a closed history may hide that a disk failed.
-use Rattle.std.proofs.Common.{◌≡◌, inl, inr, ℕ, ◌+◌, ◌<◌, ◌≤◌, ◌==◌, List, [], ◌∷◌, ◌++◌, map, refl, ap, arith, Bool, true, false, Option, cond}
+use Rattle.std.proofs.Common.{◌≡◌, inl, inr, ℕ, ◌+◌, ◌<◌, ◌≤◌, ◌==◌, List, [], ◌∷◌, ◌++◌, map, refl, ap, arith, Bool, true, false, Option, cond, nat_lt, sum_by}
 use mathlib.Core.Logic.{dite}
 use native.Mathlib.Decide.{ℕ_discrete}
-use Rattle.std.specs.Prelude.{nat_lt, sum_by}
 use Rattle.std.specs.List.{AllByRecursion}
 use Rattle.std.proofs.lemmas.Bool.Decides.{nat_tests}
 use Rattle.std.proofs.lemmas.List.Sums.{sum_by-cons}
-use Rattle.qm_history.specs.Chest.{Note, unread_of}
-use Rattle.qm_history.specs.Ends.{NodeEnd, Ended, BrokenOff, TurnsSpent, FileDamaged, MemoryShort}
+use Rattle.qm_history.specs.Common.{Note, unread_of, NodeEnd, Ended, BrokenOff, TurnsSpent, FileDamaged, MemoryShort}
 use Rattle.qm_turn.specs.History.{notes, notes_by, Agrees, numbers_of, times}
 use Rattle.qm_turn.specs.Turns.{Known}
 use Rattle.qm_cluster.specs.declared.noted.Noted.{Noted}

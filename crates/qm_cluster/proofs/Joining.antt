@@ -1,12 +1,9 @@
 -- Turns of a node behind others of it.
-use Rattle.std.proofs.Common.{◌≡◌, ◌≢◌, ◌+◌, ◌<◌, ◌≤◌, ℕ, zero, suc, Bool, false, cond, List, [], ◌∷◌, ◌++◌, length, refl, sym, ◌∙◌, ap, subst, Option, None, zero-add, add_assoc, arith}
-use Rattle.std.specs.Prelude.{slice_get, unwrap_or}
+use Rattle.std.proofs.Common.{◌≡◌, ◌≢◌, ◌+◌, ◌<◌, ◌≤◌, ℕ, zero, suc, Bool, false, cond, List, [], ◌∷◌, ◌++◌, length, refl, sym, ◌∙◌, ap, subst, Option, None, zero-add, add_assoc, arith, slice_get, unwrap_or, append_assoc, append-nil}
 use Rattle.std.specs.List.{AllByRecursion}
 use Rattle.std.specs.Io.KnownBytes.{Appends}
-use Rattle.std.proofs.lemmas.List.{append_assoc, append-nil}
 use Rattle.std.proofs.lemmas.List.Sums.{sum_by-append}
-use Rattle.qm_model.specs.Kept.{KeptRun}
-use Rattle.qm_record.specs.Spelling.{HasSpelling}
+use Rattle.qm_history.specs.Common.{KeptRun, turns_kept, faults_told, tells_disk_fault, after_turn, after_turns, Reaches, text, Visit, visits, is_live}
 use Rattle.qm_symb.specs.Device as symb
 use Rattle.qm_symb.specs.Device.{handed_by}
 use Rattle.qm_symb.specs.declared.handed.HandOver.{HandOver}
@@ -14,23 +11,16 @@ use Rattle.qm_history.specs.declared.turn.Turn.{Turn}
 use Rattle.qm_history.specs.declared.turn.Why.{Why}
 use Rattle.qm_history.specs.declared.world.World.{World}
 use Rattle.qm_history.specs.Blocks.{AreHanded, all_steps, broken_step}
-use Rattle.qm_history.specs.Chest.{turns_kept}
 use Rattle.qm_history.specs.Course.{Whole, Begun, GoesOn, MadeStep, failed_steps, has_failed}
-use Rattle.qm_history.specs.Faults.{faults_told, tells_disk_fault}
-use Rattle.qm_history.specs.Legal.{after_turn, after_turns}
 use Rattle.qm_history.specs.Order.{AreOver}
-use Rattle.qm_history.specs.Reaching.{Reaches}
 use Rattle.qm_history.specs.Readings.{readings_of}
-use Rattle.qm_history.specs.Text.{text}
-use Rattle.qm_history.specs.Visits.{Visit, visits}
-use Rattle.qm_history.specs.World.{is_live}
 use Rattle.qm_history.proofs.EventLemmas.{turns_append}
 use Rattle.qm_history.proofs.HistoryLemmas.{text_append, visits_append}
 use Rattle.qm_sjc.specs.Printed.{items_line}
 use Rattle.qm_node.specs.Asking.{read_built}
 use Rattle.qm_history.specs.Serving.{AreMade, LeavesNone, Meaning}
 use Rattle.qm_node.specs.Standing.{IsBehind, Standing}
-use Rattle.qm_cluster.specs.Outside.{Outside}
+use Rattle.qm_node.specs.Outside.{Outside}
 use Rattle.qm_node.specs.Taken.{AreTaken, AreTold, RoseBy, Rises, handed_to}
 use Rattle.qm_cluster.specs.Turning.{AreOf, Goes, GoesAt, IsToldTo, Stops, StopsAt, TakesUpTo}
 use Rattle.qm_node.specs.Ends.{TakesFront}
@@ -207,7 +197,7 @@ module _ {S Y : Type 0} (m : Meaning S) (y : symb.Meaning Y) where
       made = made_on w first.turns b old.value between.value new.value one.made two.made;
       stands = subst (λ (v : World). m.stands v new.value) (sym (after_is w b)) two.stands;
       steps = one.steps ++ two.steps;
-      reaches = λ earlier behind. subst (λ (vs : List Visit). Reaches HasSpelling read_built here.state earlier here.live vs (one.steps ++ two.steps) there.state there.live) (sym (visits_append w first.turns b))
+      reaches = λ earlier behind. subst (λ (vs : List Visit). Reaches read_built here.state earlier here.live vs (one.steps ++ two.steps) there.state there.live) (sym (visits_append w first.turns b))
           (reaches_on (visits (after_turns w first.turns) b) two.steps mid.state there.state mid.live there.live (visits w first.turns) earlier here.state here.live one.steps
           (one.reaches earlier behind) (two.reaches (earlier ++ visits w first.turns) (one.behind earlier behind)));
       behind = λ earlier behind. subst (λ (vs : List Visit). IsBehind (earlier ++ vs) there) (sym (visits_append w first.turns b))
@@ -249,7 +239,7 @@ module _ {S Y : Type 0} (m : Meaning S) (y : symb.Meaning Y) where
       last = subst (λ (v : World). LeavesNone m v two.next new.value) (sym (after_is w b)) two.last;
       steps = one.steps ++ two.steps;
       broken = two.broken;
-      goes_on = λ earlier behind. subst (λ (vs : List Visit). GoesOn HasSpelling read_built Begun two.broken here.state earlier here.live vs (one.steps ++ two.steps)) (sym (visits_append w first.turns b))
+      goes_on = λ earlier behind. subst (λ (vs : List Visit). GoesOn read_built Begun two.broken here.state earlier here.live vs (one.steps ++ two.steps)) (sym (visits_append w first.turns b))
           (goes_on Begun two.broken (visits (after_turns w first.turns) b) two.steps mid.state mid.live (visits w first.turns) earlier here.state here.live one.steps
           (one.reaches earlier behind) (two.goes_on (earlier ++ visits w first.turns) (one.behind earlier behind)));
       printed = subst (λ (l : List ℕ). TakesUpTo stopped old.taken new.taken l) (sym (text_append items_line w first.turns b))

@@ -34,7 +34,8 @@ pub mod Standing
 pub mod Stepping
 pub mod Together
 pub mod Told
-pub mod Turned
+pub mod Parts
+pub mod Working
 pub mod Undamaged
 pub mod Underway
 pub mod Waited

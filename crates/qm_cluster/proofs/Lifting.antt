@@ -1,18 +1,13 @@
 -- Turns of one node, as what all nodes did; and these behind others.
-use Rattle.std.proofs.Common.{◌≡◌, ◌⊎◌, inl, inr, ℕ, zero, suc, Bool, true, false, List, [], ◌∷◌, ◌++◌, length, refl, sym, ◌∙◌, ap, subst, Option, Some, arith}
-use Rattle.std.specs.Prelude.{◌==◌, slice_get, slice_set}
+use Rattle.std.proofs.Common.{◌≡◌, ◌⊎◌, inl, inr, ℕ, zero, suc, Bool, true, false, List, [], ◌∷◌, ◌++◌, length, refl, sym, ◌∙◌, ap, subst, Option, Some, arith, ◌==◌, slice_get, slice_set, append_assoc, length-set}
 use Rattle.std.specs.Io.KnownBytes.{Appends}
 use Rattle.std.proofs.lemmas.Bool.Decides.{nat_tests}
-use Rattle.std.proofs.lemmas.List.{append_assoc, length-set}
 use Rattle.qm_symb.specs.Device as symb
 use Rattle.qm_history.specs.declared.turn.Turn.{Turn}
 use Rattle.qm_history.specs.declared.turn.Why.{Why}
 use Rattle.qm_history.specs.declared.world.World.{World}
-use Rattle.qm_history.specs.Faults.{faults_told}
-use Rattle.qm_history.specs.Legal.{after_turns}
+use Rattle.qm_history.specs.Common.{faults_told, after_turns, text, is_live}
 use Rattle.qm_history.specs.Order.{AreInOrder, Served}
-use Rattle.qm_history.specs.Text.{text}
-use Rattle.qm_history.specs.World.{is_live}
 use Rattle.qm_history.proofs.EventLemmas.{turns_append}
 use Rattle.qm_history.proofs.HistoryLemmas.{text_append}
 use Rattle.qm_sjc.specs.Printed.{items_line}
@@ -20,7 +15,7 @@ use Rattle.qm_cluster.specs.Runs.{AllDown, AllGo, AllStop, AllWait, AreLive, Nod
 use Rattle.qm_node.specs.Sides.{Side}
 use Rattle.qm_node.specs.Seats.{HeldSeat, standing_of}
 use Rattle.qm_history.specs.Serving.{LeavesNone, Meaning}
-use Rattle.qm_cluster.specs.Outside.{Outside}
+use Rattle.qm_node.specs.Outside.{Outside}
 use Rattle.qm_node.specs.Taken.{RoseBy}
 use Rattle.qm_cluster.specs.Turning.{Goes, GoesAt, IsDownOver, Stops, StopsAt, TakesUpTo}
 use Rattle.qm_node.specs.declared.turn.TurnEnd.{TurnEnd}

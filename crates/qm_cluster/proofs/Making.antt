@@ -1,14 +1,9 @@
 -- A turn of a node, as what it leaves at each world and over any disk.
-use Rattle.std.proofs.Common.{◌≡◌, inl, inr, ℕ, Bool, true, false, cond, List, [], ◌∷◌, ◌++◌, map, refl, sym, ◌∙◌, ap, subst, Option, None, Some, zero-add}
-use Rattle.std.specs.Prelude.{slice_get, option_to_list}
+use Rattle.std.proofs.Common.{◌≡◌, inl, inr, ℕ, Bool, true, false, cond, List, [], ◌∷◌, ◌++◌, map, refl, sym, ◌∙◌, ap, subst, Option, None, Some, zero-add, slice_get, option_to_list, append-nil}
 use Rattle.std.specs.Option.{option_map, option_map_or}
 use Rattle.std.specs.Io.KnownBytes.{Appends}
-use Rattle.std.proofs.lemmas.List.{append-nil}
 use Rattle.std.proofs.lemmas.Option.{slice_get-map}
-use Rattle.qm_disk.specs.Faults.{Tells}
-use Rattle.qm_kinds.specs.declared.system.Node.{Node}
-use Rattle.qm_model.specs.Standing.{node_at}
-use Rattle.qm_record.specs.Spelling.{HasSpelling}
+use Rattle.qm_history.specs.Common.{Tells, Node, node_at, MayAnswer, answer_of, why_of, faults_told, is_journal, tells_disk_fault, after_turn, Reaches, Scans, IsTurnOf, Visit, is_live, system_in}
 use Rattle.qm_symb.specs.Device as symb
 use Rattle.qm_history.specs.declared.call.Answer.{Answer}
 use Rattle.qm_history.specs.declared.call.Answer.TheVariants as answer
@@ -16,20 +11,10 @@ use Rattle.qm_history.specs.declared.call.Call.{Call}
 use Rattle.qm_history.specs.declared.call.Call.TheVariants as call
 use Rattle.qm_history.specs.declared.turn.Turn.{Turn}
 use Rattle.qm_history.specs.declared.world.World.{World}
-use Rattle.qm_history.specs.Answering.{MayAnswer}
-use Rattle.qm_history.specs.Answers.{answer_of}
-use Rattle.qm_history.specs.Calls.{why_of}
 use Rattle.qm_history.specs.Chest.{IsMadeFor, LeavesTurn, hides_events}
 use Rattle.qm_history.specs.Course.{Over, next_at}
-use Rattle.qm_history.specs.Faults.{faults_told, is_journal, tells_disk_fault}
-use Rattle.qm_history.specs.Legal.{after_turn}
-use Rattle.qm_history.specs.Reaching.{Reaches}
-use Rattle.qm_history.specs.Scans.{Scans}
 use Rattle.qm_history.specs.Text.{behind as lines_behind, prefix_of, text, turn_lines, visit_text}
-use Rattle.qm_history.specs.Turn.{IsTurnOf}
-use Rattle.qm_history.specs.Visits.{Visit}
-use Rattle.qm_history.specs.World.{is_live, system_in}
-use Rattle.qm_node.specs.Living.{bearing_of, live_behind}
+use Rattle.qm_node.specs.Living.{presence_of, live_behind}
 use Rattle.qm_node.proofs.Lives.{answer_tells, others_whole, who_left}
 use Rattle.qm_scans.specs.Behind.{behind_answer, step_of}
 use Rattle.qm_scans.proofs.Tells.{turn_tells}
@@ -42,7 +27,7 @@ use Rattle.qm_node.specs.Answered.{MakesTurn, MovesOn, TakesIn, printed_of, stop
 use Rattle.qm_node.specs.Asking.{built_call, read_built}
 use Rattle.qm_node.specs.Seats.{HeldSeat, standing_of}
 use Rattle.qm_history.specs.Serving.{Meaning, Serves, ServesAt, TellsDisk}
-use Rattle.qm_cluster.specs.Outside.{Outside, outside}
+use Rattle.qm_node.specs.Outside.{Outside, outside}
 use Rattle.qm_node.specs.Taken.{RoseBy}
 use Rattle.qm_cluster.specs.Turning.{Goes, GoesAt}
 use Rattle.qm_node.specs.Coming.{why_next}
@@ -56,7 +41,7 @@ abbrev pub serves_of : {S : Type 0} → Meaning S → S → S → ℕ → ℕ �
 serves_of m old new node now asked told = Serves m node now asked old new told
 
 -- an answer behind which serving goes on is what the events say
-pub says : (w : World) (asked : Call) (t : Turn) (told : Answer) → stop_of told ≡ None → MayAnswer HasSpelling w asked t told → IsTurnOf HasSpelling w asked t × (told ≡ answer_of w t)
+pub says : (w : World) (asked : Call) (t : Turn) (told : Answer) → stop_of told ≡ None → MayAnswer w asked t told → IsTurnOf w asked t × (told ≡ answer_of w t)
 says w asked t (answer.NoMemory took) on h = cc
 says w asked t (answer.Damaged file place) on h = cc
 says w asked t answer.HistoryFull on h = cc
@@ -125,7 +110,7 @@ module _ {S : Type 0} (m : Meaning S) (node : ℕ) (comes : Next) (here : HeldSe
     name_is : (w : World) → map (λ (n : Node). n.name) (system_in w).nodes ≡ m.nodes old → node_at t.node (system_in w).nodes ≡ here.name
     name_is w are = ap (λ (k : ℕ). node_at k (system_in w).nodes) made.0 ∙ name_there (system_in w).nodes (m.nodes old) node here.name are name
 
-    pub answer_printed : (w : World) → IsTurnOf HasSpelling w (built_call a.call) t → told ≡ answer_of w t → map (λ (n : Node). n.name) (system_in w).nodes ≡ m.nodes old
+    pub answer_printed : (w : World) → IsTurnOf w (built_call a.call) t → told ≡ answer_of w t → map (λ (n : Node). n.name) (system_in w).nodes ≡ m.nodes old
         → text items_line w (t ∷ []) ≡ printed_of here.name (built_call a.call) told
     answer_printed w turn is are =
         append-nil (visit_text items_line (record { before = w; turn = t }))
@@ -149,21 +134,21 @@ module _ {S Y : Type 0} (m : Meaning S) (y : symb.Meaning Y) (node : ℕ) (comes
     to = record { value = new; taken = then; told = after; symbiont = now }
 
     module _ (t : Turn) (told : Answer) (goes_on : stop_of told ≡ None) (made : IsMadeFor node a.moment asked (Some t)) (takes : TakesIn comes asked told (record here { node = called }) there) where
-      live_is : (w : World) → (s : ServesAt m w asked old new (Some t) told) → IsTurnOf HasSpelling w asked t → told ≡ answer_of w t → here.live ≡ is_live w node → there.live ≡ is_live (after_turn w t) node
+      live_is : (w : World) → (s : ServesAt m w asked old new (Some t) told) → IsTurnOf w asked t → told ≡ answer_of w t → here.live ≡ is_live w node → there.live ≡ is_live (after_turn w t) node
       live_is w s turn is live =
           takes.live
-          ∙ ap (λ (b : Bool). live_behind b (bearing_of asked) told) (live ∙ ap (is_live w) (sym made.0))
-          ∙ ap (λ (r : Answer). live_behind (is_live w t.node) (bearing_of asked) r) is
-          ∙ sym (answer_tells HasSpelling w asked t s.sound turn)
+          ∙ ap (λ (b : Bool). live_behind b (presence_of asked) told) (live ∙ ap (is_live w) (sym made.0))
+          ∙ ap (λ (r : Answer). live_behind (is_live w t.node) (presence_of asked) r) is
+          ∙ sym (answer_tells w asked t s.sound turn)
           ∙ ap (is_live (after_turn w t)) made.0
 
       asked_leave : comes ≡ next.Leave → asked ≡ call.Leave
       asked_leave is = ap built_call (subst (λ (x : Next). IsCallOf y here.begun x here.node.state a called was now) is by).0
 
-      down_is : (w : World) → IsTurnOf HasSpelling w asked t → there.live ≡ is_live (after_turn w t) node → there.node.state.stage ≡ Over → there.live ≡ false
+      down_is : (w : World) → IsTurnOf w asked t → there.live ≡ is_live (after_turn w t) node → there.node.state.stage ≡ Over → there.live ≡ false
       down_is w turn live over =
           live ∙ ap (is_live (after_turn w t)) (sym made.0)
-          ∙ who_left HasSpelling w t (subst (λ (c : Call). IsTurnOf HasSpelling w c t)
+          ∙ who_left w t (subst (λ (c : Call). IsTurnOf w c t)
           (asked_leave (over_leaves here.count here.live here.node.state called there.node told comes (called_state y here.begun here.node.state a called was now comes by) is_next takes.heard over)) turn)
 
       goes_at : (w : World) → ServesAt m w asked old new (Some t) told → Appends taken then (printed_of here.name asked told) → here.live ≡ is_live w node
@@ -177,12 +162,12 @@ module _ {S Y : Type 0} (m : Meaning S) (y : symb.Meaning Y) (node : ℕ) (comes
             made = (asked, told, new, s.answers, s.does, refl);
             stands = s.stands;
             steps = turn.steps;
-            reaches = λ earlier before_it. subst (λ (b : Bool). Reaches HasSpelling read_built here.node.state earlier here.live (v ∷ []) turn.steps there.node.state b)
+            reaches = λ earlier before_it. subst (λ (b : Bool). Reaches read_built here.node.state earlier here.live (v ∷ []) turn.steps there.node.state b)
                 (ap (is_live (after_turn w t)) made.0 ∙ sym (live_is w s served.0 served.1 live)) (turn.leads earlier before_it);
             behind = λ earlier before_it. behind_one earlier v (standing_of here) (standing_of there) before_it takes.count
-                (takes.begun ∙ ap (behind_answer here.begun (step_of asked)) served.1 ∙ sym ((turn_tells HasSpelling w asked t served.0).scans here.begun));
+                (takes.begun ∙ ap (behind_answer here.begun (step_of asked)) served.1 ∙ sym ((turn_tells w asked t served.0).scans here.begun));
             live = live_is w s served.0 served.1 live;
-            others = λ other differs. others_whole HasSpelling w asked t other s.sound (λ same. differs (same ∙ made.0)) served.0;
+            others = λ other differs. others_whole w asked t other s.sound (λ same. differs (same ∙ made.0)) served.0;
             down = λ was_down. down_is w served.0 (live_is w s served.0 served.1 live);
             overs = λ over. (over, tt);
             printed = subst (λ (l : List ℕ). Appends taken then l) (sym (answer_printed m node comes here a old t told made name w served.0 served.1 s.names)) printed;

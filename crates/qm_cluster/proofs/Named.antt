@@ -1,14 +1,9 @@
 -- Each line of a script for a cluster is one of its nodes.
-use Rattle.std.proofs.Common.{◌≡◌, ◌+◌, ◌==◌, ◌||◌, ℕ, suc, Bool, true, false, cond, List, [], ◌∷◌, ◌++◌, length, refl, sym, subst, Option, None, Some, Result, Ok, Err, arith}
-use Rattle.std.specs.Prelude.{nat_eq, nat_lt, Contains}
+use Rattle.std.proofs.Common.{◌≡◌, ◌+◌, ◌==◌, ◌||◌, ℕ, suc, Bool, true, false, cond, List, [], ◌∷◌, ◌++◌, length, refl, sym, subst, Option, None, Some, Result, Ok, Err, arith, nat_eq, nat_lt, Contains, bytes_eq}
 use Rattle.std.specs.List.{AllByRecursion, ends_with, list_all, slice_split}
-use Rattle.std.specs.Str.{bytes_eq}
 use Rattle.std.proofs.lemmas.Slice.Eq.{bytes_eq-Decides}
-use Rattle.qm_model.specs.Find.{is_among}
-use Rattle.qm_model.specs.Script.{is_line_byte}
-use Rattle.qm_model.specs.Texts.{cut_at_blank}
+use Rattle.qm_history.specs.Common.{is_among, is_line_byte, cut_at_blank, UserLine}
 use Rattle.qm_history.specs.Lines.{LineFault, cut_short, goes_on, line_from, line_of, lines_from, of_cluster, one_more, script_bytes, script_lines, without_last}
-use Rattle.qm_history.specs.Script.{UserLine}
 use Rattle.qm_cluster.specs.Runs.{AreOfNodes, names_of}
 use Rattle.qm_node.specs.Seats.{HeldSeat}
 

@@ -1,35 +1,24 @@
 -- A node goes on by one turn: what its pass, its clock and its own state are then.
-use Rattle.std.proofs.Common.{◌≡◌, ℕ, ◌+◌, ◌≤◌, Bool, false, List, [], ◌∷◌, ◌++◌, length, map, refl, sym, ◌∙◌, ap, subst, arith, append_assoc, Option, None, Some}
-use Rattle.std.specs.Prelude.{IfSome, IsTrue, option_to_list}
+use Rattle.std.proofs.Common.{◌≡◌, ℕ, ◌+◌, ◌≤◌, Bool, false, List, [], ◌∷◌, ◌++◌, length, map, refl, sym, ◌∙◌, ap, subst, arith, append_assoc, Option, None, Some, IfSome, IsTrue, option_to_list}
 use Rattle.std.specs.List.{AllByRecursion}
 use Rattle.std.specs.Io.KnownBytes.{Appends}
 use Rattle.std.proofs.lemmas.List.{append-nil, length-append, map-append}
 use Rattle.std.proofs.lemmas.Grind.{flat_map-append}
-use Rattle.qm_record.specs.Spelling.{HasSpelling}
 use Rattle.qm_symb.specs.Device.{Meaning}
 use Rattle.qm_history.specs.declared.call.Answer.{Answer}
 use Rattle.qm_history.specs.declared.call.Call.{Call}
 use Rattle.qm_history.specs.declared.turn.Turn.{Turn}
 use Rattle.qm_history.specs.declared.world.World.{World}
-use Rattle.qm_history.specs.Answering.{MayAnswer}
-use Rattle.qm_history.specs.Answers.{answer_of}
-use Rattle.qm_history.specs.Calls.{why_of}
+use Rattle.qm_history.specs.Common.{MayAnswer, answer_of, why_of, IsLegal, after_turn, after_turns, Reaches, UserLine, IsTurnOf, Visit, visits_of, IsSound, is_live, IsAnswered}
 use Rattle.qm_history.specs.Course.{at_first, is_live_behind, next_at}
-use Rattle.qm_history.specs.Legal.{IsLegal, after_turn, after_turns}
-use Rattle.qm_history.specs.Reaching.{Reaches}
-use Rattle.qm_history.specs.Script.{UserLine}
-use Rattle.qm_history.specs.Turn.{IsTurnOf}
-use Rattle.qm_history.specs.Visits.{Visit, visits_of}
-use Rattle.qm_history.specs.World.{IsSound, is_live}
 use Rattle.qm_history.proofs.ReachingLemmas.{course_reaches_on, one_visit}
-use Rattle.qm_node.specs.Living.{bearing_of, live_behind}
+use Rattle.qm_node.specs.Living.{presence_of, live_behind}
 use Rattle.qm_node.proofs.Called.{moves_on}
 use Rattle.qm_node.proofs.Lives.{answer_tells}
 use Rattle.qm_scans.specs.Behind.{behind_answer, step_of}
 use Rattle.qm_scans.proofs.Tells.{turn_tells}
 use Rattle.qm_node.specs.Answered.{MakesTurn, MovesOn, printed_of}
 use Rattle.qm_node.specs.Asking.{built_call, read_built}
-use Rattle.qm_history.specs.Serving.{IsAnswered}
 use Rattle.qm_node.specs.Seats.{HeldSeat, standing_of}
 use Rattle.qm_node.specs.Standing.{IsBehind}
 use Rattle.qm_cluster.proofs.Behind.{behind_one}
@@ -104,11 +93,11 @@ module _ (tells : Bool) (may_begin : World → Type 0) (most : ℕ) (node now : 
     pub visits_found : (first : World) → AreOwn node after.seen → visits_of node first found ≡ visits_of node first (turns_in before.seen)
     visits_found first own = visits_begin node first before.seen turn.between (own_found own) none_between
 
-    pub live_found : (first : World) → may_begin first → ((w : World) (turns : List Turn) → IsSound HasSpelling w → IsLegal HasSpelling w turns → IsSound HasSpelling (after_turns w turns))
-        → IsSound HasSpelling first → IsTrue tells → AreOwn node after.seen → is_live (after_turns first found) node ≡ is_live (after_turns first (turns_in before.seen)) node
+    pub live_found : (first : World) → may_begin first → ((w : World) (turns : List Turn) → IsSound w → IsLegal w turns → IsSound (after_turns w turns))
+        → IsSound first → IsTrue tells → AreOwn node after.seen → is_live (after_turns first found) node ≡ is_live (after_turns first (turns_in before.seen)) node
     live_found first begins sound_on sound sure own =
         let parts : found ≡ turns_in before.seen ++ turns_in turn.between = turns_in_append before.seen turn.between in
-        let legal : IsLegal HasSpelling first (turns_in before.seen ++ turns_in turn.between) = subst (IsLegal HasSpelling first) parts (turn.legal sure first begins) in
+        let legal : IsLegal first (turns_in before.seen ++ turns_in turn.between) = subst (IsLegal first) parts (turn.legal sure first begins) in
         let mid : World = after_turns first (turns_in before.seen) in
         ap (λ ts. is_live (after_turns first ts) node) parts
         ∙ ap (λ w. is_live w node) (after_both first (turns_in before.seen) (turns_in turn.between))
@@ -176,7 +165,7 @@ module _ {Y : Type 0} (y : Meaning Y) (tells : Bool) (may_begin : World → Type
       named = moves.name ∙ h.named;
     }
 
-    module _ (sound_on : (w : World) (turns : List Turn) → IsSound HasSpelling w → IsLegal HasSpelling w turns → IsSound HasSpelling (after_turns w turns)) (first : World) (begins : may_begin first) (sound : IsSound HasSpelling first)
+    module _ (sound_on : (w : World) (turns : List Turn) → IsSound w → IsLegal w turns → IsSound (after_turns w turns)) (first : World) (begins : may_begin first) (sound : IsSound first)
         (sure : IsTrue tells) (own : AreOwn node after.seen) (c : HasCome y first node name lines was start (turns_in before.seen) seat now text)
       where
         abbrev here : List Turn
@@ -188,10 +177,10 @@ module _ {Y : Type 0} (y : Meaning Y) (tells : Bool) (may_begin : World → Type
         abbrev v : Visit
         v = record { before = w; turn = left.0 }
 
-        may : MayAnswer HasSpelling w m.asked.asked.call left.0 m.asked.answer
+        may : MayAnswer w m.asked.asked.call left.0 m.asked.answer
         may = subst (λ o. IsAnswered w m.asked.asked.call o m.asked.answer) left.1 (turn.answered sure first begins)
 
-        served : IsTurnOf HasSpelling w m.asked.asked.call left.0 × (m.asked.answer ≡ answer_of w left.0)
+        served : IsTurnOf w m.asked.asked.call left.0 × (m.asked.answer ≡ answer_of w left.0)
         served = says w m.asked.asked.call left.0 m.asked.answer m.goes_on may
 
         same_visits : visits_of node first here ≡ visits_of node first (turns_in before.seen)
@@ -202,17 +191,17 @@ module _ {Y : Type 0} (y : Meaning Y) (tells : Bool) (may_begin : World → Type
 
         then_live : seat'.live ≡ is_live_behind v
         then_live =
-            let sound_here : IsSound HasSpelling w = sound_on first here sound (turn.legal sure first begins) in
+            let sound_here : IsSound w = sound_on first here sound (turn.legal sure first begins) in
             m.takes_in.live
-            ∙ ap (λ l. live_behind l (bearing_of m.asked.asked.call) m.asked.answer) (sym live ∙ ap (is_live w) (sym left.2))
-            ∙ ap (live_behind (is_live w left.0.node) (bearing_of m.asked.asked.call)) served.1
-            ∙ sym (answer_tells HasSpelling w m.asked.asked.call left.0 sound_here served.0)
+            ∙ ap (λ l. live_behind l (presence_of m.asked.asked.call) m.asked.answer) (sym live ∙ ap (is_live w) (sym left.2))
+            ∙ ap (live_behind (is_live w left.0.node) (presence_of m.asked.asked.call)) served.1
+            ∙ sym (answer_tells w m.asked.asked.call left.0 sound_here served.0)
 
         abbrev plain : Asked
         plain = record { moment = m.asked.asked.moment; call = m.asked.call.plain }
 
-        served_plain : IsTurnOf HasSpelling w (built_call m.asked.call.plain) left.0
-        served_plain = subst (λ (c : Call). IsTurnOf HasSpelling w c left.0) m.asked.call.asked_is served.0
+        served_plain : IsTurnOf w (built_call m.asked.call.plain) left.0
+        served_plain = subst (λ (c : Call). IsTurnOf w c left.0) m.asked.call.asked_is served.0
 
         leads_on : Made y seat.node.state seat.live seat.count seat.begun plain m.asked.made seat'.node now now' v m.asked.answer served_plain left.3 served.1
         leads_on =
@@ -223,7 +212,7 @@ module _ {Y : Type 0} (y : Meaning Y) (tells : Bool) (may_begin : World → Type
         there = seen_turns tells may_begin most node m.asked.asked.moment m.asked.asked.call m.asked.answer before after h.number.1 h.all_mine turn ∙ ap (λ o. here ++ option_to_list o) left.1
 
         one_more : visits_of node first (here ++ left.0 ∷ []) ≡ visits_of node first (turns_in before.seen) ++ v ∷ []
-        one_more = one_visit HasSpelling read_built node first here left.0 left.2 ∙ ap (λ vs. vs ++ v ∷ []) same_visits
+        one_more = one_visit read_built node first here left.0 left.2 ∙ ap (λ vs. vs ++ v ∷ []) same_visits
 
         told_more : text_told name (visits_of node first (turns_in before.seen) ++ v ∷ []) ≡ text_told name (visits_of node first (turns_in before.seen)) ++ printed_of name m.asked.asked.call m.asked.answer
         told_more =
@@ -236,16 +225,16 @@ module _ {Y : Type 0} (y : Meaning Y) (tells : Bool) (may_begin : World → Type
           live = then_live ∙ ap (is_live (after_turn w left.0)) left.2 ∙ ap (λ x. is_live x node) (sym (after_both first here (left.0 ∷ [])));
           steps = c.steps ++ leads_on.steps;
           reached =
-              subst (λ b. Reaches HasSpelling read_built (at_first lines) [] (is_live first node) (visits_of node first (here ++ left.0 ∷ [])) (c.steps ++ leads_on.steps) seat'.node.state b) (sym then_live)
-              (course_reaches_on HasSpelling read_built first here left.0 node lines c.steps leads_on.steps seat.node.state seat'.node.state seat.live (is_live_behind v) left.2
-              (subst (λ vs. Reaches HasSpelling read_built (at_first lines) [] (is_live first node) vs c.steps seat.node.state seat.live) (sym same_visits) c.reached) (leads_on.leads (visits_of node first here)
+              subst (λ b. Reaches read_built (at_first lines) [] (is_live first node) (visits_of node first (here ++ left.0 ∷ [])) (c.steps ++ leads_on.steps) seat'.node.state b) (sym then_live)
+              (course_reaches_on read_built first here left.0 node lines c.steps leads_on.steps seat.node.state seat'.node.state seat.live (is_live_behind v) left.2
+              (subst (λ vs. Reaches read_built (at_first lines) [] (is_live first node) vs c.steps seat.node.state seat.live) (sym same_visits) c.reached) (leads_on.leads (visits_of node first here)
               (subst (λ vs. IsBehind vs (standing_of seat)) (sym same_visits) c.behind)));
           rose = rises_on y c.steps leads_on.steps was now now' c.rose leads_on.rose;
           taken = taken_on y c.steps leads_on.steps None was now now' c.taken leads_on.taken;
           behind =
               subst (λ vs. IsBehind vs (standing_of seat')) (sym one_more)
               (behind_one (visits_of node first (turns_in before.seen)) v (standing_of seat) (standing_of seat') c.behind m.takes_in.count
-              (m.takes_in.begun ∙ ap (behind_answer seat.begun (step_of m.asked.asked.call)) served.1 ∙ sym ((turn_tells HasSpelling w m.asked.asked.call left.0 served.0).scans seat.begun)));
+              (m.takes_in.begun ∙ ap (behind_answer seat.begun (step_of m.asked.asked.call)) served.1 ∙ sym ((turn_tells w m.asked.asked.call left.0 served.0).scans seat.begun)));
           text =
               m.prints ∙ ap (λ n. text ++ printed_of n m.asked.asked.call m.asked.answer) h.named
               ∙ ap (λ l. l ++ printed_of name m.asked.asked.call m.asked.answer) c.text

@@ -5,9 +5,8 @@ use Rattle.qm_history.specs.declared.turn.Turn.{Turn}
 use Rattle.qm_history.specs.declared.turn.Why.{Why}
 use Rattle.qm_history.specs.declared.turn.Why.TheVariants as why
 use Rattle.qm_history.specs.declared.world.World.{World}
-use Rattle.qm_history.specs.Legal.{after_turn, after_turns}
+use Rattle.qm_history.specs.Common.{after_turn, after_turns, Visit, visits}
 use Rattle.qm_history.specs.Order.{AreInOrder, AreOver, MayFollow, Served, served_with}
-use Rattle.qm_history.specs.Visits.{Visit, visits}
 use Rattle.qm_cluster.specs.Runs.{served_after, so_far}
 use Rattle.qm_cluster.specs.Turning.{AreOf, IsOwnWhy}
 

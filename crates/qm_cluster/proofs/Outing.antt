@@ -1,22 +1,17 @@
 -- The nodes behind the last line, one after the other.
-use Rattle.std.proofs.Common.{◌≡◌, ◌⊎◌, inl, inr, ◌+◌, ◌<◌, ◌≤◌, ℕ, zero, suc, Bool, true, false, List, [], ◌∷◌, length, map, refl, sym, ◌∙◌, ap, subst, Option, Some, arith}
-use Rattle.std.specs.Prelude.{slice_get, slice_set}
-use Rattle.std.proofs.lemmas.List.{append-nil}
+use Rattle.std.proofs.Common.{◌≡◌, ◌⊎◌, inl, inr, ◌+◌, ◌<◌, ◌≤◌, ℕ, zero, suc, Bool, true, false, List, [], ◌∷◌, length, map, refl, sym, ◌∙◌, ap, subst, Option, Some, arith, slice_get, slice_set, append-nil}
 use Rattle.qm_symb.specs.Device as symb
 use Rattle.qm_history.specs.declared.turn.Why.{Why}
 use Rattle.qm_history.specs.declared.world.World.{World}
-use Rattle.qm_history.specs.Chest.{turns_kept}
+use Rattle.qm_history.specs.Common.{turns_kept, UserLine, is_live}
 use Rattle.qm_history.specs.Course.{NextTurn, NoTurn, NodeState, Reading, Fetching, Working, Leaving, Over, Stage, next_at, next_line, next_reading, next_working}
 use Rattle.qm_history.specs.Order.{AreOver, IsWaiting, Served}
-use Rattle.qm_history.specs.Script.{UserLine}
-use Rattle.qm_history.specs.World.{is_live}
 use Rattle.qm_cluster.specs.Parts.{Both, IsFetch, RunsOut, StopsInBoth}
 use Rattle.qm_cluster.specs.Runs.{AllDown, AllGo, AllStop, AllWait, AreLive, AreReadingFrom, AreThrough, IsCluster, NodeGoes, Site, site_of, so_far}
 use Rattle.qm_node.specs.Sides.{Side, side_of}
 use Rattle.qm_node.specs.Seats.{HeldSeat, standing_of}
-use Rattle.qm_cluster.specs.Outside.{outside}
+use Rattle.qm_node.specs.Outside.{outside, Outside}
 use Rattle.qm_history.specs.Serving.{Meaning}
-use Rattle.qm_cluster.specs.Outside.{Outside}
 use Rattle.qm_cluster.specs.Turning.{IsOwnWhy}
 use Rattle.qm_node.specs.declared.seat.Station.{Station}
 use Rattle.qm_node.specs.declared.turn.TurnEnd.{TurnEnd}

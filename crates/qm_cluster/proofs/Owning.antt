@@ -1,8 +1,7 @@
 -- Whose the turns of a closed history are, and that a node's turns are known before it is closed.
-use Rattle.std.proofs.Common.{◌≡◌, ℕ, ◌+◌, ◌<◌, ◌≤◌, ◌==◌, List, [], ◌∷◌, ◌++◌, map, length, refl, sym, ap, ◌∙◌, subst, arith, Bool, true, false, Option, None, Some, cond}
+use Rattle.std.proofs.Common.{◌≡◌, ℕ, ◌+◌, ◌<◌, ◌≤◌, ◌==◌, List, [], ◌∷◌, ◌++◌, map, length, refl, sym, ap, ◌∙◌, subst, arith, Bool, true, false, Option, None, Some, cond, IfSome, nat_lt, option_to_list}
 use mathlib.Core.Logic.{dite}
 use native.Mathlib.Decide.{ℕ_discrete}
-use Rattle.std.specs.Prelude.{IfSome, nat_lt, option_to_list}
 use Rattle.std.specs.List.{AllByRecursion}
 use Rattle.std.proofs.lemmas.List.{append-nil, length-append, map-append}
 use Rattle.std.proofs.lemmas.List.Elements.{filter_map-append}
@@ -11,8 +10,7 @@ use mathlib.Core.List.{IsPrefix}
 use Rattle.qm_history.specs.declared.turn.Turn.{Turn}
 use Rattle.qm_history.specs.declared.world.World.{World}
 use Rattle.qm_history.specs.Chest.{Note, turns_noted}
-use Rattle.qm_history.specs.Legal.{after_turn, after_turns}
-use Rattle.qm_history.specs.Visits.{visits_of}
+use Rattle.qm_history.specs.Common.{after_turn, after_turns, visits_of}
 use Rattle.qm_history.proofs.HistoryLemmas.{visits_of_append}
 use Rattle.qm_turn.specs.History.{notes, note_by, notes_by, Agrees, numbers_of, times}
 use Rattle.qm_turn.proofs.Histories.{notes-append, notes_by-append}

@@ -1,19 +1,12 @@
 -- Seats in front of own lines, and the cluster that they make.
-use Rattle.std.proofs.Common.{◌≡◌, ◌≢◌, ◌⊎◌, inl, inr, ◌+◌, ◌<◌, ◌≤◌, ℕ, Bool, true, false, cond, List, [], ◌∷◌, ◌++◌, length, map, take, get_or, refl, sym, ◌∙◌, ap, subst, Option, None, Some, Vec, AllPairs, arith}
-use Rattle.std.specs.Prelude.{slice_get, option_map}
-use Rattle.std.specs.Str.{bytes_eq}
+use Rattle.std.proofs.Common.{◌≡◌, ◌≢◌, ◌⊎◌, inl, inr, ◌+◌, ◌<◌, ◌≤◌, ℕ, Bool, true, false, cond, List, [], ◌∷◌, ◌++◌, length, map, take, get_or, refl, sym, ◌∙◌, ap, subst, Option, None, Some, Vec, AllPairs, arith, slice_get, option_map, bytes_eq}
 use Rattle.std.specs.declared.alloc.Global.{Global}
 use Rattle.std.proofs.lemmas.List.{append-nil, length-map, map-append, take_more}
 use Rattle.std.proofs.lemmas.List.Elements.{filter-append}
 use Rattle.std.proofs.lemmas.Bool.{cases_lt}
 use Rattle.std.proofs.lemmas.Option.{get_or_from_slice_get, slice_get-map, slice_get_within}
-use Rattle.qm_kinds.specs.declared.limits.TheConstants.{NODES_LIMIT}
+use Rattle.qm_history.specs.Common.{NODES_LIMIT, turns_kept, at_first, no_scans, UserLine, lines_of, is_live}
 use Rattle.qm_history.specs.declared.world.World.{World}
-use Rattle.qm_history.specs.Chest.{turns_kept}
-use Rattle.qm_history.specs.Course.{at_first}
-use Rattle.qm_history.specs.Scans.{no_scans}
-use Rattle.qm_history.specs.Script.{UserLine, lines_of}
-use Rattle.qm_history.specs.World.{is_live}
 use Rattle.qm_script.specs.ClusterLines.{user_line_view, user_lines_view}
 use Rattle.qm_script.specs.declared.lines.UserLine.{UserLine as CodeLine}
 use Rattle.qm_cluster.specs.Fresh.{AreSeated, each_lines, own_view}

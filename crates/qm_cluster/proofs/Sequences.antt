@@ -1,6 +1,5 @@
 -- Seats that are taken one behind another from the front of a list.
-use Rattle.std.proofs.Common.{◌≡◌, ◌+◌, ◌<◌, List, [], ◌∷◌, ◌++◌, length, map, sym, ◌∙◌, ap, subst, take, drop, arith, append_assoc}
-use Rattle.std.specs.Prelude.{slice_index_or}
+use Rattle.std.proofs.Common.{◌≡◌, ◌+◌, ◌<◌, List, [], ◌∷◌, ◌++◌, length, map, sym, ◌∙◌, ap, subst, take, drop, arith, append_assoc, slice_index_or}
 use Rattle.std.proofs.lemmas.List.{map-append}
 use Rattle.qm_turn.specs.Turns.{Joined, Known}
 use Rattle.qm_cluster.specs.declared.noted.Noted.{Noted}

@@ -1,18 +1,12 @@
 -- Turns of one node among those of others.
-use Rattle.std.proofs.Common.{◌≡◌, ◌≢◌, ◌+◌, ℕ, Bool, true, false, cond, List, [], ◌∷◌, ◌++◌, refl, sym, ◌∙◌, ap, subst, None, Some, arith}
-use Rattle.std.specs.Prelude.{◌==◌}
+use Rattle.std.proofs.Common.{◌≡◌, ◌≢◌, ◌+◌, ℕ, Bool, true, false, cond, List, [], ◌∷◌, ◌++◌, refl, sym, ◌∙◌, ap, subst, None, Some, arith, ◌==◌}
 use Rattle.std.proofs.lemmas.Bool.Decides.{nat_tests}
-use Rattle.qm_record.specs.Spelling.{HasSpelling}
 use Rattle.qm_symb.specs.Device as symb
 use Rattle.qm_history.specs.declared.turn.Turn.{Turn}
 use Rattle.qm_history.specs.declared.turn.Why.{Why}
 use Rattle.qm_history.specs.declared.world.World.{World}
-use Rattle.qm_history.specs.Course.{Whole, Begun, GoesOn, NodeState, failed_steps, next_at}
-use Rattle.qm_history.specs.Legal.{after_turn, after_turns}
+use Rattle.qm_history.specs.Common.{Whole, Begun, GoesOn, NodeState, failed_steps, next_at, after_turn, after_turns, Reaches, Visit, visits, visits_of, is_live}
 use Rattle.qm_history.specs.Order.{IsWaiting, last_node}
-use Rattle.qm_history.specs.Reaching.{Reaches}
-use Rattle.qm_history.specs.Visits.{Visit, visits, visits_of}
-use Rattle.qm_history.specs.World.{is_live}
 use Rattle.qm_history.proofs.EventLemmas.{turns_append}
 use Rattle.qm_history.proofs.HistoryLemmas.{visits_of_append}
 use Rattle.qm_node.specs.Asking.{read_built}
@@ -20,7 +14,7 @@ use Rattle.qm_cluster.specs.Runs.{NodeGoes, NodeStops}
 use Rattle.qm_node.specs.Sides.{Side}
 use Rattle.qm_history.specs.Serving.{Meaning}
 use Rattle.qm_node.specs.Standing.{IsBehind, Standing}
-use Rattle.qm_cluster.specs.Outside.{Outside}
+use Rattle.qm_node.specs.Outside.{Outside}
 use Rattle.qm_node.specs.Taken.{AreTold}
 use Rattle.qm_cluster.specs.Turning.{AreOf, GoesAt, StopsAt}
 use Rattle.qm_node.specs.declared.turn.TurnEnd.{TurnEnd}
@@ -75,7 +69,7 @@ module _ {S Y : Type 0} (m : Meaning S) (y : symb.Meaning Y) where
       let vs = all_of w node May turns of in
       record {
         steps = g.steps;
-        reaches = λ earlier behind. subst (λ (l : List Visit). Reaches HasSpelling read_built here.state earlier here.live l g.steps there.state there.live) (sym vs) (g.reaches earlier behind);
+        reaches = λ earlier behind. subst (λ (l : List Visit). Reaches read_built here.state earlier here.live l g.steps there.state there.live) (sym vs) (g.reaches earlier behind);
         behind = λ earlier behind. subst (λ (l : List Visit). IsBehind (earlier ++ l) there) (sym vs) (g.behind earlier behind);
         live = λ live. g.live;
         down = g.down;
@@ -91,7 +85,7 @@ module _ {S Y : Type 0} (m : Meaning S) (y : symb.Meaning Y) where
       let vs = none_of_them w node other May turns of differs in
       record {
         steps = [];
-        reaches = λ earlier behind. subst (λ (l : List Visit). Reaches HasSpelling read_built here.state earlier here.live l [] here.state here.live) (sym vs) (refl, refl, refl);
+        reaches = λ earlier behind. subst (λ (l : List Visit). Reaches read_built here.state earlier here.live l [] here.state here.live) (sym vs) (refl, refl, refl);
         behind = λ earlier behind. subst (λ (l : List Visit). IsBehind (earlier ++ l) here) (sym vs) (behind_none earlier here behind);
         live = λ live. live ∙ sym stays;
         down = λ was_down. was_down;
@@ -107,7 +101,7 @@ module _ {S Y : Type 0} (m : Meaning S) (y : symb.Meaning Y) where
       let vs = visits_of_append node w a b in
       record {
         steps = one.steps ++ two.steps;
-        reaches = λ earlier behind. subst (λ (l : List Visit). Reaches HasSpelling read_built here.state earlier here.live l (one.steps ++ two.steps) there.state there.live) (sym vs)
+        reaches = λ earlier behind. subst (λ (l : List Visit). Reaches read_built here.state earlier here.live l (one.steps ++ two.steps) there.state there.live) (sym vs)
             (reaches_on (visits_of node (after_turns w a) b) two.steps mid.state there.state mid.live there.live (visits_of node w a) earlier here.state here.live one.steps
             (one.reaches earlier behind) (two.reaches (earlier ++ visits_of node w a) (one.behind earlier behind)));
         behind = λ earlier behind. subst (λ (l : List Visit). IsBehind (earlier ++ l) there) (sym vs)
@@ -128,7 +122,7 @@ module _ {S Y : Type 0} (m : Meaning S) (y : symb.Meaning Y) where
       record {
         steps = one.steps ++ two.steps;
         broken = two.broken;
-        goes_on = λ earlier behind. subst (λ (l : List Visit). GoesOn HasSpelling read_built Begun two.broken here.state earlier here.live l (one.steps ++ two.steps)) (sym vs)
+        goes_on = λ earlier behind. subst (λ (l : List Visit). GoesOn read_built Begun two.broken here.state earlier here.live l (one.steps ++ two.steps)) (sym vs)
             (goes_on Begun two.broken (visits_of node (after_turns w a) b) two.steps mid.state mid.live (visits_of node w a) earlier here.state here.live one.steps
             (one.reaches earlier behind) (two.goes_on (earlier ++ visits_of node w a) (one.behind earlier behind)));
         told = subst (λ (l : List Visit). AreTold Begun l was.told now.told) (sym vs)
@@ -141,7 +135,7 @@ module _ {S Y : Type 0} (m : Meaning S) (y : symb.Meaning Y) where
             let waiting = two.waits (λ is. isnt (last_append a b node is)) (earlier ++ visits_of node w a) (one.behind earlier behind) in (
               waiting.0,
               waiting.1,
-              subst (λ (l : List Visit). Reaches HasSpelling read_built here.state earlier here.live l (one.steps ++ two.steps) waiting.0 waiting.1) (sym vs)
+              subst (λ (l : List Visit). Reaches read_built here.state earlier here.live l (one.steps ++ two.steps) waiting.0 waiting.1) (sym vs)
                   (reaches_on (visits_of node (after_turns w a) b) two.steps mid.state waiting.0 mid.live waiting.1 (visits_of node w a) earlier here.state here.live one.steps
                   (one.reaches earlier behind) waiting.2),
               waiting.3,
@@ -150,7 +144,7 @@ module _ {S Y : Type 0} (m : Meaning S) (y : symb.Meaning Y) where
 
   own_waits : (May : Why → Type 0) (w : World) (node : ℕ) (here : Standing) (turns : List Turn) (old new : Outside S Y) (stopped : TurnEnd) → AreOf node May turns
       → IsWaiting here.state.stage (next_at here.live here.state here.state.stage) → (g : StopsAt m y w node here turns old new stopped) → last_node turns ≢ Some node → (earlier : List Visit) → IsBehind earlier here
-      → (then : NodeState) × (then_live : Bool) × Reaches HasSpelling read_built here.state earlier here.live (visits_of node w turns) g.steps then then_live × IsWaiting then.stage (next_at then_live then then.stage)
+      → (then : NodeState) × (then_live : Bool) × Reaches read_built here.state earlier here.live (visits_of node w turns) g.steps then then_live × IsWaiting then.stage (next_at then_live then then.stage)
   own_waits May w node here [] old new stopped of waits g isnt earlier behind = (here.state, here.live, ((g.goes_on earlier behind).1, refl, refl), waits)
   own_waits May w node here (t ∷ turns) old new stopped of waits g isnt earlier behind = absurd (isnt (last_of node May t turns of))
 
@@ -162,7 +156,7 @@ module _ {S Y : Type 0} (m : Meaning S) (y : symb.Meaning Y) where
       record {
         steps = g.steps;
         broken = g.broken;
-        goes_on = λ earlier behind. subst (λ (l : List Visit). GoesOn HasSpelling read_built Begun g.broken here.state earlier here.live l g.steps) (sym vs) (g.goes_on earlier behind);
+        goes_on = λ earlier behind. subst (λ (l : List Visit). GoesOn read_built Begun g.broken here.state earlier here.live l g.steps) (sym vs) (g.goes_on earlier behind);
         told = subst (λ (l : List Visit). AreTold Begun l old.told new.told) (sym vs) g.told;
         faults = g.faults;
         rose = g.rose;
@@ -178,7 +172,7 @@ module _ {S Y : Type 0} (m : Meaning S) (y : symb.Meaning Y) where
       record {
         steps = [];
         broken = None;
-        goes_on = λ earlier behind. subst (λ (l : List Visit). GoesOn HasSpelling read_built Begun None here.state earlier here.live l []) (sym vs) (tt, refl, tt);
+        goes_on = λ earlier behind. subst (λ (l : List Visit). GoesOn read_built Begun None here.state earlier here.live l []) (sym vs) (tt, refl, tt);
         told = subst (λ (l : List Visit). AreTold Begun l was.told was.told) (sym vs) (record { told = []; appended = appends_none was.told; are = ([], refl, omega arith) });
         faults = 0;
         rose = refl;
@@ -187,7 +181,7 @@ module _ {S Y : Type 0} (m : Meaning S) (y : symb.Meaning Y) where
         waits = λ isnt earlier behind. (
           here.state,
           here.live,
-          subst (λ (l : List Visit). Reaches HasSpelling read_built here.state earlier here.live l [] here.state here.live) (sym vs) (refl, refl, refl),
+          subst (λ (l : List Visit). Reaches read_built here.state earlier here.live l [] here.state here.live) (sym vs) (refl, refl, refl),
           waits,
         );
       }

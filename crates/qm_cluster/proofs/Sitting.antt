@@ -1,16 +1,13 @@
 -- The nodes of a script, line by line, whatever the disks tell.
-use Rattle.std.proofs.Common.{◌≡◌, ◌⊎◌, inl, inr, ◌+◌, ◌<◌, ◌≤◌, ℕ, zero, suc, Bool, true, false, cond, List, [], ◌∷◌, length, map, drop, refl, sym, ◌∙◌, ap, subst, Option, Some, get_or, drop-cons, add-one, arith}
-use Rattle.std.specs.Prelude.{slice_get, slice_set, option_map, Contains}
-use Rattle.std.specs.Str.{bytes_eq}
+use Rattle.std.proofs.Common.{◌≡◌, ◌⊎◌, inl, inr, ◌+◌, ◌<◌, ◌≤◌, ℕ, zero, suc, Bool, true, false, cond, List, [], ◌∷◌, length, map, drop, refl, sym, ◌∙◌, ap, subst, Option, Some, get_or, drop-cons, add-one, arith, slice_get, slice_set, option_map, Contains, bytes_eq}
 use Rattle.std.proofs.lemmas.Slice.Eq.{bytes_eq-Decides}
 use Rattle.std.proofs.lemmas.List.{length-map, length-set}
 use Rattle.std.proofs.lemmas.Option.{slice_get-get_or, slice_get-map}
-use Rattle.qm_kinds.specs.declared.limits.TheConstants.{NODES_LIMIT}
+use Rattle.qm_history.specs.Common.{NODES_LIMIT, UserLine, lines_of, after_turns}
 use Rattle.qm_symb.specs.Device as symb
 use Rattle.qm_history.specs.declared.turn.Why.{Why}
 use Rattle.qm_history.specs.Course.{NextTurn, ALine, Reading, Stage, next_at, next_line, next_reading}
 use Rattle.qm_history.specs.Order.{AreInOrder, IsWaiting, Served}
-use Rattle.qm_history.specs.Script.{UserLine, lines_of}
 use Rattle.qm_node.specs.Node.{IsTurn}
 use Rattle.qm_node.specs.declared.course.Next.{Next}
 use Rattle.qm_script.specs.ClusterLines.{user_line_view, user_lines_view}
@@ -20,14 +17,12 @@ use Rattle.qm_cluster.specs.Parts.{Both, IsLineOf, IsReport, ServesLine, StopsIn
 use Rattle.qm_cluster.specs.Runs.{AllCanGoOn, AllGo, AllStop, AllWait, AreReading, IsCluster, IsReading, Site, names_of, numbers_of, site_of, so_far}
 use Rattle.qm_node.specs.Sides.{Side, side_of}
 use Rattle.qm_node.specs.Seats.{HeldSeat, standing_of}
-use Rattle.qm_cluster.specs.Outside.{outside}
+use Rattle.qm_node.specs.Outside.{outside, Outside}
 use Rattle.qm_history.specs.Serving.{Meaning}
-use Rattle.qm_cluster.specs.Outside.{Outside}
 use Rattle.qm_cluster.specs.Turning.{Goes}
 use Rattle.qm_node.specs.Coming.{IsNoStep}
 use Rattle.qm_node.specs.declared.seat.Station.{Station}
 use Rattle.qm_node.specs.declared.turn.TurnEnd.{TurnEnd}
-use Rattle.qm_history.specs.Legal.{after_turns}
 use Rattle.qm_cluster.proofs.Going.{goes_may, stops_may}
 use Rattle.qm_cluster.proofs.Joining.{length_append, then_stops}
 use Rattle.qm_cluster.proofs.Lifting.{all_stop_then, all_then, around, decide, get_set_other, get_set_same, lift_goes, lift_stops, side_at, some_same}

@@ -1,32 +1,22 @@
 -- What comes next in a node, and the call of it, as its course has them.
-use Rattle.std.proofs.Common.{◌≡◌, ℕ, zero, suc, Bool, true, false, List, [], ◌∷◌, ◌++◌, length, drop, take, refl, sym, ◌∙◌, ap, subst, Option, None, Some}
-use Rattle.std.specs.Prelude.{slice_get}
-use Rattle.std.specs.Option.{option_and_then}
-use Rattle.std.proofs.lemmas.List.{append-nil}
-use Rattle.qm_kinds.specs.declared.work.Report.{Report}
-use Rattle.qm_model.specs.Kept.{KeptRun, StepEnd, WentOn, DeviceFailed, CutShort, known, next_kept, report_told, run_kept}
-use Rattle.qm_record.specs.Spelling.{HasSpelling}
+use Rattle.std.proofs.Common.{◌≡◌, ℕ, zero, suc, Bool, true, false, List, [], ◌∷◌, ◌++◌, length, drop, take, refl, sym, ◌∙◌, ap, subst, Option, None, Some, slice_get, option_and_then, append-nil}
+use Rattle.qm_history.specs.Common.{Report, KeptRun, StepEnd, WentOn, DeviceFailed, CutShort, known, next_kept, report_told, run_kept, Reaches, Scans, UserLine, steps_asked, IsTurnOf, Visit}
 use Rattle.qm_symb.specs.Device.{Meaning, handed_by}
 use Rattle.qm_history.specs.declared.call.Answer.{Answer}
 use Rattle.qm_history.specs.declared.call.Call.{Call}
 use Rattle.qm_history.specs.declared.call.Call.TheVariants as call
 use Rattle.qm_history.specs.Blocks.{blocks_next}
 use Rattle.qm_history.specs.Course.{Whole, Follows, MadeStep, NextTurn, ALine, AStep, AFetch, ALeave, NodeState, Over, Reading, Fetching, Working, Leaving, Stage, answered, behind_fetch, behind_line, behind_step, call_of_line, failed_steps, is_live_behind, next_at, next_line, next_reading, next_working, own_stage}
-use Rattle.qm_history.specs.Reaching.{Reaches}
-use Rattle.qm_history.specs.Scans.{Scans}
-use Rattle.qm_history.specs.Script.{UserLine, steps_asked}
-use Rattle.qm_history.specs.Turn.{IsTurnOf}
-use Rattle.qm_history.specs.Visits.{Visit}
 use Rattle.qm_script.specs.ClusterLines.{user_line_view}
 use Rattle.qm_node.specs.Node.{HeldNode, Hears, HearsReport, IsCallOf, IsTurn}
 use Rattle.qm_node.specs.Steps.{Comes}
 use Rattle.qm_node.specs.declared.course.Asked.{Asked}
 use Rattle.qm_node.specs.declared.course.Next.{Next}
 use Rattle.qm_node.specs.declared.course.Next.TheVariants as next
-use Rattle.qm_script.specs.Asked.{line_with}
 use Rattle.qm_node.specs.Asking.{built, built_call, read_built}
 use Rattle.qm_node.specs.Standing.{IsBehind, Standing}
 use Rattle.qm_node.specs.Taken.{AreTaken, Rises}
+use Rattle.qm_line.specs.Asked.{line_with}
 
 -- ---- what comes next, and what is left behind it
 
@@ -109,13 +99,13 @@ module _ {Y : Type 0} (y : Meaning Y) where
 -- ---- the turn that comes next
 
 module _ {Y : Type 0} (y : Meaning Y) (n : NodeState) (live : Bool) (count : ℕ) (begun : Scans) (a : Asked) (called there : HeldNode) (was now : Y) (v : Visit) (told : Answer)
-    (served : IsTurnOf HasSpelling v.before (built_call a.call) v.turn) (moment : v.turn.moment ≡ a.moment) (told_is : told ≡ answered v)
+    (served : IsTurnOf v.before (built_call a.call) v.turn) (moment : v.turn.moment ≡ a.moment) (told_is : told ≡ answered v)
   where
     abbrev here : Standing
     here = record { state = n; live = live; count = count; begun = begun }
 
     abbrev Leads : List MadeStep → List Visit → Type 0
-    Leads steps earlier = Reaches HasSpelling read_built n earlier live (v ∷ []) steps there.state (is_live_behind v)
+    Leads steps earlier = Reaches read_built n earlier live (v ∷ []) steps there.state (is_live_behind v)
 
     -- the turn follows, with these steps, and the node is there
     pub record Made : Type 0 where
@@ -126,18 +116,18 @@ module _ {Y : Type 0} (y : Meaning Y) (n : NodeState) (live : Bool) (count : ℕ
       pub made : there.made ≡ None
 
     leads_by : (steps : List MadeStep) (earlier : List Visit) (nt : NextTurn) → next_at live n n.stage ≡ nt
-        → Follows HasSpelling read_built Whole None n earlier steps v []
-        (λ after left. Reaches HasSpelling read_built after (earlier ++ v ∷ []) (is_live_behind v) [] left there.state (is_live_behind v)) nt
+        → Follows read_built Whole None n earlier steps v []
+        (λ after left. Reaches read_built after (earlier ++ v ∷ []) (is_live_behind v) [] left there.state (is_live_behind v)) nt
         → Leads steps earlier
     leads_by steps earlier nt is h =
-        subst (λ (x : NextTurn). Follows HasSpelling read_built Whole None n earlier steps v []
-        (λ after left. Reaches HasSpelling read_built after (earlier ++ v ∷ []) (is_live_behind v) [] left there.state (is_live_behind v)) x) (sym is) h
+        subst (λ (x : NextTurn). Follows read_built Whole None n earlier steps v []
+        (λ after left. Reaches read_built after (earlier ++ v ∷ []) (is_live_behind v) [] left there.state (is_live_behind v)) x) (sym is) h
 
     state_is : (made : Option Report) → called ≡ record { state = n; made = made } → called.state ≡ n
     state_is made is = ap (λ (h : HeldNode). h.state) is
 
-    serves : (asked : Call) → built_call a.call ≡ asked → IsTurnOf HasSpelling v.before asked v.turn
-    serves asked is = subst (λ (c : Call). IsTurnOf HasSpelling v.before c v.turn) is served
+    serves : (asked : Call) → built_call a.call ≡ asked → IsTurnOf v.before asked v.turn
+    serves asked is = subst (λ (c : Call). IsTurnOf v.before c v.turn) is served
 
     line_behind_it : (line : Next) (l : UserLine) (lines : List UserLine) (earlier : List Visit) (l' : UserLine) → l ≡ l' → lines ≡ drop 1 n.lines → called ≡ record { state = n; made = None } → length earlier ≡ count
         → there ≡ record { state = behind_line count called.state (drop 1 called.state.lines) (steps_asked l'.line.sort l'.line.text) told; made = None }
@@ -186,7 +176,7 @@ module _ {Y : Type 0} (y : Meaning Y) (n : NodeState) (live : Bool) (count : ℕ
     made_next (next.Line line) (ALine l lines) is turn called_by heard = record {
       steps = [];
       leads = λ earlier behind. leads_by [] earlier (ALine l lines) is (
-        serves (call_of_line HasSpelling read_built n earlier l v.turn)
+        serves (call_of_line read_built n earlier l v.turn)
             (ap built_call called_by.0
             ∙ ap (λ (s : Scans). call.Line line.now.number (built (line_with (user_line_view line.now) a.moment s (known n.kept)))) (sym behind.begun)
             ∙ ap (λ (x : UserLine). call.Line x.line.number (read_built x a.moment earlier (known n.kept))) (sym turn)

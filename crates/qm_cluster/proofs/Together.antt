@@ -1,19 +1,15 @@
 -- From what was left at each place to what is said of all nodes.
-use Rattle.std.proofs.Common.{◌≡◌, ℕ, ◌<◌, ◌≤◌, Bool, true, IsTrue, List, [], length, map, refl, sym, ◌∙◌, subst, Some, arith, zero-add}
-use Rattle.std.specs.Prelude.{slice_get}
+use Rattle.std.proofs.Common.{◌≡◌, ℕ, ◌<◌, ◌≤◌, Bool, true, IsTrue, List, [], length, map, refl, sym, ◌∙◌, subst, Some, arith, zero-add, slice_get}
 use Rattle.std.proofs.lemmas.List.{length-map}
 use Rattle.atomic_table.specs.Seated.{TableId}
 use Rattle.qm_symb.specs.Device.{Meaning}
-use Rattle.qm_kinds.specs.declared.limits.TheConstants.{NODES_LIMIT}
-use Rattle.qm_record.specs.Spelling.{HasSpelling}
+use Rattle.qm_history.specs.Common.{NODES_LIMIT, IsSound, is_live, UserLine}
 use Rattle.qm_history.specs.Serving.{Meaning as MeaningOf}
-use Rattle.qm_history.specs.World.{IsSound, is_live}
 use Rattle.qm_history.specs.declared.world.World.{World}
-use Rattle.qm_history.specs.Script.{UserLine}
 use Rattle.qm_node.specs.Sides.{Side}
 use Rattle.qm_turn.specs.Turns.{Known, fresh}
 use Rattle.qm_cluster.specs.declared.noted.Noted.{Noted}
-use Rattle.qm_pairs.specs.Each.{CanBeWorkedOn, IsWorkedOn}
+use Rattle.qm_turn.specs.Each.{CanBeWorkedOn, IsWorkedOn}
 use Rattle.qm_cluster.specs.Sharing.{IsThere, MayBegin}
 use Rattle.qm_cluster.specs.Through.{AllAreThrough, AtTurnstile, CanBeDriven, IsThrough, first_at}
 use Rattle.qm_cluster.proofs.Places.{get_below, made_from, there}
@@ -55,7 +51,7 @@ module _ {S A B : Type 0} (m : MeaningOf S) (began : List S) (known : A → Know
 
   pub all_ready : length seats ≡ names → length stations ≡ names → names ≤ NODES_LIMIT → lines ≡ names → ((k : ℕ) (seat : A) → slice_get seats k ≡ Some seat → (known seat ≡ fresh place k) × (text seat ≡ []))
       → ((node : ℕ) → node < names → IsThere m began node)
-      → (IsTrue m.tells → (w : World) → MayBegin m began w → (node : ℕ) → node < names → IsSound HasSpelling w × (is_live w node ≡ true))
+      → (IsTrue m.tells → (w : World) → MayBegin m began w → (node : ℕ) → node < names → IsSound w × (is_live w node ≡ true))
       → CanBeWorkedOn Ready 0 seats stations
   all_ready count same few lined new theirs sound =
       record {

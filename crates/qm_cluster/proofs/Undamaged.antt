@@ -1,6 +1,5 @@
 -- Where no call is told of a damaged file, no node ends so.
-use Rattle.std.proofs.Common.{ℕ, inl, inr, Bool, List, Option}
-use Rattle.std.specs.Prelude.{IsTrue}
+use Rattle.std.proofs.Common.{ℕ, inl, inr, Bool, List, Option, IsTrue}
 use Rattle.qm_symb.specs.Device.{Meaning}
 use Rattle.qm_history.specs.declared.world.World.{World}
 use Rattle.qm_node.specs.Answered.{EndsAt, EndsBy}

@@ -1,34 +1,21 @@
 -- A node on its way through its course, from its beginning to its end.
-use Rattle.std.proofs.Common.{◌≡◌, ◌⊎◌, ℕ, ◌+◌, ◌≤◌, inl, inr, Bool, true, List, [], ◌∷◌, ◌++◌, length, refl, sym, ◌∙◌, ap, subst, arith, append_assoc, Option, None, Some, Err}
-use Rattle.std.specs.Prelude.{IfSome, IsTrue, option_to_list}
-use Rattle.std.specs.Option.{unwrap_or}
+use Rattle.std.proofs.Common.{◌≡◌, ◌⊎◌, ℕ, ◌+◌, ◌≤◌, inl, inr, Bool, true, List, [], ◌∷◌, ◌++◌, length, refl, sym, ◌∙◌, ap, subst, arith, append_assoc, Option, None, Some, Err, IfSome, IsTrue, option_to_list, unwrap_or, append-nil}
 use Rattle.std.specs.List.{AllByRecursion}
 use Rattle.std.specs.Io.KnownBytes.{Appends}
-use Rattle.std.proofs.lemmas.List.{append-nil}
 use Rattle.std.proofs.lemmas.Grind.{flat_map-append}
-use Rattle.qm_record.specs.Spelling.{HasSpelling}
 use Rattle.qm_symb.specs.Device.{Meaning}
 use Rattle.qm_history.specs.declared.call.Answer.{Answer}
 use Rattle.qm_history.specs.declared.call.Answer.TheVariants as answer
 use Rattle.qm_history.specs.declared.call.Call.{Call}
 use Rattle.qm_history.specs.declared.turn.Turn.{Turn}
 use Rattle.qm_history.specs.declared.world.World.{World}
-use Rattle.qm_history.specs.Answering.{MayAnswer}
+use Rattle.qm_history.specs.Common.{MayAnswer, KeptRun, NodeState, Whole, Begun, MadeStep, GoesOn, IsCourse, at_first, failed_steps, next_at, IsLegal, after_turns, Reaches, no_scans, scans_of, UserLine, Visit, visits_of, IsSound, is_live, IsAnswered, IsTurnOf, IsCutShort}
 use Rattle.qm_history.specs.Chest.{IsMadeFor}
 use Rattle.qm_history.specs.declared.call.Call.TheVariants as call
-use Rattle.qm_model.specs.Kept.{KeptRun}
-use Rattle.qm_history.specs.Course.{NodeState, Whole, Begun, MadeStep, GoesOn, IsCourse, at_first, failed_steps, next_at}
 use Rattle.qm_history.specs.Ends.{Ended, TurnsSpent, BeginsWith, HasPrinted}
-use Rattle.qm_history.specs.Legal.{IsLegal, after_turns}
-use Rattle.qm_history.specs.Reaching.{Reaches}
-use Rattle.qm_history.specs.Scans.{no_scans, scans_of}
-use Rattle.qm_history.specs.Script.{UserLine}
-use Rattle.qm_history.specs.Visits.{Visit, visits_of}
-use Rattle.qm_history.specs.World.{IsSound, is_live}
 use Rattle.qm_history.proofs.ReachingLemmas.{one_visit}
 use Rattle.qm_node.specs.Answered.{EndsAsked, EndsAt, EndsBy, EndsUnasked, MakesTurn, printed_of, stop_of}
 use Rattle.qm_node.specs.Asking.{built_call, read_built}
-use Rattle.qm_history.specs.Serving.{IsAnswered}
 use Rattle.qm_node.specs.Seats.{HeldSeat}
 use Rattle.qm_node.specs.Taken.{AreTaken, Rises}
 use Rattle.qm_cluster.proofs.Breaking.{BrokenOff, LastOne, broken_next, last_one, nothing_broken}
@@ -38,7 +25,6 @@ use Rattle.qm_cluster.proofs.Joining.{rises_on, taken_on}
 use Rattle.qm_cluster.proofs.Printing.{lines_printed}
 use Rattle.qm_cluster.proofs.Reached.{goes_on, reached_is}
 use Rattle.qm_cluster.proofs.Stepping.{none_taken}
-use Rattle.qm_history.specs.Turn.{IsTurnOf, IsCutShort}
 use Rattle.qm_node.specs.declared.course.Asked.{Asked}
 use Rattle.qm_node.specs.declared.course.Next.{Next}
 use Rattle.qm_node.specs.Node.{IsTurn}
@@ -78,14 +64,14 @@ not_full most turns t told leaves h = cc
 
 -- what was reached, and what goes on from there, is a course that was begun
 abbrev course_begun : (first : World) (node : ℕ) (lines : List UserLine) (turns all : List Turn) (others : List Visit) (steps more : List MadeStep) (n : NodeState) (live : Bool) (broken : Option KeptRun) (faults : ℕ)
-    → failed_steps (steps ++ more) ≤ faults → Reaches HasSpelling read_built (at_first lines) [] (is_live first node) (visits_of node first turns) steps n live
-    → GoesOn HasSpelling read_built Begun broken n (visits_of node first turns) live others more → visits_of node first all ≡ visits_of node first turns ++ others
-    → IsCourse HasSpelling read_built Begun first all node lines faults
+    → failed_steps (steps ++ more) ≤ faults → Reaches read_built (at_first lines) [] (is_live first node) (visits_of node first turns) steps n live
+    → GoesOn read_built Begun broken n (visits_of node first turns) live others more → visits_of node first all ≡ visits_of node first turns ++ others
+    → IsCourse read_built Begun first all node lines faults
 course_begun first node lines turns all others steps more n live broken faults few reached next is = record {
   steps = steps ++ more;
   broken = broken;
   turns_are =
-      subst (λ vs. GoesOn HasSpelling read_built Begun broken (at_first lines) [] (is_live first node) vs (steps ++ more)) (sym is)
+      subst (λ vs. GoesOn read_built Begun broken (at_first lines) [] (is_live first node) vs (steps ++ more)) (sym is)
       (goes_on Begun broken others more n live (visits_of node first turns) [] (at_first lines) (is_live first node) steps reached next);
   few_faults = few;
 }
@@ -95,7 +81,7 @@ few_so_far steps more = let same : failed_steps (steps ++ []) ≡ failed_steps s
 
 -- a course that was only begun, as the end of the node's turns says
 module _ {Y : Type 0} (y : Meaning Y) (first : World) (node : ℕ) (name : List ℕ) (lines : List UserLine) (turns : List Turn) (was now : Y) (start text : List ℕ) (faults : ℕ)
-    (rose : Rises y faults was now) (course : IsCourse HasSpelling read_built Begun first turns node lines faults) (taken : AreTaken y course.steps course.broken was now)
+    (rose : Rises y faults was now) (course : IsCourse read_built Begun first turns node lines faults) (taken : AreTaken y course.steps course.broken was now)
     (printed : List ℕ) (appended : text ≡ start ++ printed)
   where
     driven_by : (stopped : TurnEnd) → HasPrinted (node_end (Err stopped)) (text_told name (visits_of node first turns)) printed → IsDriven y first node name lines (node_end (Err stopped)) turns was now start text
@@ -141,7 +127,7 @@ module _ {Y : Type 0} (y : Meaning Y) (tells : Bool) (may_begin : World → Type
     came = λ sure first may own. subst (λ l. HasCome y first node name lines was start (turns_in l) begins was start) (sym none) (come_first first (live sure first may));
   }
 
-  module _ (sound_on : (w : World) (turns : List Turn) → IsSound HasSpelling w → IsLegal HasSpelling w turns → IsSound HasSpelling (after_turns w turns)) (sound : IsTrue tells → (first : World) → may_begin first → IsSound HasSpelling first)
+  module _ (sound_on : (w : World) (turns : List Turn) → IsSound w → IsLegal w turns → IsSound (after_turns w turns)) (sound : IsTrue tells → (first : World) → may_begin first → IsSound first)
       (seat : HeldSeat) (now : Y) (before : Known Noted) (then : Option (List ℕ)) (text : List ℕ) (u : IsUnderWay seat now before then text)
     where
       pub onward : (next : Next) (seat' : HeldSeat) (now' : Y) (then' : Option (List ℕ)) (after : Known Noted) (text' : List ℕ) → IsTurn (next_at seat.live seat.node.state seat.node.state.stage) (Some next)
@@ -331,7 +317,7 @@ module _ {Y : Type 0} (y : Meaning Y) (tells : Bool) (may_begin : World → Type
                 driven_by y first node name lines here was now' start text' (failed_steps c.steps + off.faults)
                 (rose_on (failed_steps c.steps) off.faults (y.faults was) (y.faults now) (y.faults now') c.rose off.rose)
                 (course_begun first node lines here here [] c.steps [] seat.node.state seat.live off.broken (failed_steps c.steps + off.faults) (few_so_far c.steps off.faults)
-                (subst (λ vs. Reaches HasSpelling read_built (at_first lines) [] (is_live first node) vs c.steps seat.node.state seat.live) (sym same_visits) c.reached)
+                (subst (λ vs. Reaches read_built (at_first lines) [] (is_live first node) vs c.steps seat.node.state seat.live) (sym same_visits) c.reached)
                 (off.leads (visits_of node first here)) (sym (append-nil (visits_of node first here))))
                 (taken_on y c.steps [] off.broken was now now' c.taken off.taken) (text_told name (visits_of node first here))
                 (text_same none e.ends ∙ c.text ∙ ap (λ vs. start ++ text_told name vs) (sym same_visits)) stopped (printed_all stopped (text_told name (visits_of node first here)))
@@ -347,18 +333,18 @@ module _ {Y : Type 0} (y : Meaning Y) (tells : Bool) (may_begin : World → Type
               made : IsMadeFor node e.asked.asked.moment e.asked.asked.call (Some t)
               made = subst (IsMadeFor node e.asked.asked.moment e.asked.asked.call) some turn.made
 
-              may : MayAnswer HasSpelling w e.asked.asked.call t e.asked.answer
+              may : MayAnswer w e.asked.asked.call t e.asked.answer
               may = subst (λ o. IsAnswered w e.asked.asked.call o e.asked.answer) some (turn.answered sure first begun)
 
-              served : IsTurnOf HasSpelling w (built_call e.asked.call.plain) t ⊎ IsCutShort HasSpelling w (built_call e.asked.call.plain) t
-              served = subst (λ (x : Call). IsTurnOf HasSpelling w x t ⊎ IsCutShort HasSpelling w x t) e.asked.call.asked_is (whole_or_cut w e.asked.asked.call t e.asked.answer may)
+              served : IsTurnOf w (built_call e.asked.call.plain) t ⊎ IsCutShort w (built_call e.asked.call.plain) t
+              served = subst (λ (x : Call). IsTurnOf w x t ⊎ IsCutShort w x t) e.asked.call.asked_is (whole_or_cut w e.asked.asked.call t e.asked.answer may)
 
               moves : LastOne y seat.node.state seat.live seat.begun plain e.asked.made now now' v served made.1
               moves =
                   last_one y seat.node.state seat.live seat.begun plain e.asked.made now now' v served made.1 next (next_at seat.live seat.node.state seat.node.state.stage) refl is e.asked.call.by
 
               one_more : visits_of node first (here ++ t ∷ []) ≡ visits_of node first here ++ v ∷ []
-              one_more = one_visit HasSpelling read_built node first here t made.0
+              one_more = one_visit read_built node first here t made.0
 
               abbrev said : List ℕ
               said = visit_told name v
@@ -406,7 +392,7 @@ module _ {Y : Type 0} (y : Meaning Y) (tells : Bool) (may_begin : World → Type
                   let shown : PrintedSome = printed_some e.ends in
                   driven_by y first node name lines (here ++ t ∷ []) was now' start text' (failed_steps (c.steps ++ moves.steps)) (rises_on y c.steps moves.steps was now now' c.rose moves.rose)
                   (course_begun first node lines here (here ++ t ∷ []) (v ∷ []) c.steps moves.steps seat.node.state seat.live None (failed_steps (c.steps ++ moves.steps)) (omega arith)
-                  (subst (λ vs. Reaches HasSpelling read_built (at_first lines) [] (is_live first node) vs c.steps seat.node.state seat.live) (sym same_visits) c.reached)
+                  (subst (λ vs. Reaches read_built (at_first lines) [] (is_live first node) vs c.steps seat.node.state seat.live) (sym same_visits) c.reached)
                   (moves.leads (visits_of node first here) (ap scans_of same_visits ∙ c.behind.begun)) one_more)
                   (taken_on y c.steps moves.steps None was now now' c.taken moves.taken) shown.0 shown.1 stopped shown.2
 

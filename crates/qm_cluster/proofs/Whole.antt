@@ -1,22 +1,13 @@
 -- What the passes know of each node's turns, in the history of all.
-use Rattle.std.proofs.Common.{◌≡◌, inl, inr, ℕ, suc, zero, ◌<◌, ◌≤◌, ◌==◌, Bool, true, false, cond, IsTrue, List, [], ◌∷◌, ◌++◌, length, map, refl, sym, ◌∙◌, ap, subst, Option, None, Some, arith}
+use Rattle.std.proofs.Common.{◌≡◌, inl, inr, ℕ, suc, zero, ◌<◌, ◌≤◌, ◌==◌, Bool, true, false, cond, IsTrue, List, [], ◌∷◌, ◌++◌, length, map, refl, sym, ◌∙◌, ap, subst, Option, None, Some, arith, IfSome, option_to_list, slice_get, option_map, append-nil}
 use mathlib.Core.List.{IsPrefix}
-use Rattle.std.specs.Prelude.{IfSome, option_to_list, slice_get}
 use Rattle.std.specs.List.{AllByRecursion}
-use Rattle.std.specs.Option.{option_map}
-use Rattle.std.proofs.lemmas.List.{append-nil}
 use Rattle.std.proofs.lemmas.Option.{slice_get-map}
-use Rattle.qm_record.specs.Spelling.{HasSpelling}
 use Rattle.qm_symb.specs.Device.{Meaning}
 use Rattle.qm_history.specs.declared.turn.Turn.{Turn}
 use Rattle.qm_history.specs.declared.world.World.{World}
-use Rattle.qm_history.specs.Course.{GoesOn, at_first}
-use Rattle.qm_history.specs.Ends.{BrokenOff, Ended, FileDamaged, HasPrinted, MemoryShort, NodeEnd, TurnsSpent, extent_of}
-use Rattle.qm_history.specs.Legal.{after_turn}
+use Rattle.qm_history.specs.Common.{GoesOn, at_first, BrokenOff, Ended, FileDamaged, HasPrinted, MemoryShort, NodeEnd, TurnsSpent, extent_of, after_turn, UserLine, Visit, visits_of, is_live}
 use Rattle.qm_history.specs.Readings.{AreReadings, readings_of}
-use Rattle.qm_history.specs.Script.{UserLine}
-use Rattle.qm_history.specs.Visits.{Visit, visits_of}
-use Rattle.qm_history.specs.World.{is_live}
 use Rattle.qm_node.specs.Asking.{read_built}
 use Rattle.qm_node.specs.Sides.{Side}
 use Rattle.qm_turn.specs.History.{Agrees, notes_by, numbers_of, times}
@@ -163,7 +154,7 @@ module _ (passes : List (Known Noted)) (log : List (ℕ × Noted)) (agrees : Agr
               course = record {
                 steps = drives.course.steps;
                 broken = drives.course.broken;
-                turns_are = subst (λ (vs : List Visit). GoesOn HasSpelling read_built (extent_of at.end) drives.course.broken (at_first lines) [] (is_live first k) vs drives.course.steps) (sym whole) drives.course.turns_are;
+                turns_are = subst (λ (vs : List Visit). GoesOn read_built (extent_of at.end) drives.course.broken (at_first lines) [] (is_live first k) vs drives.course.steps) (sym whole) drives.course.turns_are;
                 few_faults = drives.course.few_faults;
               };
               rose = drives.rose;

@@ -1,14 +1,12 @@
 -- The last line, piece by piece.
-use Rattle.std.proofs.Common.{◌≡◌, ℕ, List, ◌++◌, codes, take, drop, sym, ◌∙◌, ap, subst, Option, append_assoc}
+use Rattle.std.proofs.Common.{◌≡◌, ℕ, List, ◌++◌, codes, take, drop, sym, ◌∙◌, ap, subst, Option, append_assoc, take-append-drop}
 use Rattle.std.specs.Io.KnownBytes.{Appends}
-use Rattle.std.proofs.lemmas.List.{take-append-drop}
 use Rattle.std.proofs.lemmas.List.Concat.{flat_map-append}
 use Rattle.qm_node.specs.Ends.{TakesFront}
 use Rattle.qm_cluster.proofs.Counting.{appends_on}
 use Rattle.qm_node.proofs.Fronts.{front_of_prefix}
-use Rattle.qm_disk.specs.Faults.{counted}
+use Rattle.qm_history.specs.Common.{counted, TakesPrefix}
 use Rattle.qm_history.specs.declared.turn.Turn.{Turn}
-use Rattle.qm_disk.specs.Bytes.{TakesPrefix}
 use Rattle.qm_cluster.specs.Printing.{name_at, words_of}
 use Rattle.qm_cluster.proofs.Writing.{front_more, front_on}
 

@@ -1,8 +1,6 @@
 -- The end that counts of those of nodes.
-use Rattle.std.proofs.Common.{◌≡◌, ℕ, suc, ◌-◌, ◌≤◌, false, List, [], ◌∷◌, length, map, take, drop, get_or, refl, ◌∙◌, ap, Some, arith}
-use Rattle.std.specs.Prelude.{slice_get, sum_by}
+use Rattle.std.proofs.Common.{◌≡◌, ℕ, suc, ◌-◌, ◌≤◌, false, List, [], ◌∷◌, length, map, take, drop, get_or, refl, ◌∙◌, ap, Some, arith, slice_get, sum_by, take_all}
 use Rattle.std.specs.List.{AllByRecursion}
-use Rattle.std.proofs.lemmas.List.{take_all}
 use Rattle.std.proofs.lemmas.List.Sums.{sum_by-cons}
 use Rattle.qm_cluster.specs.Driving.{hidden_by}
 use Rattle.qm_history.specs.Ends.{BrokenOff, Damaged, DiskFailed, Ended, FileDamaged, HistoryFull, MemoryShort, NoMemory, NodeEnd, NodeText, Served, ServingEnd, SinkFailed, TurnsSpent, cuts_text, end_of, end_of_node, worse}

@@ -1,14 +1,11 @@
 -- What a sink took of texts that are written one behind another.
-use Rattle.std.proofs.Common.{◌≡◌, ◌≤◌, ℕ, Bool, true, false, cond, length, map, drop, take, get_or, arith, ◌-◌, List, [], ◌∷◌, ◌++◌, refl, sym, ◌∙◌, ap, subst, Option, Result, Ok, Err, append_assoc}
-use Rattle.std.specs.Prelude.{IsErr, OnErr, OnOk}
+use Rattle.std.proofs.Common.{◌≡◌, ◌≤◌, ℕ, Bool, true, false, cond, length, map, drop, take, get_or, arith, ◌-◌, List, [], ◌∷◌, ◌++◌, refl, sym, ◌∙◌, ap, subst, Option, Result, Ok, Err, append_assoc, IsErr, OnErr, OnOk, take_all}
 use Rattle.std.specs.Io.KnownBytes.{Appends}
-use Rattle.std.proofs.lemmas.List.{take_all}
 use Rattle.qm_node.specs.Ends.{TakesFront}
 use Rattle.qm_cluster.proofs.Counting.{appends_on}
 use Rattle.qm_node.proofs.Fronts.{front_of_prefix}
-use Rattle.qm_disk.specs.Faults.{counted}
+use Rattle.qm_history.specs.Common.{counted, TakesPrefix}
 use Rattle.qm_history.specs.Ends.{NodeText, cuts_text, texts_printed}
-use Rattle.qm_disk.specs.Bytes.{TakesPrefix}
 use Rattle.qm_cluster.specs.Printing.{Writes}
 
 pub front_more : (old new : Option (List ℕ)) (x y : List ℕ) → TakesFront old new x → TakesFront old new (x ++ y)

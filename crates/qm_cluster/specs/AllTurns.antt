@@ -4,15 +4,14 @@ use Rattle.std.specs.Prelude.{◌≡◌, ◌≤◌, ℕ, Bool, IsTrue, List, len
 use Rattle.qm_node.specs.Sides.{Side}
 use Rattle.qm_history.specs.declared.turn.Turn.{Turn}
 use Rattle.qm_history.specs.declared.world.World.{World}
-use Rattle.qm_history.specs.Chest.{unread_of}
-use Rattle.qm_history.specs.Ends.{FileDamaged, NodeText, TurnsSpent}
-use Rattle.qm_history.specs.Script.{UserLine}
+use Rattle.qm_history.specs.Common.{turns_kept, unread_of, FileDamaged, NodeText, TurnsSpent, UserLine}
+use Rattle.qm_history.specs.Serving.{Meaning as MeaningOf}
 use Rattle.qm_symb.specs.Device.{Meaning}
 use Rattle.qm_turn.specs.History.{notes}
 use Rattle.qm_cluster.specs.declared.noted.Noted.{Noted}
 use Rattle.qm_cluster.specs.Driving.{hidden_by}
 use Rattle.qm_cluster.specs.Passes.{AreOfTheirNodes, turns_in}
-use Rattle.qm_cluster.specs.Sharing.{note_view}
+use Rattle.qm_cluster.specs.Sharing.{MayBegin, StandsSince, note_view}
 use Rattle.qm_cluster.specs.Served.{AllHaveServed}
 
 -- no node's end tells of a damaged file
@@ -37,3 +36,8 @@ pub record HaveMadeTurns {S Y : Type 0} (y : Meaning Y) (tells : Bool) (may_begi
   pub hidden : unread_of (map note_view (notes log)) ≤ sum_by (λ (at : NodeText). hidden_by at.end) left
   pub undamaged : IsTrue tells → NoneDamaged left
   pub served : IsTrue tells → (w : World) → may_begin w → AllHaveServed y w (turns_in log) names lines left was now
+
+-- the same of a manager that began so
+abbrev pub HaveTurned : {S Y : Type 0} → Meaning Y → MeaningOf S → List S → List (List ℕ) → List (List UserLine) → S → List NodeText → List (Side Y) → List (Side Y) → Type 0
+HaveTurned y m began names lines manager left was now =
+    HaveMadeTurns y m.tells (MayBegin m began) turns_kept (StandsSince m began) names lines manager left was now

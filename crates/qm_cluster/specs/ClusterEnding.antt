@@ -5,8 +5,9 @@ use Rattle.std.specs.Io.KnownBytes.{Appends}
 use Rattle.qm_node.specs.Ends.{TakesFront}
 use Rattle.qm_disk.specs.Faults.{counted}
 use Rattle.qm_history.specs.declared.turn.Turn.{Turn}
-use Rattle.qm_history.specs.Ends.{Damaged, DiskFailed, HistoryFull, NoMemory, NodeEnd, NodeText, Served, ServingEnd, SinkFailed, end_of, worse}
+use Rattle.qm_history.specs.Ends.{Damaged, DiskFailed, HistoryFull, NoMemory, NodeEnd, NodeText, Served, ServingEnd, SinkFailed, end_of, texts_printed, worse}
 use Rattle.qm_cluster.specs.Ends.{end_of_turns}
+use Rattle.qm_cluster.specs.Printing.{turns_line}
 
 abbrev pub ends_of : List NodeText → List NodeEnd
 ends_of left = map (λ (at : NodeText). at.end) left
@@ -34,3 +35,8 @@ IsTold false worst taken then before now text turns end =
 -- which of these, by the end that counts of the nodes'
 abbrev pub IsToldBy : ServingEnd → Option (List ℕ) → Option (List ℕ) → ℕ → ℕ → List ℕ → List Turn → ServingEnd → Type 0
 IsToldBy worst taken then before now text turns end = IsTold (lacks_text worst) worst taken then before now text turns end
+
+-- which of these, by the texts that the nodes left, and the turns
+abbrev pub TellsTexts : List (List ℕ) → List NodeText → List Turn → Option (List ℕ) → Option (List ℕ) → ℕ → ℕ → ServingEnd → Type 0
+TellsTexts names left turns taken then before now end =
+    IsToldBy (worst_of left) taken then before now (texts_printed (turns_line names turns) left) turns end

@@ -4,18 +4,11 @@
 use Rattle.std.specs.Prelude.{◌≡◌, ◌⊎◌, ◌≤◌, ℕ, false, List, [], ◌∷◌, ◌++◌, length, map, flat_map, Option, None, Some, Result, Ok, Err}
 use Rattle.std.specs.List.{AllByRecursion}
 use Rattle.std.specs.Io.KnownBytes.{Appends}
-use Rattle.qm_record.specs.Spelling.{HasSpelling}
 use Rattle.qm_symb.specs.Device.{Meaning}
 use Rattle.qm_history.specs.declared.turn.Turn.{Turn}
 use Rattle.qm_history.specs.declared.world.World.{World}
-use Rattle.qm_history.specs.Course.{IsCourse, MadeStep, at_first, failed_steps}
-use Rattle.qm_history.specs.Ends.{NodeEnd, Ended, BrokenOff, TurnsSpent, FileDamaged, MemoryShort, HasPrinted, extent_of}
-use Rattle.qm_history.specs.Legal.{after_turns}
-use Rattle.qm_history.specs.Reaching.{Reaches}
-use Rattle.qm_history.specs.Script.{UserLine}
+use Rattle.qm_history.specs.Common.{IsCourse, MadeStep, at_first, failed_steps, NodeEnd, Ended, BrokenOff, TurnsSpent, FileDamaged, MemoryShort, HasPrinted, extent_of, after_turns, Reaches, UserLine, Visit, visits_of, is_live}
 use Rattle.qm_history.specs.Text.{behind, prefix_of, turn_lines}
-use Rattle.qm_history.specs.Visits.{Visit, visits_of}
-use Rattle.qm_history.specs.World.{is_live}
 use Rattle.qm_sjc.specs.Printed.{items_line}
 use Rattle.qm_node.specs.Asking.{read_built}
 use Rattle.qm_node.specs.Seats.{HeldSeat, standing_of}
@@ -99,7 +92,7 @@ module _ {Y : Type 0} (y : Meaning Y) (first : World) (node : ℕ) (name : List 
   pub record IsDriven (stopped : NodeEnd) (turns : List Turn) (was now : Y) (before after : List ℕ) : Type 0 where
     pub faults : ℕ
     pub rose : Rises y faults was now
-    pub course : IsCourse HasSpelling read_built (extent_of stopped) first turns node lines faults
+    pub course : IsCourse read_built (extent_of stopped) first turns node lines faults
     pub taken : AreTaken y course.steps course.broken was now
     pub printed : List ℕ
     pub appended : after ≡ before ++ printed
@@ -112,7 +105,7 @@ module _ {Y : Type 0} (y : Meaning Y) (first : World) (node : ℕ) (name : List 
   pub record HasCome (turns : List Turn) (seat : HeldSeat) (now : Y) (after : List ℕ) : Type 0 where
     pub live : seat.live ≡ is_live (after_turns first turns) node
     pub steps : List MadeStep
-    pub reached : Reaches HasSpelling read_built (at_first lines) [] (is_live first node) (visits_of node first turns) steps seat.node.state seat.live
+    pub reached : Reaches read_built (at_first lines) [] (is_live first node) (visits_of node first turns) steps seat.node.state seat.live
     pub rose : Rises y (failed_steps steps) was now
     pub taken : AreTaken y steps None was now
     pub behind : IsBehind (visits_of node first turns) (standing_of seat)

@@ -6,12 +6,9 @@ use Rattle.qm_node.specs.Taken.{RoseBy}
 use Rattle.qm_cluster.specs.Turning.{IsToldTo, TakesUpTo}
 use Rattle.qm_node.specs.declared.turn.TurnEnd.{TurnEnd}
 use Rattle.qm_node.specs.declared.turn.TurnEnd.TheVariants as stop
-use Rattle.qm_disk.specs.Faults.{counted}
+use Rattle.qm_history.specs.Common.{counted, turns_kept, Extent, Whole, Begun, faults_told, tells_disk_fault}
 use Rattle.qm_history.specs.declared.turn.Turn.{Turn}
-use Rattle.qm_history.specs.Chest.{turns_kept}
-use Rattle.qm_history.specs.Course.{Extent, Whole, Begun}
 use Rattle.qm_history.specs.Ends.{ServingEnd, Served, DiskFailed, SinkFailed, HistoryFull, Damaged, NoMemory}
-use Rattle.qm_history.specs.Faults.{faults_told, tells_disk_fault}
 use Rattle.qm_cluster.specs.declared.ends.ServeEnd.{ServeEnd}
 use Rattle.qm_cluster.specs.declared.ends.ServeEnd.TheVariants as end
 

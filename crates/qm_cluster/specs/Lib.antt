@@ -6,7 +6,6 @@ pub mod Ends
 pub mod Fresh
 pub mod Gathered
 pub mod Nodes
-pub mod Outside
 pub mod Parts
 pub mod Passes
 pub mod Passing

@@ -1,7 +1,6 @@
 -- What a node is like between two turns, whatever the disks tell.
 use Rattle.std.specs.Prelude.{◌≡◌, ◌≤◌, ℕ, None, Some, length, slice_get}
-use Rattle.qm_history.specs.Chest.{turns_kept}
-use Rattle.qm_history.specs.Course.{Reading}
+use Rattle.qm_history.specs.Common.{turns_kept, Reading}
 use Rattle.qm_node.specs.Seats.{HeldSeat}
 use Rattle.qm_history.specs.Serving.{Meaning}
 

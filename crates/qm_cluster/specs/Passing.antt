@@ -2,14 +2,12 @@
 -- This site's own: turns, and their notes.
 use Rattle.std.specs.Prelude.{◌≡◌, ◌-◌, ◌^◌, ◌<◌, ◌≤◌, ℕ, Bool, IsTrue, List, [], ◌∷◌, ◌++◌, length, option_to_list}
 use Rattle.atomic_table.specs.Seated.{TableId}
-use Rattle.qm_record.specs.Spelling.{HasSpelling}
 use Rattle.qm_history.specs.declared.call.Answer.{Answer}
 use Rattle.qm_history.specs.declared.call.Answer.TheVariants as answer
 use Rattle.qm_history.specs.declared.call.Call.{Call}
 use Rattle.qm_history.specs.declared.world.World.{World}
 use Rattle.qm_history.specs.Chest.{IsMadeFor, is_unread}
-use Rattle.qm_history.specs.Legal.{IsLegal, after_turns}
-use Rattle.qm_history.specs.Serving.{IsAnswered}
+use Rattle.qm_history.specs.Common.{IsLegal, after_turns, IsAnswered}
 use Rattle.qm_turn.specs.History.{notes_by}
 use Rattle.qm_turn.specs.Turns.{Known}
 use Rattle.qm_cluster.specs.declared.noted.Noted.{Noted}
@@ -38,6 +36,6 @@ pub record IsTurnMade (tells : Bool) (may_begin : World → Type 0) (most : ℕ)
   pub made : IsMadeFor node now asked note.turn
   pub leaves : LeavesTurn most (turns_in (old.seen ++ between)) note.turn told
   pub few : length (turns_in (old.seen ++ between) ++ option_to_list note.turn) ≤ most
-  pub legal : IsTrue tells → (w : World) → may_begin w → IsLegal HasSpelling w (turns_in (old.seen ++ between))
+  pub legal : IsTrue tells → (w : World) → may_begin w → IsLegal w (turns_in (old.seen ++ between))
   pub answered : IsTrue tells → (w : World) → may_begin w → IsAnswered (after_turns w (turns_in (old.seen ++ between))) asked note.turn told
   pub undamaged : IsTrue tells → (file place : ℕ) → told ≡ answer.Damaged file place → ⊥

@@ -1,7 +1,6 @@
 -- What is printed behind the turns of nodes.
 -- This site's own: the texts of nodes in the cluster's order, and whose turn each was.
-use Rattle.std.specs.Prelude.{◌≡◌, ℕ, List, [], ◌∷◌, ◌++◌, codes, flat_map, slice_get, Option, Result, Ok, Err}
-use Rattle.std.specs.Option.{unwrap_or}
+use Rattle.std.specs.Prelude.{◌≡◌, ℕ, List, [], ◌∷◌, ◌++◌, codes, flat_map, slice_get, Option, Result, Ok, Err, unwrap_or}
 use Rattle.std.specs.Io.KnownBytes.{Appends}
 use Rattle.qm_node.specs.Ends.{TakesFront}
 use Rattle.qm_disk.specs.Faults.{counted}

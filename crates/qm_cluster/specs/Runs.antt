@@ -4,22 +4,12 @@
 use Rattle.std.specs.Prelude.{◌≡◌, ◌≢◌, ◌<◌, ◌≤◌, ℕ, Bool, List, [], ◌∷◌, ◌++◌, length, map, slice_get, Option, None, Some, Contains}
 use Rattle.std.specs.List.{AllByRecursion}
 use Rattle.std.specs.Io.KnownBytes.{Appends}
-use Rattle.qm_kinds.specs.declared.limits.TheConstants.{NODES_LIMIT}
-use Rattle.qm_model.specs.Kept.{KeptRun}
-use Rattle.qm_record.specs.Spelling.{HasSpelling}
+use Rattle.qm_history.specs.Common.{NODES_LIMIT, KeptRun, turns_kept, faults_told, after_turns, IsLegal, Reaches, UserLine, lines_of, text, Visit, visits_of, is_live}
 use Rattle.qm_symb.specs.Device as symb
 use Rattle.qm_history.specs.declared.turn.Turn.{Turn}
 use Rattle.qm_history.specs.declared.world.World.{World}
-use Rattle.qm_history.specs.Chest.{turns_kept}
 use Rattle.qm_history.specs.Course.{Extent, Whole, Begun, GoesOn, IsCourse, MadeStep, NodeState, NoTurn, Reading, at_first, failed_steps, next_at, next_line}
-use Rattle.qm_history.specs.Faults.{faults_told}
-use Rattle.qm_history.specs.Legal.{after_turns, IsLegal}
 use Rattle.qm_history.specs.Order.{AreInOrder, IsWaiting, Served, WaitsUnlessLast, last_node, nothing_served, served_with}
-use Rattle.qm_history.specs.Reaching.{Reaches}
-use Rattle.qm_history.specs.Script.{UserLine, lines_of}
-use Rattle.qm_history.specs.Text.{text}
-use Rattle.qm_history.specs.Visits.{Visit, visits_of}
-use Rattle.qm_history.specs.World.{is_live}
 use Rattle.qm_sjc.specs.Printed.{items_line}
 use Rattle.qm_node.specs.Asking.{read_built}
 use Rattle.qm_cluster.specs.Nodes.{CanGoOn}
@@ -118,7 +108,7 @@ module _ {S Y : Type 0} (m : Meaning S) (y : symb.Meaning Y) where
     pub steps : List MadeStep
     pub reaches :
         (earlier : List Visit) → IsBehind earlier here
-        → Reaches HasSpelling read_built here.state earlier here.live (visits_of node w turns) steps there.state there.live
+        → Reaches read_built here.state earlier here.live (visits_of node w turns) steps there.state there.live
     pub behind : (earlier : List Visit) → IsBehind earlier here → IsBehind (earlier ++ visits_of node w turns) there
     pub live : here.live ≡ is_live w node → there.live ≡ is_live (after_turns w turns) node
     pub down : IsDownOver here → IsDownOver there
@@ -159,7 +149,7 @@ module _ {S Y : Type 0} (m : Meaning S) (y : symb.Meaning Y) where
     pub broken : Option KeptRun
     pub goes_on :
         (earlier : List Visit) → IsBehind earlier here
-        → GoesOn HasSpelling read_built Begun broken here.state earlier here.live (visits_of node w turns) steps
+        → GoesOn read_built Begun broken here.state earlier here.live (visits_of node w turns) steps
     pub told : AreTold Begun (visits_of node w turns) was.told now.told
     pub faults : ℕ
     pub rose : Rises y faults was.symbiont now.symbiont
@@ -167,7 +157,7 @@ module _ {S Y : Type 0} (m : Meaning S) (y : symb.Meaning Y) where
     pub taken : AreTaken y steps broken was.symbiont now.symbiont
     pub waits :
         last_node turns ≢ Some node → (earlier : List Visit) → IsBehind earlier here
-        → (then : NodeState) × (then_live : Bool) × Reaches HasSpelling read_built here.state earlier here.live (visits_of node w turns) steps then then_live
+        → (then : NodeState) × (then_live : Bool) × Reaches read_built here.state earlier here.live (visits_of node w turns) steps then then_live
         × IsWaiting then.stage (next_at then_live then then.stage)
 
   pub record AllStopAt (w : World) (before : Served) (turns : List Turn) (old new : Site S Y) (stopped : TurnEnd) : Type 0 where
@@ -190,6 +180,10 @@ module _ {S Y : Type 0} (m : Meaning S) (y : symb.Meaning Y) where
     pub sides : length new.sides ≡ length old.sides
     pub at : (w : World) → m.stands w old.value → AreLive w old.seats → AllDown old.seats → AllStopAt w before turns old new stopped
 
+  -- Turns of the nodes behind the last line were made up to an end, whoever's turn was the last one before.
+  abbrev pub AllStopWorking : Site S Y → Site S Y → TurnEnd → Type 0
+  AllStopWorking old new stopped = (last : ℕ) → AllStop (so_far [] last) old new stopped
+
   -- the lines were served, in their order, and each node reads on behind its last one
   pub record ServesLines (script : List UserLine) (old new : Site S Y) : Type 0 where
     pub last : ℕ
@@ -210,15 +204,15 @@ module _ {S Y : Type 0} (m : Meaning S) (y : symb.Meaning Y) where
   -- its devices took the blocks of its steps; and it waits, unless its turn was the last one.
   pub record IsNodeOf (extent : Extent) (w : World) (turns : List Turn) (node : ℕ) (lines : List UserLine) (was now : Side Y) : Type 0 where
     pub faults : ℕ
-    pub course : IsCourse HasSpelling read_built extent w turns node lines faults
+    pub course : IsCourse read_built extent w turns node lines faults
     pub rose : Rises y faults was.symbiont now.symbiont
     pub told : AreTold extent (visits_of node w turns) was.told now.told
     pub taken : AreTaken y course.steps course.broken was.symbiont now.symbiont
-    pub waits : WaitsUnlessLast HasSpelling read_built w turns node lines course.steps
+    pub waits : WaitsUnlessLast read_built w turns node lines course.steps
 
   -- The turns are a legal history, in the order of one thread, and each node's are so.
   pub record IsRun (extent : Extent) (w : World) (script : List UserLine) (names : List (List ℕ)) (turns : List Turn) (was now : List (Side Y)) : Type 0 where
-    pub legal : IsLegal HasSpelling w turns
+    pub legal : IsLegal w turns
     pub order : AreInOrder w (nothing_served (numbers_of script)) turns
     pub nodes :
         (node : ℕ) (name : List ℕ) (before after : Side Y) → slice_get names node ≡ Some name → slice_get was node ≡ Some before

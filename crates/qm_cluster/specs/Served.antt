@@ -2,14 +2,10 @@
 -- OpenVMS System Manager's Manual, Setting Up and Maintaining Queues, on symbionts; OpenVMS System Services Reference Manual,
 -- $GETTIM. This site's own: turns.
 use Rattle.std.specs.Prelude.{◌≡◌, ℕ, List, slice_get, Some}
-use Rattle.qm_record.specs.Spelling.{HasSpelling}
 use Rattle.qm_symb.specs.Device.{Meaning}
 use Rattle.qm_history.specs.declared.turn.Turn.{Turn}
 use Rattle.qm_history.specs.declared.world.World.{World}
-use Rattle.qm_history.specs.Course.{IsCourse}
-use Rattle.qm_history.specs.Ends.{HasPrinted, NodeText, extent_of}
-use Rattle.qm_history.specs.Script.{UserLine}
-use Rattle.qm_history.specs.Visits.{visits_of}
+use Rattle.qm_history.specs.Common.{IsCourse, HasPrinted, NodeText, extent_of, UserLine, visits_of}
 use Rattle.qm_node.specs.Asking.{read_built}
 use Rattle.qm_node.specs.Sides.{Side}
 use Rattle.qm_node.specs.Taken.{AreTaken, AreTold, Rises}
@@ -20,7 +16,7 @@ module _ {Y : Type 0} (y : Meaning Y) (w : World) (turns : List Turn) where
   -- devices took the blocks of its steps; and what it printed is their text; all as far as their end says.
   pub record HasServed (node : ℕ) (name : List ℕ) (lines : List UserLine) (left : NodeText) (was now : Side Y) : Type 0 where
     pub faults : ℕ
-    pub course : IsCourse HasSpelling read_built (extent_of left.end) w turns node lines faults
+    pub course : IsCourse read_built (extent_of left.end) w turns node lines faults
     pub rose : Rises y faults was.symbiont now.symbiont
     pub told : AreTold (extent_of left.end) (visits_of node w turns) was.told now.told
     pub taken : AreTaken y course.steps course.broken was.symbiont now.symbiont

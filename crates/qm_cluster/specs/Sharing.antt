@@ -1,16 +1,14 @@
 -- What a queue manager in a turnstile stands for.
-use Rattle.std.specs.Prelude.{◌≡◌, ◌<◌, ◌≤◌, ℕ, Bool, IsTrue, List, [], ◌∷◌, length, map}
+use Rattle.std.specs.Prelude.{◌≡◌, ◌<◌, ◌≤◌, ℕ, Bool, true, IsTrue, List, [], ◌∷◌, length, map}
 use Rattle.std.specs.List.{AllByRecursion}
-use Rattle.qm_record.specs.Spelling.{HasSpelling}
 use Rattle.qm_history.specs.declared.call.Answer.{Answer}
 use Rattle.qm_history.specs.declared.call.Answer.TheVariants as answer
 use Rattle.qm_history.specs.declared.call.Call.{Call}
 use Rattle.qm_history.specs.declared.turn.Turn.{Turn}
 use Rattle.qm_history.specs.declared.world.World.{World}
 use Rattle.qm_history.specs.Chest.{Note, is_unread, turns_kept, turns_noted}
-use Rattle.qm_history.specs.Legal.{IsLegal, after_turns}
+use Rattle.qm_history.specs.Common.{IsLegal, after_turns, IsSound, is_live, ShowsDuties}
 use Rattle.qm_history.specs.Serving.{IsAnswered, Meaning, Serves}
-use Rattle.qm_history.specs.ShownDuties.{ShowsDuties}
 use Rattle.qm_cluster.specs.declared.noted.Noted.{Noted}
 use Rattle.qm_cluster.specs.CallServing.{LeavesOne, turn_left}
 
@@ -26,7 +24,7 @@ turns_of notes = turns_noted (map note_view notes)
 -- may have begun; and it stands for its notes.
 pub record StandsFor {S : Type 0} (tells : Bool) (may_begin : World → Type 0) (kept : S → List Turn) (stands : S → List Note → Type 0) (manager : S) (notes : List Noted) : Type 0 where
   pub turns : kept manager ≡ turns_of notes
-  pub legal : IsTrue tells → (w : World) → may_begin w → IsLegal HasSpelling w (turns_of notes)
+  pub legal : IsTrue tells → (w : World) → may_begin w → IsLegal w (turns_of notes)
   pub itself : stands manager (map note_view notes)
 
 -- ---- with what it began
@@ -55,6 +53,19 @@ module _ {S : Type 0} (m : Meaning S) where
     pub nodes : m.nodes manager ≡ m.nodes first
     pub few : length (m.turns manager) ≤ turns_kept
     pub calls : AreAsked first notes manager
+
+  -- where the disks tell, each world in which it may have begun is sound, and this node is live there
+  abbrev pub NodeBeginsLive : List S → ℕ → Type 0
+  NodeBeginsLive began node = IsTrue m.tells → (w : World) → MayBegin began w → IsSound w × (is_live w node ≡ true)
+
+  -- and so are these first nodes
+  abbrev pub NodesBeginLive : List S → ℕ → Type 0
+  NodesBeginLive began nodes =
+      IsTrue m.tells → (w : World) → MayBegin began w → (node : ℕ) → node < nodes → IsSound w × (is_live w node ≡ true)
+
+  -- it stands for the notes of all calls since it began so
+  abbrev pub StandsSince : List S → S → List Noted → Type 0
+  StandsSince began manager notes = StandsFor m.tells (MayBegin began) m.turns (HasStood began) manager notes
 
 -- ---- what a call does
 

@@ -1,22 +1,18 @@
 -- What each node has done by its own thread, and knows then.
 -- OpenVMS System Manager's Manual, Setting Up and Maintaining Queues, on symbionts. This site's own: turns.
-use Rattle.std.specs.Prelude.{◌≡◌, ◌<◌, ◌≤◌, ℕ, Bool, true, IsTrue, List, [], length, slice_get, Some}
+use Rattle.std.specs.Prelude.{◌≡◌, ◌<◌, ◌≤◌, ℕ, Bool, IsTrue, List, [], length, map, slice_get, Some}
 use Rattle.atomic_table.specs.Seated.{TableId}
-use Rattle.qm_kinds.specs.declared.limits.TheConstants.{NODES_LIMIT}
-use Rattle.qm_record.specs.Spelling.{HasSpelling}
+use Rattle.qm_history.specs.Common.{NODES_LIMIT, NodeEnd, Ended, FileDamaged, UserLine, turns_kept}
 use Rattle.qm_symb.specs.Device.{Meaning}
 use Rattle.qm_history.specs.declared.world.World.{World}
-use Rattle.qm_history.specs.Ends.{NodeEnd, Ended, FileDamaged}
-use Rattle.qm_history.specs.Script.{UserLine}
 use Rattle.qm_history.specs.Serving.{Meaning as MeaningOf}
-use Rattle.qm_history.specs.World.{IsSound, is_live}
 use Rattle.qm_node.specs.Sides.{Side}
 use Rattle.qm_turn.specs.Turns.{Known, fresh}
 use Rattle.qm_cluster.specs.declared.noted.Noted.{Noted}
 use Rattle.qm_cluster.specs.Driving.{HasDriven, IsDriven, node_end}
 use Rattle.qm_cluster.specs.Passes.{AreOwn, turns_in}
-use Rattle.qm_cluster.specs.Sharing.{IsThere, MayBegin}
-use Rattle.qm_cluster.specs.declared.place.Seat.{Seat}
+use Rattle.qm_cluster.specs.Sharing.{IsThere, MayBegin, NodeBeginsLive}
+use Rattle.qm_cluster.specs.declared.place.TurnstileSeat.{TurnstileSeat}
 
 -- a node at the turnstile: what its pass knows, how its turns ended, and their text
 pub record AtTurnstile : Type 0 where
@@ -24,12 +20,24 @@ pub record AtTurnstile : Type 0 where
   pub end : NodeEnd
   pub text : List ℕ
 
-abbrev pub is_at : {S J : Type 0} → Seat S J → AtTurnstile
+abbrev pub is_at : {S J : Type 0} → TurnstileSeat S J → AtTurnstile
 is_at seat = record { known = seat.pass; end = node_end seat.end; text = seat.text.taken }
 
 -- before its first turn
 abbrev pub first_at : Known Noted → AtTurnstile
 first_at known = record { known = known; end = Ended; text = [] }
+
+-- nodes at a turnstile, in their order
+abbrev pub all_at : {S J : Type 0} → List (TurnstileSeat S J) → List AtTurnstile
+all_at seats = map is_at seats
+
+-- each is before its first turn
+abbrev pub AreNew : {S J : Type 0} → TableId → List (TurnstileSeat S J) → Type 0
+AreNew {S} {J} place seats = (node : ℕ) (seat : TurnstileSeat S J) → slice_get seats node ≡ Some seat → is_at seat ≡ first_at (fresh place node)
+
+-- so many nodes can be those of a cluster
+abbrev pub AreFew : ℕ → Type 0
+AreFew nodes = (1 ≤ nodes) × (nodes ≤ NODES_LIMIT)
 
 -- a node of this number, of so many with names and lines, can be driven in each world in which the manager may have begun
 pub record CanBeDriven {S : Type 0} (m : MeaningOf S) (began : List S) (names lines node : ℕ) : Type 0 where
@@ -37,7 +45,7 @@ pub record CanBeDriven {S : Type 0} (m : MeaningOf S) (began : List S) (names li
   pub named : node < names
   pub lined : node < lines
   pub there : IsThere m began node
-  pub sound : IsTrue m.tells → (w : World) → MayBegin m began w → IsSound HasSpelling w × (is_live w node ≡ true)
+  pub sound : NodeBeginsLive m began node
 
 module _ {Y : Type 0} (y : Meaning Y) (tells : Bool) (may_begin : World → Type 0) (most : ℕ) where
   -- The node of this number and name has made its turns for these lines: what its pass knows, and where the disks tell, what it has
@@ -58,3 +66,7 @@ module _ {Y : Type 0} (y : Meaning Y) (tells : Bool) (may_begin : World → Type
         → slice_get names node ≡ Some name → slice_get lines node ≡ Some own → slice_get left node ≡ Some at
         → slice_get was node ≡ Some before → slice_get now node ≡ Some after
         → IsThrough node name own (first_at (fresh place node)) at before after
+
+-- the same of the nodes of a manager that began so
+abbrev pub AllHaveDriven : {S Y : Type 0} → Meaning Y → MeaningOf S → List S → TableId → List (List ℕ) → List (List UserLine) → List AtTurnstile → List (Side Y) → List (Side Y) → Type 0
+AllHaveDriven y m began place names lines left was now = AllAreThrough y m.tells (MayBegin m began) turns_kept place names lines left was now

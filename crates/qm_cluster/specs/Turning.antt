@@ -3,28 +3,20 @@
 use Rattle.std.specs.Prelude.{◌≡◌, ◌≢◌, ◌+◌, ◌≤◌, ℕ, false, List, ◌++◌, length, Option, None}
 use Rattle.std.specs.List.{AllByRecursion}
 use Rattle.std.specs.Io.KnownBytes.{Appends}
-use Rattle.qm_model.specs.Kept.{KeptRun}
-use Rattle.qm_record.specs.Spelling.{HasSpelling}
+use Rattle.qm_history.specs.Common.{KeptRun, turns_kept, faults_told, after_turns, Reaches, text, Visit, visits, is_live}
 use Rattle.qm_symb.specs.Device as symb
 use Rattle.qm_history.specs.declared.turn.Turn.{Turn}
 use Rattle.qm_history.specs.declared.turn.Why.{Why}
 use Rattle.qm_history.specs.declared.turn.Why.TheVariants as why
 use Rattle.qm_history.specs.declared.world.World.{World}
-use Rattle.qm_history.specs.Chest.{turns_kept}
 use Rattle.qm_history.specs.Course.{Whole, Begun, GoesOn, MadeStep, Over, failed_steps}
-use Rattle.qm_history.specs.Faults.{faults_told}
-use Rattle.qm_history.specs.Legal.{after_turns}
 use Rattle.qm_history.specs.Order.{AreOver}
-use Rattle.qm_history.specs.Reaching.{Reaches}
-use Rattle.qm_history.specs.Text.{text}
-use Rattle.qm_history.specs.Visits.{Visit, visits}
-use Rattle.qm_history.specs.World.{is_live}
 use Rattle.qm_sjc.specs.Printed.{items_line}
 use Rattle.qm_node.specs.Asking.{read_built}
 use Rattle.qm_node.specs.Ends.{TakesFront}
 use Rattle.qm_history.specs.Serving.{Meaning, AreMade, LeavesNone}
 use Rattle.qm_node.specs.Standing.{IsBehind, Standing}
-use Rattle.qm_cluster.specs.Outside.{Outside}
+use Rattle.qm_node.specs.Outside.{Outside}
 use Rattle.qm_node.specs.Taken.{AreTaken, AreTold, Rises, RoseBy}
 use Rattle.qm_node.specs.declared.turn.TurnEnd.{TurnEnd}
 use Rattle.qm_node.specs.declared.turn.TurnEnd.TheVariants as end
@@ -84,7 +76,7 @@ module _ {S Y : Type 0} (m : Meaning S) (y : symb.Meaning Y) where
     pub steps : List MadeStep
     pub reaches :
         (earlier : List Visit) → IsBehind earlier here
-        → Reaches HasSpelling read_built here.state earlier here.live (visits w turns) steps there.state there.live
+        → Reaches read_built here.state earlier here.live (visits w turns) steps there.state there.live
     pub behind : (earlier : List Visit) → IsBehind earlier here → IsBehind (earlier ++ visits w turns) there
     pub live : there.live ≡ is_live (after_turns w turns) node
     pub others : (other : ℕ) → other ≢ node → is_live (after_turns w turns) other ≡ is_live w other
@@ -117,7 +109,7 @@ module _ {S Y : Type 0} (m : Meaning S) (y : symb.Meaning Y) where
     pub broken : Option KeptRun
     pub goes_on :
         (earlier : List Visit) → IsBehind earlier here
-        → GoesOn HasSpelling read_built Begun broken here.state earlier here.live (visits w turns) steps
+        → GoesOn read_built Begun broken here.state earlier here.live (visits w turns) steps
     pub printed : TakesUpTo end old.taken new.taken (text items_line w turns)
     pub told : AreTold Begun (visits w turns) old.told new.told
     pub faults : ℕ

@@ -1,11 +1,10 @@
 // How serving ended, by how the turns of each node did.
-ghost use Rattle.std.specs.Prelude.{◌≡◌, map};
+ghost use Rattle.std.specs.Prelude.{◌≡◌};
 ghost use Rattle.qm_cluster.specs.Driving.{node_end};
-ghost use Rattle.qm_history.specs.Ends.{end_of_node, texts_printed, worse};
+ghost use Rattle.qm_history.specs.Ends.{end_of_node, worse};
 ghost use Rattle.qm_cluster.specs.Ends.{serving_end};
-ghost use Rattle.qm_cluster.specs.ClusterEnding.{IsToldBy, lacks_text, worst_of};
-ghost use Rattle.qm_cluster.specs.Gathered.{text_left};
-ghost use Rattle.qm_cluster.specs.Printing.{turns_line};
+ghost use Rattle.qm_cluster.specs.ClusterEnding.{TellsTexts, lacks_text, worst_of};
+ghost use Rattle.qm_cluster.specs.Gathered.{all_left};
 
 use crate::ends::{ServeEnd, end_of_turns};
 use crate::join::LeftText;
@@ -47,7 +46,7 @@ fn worse(one: ServeEnd, other: ServeEnd) -> ServeEnd
 
 // The end that counts of those of the nodes' turns.
 fn worst_end(texts: &[LeftText]) -> ServeEnd
-    ensures { serving_end result ≡ worst_of (map text_left texts.now) }
+    ensures { serving_end result ≡ worst_of (all_left texts.now) }
 {
     match texts {
         [] => ServeEnd::Served,
@@ -73,8 +72,8 @@ pub fn print_texts<O: Sink>(
     texts: &[LeftText],
     turns: &[Turn],
 ) -> ServeEnd
-    ensures { IsToldBy (worst_of (map text_left texts.now)) (O.taken sink.old) (O.taken sink.new) (O.faults sink.old) (O.faults sink.new)
-        (texts_printed (turns_line names.now turns.now) (map text_left texts.now)) turns.now (serving_end result) }
+    ensures { TellsTexts names.now (all_left texts.now) turns.now (O.taken sink.old) (O.taken sink.new)
+        (O.faults sink.old) (O.faults sink.new) (serving_end result) }
 {
     let worst = worst_end(texts);
     if lacks_text(&worst) {

@@ -1,28 +1,22 @@
 // The nodes at their turns, each by a thread of its own.
-ghost use Rattle.std.specs.Prelude.{◌≡◌, ◌<◌, ◌≤◌, ℕ, length, map, slice_get, true, IsTrue, Some};
-ghost use Rattle.qm_record.specs.Spelling.{HasSpelling};
-ghost use Rattle.qm_history.specs.declared.world.World.{World};
-ghost use Rattle.qm_history.specs.Chest.{turns_kept};
-ghost use Rattle.qm_history.specs.World.{IsSound, is_live};
+ghost use Rattle.std.specs.Prelude.{◌≡◌, ◌<◌, ◌≤◌, ℕ, length};
 ghost use Rattle.qm_kinds.specs.declared.limits.TheConstants.{NODES_LIMIT};
 ghost use Rattle.qm_cluster.specs.Fresh.{own_view};
-ghost use Rattle.qm_node.specs.Sides.{side_of};
-ghost use Rattle.qm_cluster.specs.Sharing.{IsThere, MayBegin};
-ghost use Rattle.qm_turn.specs.Turns.{fresh};
-ghost use Rattle.qm_cluster.specs.Through.{AllAreThrough, first_at, is_at};
+ghost use Rattle.qm_node.specs.Sides.{sides_of};
+ghost use Rattle.qm_cluster.specs.Sharing.{IsThere, NodesBeginLive};
+ghost use Rattle.qm_cluster.specs.Through.{AllHaveDriven, AreNew, all_at};
 
 use crate::begins::Begins;
 use crate::node_course::drive;
-use crate::place::Seat;
+use crate::place::TurnstileSeat;
 use crate::shared::Shared;
 use qm_disk::Clock;
 use qm_history::Serve;
 use qm_kinds::Name;
 use qm_node::{OpenGate, Station};
-use qm_pairs::{Work, work_on_each};
 use qm_script::UserLine;
 use qm_symb::Symbiont;
-use qm_turn::Turnstile;
+use qm_turn::{Turnstile, Work, work_on_each};
 use std::alloc::Global;
 use std::marker::{Send, Sync};
 use std::sync::Wait;
@@ -45,19 +39,16 @@ impl<
     J: Begins<S> + Send + Sync,
     C: Clock + Send,
     Y: Symbiont + Send,
-> Work<Seat<S, J>, Station<C, Y>> for Driver<'a, R, S, J>
+> Work<TurnstileSeat<S, J>, Station<C, Y>> for Driver<'a, R, S, J>
 where
     Y::Cursor: Send,
 {
-    ghost use Rattle.std.specs.Prelude.{◌≡◌, ◌<◌, ◌≤◌, [], length, ℕ, List, slice_get, true, IsTrue, Some};
-    ghost use Rattle.qm_record.specs.Spelling.{HasSpelling};
+    ghost use Rattle.std.specs.Prelude.{◌≡◌, [], length, ℕ, List, slice_get, Some};
     ghost use Rattle.qm_history.specs.Chest.{turns_kept};
     ghost use Rattle.qm_history.specs.Script.{UserLine as AnyLine};
-    ghost use Rattle.qm_history.specs.World.{IsSound, is_live};
-    ghost use Rattle.qm_kinds.specs.declared.limits.TheConstants.{NODES_LIMIT};
     ghost use Rattle.qm_cluster.specs.Fresh.{own_view};
     ghost use Rattle.qm_node.specs.Sides.{side_of};
-    ghost use Rattle.qm_cluster.specs.Sharing.{IsThere, MayBegin};
+    ghost use Rattle.qm_cluster.specs.Sharing.{MayBegin};
     ghost use Rattle.qm_turn.specs.Turns.{fresh};
     ghost use Rattle.qm_cluster.specs.Through.{CanBeDriven, IsThrough, is_at};
 
@@ -69,7 +60,7 @@ where
         (name : List ℕ) (own : List AnyLine) → slice_get driver.names.now node ≡ Some name → slice_get (own_view driver.lines.now) node ≡ Some own
         → IsThrough Y.meaning S.meaning.tells (MayBegin S.meaning J.began) turns_kept node name own (is_at seat) (is_at seat') (side_of C.told station) (side_of C.told station') };
 
-    fn work(&self, node: usize, seat: &mut Seat<S, J>, station: &mut Station<C, Y>) {
+    fn work(&self, node: usize, seat: &mut TurnstileSeat<S, J>, station: &mut Station<C, Y>) {
         seat.end = drive(
             self.rt,
             self.alloc,
@@ -100,7 +91,7 @@ pub(crate) fn drive_all<
     turnstile: &'a Turnstile<Shared<S, J>>,
     names: &'a [Name],
     lines: &'a [Vec<UserLine<'a>>],
-    seats: &mut [Seat<S, J>],
+    seats: &mut [TurnstileSeat<S, J>],
     stations: &mut [Station<C, Y>],
 )
 where
@@ -109,11 +100,11 @@ where
     requires lines { length lines.now ≡ length names.now }
     requires seats { length seats.old ≡ length names.now }
     requires stations { length stations.old ≡ length names.now }
-    requires new { (node : ℕ) (seat : Seat S J) → slice_get seats.old node ≡ Some seat → is_at seat ≡ first_at (fresh turnstile.now.place node) }
+    requires new { AreNew turnstile.now.place seats.old }
     requires there { (node : ℕ) → node < length names.now → IsThere S.meaning J.began node }
-    requires sound { IsTrue S.meaning.tells → (w : World) → MayBegin S.meaning J.began w → (node : ℕ) → node < length names.now → IsSound HasSpelling w × (is_live w node ≡ true) }
-    ensures { AllAreThrough Y.meaning S.meaning.tells (MayBegin S.meaning J.began) turns_kept turnstile.now.place names.now (own_view lines.now) (map is_at seats.new)
-        (map (side_of C.told) stations.old) (map (side_of C.told) stations.new) }
+    requires sound { NodesBeginLive S.meaning J.began (length names.now) }
+    ensures { AllHaveDriven Y.meaning S.meaning J.began turnstile.now.place names.now (own_view lines.now)
+        (all_at seats.new) (sides_of C.told stations.old) (sides_of C.told stations.new) }
 {
     let driver = Driver {
         rt,

@@ -29,7 +29,8 @@ fn lines_of<'a>(
     name: &Name,
     lines: &[UserLine<'a>],
 ) -> Result<Vec<UserLine<'a>>, AllocError>
-    ensures { IfOk result (λ own. user_lines_view own.items ≡ lines_of name.now (user_lines_view lines.now)) }
+    ensures { IfOk result (λ own.
+        user_lines_view own.items ≡ lines_of name.now (user_lines_view lines.now)) }
 {
     let mut own = Vec::new(alloc);
     'lines: for line in lines {
@@ -49,7 +50,8 @@ pub fn own_lines<'a>(
     names: &[Name],
     lines: &[UserLine<'a>],
 ) -> Result<Vec<Vec<UserLine<'a>>>, AllocError>
-    ensures { IfOk result (λ own. own_view own.items ≡ each_lines (user_lines_view lines.now) names.now) }
+    ensures { IfOk result (λ own.
+        own_view own.items ≡ each_lines (user_lines_view lines.now) names.now) }
 {
     let mut own = Vec::new(alloc);
     'names: for name in names {
@@ -65,7 +67,8 @@ pub fn seats_of<'a, Y: Symbiont>(
     own: &'a [Vec<UserLine<'a>>],
 ) -> Result<Vec<Seat<'a, Y>>, AllocError>
     requires each { length own.now ≡ length names.now }
-    ensures { (script : List AnyLine) → own_view own.now ≡ each_lines script names.now → IfOk result (λ seats. AreSeated script names.now seats.items) }
+    ensures { (script : List AnyLine) → own_view own.now ≡ each_lines script names.now
+        → IfOk result (λ seats. AreSeated script names.now seats.items) }
 {
     let mut seats = Vec::new(alloc);
     'places: for place in 0..names.len() {

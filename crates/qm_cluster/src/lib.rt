@@ -19,12 +19,12 @@ mod laws;
 mod node;
 mod node_course;
 mod noted;
+mod part;
 mod pass_laws;
 mod place;
 mod print;
 mod script;
 mod shared;
-mod turn;
 mod turns;
 mod waiting;
 

@@ -1,20 +1,18 @@
 // A node's whole course, by its own thread.
-ghost use Rattle.std.specs.Prelude.{◌≡◌, ◌≤◌, true, [], IfErr, IsTrue};
-ghost use Rattle.qm_record.specs.Spelling.{HasSpelling};
+ghost use Rattle.std.specs.Prelude.{◌≡◌, ◌≤◌, [], IfErr, IsTrue};
 ghost use Rattle.qm_history.specs.declared.world.World.{World};
 ghost use Rattle.qm_history.specs.Chest.{turns_kept};
-ghost use Rattle.qm_history.specs.World.{IsSound, is_live};
 ghost use Rattle.qm_node.specs.Ends.{IsUndamaged};
 ghost use Rattle.qm_script.specs.ClusterLines.{user_lines_view};
 ghost use Rattle.qm_cluster.specs.Driving.{HasDriven, IsDriven, node_end};
 ghost use Rattle.qm_cluster.specs.Passes.{AreOwn, turns_in};
-ghost use Rattle.qm_cluster.specs.Sharing.{IsThere, MayBegin};
+ghost use Rattle.qm_cluster.specs.Sharing.{IsThere, MayBegin, NodeBeginsLive};
 
 use crate::begins::Begins;
 use crate::shared::Shared;
 use crate::waiting::Waiting;
 use qm_disk::{Clock, MemorySink};
-use qm_history::{QueueFile, Serve, worlds_stay_sound};
+use qm_history::{Serve, worlds_stay_sound};
 use qm_kinds::Name;
 use qm_node::{Gate, Seat, Station, TurnEnd, make_turn};
 use qm_script::UserLine;
@@ -52,15 +50,17 @@ pub fn drive<'a, S: Serve, J: Begins<S>, R: Wait, C: Clock, Y: Symbiont, G: Gate
     requires number { pass.old.number ≡ node }
     requires new { (pass.old.seen ≡ []) × (pass.old.mine ≡ []) }
     requires there { IsThere S.meaning J.began node }
-    requires sound { IsTrue S.meaning.tells → (w : World) → MayBegin S.meaning J.began w → IsSound HasSpelling w × (is_live w node ≡ true) }
+    requires sound { NodeBeginsLive S.meaning J.began node }
 
-    ensures knows { HasDriven turns_kept node (node_end result) pass.old pass.new (C.told station.old.clock) (C.told station.new.clock) }
-    ensures drives { IsTrue S.meaning.tells → (w : World) → MayBegin S.meaning J.began w → AreOwn node pass.new.seen →
-        IsDriven Y.meaning w node name.now (user_lines_view lines.now) (node_end result) (turns_in pass.new.seen)
-        station.old.symbiont station.new.symbiont text.old.taken text.new.taken }
+    ensures knows { HasDriven turns_kept node (node_end result) pass.old pass.new
+        (C.told station.old.clock) (C.told station.new.clock) }
+    ensures drives { IsTrue S.meaning.tells → (w : World) → MayBegin S.meaning J.began w
+        → AreOwn node pass.new.seen
+        → IsDriven Y.meaning w node name.now (user_lines_view lines.now) (node_end result)
+        (turns_in pass.new.seen) station.old.symbiont station.new.symbiont text.old.taken text.new.taken }
     ensures undamaged { IsTrue S.meaning.tells → IfErr result IsUndamaged }
 {
-    worlds_stay_sound::<QueueFile>();
+    worlds_stay_sound();
     let mut seat = Seat::new(alloc, *name, lines);
     let mut waiting = Waiting {
         rt,

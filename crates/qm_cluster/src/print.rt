@@ -44,7 +44,8 @@ fn name_of<'a>(names: &'a [Name], turn: &Turn) -> &'a [u8]
 // Appends it, behind a blank.
 fn push_name(piece: &mut ArrayVec<u8, PIECE_BYTES>, names: &[Name], turn: &Turn)
     requires room { array_vec_len piece.old + 40 ≤ PIECE_BYTES }
-    ensures name { piece.new.items ≡ piece.old.items ++ (codes " " ++ name_at names.now turn.now.node) }
+    ensures name { piece.new.items
+        ≡ piece.old.items ++ (codes " " ++ name_at names.now turn.now.node) }
     ensures few { array_vec_len piece.new ≤ array_vec_len piece.old + 40 }
 {
     piece.push(b' ');
@@ -65,7 +66,8 @@ fn piece_of(names: &[Name], turns: &[Turn]) -> ArrayVec<u8, PIECE_BYTES>
 
 // Writes them, many turns at once: a history may have a million.
 fn print_turns<O: Sink>(sink: &mut O, names: &[Name], turns: &[Turn]) -> Result<(), Failed>
-    ensures { Writes result (O.taken sink.old) (O.taken sink.new) (O.faults sink.old) (O.faults sink.new) (words_of names.now turns.now) }
+    ensures { Writes result (O.taken sink.old) (O.taken sink.new)
+        (O.faults sink.old) (O.faults sink.new) (words_of names.now turns.now) }
 {
     let mut rest = turns;
     'pieces: while !rest.is_empty() {
@@ -78,7 +80,8 @@ fn print_turns<O: Sink>(sink: &mut O, names: &[Name], turns: &[Turn]) -> Result<
 
 // Writes the last line.
 fn print_last<O: Sink>(sink: &mut O, names: &[Name], turns: &[Turn]) -> Result<(), Failed>
-    ensures { Writes result (O.taken sink.old) (O.taken sink.new) (O.faults sink.old) (O.faults sink.new) (turns_line names.now turns.now) }
+    ensures { Writes result (O.taken sink.old) (O.taken sink.new)
+        (O.faults sink.old) (O.faults sink.new) (turns_line names.now turns.now) }
 {
     write_whole(sink, b"turns:")?;
     print_turns(sink, names, turns)?;
@@ -93,7 +96,8 @@ pub fn print_all<O: Sink>(
     texts: &[LeftText],
     turns: &[Turn],
 ) -> Result<(), Failed>
-    ensures { Writes result (O.taken sink.old) (O.taken sink.new) (O.faults sink.old) (O.faults sink.new)
+    ensures { Writes result (O.taken sink.old) (O.taken sink.new)
+        (O.faults sink.old) (O.faults sink.new)
         (texts_printed (turns_line names.now turns.now) (map text_left texts.now)) }
 {
     match texts {

@@ -3,15 +3,15 @@ ghost use Rattle.std.specs.Prelude.{◌≡◌, ◌<◌, ◌≤◌, ℕ, [], Some
 ghost use Rattle.qm_history.specs.Chest.{turns_kept};
 ghost use Rattle.qm_script.specs.ClusterLines.{user_lines_view};
 ghost use Rattle.qm_node.specs.Ends.{IsUndamaged, TellsWrite};
-ghost use Rattle.qm_cluster.specs.Runs.{AllStop, AreFresh, AreOfNodes, AreReading, IsCluster, RunsNodes, ServesLines, Serving};
-ghost use Rattle.qm_cluster.specs.Runs.{Stopping, names_of, numbers_of, site_of, so_far};
+ghost use Rattle.qm_cluster.specs.Runs.{AllStop, AllStopWorking, AreFresh, AreOfNodes, AreReading, IsCluster, RunsNodes, ServesLines, Serving, Stopping, names_of, numbers_of, site_of, so_far};
 
 use crate::directly::Directly;
-use crate::node::{serve_line, work_on};
+use crate::node::{serve_part, work_on};
+use crate::part::Part;
 use qm_disk::{Clock, Sink};
 use qm_history::Serve;
 use qm_kinds::Name;
-use qm_node::{Seat, Station, TurnEnd};
+use qm_node::{Next, Seat, Station, TurnEnd};
 use qm_script::UserLine;
 use qm_symb::Symbiont;
 use std::alloc::Global;
@@ -45,19 +45,23 @@ pub(crate) fn serve_lines<'a, S: Serve, O: Sink, C: Clock, Y: Symbiont>(
     requires of_nodes { AreOfNodes seats.old (user_lines_view lines.now) }
     requires reading { AreReading (user_lines_view lines.now) seats.old }
     ensures serves { OnOk result (ServesLines S.meaning Y.meaning (user_lines_view lines.now)
-        (site_of C.told manager.old (O.taken sink.old) seats.old stations.old) (site_of C.told manager.new (O.taken sink.new) seats.new stations.new)) }
-    ensures stops { IfErr result (λ end. AllStop S.meaning Y.meaning (so_far (numbers_of (user_lines_view lines.now)) 0)
-        (site_of C.told manager.old (O.taken sink.old) seats.old stations.old) (site_of C.told manager.new (O.taken sink.new) seats.new stations.new) end) }
+        (site_of C.told manager.old (O.taken sink.old) seats.old stations.old)
+        (site_of C.told manager.new (O.taken sink.new) seats.new stations.new)) }
+    ensures stops { IfErr result (AllStop S.meaning Y.meaning
+        (so_far (numbers_of (user_lines_view lines.now)) 0)
+        (site_of C.told manager.old (O.taken sink.old) seats.old stations.old)
+        (site_of C.told manager.new (O.taken sink.new) seats.new stations.new)) }
     ensures sink { TellsWrite (O.faults sink.old) (O.faults sink.new) result }
     ensures undamaged { IsTrue S.meaning.tells → IfErr result IsUndamaged }
 {
     'lines: for line in lines {
         let place = place_of(seats, &line.node);
-        match serve_line(
+        match serve_part(
             alloc,
             manager,
             place as u8,
-            line,
+            Part::Steps,
+            &Next::Line(line),
             &mut seats[place],
             &mut stations[place],
             sink,
@@ -82,9 +86,11 @@ pub(crate) fn run_nodes<S: Serve, O: Sink, C: Clock, Y: Symbiont>(
     requires serves { S.meaning.serves manager.old }
     requires reading { AreReading [] seats.old }
     ensures runs { OnOk result (RunsNodes S.meaning Y.meaning
-        (site_of C.told manager.old (O.taken sink.old) seats.old stations.old) (site_of C.told manager.new (O.taken sink.new) seats.new stations.new)) }
-    ensures stops { IfErr result (λ end. (last : ℕ) → AllStop S.meaning Y.meaning (so_far [] last)
-        (site_of C.told manager.old (O.taken sink.old) seats.old stations.old) (site_of C.told manager.new (O.taken sink.new) seats.new stations.new) end) }
+        (site_of C.told manager.old (O.taken sink.old) seats.old stations.old)
+        (site_of C.told manager.new (O.taken sink.new) seats.new stations.new)) }
+    ensures stops { IfErr result (AllStopWorking S.meaning Y.meaning
+        (site_of C.told manager.old (O.taken sink.old) seats.old stations.old)
+        (site_of C.told manager.new (O.taken sink.new) seats.new stations.new)) }
     ensures sink { TellsWrite (O.faults sink.old) (O.faults sink.new) result }
     ensures undamaged { IsTrue S.meaning.tells → IfErr result IsUndamaged }
 {
@@ -125,9 +131,11 @@ pub fn serve_script<'a, S: Serve, O: Sink, C: Clock, Y: Symbiont>(
     requires of_nodes { AreOfNodes seats.old (user_lines_view lines.now) }
     requires fresh { AreFresh (user_lines_view lines.now) seats.old }
     ensures serves { OnOk result (Serving S.meaning Y.meaning (user_lines_view lines.now)
-        (site_of C.told manager.old (O.taken sink.old) seats.old stations.old) (site_of C.told manager.new (O.taken sink.new) seats.new stations.new)) }
-    ensures stops { IfErr result (λ end. Stopping S.meaning Y.meaning (user_lines_view lines.now)
-        (site_of C.told manager.old (O.taken sink.old) seats.old stations.old) (site_of C.told manager.new (O.taken sink.new) seats.new stations.new) end) }
+        (site_of C.told manager.old (O.taken sink.old) seats.old stations.old)
+        (site_of C.told manager.new (O.taken sink.new) seats.new stations.new)) }
+    ensures stops { IfErr result (Stopping S.meaning Y.meaning (user_lines_view lines.now)
+        (site_of C.told manager.old (O.taken sink.old) seats.old stations.old)
+        (site_of C.told manager.new (O.taken sink.new) seats.new stations.new)) }
     ensures sink { TellsWrite (O.faults sink.old) (O.faults sink.new) result }
     ensures undamaged { IsTrue S.meaning.tells → IfErr result IsUndamaged }
 {

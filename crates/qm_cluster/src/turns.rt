@@ -1,23 +1,17 @@
 // The turns of all nodes, from a queue manager that has served none to what is left.
-ghost use Rattle.std.specs.Prelude.{◌≡◌, ◌∷◌, ◌<◌, ◌≤◌, [], ℕ, length, map, true, IfErr, IfOk, IsTrue, vec_capacity};
-ghost use Rattle.std.specs.List.{range_with_len};
-ghost use Rattle.qm_record.specs.Spelling.{HasSpelling};
-ghost use Rattle.qm_history.specs.declared.world.World.{World};
-ghost use Rattle.qm_history.specs.Chest.{turns_kept};
-ghost use Rattle.qm_history.specs.World.{IsSound, is_live};
-ghost use Rattle.qm_kinds.specs.declared.limits.TheConstants.{NODES_LIMIT};
+ghost use Rattle.std.specs.Prelude.{◌≡◌, ◌∷◌, ◌<◌, ◌≤◌, [], ℕ, length, map, IfErr, IfOk, vec_capacity};
 ghost use Rattle.qm_cluster.specs.Fresh.{own_view};
-ghost use Rattle.qm_node.specs.Sides.{side_of};
-ghost use Rattle.qm_cluster.specs.Sharing.{HasStood, IsThere, MayBegin, StandsFor};
-ghost use Rattle.qm_cluster.specs.Gathered.{text_left};
-ghost use Rattle.qm_cluster.specs.AllTurns.{HaveMadeTurns};
-ghost use Rattle.qm_cluster.specs.Through.{first_at, is_at};
-ghost use Rattle.qm_turn.specs.Turns.{fresh};
+ghost use Rattle.qm_node.specs.Sides.{sides_of};
+ghost use Rattle.qm_cluster.specs.Sharing.{IsThere, NodesBeginLive};
+ghost use Rattle.qm_cluster.specs.Gathered.{all_left};
+ghost use Rattle.qm_cluster.specs.AllTurns.{HaveTurned};
+ghost use Rattle.qm_cluster.specs.Through.{AreFew, all_at, first_at};
+ghost use Rattle.qm_turn.specs.Turns.{all_fresh};
 
 use crate::begins::Begins;
 use crate::driver::drive_all;
 use crate::join::{LeftText, join_all};
-use crate::place::{Seat, seats_of};
+use crate::place::{TurnstileSeat, seats_of};
 use crate::shared::Shared;
 use qm_disk::Clock;
 use qm_history::Serve;
@@ -60,18 +54,17 @@ pub fn make_turns<
 ) -> Result<MadeTurns<S>, S>
 where
     Y::Cursor: Send,
-    requires some { 1 ≤ length names.now }
-    requires few { length names.now ≤ NODES_LIMIT }
+    requires few { AreFew (length names.now) }
     requires lines { length lines.now ≡ length names.now }
     requires stations { length stations.old ≡ length names.now }
     requires began { J.began ≡ manager ∷ [] }
     requires serves { S.meaning.serves manager }
     requires new { S.meaning.turns manager ≡ [] }
     requires nodes { length names.now ≡ length (S.meaning.nodes manager) }
-    requires sound { IsTrue S.meaning.tells → (w : World) → MayBegin S.meaning J.began w → (node : ℕ) → node < length names.now → IsSound HasSpelling w × (is_live w node ≡ true) }
-    ensures made { IfOk result (λ made. HaveMadeTurns Y.meaning S.meaning.tells (MayBegin S.meaning J.began) turns_kept
-        (StandsFor S.meaning.tells (MayBegin S.meaning J.began) S.meaning.turns (HasStood S.meaning J.began)) names.now (own_view lines.now)
-        made.manager (map text_left made.texts.items) (map (side_of C.told) stations.old) (map (side_of C.told) stations.new)) }
+    requires sound { NodesBeginLive S.meaning J.began (length names.now) }
+    ensures made { IfOk result (λ made.
+        HaveTurned Y.meaning S.meaning J.began names.now (own_view lines.now) made.manager
+        (all_left made.texts.items) (sides_of C.told stations.old) (sides_of C.told stations.new)) }
     ensures none { IfErr result (λ back. (back ≡ manager) × (stations.new ≡ stations.old)) }
 {
     let Ok(seats) = Vec::with_capacity(alloc, names.len()) else {
@@ -105,7 +98,7 @@ fn end_turns<
     rt: &'a R,
     alloc: Global,
     turnstile: Turnstile<Shared<S, J>>,
-    mut seats: Vec<Seat<S, J>>,
+    mut seats: Vec<TurnstileSeat<S, J>>,
     texts: Vec<LeftText>,
     names: &'a [Name],
     lines: &'a [Vec<UserLine<'a>>],
@@ -113,19 +106,17 @@ fn end_turns<
 ) -> MadeTurns<S>
 where
     Y::Cursor: Send,
-    requires some { 1 ≤ length names.now }
-    requires few { length names.now ≤ NODES_LIMIT }
+    requires few { AreFew (length names.now) }
     requires lines { length lines.now ≡ length names.now }
     requires stations { length stations.old ≡ length names.now }
     requires passes { turnstile.passes ≡ length names.now }
-    requires seats { map is_at seats.items ≡ map first_at (map (fresh turnstile.place) (range_with_len 0 (length names.now))) }
+    requires seats { all_at seats.items ≡ map first_at (all_fresh turnstile.place (length names.now)) }
     requires none { texts.items ≡ [] }
     requires room { length names.now ≤ vec_capacity texts }
     requires there { (node : ℕ) → node < length names.now → IsThere S.meaning J.began node }
-    requires sound { IsTrue S.meaning.tells → (w : World) → MayBegin S.meaning J.began w → (node : ℕ) → node < length names.now → IsSound HasSpelling w × (is_live w node ≡ true) }
-    ensures { HaveMadeTurns Y.meaning S.meaning.tells (MayBegin S.meaning J.began) turns_kept
-        (StandsFor S.meaning.tells (MayBegin S.meaning J.began) S.meaning.turns (HasStood S.meaning J.began)) names.now (own_view lines.now)
-        result.manager (map text_left result.texts.items) (map (side_of C.told) stations.old) (map (side_of C.told) stations.new) }
+    requires sound { NodesBeginLive S.meaning J.began (length names.now) }
+    ensures { HaveTurned Y.meaning S.meaning J.began names.now (own_view lines.now) result.manager
+        (all_left result.texts.items) (sides_of C.told stations.old) (sides_of C.told stations.new) }
 {
     drive_all(rt, alloc, &turnstile, names, lines, &mut seats, stations);
     let (shared, texts) = join_all(turnstile, seats, texts);

@@ -19,8 +19,7 @@ struct Asking<S: Serve, J: Begins<S>> {
 }
 
 impl<S: Serve, J: Begins<S>> Model for Asking<S, J> {
-    ghost use Rattle.qm_history.specs.Askable.{IsAskable};
-    ghost use Rattle.qm_history.specs.Calls.{input_of};
+    ghost use Rattle.qm_history.specs.Common.{IsAskable, input_of};
     ghost use Rattle.qm_cluster.specs.Sharing.{CallOfNode, IsThere};
 
     ghost Value = { CallOfNode };

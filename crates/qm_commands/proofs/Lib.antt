@@ -1,3 +1,5 @@
 pub mod SpellingLemmas
 pub mod RuleLemmas
 pub mod NameLemmas
+pub mod TokenFollowing
+pub mod TokenOrder

@@ -1,13 +1,11 @@
 -- Which names are accepted.
-use Rattle.std.proofs.Common.{◌≡◌, ◌⊎◌, inl, inr, ◌↔◌, zero, suc, ℕ, Bool, true, false, cond, ◌&&◌, ◌||◌, ◌==◌, not, nat_le, List, [], ◌∷◌, length, map, take, take_all, find, Option, Some, refl, sym, ap, subst, ◌∙◌, arith}
-use Rattle.std.specs.Prelude.{Contains, option_map}
+use Rattle.std.proofs.Common.{◌≡◌, ◌⊎◌, inl, inr, ◌↔◌, zero, suc, ℕ, Bool, true, false, cond, ◌&&◌, ◌||◌, ◌==◌, not, nat_le, List, [], ◌∷◌, length, map, take, take_all, find, Option, Some, refl, sym, ap, subst, ◌∙◌, arith, Contains, option_map, bytes_eq}
 use Rattle.std.specs.List.{list_all}
 use Rattle.std.specs.Char.{to_ascii_uppercase}
-use Rattle.std.specs.Str.{bytes_eq}
 use Rattle.std.proofs.lemmas.Bool.Decides.{nat_tests}
 use Rattle.std.proofs.lemmas.Slice.Eq.{bytes_eq-Decides}
 use Rattle.std.proofs.lemmas.List.{length-map}
-use Rattle.qm_lex.specs.declared.token.Token.{Token}
+use Rattle.qm_commands.specs.declared.tokens.token.Token.{Token}
 use Rattle.qm_commands.specs.declared.rules.Takes.{Takes}
 use Rattle.qm_commands.specs.declared.table.Row.{Row}
 use Rattle.qm_commands.specs.declared.table.Verb.{Verb}

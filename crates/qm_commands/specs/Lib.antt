@@ -5,3 +5,5 @@ pub mod Rules
 pub mod Names
 pub mod Naming
 pub mod Faults
+pub mod TokenBytes
+pub mod Tokens

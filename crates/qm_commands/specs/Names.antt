@@ -1,10 +1,9 @@
 -- Names of verbs, options and qualifiers, whole or cut short.
 -- OpenVMS User's Manual, on entering commands: a name may be cut to a beginning that no other one has, and one that is spelled
 -- whole is that name.
-use Rattle.std.specs.Prelude.{ℕ, Bool, true, ◌&&◌, ◌||◌, not, find, List, [], ◌∷◌, ◌++◌, Option, None, Some}
+use Rattle.std.specs.Prelude.{ℕ, Bool, true, ◌&&◌, ◌||◌, not, find, List, [], ◌∷◌, ◌++◌, Option, None, Some, bytes_eq}
 use Rattle.std.specs.List.{list_all, list_any}
-use Rattle.std.specs.Str.{bytes_eq}
-use Rattle.qm_lex.specs.declared.token.Token.{Token}
+use Rattle.qm_commands.specs.declared.tokens.token.Token.{Token}
 use Rattle.qm_commands.specs.declared.table.Verb.{Verb}
 use Rattle.qm_commands.specs.declared.table.Row.{Row}
 use Rattle.qm_commands.specs.declared.rules.Takes.{Takes}
@@ -17,6 +16,14 @@ use Rattle.qm_commands.specs.Rules.{rules_of}
 -- a name that stands beside this one leaves it to a token: the token doesn't begin that name, or the two are one
 abbrev pub is_no_rival : List ℕ → Token → List ℕ → List ℕ → Bool
 is_no_rival text token name other = not (begins text other token) || bytes_eq other name
+
+-- no other name of these leaves a name in doubt
+abbrev pub are_no_rivals : List ℕ → Token → List ℕ → List (Word × Takes) → Bool
+are_no_rivals text token name rules = list_all (λ rule. is_no_rival text token name (spelling rule.0)) rules
+
+-- one of these names begins with a token
+abbrev pub begins_one : List ℕ → Token → List (Word × Takes) → Bool
+begins_one text token rules = list_any (λ rule. begins text (spelling rule.0) token) rules
 
 -- a token means the name that it spells whole, and the name that it begins where no other leaves it in doubt
 abbrev pub means : List ℕ → Token → List ℕ → Bool → Bool
@@ -60,7 +67,7 @@ rules_for verb None = rules_among (rows_of verb)
 rules_for verb (Some row) = rules_of row.command
 
 abbrev pub is_alone : List ℕ → Verb → Option Row → Token → List ℕ → Bool
-is_alone text verb row token name = list_all (λ rule. is_no_rival text token name (spelling rule.0)) (rules_for verb row)
+is_alone text verb row token name = are_no_rivals text token name (rules_for verb row)
 
 -- a token is the option or the qualifier, among those names
 abbrev pub is_name : List ℕ → Verb → Option Row → Token → Word → Bool
@@ -68,7 +75,7 @@ is_name text verb row token word = means text token (spelling word) (is_alone te
 
 -- some of those names begins with a token
 abbrev pub begins_name : List ℕ → Verb → Option Row → Token → Bool
-begins_name text verb row token = list_any (λ rule. begins text (spelling rule.0) token) (rules_for verb row)
+begins_name text verb row token = begins_one text token (rules_for verb row)
 
 -- the option or the qualifier that a token is; the first row of the verb says what value it takes, where no command is named
 abbrev pub rule_for : List ℕ → Verb → Option Row → Token → Option (Word × Takes)

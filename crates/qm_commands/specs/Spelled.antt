@@ -1,11 +1,10 @@
 -- What tokens say.
 -- OpenVMS User's Manual, on entering commands: what isn't quoted is raised to upper case.
-use Rattle.std.specs.Prelude.{ℕ, Bool, true, false, ◌&&◌, if◌then◌else◌, nat_le, List, [], length, map, take, slice_range}
+use Rattle.std.specs.Prelude.{ℕ, Bool, true, false, ◌&&◌, if◌then◌else◌, nat_le, List, [], length, map, take, slice_range, bytes_eq}
 use Rattle.std.specs.Char.{to_ascii_uppercase}
-use Rattle.std.specs.Str.{bytes_eq}
-use Rattle.qm_lex.specs.declared.token.Token.{Token}
-use Rattle.qm_lex.specs.declared.token.TokenKind.{TokenKind}
-use Rattle.qm_lex.specs.declared.token.TokenKind.TheVariants.{Word, Quoted, Slash, Equals, Open, Close, Comma}
+use Rattle.qm_commands.specs.declared.tokens.token.Token.{Token}
+use Rattle.qm_commands.specs.declared.tokens.token.TokenKind.{TokenKind}
+use Rattle.qm_commands.specs.declared.tokens.token.TokenKind.TheVariants.{Word, Quoted, Slash, Equals, Open, Close, Comma}
 
 -- the bytes of a token; none where it isn't one of the text
 abbrev pub bytes_of : List ℕ → Token → List ℕ

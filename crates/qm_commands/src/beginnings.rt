@@ -1,16 +1,14 @@
 // Which names begin with a token.
 ghost use Rattle.std.specs.Prelude.{◌≡◌};
 ghost use Rattle.std.specs.List.{list_any};
-ghost use Rattle.qm_commands.specs.Names.{begins_verb, begins_name};
+ghost use Rattle.qm_commands.specs.Names.{begins_one, begins_verb, begins_name};
 ghost use Rattle.qm_commands.specs.Rules.{rules_of};
-ghost use Rattle.qm_commands.specs.Spelled.{begins};
-ghost use Rattle.qm_commands.specs.Words.{spelling};
 
 use crate::rules::{Rule, own_rules, settings};
 use crate::table::{Command, Row, VERBS, Verb, rows_of};
 use crate::token::begins;
+use crate::tokens::Token;
 use crate::word::{spelling, verb_spelling};
-use qm_lex::Token;
 
 /// Whether some verb begins with a token.
 pub fn begins_verb(text: &[u8], token: Token) -> bool
@@ -23,7 +21,7 @@ pub fn begins_verb(text: &[u8], token: Token) -> bool
 
 // Whether one of these names begins with a token.
 fn begins_one(text: &[u8], token: Token, rules: &[Rule]) -> bool
-    ensures { result ≡ list_any (λ rule. begins text.now (spelling rule.0) token) rules.now }
+    ensures { result ≡ begins_one text.now token rules.now }
 {
     rules
         .iter()
@@ -32,14 +30,14 @@ fn begins_one(text: &[u8], token: Token, rules: &[Rule]) -> bool
 
 // Whether some name of a command begins with a token.
 fn begins_name_in(text: &[u8], token: Token, command: Command) -> bool
-    ensures { result ≡ list_any (λ rule. begins text.now (spelling rule.0) token) (rules_of command) }
+    ensures { result ≡ begins_one text.now token (rules_of command) }
 {
     begins_one(text, token, own_rules(command)) || begins_one(text, token, settings(command))
 }
 
 // Whether some name of one of these commands begins with a token.
 fn begins_name_in_one(text: &[u8], token: Token, rows: &[Row]) -> bool
-    ensures { result ≡ list_any (λ row. list_any (λ rule. begins text.now (spelling rule.0) token) (rules_of row.command)) rows.now }
+    ensures { result ≡ list_any (λ row. begins_one text.now token (rules_of row.command)) rows.now }
 {
     rows.iter()
         .any(|row| begins_name_in(text, token, row.command))

@@ -11,6 +11,7 @@ mod rivals;
 mod rules;
 mod table;
 mod token;
+mod tokens;
 mod word;
 
 pub use beginnings::{begins_name, begins_verb};
@@ -20,4 +21,5 @@ pub use rivals::{is_alone, is_object_alone, is_verb_alone};
 pub use rules::{Rule, Takes, may_have_key, most_values, needs_value, own_rules, settings};
 pub use table::{Command, Row, VERBS, Verb, rows_of, takes_object, takes_option};
 pub use token::{begins, bytes_of, is_spelled, is_text};
+pub use tokens::{LexFault, Piece, Sort, Token, TokenKind, lex, tokens_are_in_order};
 pub use word::{Word, spelling, undone_by, verb_spelling};

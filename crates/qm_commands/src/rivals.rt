@@ -3,15 +3,14 @@
 // What is asked of cut names alone isn't inlined: where a name is sought it would stand in the way of the whole ones.
 ghost use Rattle.std.specs.Prelude.{◌≡◌};
 ghost use Rattle.std.specs.List.{list_all};
-ghost use Rattle.qm_commands.specs.Names.{is_no_rival, is_verb_alone, is_no_rival_object, is_object_alone, is_alone};
+ghost use Rattle.qm_commands.specs.Names.{is_no_rival, are_no_rivals, is_verb_alone, is_no_rival_object, is_object_alone, is_alone};
 ghost use Rattle.qm_commands.specs.Rules.{rules_of};
-ghost use Rattle.qm_commands.specs.Words.{spelling};
 
 use crate::rules::{Rule, own_rules, settings};
 use crate::table::{Command, Row, VERBS, Verb, rows_of};
 use crate::token::begins;
+use crate::tokens::Token;
 use crate::word::{Word, spelling, verb_spelling};
-use qm_lex::Token;
 
 // Whether a name that stands beside this one leaves it to a token: the token doesn't begin that name, or the two are one.
 fn is_no_rival(text: &[u8], token: Token, name: &[u8], other: &[u8]) -> bool
@@ -50,7 +49,7 @@ pub fn is_object_alone(text: &[u8], verb: Verb, token: Token, name: &[u8]) -> bo
 
 // Whether no other of these names leaves this one in doubt.
 fn are_no_rivals(text: &[u8], token: Token, name: &[u8], rules: &[Rule]) -> bool
-    ensures { result ≡ list_all (λ rule. is_no_rival text.now token name.now (spelling rule.0)) rules.now }
+    ensures { result ≡ are_no_rivals text.now token name.now rules.now }
 {
     rules
         .iter()
@@ -59,7 +58,7 @@ fn are_no_rivals(text: &[u8], token: Token, name: &[u8], rules: &[Rule]) -> bool
 
 // Whether no other name of a command leaves this one in doubt.
 fn is_alone_in(text: &[u8], token: Token, name: &[u8], command: Command) -> bool
-    ensures { result ≡ list_all (λ rule. is_no_rival text.now token name.now (spelling rule.0)) (rules_of command) }
+    ensures { result ≡ are_no_rivals text.now token name.now (rules_of command) }
 {
     are_no_rivals(text, token, name, own_rules(command))
         && are_no_rivals(text, token, name, settings(command))
@@ -67,7 +66,8 @@ fn is_alone_in(text: &[u8], token: Token, name: &[u8], command: Command) -> bool
 
 // Whether no other name of any of these commands leaves this one in doubt.
 fn is_alone_in_each(text: &[u8], token: Token, name: &[u8], rows: &[Row]) -> bool
-    ensures { result ≡ list_all (λ row. list_all (λ rule. is_no_rival text.now token name.now (spelling rule.0)) (rules_of row.command)) rows.now }
+    ensures { result
+        ≡ list_all (λ row. are_no_rivals text.now token name.now (rules_of row.command)) rows.now }
 {
     rows.iter()
         .all(|row| is_alone_in(text, token, name, row.command))

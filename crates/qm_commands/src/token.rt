@@ -2,7 +2,7 @@
 ghost use Rattle.std.specs.Prelude.{◌≡◌};
 ghost use Rattle.qm_commands.specs.Spelled.{bytes_of, is_spelled, is_raised_to, begins, is_text};
 
-use qm_lex::{Token, TokenKind};
+use crate::tokens::{Token, TokenKind};
 
 /// The bytes of a token; none where it isn't one of the text.
 pub fn bytes_of(text: &[u8], token: Token) -> &[u8]

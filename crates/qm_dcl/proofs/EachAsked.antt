@@ -1,21 +1,8 @@
 -- What holds of each form of a command that is built holds of all that texts ask for.
-use Rattle.std.proofs.Common.{◌≡◌, lit<, ℕ, Bool, true, false, cond, ◌&&◌, nat_lt, List, [], Option, None, Some, Result, Ok, Err, IfOk, IfSome, refl}
-use Rattle.std.specs.Prelude.{option_map, option_and_then, ok_or, unwrap_or}
+use Rattle.std.proofs.Common.{◌≡◌, lit<, ℕ, Bool, true, false, cond, ◌&&◌, nat_lt, List, [], Option, None, Some, Result, Ok, Err, IfOk, IfSome, refl, option_map, option_and_then, ok_or, unwrap_or}
 use Rattle.std.specs.Option.{option_map_or}
-use Rattle.qm_kinds.specs.declared.entry.JobKind.{JobKind}
+use Rattle.qm_model.specs.Common.{JobKind, FileName, Form, Characteristic, Input, Query, Ask, Show, TakeManager, NewQueue, QueueChange, EntryChange, Job, DefineForm, DeleteForm, DefineCharacteristic, DeleteCharacteristic, InitializeQueue, SetQueue, StartQueue, StopQueue, AbortJob, DeleteQueue, Merge, Submit, SetEntry, DeleteEntry, StopMode}
 use Rattle.qm_kinds.specs.declared.entry.JobKind.TheVariants.{Batch, Print}
-use Rattle.qm_kinds.specs.declared.file.FileName.{FileName}
-use Rattle.qm_kinds.specs.declared.form.Form.{Form}
-use Rattle.qm_kinds.specs.declared.form.Characteristic.{Characteristic}
-use Rattle.qm_kinds.specs.declared.input.Input.{Input}
-use Rattle.qm_kinds.specs.declared.query.Query.{Query}
-use Rattle.qm_kinds.specs.declared.input.Input.TheVariants.{Ask, Show, TakeManager}
-use Rattle.qm_kinds.specs.declared.queue.NewQueue.{NewQueue}
-use Rattle.qm_kinds.specs.declared.queue.QueueChange.{QueueChange}
-use Rattle.qm_kinds.specs.declared.request.EntryChange.{EntryChange}
-use Rattle.qm_kinds.specs.declared.request.Job.{Job}
-use Rattle.qm_kinds.specs.declared.request.Request.TheVariants.{DefineForm, DeleteForm, DefineCharacteristic, DeleteCharacteristic, InitializeQueue, SetQueue, StartQueue, StopQueue, AbortJob, DeleteQueue, Merge, Submit, SetEntry, DeleteEntry}
-use Rattle.qm_kinds.specs.declared.request.StopMode.{StopMode}
 use Rattle.qm_kinds.specs.declared.request.StopMode.TheVariants as mode
 use Rattle.qm_commands.specs.declared.fault.Fault.{Fault}
 use Rattle.qm_commands.specs.declared.table.Command.{Command}

@@ -1,8 +1,6 @@
 -- What the commands of the queue manager mean, on worked texts.
 use Rattle.std.proofs.Common.{◌≡◌, ℕ, List, [], ◌∷◌, None, Some, Result, Ok, Err, codes, refl}
-use Rattle.qm_kinds.specs.declared.input.Input.{Input}
-use Rattle.qm_kinds.specs.declared.input.Input.TheVariants.{Show, TakeManager}
-use Rattle.qm_kinds.specs.declared.refusal.ParseKind.{ParseKind}
+use Rattle.qm_model.specs.Common.{Input, Show, TakeManager, ParseKind}
 use Rattle.qm_kinds.specs.declared.refusal.ParseKind.TheVariants as fault
 use Rattle.qm_commands.specs.declared.fault.Fault.{Fault}
 use Rattle.qm_commands.specs.declared.table.Command.TheVariants.{ShowManagers, StartManager}

@@ -1,10 +1,7 @@
 -- The names that are given are those that a queue, a device, a form, a characteristic and a stock can have.
-use Rattle.std.proofs.Common.{◌≡◌, ℕ, Bool, true, false, cond, ◌&&◌, not, ◌==◌, ◌+◌, List, [], ◌∷◌, take, drop, Option, None, Some, Result, Ok, Err, IfOk, IfSome, refl, sym, subst}
-use Rattle.std.specs.Prelude.{option_map, option_and_then, position}
-use Rattle.qm_kinds.specs.Files.{name_of, file_name_of}
-use Rattle.qm_kinds.specs.declared.entry.JobRetain.{JobRetain}
-use Rattle.qm_kinds.specs.declared.entry.JobRetain.TheVariants.{Until}
-use Rattle.qm_lex.specs.declared.token.Token.{Token}
+use Rattle.std.proofs.Common.{◌≡◌, ℕ, Bool, true, false, cond, ◌&&◌, not, ◌==◌, ◌+◌, List, [], ◌∷◌, take, drop, Option, None, Some, Result, Ok, Err, IfOk, IfSome, refl, sym, subst, option_map, option_and_then, position}
+use Rattle.qm_model.specs.Common.{name_of, file_name_of, JobRetain, Until, is_short, is_definable}
+use Rattle.qm_commands.specs.declared.tokens.token.Token.{Token}
 use Rattle.qm_commands.specs.declared.fault.Fault.{Fault}
 use Rattle.qm_commands.specs.declared.table.Command.{Command}
 use Rattle.qm_commands.specs.declared.table.Command.TheVariants as command
@@ -12,7 +9,6 @@ use Rattle.qm_commands.specs.declared.word.Word.{Word}
 use Rattle.qm_commands.specs.declared.word.Word.TheVariants as words
 use Rattle.qm_grammar.specs.declared.part.Part.{Part}
 use Rattle.qm_grammar.specs.declared.part.Part.TheVariants.{Parameter, Qualifier, Value, KeyValue}
-use Rattle.qm_model.specs.Built.{is_short, is_definable}
 use Rattle.qm_dcl.specs.declared.settings.Settings.{Settings}
 use Rattle.qm_dcl.specs.declared.settings.QueueSettings.{QueueSettings}
 use Rattle.qm_dcl.specs.declared.value.Location.{Location}

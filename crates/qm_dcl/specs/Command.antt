@@ -2,12 +2,9 @@
 -- DCL Dictionary, on the commands of queues, jobs, forms and characteristics. This site's own: which fault is told, and which forms
 -- aren't built.
 use Rattle.std.specs.Prelude.{ℕ, nat_lt, if◌then◌else◌, List, Option, None, Some, option_map, option_and_then, Result, Ok, Err, ok_or}
-use Rattle.qm_kinds.specs.declared.input.Input.{Input}
-use Rattle.qm_kinds.specs.declared.input.Input.TheVariants.{Ask, Show, TakeManager}
+use Rattle.qm_model.specs.Common.{Input, Ask, Show, TakeManager, Request, DefineForm, DeleteForm, DefineCharacteristic, DeleteCharacteristic, Submit, SetEntry, DeleteEntry}
 use Rattle.qm_kinds.specs.declared.refusal.ParseKind.TheVariants as fault
 use Rattle.qm_kinds.specs.declared.entry.JobKind.TheVariants.{Batch, Print}
-use Rattle.qm_kinds.specs.declared.request.Request.{Request}
-use Rattle.qm_kinds.specs.declared.request.Request.TheVariants.{DefineForm, DeleteForm, DefineCharacteristic, DeleteCharacteristic, Submit, SetEntry, DeleteEntry}
 use Rattle.qm_commands.specs.declared.fault.Fault.{Fault}
 use Rattle.qm_commands.specs.declared.table.Command.{Command}
 use Rattle.qm_commands.specs.declared.table.Command.TheVariants as command

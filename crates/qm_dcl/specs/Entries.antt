@@ -1,8 +1,7 @@
 -- SET ENTRY number.
 -- DCL Dictionary, SET ENTRY.
 use Rattle.std.specs.Prelude.{ℕ, List, Option}
-use Rattle.qm_kinds.specs.declared.request.EntryChange.{EntryChange}
-use Rattle.qm_kinds.specs.declared.request.NameOrNumber.{NameOrNumber}
+use Rattle.qm_model.specs.Common.{EntryChange, NameOrNumber}
 use Rattle.qm_dcl.specs.declared.settings.JobSettings.{JobSettings}
 
 -- what is changed of an entry, which may be moved to a queue

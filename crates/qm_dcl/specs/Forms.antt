@@ -1,9 +1,7 @@
 -- Forms and characteristics that are defined.
 -- DCL Dictionary, DEFINE/FORM and DEFINE/CHARACTERISTIC. This site's own: what a form has where nothing is given.
 use Rattle.std.specs.Prelude.{ℕ, false, List, Option, unwrap_or, option_map, option_and_then}
-use Rattle.qm_kinds.specs.declared.form.Form.{Form}
-use Rattle.qm_kinds.specs.declared.form.Characteristic.{Characteristic}
-use Rattle.qm_kinds.specs.declared.form.Shape.{Shape}
+use Rattle.qm_model.specs.Common.{Form, Characteristic, Shape}
 use Rattle.qm_dcl.specs.declared.settings.Definition.{Definition}
 use Rattle.qm_dcl.specs.declared.value.Side.{Side}
 use Rattle.qm_dcl.specs.declared.value.Side.TheVariants.{Top, Bottom, Left, Right}

@@ -1,10 +1,7 @@
 -- What a qualifier, its value, or a parameter gives. What is given later counts, and what was given before has no effect.
 -- DCL Dictionary, on the commands of queues, jobs, forms and characteristics.
 use Rattle.std.specs.Prelude.{ℕ, Bool, true, false, ◌&&◌, not, if◌then◌else◌, List, Option, None, Some, option_map}
-use Rattle.qm_kinds.specs.Files.{name_of, file_name_of}
-use Rattle.qm_kinds.specs.declared.entry.JobRetain.{JobRetain}
-use Rattle.qm_kinds.specs.declared.entry.JobRetain.TheVariants.{Until}
-use Rattle.qm_kinds.specs.declared.form.Shape.{Shape}
+use Rattle.qm_model.specs.Common.{name_of, file_name_of, JobRetain, Until, Shape}
 use Rattle.qm_kinds.specs.declared.queue.QueueRetain.TheVariants.{Nothing}
 use Rattle.qm_commands.specs.declared.table.Command.{Command}
 use Rattle.qm_commands.specs.declared.table.Command.TheVariants as command

@@ -1,7 +1,6 @@
 -- What a line of a script asks for.
 use Rattle.std.specs.Prelude.{ℕ, List, Result, Ok, Err}
-use Rattle.qm_kinds.specs.Names.{system_user}
-use Rattle.qm_kinds.specs.declared.input.Input.{Input}
+use Rattle.qm_model.specs.Common.{system_user, Input}
 use Rattle.qm_kinds.specs.declared.input.Input.TheVariants as input
 use Rattle.qm_commands.specs.declared.fault.Fault.{Fault}
 use Rattle.qm_model.specs.Script.{Sort, Command, Site, act_of}

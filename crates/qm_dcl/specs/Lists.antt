@@ -3,7 +3,7 @@
 use Rattle.std.specs.Prelude.{ℕ, Bool, true, false, if◌then◌else◌, List, [], ◌∷◌, filter_map, Option, None, Some, option_map}
 use Rattle.std.specs.Option.{option_or}
 use Rattle.qm_kinds.specs.declared.request.NameOrNumber.{NameOrNumber}
-use Rattle.qm_lex.specs.declared.token.Token.{Token}
+use Rattle.qm_commands.specs.declared.tokens.token.Token.{Token}
 use Rattle.qm_commands.specs.declared.word.Word.{Word}
 use Rattle.qm_commands.specs.declared.word.Word.TheVariants as words
 use Rattle.qm_grammar.specs.declared.part.Part.{Part}

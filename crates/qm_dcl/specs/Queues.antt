@@ -3,13 +3,8 @@
 use Rattle.std.specs.Prelude.{ℕ, Bool, true, false, List, [], Option, None, Some, option_map, option_and_then, is_some, unwrap_or}
 use Rattle.qm_commands.specs.declared.table.Command.{Command}
 use Rattle.qm_commands.specs.declared.table.Command.TheVariants as command
-use Rattle.qm_kinds.specs.declared.queue.NewQueue.{NewQueue}
-use Rattle.qm_kinds.specs.declared.queue.QueueChange.{QueueChange}
-use Rattle.qm_kinds.specs.declared.queue.QueueKind.{QueueKind}
+use Rattle.qm_model.specs.Common.{NewQueue, QueueChange, QueueKind, NameOrNumber, Request, InitializeQueue, SetQueue, StartQueue, StopQueue, AbortJob, DeleteQueue, Merge}
 use Rattle.qm_kinds.specs.declared.queue.QueueKind.TheVariants.{Batch, Print, GenericBatch, GenericPrint}
-use Rattle.qm_kinds.specs.declared.request.NameOrNumber.{NameOrNumber}
-use Rattle.qm_kinds.specs.declared.request.Request.{Request}
-use Rattle.qm_kinds.specs.declared.request.Request.TheVariants.{InitializeQueue, SetQueue, StartQueue, StopQueue, AbortJob, DeleteQueue, Merge}
 use Rattle.qm_kinds.specs.declared.request.StopMode.TheVariants as mode
 use Rattle.qm_dcl.specs.declared.lists.Lists.{Lists}
 use Rattle.qm_dcl.specs.declared.settings.QueueSettings.{QueueSettings}

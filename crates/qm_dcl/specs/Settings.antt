@@ -1,9 +1,9 @@
 -- What the parts of a command give, one after the other. Of a qualifier that is given twice the last one counts.
 -- DCL Dictionary, on the qualifiers of the commands of queues and jobs.
-use Rattle.std.specs.Prelude.{ℕ, Bool, true, false, not, if◌then◌else◌, List, [], ◌∷◌, Option, None, Some, Result, Ok, Err, ok_or}
+use Rattle.std.specs.Prelude.{◌≡◌, ℕ, Bool, true, false, not, if◌then◌else◌, List, [], ◌∷◌, Option, None, Some, Result, Ok, Err, ok_or}
 use Rattle.qm_kinds.specs.declared.entry.JobRetain.{JobRetain}
 use Rattle.qm_kinds.specs.declared.refusal.ParseKind.TheVariants as fault
-use Rattle.qm_lex.specs.declared.token.Token.{Token}
+use Rattle.qm_commands.specs.declared.tokens.token.Token.{Token}
 use Rattle.qm_commands.specs.declared.fault.Fault.{Fault}
 use Rattle.qm_commands.specs.declared.table.Command.{Command}
 use Rattle.qm_commands.specs.declared.table.Command.TheVariants as command
@@ -20,6 +20,11 @@ use Rattle.qm_dcl.specs.declared.value.Side.{Side}
 use Rattle.qm_dcl.specs.Forms.{default_shape}
 use Rattle.qm_dcl.specs.Given.{with_word, valued, node_given, schedule_given, queue_retain_given, with_retain, until_given, after_given, margin_given, parametered}
 use Rattle.qm_dcl.specs.Values.{said_by, raised_by, has_equals, job_retain_said, is_until, side_said, moment_said}
+
+-- what was read, and the settings that it left, or the fault that was told
+abbrev pub Leaves : {A : Type 0} → Result A Fault → Settings → Result Settings Fault → Type 0
+Leaves (Ok _) s read = read ≡ Ok s
+Leaves (Err fault) s read = read ≡ Err fault
 
 -- the first parameter of these commands is their option
 abbrev pub has_object : Command → Bool

@@ -1,10 +1,7 @@
 -- What SHOW QUEUE and SHOW ENTRY ask for.
 -- DCL Dictionary, SHOW ENTRY, SHOW QUEUE, SHOW QUEUE/CHARACTERISTICS, SHOW QUEUE/FORM and SHOW QUEUE/MANAGERS.
 use Rattle.std.specs.Prelude.{ℕ, Bool, true, false, ◌||◌, if◌then◌else◌, List, [], ◌∷◌, Option, None, Some, unwrap_or}
-use Rattle.qm_kinds.specs.declared.query.Kinds.{Kinds}
-use Rattle.qm_kinds.specs.declared.query.Listing.{Listing}
-use Rattle.qm_kinds.specs.declared.query.Listing.TheVariants.{Queues, Entries, Forms, Characteristics, Manager}
-use Rattle.qm_kinds.specs.declared.query.Query.{Query}
+use Rattle.qm_model.specs.Common.{Kinds, Listing, Queues, Entries, Forms, Characteristics, Manager, Query}
 use Rattle.qm_dcl.specs.declared.settings.ListingSettings.{ListingSettings}
 use Rattle.qm_dcl.specs.declared.settings.Settings.{Settings}
 

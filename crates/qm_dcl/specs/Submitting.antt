@@ -2,11 +2,8 @@
 -- DCL Dictionary, SUBMIT and PRINT.
 use Rattle.std.specs.Prelude.{ℕ, Bool, true, false, List, [], codes, Option, None, Some, unwrap_or}
 use Rattle.qm_kinds.specs.Names.{batch_queue, print_queue, command_type}
-use Rattle.qm_kinds.specs.declared.entry.JobKind.{JobKind}
+use Rattle.qm_model.specs.Common.{JobKind, Default, FileName, Job}
 use Rattle.qm_kinds.specs.declared.entry.JobKind.TheVariants.{Batch, Print}
-use Rattle.qm_kinds.specs.declared.entry.JobRetain.TheVariants.{Default}
-use Rattle.qm_kinds.specs.declared.file.FileName.{FileName}
-use Rattle.qm_kinds.specs.declared.request.Job.{Job}
 use Rattle.qm_dcl.specs.declared.lists.Lists.{Lists}
 use Rattle.qm_dcl.specs.declared.settings.Settings.{Settings}
 

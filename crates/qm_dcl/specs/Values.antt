@@ -1,24 +1,16 @@
 -- What the values of commands say.
 -- OpenVMS User's Manual, on entering commands: names, numbers, quoted strings and times. DCL Dictionary, INITIALIZE/QUEUE, on /ON,
 -- /SCHEDULE and /RETAIN, SUBMIT, on /RETAIN, and DEFINE/FORM, on /MARGIN.
-use Rattle.std.specs.Prelude.{ℕ, ◌+◌, ◌-◌, ◌==◌, nat_lt, nat_le, Bool, true, false, ◌&&◌, ◌||◌, if◌then◌else◌, List, [], ◌∷◌, length, take, drop, map, position, codes, Option, None, Some, option_map, option_and_then}
+use Rattle.std.specs.Prelude.{ℕ, ◌+◌, ◌-◌, ◌==◌, nat_lt, nat_le, Bool, true, false, ◌&&◌, ◌||◌, if◌then◌else◌, List, [], ◌∷◌, length, take, drop, map, position, codes, Option, None, Some, option_map, option_and_then, bytes_eq}
 use Rattle.std.specs.List.{list_all}
 use Rattle.std.specs.Char.{is_ascii_digit, to_ascii_uppercase}
 use Rattle.std.specs.Result.{result_ok}
-use Rattle.std.specs.Str.{bytes_eq}
-use Rattle.qm_kinds.specs.Files.{name_of}
+use Rattle.qm_model.specs.Common.{name_of, JobRetain, NODE_NAME_BYTES, QueueRetain, NameOrNumber, Name, Number, is_short, is_definable, value_of}
 use Rattle.qm_kinds.specs.Text.{text_of, is_pattern_byte}
-use Rattle.qm_kinds.specs.declared.entry.JobRetain.{JobRetain}
 use Rattle.qm_kinds.specs.declared.entry.JobRetain.TheVariants as retain
-use Rattle.qm_kinds.specs.declared.name.TheConstants.{NODE_NAME_BYTES}
-use Rattle.qm_kinds.specs.declared.queue.QueueRetain.{QueueRetain}
 use Rattle.qm_kinds.specs.declared.queue.QueueRetain.TheVariants.{Failed, All}
-use Rattle.qm_kinds.specs.declared.request.NameOrNumber.{NameOrNumber}
-use Rattle.qm_kinds.specs.declared.request.NameOrNumber.TheVariants.{Name, Number}
-use Rattle.qm_lex.specs.declared.token.Token.{Token}
+use Rattle.qm_commands.specs.declared.tokens.token.Token.{Token}
 use Rattle.qm_commands.specs.Spelled.{is_word, bytes_of}
-use Rattle.qm_model.specs.Built.{is_short, is_definable}
-use Rattle.qm_model.specs.Texts.{value_of}
 use Rattle.qm_time.specs.Moments.{moment_at}
 use Rattle.qm_dcl.specs.declared.value.Location.{Location}
 use Rattle.qm_dcl.specs.declared.value.Side.{Side}

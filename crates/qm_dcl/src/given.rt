@@ -11,9 +11,8 @@ use crate::value::{
     form_number_said, form_said, location_said, node_said, pattern_said, queue_retain_said,
     says_all, schedule_said, short_name_said,
 };
-use qm_commands::{Command, Word};
+use qm_commands::{Command, Token, Word};
 use qm_kinds::{FileName, JobRetain, Moment, Name, QueueRetain, Shape};
-use qm_lex::Token;
 
 // Sets what a qualifier gives of a job.
 fn mark_job(job: &mut JobSettings, word: Word)
@@ -367,7 +366,8 @@ fn take_form(s: &mut Settings, said: &[u8]) -> Option<()>
 
 // Takes the name of a characteristic, and behind it its number, if it can be one.
 fn take_characteristic(s: &mut Settings, said: &[u8]) -> Option<()>
-    ensures { characteristic_given s.old s.old.definition.name said.now ≡ option_map (λ _. s.new) result }
+    ensures { characteristic_given s.old s.old.definition.name said.now
+        ≡ option_map (λ _. s.new) result }
 {
     if s.definition.name.is_none() {
         return take_definable(s, said);

@@ -1,6 +1,5 @@
 // The lists that qualifiers give.
-ghost use Rattle.std.specs.Prelude.{◌≡◌, IfOk, option_map};
-ghost use Rattle.std.specs.Option.{option_copied};
+ghost use Rattle.std.specs.Prelude.{◌≡◌, IfOk, option_map, option_copied};
 ghost use Rattle.qm_dcl.specs.Lists.{gives, begins_list, behind_last, values_ahead, listed, characteristics_said, queues_said, nodes_said, lists_of, nodes_of};
 
 use crate::value::{characteristic_said, node_said, said_by, short_name_said};

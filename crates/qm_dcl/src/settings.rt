@@ -1,6 +1,6 @@
 // What the parts of a command give.
-ghost use Rattle.std.specs.Prelude.{◌≡◌, Ok, Err, IfOk, IfErr, ok_or};
-ghost use Rattle.qm_dcl.specs.Settings.{has_object, no_job, no_queue_settings, no_definition, no_listing, nothing_given, with_parameter, with_key, with_until, with_retain_word, with_job_retain, is_of_queue, with_retained, with_value, inner_value, has_value_ahead, lists_nodes, with_value_of, with_part, settings_of};
+ghost use Rattle.std.specs.Prelude.{◌≡◌, ok_or};
+ghost use Rattle.qm_dcl.specs.Settings.{has_object, no_job, no_queue_settings, no_definition, no_listing, nothing_given, with_parameter, with_key, with_until, with_retain_word, with_job_retain, is_of_queue, with_retained, with_value, inner_value, has_value_ahead, lists_nodes, with_value_of, with_part, settings_of, Leaves};
 ghost use Rattle.qm_dcl.specs.Values.{raised_by, side_said};
 
 use crate::given::{
@@ -10,12 +10,11 @@ use crate::given::{
 use crate::value::{
     Location, has_equals, is_until, job_retain_said, moment_said, said_by, side_said,
 };
-use qm_commands::{Command, Fault, Word};
+use qm_commands::{Command, Fault, Token, Word};
 use qm_grammar::Part;
 use qm_kinds::{
     FileName, JobRetain, Moment, Name, NameOrNumber, ParseKind, Pattern, QueueRetain, Shape,
 };
-use qm_lex::Token;
 
 /// How a queue is stopped, or a job of it.
 #[derive(Clone, Copy)]
@@ -219,8 +218,7 @@ fn read_parameter(
     s: &mut Settings,
     token: Token,
 ) -> Result<(), Fault>
-    ensures done { IfOk result (λ _. with_parameter text.now command s.old token ≡ Ok s.new) }
-    ensures fault { IfErr result (λ fault. with_parameter text.now command s.old token ≡ Err fault) }
+    ensures { Leaves result s.new (with_parameter text.now command s.old token) }
 {
     if s.awaits_object {
         s.awaits_object = false;
@@ -232,8 +230,8 @@ fn read_parameter(
 // Goes on with a key of /MARGIN: it must name a side, and a number must stand behind its =. Where that can be no value, it is at
 // fault by the grammar, and not the key.
 fn read_key(text: &[u8], s: &mut Settings, key: Token, inner: Option<Token>) -> Result<(), Fault>
-    ensures done { IfOk result (λ _. with_key text.now s.old key (side_said (raised_by text.now key)) inner ≡ Ok s.new) }
-    ensures fault { IfErr result (λ fault. with_key text.now s.old key (side_said (raised_by text.now key)) inner ≡ Err fault) }
+    ensures { Leaves result s.new
+        (with_key text.now s.old key (side_said (raised_by text.now key)) inner) }
 {
     match (side_said(text, key), inner) {
         (Some(side), Some(number)) => {
@@ -253,8 +251,7 @@ fn read_until(
     token: Token,
     inner: Option<Token>,
 ) -> Result<(), Fault>
-    ensures done { IfOk result (λ _. with_until now text.now s.old token inner ≡ Ok s.new) }
-    ensures fault { IfErr result (λ fault. with_until now text.now s.old token inner ≡ Err fault) }
+    ensures { Leaves result s.new (with_until now text.now s.old token inner) }
 {
     match inner {
         Some(time) => or_value_fault(time, take_until(s, moment_said(text, time, now))),
@@ -270,8 +267,7 @@ fn read_retain_word(
     retain: Option<JobRetain>,
     inner: Option<Token>,
 ) -> Result<(), Fault>
-    ensures done { IfOk result (λ _. with_retain_word s.old token retain inner ≡ Ok s.new) }
-    ensures fault { IfErr result (λ fault. with_retain_word s.old token retain inner ≡ Err fault) }
+    ensures { Leaves result s.new (with_retain_word s.old token retain inner) }
 {
     match (retain, inner) {
         (Some(retain), None) => {
@@ -291,8 +287,8 @@ fn read_job_retain(
     token: Token,
     inner: Option<Token>,
 ) -> Result<(), Fault>
-    ensures done { IfOk result (λ _. with_job_retain now text.now s.old token (raised_by text.now token) inner ≡ Ok s.new) }
-    ensures fault { IfErr result (λ fault. with_job_retain now text.now s.old token (raised_by text.now token) inner ≡ Err fault) }
+    ensures { Leaves result s.new
+        (with_job_retain now text.now s.old token (raised_by text.now token) inner) }
 {
     if is_until(text, token) {
         read_until(text, now, s, token, inner)
@@ -320,8 +316,8 @@ fn read_retained(
     token: Token,
     inner: Option<Token>,
 ) -> Result<(), Fault>
-    ensures done { IfOk result (λ _. with_retained now text.now command s.old token (raised_by text.now token) inner ≡ Ok s.new) }
-    ensures fault { IfErr result (λ fault. with_retained now text.now command s.old token (raised_by text.now token) inner ≡ Err fault) }
+    ensures { Leaves result s.new
+        (with_retained now text.now command s.old token (raised_by text.now token) inner) }
 {
     if is_of_queue(command) {
         or_value_fault(token, take_queue_retain(s, text, token))
@@ -339,8 +335,7 @@ fn read_value(
     token: Token,
     inner: Option<Token>,
 ) -> Result<(), Fault>
-    ensures done { IfOk result (λ _. with_value now text.now command s.old s.old.word token inner ≡ Ok s.new) }
-    ensures fault { IfErr result (λ fault. with_value now text.now command s.old s.old.word token inner ≡ Err fault) }
+    ensures { Leaves result s.new (with_value now text.now command s.old s.old.word token inner) }
 {
     match s.word {
         Some(Word::Margin) => read_key(text, s, token, inner),
@@ -390,8 +385,7 @@ fn read_value_of(
     token: Token,
     behind: &[Part],
 ) -> Result<(), Fault>
-    ensures done { IfOk result (λ _. with_value_of now text.now command s.old token behind.now ≡ Ok s.new) }
-    ensures fault { IfErr result (λ fault. with_value_of now text.now command s.old token behind.now ≡ Err fault) }
+    ensures { Leaves result s.new (with_value_of now text.now command s.old token behind.now) }
 {
     if lists_nodes(command, s.word) {
         let alone = !has_value_ahead(behind);
@@ -410,8 +404,7 @@ fn read_part(
     part: Part,
     behind: &[Part],
 ) -> Result<(), Fault>
-    ensures done { IfOk result (λ _. with_part now text.now command s.old part behind.now ≡ Ok s.new) }
-    ensures fault { IfErr result (λ fault. with_part now text.now command s.old part behind.now ≡ Err fault) }
+    ensures { Leaves result s.new (with_part now text.now command s.old part behind.now) }
 {
     match part {
         Part::Parameter { token } => read_parameter(text, command, s, token),

@@ -1,18 +1,15 @@
 // What the values of commands say.
-ghost use Rattle.std.specs.Prelude.{◌≡◌, ◌<◌, ◌≤◌, ◌^◌, ◌==◌, IfSome, length, map, position};
+ghost use Rattle.std.specs.Prelude.{◌≡◌, ◌<◌, ◌≤◌, ◌^◌, ◌==◌, IfSome, length, map, position, option_copied, bytes_eq};
 ghost use Rattle.std.specs.List.{list_all};
 ghost use Rattle.std.specs.Char.{is_ascii_digit, to_ascii_uppercase};
-ghost use Rattle.std.specs.Option.{option_copied};
-ghost use Rattle.std.specs.Str.{bytes_eq};
 ghost use Rattle.qm_commands.specs.Spelled.{is_raised_to};
 ghost use Rattle.qm_model.specs.Built.{is_definable};
 ghost use Rattle.qm_dcl.specs.Values.{unquoted, said_by, raised_by, are_digits, number_to, byte_said, form_number_said, entry_said, blocks_said, short_name_said, definable_name_said, node_said, pattern_said, says_all, reference_said, form_said, characteristic_said, before_colon, device_said, located, location_said, leads_to_equals, has_equals, schedule_said, queue_retain_said, job_retain_said, is_until, side_said, moment_said};
 
-use qm_commands::bytes_of;
+use qm_commands::{Token, TokenKind, bytes_of};
 use qm_kinds::{
     JobRetain, Moment, NODE_NAME_BYTES, Name, NameOrNumber, Pattern, QueueRetain, SHORT_NAME_BYTES,
 };
-use qm_lex::{Token, TokenKind};
 use qm_time::{TIME_BYTES, number_up_to, read_time};
 
 /// A margin of a page.

@@ -1,6 +1,5 @@
 -- What one call more makes of what the files read and of what a crash may leave.
-use Rattle.std.specs.Prelude.{◌≡◌, ◌⊎◌, ℕ, ◌≤◌, List, [], ◌∷◌, ◌++◌, length, take, Vec}
-use Rattle.std.proofs.Common.{inl, inr, refl, sym, subst, arith, length-append}
+use Rattle.std.proofs.Common.{inl, inr, refl, sym, subst, arith, length-append, ◌≡◌, ◌⊎◌, ℕ, ◌≤◌, List, [], ◌∷◌, ◌++◌, length, take, Vec}
 use Rattle.std.proofs.lemmas.List.{take-append-le, take_all}
 use Rattle.std.proofs.lemmas.Bool.{cases_lt}
 use Rattle.std.specs.declared.alloc.Global.{Global}

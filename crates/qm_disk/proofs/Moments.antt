@@ -1,6 +1,5 @@
 -- How a run of calls goes on: lemmas for whoever calls a disk more than once.
-use Rattle.std.specs.Prelude.{◌≡◌, ◌≤◌, ℕ, List}
-use Rattle.std.proofs.Common.{refl, sym, inl, inr, subst, ⊎_elim, ◌∙◌, arith}
+use Rattle.std.proofs.Common.{refl, sym, inl, inr, subst, ⊎_elim, ◌∙◌, arith, ◌≡◌, ◌≤◌, ℕ, List}
 use Rattle.std.proofs.lemmas.Bool.{cases_eq}
 use Rattle.qm_disk.specs.Disk.{Meaning, CrashState, IsLeft, OthersLeft, KeepsOthers, KeepsAll, Elapses, LeavesOnly, OnlyLooks, ChangesOnly}
 

@@ -1,6 +1,5 @@
 -- What a crash of each kind keeps is one of the things that a crash may leave.
-use Rattle.std.proofs.Common.{◌≡◌, refl, ℕ, zero, suc, ◌≤◌, ◌==◌, Bool, true, false, if◌then◌else◌, List, [], ◌∷◌, length, take, Vec, arith, length-take}
-use Rattle.std.specs.Prelude.{MatchBool}
+use Rattle.std.proofs.Common.{◌≡◌, refl, ℕ, zero, suc, ◌≤◌, ◌==◌, Bool, true, false, if◌then◌else◌, List, [], ◌∷◌, length, take, Vec, arith, length-take, MatchBool}
 use Rattle.std.specs.declared.alloc.Global.{Global}
 use Rattle.qm_disk.specs.Disk.{spliced, Torn, Cut}
 use Rattle.qm_disk.specs.Calls.{padded, part, content_after, Outcome, Outcomes, first_of, LeftOf, crash_changed, crashed}

@@ -1,6 +1,5 @@
 -- What the calls of a disk in memory make of one file: what it reads, and what a crash may leave of it.
-use Rattle.std.specs.Prelude.{◌⊎◌, ◌≡◌, ◌≢◌, ℕ, ◌-◌, ◌/◌, ◌≤◌, ◌==◌, Bool, true, false, if◌then◌else◌, List, [], ◌∷◌, ◌++◌, length, take, replicate, slice_index_or, map, Option, Some, None, Vec}
-use Rattle.std.specs.Prelude.{MatchBool}
+use Rattle.std.specs.Prelude.{◌⊎◌, ◌≡◌, ◌≢◌, ℕ, ◌-◌, ◌/◌, ◌≤◌, ◌==◌, Bool, true, false, if◌then◌else◌, List, [], ◌∷◌, ◌++◌, length, take, replicate, slice_index_or, map, Option, Some, None, Vec, MatchBool}
 use Rattle.std.specs.declared.alloc.Global.{Global}
 use Rattle.qm_disk.specs.Disk.{CrashState, spliced, Torn, Cut, IsLeft}
 use Rattle.qm_disk.specs.declared.calls.Change.{Change}

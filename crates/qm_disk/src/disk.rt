@@ -34,7 +34,8 @@ pub trait Disk {
     fn read(&mut self, file: u8, at: u64, into: &mut [u8]) -> Result<(), DiskFault>
         requires file { file ≤ 2 }
         requires within { IsTrue meaning.tells → at + length into.old ≤ length (meaning.seen self.old file) }
-        ensures bytes { OnOk result (IsTrue meaning.tells → into.new ≡ take (length into.old) (drop at (meaning.seen self.old file))) }
+        ensures bytes { OnOk result (IsTrue meaning.tells
+            → into.new ≡ take (length into.old) (drop at (meaning.seen self.old file))) }
         ensures kept { KeepsAll meaning self.old self.new }
         ensures time { Elapses meaning self.old self.new }
         ensures faults { TellsFaults meaning self.old self.new (IsErr result) };
@@ -43,8 +44,10 @@ pub trait Disk {
     fn write(&mut self, file: u8, at: u64, bytes: &[u8]) -> Result<(), DiskFault>
         requires file { file ≤ 2 }
         requires place { IsTrue meaning.tells → at ≤ length (meaning.seen self.old file) }
-        ensures written { OnOk result (IsTrue meaning.tells → meaning.seen self.new file ≡ spliced at bytes.now (meaning.seen self.old file)) }
-        ensures crash { Follows (Torn at (length bytes.now)) (meaning.may_leave self.old file) (meaning.may_leave self.new file) }
+        ensures written { OnOk result (IsTrue meaning.tells
+            → meaning.seen self.new file ≡ spliced at bytes.now (meaning.seen self.old file)) }
+        ensures crash { Follows (Torn at (length bytes.now))
+            (meaning.may_leave self.old file) (meaning.may_leave self.new file) }
         ensures others { KeepsOthers meaning file self.old self.new }
         ensures time { Elapses meaning self.old self.new }
         ensures faults { TellsFaults meaning self.old self.new (IsErr result) };
@@ -53,7 +56,8 @@ pub trait Disk {
     fn cut(&mut self, file: u8, size: u64) -> Result<(), DiskFault>
         requires file { file ≤ 2 }
         requires size { IsTrue meaning.tells → size ≤ length (meaning.seen self.old file) }
-        ensures cut { OnOk result (IsTrue meaning.tells → meaning.seen self.new file ≡ take size (meaning.seen self.old file)) }
+        ensures cut { OnOk result (IsTrue meaning.tells
+            → meaning.seen self.new file ≡ take size (meaning.seen self.old file)) }
         ensures crash { Follows (Cut size) (meaning.may_leave self.old file) (meaning.may_leave self.new file) }
         ensures others { KeepsOthers meaning file self.old self.new }
         ensures time { Elapses meaning self.old self.new }
@@ -62,7 +66,8 @@ pub trait Disk {
     /// After it a crash leaves of the file what a read gives.
     fn sync(&mut self, file: u8) -> Result<(), DiskFault>
         requires { file ≤ 2 }
-        ensures durable { OnOk result (IsTrue meaning.tells → Only (meaning.seen self.new file) (meaning.may_leave self.new file)) }
+        ensures durable { OnOk result (IsTrue meaning.tells
+            → Only (meaning.seen self.new file) (meaning.may_leave self.new file)) }
         ensures reads { meaning.seen self.new file ≡ meaning.seen self.old file }
         ensures crash { (c : List ℕ) → meaning.may_leave self.new file c → meaning.may_leave self.old file c }
         ensures others { KeepsOthers meaning file self.old self.new }

@@ -303,10 +303,12 @@ fn note_write(
 ) -> Result<(), AllocError>
     requires file { file ≤ 2 }
     requires place { at ≤ length (reading_of first.now changed.old file) }
-    ensures notes { Notes (IsWrite at bytes.now) file calls.old.items calls.new.items (reading_of first.now changed.old file) (reading_of first.now changed.new file) }
+    ensures notes { Notes (IsWrite at bytes.now) file calls.old.items calls.new.items
+        (reading_of first.now changed.old file) (reading_of first.now changed.new file) }
     ensures others { ReadsOthers file first.now changed.old changed.new }
     ensures refused { may ≡ false → IsErr result }
-    ensures ok { OnOk result (reading_of first.now changed.new file ≡ spliced at bytes.now (reading_of first.now changed.old file)) }
+    ensures ok { OnOk result (reading_of first.now changed.new file
+        ≡ spliced at bytes.now (reading_of first.now changed.old file)) }
 {
     let copy = bytes.to_vec(alloc)?;
     calls.reserve(1)?;
@@ -330,10 +332,12 @@ fn note_truncate(
     may: bool,
 ) -> Result<(), AllocError>
     requires { file ≤ 2 }
-    ensures notes { Notes (IsTruncate size) file calls.old.items calls.new.items (reading_of first.now changed.old file) (reading_of first.now changed.new file) }
+    ensures notes { Notes (IsTruncate size) file calls.old.items calls.new.items
+        (reading_of first.now changed.old file) (reading_of first.now changed.new file) }
     ensures others { ReadsOthers file first.now changed.old changed.new }
     ensures refused { may ≡ false → IsErr result }
-    ensures ok { OnOk result (reading_of first.now changed.new file ≡ take size (reading_of first.now changed.old file)) }
+    ensures ok { OnOk result (reading_of first.now changed.new file
+        ≡ take size (reading_of first.now changed.old file)) }
 {
     calls.reserve(1)?;
     let i = file as usize;
@@ -354,7 +358,8 @@ fn note_sync(calls: &mut Vec<Call>, file: u8, held: bool) -> Result<(), AllocErr
 
 fn note_look(calls: &mut Vec<Call>, file: u8, held: bool) -> Result<(), AllocError>
     ensures refused { held ≡ false → IsErr result }
-    ensures notes { (calls.new.items ≡ calls.old.items) ⊎ (calls.new.items ≡ calls.old.items ++ record { file = file; change = Look } ∷ []) }
+    ensures notes { (calls.new.items ≡ calls.old.items)
+        ⊎ (calls.new.items ≡ calls.old.items ++ record { file = file; change = Look } ∷ []) }
 {
     let change = Change::Look;
     calls.push(Call { file, change })?;

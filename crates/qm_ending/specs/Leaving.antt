@@ -1,8 +1,6 @@
 -- Which entries go together.
-use Rattle.std.specs.Prelude.{Bool}
-use Rattle.std.specs.Str.{bytes_eq}
-use Rattle.qm_kinds.specs.declared.entry.Entry.{Entry}
-use Rattle.qm_model.specs.Due.{is_over}
+use Rattle.std.specs.Prelude.{Bool, bytes_eq}
+use Rattle.qm_model.specs.Common.{Entry, is_over}
 use Rattle.qm_ending.specs.declared.leaving.Leaving.{Leaving}
 use Rattle.qm_ending.specs.declared.leaving.Leaving.TheVariants.{Over, Of}
 

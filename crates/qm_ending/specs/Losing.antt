@@ -1,8 +1,6 @@
 -- What the loss of nodes leaves of an entry.
 use Rattle.std.specs.Prelude.{◌≡◌, ℕ, true, List, Option}
-use Rattle.qm_kinds.specs.declared.entry.Entry.{Entry}
-use Rattle.qm_kinds.specs.declared.queue.Queue.{Queue}
-use Rattle.qm_model.specs.Losing.{after_loss}
+use Rattle.qm_model.specs.Common.{Entry, Queue, after_loss}
 use Rattle.qm_parts.specs.Nodes.{is_run_on_one}
 
 -- this is left of the entry, whichever nodes are lost, so long as its run is on one of them

@@ -1,17 +1,15 @@
 // What becomes of a job when its run is reported. Nothing is changed here: each function says what an entry becomes.
 ghost use Rattle.std.specs.Prelude.{◌≡◌};
-ghost use Rattle.qm_model.specs.JobStates.{runs_in, fate_of};
-ghost use Rattle.qm_model.specs.Retaining.{is_retained, retained_until};
+ghost use Rattle.qm_model.specs.Common.{runs_in, fate_of, is_retained, retained_until, after_report, report_act};
 ghost use Rattle.qm_model.specs.Ending.{queue_retain, ended, requeued, fated, end_act, fate_act};
-ghost use Rattle.qm_model.specs.Runs.{after_report, report_act};
 ghost use Rattle.qm_rules.specs.Ending.{report_of};
 
 use qm_kinds::{
     ABORTED_STATUS, Act, Entry, EntryState, Fate, JobRetain, Mark, Moment, Name, QueueRetain,
     success,
 };
-use qm_queues::QueueTable;
 use qm_rules::Reported;
+use qm_tables::QueueTable;
 
 // Whether a job is kept: by its own setting, or by that of the queue where it ran.
 fn is_retained(retain: JobRetain, queue: QueueRetain, success: bool, now: Moment) -> bool

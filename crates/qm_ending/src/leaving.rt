@@ -1,11 +1,11 @@
 // Entries that go together, and the files that they name.
 ghost use Rattle.std.specs.Prelude.{◌≡◌, not, filter};
-ghost use Rattle.qm_entries.specs.Boxed.{contents};
-ghost use Rattle.qm_timers.specs.SpoolCounts.{CountsOf};
+ghost use Rattle.qm_tables.specs.Boxed.{contents};
+ghost use Rattle.qm_tables.specs.SpoolCounts.{CountsOf};
 ghost use Rattle.qm_ending.specs.Leaving.{goes};
 
 use qm_kinds::{Entry, EntryState, Moment, Name};
-use qm_timers::Spool;
+use qm_tables::Spool;
 
 /// Which entries go.
 #[derive(Clone, Copy)]

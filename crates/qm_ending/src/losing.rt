@@ -5,7 +5,7 @@ ghost use Rattle.qm_ending.specs.Losing.{IsLeftByLoss};
 
 use crate::ending::{ended, fate_of, fated, requeued};
 use qm_kinds::{Entry, Moment};
-use qm_queues::QueueTable;
+use qm_tables::QueueTable;
 
 /// The status of a job whose node was lost.
 const NODE_LOST_STATUS: u32 = 1020;

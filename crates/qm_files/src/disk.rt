@@ -1,6 +1,5 @@
 // Three files of the system as one disk. It tells nothing of their contents: that they behave as a disk is a premise.
-ghost use Rattle.std.specs.Prelude.{◌≡◌, ◌≤◌, false, []};
-ghost use Rattle.std.proofs.Common.{lit≤};
+ghost use Rattle.std.proofs.Common.{lit≤, ◌≡◌, ◌≤◌, false, []};
 ghost use Rattle.qm_disk.specs.Crash.{untold};
 ghost use Rattle.qm_files.specs.Faults.{file_faults};
 

@@ -1,6 +1,5 @@
 -- What a crash leaves at each moment of an append.
-use Rattle.std.proofs.Common.{◌≡◌, inl, sym, ◌∙◌, ap, subst, ℕ, ◌+◌, ◌^◌, ◌<◌, ◌≤◌, List, [], ◌∷◌, ◌++◌, length, drop, arith}
-use Rattle.std.specs.Prelude.{IsTrue}
+use Rattle.std.proofs.Common.{◌≡◌, inl, sym, ◌∙◌, ap, subst, ℕ, ◌+◌, ◌^◌, ◌<◌, ◌≤◌, List, [], ◌∷◌, ◌++◌, length, drop, arith, IsTrue}
 use Rattle.qm_disk.specs.Disk.{Meaning, CrashState, spliced, Torn, KeepsOthers, LeavesOnly}
 use Rattle.qm_disk.proofs.Moments.{weaker, goes_further, keeps_on}
 use Rattle.qm_glog.specs.Records.{text, size_of, IsLog, IsShutByZero}

@@ -1,7 +1,5 @@
 -- Reading and adding byte strings that stand one behind another.
-use Rattle.std.proofs.Common.{◌≡◌, refl, sym, ◌∙◌, ap, ℕ, suc, zero, ◌-◌, ◌<◌, ◌≤◌, subst, List, [], ◌∷◌, ◌++◌, length, get_or, take, drop, Some, slice_get, arith}
-use Rattle.std.specs.Prelude.{slice_range}
-use Rattle.std.proofs.lemmas.List.{take-take}
+use Rattle.std.proofs.Common.{◌≡◌, refl, sym, ◌∙◌, ap, ℕ, suc, zero, ◌-◌, ◌<◌, ◌≤◌, subst, List, [], ◌∷◌, ◌++◌, length, get_or, take, drop, Some, slice_get, arith, slice_range, take-take}
 use Rattle.std.proofs.lemmas.Slice.{between_is, between_to_end}
 use Rattle.qm_glog.specs.Cut.{cut, AreEnds}
 

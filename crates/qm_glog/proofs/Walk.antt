@@ -1,6 +1,5 @@
 -- One record more of a file is read, or its end.
-use Rattle.std.proofs.Common.{◌≡◌, refl, sym, ◌∙◌, ap, subst, ℕ, ◌+◌, ◌≤◌, List, [], ◌∷◌, ◌++◌, length, take, drop, Result, Ok, Err, IsErrAnd, arith, length-take, length-drop, append_assoc}
-use Rattle.std.proofs.lemmas.List.{drop_at}
+use Rattle.std.proofs.Common.{◌≡◌, refl, sym, ◌∙◌, ap, subst, ℕ, ◌+◌, ◌≤◌, List, [], ◌∷◌, ◌++◌, length, take, drop, Result, Ok, Err, IsErrAnd, arith, length-take, length-drop, append_assoc, drop_at}
 use Rattle.qm_glog.specs.Records.{behind_gate, text, size_of, Fit, BeginsWithRecord}
 use Rattle.qm_glog.proofs.Texts.{text-push, length-text, size_of-push, Fit-push}
 use Rattle.qm_glog.specs.Found.{HeadAt, IsReadFault, RecordsOf}

@@ -110,7 +110,8 @@ impl Bodies {
         requires within { IsTrue D.meaning.tells → at + count ≤ length (D.meaning.seen disk.old file) }
         requires bytes { count ≤ free_bytes self.old }
         requires end { 0 < free_ends self.old }
-        ensures added { OnOk result (IsTrue D.meaning.tells → list_of self.new ≡ list_of self.old ++ take count (drop at (D.meaning.seen disk.old file)) ∷ []) }
+        ensures added { OnOk result (IsTrue D.meaning.tells
+            → list_of self.new ≡ list_of self.old ++ take count (drop at (D.meaning.seen disk.old file)) ∷ []) }
         ensures size { OnOk result (size_of (list_of self.new) ≡ size_of (list_of self.old) + 5 + count) }
         ensures looks { OnlyLooks D.meaning disk.old disk.new }
         ensures faults { TellsFaults D.meaning disk.old disk.new (IsErr result) }
@@ -134,7 +135,8 @@ fn read_onto<D: Disk>(
     requires room { vec_len bytes.old + count ≤ vec_capacity bytes.old }
     ensures before { take (vec_len bytes.old) bytes.new.items ≡ bytes.old.items }
     ensures len { OnOk result (vec_len bytes.new ≡ vec_len bytes.old + count) }
-    ensures read { OnOk result (IsTrue D.meaning.tells → drop (vec_len bytes.old) bytes.new.items ≡ take count (drop at (D.meaning.seen disk.old file))) }
+    ensures read { OnOk result (IsTrue D.meaning.tells
+        → drop (vec_len bytes.old) bytes.new.items ≡ take count (drop at (D.meaning.seen disk.old file))) }
     ensures err { OnErr result (bytes.new.items ≡ bytes.old.items) }
     ensures looks { OnlyLooks D.meaning disk.old disk.new }
     ensures faults { TellsFaults D.meaning disk.old disk.new (IsErr result) }

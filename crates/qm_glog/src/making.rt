@@ -79,7 +79,8 @@ pub fn create<D: Disk>(
     ensures records { IfOk result (λ log. bodies_of log ≡ contents rows.now) }
     ensures place { IfOk result (StandsIn file cap) }
     ensures left { IfOk result (λ log. IsTrue D.meaning.tells → IsAsLeft D.meaning log disk.new) }
-    ensures written { OnOk result (IsTrue D.meaning.tells → D.meaning.seen disk.new file ≡ text_for (contents rows.now) ++ 0 ∷ []) }
+    ensures written { OnOk result (IsTrue D.meaning.tells
+        → D.meaning.seen disk.new file ≡ text_for (contents rows.now) ++ 0 ∷ []) }
     ensures changes { ChangesOnly D.meaning file disk.old disk.new }
     ensures unchanged { IsErrOf result MakeFault.NoMemory → disk.new ≡ disk.old }
     ensures faults { TellsFaults D.meaning disk.old disk.new (IsErrOf result MakeFault.Disk) }

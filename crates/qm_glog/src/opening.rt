@@ -15,7 +15,8 @@ use std::alloc::Global;
 fn synced_size<D: Disk>(disk: &mut D, file: u8) -> Result<u64, DiskFault>
     requires { file ≤ 2 }
     ensures size { IfOk result (λ size. IsTrue D.meaning.tells → size ≡ length (D.meaning.seen disk.old file)) }
-    ensures durable { OnOk result (IsTrue D.meaning.tells → Only (D.meaning.seen disk.new file) (D.meaning.may_leave disk.new file)) }
+    ensures durable { OnOk result (IsTrue D.meaning.tells
+        → Only (D.meaning.seen disk.new file) (D.meaning.may_leave disk.new file)) }
     ensures looks { OnlyLooks D.meaning disk.old disk.new }
     ensures faults { TellsFaults D.meaning disk.old disk.new (IsErr result) }
 {

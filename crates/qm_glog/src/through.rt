@@ -14,10 +14,13 @@ pub(crate) fn write_through<D: Disk>(
 ) -> Result<(), DiskFault>
     requires file { file ≤ 2 }
     requires place { IsTrue D.meaning.tells → at ≤ length (D.meaning.seen disk.old file) }
-    requires settled { IsTrue D.meaning.tells → Only (D.meaning.seen disk.old file) (D.meaning.may_leave disk.old file) }
+    requires settled { IsTrue D.meaning.tells
+        → Only (D.meaning.seen disk.old file) (D.meaning.may_leave disk.old file) }
 
-    ensures written { OnOk result (IsTrue D.meaning.tells → D.meaning.seen disk.new file ≡ spliced at bytes.now (D.meaning.seen disk.old file)) }
-    ensures durable { OnOk result (IsTrue D.meaning.tells → Only (D.meaning.seen disk.new file) (D.meaning.may_leave disk.new file)) }
+    ensures written { OnOk result (IsTrue D.meaning.tells
+        → D.meaning.seen disk.new file ≡ spliced at bytes.now (D.meaning.seen disk.old file)) }
+    ensures durable { OnOk result (IsTrue D.meaning.tells
+        → Only (D.meaning.seen disk.new file) (D.meaning.may_leave disk.new file)) }
     ensures any_moment { IsTrue D.meaning.tells → LeavesOnly D.meaning disk.old disk.new
         (TornWrite (D.meaning.may_leave disk.old) file at (length bytes.now) (D.meaning.seen disk.old file)) }
     ensures others { KeepsOthers D.meaning file disk.old disk.new }
@@ -31,7 +34,8 @@ pub(crate) fn write_through<D: Disk>(
 pub(crate) fn replace<D: Disk>(disk: &mut D, file: u8, bytes: &[u8]) -> Result<(), DiskFault>
     requires { file ≤ 2 }
     ensures holds { OnOk result (IsTrue D.meaning.tells → D.meaning.seen disk.new file ≡ bytes.now) }
-    ensures durable { OnOk result (IsTrue D.meaning.tells → Only (D.meaning.seen disk.new file) (D.meaning.may_leave disk.new file)) }
+    ensures durable { OnOk result (IsTrue D.meaning.tells
+        → Only (D.meaning.seen disk.new file) (D.meaning.may_leave disk.new file)) }
     ensures changes { ChangesOnly D.meaning file disk.old disk.new }
     ensures faults { TellsFaults D.meaning disk.old disk.new (IsErr result) }
 {

@@ -1,11 +1,10 @@
 -- No qualifier has more values than 65,535.
-use Rattle.std.proofs.Common.{◌≡◌, ℕ, ◌+◌, ◌≤◌, Bool, true, false, cond, nat_lt, List, [], ◌∷◌, ◌++◌, Option, None, Some, Result, Ok, Err, IfOk, refl, sym, subst, arith}
-use Rattle.std.specs.Option.{option_to_list}
+use Rattle.std.proofs.Common.{◌≡◌, ℕ, ◌+◌, ◌≤◌, Bool, true, false, cond, nat_lt, List, [], ◌∷◌, ◌++◌, Option, None, Some, Result, Ok, Err, IfOk, refl, sym, subst, arith, option_to_list}
 use Rattle.std.proofs.lemmas.Bool.Decides.{nat_tests}
 use Rattle.qm_kinds.specs.declared.refusal.ParseKind.TheVariants as fault
-use Rattle.qm_lex.specs.declared.token.Token.{Token}
-use Rattle.qm_lex.specs.declared.token.TokenKind.{TokenKind}
-use Rattle.qm_lex.specs.declared.token.TokenKind.TheVariants as kinds
+use Rattle.qm_commands.specs.declared.tokens.token.Token.{Token}
+use Rattle.qm_commands.specs.declared.tokens.token.TokenKind.{TokenKind}
+use Rattle.qm_commands.specs.declared.tokens.token.TokenKind.TheVariants as kinds
 use Rattle.qm_commands.specs.declared.fault.Fault.{Fault}
 use Rattle.qm_grammar.specs.declared.part.Part.{Part}
 use Rattle.qm_grammar.specs.declared.part.Part.TheVariants as part

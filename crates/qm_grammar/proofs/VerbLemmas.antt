@@ -1,7 +1,7 @@
 -- Among which verbs a token is sought.
 use Rattle.std.proofs.Common.{◌≡◌, ◌==◌, ℕ, Bool, true, false, cond, ◌&&◌, nat_le, nat_lt, find, filter, get_or, List, [], ◌∷◌, length, take, Option, Some, refl, sym, ap, ◌∙◌}
 use Rattle.std.specs.Char.{to_ascii_uppercase}
-use Rattle.qm_lex.specs.declared.token.Token.{Token}
+use Rattle.qm_commands.specs.declared.tokens.token.Token.{Token}
 use Rattle.qm_commands.specs.declared.table.Verb.{Verb}
 use Rattle.qm_grammar.specs.Finding.{verb_of}
 use Rattle.qm_commands.specs.Names.{is_verb, is_verb_alone}

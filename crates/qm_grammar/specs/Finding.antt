@@ -1,9 +1,8 @@
 -- Which command the tokens behind a verb make of it.
-use Rattle.std.specs.Prelude.{ℕ, Bool, true, false, ◌&&◌, not, if◌then◌else◌, is_some, find, List, [], ◌∷◌, Option, None, Some}
-use Rattle.std.specs.Option.{option_map}
-use Rattle.qm_lex.specs.declared.token.Token.{Token}
-use Rattle.qm_lex.specs.declared.token.TokenKind.{TokenKind}
-use Rattle.qm_lex.specs.declared.token.TokenKind.TheVariants as kinds
+use Rattle.std.specs.Prelude.{ℕ, Bool, true, false, ◌&&◌, not, if◌then◌else◌, is_some, find, List, [], ◌∷◌, Option, None, Some, option_map}
+use Rattle.qm_commands.specs.declared.tokens.token.Token.{Token}
+use Rattle.qm_commands.specs.declared.tokens.token.TokenKind.{TokenKind}
+use Rattle.qm_commands.specs.declared.tokens.token.TokenKind.TheVariants as kinds
 use Rattle.qm_commands.specs.declared.table.Verb.{Verb}
 use Rattle.qm_commands.specs.declared.table.Command.{Command}
 use Rattle.qm_commands.specs.declared.table.Row.{Row}

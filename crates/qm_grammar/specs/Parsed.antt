@@ -1,9 +1,9 @@
 -- Which tokens a text has, which command it is, with its parts; or what is wrong and where.
 use Rattle.std.specs.Prelude.{ℕ, if◌then◌else◌, nat_lt, List, [], ◌∷◌, ◌++◌, take, Result, Ok, Err}
 use Rattle.qm_kinds.specs.declared.refusal.ParseKind.TheVariants.{Form}
-use Rattle.qm_lex.specs.declared.token.Token.{Token}
-use Rattle.qm_lex.specs.declared.token.TokenKind.TheVariants.{Quoted}
-use Rattle.qm_lex.specs.Tokens.{tokens_of}
+use Rattle.qm_commands.specs.declared.tokens.token.Token.{Token}
+use Rattle.qm_commands.specs.declared.tokens.token.TokenKind.TheVariants.{Quoted}
+use Rattle.qm_commands.specs.Tokens.{tokens_of}
 use Rattle.qm_commands.specs.declared.fault.Fault.{Fault}
 use Rattle.qm_grammar.specs.declared.part.Part.{Part}
 use Rattle.qm_commands.specs.declared.table.Command.{Command}

@@ -5,8 +5,7 @@ ghost use Rattle.qm_commands.specs.Names.{is_verb};
 ghost use Rattle.qm_commands.specs.Table.{verbs};
 ghost use Rattle.qm_commands.specs.Words.{verb_spelling};
 
-use qm_commands::{Row, VERBS, Verb, Word, bytes_of, is_text, rows_of};
-use qm_lex::{Token, TokenKind};
+use qm_commands::{Row, Token, TokenKind, VERBS, Verb, Word, bytes_of, is_text, rows_of};
 use qm_names::{counting_place, has_slash, is_object, is_verb};
 
 // The verbs whose second letter this is. It leaves three of them at most.

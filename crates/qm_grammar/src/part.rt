@@ -1,11 +1,9 @@
 // The parts of a command.
-ghost use Rattle.std.specs.Prelude.{◌≡◌, ◌++◌, IfOk};
-ghost use Rattle.std.specs.Option.{option_to_list};
+ghost use Rattle.std.specs.Prelude.{◌≡◌, ◌++◌, IfOk, option_to_list};
 ghost use Rattle.qm_grammar.specs.Parts.{qualifier_part};
 
 use crate::place::State;
-use qm_commands::{Rule, Word};
-use qm_lex::Token;
+use qm_commands::{Rule, Token, Word};
 use std::alloc::AllocFailed;
 
 /// A part of a command.

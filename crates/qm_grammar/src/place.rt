@@ -2,8 +2,7 @@
 ghost use Rattle.std.specs.Prelude.{◌≡◌};
 ghost use Rattle.qm_grammar.specs.Places.{begun, moved, is_awaited};
 
-use qm_commands::{Takes, needs_value};
-use qm_lex::Token;
+use qm_commands::{Takes, Token, needs_value};
 
 /// Behind which token one stands.
 #[derive(Clone, Copy)]

@@ -1,14 +1,13 @@
 // Texts of commands.
 ghost use Rattle.std.specs.Prelude.{◌≡◌, ◌++◌, ◌∷◌, [], take, Ok, Err, IfOk};
-ghost use Rattle.qm_lex.specs.Tokens.{tokens_of};
+ghost use Rattle.qm_commands.specs.Tokens.{tokens_of};
 ghost use Rattle.qm_grammar.specs.Finding.{named_command};
 ghost use Rattle.qm_grammar.specs.Parsed.{unreadable, readable, tokens_in, or_unreadable, command_in, parts_in};
 
 use crate::part::Part;
 use crate::reading::told_of;
-use qm_commands::{Command, Fault, fault_at};
+use qm_commands::{Command, Fault, LexFault, Token, TokenKind, fault_at, lex};
 use qm_kinds::ParseKind;
-use qm_lex::{LexFault, Token, TokenKind, lex};
 use std::alloc::{AllocError, Global};
 
 /// What the grammar says of a text.
@@ -58,7 +57,8 @@ fn unreadable(place: usize) -> Token
 
 // The tokens up to one that can't be read.
 fn tokens_to(alloc: Global, text: &[u8], place: usize) -> Result<Vec<Token>, AllocError>
-    ensures { IfOk result (λ tokens. tokens.items ≡ readable (tokens_of (take place text.now)) ++ unreadable place ∷ []) }
+    ensures { IfOk result (λ tokens. tokens.items
+        ≡ readable (tokens_of (take place text.now)) ++ unreadable place ∷ []) }
 {
     let mut tokens = match lex(alloc, front(text, place)) {
         Ok(tokens) => tokens,
@@ -88,7 +88,8 @@ fn tokens_to(alloc: Global, text: &[u8], place: usize) -> Result<Vec<Token>, All
 /// Errors: `AllocError`, where memory ran out.
 pub fn parse(alloc: Global, text: &[u8]) -> Result<Parsed, AllocError>
     ensures tokens { IfOk result (λ parsed. parsed.tokens.items ≡ tokens_in text.now) }
-    ensures named { IfOk result (λ parsed. parsed.named ≡ named_command text.now (tokens_in text.now)) }
+    ensures named { IfOk result (λ parsed. parsed.named
+        ≡ named_command text.now (tokens_in text.now)) }
     ensures parts { IfOk result (λ parsed. parsed.parts.items ≡ parts_in text.now) }
     ensures command { IfOk result (λ parsed. parsed.command ≡ command_in text.now) }
 {

@@ -9,9 +9,10 @@ use crate::finding::{row_of, verb_of};
 use crate::part::{Part, push_part};
 use crate::place::{Place, State, begun};
 use crate::step::{is_owing, with_token};
-use qm_commands::{Command, Fault, Row, Verb, begins_verb, fault_at, needs_value};
+use qm_commands::{
+    Command, Fault, Row, Token, TokenKind, Verb, begins_verb, fault_at, needs_value,
+};
 use qm_kinds::ParseKind;
-use qm_lex::{Token, TokenKind};
 use qm_names::{first_conflict, or_conflict};
 use std::alloc::{AllocError, Global};
 
@@ -60,8 +61,10 @@ fn walk(
     first: Token,
     tokens: &[Token],
 ) -> Result<Walked, AllocError>
-    ensures read { IfOk result (λ walked. walked.read ≡ read_from text.now verb row (begun first) tokens.now) }
-    ensures parts { IfOk result (λ walked. walked.parts.items ≡ parts_from text.now verb row (begun first) tokens.now) }
+    ensures read { IfOk result (λ walked. walked.read
+        ≡ read_from text.now verb row (begun first) tokens.now) }
+    ensures parts { IfOk result (λ walked. walked.parts.items
+        ≡ parts_from text.now verb row (begun first) tokens.now) }
 {
     let mut parts = Vec::new(alloc);
     let mut s = begun(first);
@@ -118,9 +121,12 @@ fn told_behind(
     first: Token,
     tokens: &[Token],
 ) -> Result<Told, AllocError>
-    ensures named { IfOk result (λ told. told.named ≡ named_behind text.now tokens.now (Some verb)) }
-    ensures command { IfOk result (λ told. told.command ≡ command_behind text.now first tokens.now (Some verb)) }
-    ensures parts { IfOk result (λ told. told.parts.items ≡ parts_behind text.now first tokens.now (Some verb)) }
+    ensures named { IfOk result (λ told. told.named
+        ≡ named_behind text.now tokens.now (Some verb)) }
+    ensures command { IfOk result (λ told. told.command
+        ≡ command_behind text.now first tokens.now (Some verb)) }
+    ensures parts { IfOk result (λ told. told.parts.items
+        ≡ parts_behind text.now first tokens.now (Some verb)) }
 {
     let row = row_of(text, tokens, verb);
     let walked = walk(alloc, text, verb, row, first, tokens)?;

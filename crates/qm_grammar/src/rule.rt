@@ -3,8 +3,7 @@ ghost use Rattle.std.specs.Prelude.{◌≡◌, find, None};
 ghost use Rattle.qm_commands.specs.Names.{is_name, rule_for};
 ghost use Rattle.qm_commands.specs.Rules.{rules_of};
 
-use qm_commands::{Command, Row, Rule, Verb, own_rules, rows_of, settings};
-use qm_lex::Token;
+use qm_commands::{Command, Row, Rule, Token, Verb, own_rules, rows_of, settings};
 use qm_names::is_name;
 
 // Which of these options and qualifiers a token is.

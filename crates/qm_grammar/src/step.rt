@@ -9,11 +9,10 @@ use crate::part::{Part, qualifier_part};
 use crate::place::{Place, State, is_awaited, moved};
 use crate::rule::rule_for;
 use qm_commands::{
-    Fault, Row, Rule, Takes, Verb, begins_name, fault_at, may_have_key, most_values, needs_value,
-    takes_object, takes_option,
+    Fault, Row, Rule, Takes, Token, TokenKind, Verb, begins_name, fault_at, may_have_key,
+    most_values, needs_value, takes_object, takes_option,
 };
 use qm_kinds::ParseKind;
-use qm_lex::{Token, TokenKind};
 
 /// One token further.
 #[derive(Clone, Copy)]
@@ -197,7 +196,8 @@ fn with_name(
     token: Token,
 ) -> Result<Step, Fault>
     ensures state { IfOk result (λ step. with_name text.now verb row s.now token ≡ Ok step.state) }
-    ensures part { IfOk result (λ step. step.part ≡ qualifier_part s.now.start (rule_for text.now verb row token)) }
+    ensures part { IfOk result (λ step. step.part
+        ≡ qualifier_part s.now.start (rule_for text.now verb row token)) }
     ensures fault { IfErr result (λ fault. with_name text.now verb row s.now token ≡ Err fault) }
 {
     if token.kind != TokenKind::Word {
@@ -218,9 +218,12 @@ fn with_word(
     s: &State,
     token: Token,
 ) -> Result<Step, Fault>
-    ensures state { IfOk result (λ step. with_word text.now verb row s.now token s.now.place ≡ Ok step.state) }
-    ensures part { IfOk result (λ step. step.part ≡ text_part s.now.start (rule_for text.now verb row token) token s.now.place) }
-    ensures fault { IfErr result (λ fault. with_word text.now verb row s.now token s.now.place ≡ Err fault) }
+    ensures state { IfOk result (λ step.
+        with_word text.now verb row s.now token s.now.place ≡ Ok step.state) }
+    ensures part { IfOk result (λ step. step.part
+        ≡ text_part s.now.start (rule_for text.now verb row token) token s.now.place) }
+    ensures fault { IfErr result (λ fault.
+        with_word text.now verb row s.now token s.now.place ≡ Err fault) }
 {
     match s.place {
         Place::VerbSlash | Place::Slash => with_name(text, verb, row, s, token),
@@ -341,9 +344,11 @@ pub(crate) fn with_token(
     s: &State,
     token: Token,
 ) -> Result<Step, Fault>
-    ensures state { IfOk result (λ step. with_token text.now verb row s.now token token.kind ≡ Ok step.state) }
+    ensures state { IfOk result (λ step.
+        with_token text.now verb row s.now token token.kind ≡ Ok step.state) }
     ensures part { IfOk result (λ step. step.part ≡ part_of text.now verb row s.now token) }
-    ensures fault { IfErr result (λ fault. with_token text.now verb row s.now token token.kind ≡ Err fault) }
+    ensures fault { IfErr result (λ fault.
+        with_token text.now verb row s.now token token.kind ≡ Err fault) }
 {
     match token.kind {
         TokenKind::Word | TokenKind::Quoted => with_word(text, verb, row, s, token),

@@ -1,39 +1,27 @@
 -- Programs that begin behind a crash.
-use Rattle.std.proofs.Common.{◌≡◌, ◌⊎◌, inl, inr, ℕ, true, List, [], ◌∷◌, ◌++◌, map, refl, sym, ◌∙◌, ap, subst, Some, Ok, Contains}
-use Rattle.std.specs.Prelude.{option_to_list}
-use Rattle.std.proofs.lemmas.List.{append-nil}
-use Rattle.qm_kinds.specs.declared.record.Record.{Record}
-use Rattle.qm_kinds.specs.declared.request.Request.{Request}
-use Rattle.qm_kinds.specs.declared.system.System.{System}
-use Rattle.qm_model.specs.Applied.{applied}
-use Rattle.qm_model.specs.Outcome.{Accepted}
+use Rattle.std.proofs.Common.{◌≡◌, ◌⊎◌, inl, inr, ℕ, true, List, [], ◌∷◌, ◌++◌, map, refl, sym, ◌∙◌, ap, subst, Some, Ok, Contains, option_to_list, append-nil}
+use Rattle.qm_history.specs.Common.{Record, Request, System, applied, Accepted, after_turn, after_turns, IsLegalTurn, IsLegal, IsAccepted, first_world, after_events, IsSound}
 use Rattle.qm_history.specs.declared.event.Event.{Event}
 use Rattle.qm_history.specs.declared.turn.Turn.{Turn}
 use Rattle.qm_history.specs.declared.world.World.{World}
 use Rattle.qm_history.specs.Happening.{events_of, Begins, acknowledged, told_of_doubt}
 use Rattle.qm_history.specs.Leaving.{MayBeLeft, MayBeLeftBehind, MayBeLeftIn, IsLeftWithin}
-use Rattle.qm_history.specs.Legal.{after_turn, after_turns, IsLegalTurn, IsLegal}
-use Rattle.qm_history.specs.Accepted.{IsAccepted}
-use Rattle.qm_history.specs.Start.{first_world}
-use Rattle.qm_history.specs.Step.{after_events}
-use Rattle.qm_history.specs.World.{IsSound}
 use Rattle.qm_history.proofs.CrashLemmas.{left_accepted, left_holds, behind_accepted}
 use Rattle.qm_history.proofs.EventLemmas.{acknowledged_in, kept_in, stays_in, world_of_events, begins_on, events_begin}
 use Rattle.qm_history.proofs.SoundLemmas.{history_sound}
 use Rattle.qm_history.proofs.StartLemmas.{first_sound}
 
-module _ (HasSpelling : Record → Type 0) where
-  legal_parts : (w : World) (before : List Turn) (t : Turn) → IsLegal HasSpelling w (before ++ t ∷ []) → IsLegal HasSpelling w before × IsLegalTurn HasSpelling (after_turns w before) t
-  legal_parts w [] t legal = (tt, legal.0)
-  legal_parts w (x ∷ before) t legal = let parts = legal_parts (after_turn w x) before t legal.1 in ((legal.0, parts.0), parts.1)
+legal_parts : (w : World) (before : List Turn) (t : Turn) → IsLegal w (before ++ t ∷ []) → IsLegal w before × IsLegalTurn (after_turns w before) t
+legal_parts w [] t legal = (tt, legal.0)
+legal_parts w (x ∷ before) t legal = let parts = legal_parts (after_turn w x) before t legal.1 in ((legal.0, parts.0), parts.1)
 
-  module _ (names : (s : System) (now node : ℕ) (asked : Request) (a : Accepted) → applied s now node asked ≡ Ok a → map (λ n. n.name) a.system.nodes ≡ map (λ n. n.name) s.nodes) where
-    pub goes_on : (w : World) (before : List Turn) (t : Turn) (log : List Record) (epoch : ℕ) → IsSound HasSpelling w → IsLegal HasSpelling w (before ++ t ∷ []) → MayBeLeft (after_turns w before) t log
-        → IsSound HasSpelling (first_world log epoch)
-    goes_on w before t log epoch sound legal left =
-        let parts = legal_parts w before t legal in
-        first_sound HasSpelling log epoch
-        (left_accepted HasSpelling names (after_turns w before) t log (history_sound HasSpelling names w before sound parts.0) parts.1 left)
+module _ (names : (s : System) (now node : ℕ) (asked : Request) (a : Accepted) → applied s now node asked ≡ Ok a → map (λ n. n.name) a.system.nodes ≡ map (λ n. n.name) s.nodes) where
+  pub goes_on : (w : World) (before : List Turn) (t : Turn) (log : List Record) (epoch : ℕ) → IsSound w → IsLegal w (before ++ t ∷ []) → MayBeLeft (after_turns w before) t log
+      → IsSound (first_world log epoch)
+  goes_on w before t log epoch sound legal left =
+      let parts = legal_parts w before t legal in
+      first_sound log epoch
+      (left_accepted names (after_turns w before) t log (history_sound names w before sound parts.0) parts.1 left)
 
 -- what is in the log behind events is in what a crash leaves of a later turn
 in_left : (w : World) (before : List Turn) (t : Turn) (log : List Record) (events : List Event) (r : Record) → MayBeLeft (after_turns w before) t log → events_of before ≡ events
@@ -77,9 +65,9 @@ pub behind_in : (w : World) (turns : List Turn) (log : List Record) → MayBeLef
 behind_in w [] log left = left
 behind_in w (t ∷ turns) log left = inr (behind_in (after_turn w t) turns log left)
 
-module _ (HasSpelling : Record → Type 0) (names : (s : System) (now node : ℕ) (asked : Request) (a : Accepted) → applied s now node asked ≡ Ok a → map (λ n. n.name) a.system.nodes ≡ map (λ n. n.name) s.nodes) where
-  pub in_accepted : (w : World) (turns : List Turn) (log : List Record) → IsSound HasSpelling w → IsLegal HasSpelling w turns → MayBeLeftIn w turns log → IsAccepted HasSpelling log
-  in_accepted w [] log sound legal left = behind_accepted HasSpelling names w log sound left
-  in_accepted w (t ∷ turns) log sound legal (inl left) = left_accepted HasSpelling names w t log sound legal.0 left
+module _ (names : (s : System) (now node : ℕ) (asked : Request) (a : Accepted) → applied s now node asked ≡ Ok a → map (λ n. n.name) a.system.nodes ≡ map (λ n. n.name) s.nodes) where
+  pub in_accepted : (w : World) (turns : List Turn) (log : List Record) → IsSound w → IsLegal w turns → MayBeLeftIn w turns log → IsAccepted log
+  in_accepted w [] log sound legal left = behind_accepted names w log sound left
+  in_accepted w (t ∷ turns) log sound legal (inl left) = left_accepted names w t log sound legal.0 left
   in_accepted w (t ∷ turns) log sound legal (inr left) =
-      in_accepted (after_turn w t) turns log (history_sound HasSpelling names w (t ∷ []) sound (legal.0, tt)) legal.1 left
+      in_accepted (after_turn w t) turns log (history_sound names w (t ∷ []) sound (legal.0, tt)) legal.1 left

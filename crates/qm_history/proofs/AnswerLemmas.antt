@@ -1,11 +1,9 @@
 -- What is answered where a disk failed, and where a file has no room.
-use Rattle.std.proofs.Common.{◌≡◌, ◌⊎◌, inl, inr, ℕ, ◌+◌, Bool, true, false, List, [], ◌∷◌, refl, ◌∙◌, subst, arith, cond, Option, None, Some}
-use Rattle.std.specs.Prelude.{◌<◌, ◌≤◌, ◌==◌, if◌then◌else◌}
+use Rattle.std.proofs.Common.{◌≡◌, ◌⊎◌, inl, inr, ℕ, ◌+◌, Bool, true, false, List, [], ◌∷◌, refl, ◌∙◌, subst, arith, cond, Option, None, Some, ◌<◌, ◌≤◌, ◌==◌, if◌then◌else◌}
 use Rattle.std.specs.List.{AllByRecursion}
 use Rattle.std.proofs.lemmas.List.Sums.{sum_by-cons}
-use Rattle.qm_kinds.specs.declared.input.Input.{Input}
+use Rattle.qm_history.specs.Common.{Input, MayAnswer, answer_of, events_answer, event_answer, shown_answer, taken_answer, takeover_of, last_moment, answered, is_disk_fault, tells_disk_fault, faults_told, is_journal, after_turn, IsLegalTurn, after_event, Visit, visits}
 use Rattle.qm_kinds.specs.declared.input.Input.TheVariants as input
-use Rattle.qm_kinds.specs.declared.record.Record.{Record}
 use Rattle.qm_history.specs.declared.call.Answer.{Answer}
 use Rattle.qm_history.specs.declared.call.Answer.TheVariants as answer
 use Rattle.qm_history.specs.declared.call.Call.{Call}
@@ -16,46 +14,20 @@ use Rattle.qm_history.specs.declared.turn.Turn.{Turn}
 use Rattle.qm_history.specs.declared.turn.Why.{Why}
 use Rattle.qm_history.specs.declared.turn.Why.TheVariants as why
 use Rattle.qm_history.specs.declared.world.World.{World}
-use Rattle.qm_history.specs.Answering.{MayAnswer}
-use Rattle.qm_history.specs.Answers.{answer_of, events_answer, event_answer, shown_answer, taken_answer, takeover_of, last_moment}
-use Rattle.qm_history.specs.Course.{answered}
-use Rattle.qm_history.specs.Faults.{is_disk_fault, tells_disk_fault, faults_told, is_journal}
-use Rattle.qm_history.specs.Legal.{after_turn, IsLegalTurn}
 use Rattle.qm_history.specs.Room.{Room, Lacks, IsAboveCap, LacksBehind, LacksForOwn, LacksForTakeover, HasRoom, HaveRoom, room_after, failed_by}
-use Rattle.qm_history.specs.Step.{after_event}
-use Rattle.qm_history.specs.Visits.{Visit, visits}
 
 shown_no_journal : (w : World) (node : ℕ) (took : Option Takeover) (moment : ℕ) (asked : Input) → is_journal (shown_answer w node took moment asked) ≡ false
 shown_no_journal w node took moment (input.Show query) = refl
-shown_no_journal w node took moment (input.Fetch known) = refl
-shown_no_journal w node took moment (input.Ask asked) = refl
-shown_no_journal w node took moment input.Compact = refl
-shown_no_journal w node took moment input.StartNode = refl
-shown_no_journal w node took moment input.StopNode = refl
-shown_no_journal w node took moment (input.TakeManager on) = refl
-shown_no_journal w node took moment (input.Fault place kind) = refl
+shown_no_journal w node took moment _ = refl
 
 taken_no_journal : (took : Option Takeover) (moment : ℕ) (name : List ℕ) (epoch : ℕ) (because : Why) → is_journal (taken_answer took moment name epoch because) ≡ false
 taken_no_journal took moment name epoch (why.Line line) = refl
-taken_no_journal took moment name epoch why.Fetch = refl
-taken_no_journal took moment name epoch why.Report = refl
-taken_no_journal took moment name epoch why.Leave = refl
+taken_no_journal took moment name epoch _ = refl
 
 one_journal : (w : World) (took : Option Takeover) (because : Why) (moment : ℕ) (e : Event) → is_journal (event_answer w took because moment e) ≡ is_disk_fault e
-one_journal w took because moment (event.Done node acted asked reply) = refl
-one_journal w took because moment (event.Refused node acted asked refusal) = refl
 one_journal w took because moment (event.Shown node acted asked) = shown_no_journal w node took moment asked
-one_journal w took because moment (event.Doubt node acted asked) = refl
-one_journal w took because moment (event.Full node need cap) = refl
-one_journal w took because moment (event.NoManager node) = refl
 one_journal w took because moment (event.Took node acted epoch gone up may kept) = taken_no_journal took moment _ epoch because
-one_journal w took because moment (event.TakeDoubt node tried kept) = refl
-one_journal w took because moment (event.Fenced node held current) = refl
-one_journal w took because moment (event.Stopped node) = refl
-one_journal w took because moment (event.Left node) = refl
-one_journal w took because moment (event.Started node) = refl
-one_journal w took because moment (event.Compacted node epoch file) = refl
-one_journal w took because moment (event.CompactDoubt node) = refl
+one_journal w took because moment _ = refl
 
 all_journal : (w : World) (took : Option Takeover) (because : Why) (moment : ℕ) (events : List Event) → is_journal (events_answer w took because moment events) ≡ tells_disk_fault events
 all_journal w took because moment [] = refl
@@ -77,19 +49,10 @@ never_journal w (t ∷ turns) none =
     (sum_by-cons (λ (x : Turn). cond (tells_disk_fault x.events) 1 0) t turns) none in
     (turn_journal w t ∙ parts.0, never_journal (after_turn w t) turns parts.1)
 
-module _ (HasSpelling : Record → Type 0) where
-  pub answers_legal : (w : World) (asked : Call) (t : Turn) (told : Answer) → MayAnswer HasSpelling w asked t told → IsLegalTurn HasSpelling w t
-  answers_legal w asked t (answer.NoMemory took) may = (asked, inr may.0)
-  answers_legal w asked t (answer.Damaged file place) may = (asked, inl may.0)
-  answers_legal w asked t answer.HistoryFull may = absurd may
-  answers_legal w asked t (answer.Done took moment reply) may = (asked, inl may.0)
-  answers_legal w asked t (answer.Shown took moment rows) may = (asked, inl may.0)
-  answers_legal w asked t (answer.Duties took moment duties) may = (asked, inl may.0)
-  answers_legal w asked t (answer.Refused took refusal) may = (asked, inl may.0)
-  answers_legal w asked t (answer.Full took need cap) may = (asked, inl may.0)
-  answers_legal w asked t (answer.Journal took live) may = (asked, inl may.0)
-  answers_legal w asked t (answer.Fenced held current) may = (asked, inl may.0)
-  answers_legal w asked t (answer.NoManager took name) may = (asked, inl may.0)
+pub answers_legal : (w : World) (asked : Call) (t : Turn) (told : Answer) → MayAnswer w asked t told → IsLegalTurn w t
+answers_legal w asked t (answer.NoMemory took) may = (asked, inr may.0)
+answers_legal w asked t answer.HistoryFull may = absurd may
+answers_legal w asked t _ may = (asked, inl may.0)
 
 -- ---- room
 
@@ -99,82 +62,48 @@ queue_file m wanted node need cap h = let a : need ≡ wanted = h.0 in let b : c
 master : (m : Room) (wanted node need cap : ℕ) → Lacks wanted 1048576 (event.Full node need cap) → IsAboveCap m.cap (event.Full node need cap)
 master m wanted node need cap h = let a : need ≡ wanted = h.0 in let b : cap ≡ 1048576 = h.1 in let c : 1048576 < wanted = h.2 in (omega (arith, a, b, c), inr b)
 
-module _ (text : Record → List ℕ) where
-  image_above : (m : Room) (epoch : ℕ) (size node need cap : ℕ) (live : ℕ)
-      → Lacks size m.cap (event.Full node need cap) ⊎ ((size ≤ m.cap) × Lacks live 1048576 (event.Full node need cap)) → IsAboveCap m.cap (event.Full node need cap)
-  image_above m epoch size node need cap live (inl h) = queue_file m size node need cap h
-  image_above m epoch size node need cap live (inr h) = master m live node need cap h.1
+image_above : (m : Room) (epoch : ℕ) (size node need cap : ℕ) (live : ℕ)
+    → Lacks size m.cap (event.Full node need cap) ⊎ ((size ≤ m.cap) × Lacks live 1048576 (event.Full node need cap)) → IsAboveCap m.cap (event.Full node need cap)
+image_above m epoch size node need cap live (inl h) = queue_file m size node need cap h
+image_above m epoch size node need cap live (inr h) = master m live node need cap h.1
 
-  own_above : (w : World) (m : Room) (by reading : ℕ) (asked : Input) (node need cap : ℕ) → LacksForOwn text w m by reading asked (event.Full node need cap)
-      → IsAboveCap m.cap (event.Full node need cap)
-  own_above w m by reading input.Compact node need cap h = image_above m w.greatest _ node need cap _ h
-  own_above w m by reading (input.Ask asked) node need cap h = queue_file m _ node need cap h
-  own_above w m by reading input.StartNode node need cap h = queue_file m _ node need cap h
-  own_above w m by reading input.StopNode node need cap h = queue_file m _ node need cap h
-  own_above w m by reading (input.Show query) node need cap h = absurd h
-  own_above w m by reading (input.Fetch known) node need cap h = absurd h
-  own_above w m by reading (input.TakeManager on) node need cap h = absurd h
-  own_above w m by reading (input.Fault place kind) node need cap h = absurd h
+own_above : (w : World) (m : Room) (by reading : ℕ) (asked : Input) (node need cap : ℕ) → LacksForOwn w m by reading asked (event.Full node need cap)
+    → IsAboveCap m.cap (event.Full node need cap)
+own_above w m by reading input.Compact node need cap h = image_above m w.greatest _ node need cap _ h
+own_above w m by reading (input.Ask asked) node need cap h = queue_file m _ node need cap h
+own_above w m by reading input.StartNode node need cap h = queue_file m _ node need cap h
+own_above w m by reading input.StopNode node need cap h = queue_file m _ node need cap h
+own_above w m by reading _ node need cap h = absurd h
 
-  takeover_above : (w : World) (m : Room) (by reading : ℕ) (asked : Input) (node need cap : ℕ) → LacksForTakeover text w m by reading asked (event.Full node need cap)
-      → IsAboveCap m.cap (event.Full node need cap)
-  takeover_above w m by reading input.Compact node need cap h = image_above m w.greatest _ node need cap _ h.1
-  takeover_above w m by reading (input.Ask asked) node need cap h = queue_file m _ node need cap h
-  takeover_above w m by reading input.StartNode node need cap h = queue_file m _ node need cap h
-  takeover_above w m by reading input.StopNode node need cap h = queue_file m _ node need cap h
-  takeover_above w m by reading (input.Show query) node need cap h = queue_file m _ node need cap h
-  takeover_above w m by reading (input.Fetch known) node need cap h = queue_file m _ node need cap h
-  takeover_above w m by reading (input.TakeManager on) node need cap h = queue_file m _ node need cap h
-  takeover_above w m by reading (input.Fault place kind) node need cap h = queue_file m _ node need cap h
+takeover_above : (w : World) (m : Room) (by reading : ℕ) (asked : Input) (node need cap : ℕ) → LacksForTakeover w m by reading asked (event.Full node need cap)
+    → IsAboveCap m.cap (event.Full node need cap)
+takeover_above w m by reading input.Compact node need cap h = image_above m w.greatest _ node need cap _ h.1
+takeover_above w m by reading _ node need cap h = queue_file m _ node need cap h
 
-  behind_above : (failed : Option Bool) (w : World) (m : Room) (by reading : ℕ) (asked : Input) (node need cap : ℕ)
-      → LacksBehind text failed w m by reading asked (event.Full node need cap) → IsAboveCap m.cap (event.Full node need cap)
-  behind_above None w m by reading asked node need cap h = own_above w m by reading asked node need cap h
-  behind_above (Some false) w m by reading asked node need cap h = master m _ node need cap h
-  behind_above (Some true) w m by reading asked node need cap h = takeover_above w m by reading asked node need cap h
+behind_above : (failed : Option Bool) (w : World) (m : Room) (by reading : ℕ) (asked : Input) (node need cap : ℕ)
+    → LacksBehind failed w m by reading asked (event.Full node need cap) → IsAboveCap m.cap (event.Full node need cap)
+behind_above None w m by reading asked node need cap h = own_above w m by reading asked node need cap h
+behind_above (Some false) w m by reading asked node need cap h = master m _ node need cap h
+behind_above (Some true) w m by reading asked node need cap h = takeover_above w m by reading asked node need cap h
 
-  one_above : (failed : Option Bool) (w : World) (m : Room) (reading : ℕ) (asked : Input) (e : Event) (events : List Event)
-      → HasRoom text failed w m reading asked e events → IsAboveCap m.cap e
-  one_above failed w m reading asked (event.Full node need cap) events h = behind_above failed w m node reading asked node need cap h
-  one_above failed w m reading asked (event.Done node moment r reply) events h = tt
-  one_above failed w m reading asked (event.Refused node moment input refusal) events h = tt
-  one_above failed w m reading asked (event.Shown node moment input) events h = tt
-  one_above failed w m reading asked (event.Doubt node moment r) events h = tt
-  one_above failed w m reading asked (event.NoManager node) events h = tt
-  one_above failed w m reading asked (event.Took node moment epoch gone up may kept) events h = tt
-  one_above failed w m reading asked (event.TakeDoubt node tried kept) events h = tt
-  one_above failed w m reading asked (event.Fenced node held current) events h = tt
-  one_above failed w m reading asked (event.Stopped node) events h = tt
-  one_above failed w m reading asked (event.Left node) events h = tt
-  one_above failed w m reading asked (event.Started node) events h = tt
-  one_above failed w m reading asked (event.Compacted node epoch file) events h = tt
-  one_above failed w m reading asked (event.CompactDoubt node) events h = tt
+one_above : (failed : Option Bool) (w : World) (m : Room) (reading : ℕ) (asked : Input) (e : Event) (events : List Event)
+    → HasRoom failed w m reading asked e events → IsAboveCap m.cap e
+one_above failed w m reading asked (event.Full node need cap) events h = behind_above failed w m node reading asked node need cap h
+one_above failed w m reading asked _ events h = tt
 
-  same_cap : (m : Room) (master : ℕ) (b : Bool) → (if b then m else record m { master = master }).cap ≡ m.cap
-  same_cap m master true = refl
-  same_cap m master false = refl
+same_cap : (m : Room) (master : ℕ) (b : Bool) → (if b then m else record m { master = master }).cap ≡ m.cap
+same_cap m master true = refl
+same_cap m master false = refl
 
-  cap_stays : (w : World) (m : Room) (e : Event) → (room_after text w m e).cap ≡ m.cap
-  cap_stays w m (event.TakeDoubt node tried kept) = same_cap m _ (tried == w.greatest)
-  cap_stays w m (event.Full node need cap) = refl
-  cap_stays w m (event.Done node moment r reply) = refl
-  cap_stays w m (event.Refused node moment input refusal) = refl
-  cap_stays w m (event.Shown node moment input) = refl
-  cap_stays w m (event.Doubt node moment r) = refl
-  cap_stays w m (event.NoManager node) = refl
-  cap_stays w m (event.Took node moment epoch gone up may kept) = refl
-  cap_stays w m (event.Fenced node held current) = refl
-  cap_stays w m (event.Stopped node) = refl
-  cap_stays w m (event.Left node) = refl
-  cap_stays w m (event.Started node) = refl
-  cap_stays w m (event.Compacted node epoch file) = refl
-  cap_stays w m (event.CompactDoubt node) = refl
+cap_stays : (w : World) (m : Room) (e : Event) → (room_after w m e).cap ≡ m.cap
+cap_stays w m (event.TakeDoubt node tried kept) = same_cap m _ (tried == w.greatest)
+cap_stays w m _ = refl
 
-  pub all_above : (failed : Option Bool) (w : World) (m : Room) (reading : ℕ) (asked : Input) (events : List Event)
-      → HaveRoom text failed w m reading asked events → AllByRecursion (IsAboveCap m.cap) events
-  all_above failed w m reading asked [] h = tt
-  all_above failed w m reading asked (e ∷ events) h = (
-    one_above failed w m reading asked e events h.0,
-    subst (λ (cap : ℕ). AllByRecursion (IsAboveCap cap) events) (cap_stays w m e)
-        (all_above (failed_by w e) (after_event w e) (room_after text w m e) reading asked events h.1),
-  )
+pub all_above : (failed : Option Bool) (w : World) (m : Room) (reading : ℕ) (asked : Input) (events : List Event)
+    → HaveRoom failed w m reading asked events → AllByRecursion (IsAboveCap m.cap) events
+all_above failed w m reading asked [] h = tt
+all_above failed w m reading asked (e ∷ events) h = (
+  one_above failed w m reading asked e events h.0,
+  subst (λ (cap : ℕ). AllByRecursion (IsAboveCap cap) events) (cap_stays w m e)
+      (all_above (failed_by w e) (after_event w e) (room_after w m e) reading asked events h.1),
+)

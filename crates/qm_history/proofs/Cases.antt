@@ -1,17 +1,13 @@
 -- Calls of two nodes as a table, the turns that they make, and what is printed of them; and what single turns and steps may be.
-use Rattle.std.proofs.Common.{◌≡◌, ℕ, lit<, Bool, true, false, List, [], ◌∷◌, ◌++◌, refl, None, Some}
-use Rattle.std.specs.Prelude.{codes, Ok, Err}
+use Rattle.std.proofs.Common.{◌≡◌, ℕ, lit<, Bool, true, false, List, [], ◌∷◌, ◌++◌, refl, None, Some, codes, Ok, Err}
 use Rattle.std.specs.Fmt.{digits}
-use Rattle.qm_kinds.specs.declared.entry.JobKind.TheVariants as job
-use Rattle.qm_kinds.specs.declared.input.Input.{Input}
+use Rattle.qm_history.specs.Common.{Input, Duty, Work, IsWaiting, KeptRun, DeviceFailed, CutShort, WentOn, IsEndOf, report_told, after_turn, script_lines, text, cluster_text}
 use Rattle.qm_kinds.specs.declared.input.Input.TheVariants as input
-use Rattle.qm_kinds.specs.declared.record.Record.{Record}
 use Rattle.qm_kinds.specs.declared.refusal.ParseKind.TheVariants as parse
 use Rattle.qm_kinds.specs.declared.request.Request.TheVariants as request
 use Rattle.qm_kinds.specs.declared.script.ScriptKind.TheVariants as wrong
-use Rattle.qm_kinds.specs.declared.work.Duty.{Duty}
 use Rattle.qm_kinds.specs.declared.work.Report.TheVariants as report
-use Rattle.qm_kinds.specs.declared.work.Work.{Work}
+use Rattle.qm_model.proofs.Duties.{plain_work}
 use Rattle.qm_history.specs.declared.call.Answer.TheVariants as answer
 use Rattle.qm_history.specs.declared.call.Call.TheVariants as call
 use Rattle.qm_history.specs.declared.event.Event.{Event}
@@ -21,14 +17,9 @@ use Rattle.qm_history.specs.declared.turn.Why.TheVariants as why
 use Rattle.qm_history.specs.declared.world.World.{World}
 use Rattle.qm_history.specs.Answering.{IsOneTakeover}
 use Rattle.qm_history.specs.Computed.{turn_of}
-use Rattle.qm_history.specs.Order.{IsWaiting}
-use Rattle.qm_model.specs.Kept.{KeptRun, DeviceFailed, CutShort, WentOn, IsEndOf, report_told}
 use Rattle.qm_history.specs.Course.{NodeState, at_first, behind_step, behind_step_line, next_at, Begun, Whole, IsBrokenOff, next_run}
-use Rattle.qm_history.specs.Legal.{after_turn}
-use Rattle.qm_history.specs.Lines.{script_lines}
 use Rattle.qm_history.specs.Room.{HaveRoom}
 use Rattle.qm_history.specs.Script.{UserLine, LineSort, Command, Act}
-use Rattle.qm_history.specs.Text.{text, cluster_text}
 use Rattle.qm_history.specs.Turn.{IsServed, IsTakeoverAlone}
 use Rattle.qm_history.proofs.Serving.{Asked, history, new_site, world_of, no_items}
 
@@ -98,7 +89,7 @@ abbrev full_master : List Event
 full_master = event.TakeDoubt 0 0 None ∷ event.Full 0 1048587 1048576 ∷ []
 
 -- Without this a takeover could fail at a full master with any numbers.
-pub a_full_master_is_told : HaveRoom (λ (r : Record). []) None site (record { master = 1048570; live = 100; file = 1; cap = 4096 }) 1000 tick full_master
+pub a_full_master_is_told : HaveRoom None site (record { master = 1048570; live = 100; file = 1; cap = 4096 }) 1000 tick full_master
 a_full_master_is_told = (tt, ((refl, refl, lit< tt), tt))
 
 -- memory ran out behind a takeover: that is all of the turn, and what is answered
@@ -113,20 +104,7 @@ a_turn_may_be_cut_short = ((refl, refl, (refl, refl, refl, refl)), refl)
 
 -- a print job of one page as a node has it
 abbrev work_of_run : ℕ → Work
-work_of_run run = record {
-  run = run;
-  entry = run;
-  kind = job.Print;
-  name = codes "F";
-  user = codes "SYSTEM";
-  device = codes "LP";
-  text = codes "page\n";
-  shape = record { length = 66; width = 132; top = 0; bottom = 6; left = 0; right = 0; wrap = false };
-  copies = 1;
-  flag = false;
-  again = false;
-  mark = [];
-}
+work_of_run run = plain_work run (codes "F") (codes "LP") (codes "page\n")
 
 abbrev duty : ℕ → Bool → Bool → Duty
 duty run aborting paused = record { run = run; aborting = aborting; paused = paused; work = Some (work_of_run run) }

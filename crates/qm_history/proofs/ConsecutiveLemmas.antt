@@ -1,21 +1,12 @@
 -- The blocks of a stretch are consecutive.
-use Rattle.std.proofs.Common.{◌≡◌, ℕ, zero, suc, ◌+◌, ◌-◌, ◌<◌, ◌≤◌, inl, inr, Bool, true, false, cond, ◌&&◌, List, [], ◌∷◌, ◌++◌, length, take, drop, refl, sym, ◌∙◌, ap, subst, arith, Option, None, Some}
-use Rattle.std.specs.Prelude.{◌==◌, nat_lt}
+use Rattle.std.proofs.Common.{◌≡◌, ℕ, zero, suc, ◌+◌, ◌-◌, ◌<◌, ◌≤◌, inl, inr, Bool, true, false, cond, ◌&&◌, List, [], ◌∷◌, ◌++◌, length, take, drop, refl, sym, ◌∙◌, ap, subst, arith, Option, None, Some, ◌==◌, nat_lt, append_assoc, append-nil, drop-drop, take-append-drop}
 use Rattle.std.specs.List.{AllByRecursion}
 use Rattle.std.proofs.lemmas.Bool.Decides.{nat_tests}
-use Rattle.std.proofs.lemmas.List.{append_assoc, append-nil, drop-drop, take-append-drop}
-use Rattle.qm_kinds.specs.declared.entry.JobKind.{JobKind}
-use Rattle.qm_kinds.specs.declared.entry.JobKind.TheVariants.{Print}
-use Rattle.qm_kinds.specs.declared.work.Place.{Place}
+use Rattle.qm_history.specs.Common.{JobKind, Print, Place, Work, normal_status, page_blocks, KeptRun, StepEnd, WentOn, DeviceFailed, CutShort, report_told, MadeStep}
 use Rattle.qm_kinds.specs.declared.work.Report.TheVariants as report
-use Rattle.qm_kinds.specs.declared.work.Work.{Work}
-use Rattle.qm_model.specs.Batch.{normal_status}
-use Rattle.qm_model.specs.Pages.{page_blocks}
 use Rattle.qm_model.specs.Reports.{begin, course, course_of, next_report, print_steps, blocks_before_report}
 use Rattle.qm_model.proofs.ReportLemmas.{next_mark, more_left}
 use Rattle.qm_history.specs.Blocks.{AreFirst, blocks_next, HandsOver, AreHanded, last_step, IsFetchedBehind, IsLeftBy, IsInStretch, ComeInStretches, blocks_of_stretch, blocks_behind_mark}
-use Rattle.qm_model.specs.Kept.{KeptRun, StepEnd, WentOn, DeviceFailed, CutShort, report_told}
-use Rattle.qm_history.specs.Course.{MadeStep}
 use Rattle.qm_history.proofs.AgainLemmas.{Came, InStretchAt, told_mark, same_run, behind_its_mark}
 
 -- ---- first ones of lists

@@ -1,23 +1,14 @@
 -- Within a stretch no block is left out.
-use Rattle.std.proofs.Common.{◌≡◌, ℕ, ◌+◌, ◌-◌, ◌<◌, ◌≤◌, inl, inr, Bool, true, false, cond, List, [], ◌∷◌, length, drop, refl, sym, ◌∙◌, ap, subst, arith, Some}
-use Rattle.std.specs.Prelude.{◌==◌, nat_lt, decimal, slice_get, Contains}
+use Rattle.std.proofs.Common.{◌≡◌, ℕ, ◌+◌, ◌-◌, ◌<◌, ◌≤◌, inl, inr, Bool, true, false, cond, List, [], ◌∷◌, length, drop, refl, sym, ◌∙◌, ap, subst, arith, Some, ◌==◌, nat_lt, decimal, slice_get, Contains, length-drop}
 use Rattle.std.specs.List.{AllByRecursion}
 use Rattle.std.proofs.lemmas.Bool.Decides.{nat_tests}
-use Rattle.std.proofs.lemmas.List.{length-drop}
 use Rattle.std.proofs.lemmas.Option.{slice_get_within}
-use Rattle.qm_kinds.specs.declared.entry.JobKind.{JobKind}
-use Rattle.qm_kinds.specs.declared.entry.JobKind.TheVariants.{Print}
-use Rattle.qm_kinds.specs.declared.work.Place.{Place}
+use Rattle.qm_history.specs.Common.{JobKind, Print, Place, Work, normal_status, page_blocks, KeptRun, StepEnd, WentOn, DeviceFailed, CutShort, report_told, MadeStep}
 use Rattle.qm_kinds.specs.declared.work.Report.TheVariants as report
-use Rattle.qm_kinds.specs.declared.work.Work.{Work}
-use Rattle.qm_model.specs.Batch.{normal_status}
-use Rattle.qm_model.specs.Pages.{page_blocks}
 use Rattle.qm_model.specs.Reports.{begin, course_of, next_report, print_steps}
 use Rattle.qm_history.specs.declared.turn.Turn.{Turn}
 use Rattle.qm_history.specs.declared.world.World.{World}
 use Rattle.qm_history.specs.Blocks.{last_step, IsInStretch, IsLeftBy, ComeInStretches}
-use Rattle.qm_model.specs.Kept.{KeptRun, StepEnd, WentOn, DeviceFailed, CutShort, report_told}
-use Rattle.qm_history.specs.Course.{MadeStep}
 use Rattle.qm_history.specs.Printed.{Came, EndsWell, IsHandedOver, AreHandedBehindMarks, ComesAgainElsewhere}
 use Rattle.qm_history.proofs.AgainLemmas.{InStretchAt, behind_its_mark, same_run, told_mark}
 use Rattle.qm_history.proofs.AgainLemmas as again

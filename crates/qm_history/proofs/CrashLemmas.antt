@@ -1,27 +1,14 @@
 -- What a crash leaves of the log.
-use Rattle.std.proofs.Common.{◌≡◌, ℕ, zero, suc, ◌⊎◌, inl, inr, true, false, List, [], ◌∷◌, ◌++◌, map, take, drop, refl, sym, ◌∙◌, ap, subst, Option, None, Some, Ok}
-use Rattle.std.specs.Prelude.{IfSome, filter_map, option_to_list}
+use Rattle.std.proofs.Common.{◌≡◌, ℕ, zero, suc, ◌⊎◌, inl, inr, true, false, List, [], ◌∷◌, ◌++◌, map, take, drop, refl, sym, ◌∙◌, ap, subst, Option, None, Some, Ok, IfSome, filter_map, option_to_list, append_assoc, append-nil}
 use Rattle.std.specs.List.{cons_option}
-use Rattle.std.proofs.lemmas.List.{append_assoc, append-nil}
-use Rattle.qm_kinds.specs.declared.record.Record.{Record}
-use Rattle.qm_kinds.specs.declared.request.Request.{Request}
+use Rattle.qm_history.specs.Common.{Record, Request, System, applied, Accepted, IsNext, AreNext, IsAccepted, system_of, after_turn, IsLegalTurn, record_of, request_record, after_event, after_events, CanCome, CanAllCome, log_read, doubt_read, system_in, IsSound}
 use Rattle.qm_kinds.specs.declared.request.Request.TheVariants as request
-use Rattle.qm_kinds.specs.declared.system.System.{System}
-use Rattle.qm_model.specs.Applied.{applied}
-use Rattle.qm_model.specs.Outcome.{Accepted}
 use Rattle.qm_history.specs.declared.event.Event.{Event}
 use Rattle.qm_history.specs.declared.event.Event.TheVariants as event
 use Rattle.qm_history.specs.declared.turn.Turn.{Turn}
 use Rattle.qm_history.specs.declared.world.World.{World}
-use Rattle.qm_history.specs.Accepted.{IsNext, AreNext, IsAccepted}
-use Rattle.qm_model.specs.Folding.{system_of}
 use Rattle.qm_history.specs.Happening.{Begins, is_takeover, may_come_first, told_of_doubt, AreOneOrTwo}
 use Rattle.qm_history.specs.Leaving.{records_of, told_by, MayBeLeft, MayBeLeftBehind}
-use Rattle.qm_history.specs.Legal.{after_turn, IsLegalTurn}
-use Rattle.qm_history.specs.Records.{record_of}
-use Rattle.qm_model.specs.Log.{request_record}
-use Rattle.qm_history.specs.Step.{after_event, after_events, CanCome, CanAllCome}
-use Rattle.qm_history.specs.World.{log_read, doubt_read, system_in, IsSound}
 use Rattle.qm_history.proofs.EventLemmas.{begins_on, read_begins, events_begin}
 use Rattle.qm_history.proofs.LogLemmas.{one_more, accepted_append}
 use Rattle.qm_history.proofs.ShapeLemmas.{turn_two}
@@ -46,33 +33,13 @@ one_in w (event.Done node moment asked reply) = (option_to_list w.doubt, refl)
 one_in w (event.Doubt node moment asked) = ([], sym (append-nil (w.log ++ request_record moment node asked ∷ [])))
 one_in w (event.Took node moment epoch gone up may kept) = ([], refl)
 one_in w (event.TakeDoubt node tried kept) = (option_to_list (doubt_read w kept), ap (λ x. x ++ option_to_list (doubt_read w kept)) (sym (append-nil (log_read w kept))))
-one_in w (event.Refused node moment asked refusal) = (option_to_list w.doubt, ap (λ x. x ++ option_to_list w.doubt) (sym (append-nil w.log)))
-one_in w (event.Shown node moment asked) = (option_to_list w.doubt, ap (λ x. x ++ option_to_list w.doubt) (sym (append-nil w.log)))
-one_in w (event.Full node need cap) = (option_to_list w.doubt, ap (λ x. x ++ option_to_list w.doubt) (sym (append-nil w.log)))
-one_in w (event.NoManager node) = (option_to_list w.doubt, ap (λ x. x ++ option_to_list w.doubt) (sym (append-nil w.log)))
-one_in w (event.Fenced node held current) = (option_to_list w.doubt, ap (λ x. x ++ option_to_list w.doubt) (sym (append-nil w.log)))
-one_in w (event.Stopped node) = (option_to_list w.doubt, ap (λ x. x ++ option_to_list w.doubt) (sym (append-nil w.log)))
-one_in w (event.Left node) = (option_to_list w.doubt, ap (λ x. x ++ option_to_list w.doubt) (sym (append-nil w.log)))
-one_in w (event.Started node) = (option_to_list w.doubt, ap (λ x. x ++ option_to_list w.doubt) (sym (append-nil w.log)))
-one_in w (event.Compacted node epoch file) = (option_to_list w.doubt, ap (λ x. x ++ option_to_list w.doubt) (sym (append-nil w.log)))
-one_in w (event.CompactDoubt node) = (option_to_list w.doubt, ap (λ x. x ++ option_to_list w.doubt) (sym (append-nil w.log)))
+one_in w _ = (option_to_list w.doubt, ap (λ x. x ++ option_to_list w.doubt) (sym (append-nil w.log)))
 
 -- what is no takeover tells of no doubt
 plain_tells : (e : Event) → is_takeover e ≡ false → told_of_doubt e ≡ None
 plain_tells (event.Took node moment epoch gone up may kept) h = cc
 plain_tells (event.TakeDoubt node tried kept) h = cc
-plain_tells (event.Done node moment asked reply) h = refl
-plain_tells (event.Doubt node moment asked) h = refl
-plain_tells (event.Refused node moment asked refusal) h = refl
-plain_tells (event.Shown node moment asked) h = refl
-plain_tells (event.Full node need cap) h = refl
-plain_tells (event.NoManager node) h = refl
-plain_tells (event.Fenced node held current) h = refl
-plain_tells (event.Stopped node) h = refl
-plain_tells (event.Left node) h = refl
-plain_tells (event.Started node) h = refl
-plain_tells (event.Compacted node epoch file) h = refl
-plain_tells (event.CompactDoubt node) h = refl
+plain_tells _ h = refl
 
 -- the log, and what one event writes
 abbrev written : World → Event → List Record
@@ -92,15 +59,7 @@ two_in w (event.TakeDoubt node tried kept) next first plain = next_in (after_eve
 two_in w (event.Stopped node) next first plain = next_in (after_event w (event.Stopped node)) next plain
 two_in w (event.Left node) next first plain = next_in (after_event w (event.Left node)) next plain
 two_in w (event.Started node) next first plain = next_in (after_event w (event.Started node)) next plain
-two_in w (event.Done node moment asked reply) next first plain = cc
-two_in w (event.Doubt node moment asked) next first plain = cc
-two_in w (event.Refused node moment asked refusal) next first plain = cc
-two_in w (event.Shown node moment asked) next first plain = cc
-two_in w (event.Full node need cap) next first plain = cc
-two_in w (event.NoManager node) next first plain = cc
-two_in w (event.Fenced node held current) next first plain = cc
-two_in w (event.Compacted node epoch file) next first plain = cc
-two_in w (event.CompactDoubt node) next first plain = cc
+two_in w _ next first plain = cc
 
 all_in : (w : World) (events : List Event) → AreOneOrTwo events → Begins (log_read w (told_by events) ++ filter_map record_of events) ((after_events w events).log ++ option_to_list (after_events w events).doubt)
 all_in w [] two = absurd two
@@ -118,90 +77,71 @@ left_holds w t log (inr (inl same)) = (option_to_list w.doubt, same)
 left_holds w t log (inr (inr (n, same))) =
     begins_on w.log (log_read w (told_by t.events)) log (read_begins w (told_by t.events)) (take n (records_of t), same)
 
-module _ (HasSpelling : Record → Type 0) where
-  -- the log behind the turn begins with what is left, unless that is the log before it with the record that was then in doubt
-  pub left_begins : (w : World) (t : Turn) (log : List Record) → IsLegalTurn HasSpelling w t → MayBeLeft w t log
-      → Begins log ((after_turn w t).log ++ option_to_list (after_turn w t).doubt) ⊎ (log ≡ w.log ++ option_to_list w.doubt)
-  left_begins w t log legal (inl same) =
-      inl (subst (λ x. Begins x ((after_turn w t).log ++ option_to_list (after_turn w t).doubt)) (sym same)
-      (begins_on w.log (after_turn w t).log ((after_turn w t).log ++ option_to_list (after_turn w t).doubt) (events_begin w t.events) (with_doubt_begins (after_turn w t))))
-  left_begins w t log legal (inr (inl same)) = inr same
-  left_begins w t log legal (inr (inr (n, same))) =
-      let all : List Record = log_read w (told_by t.events) ++ records_of t in
-      inl (begins_on log all ((after_turn w t).log ++ option_to_list (after_turn w t).doubt)
-      (subst (λ x. Begins x all) (sym same) (first_begin (log_read w (told_by t.events)) (records_of t) n))
-      (all_in w t.events (turn_two HasSpelling w t legal)))
+-- the log behind the turn begins with what is left, unless that is the log before it with the record that was then in doubt
+pub left_begins : (w : World) (t : Turn) (log : List Record) → IsLegalTurn w t → MayBeLeft w t log
+    → Begins log ((after_turn w t).log ++ option_to_list (after_turn w t).doubt) ⊎ (log ≡ w.log ++ option_to_list w.doubt)
+left_begins w t log legal (inl same) =
+    inl (subst (λ x. Begins x ((after_turn w t).log ++ option_to_list (after_turn w t).doubt)) (sym same)
+    (begins_on w.log (after_turn w t).log ((after_turn w t).log ++ option_to_list (after_turn w t).doubt) (events_begin w t.events) (with_doubt_begins (after_turn w t))))
+left_begins w t log legal (inr (inl same)) = inr same
+left_begins w t log legal (inr (inr (n, same))) =
+    let all : List Record = log_read w (told_by t.events) ++ records_of t in
+    inl (begins_on log all ((after_turn w t).log ++ option_to_list (after_turn w t).doubt)
+    (subst (λ x. Begins x all) (sym same) (first_begin (log_read w (told_by t.events)) (records_of t) n))
+    (all_in w t.events (turn_two w t legal)))
 
-  -- ---- what is left is accepted
+-- ---- what is left is accepted
 
-  accepted_first : (log records : List Record) (n : ℕ) → IsAccepted HasSpelling log → AreNext HasSpelling (system_of log) records → IsAccepted HasSpelling (log ++ take n records)
-  accepted_first log records zero h next = subst (IsAccepted HasSpelling) (sym (append-nil log)) h
-  accepted_first log [] (suc n) h next = subst (IsAccepted HasSpelling) (sym (append-nil log)) h
-  accepted_first log (r ∷ records) (suc n) h next =
-      subst (IsAccepted HasSpelling) (append_assoc log (r ∷ []) (take n records))
-      (accepted_first (log ++ r ∷ []) records n (accepted_append HasSpelling log r h next.0) (subst (λ s. AreNext HasSpelling s records) (sym (one_more log r)) next.1))
+accepted_first : (log records : List Record) (n : ℕ) → IsAccepted log → AreNext (system_of log) records → IsAccepted (log ++ take n records)
+accepted_first log records zero h next = subst IsAccepted (sym (append-nil log)) h
+accepted_first log [] (suc n) h next = subst IsAccepted (sym (append-nil log)) h
+accepted_first log (r ∷ records) (suc n) h next =
+    subst IsAccepted (append_assoc log (r ∷ []) (take n records))
+    (accepted_first (log ++ r ∷ []) records n (accepted_append log r h next.0) (subst (λ s. AreNext s records) (sym (one_more log r)) next.1))
 
-  one_next : (s : System) (o : Option Record) → IfSome o (IsNext HasSpelling s) → AreNext HasSpelling s (cons_option o [])
-  one_next s None h = tt
-  one_next s (Some r) h = (h, tt)
+one_next : (s : System) (o : Option Record) → IfSome o (IsNext s) → AreNext s (cons_option o [])
+one_next s None h = tt
+one_next s (Some r) h = (h, tt)
 
-  module _ (names : (s : System) (now node : ℕ) (asked : Request) (a : Accepted) → applied s now node asked ≡ Ok a → map (λ n. n.name) a.system.nodes ≡ map (λ n. n.name) s.nodes) where
-    event_next : (w : World) (e : Event) → CanCome HasSpelling w e → IfSome (record_of e) (IsNext HasSpelling (system_of (log_read w (told_of_doubt e))))
-    event_next w (event.Done node moment asked reply) can = can.1
-    event_next w (event.Doubt node moment asked) can = doubt_follows HasSpelling names w node moment asked can
-    event_next w (event.Took node moment epoch gone up may kept) can = can.follows
-    event_next w (event.TakeDoubt node tried kept) can = tt
-    event_next w (event.Refused node moment asked refusal) can = tt
-    event_next w (event.Shown node moment asked) can = tt
-    event_next w (event.Full node need cap) can = tt
-    event_next w (event.NoManager node) can = tt
-    event_next w (event.Fenced node held current) can = tt
-    event_next w (event.Stopped node) can = tt
-    event_next w (event.Left node) can = tt
-    event_next w (event.Started node) can = tt
-    event_next w (event.Compacted node epoch file) can = tt
-    event_next w (event.CompactDoubt node) can = tt
+module _ (names : (s : System) (now node : ℕ) (asked : Request) (a : Accepted) → applied s now node asked ≡ Ok a → map (λ n. n.name) a.system.nodes ≡ map (λ n. n.name) s.nodes) where
+  event_next : (w : World) (e : Event) → CanCome w e → IfSome (record_of e) (IsNext (system_of (log_read w (told_of_doubt e))))
+  event_next w (event.Done node moment asked reply) can = can.1
+  event_next w (event.Doubt node moment asked) can = doubt_follows names w node moment asked can
+  event_next w (event.Took node moment epoch gone up may kept) can = can.follows
+  event_next w _ can = tt
 
-    second_next : (w : World) (e : Event) → is_takeover e ≡ false → CanCome HasSpelling w e → AreNext HasSpelling (system_in w) (cons_option (record_of e) [])
-    second_next w e plain can =
-        one_next (system_in w) (record_of e) (subst (λ told. IfSome (record_of e) (IsNext HasSpelling (system_of (log_read w told)))) (plain_tells e plain) (event_next w e can))
+  second_next : (w : World) (e : Event) → is_takeover e ≡ false → CanCome w e → AreNext (system_in w) (cons_option (record_of e) [])
+  second_next w e plain can =
+      one_next (system_in w) (record_of e) (subst (λ told. IfSome (record_of e) (IsNext (system_of (log_read w told)))) (plain_tells e plain) (event_next w e can))
 
-    two_next : (w : World) (e next : Event) → may_come_first e ≡ true → is_takeover next ≡ false → CanCome HasSpelling w e → CanCome HasSpelling (after_event w e) next
-        → AreNext HasSpelling (system_of (log_read w (told_of_doubt e))) (cons_option (record_of e) (cons_option (record_of next) []))
-    two_next w (event.Took node moment epoch gone up may kept) next first plain can then =
-        let v : World = after_event w (event.Took node moment epoch gone up may kept) in
-        let r : Record = request_record moment node (request.Took epoch gone up may) in
-        (can.follows, subst (λ s. AreNext HasSpelling s (cons_option (record_of next) [])) (one_more (log_read w kept) r) (second_next v next plain then))
-    two_next w (event.TakeDoubt node tried kept) next first plain can then = second_next (after_event w (event.TakeDoubt node tried kept)) next plain then
-    two_next w (event.Stopped node) next first plain can then = second_next (after_event w (event.Stopped node)) next plain then
-    two_next w (event.Left node) next first plain can then = second_next (after_event w (event.Left node)) next plain then
-    two_next w (event.Started node) next first plain can then = second_next (after_event w (event.Started node)) next plain then
-    two_next w (event.Done node moment asked reply) next first plain can then = cc
-    two_next w (event.Doubt node moment asked) next first plain can then = cc
-    two_next w (event.Refused node moment asked refusal) next first plain can then = cc
-    two_next w (event.Shown node moment asked) next first plain can then = cc
-    two_next w (event.Full node need cap) next first plain can then = cc
-    two_next w (event.NoManager node) next first plain can then = cc
-    two_next w (event.Fenced node held current) next first plain can then = cc
-    two_next w (event.Compacted node epoch file) next first plain can then = cc
-    two_next w (event.CompactDoubt node) next first plain can then = cc
+  two_next : (w : World) (e next : Event) → may_come_first e ≡ true → is_takeover next ≡ false → CanCome w e → CanCome (after_event w e) next
+      → AreNext (system_of (log_read w (told_of_doubt e))) (cons_option (record_of e) (cons_option (record_of next) []))
+  two_next w (event.Took node moment epoch gone up may kept) next first plain can then =
+      let v : World = after_event w (event.Took node moment epoch gone up may kept) in
+      let r : Record = request_record moment node (request.Took epoch gone up may) in
+      (can.follows, subst (λ s. AreNext s (cons_option (record_of next) [])) (one_more (log_read w kept) r) (second_next v next plain then))
+  two_next w (event.TakeDoubt node tried kept) next first plain can then = second_next (after_event w (event.TakeDoubt node tried kept)) next plain then
+  two_next w (event.Stopped node) next first plain can then = second_next (after_event w (event.Stopped node)) next plain then
+  two_next w (event.Left node) next first plain can then = second_next (after_event w (event.Left node)) next plain then
+  two_next w (event.Started node) next first plain can then = second_next (after_event w (event.Started node)) next plain then
+  two_next w _ next first plain can then = cc
 
-    all_next : (w : World) (events : List Event) → AreOneOrTwo events → CanAllCome HasSpelling w events → AreNext HasSpelling (system_of (log_read w (told_by events))) (filter_map record_of events)
-    all_next w [] two can = absurd two
-    all_next w (e ∷ []) two can = one_next (system_of (log_read w (told_of_doubt e))) (record_of e) (event_next w e can.0)
-    all_next w (e ∷ next ∷ []) two can = two_next w e next two.0 two.1 can.0 can.1.0
-    all_next w (e ∷ next ∷ other ∷ events) two can = absurd two
+  all_next : (w : World) (events : List Event) → AreOneOrTwo events → CanAllCome w events → AreNext (system_of (log_read w (told_by events))) (filter_map record_of events)
+  all_next w [] two can = absurd two
+  all_next w (e ∷ []) two can = one_next (system_of (log_read w (told_of_doubt e))) (record_of e) (event_next w e can.0)
+  all_next w (e ∷ next ∷ []) two can = two_next w e next two.0 two.1 can.0 can.1.0
+  all_next w (e ∷ next ∷ other ∷ events) two can = absurd two
 
-    pub behind_accepted : (w : World) (log : List Record) → IsSound HasSpelling w → MayBeLeftBehind w log → IsAccepted HasSpelling log
-    behind_accepted w log sound (inl same) = subst (IsAccepted HasSpelling) (sym same) sound.log
-    behind_accepted w log sound (inr same) =
-        let reading = with_doubt HasSpelling names w.log w.doubt sound.log sound.doubt in subst (IsAccepted HasSpelling) (sym same) reading.accepted
+  pub behind_accepted : (w : World) (log : List Record) → IsSound w → MayBeLeftBehind w log → IsAccepted log
+  behind_accepted w log sound (inl same) = subst IsAccepted (sym same) sound.log
+  behind_accepted w log sound (inr same) =
+      let reading = with_doubt names w.log w.doubt sound.log sound.doubt in subst IsAccepted (sym same) reading.accepted
 
-    pub left_accepted : (w : World) (t : Turn) (log : List Record) → IsSound HasSpelling w → IsLegalTurn HasSpelling w t → MayBeLeft w t log → IsAccepted HasSpelling log
-    left_accepted w t log sound legal (inl same) = behind_accepted w log sound (inl same)
-    left_accepted w t log sound legal (inr (inl same)) = behind_accepted w log sound (inr same)
-    left_accepted w t log sound legal (inr (inr (n, same))) =
-        let reading = read_log HasSpelling names w (told_by t.events) sound in
-        subst (IsAccepted HasSpelling) (sym same)
-        (accepted_first (log_read w (told_by t.events)) (records_of t) n reading.accepted
-        (all_next w t.events (turn_two HasSpelling w t legal) (legal_comes HasSpelling w t legal)))
+  pub left_accepted : (w : World) (t : Turn) (log : List Record) → IsSound w → IsLegalTurn w t → MayBeLeft w t log → IsAccepted log
+  left_accepted w t log sound legal (inl same) = behind_accepted w log sound (inl same)
+  left_accepted w t log sound legal (inr (inl same)) = behind_accepted w log sound (inr same)
+  left_accepted w t log sound legal (inr (inr (n, same))) =
+      let reading = read_log names w (told_by t.events) sound in
+      subst IsAccepted (sym same)
+      (accepted_first (log_read w (told_by t.events)) (records_of t) n reading.accepted
+      (all_next w t.events (turn_two w t legal) (legal_comes w t legal)))

@@ -1,13 +1,12 @@
 -- Records in doubt, takeovers that fail, and losses that have no room.
-use Rattle.std.proofs.Common.{◌≡◌, ℕ, lit<, lit≤, Bool, true, false, List, [], ◌∷◌, ◌++◌, refl, inr, None, Some, map}
-use Rattle.std.specs.Prelude.{codes, option_to_list}
+use Rattle.std.proofs.Common.{◌≡◌, ℕ, lit<, lit≤, Bool, true, false, List, [], ◌∷◌, ◌++◌, refl, inr, None, Some, map, codes, option_to_list}
 use Rattle.std.specs.Fmt.{digits}
 use Rattle.qm_kinds.specs.declared.file.File.{File}
-use Rattle.qm_kinds.specs.declared.file.FileName.{FileName}
+use Rattle.qm_history.specs.Common.{FileName, Request, after_turn, after_turns, IsLegal, IsLegalTurn, text, system_in}
 use Rattle.qm_kinds.specs.declared.input.Input.TheVariants as input
 use Rattle.qm_kinds.specs.declared.reply.Act.TheVariants as act
-use Rattle.qm_kinds.specs.declared.request.Request.{Request}
 use Rattle.qm_kinds.specs.declared.request.Request.TheVariants as request
+use Rattle.qm_record.specs.Spelling.{RequestFits}
 use Rattle.qm_history.specs.declared.call.Call.TheVariants as call
 use Rattle.qm_history.specs.declared.event.Event.{Event}
 use Rattle.qm_history.specs.declared.event.Event.TheVariants as event
@@ -15,11 +14,8 @@ use Rattle.qm_history.specs.declared.turn.Turn.{Turn}
 use Rattle.qm_history.specs.declared.turn.Why.TheVariants as why
 use Rattle.qm_history.specs.declared.world.World.{World}
 use Rattle.qm_history.specs.Leaving.{MayBeLeft}
-use Rattle.qm_history.specs.Legal.{after_turn, after_turns, IsLegal, IsLegalTurn}
-use Rattle.qm_history.specs.Text.{text}
-use Rattle.qm_history.specs.World.{system_in}
-use Rattle.qm_history.proofs.LegalTurns.{follows, serves, takes}
-use Rattle.qm_history.proofs.Serving.{new_site, world_of, no_items, Any}
+use Rattle.qm_history.proofs.LegalTurns.{a_fits, both_fit, follows, none_fit, says, serves, takes}
+use Rattle.qm_history.proofs.Serving.{new_site, world_of, no_items}
 
 abbrev turn : ℕ → ℕ → List Event → Turn
 turn node line events = record { node = node; why = why.Line line; moment = 1000; events = events }
@@ -31,6 +27,12 @@ both = codes "A" ∷ codes "B" ∷ []
 
 abbrev append : Request
 append = request.Append (record { name = codes "J"; extension = Some (codes "COM") }) (codes "$ EXIT 1\n")
+
+append_fits : RequestFits append
+append_fits = (
+  record { name = record { some = lit< tt; few = lit≤ tt; lawful = refl }; extension = record { some = lit< tt; few = lit≤ tt; lawful = refl } },
+  record { few = lit< tt; all = (lit< tt, (lit< tt, (lit< tt, (lit< tt, (lit< tt, (lit< tt, (lit< tt, (lit< tt, (lit< tt, tt))))))))) },
+)
 
 -- A takes the role over, and a disk fails at the record of its append
 abbrev failed : Turn
@@ -79,23 +81,23 @@ left_by_the_next = inr (inr (2, refl))
 pub no_manager_in_doubt : (after_turns site (failed ∷ [])).manager ≡ None
 no_manager_in_doubt = refl
 
-failed_is_legal : IsLegalTurn Any site failed
+failed_is_legal : IsLegalTurn site failed
 failed_is_legal =
     serves (call.Line 1 (input.Ask append)) (lit< tt) refl tt
-    (takes refl refl refl refl refl (follows (lit< tt) (lit≤ tt) refl (refl, refl, refl) refl), ((refl, follows (lit< tt) (lit≤ tt) tt tt refl), tt))
+    (takes refl refl refl refl refl (follows (says (lit< tt) (lit< tt, both_fit, both_fit, both_fit)) (lit< tt) (lit≤ tt) refl (refl, refl, refl) refl), ((refl, follows (says (lit< tt) append_fits) (lit< tt) (lit≤ tt) tt tt refl), tt))
     (refl, refl, refl, (refl, refl, refl))
 
-next_is_legal : (kept : Bool) → IsLegalTurn Any (after_turn site failed) (next kept)
+next_is_legal : (kept : Bool) → IsLegalTurn (after_turn site failed) (next kept)
 next_is_legal true =
     serves (call.Line 2 (input.Ask request.Tick)) (lit< tt) refl tt
-    (takes refl refl refl refl refl (follows (lit< tt) (lit≤ tt) refl (refl, refl, refl) refl), ((refl, follows (lit< tt) (lit≤ tt) tt tt refl, refl), tt))
+    (takes refl refl refl refl refl (follows (says (lit< tt) (lit< tt, none_fit, both_fit, both_fit)) (lit< tt) (lit≤ tt) refl (refl, refl, refl) refl), ((refl, follows (says (lit< tt) tt) (lit< tt) (lit≤ tt) tt tt refl, refl), tt))
     (refl, refl, refl, (refl, refl, refl, refl))
 next_is_legal false =
     serves (call.Line 2 (input.Ask request.Tick)) (lit< tt) refl tt
-    (takes refl refl refl refl refl (follows (lit< tt) (lit≤ tt) refl (refl, refl, refl) refl), ((refl, follows (lit< tt) (lit≤ tt) tt tt refl, refl), tt))
+    (takes refl refl refl refl refl (follows (says (lit< tt) (lit< tt, none_fit, both_fit, both_fit)) (lit< tt) (lit≤ tt) refl (refl, refl, refl) refl), ((refl, follows (says (lit< tt) tt) (lit< tt) (lit≤ tt) tt tt refl, refl), tt))
     (refl, refl, refl, (refl, refl, refl, refl))
 
-pub both_are_legal : (kept : Bool) → IsLegal Any site (both_turns kept)
+pub both_are_legal : (kept : Bool) → IsLegal site (both_turns kept)
 both_are_legal kept = (failed_is_legal, (next_is_legal kept, tt))
 
 -- ---- a takeover that reads what became of the record, and then fails itself
@@ -125,11 +127,11 @@ text_of_a_refused_takeover = refl
 pub it_costs_an_epoch : (after_turns for_A_alone (refused ∷ [])).greatest ≡ 1
 it_costs_an_epoch = refl
 
-pub the_refusal_is_legal : IsLegal Any for_A_alone (refused ∷ taken ∷ [])
+pub the_refusal_is_legal : IsLegal for_A_alone (refused ∷ taken ∷ [])
 the_refusal_is_legal = (
   serves (call.Line 1 (input.Ask request.Tick)) (lit< tt) refl tt ((inr refl, λ some. some), (tt, tt)) (refl, (refl, refl, refl, refl)),
   (
-    serves (call.Line 2 (input.TakeManager None)) (lit< tt) refl tt (takes refl refl refl refl refl (follows (lit< tt) (lit≤ tt) refl (refl, refl, refl) refl), tt) (refl, refl, refl, refl),
+    serves (call.Line 2 (input.TakeManager None)) (lit< tt) refl tt (takes refl refl refl refl refl (follows (says (lit< tt) (lit< tt, both_fit, both_fit, a_fits)) (lit< tt) (lit≤ tt) refl (refl, refl, refl) refl), tt) (refl, refl, refl, refl),
     tt,
   ),
 )
@@ -152,7 +154,7 @@ text_of_a_full_leave = refl
 pub it_has_left : (after_turns managed (left ∷ [])).live ≡ false ∷ true ∷ []
 it_has_left = refl
 
-pub the_leave_is_legal : IsLegal Any managed (left ∷ [])
+pub the_leave_is_legal : IsLegal managed (left ∷ [])
 the_leave_is_legal = ((serves call.Leave (lit< tt) refl tt (refl, (tt, tt)) (inr (refl, refl))), tt)
 
 pub text_of_a_full_stop : text no_items managed (not_stopped ∷ []) ≡ codes "A 2: %QMAN-E-FULL, need 4200, cap 4096\n"
@@ -162,5 +164,5 @@ text_of_a_full_stop = refl
 pub it_has_not_stopped : (after_turns managed (not_stopped ∷ [])).live ≡ true ∷ true ∷ []
 it_has_not_stopped = refl
 
-pub the_stop_is_legal : IsLegal Any managed (not_stopped ∷ [])
+pub the_stop_is_legal : IsLegal managed (not_stopped ∷ [])
 the_stop_is_legal = ((serves (call.Line 2 input.StopNode) (lit< tt) refl tt (tt, tt) (inr refl)), tt)

@@ -1,47 +1,23 @@
 -- Entries stay until they are ended or deleted.
-use Rattle.std.proofs.Common.{◌≡◌, ℕ, inl, inr, Bool, true, false, cond, not, ◌&&◌, ◌||◌, List, [], ◌∷◌, ◌++◌, map, filter, refl, sym, ◌∙◌, ap, subst, arith, Option, None, Some, Ok, Err, find}
-use Rattle.std.specs.Prelude.{◌==◌, IfSome, IsOk, Result, filter_map, option_to_list, is_some}
+use Rattle.std.proofs.Common.{◌≡◌, ℕ, inl, inr, Bool, true, false, cond, not, ◌&&◌, ◌||◌, List, [], ◌∷◌, ◌++◌, map, filter, refl, sym, ◌∙◌, ap, subst, arith, Option, None, Some, Ok, Err, find, ◌==◌, IfSome, IsOk, Result, filter_map, option_to_list, is_some, bytes_eq}
 use Rattle.std.specs.List.{AllByRecursion, cons_option}
 use Rattle.std.specs.Option.{option_map_or}
-use Rattle.std.specs.Str.{bytes_eq}
 use Rattle.std.proofs.lemmas.Bool.Decides.{nat_tests}
 use Rattle.qm_kinds.specs.declared.entry.Entry.{Entry}
-use Rattle.qm_kinds.specs.declared.entry.EntryState.{EntryState}
+use Rattle.qm_history.specs.Common.{EntryState, Fate, Record, Body, Refusal, EntryChange, Job, Request, StopMode, System, applied, at_moment, change_of, completed, first_refusal_of, changed_entry, entry_set_to, entry_numbered, is_among, interrupted, after_loss, Accepted, unless_refused, replied, settled, as_pending, stopped_when_idle, entries_on_stop, with_fate, reset_in, reset_fate, is_running_in, entry_aborting, entry_of, AreNext, CanStandBehind, after_body, after_record, replayed, system_after}
 use Rattle.qm_kinds.specs.declared.entry.EntryState.TheVariants as state
-use Rattle.qm_kinds.specs.declared.entry.Fate.{Fate}
 use Rattle.qm_kinds.specs.declared.entry.Fate.TheVariants as fate
 use Rattle.qm_kinds.specs.declared.queue.Queue.{Queue}
-use Rattle.qm_kinds.specs.declared.record.Record.{Record}
-use Rattle.qm_kinds.specs.declared.record.Body.{Body}
 use Rattle.qm_kinds.specs.declared.record.Body.TheVariants as body
-use Rattle.qm_kinds.specs.declared.refusal.Refusal.{Refusal}
 use Rattle.qm_kinds.specs.declared.reply.Act.TheVariants.{EntryIs, EntryDeleted, Submitted}
-use Rattle.qm_kinds.specs.declared.request.EntryChange.{EntryChange}
-use Rattle.qm_kinds.specs.declared.request.Job.{Job}
-use Rattle.qm_kinds.specs.declared.request.Request.{Request}
 use Rattle.qm_kinds.specs.declared.request.Request.TheVariants as request
-use Rattle.qm_kinds.specs.declared.request.StopMode.{StopMode}
 use Rattle.qm_kinds.specs.declared.request.StopMode.TheVariants as stop
-use Rattle.qm_kinds.specs.declared.system.System.{System}
-use Rattle.qm_model.specs.Applied.{applied, at_moment, change_of, completed, first_refusal_of}
 use Rattle.qm_model.specs.Due.{due, entry_at, state_at, is_over}
-use Rattle.qm_model.specs.Entries.{changed_entry, entry_set_to}
-use Rattle.qm_model.specs.Find.{entry_numbered, is_among}
 use Rattle.qm_model.specs.JobStates.{fate_of, is_aborting, runs_on}
-use Rattle.qm_model.specs.Losing.{interrupted, after_loss}
 use Rattle.qm_model.specs.Ending.{fated}
 use Rattle.qm_model.specs.Merging.{moved_to, waits_in}
-use Rattle.qm_model.specs.Outcome.{Accepted, unless_refused}
-use Rattle.qm_model.specs.Replying.{replied}
 use Rattle.qm_model.specs.Runs.{MarkReport, EndReport, entry_of_run, after_report, report_act, reported_of}
-use Rattle.qm_model.specs.Settling.{settled}
 use Rattle.qm_model.specs.Standing.{with_entry, node_at, is_executing}
-use Rattle.qm_model.specs.Starting.{as_pending}
-use Rattle.qm_model.specs.States.{stopped_when_idle}
-use Rattle.qm_model.specs.Stopping.{entries_on_stop, with_fate, reset_in, reset_fate, is_running_in, entry_aborting}
-use Rattle.qm_model.specs.Submitting.{entry_of}
-use Rattle.qm_history.specs.Accepted.{AreNext, CanStandBehind}
-use Rattle.qm_model.specs.Folding.{after_body, after_record, replayed, system_after}
 use Rattle.qm_history.specs.Marks.{HasEntry, finds_aborting, names_entry, is_run_on_one, can_end, ends_at, LeavesEntry, LeaveEntry}
 
 both_numbers : (a b : ℕ) → (a == b) ≡ true → a ≡ b
@@ -179,12 +155,9 @@ module _ (number : ℕ) where
 
   loss_kept : (queues : List Queue) (now : ℕ) (lost : List (List ℕ)) (st : EntryState) (e : Entry) → option_map_or (is_among lost) (runs_on st) false ≡ false → e.number ≡ number
       → IsKept (after_loss queues now lost st e)
-  loss_kept queues now lost state.Pending e none is = (e, refl, is)
-  loss_kept queues now lost state.Holding e none is = (e, refl, is)
-  loss_kept queues now lost (state.Timed at) e none is = (e, refl, is)
   loss_kept queues now lost (state.Running queue node run) e none is = (e, ap (λ b. cond b (interrupted queues now e) (Some e)) none, is)
   loss_kept queues now lost (state.Aborting queue node run f) e none is = (e, ap (λ b. cond b (fated queues now f e) (Some e)) none, is)
-  loss_kept queues now lost (state.Retained status until) e none is = (e, refl, is)
+  loss_kept queues now lost _ e none is = (e, refl, is)
 
   has_lost : (s : System) (now : ℕ) (lost : List (List ℕ)) → Of (λ e. is_run_on_one lost e ≡ false) s.entries → HasEntry number s.entries
       → HasEntry number (filter_map (λ (e : Entry). after_loss s.queues now lost e.state e) s.entries)
@@ -207,12 +180,8 @@ module _ (number : ℕ) where
   timed_runs_nowhere false at = refl
 
   runs_on_at : (now : ℕ) (st : EntryState) → runs_on (state_at now st) ≡ runs_on st
-  runs_on_at now state.Pending = refl
-  runs_on_at now state.Holding = refl
   runs_on_at now (state.Timed at) = timed_runs_nowhere _ at
-  runs_on_at now (state.Running queue node run) = refl
-  runs_on_at now (state.Aborting queue node run f) = refl
-  runs_on_at now (state.Retained status until) = refl
+  runs_on_at now _ = refl
 
   module _ (s : System) (now node : ℕ) where
     abbrev found : System
@@ -224,27 +193,7 @@ module _ (number : ℕ) where
     same_end : (asked : Request) (e : Entry) → can_end s now node asked (entry_at now e) ≡ can_end s now node asked e
     same_end (request.NodeLost nodes) e = ap (λ o. option_map_or (is_among nodes) o false) (runs_on_at now e.state)
     same_end (request.Took epoch gone up may) e = ap (λ o. option_map_or (is_among gone) o false) (runs_on_at now e.state)
-    same_end (request.Append file bytes) e = refl
-    same_end (request.Fill file lines) e = refl
-    same_end (request.Drop file) e = refl
-    same_end (request.DefineForm form) e = refl
-    same_end (request.DeleteForm form) e = refl
-    same_end (request.DefineCharacteristic characteristic) e = refl
-    same_end (request.DeleteCharacteristic characteristic) e = refl
-    same_end (request.InitializeQueue new) e = refl
-    same_end (request.SetQueue queue change) e = refl
-    same_end (request.StartQueue queue change) e = refl
-    same_end (request.StopQueue queue how) e = refl
-    same_end (request.AbortJob queue entry requeue) e = refl
-    same_end (request.DeleteQueue queue) e = refl
-    same_end (request.Merge to from) e = refl
-    same_end (request.Submit job) e = refl
-    same_end (request.SetEntry entry change) e = refl
-    same_end (request.DeleteEntry entry) e = refl
-    same_end (request.Mark run value) e = refl
-    same_end (request.Done run status) e = refl
-    same_end request.Tick e = refl
-    same_end request.NodeUp e = refl
+    same_end _ e = refl
 
     of_map : (P R : Entry → Type 0) → ((e : Entry) → P e → R (entry_at now e)) → (es : List Entry) → Of P es → Of R (map (entry_at now) es)
     of_map P R each [] all = tt
@@ -284,16 +233,6 @@ module _ (number : ℕ) where
     -- ---- each request
 
     changed : (asked : Request) → Leaves asked found.entries → HasEntry number found.entries → HasEntry number (change_of found now name asked).system.entries
-    changed (request.Append file bytes) all h = h
-    changed (request.Fill file lines) all h = h
-    changed (request.Drop file) all h = h
-    changed (request.DefineForm form) all h = h
-    changed (request.DeleteForm form) all h = h
-    changed (request.DefineCharacteristic characteristic) all h = h
-    changed (request.DeleteCharacteristic characteristic) all h = h
-    changed (request.InitializeQueue new) all h = h
-    changed (request.SetQueue queue change) all h = h
-    changed (request.StartQueue queue change) all h = h
     changed (request.StopQueue queue how) all h = has_stop how queue found.entries h
     changed (request.AbortJob queue entry requeue) all h = has_aborting found _ _ h
     changed (request.DeleteQueue queue) all h =
@@ -305,10 +244,9 @@ module _ (number : ℕ) where
     changed (request.DeleteEntry entry) all h = has_deleted found entry (option_map_or is_executing (entry_numbered entry found.entries) false) all h
     changed (request.Mark run value) all h = has_mark found now run value (entry_of_run found name run) all h
     changed (request.Done run status) all h = has_done found now run status (entry_of_run found name run) all h
-    changed request.Tick all h = h
-    changed request.NodeUp all h = h
     changed (request.NodeLost nodes) all h = has_lost found now nodes all h
     changed (request.Took epoch gone up may) all h = has_lost found now gone all h
+    changed _ all h = h
 
 accepted_is : (o : Option Refusal) (x a : Accepted) → unless_refused o x ≡ Ok a → x ≡ a
 accepted_is None x a h = cc
@@ -337,24 +275,18 @@ module _ (alone : (s : System) → map as_pending (settled s).system.entries ≡
       let same : completed x ≡ a = accepted_is (first_refusal_of s (node_at node s.nodes) asked) (completed x) a is in
       there_completed number x a same (changed number s now node asked (still_leaves number s now node asked all) (still_there number s now node asked all h))
 
-  module _ (HasSpelling : Record → Type 0) where
-    there_after_ok : (s : System) (now node : ℕ) (asked : Request) (number : ℕ) → HasEntry number s.entries → LeavesEntry number s now node (body.Ask asked) → (res : Result Accepted Refusal)
-        → applied s now node asked ≡ res → IsOk res → HasEntry number (system_after s res).entries
-    there_after_ok s now node asked number h all (Ok a) is ok = there_after_request s now node asked a number h all is
-    there_after_ok s now node asked number h all (Err refusal) is ok = cc
+  there_after_ok : (s : System) (now node : ℕ) (asked : Request) (number : ℕ) → HasEntry number s.entries → LeavesEntry number s now node (body.Ask asked) → (res : Result Accepted Refusal)
+      → applied s now node asked ≡ res → IsOk res → HasEntry number (system_after s res).entries
+  there_after_ok s now node asked number h all (Ok a) is ok = there_after_request s now node asked a number h all is
+  there_after_ok s now node asked number h all (Err refusal) is ok = cc
 
-    there_after_body : (s : System) (now node : ℕ) (b : Body) (number : ℕ) → CanStandBehind HasSpelling s now node b → HasEntry number s.entries → LeavesEntry number s now node b
-        → HasEntry number (after_body s now node b).entries
-    there_after_body s now node (body.Ask asked) number can h all = there_after_ok s now node asked number h all (applied s now node asked) refl can.accepted
-    there_after_body s now node (body.Head nodes may next_entry next_run last) number can h all = absurd can
-    there_after_body s now node (body.Form f) number can h all = absurd can
-    there_after_body s now node (body.Characteristic c) number can h all = absurd can
-    there_after_body s now node (body.File f) number can h all = absurd can
-    there_after_body s now node (body.Queue q) number can h all = absurd can
-    there_after_body s now node (body.Entry e) number can h all = absurd can
+  there_after_body : (s : System) (now node : ℕ) (b : Body) (number : ℕ) → CanStandBehind s now node b → HasEntry number s.entries → LeavesEntry number s now node b
+      → HasEntry number (after_body s now node b).entries
+  there_after_body s now node (body.Ask asked) number can h all = there_after_ok s now node asked number h all (applied s now node asked) refl can.accepted
+  there_after_body s now node _ number can h all = absurd can
 
-    pub there_after_records : (s : System) (records : List Record) (number : ℕ) → AreNext HasSpelling s records → HasEntry number s.entries → LeaveEntry number s records
-        → HasEntry number (replayed s records).entries
-    there_after_records s [] number next h leave = h
-    there_after_records s (r ∷ records) number next h leave =
-        there_after_records (after_record s r) records number next.1 (there_after_body s r.moment r.node r.body number next.0 h leave.0) leave.1
+  pub there_after_records : (s : System) (records : List Record) (number : ℕ) → AreNext s records → HasEntry number s.entries → LeaveEntry number s records
+      → HasEntry number (replayed s records).entries
+  there_after_records s [] number next h leave = h
+  there_after_records s (r ∷ records) number next h leave =
+      there_after_records (after_record s r) records number next.1 (there_after_body s r.moment r.node r.body number next.0 h leave.0) leave.1

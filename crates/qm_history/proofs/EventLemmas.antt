@@ -1,18 +1,12 @@
 -- Events one behind another.
-use Rattle.std.proofs.Common.{◌≡◌, ℕ, zero, suc, ◌+◌, ◌≤◌, ◌⊎◌, inl, inr, Bool, true, false, List, [], ◌∷◌, ◌++◌, refl, sym, ◌∙◌, ap, subst, arith, Option, None, Some, Contains}
-use Rattle.std.specs.Prelude.{option_to_list}
-use Rattle.std.proofs.lemmas.List.{append_assoc, append-nil}
-use Rattle.qm_kinds.specs.declared.record.Record.{Record}
+use Rattle.std.proofs.Common.{◌≡◌, ℕ, zero, suc, ◌+◌, ◌≤◌, ◌⊎◌, inl, inr, Bool, true, false, List, [], ◌∷◌, ◌++◌, refl, sym, ◌∙◌, ap, subst, arith, Option, None, Some, Contains, option_to_list, append_assoc, append-nil}
+use Rattle.qm_history.specs.Common.{Record, after_turn, after_turns, IsLegal, request_record, after_event, after_events, CanAllCome, log_read}
 use Rattle.qm_kinds.specs.declared.request.Request.TheVariants as request
 use Rattle.qm_history.specs.declared.event.Event.{Event}
 use Rattle.qm_history.specs.declared.event.Event.TheVariants as event
 use Rattle.qm_history.specs.declared.turn.Turn.{Turn}
 use Rattle.qm_history.specs.declared.world.World.{World}
 use Rattle.qm_history.specs.Happening.{events_of, epochs_taken, RiseFrom, Begins, is_without_change, acknowledged, told_of_doubt}
-use Rattle.qm_history.specs.Legal.{after_turn, after_turns, IsLegal}
-use Rattle.qm_model.specs.Log.{request_record}
-use Rattle.qm_history.specs.Step.{after_event, after_events, CanAllCome}
-use Rattle.qm_history.specs.World.{log_read}
 use Rattle.qm_history.proofs.SoundLemmas.{legal_comes}
 
 -- ---- lists of events
@@ -29,44 +23,43 @@ pub world_of_events : (w : World) (turns : List Turn) → after_turns w turns �
 world_of_events w [] = refl
 world_of_events w (t ∷ turns) = world_of_events (after_turn w t) turns ∙ sym (events_append w t.events (events_of turns))
 
-module _ (HasSpelling : Record → Type 0) where
-  come_append : (w : World) (a b : List Event) → CanAllCome HasSpelling w a → CanAllCome HasSpelling (after_events w a) b → CanAllCome HasSpelling w (a ++ b)
-  come_append w [] b first second = second
-  come_append w (e ∷ a) b first second = (first.0, come_append (after_event w e) a b first.1 second)
+come_append : (w : World) (a b : List Event) → CanAllCome w a → CanAllCome (after_events w a) b → CanAllCome w (a ++ b)
+come_append w [] b first second = second
+come_append w (e ∷ a) b first second = (first.0, come_append (after_event w e) a b first.1 second)
 
-  pub all_come : (w : World) (turns : List Turn) → IsLegal HasSpelling w turns → CanAllCome HasSpelling w (events_of turns)
-  all_come w [] legal = tt
-  all_come w (t ∷ turns) legal = come_append w t.events (events_of turns) (legal_comes HasSpelling w t legal.0) (all_come (after_turn w t) turns legal.1)
+pub all_come : (w : World) (turns : List Turn) → IsLegal w turns → CanAllCome w (events_of turns)
+all_come w [] legal = tt
+all_come w (t ∷ turns) legal = come_append w t.events (events_of turns) (legal_comes w t legal.0) (all_come (after_turn w t) turns legal.1)
 
-  -- ---- epochs
+-- ---- epochs
 
-  rise_later : (n m : ℕ) → n ≤ m → (numbers : List ℕ) → RiseFrom m numbers → RiseFrom n numbers
-  rise_later n m below [] rise = tt
-  rise_later n m below (x ∷ numbers) rise = (omega (arith, rise.0), rise.1)
+rise_later : (n m : ℕ) → n ≤ m → (numbers : List ℕ) → RiseFrom m numbers → RiseFrom n numbers
+rise_later n m below [] rise = tt
+rise_later n m below (x ∷ numbers) rise = (omega (arith, rise.0), rise.1)
 
-  tried_rises : (w : World) (tried : ℕ) → (tried ≡ w.greatest) ⊎ (tried ≡ w.greatest + 1) → w.greatest ≤ tried
-  tried_rises w tried (inl same) = omega arith
-  tried_rises w tried (inr next) = omega arith
+tried_rises : (w : World) (tried : ℕ) → (tried ≡ w.greatest) ⊎ (tried ≡ w.greatest + 1) → w.greatest ≤ tried
+tried_rises w tried (inl same) = omega arith
+tried_rises w tried (inr next) = omega arith
 
-  pub rise : (w : World) (events : List Event) → CanAllCome HasSpelling w events → RiseFrom w.greatest (epochs_taken events)
-  rise w [] come = tt
-  rise w (event.Took node moment epoch gone up may kept ∷ events) come =
-      let next : epoch ≡ w.greatest + 1 = come.0.next_epoch in
-      (omega arith, rise (after_event w (event.Took node moment epoch gone up may kept)) events come.1)
-  rise w (event.TakeDoubt node tried kept ∷ events) come =
-      rise_later w.greatest tried (tried_rises w tried come.0.0) (epochs_taken events) (rise (after_event w (event.TakeDoubt node tried kept)) events come.1)
-  rise w (event.Done node moment asked reply ∷ events) come = rise (after_event w (event.Done node moment asked reply)) events come.1
-  rise w (event.Refused node moment asked refusal ∷ events) come = rise w events come.1
-  rise w (event.Shown node moment asked ∷ events) come = rise w events come.1
-  rise w (event.Doubt node moment asked ∷ events) come = rise (after_event w (event.Doubt node moment asked)) events come.1
-  rise w (event.Full node need cap ∷ events) come = rise w events come.1
-  rise w (event.NoManager node ∷ events) come = rise w events come.1
-  rise w (event.Fenced node held current ∷ events) come = rise w events come.1
-  rise w (event.Stopped node ∷ events) come = rise (after_event w (event.Stopped node)) events come.1
-  rise w (event.Left node ∷ events) come = rise (after_event w (event.Left node)) events come.1
-  rise w (event.Started node ∷ events) come = rise (after_event w (event.Started node)) events come.1
-  rise w (event.Compacted node epoch file ∷ events) come = rise w events come.1
-  rise w (event.CompactDoubt node ∷ events) come = rise (after_event w (event.CompactDoubt node)) events come.1
+pub rise : (w : World) (events : List Event) → CanAllCome w events → RiseFrom w.greatest (epochs_taken events)
+rise w [] come = tt
+rise w (event.Took node moment epoch gone up may kept ∷ events) come =
+    let next : epoch ≡ w.greatest + 1 = come.0.next_epoch in
+    (omega arith, rise (after_event w (event.Took node moment epoch gone up may kept)) events come.1)
+rise w (event.TakeDoubt node tried kept ∷ events) come =
+    rise_later w.greatest tried (tried_rises w tried come.0.0) (epochs_taken events) (rise (after_event w (event.TakeDoubt node tried kept)) events come.1)
+rise w (event.Done node moment asked reply ∷ events) come = rise (after_event w (event.Done node moment asked reply)) events come.1
+rise w (event.Refused node moment asked refusal ∷ events) come = rise w events come.1
+rise w (event.Shown node moment asked ∷ events) come = rise w events come.1
+rise w (event.Doubt node moment asked ∷ events) come = rise (after_event w (event.Doubt node moment asked)) events come.1
+rise w (event.Full node need cap ∷ events) come = rise w events come.1
+rise w (event.NoManager node ∷ events) come = rise w events come.1
+rise w (event.Fenced node held current ∷ events) come = rise w events come.1
+rise w (event.Stopped node ∷ events) come = rise (after_event w (event.Stopped node)) events come.1
+rise w (event.Left node ∷ events) come = rise (after_event w (event.Left node)) events come.1
+rise w (event.Started node ∷ events) come = rise (after_event w (event.Started node)) events come.1
+rise w (event.Compacted node epoch file ∷ events) come = rise w events come.1
+rise w (event.CompactDoubt node ∷ events) come = rise (after_event w (event.CompactDoubt node)) events come.1
 
 -- ---- what changes nothing
 
@@ -77,14 +70,7 @@ nothing_changes w (event.Full node need cap) h = refl
 nothing_changes w (event.NoManager node) h = refl
 nothing_changes w (event.Fenced node held current) h = refl
 nothing_changes w (event.Compacted node epoch file) h = refl
-nothing_changes w (event.Done node moment asked reply) h = cc
-nothing_changes w (event.Doubt node moment asked) h = cc
-nothing_changes w (event.Took node moment epoch gone up may kept) h = cc
-nothing_changes w (event.TakeDoubt node tried kept) h = cc
-nothing_changes w (event.Stopped node) h = cc
-nothing_changes w (event.Left node) h = cc
-nothing_changes w (event.Started node) h = cc
-nothing_changes w (event.CompactDoubt node) h = cc
+nothing_changes w _ h = cc
 
 -- ---- logs grow
 
@@ -108,17 +94,7 @@ event_begins w (event.Took node moment epoch gone up may kept) =
     let r : Record = request_record moment node (request.Took epoch gone up may) in
     begins_on w.log (log_read w kept) (log_read w kept ++ r ∷ []) (read_begins w kept) (with_one (log_read w kept) r)
 event_begins w (event.TakeDoubt node tried kept) = read_begins w kept
-event_begins w (event.Refused node moment asked refusal) = same_log w.log
-event_begins w (event.Shown node moment asked) = same_log w.log
-event_begins w (event.Doubt node moment asked) = same_log w.log
-event_begins w (event.Full node need cap) = same_log w.log
-event_begins w (event.NoManager node) = same_log w.log
-event_begins w (event.Fenced node held current) = same_log w.log
-event_begins w (event.Stopped node) = same_log w.log
-event_begins w (event.Left node) = same_log w.log
-event_begins w (event.Started node) = same_log w.log
-event_begins w (event.Compacted node epoch file) = same_log w.log
-event_begins w (event.CompactDoubt node) = same_log w.log
+event_begins w _ = same_log w.log
 
 pub events_begin : (w : World) (events : List Event) → Begins w.log (after_events w events).log
 events_begin w [] = same_log w.log
@@ -152,17 +128,7 @@ in_event w (event.Took node moment epoch gone up may kept) r is =
     let x : Record = request_record moment node (request.Took epoch gone up may) in
     let same : x ≡ r = cc in subst (λ y. Contains (log_read w kept ++ x ∷ []) y) same (contains_last (log_read w kept) x)
 in_event w (event.Refused node moment asked refusal) r is = cc
-in_event w (event.Shown node moment asked) r is = cc
-in_event w (event.Doubt node moment asked) r is = cc
-in_event w (event.Full node need cap) r is = cc
-in_event w (event.NoManager node) r is = cc
-in_event w (event.TakeDoubt node tried kept) r is = cc
-in_event w (event.Fenced node held current) r is = cc
-in_event w (event.Stopped node) r is = cc
-in_event w (event.Left node) r is = cc
-in_event w (event.Started node) r is = cc
-in_event w (event.Compacted node epoch file) r is = cc
-in_event w (event.CompactDoubt node) r is = cc
+in_event w _ r is = cc
 
 read_doubt_in : (w : World) (kept : Option Bool) (r : Record) → w.doubt ≡ Some r → kept ≡ Some true → Contains (log_read w kept) r
 read_doubt_in w kept r doubt is =
@@ -172,18 +138,7 @@ in_reading : (w : World) (e : Event) (r : Record) → w.doubt ≡ Some r → tol
 in_reading w (event.Took node moment epoch gone up may kept) r doubt is =
     contains_front (log_read w kept) (request_record moment node (request.Took epoch gone up may) ∷ []) r (read_doubt_in w kept r doubt is)
 in_reading w (event.TakeDoubt node tried kept) r doubt is = read_doubt_in w kept r doubt is
-in_reading w (event.Done node moment asked reply) r doubt is = cc
-in_reading w (event.Refused node moment asked refusal) r doubt is = cc
-in_reading w (event.Shown node moment asked) r doubt is = cc
-in_reading w (event.Doubt node moment asked) r doubt is = cc
-in_reading w (event.Full node need cap) r doubt is = cc
-in_reading w (event.NoManager node) r doubt is = cc
-in_reading w (event.Fenced node held current) r doubt is = cc
-in_reading w (event.Stopped node) r doubt is = cc
-in_reading w (event.Left node) r doubt is = cc
-in_reading w (event.Started node) r doubt is = cc
-in_reading w (event.Compacted node epoch file) r doubt is = cc
-in_reading w (event.CompactDoubt node) r doubt is = cc
+in_reading w _ r doubt is = cc
 
 -- what is in the log behind an event is in every later one
 later : (w : World) (before : List Event) (e : Event) (behind : List Event) (r : Record) → Contains (after_event (after_events w before) e).log r

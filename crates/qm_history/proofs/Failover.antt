@@ -1,8 +1,7 @@
 -- A node takes the role of queue manager, another one takes it over, and the first one's TICK is fenced.
-use Rattle.std.proofs.Common.{◌≡◌, ◌≢◌, ℕ, lit<, lit≤, List, [], ◌∷◌, refl, None, arith}
-use Rattle.std.specs.Prelude.{codes}
+use Rattle.std.proofs.Common.{◌≡◌, ◌≢◌, ℕ, lit<, lit≤, List, [], ◌∷◌, refl, None, arith, codes}
 use Rattle.std.specs.Fmt.{digits}
-use Rattle.qm_kinds.specs.declared.input.Input.{Input}
+use Rattle.qm_history.specs.Common.{Input, IsLegal, text}
 use Rattle.qm_kinds.specs.declared.input.Input.TheVariants as input
 use Rattle.qm_kinds.specs.declared.query.Listing.TheVariants.{Manager}
 use Rattle.qm_kinds.specs.declared.reply.Act.TheVariants as act
@@ -13,10 +12,8 @@ use Rattle.qm_history.specs.declared.event.Event.TheVariants as event
 use Rattle.qm_history.specs.declared.turn.Turn.{Turn}
 use Rattle.qm_history.specs.declared.turn.Why.TheVariants as why
 use Rattle.qm_history.specs.declared.world.World.{World}
-use Rattle.qm_history.specs.Legal.{IsLegal}
-use Rattle.qm_history.specs.Text.{text}
-use Rattle.qm_history.proofs.LegalTurns.{follows, serves, takes}
-use Rattle.qm_history.proofs.Serving.{Asked, new_site, world_of, listing_of, history, no_items, Any}
+use Rattle.qm_history.proofs.LegalTurns.{both_fit, follows, none_fit, says, serves, takes}
+use Rattle.qm_history.proofs.Serving.{Asked, new_site, world_of, listing_of, history, no_items}
 
 abbrev pub line_of : ℕ → ℕ → Input → Asked
 line_of node line asked = record { node = node; reading = 1000; call = call.Line line asked }
@@ -65,15 +62,15 @@ their_text = refl
 one_not_two : ◌≢◌ {A = ℕ} 1 2
 one_not_two same = absurd (omega (arith, same))
 
-pub they_are_legal : IsLegal Any site turns
+pub they_are_legal : IsLegal site turns
 they_are_legal = (
-  serves (call.Line 1 (input.Show (listing_of Manager None))) (lit< tt) refl tt (takes refl refl refl refl refl (follows (lit< tt) (lit≤ tt) refl (refl, refl, refl) refl), (tt, tt)) (refl, refl, refl, refl),
+  serves (call.Line 1 (input.Show (listing_of Manager None))) (lit< tt) refl tt (takes refl refl refl refl refl (follows (says (lit< tt) (lit< tt, both_fit, both_fit, both_fit)) (lit< tt) (lit≤ tt) refl (refl, refl, refl) refl), (tt, tt)) (refl, refl, refl, refl),
   (
-    serves (call.Line 2 (input.TakeManager None)) (lit< tt) refl tt (takes refl refl refl refl refl (follows (lit< tt) (lit≤ tt) refl (refl, refl, refl) refl), tt) (refl, refl, refl, refl),
+    serves (call.Line 2 (input.TakeManager None)) (lit< tt) refl tt (takes refl refl refl refl refl (follows (says (lit< tt) (lit< tt, none_fit, both_fit, both_fit)) (lit< tt) (lit≤ tt) refl (refl, refl, refl) refl), tt) (refl, refl, refl, refl),
     (
       serves (call.Line 3 (input.Ask request.Tick)) (lit< tt) refl tt ((refl, refl, one_not_two), tt) refl,
       (
-        serves (call.Line 4 (input.Ask request.Tick)) (lit< tt) refl tt ((refl, follows (lit< tt) (lit≤ tt) tt tt refl, refl), tt) (refl, refl, refl, refl),
+        serves (call.Line 4 (input.Ask request.Tick)) (lit< tt) refl tt ((refl, follows (says (lit< tt) tt) (lit< tt) (lit≤ tt) tt tt refl, refl), tt) (refl, refl, refl, refl),
         tt,
       ),
     ),

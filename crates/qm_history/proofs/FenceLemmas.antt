@@ -1,19 +1,9 @@
 -- A fence stands alone in its turn.
-use Rattle.std.proofs.Common.{◌≡◌, ℕ, zero, suc, ◌<◌, ◌⊎◌, inl, inr, Bool, true, false, cond, not, ◌||◌, List, [], ◌∷◌, length, refl, sym, ◌∙◌, ap, subst, arith, Option, None, Some, Ok, Err}
-use Rattle.std.specs.Prelude.{◌==◌, IfSome, is_none, Result, slice_get, slice_set, unwrap_or}
+use Rattle.std.proofs.Common.{◌≡◌, ℕ, zero, suc, ◌<◌, ◌⊎◌, inl, inr, Bool, true, false, cond, not, ◌||◌, List, [], ◌∷◌, length, refl, sym, ◌∙◌, ap, subst, arith, Option, None, Some, Ok, Err, ◌==◌, IfSome, is_none, Result, slice_get, slice_set, unwrap_or}
 use Rattle.std.proofs.lemmas.Bool.Decides.{nat_tests}
-use Rattle.qm_kinds.specs.declared.input.Input.{Input}
+use Rattle.qm_history.specs.Common.{Input, Query, Row, Refusal, Reply, Request, applied, Accepted, view, input_of, acting, after_turn, IsLegalTurn, after_event, after_events, system_in, role_in, held_by, IsSound}
 use Rattle.qm_kinds.specs.declared.input.Input.TheVariants as input
-use Rattle.qm_kinds.specs.declared.query.Query.{Query}
-use Rattle.qm_kinds.specs.declared.query.Row.{Row}
-use Rattle.qm_kinds.specs.declared.record.Record.{Record}
-use Rattle.qm_kinds.specs.declared.refusal.Refusal.{Refusal}
-use Rattle.qm_kinds.specs.declared.reply.Reply.{Reply}
-use Rattle.qm_kinds.specs.declared.request.Request.{Request}
 use Rattle.qm_kinds.specs.declared.request.Request.TheVariants as request
-use Rattle.qm_model.specs.Applied.{applied}
-use Rattle.qm_model.specs.Outcome.{Accepted}
-use Rattle.qm_model.specs.Rows.{view}
 use Rattle.qm_history.specs.declared.call.Call.{Call}
 use Rattle.qm_history.specs.declared.call.Call.TheVariants as call
 use Rattle.qm_history.specs.declared.event.Event.{Event}
@@ -21,14 +11,9 @@ use Rattle.qm_history.specs.declared.event.Event.TheVariants as event
 use Rattle.qm_history.specs.declared.turn.Turn.{Turn}
 use Rattle.qm_history.specs.declared.world.Role.{Role}
 use Rattle.qm_history.specs.declared.world.World.{World}
-use Rattle.qm_history.specs.Calls.{input_of}
-use Rattle.qm_model.specs.Acting.{acting}
 use Rattle.qm_history.specs.Happening.{is_fence, has_fence}
-use Rattle.qm_history.specs.Legal.{after_turn, IsLegalTurn}
-use Rattle.qm_history.specs.Step.{after_event, after_events}
 use Rattle.qm_history.specs.Takeover.{takes_over, nodes_on, is_named, IsFailure, StandsOrFails, UnlessRefused, TakesOverThen}
 use Rattle.qm_history.specs.Turn.{Beside, Nothing, ATakeover, fence, FencedOr, IsRecorded, IsDecided, IsAsked, IsViewed, IsCompaction, IsChange, IsFull, start_refusal, IsComeUp, IsStarted, has_other_manager, loss_of, IsLost, IsStopped, IsLeftFull, IsLeft, IsGoing, IsOwn, IsBehindTakeover, UnlessDown, is_down, IsServed}
-use Rattle.qm_history.specs.World.{system_in, role_in, held_by, IsSound}
 
 -- ---- what each kind of answer holds
 
@@ -97,9 +82,7 @@ left_quiet w node moment true events (inr h) = left_full_quiet node events h
 
 going_quiet : (w : World) (node moment : ℕ) (asked : Call) (events : List Event) → IsGoing w node moment asked events → has_fence events ≡ false
 going_quiet w node moment call.Leave events h = left_quiet w node moment (has_other_manager w node) events h
-going_quiet w node moment (call.Line line what) events h = stopped_quiet w node moment (has_other_manager w node) events h
-going_quiet w node moment (call.Fetch known) events h = stopped_quiet w node moment (has_other_manager w node) events h
-going_quiet w node moment (call.Report run told) events h = stopped_quiet w node moment (has_other_manager w node) events h
+going_quiet w node moment _ events h = stopped_quiet w node moment (has_other_manager w node) events h
 
 -- ---- a call's own events hold no fence, or the fence alone
 
@@ -116,13 +99,11 @@ own_quiet w node reading asked beside (input.Ask request.Tick) events h =
 own_quiet w node reading asked beside (input.Ask r) events h = inl (asked_quiet w node reading r events h)
 own_quiet w node reading asked beside (input.Show query) events h =
     inl (viewed_quiet node (acting reading (system_in w)) query (view (system_in w) (role_in w) query) events h)
-own_quiet w node reading asked beside (input.Fetch known) events h = inl (ap has_fence h)
 own_quiet w node reading asked beside input.Compact events h = fenced_at (fence w node) (IsCompaction node events) events (compaction_quiet node events) h
-own_quiet w node reading asked beside (input.TakeManager on) events h = inl (ap has_fence h)
 own_quiet w node reading asked beside input.StartNode events h =
     inl (started_quiet w node (acting reading (system_in w)) beside (start_refusal w node) events h)
 own_quiet w node reading asked beside input.StopNode events h = inl (going_quiet w node (acting reading (system_in w)) asked events h)
-own_quiet w node reading asked beside (input.Fault place kind) events h = inl (ap has_fence h)
+own_quiet w node reading asked beside _ events h = inl (ap has_fence h)
 
 -- ---- behind a takeover there is no fence
 
@@ -208,9 +189,8 @@ module _ (w : World) (node reading : ℕ) (asked : Call) (within : node < length
   short_fenced_stays h =
       let none : has_fence events ≡ false = takeover_quiet w node reading (nodes_on (input_of asked)) within (λ after own. own ≡ []) nothing_quiet events h in cc
 
-module _ (HasSpelling : Record → Type 0) where
-  pub fenced_stays : (w : World) (t : Turn) → IsSound HasSpelling w → IsLegalTurn HasSpelling w t → has_fence t.events ≡ true → after_turn w t ≡ w
-  fenced_stays w t sound (asked, inl whole) fenced =
-      served_fenced_stays w t.node t.moment asked (subst (λ n. t.node < n) (sym sound.held) whole.0.node_there) t.events fenced whole.1
-  fenced_stays w t sound (asked, inr short) fenced =
-      short_fenced_stays w t.node t.moment asked (subst (λ n. t.node < n) (sym sound.held) short.0.node_there) t.events fenced short.1.2
+pub fenced_stays : (w : World) (t : Turn) → IsSound w → IsLegalTurn w t → has_fence t.events ≡ true → after_turn w t ≡ w
+fenced_stays w t sound (asked, inl whole) fenced =
+    served_fenced_stays w t.node t.moment asked (subst (λ n. t.node < n) (sym sound.held) whole.0.node_there) t.events fenced whole.1
+fenced_stays w t sound (asked, inr short) fenced =
+    short_fenced_stays w t.node t.moment asked (subst (λ n. t.node < n) (sym sound.held) short.0.node_there) t.events fenced short.1.2

@@ -1,13 +1,9 @@
 -- What fetches show.
-use Rattle.std.proofs.Common.{◌≡◌, ℕ, zero, suc, ◌⊎◌, inl, inr, Bool, true, false, cond, List, [], ◌∷◌, map, filter, refl, sym, ◌∙◌, ap, subst, arith, Option, None, Some, Contains, fold}
-use Rattle.std.specs.Prelude.{◌==◌, nat_lt}
+use Rattle.std.proofs.Common.{◌≡◌, ℕ, zero, suc, ◌⊎◌, inl, inr, Bool, true, false, cond, List, [], ◌∷◌, map, filter, refl, sym, ◌∙◌, ap, subst, arith, Option, None, Some, Contains, fold, ◌==◌, nat_lt}
 use Rattle.std.specs.List.{list_any}
 use Rattle.qm_kinds.specs.declared.entry.Entry.{Entry}
-use Rattle.qm_kinds.specs.declared.input.Input.{Input}
+use Rattle.qm_history.specs.Common.{Input, System, Duty, Work, shown_answer, taken_answer, event_answer, events_answer, takeover_of, last_moment, answered, after_event, Visit, system_in}
 use Rattle.qm_kinds.specs.declared.input.Input.TheVariants as input
-use Rattle.qm_kinds.specs.declared.system.System.{System}
-use Rattle.qm_kinds.specs.declared.work.Duty.{Duty}
-use Rattle.qm_kinds.specs.declared.work.Work.{Work}
 use Rattle.qm_model.specs.Duties.{run_number, work_of, duty_of, by_run, duties}
 use Rattle.qm_model.specs.Inserting.{inserted}
 use Rattle.qm_model.specs.Standing.{node_at, is_run_on}
@@ -19,12 +15,7 @@ use Rattle.qm_history.specs.declared.event.Event.TheVariants as event
 use Rattle.qm_history.specs.declared.turn.Why.{Why}
 use Rattle.qm_history.specs.declared.turn.Why.TheVariants as why
 use Rattle.qm_history.specs.declared.world.World.{World}
-use Rattle.qm_history.specs.Answers.{shown_answer, taken_answer, event_answer, events_answer, takeover_of, last_moment}
 use Rattle.qm_history.specs.Blocks.{world_at_last, system_shown, IsWorkOf, Gives}
-use Rattle.qm_history.specs.Course.{answered}
-use Rattle.qm_history.specs.Step.{after_event}
-use Rattle.qm_history.specs.Visits.{Visit}
-use Rattle.qm_history.specs.World.{system_in}
 
 -- ---- what stands in lists
 
@@ -117,34 +108,16 @@ shown_of : (w : World) (node : ℕ) (took : Option Takeover) (moment : ℕ) (ask
 shown_of w node took moment (input.Fetch known) t m shown h =
     let same : duties (system_in w) (node_at node (system_in w).nodes) known ≡ shown = cc in (node_at node (system_in w).nodes, known, sym same)
 shown_of w node took moment (input.Show query) t m shown h = cc
-shown_of w node took moment (input.Ask asked) t m shown h = cc
-shown_of w node took moment input.Compact t m shown h = cc
-shown_of w node took moment (input.TakeManager on) t m shown h = cc
-shown_of w node took moment input.StartNode t m shown h = cc
-shown_of w node took moment input.StopNode t m shown h = cc
-shown_of w node took moment (input.Fault place kind) t m shown h = cc
+shown_of w node took moment _ t m shown h = cc
 
 taken_of : (took : Option Takeover) (moment : ℕ) (name : List ℕ) (epoch : ℕ) (because : Why) (t : Option Takeover) (m : ℕ) (shown : List Duty) → taken_answer took moment name epoch because ≡ answer.Duties t m shown → ⊥
 taken_of took moment name epoch (why.Line line) t m shown h = cc
-taken_of took moment name epoch why.Fetch t m shown h = cc
-taken_of took moment name epoch why.Report t m shown h = cc
-taken_of took moment name epoch why.Leave t m shown h = cc
+taken_of took moment name epoch _ t m shown h = cc
 
 one_of : (w : World) (took : Option Takeover) (because : Why) (moment : ℕ) (e : Event) (t : Option Takeover) (m : ℕ) (shown : List Duty) → event_answer w took because moment e ≡ answer.Duties t m shown → AreOf (system_in w) shown
 one_of w took because moment (event.Shown node acted asked) t m shown h = shown_of w node took moment asked t m shown h
 one_of w took because moment (event.Took node acted epoch gone up may kept) t m shown h = absurd (taken_of took moment (node_at node (system_in w).nodes) epoch because t m shown h)
-one_of w took because moment (event.Done node acted asked reply) t m shown h = cc
-one_of w took because moment (event.Refused node acted asked refusal) t m shown h = cc
-one_of w took because moment (event.Doubt node acted asked) t m shown h = cc
-one_of w took because moment (event.Full node need cap) t m shown h = cc
-one_of w took because moment (event.NoManager node) t m shown h = cc
-one_of w took because moment (event.TakeDoubt node tried kept) t m shown h = cc
-one_of w took because moment (event.Fenced node held current) t m shown h = cc
-one_of w took because moment (event.Stopped node) t m shown h = cc
-one_of w took because moment (event.Left node) t m shown h = cc
-one_of w took because moment (event.Started node) t m shown h = cc
-one_of w took because moment (event.Compacted node epoch file) t m shown h = cc
-one_of w took because moment (event.CompactDoubt node) t m shown h = cc
+one_of w took because moment _ t m shown h = cc
 
 all_of : (w : World) (took : Option Takeover) (because : Why) (moment : ℕ) (events : List Event) (t : Option Takeover) (m : ℕ) (shown : List Duty) → events_answer w took because moment events ≡ answer.Duties t m shown
     → AreOf (system_in (world_at_last w events)) shown

@@ -1,15 +1,10 @@
 -- Turns that change nothing, and what is told of a history turn by turn.
-use Rattle.std.proofs.Common.{◌≡◌, ◌≢◌, ℕ, ◌<◌, ◌⊎◌, inl, inr, Bool, true, false, cond, not, ◌&&◌, List, [], ◌∷◌, ◌++◌, length, refl, sym, ◌∙◌, ap, subst, arith, Option, None, Some, filter}
-use Rattle.std.specs.Prelude.{◌==◌, flat_map, is_none}
-use Rattle.std.specs.Option.{option_map}
+use Rattle.std.proofs.Common.{◌≡◌, ◌≢◌, ℕ, ◌<◌, ◌⊎◌, inl, inr, Bool, true, false, cond, not, ◌&&◌, List, [], ◌∷◌, ◌++◌, length, refl, sym, ◌∙◌, ap, subst, arith, Option, None, Some, filter, ◌==◌, flat_map, is_none, option_map, append-nil}
 use Rattle.std.proofs.lemmas.Bool.Decides.{nat_tests}
 use Rattle.std.proofs.lemmas.Grind.{flat_map-append}
 use Rattle.std.proofs.lemmas.List.Elements.{filter-append}
-use Rattle.std.proofs.lemmas.List.{append-nil}
-use Rattle.qm_kinds.specs.declared.input.Input.{Input}
+use Rattle.qm_history.specs.Common.{Input, Row, input_of, is_start, Extent, IsCourse, GoesOn, at_first, after_turn, after_turns, IsLegalTurn, IsLegal, UserLine, after_events, takes_over, Visit, visits, visits_of, system_in, is_live, held_by}
 use Rattle.qm_kinds.specs.declared.input.Input.TheVariants as input
-use Rattle.qm_kinds.specs.declared.query.Row.{Row}
-use Rattle.qm_kinds.specs.declared.record.Record.{Record}
 use Rattle.qm_kinds.specs.declared.request.Request.TheVariants as request
 use Rattle.qm_history.specs.declared.call.Call.{Call}
 use Rattle.qm_history.specs.declared.call.Call.TheVariants as call
@@ -19,17 +14,9 @@ use Rattle.qm_history.specs.declared.turn.Turn.{Turn}
 use Rattle.qm_history.specs.declared.turn.Why.TheVariants as why
 use Rattle.qm_history.specs.declared.world.Role.{Role}
 use Rattle.qm_history.specs.declared.world.World.{World}
-use Rattle.qm_history.specs.Calls.{input_of, is_start}
-use Rattle.qm_history.specs.Course.{Extent, IsCourse, GoesOn, at_first}
 use Rattle.qm_history.specs.Happening.{IsForManager, IsCompactionAlone}
-use Rattle.qm_history.specs.Legal.{after_turn, after_turns, IsLegalTurn, IsLegal}
-use Rattle.qm_history.specs.Script.{UserLine}
-use Rattle.qm_history.specs.Step.{after_events}
-use Rattle.qm_history.specs.Takeover.{takes_over}
 use Rattle.qm_history.specs.Text.{text, text_of_node, visit_text}
 use Rattle.qm_history.specs.Turn.{Nothing, fence, FencedOr, IsAsked, IsCompaction, IsOwn, IsBehindTakeover, UnlessDown, is_down, IsServed, IsTurnOf, IsCutShort}
-use Rattle.qm_history.specs.Visits.{Visit, visits, visits_of}
-use Rattle.qm_history.specs.World.{system_in, is_live, held_by}
 
 -- ---- fenced turns
 
@@ -47,24 +34,12 @@ own_fenced : (w : World) (node reading : ℕ) (asked : Call) (what : Input) (e :
     → IsOwn w node reading asked Nothing what events → events ≡ e ∷ []
 own_fenced w node reading asked (input.Ask request.Tick) e is manager events own = subst (λ f. FencedOr f (IsAsked w node reading request.Tick events) events) is own
 own_fenced w node reading asked input.Compact e is manager events own = subst (λ f. FencedOr f (IsCompaction node events) events) is own
-own_fenced w node reading asked (input.Ask r) e is manager events own = absurd manager
-own_fenced w node reading asked (input.Show query) e is manager events own = absurd manager
-own_fenced w node reading asked (input.Fetch known) e is manager events own = absurd manager
-own_fenced w node reading asked (input.TakeManager on) e is manager events own = absurd manager
-own_fenced w node reading asked input.StartNode e is manager events own = absurd manager
-own_fenced w node reading asked input.StopNode e is manager events own = absurd manager
-own_fenced w node reading asked (input.Fault place kind) e is manager events own = absurd manager
+own_fenced w node reading asked _ e is manager events own = absurd manager
 
 takes_none : (w : World) (role : Role) (what : Input) → w.manager ≡ Some role → IsForManager what → takes_over w what ≡ false
 takes_none w role (input.Ask request.Tick) is manager = subst (λ m. is_none m ≡ false) (sym is) refl
 takes_none w role input.Compact is manager = subst (λ m. is_none m ≡ false) (sym is) refl
-takes_none w role (input.Ask r) is manager = absurd manager
-takes_none w role (input.Show query) is manager = absurd manager
-takes_none w role (input.Fetch known) is manager = absurd manager
-takes_none w role (input.TakeManager on) is manager = absurd manager
-takes_none w role input.StartNode is manager = absurd manager
-takes_none w role input.StopNode is manager = absurd manager
-takes_none w role (input.Fault place kind) is manager = absurd manager
+takes_none w role _ is manager = absurd manager
 
 not_down : (w : World) (node : ℕ) (what : Input) → is_live w node ≡ true → is_down w node what ≡ false
 not_down w node what live = subst (λ b. (not b && not (is_start what)) ≡ false) (sym live) refl
@@ -92,49 +67,46 @@ module _ (w : World) (node reading : ℕ) (asked : Call) (role : Role) (is : w.m
   pub not_alone : takes_over w (input_of asked) ≡ true → ⊥
   not_alone takes = let none : takes_over w (input_of asked) ≡ false = takes_none w role (input_of asked) is manager in cc
 
-module _ (HasSpelling : Record → Type 0) where
-  pub turn_stays : (w : World) (asked : Call) (t : Turn) (role : Role) → w.manager ≡ Some role → held_by w t.node ≢ role.epoch → IsForManager (input_of asked)
-      → IsTurnOf HasSpelling w asked t ⊎ IsCutShort HasSpelling w asked t → after_turn w t ≡ w
-  turn_stays w asked t role is other manager (inl whole) = served_stays w t.node t.moment asked role is other manager t.events whole.1
-  turn_stays w asked t role is other manager (inr short) = absurd (not_alone w t.node t.moment asked role is other manager t.events short.1.1)
+pub turn_stays : (w : World) (asked : Call) (t : Turn) (role : Role) → w.manager ≡ Some role → held_by w t.node ≢ role.epoch → IsForManager (input_of asked)
+    → IsTurnOf w asked t ⊎ IsCutShort w asked t → after_turn w t ≡ w
+turn_stays w asked t role is other manager (inl whole) = served_stays w t.node t.moment asked role is other manager t.events whole.1
+turn_stays w asked t role is other manager (inr short) = absurd (not_alone w t.node t.moment asked role is other manager t.events short.1.1)
 
-  pub turn_fenced : (w : World) (asked : Call) (t : Turn) (role : Role) → w.manager ≡ Some role → held_by w t.node ≢ role.epoch → IsForManager (input_of asked)
-      → IsTurnOf HasSpelling w asked t ⊎ IsCutShort HasSpelling w asked t → is_live w t.node ≡ true → t.events ≡ event.Fenced t.node (held_by w t.node) role.epoch ∷ []
-  turn_fenced w asked t role is other manager (inl whole) live = served_fenced w t.node t.moment asked role is other manager t.events live whole.1
-  turn_fenced w asked t role is other manager (inr short) live = absurd (not_alone w t.node t.moment asked role is other manager t.events short.1.1)
+pub turn_fenced : (w : World) (asked : Call) (t : Turn) (role : Role) → w.manager ≡ Some role → held_by w t.node ≢ role.epoch → IsForManager (input_of asked)
+    → IsTurnOf w asked t ⊎ IsCutShort w asked t → is_live w t.node ≡ true → t.events ≡ event.Fenced t.node (held_by w t.node) role.epoch ∷ []
+turn_fenced w asked t role is other manager (inl whole) live = served_fenced w t.node t.moment asked role is other manager t.events live whole.1
+turn_fenced w asked t role is other manager (inr short) live = absurd (not_alone w t.node t.moment asked role is other manager t.events short.1.1)
 
 -- ---- compactions
 
 pub alone_stays : (w : World) (t : Turn) → IsCompactionAlone t → after_turn w t ≡ w
 alone_stays w t (node, epoch, file, is) = ap (after_events w) is
 
-module _ (HasSpelling : Record → Type 0) where
-  pub compaction_goes : (w : World) (before behind : List Turn) (t : Turn) → IsCompactionAlone t → IsLegal HasSpelling w (before ++ t ∷ behind) → IsLegal HasSpelling w (before ++ behind)
-  compaction_goes w [] behind t alone legal = subst (λ v. IsLegal HasSpelling v behind) (alone_stays w t alone) legal.1
-  compaction_goes w (x ∷ before) behind t alone legal = (legal.0, compaction_goes (after_turn w x) before behind t alone legal.1)
+pub compaction_goes : (w : World) (before behind : List Turn) (t : Turn) → IsCompactionAlone t → IsLegal w (before ++ t ∷ behind) → IsLegal w (before ++ behind)
+compaction_goes w [] behind t alone legal = subst (λ v. IsLegal v behind) (alone_stays w t alone) legal.1
+compaction_goes w (x ∷ before) behind t alone legal = (legal.0, compaction_goes (after_turn w x) before behind t alone legal.1)
 
-  pub compaction_comes : (w : World) (before behind : List Turn) (t : Turn) → IsCompactionAlone t → IsLegalTurn HasSpelling (after_turns w before) t
-      → IsLegal HasSpelling w (before ++ behind) → IsLegal HasSpelling w (before ++ t ∷ behind)
-  compaction_comes w [] behind t alone may legal = (may, subst (λ v. IsLegal HasSpelling v behind) (sym (alone_stays w t alone)) legal)
-  compaction_comes w (x ∷ before) behind t alone may legal = (legal.0, compaction_comes (after_turn w x) before behind t alone may legal.1)
+pub compaction_comes : (w : World) (before behind : List Turn) (t : Turn) → IsCompactionAlone t → IsLegalTurn (after_turns w before) t
+    → IsLegal w (before ++ behind) → IsLegal w (before ++ t ∷ behind)
+compaction_comes w [] behind t alone may legal = (may, subst (λ v. IsLegal v behind) (sym (alone_stays w t alone)) legal)
+compaction_comes w (x ∷ before) behind t alone may legal = (legal.0, compaction_comes (after_turn w x) before behind t alone may legal.1)
 
 fence_none : (w : World) (node : ℕ) (m : Option Role) (role : Role) → m ≡ Some role → held_by w node ≡ role.epoch → fence (record w { manager = m }) node ≡ None
 fence_none w node m role is same =
     let equal : (held_by w node == role.epoch) ≡ true = grind (arith, nat_tests) in
     subst (λ x. fence (record w { manager = x }) node ≡ None) (sym is) (ap (λ b. cond b None (Some (event.Fenced node (held_by w node) role.epoch))) equal)
 
-module _ (HasSpelling : Record → Type 0) where
-  pub compaction_may_come : (w : World) (role : Role) (node file line moment : ℕ) → w.manager ≡ Some role → held_by w node ≡ role.epoch → is_live w node ≡ true → node < length (system_in w).nodes
-      → (file ≡ 1) ⊎ (file ≡ 2) → IsLegalTurn HasSpelling w (record { node = node; why = why.Line line; moment = moment; events = event.Compacted node role.epoch file ∷ [] })
-  compaction_may_come w role node file line moment is same live within is_file =
-      let events : List Event = event.Compacted node role.epoch file ∷ [] in
-      let asked : Call = call.Line line input.Compact in
-      let own : FencedOr (fence w node) (IsCompaction node events) events = subst (λ f. FencedOr f (IsCompaction node events) events) (sym (fence_none w node w.manager role is same)) refl in
-      let behind : IsBehindTakeover w node moment asked (takes_over w input.Compact) events =
-      subst (λ b. IsBehindTakeover w node moment asked b events) (sym (takes_none w role input.Compact is tt)) own in
-      let served : IsServed w node moment asked events =
-      subst (λ b. UnlessDown b node moment input.Compact (IsBehindTakeover w node moment asked (takes_over w input.Compact) events) events) (sym (not_down w node input.Compact live)) behind in
-      (asked, inl (record { node_there = within; why_is = refl; outside = tt; can_come = ((ap (λ (m : Option Role). option_map (λ (r : Role). r.epoch) m) is, is_file), tt) }, served))
+pub compaction_may_come : (w : World) (role : Role) (node file line moment : ℕ) → w.manager ≡ Some role → held_by w node ≡ role.epoch → is_live w node ≡ true → node < length (system_in w).nodes
+    → (file ≡ 1) ⊎ (file ≡ 2) → IsLegalTurn w (record { node = node; why = why.Line line; moment = moment; events = event.Compacted node role.epoch file ∷ [] })
+compaction_may_come w role node file line moment is same live within is_file =
+    let events : List Event = event.Compacted node role.epoch file ∷ [] in
+    let asked : Call = call.Line line input.Compact in
+    let own : FencedOr (fence w node) (IsCompaction node events) events = subst (λ f. FencedOr f (IsCompaction node events) events) (sym (fence_none w node w.manager role is same)) refl in
+    let behind : IsBehindTakeover w node moment asked (takes_over w input.Compact) events =
+    subst (λ b. IsBehindTakeover w node moment asked b events) (sym (takes_none w role input.Compact is tt)) own in
+    let served : IsServed w node moment asked events =
+    subst (λ b. UnlessDown b node moment input.Compact (IsBehindTakeover w node moment asked (takes_over w input.Compact) events) events) (sym (not_down w node input.Compact live)) behind in
+    (asked, inl (record { node_there = within; why_is = refl; outside = tt; can_come = ((ap (λ (m : Option Role). option_map (λ (r : Role). r.epoch) m) is, is_file), tt) }, served))
 
 pub visits_append : (w : World) (a b : List Turn) → visits w (a ++ b) ≡ visits w a ++ visits (after_turns w a) b
 visits_append w [] b = refl
@@ -169,20 +141,20 @@ other_visit node w t other =
     let differ : (t.node == node) ≡ false = grind (arith, nat_tests) in
     ap (λ b. cond b (record { before = w; turn = t } ∷ []) []) differ
 
-module _ (HasSpelling : Record → Type 0) (read : UserLine → ℕ → List Visit → List ℕ → Input) where
+module _ (read : UserLine → ℕ → List Visit → List ℕ → Input) where
   pub same_course : (extent : Extent) (w v : World) (turns others : List Turn) (node : ℕ) (lines : List UserLine) (faults : ℕ) → is_live w node ≡ is_live v node
-      → visits_of node w turns ≡ visits_of node v others → IsCourse HasSpelling read extent w turns node lines faults → IsCourse HasSpelling read extent v others node lines faults
+      → visits_of node w turns ≡ visits_of node v others → IsCourse read extent w turns node lines faults → IsCourse read extent v others node lines faults
   same_course extent w v turns others node lines faults live same h = record {
     steps = h.steps;
     broken = h.broken;
     turns_are =
-        subst (λ b. GoesOn HasSpelling read extent h.broken (at_first lines) [] b (visits_of node v others) h.steps) live
-        (subst (λ vs. GoesOn HasSpelling read extent h.broken (at_first lines) [] (is_live w node) vs h.steps) same h.turns_are);
+        subst (λ b. GoesOn read extent h.broken (at_first lines) [] b (visits_of node v others) h.steps) live
+        (subst (λ vs. GoesOn read extent h.broken (at_first lines) [] (is_live w node) vs h.steps) same h.turns_are);
     few_faults = h.few_faults;
   }
 
   pub course_behind : (extent : Extent) (w : World) (turns : List Turn) (t : Turn) (node : ℕ) (lines : List UserLine) (faults : ℕ) → t.node ≢ node
-      → IsCourse HasSpelling read extent w turns node lines faults → IsCourse HasSpelling read extent w (turns ++ t ∷ []) node lines faults
+      → IsCourse read extent w turns node lines faults → IsCourse read extent w (turns ++ t ∷ []) node lines faults
   course_behind extent w turns t node lines faults other h =
       same_course extent w w turns (turns ++ t ∷ []) node lines faults refl
       (sym (visits_of_append node w turns (t ∷ []) ∙ ap (λ vs. visits_of node w turns ++ vs) (other_visit node (after_turns w turns) t other) ∙ append-nil (visits_of node w turns))) h

@@ -1,12 +1,9 @@
 -- A run that another fetch gave, and that leaves out the block behind its mark, is no step of a course.
-use Rattle.std.proofs.Common.{◌≡◌, ℕ, inl, inr, false, true, List, [], ◌∷◌, refl, ap, arith}
-use Rattle.std.specs.Prelude.{codes}
+use Rattle.std.proofs.Common.{◌≡◌, ℕ, inl, inr, false, true, List, [], ◌∷◌, refl, ap, arith, codes}
 use Rattle.std.specs.Fmt.{digits}
-use Rattle.qm_kinds.specs.declared.work.Place.{Place}
+use Rattle.qm_history.specs.Common.{Place, KeptRun, WentOn, MadeStep}
 use Rattle.qm_model.specs.Reports.{begin}
 use Rattle.qm_history.specs.Blocks.{ComeInStretches, IsInStretch}
-use Rattle.qm_model.specs.Kept.{KeptRun, WentOn}
-use Rattle.qm_history.specs.Course.{MadeStep}
 use Rattle.qm_history.proofs.OneCourse.{run_at, work}
 
 -- the run printed its first page, and another fetch gave the job again, behind that page

@@ -15,6 +15,7 @@ pub mod LegalTurns
 pub mod Failover
 pub mod Doubts
 pub mod TwoNodes
+pub mod Spelled
 pub mod TwoNodesLegal
 pub mod StretchLemmas
 pub mod AgainLemmas

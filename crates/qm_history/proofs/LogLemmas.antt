@@ -1,20 +1,7 @@
 -- What records stand for, and which may follow.
-use Rattle.std.proofs.Common.{◌≡◌, ℕ, List, [], ◌∷◌, ◌++◌, map, refl, sym, ◌∙◌, ap, subst, Ok, Err}
-use Rattle.std.specs.Prelude.{Result, IsOk}
-use Rattle.std.proofs.lemmas.List.{append_assoc, append-nil}
-use Rattle.qm_kinds.specs.declared.record.Record.{Record}
-use Rattle.qm_kinds.specs.declared.record.Body.{Body}
+use Rattle.std.proofs.Common.{◌≡◌, ℕ, List, [], ◌∷◌, ◌++◌, map, refl, sym, ◌∙◌, ap, subst, Ok, Err, Result, IsOk, append_assoc, append-nil}
+use Rattle.qm_history.specs.Common.{Record, Body, Refusal, Request, System, applied, IsConsistent, IsLawful, Accepted, cluster, CanFollow, IsNext, AreNext, IsAccepted, CanStandBehind, no_system, system_after, after_body, after_record, replayed, system_of, row, image_of}
 use Rattle.qm_kinds.specs.declared.record.Body.TheVariants as body
-use Rattle.qm_kinds.specs.declared.refusal.Refusal.{Refusal}
-use Rattle.qm_kinds.specs.declared.request.Request.{Request}
-use Rattle.qm_kinds.specs.declared.system.System.{System}
-use Rattle.qm_model.specs.Applied.{applied}
-use Rattle.qm_model.specs.Consistent.{IsConsistent}
-use Rattle.qm_model.specs.Lawful.{IsLawful}
-use Rattle.qm_model.specs.Outcome.{Accepted}
-use Rattle.qm_history.specs.Accepted.{cluster, CanFollow, IsNext, AreNext, IsAccepted, CanStandBehind}
-use Rattle.qm_model.specs.Folding.{no_system, system_after, after_body, after_record, replayed, system_of}
-use Rattle.qm_model.specs.Log.{row, image_of}
 
 -- ---- records one behind another
 
@@ -60,60 +47,55 @@ module _ (P : System → Type 0) (s : System) where
   after_ok (Ok a) each ok = each a refl
   after_ok (Err r) each ok = cc
 
-module _ (HasSpelling : Record → Type 0) where
-  -- where each request that may follow keeps a property of systems, each record does
-  module _ (P : System → System → Type 0)
-      (keeps : (s : System) (now node : ℕ) (asked : Request) (a : Accepted) → CanFollow HasSpelling s now node asked → applied s now node asked ≡ Ok a → P s a.system)
-    where
-      pub next_keeps_body : (s : System) (now node : ℕ) (b : Body) → CanStandBehind HasSpelling s now node b → P s (after_body s now node b)
-      next_keeps_body s now node (body.Ask asked) can =
-          after_ok (P s) s (applied s now node asked) (λ a is. keeps s now node asked a can is) can.accepted
-      next_keeps_body s now node (body.Head nodes may next_entry next_run last) can = absurd can
-      next_keeps_body s now node (body.Form f) can = absurd can
-      next_keeps_body s now node (body.Characteristic c) can = absurd can
-      next_keeps_body s now node (body.File f) can = absurd can
-      next_keeps_body s now node (body.Queue q) can = absurd can
-      next_keeps_body s now node (body.Entry e) can = absurd can
+-- where each request that may follow keeps a property of systems, each record does
+module _ (P : System → System → Type 0)
+    (keeps : (s : System) (now node : ℕ) (asked : Request) (a : Accepted) → CanFollow s now node asked → applied s now node asked ≡ Ok a → P s a.system)
+  where
+    pub next_keeps_body : (s : System) (now node : ℕ) (b : Body) → CanStandBehind s now node b → P s (after_body s now node b)
+    next_keeps_body s now node (body.Ask asked) can =
+        after_ok (P s) s (applied s now node asked) (λ a is. keeps s now node asked a can is) can.accepted
+    next_keeps_body s now node (body.Head nodes may next_entry next_run last) can = absurd can
+    next_keeps_body s now node _ can = absurd can
 
-      pub next_keeps : (s : System) (r : Record) → IsNext HasSpelling s r → P s (after_record s r)
-      next_keeps s r can = next_keeps_body s r.moment r.node r.body can
+    pub next_keeps : (s : System) (r : Record) → IsNext s r → P s (after_record s r)
+    next_keeps s r can = next_keeps_body s r.moment r.node r.body can
 
-  pub all_keep : (P : System → Type 0) → ((s : System) (r : Record) → IsNext HasSpelling s r → P s → P (after_record s r))
-      → (s : System) (records : List Record) → AreNext HasSpelling s records → P s → P (replayed s records)
-  all_keep P keeps s [] next h = h
-  all_keep P keeps s (r ∷ records) next h = all_keep P keeps (after_record s r) records next.1 (keeps s r next.0 h)
+pub all_keep : (P : System → Type 0) → ((s : System) (r : Record) → IsNext s r → P s → P (after_record s r))
+    → (s : System) (records : List Record) → AreNext s records → P s → P (replayed s records)
+all_keep P keeps s [] next h = h
+all_keep P keeps s (r ∷ records) next h = all_keep P keeps (after_record s r) records next.1 (keeps s r next.0 h)
 
-  -- one more
-  pub next_append : (s : System) (records : List Record) (r : Record) → AreNext HasSpelling s records → IsNext HasSpelling (replayed s records) r → AreNext HasSpelling s (records ++ r ∷ [])
-  next_append s [] r next can = (can, tt)
-  next_append s (x ∷ records) r next can = (next.0, next_append (after_record s x) records r next.1 can)
+-- one more
+pub next_append : (s : System) (records : List Record) (r : Record) → AreNext s records → IsNext (replayed s records) r → AreNext s (records ++ r ∷ [])
+next_append s [] r next can = (can, tt)
+next_append s (x ∷ records) r next can = (next.0, next_append (after_record s x) records r next.1 can)
 
-  -- the system of an accepted log is what its requests leave of its image
-  pub of_accepted : (log : List Record) → (h : IsAccepted HasSpelling log) → system_of log ≡ replayed h.image h.requests
-  of_accepted log h =
-      ap system_of h.whole ∙ replayed_append no_system (image_of h.image) h.requests ∙ ap (λ s. replayed s h.requests) (image_stands h.image)
+-- the system of an accepted log is what its requests leave of its image
+pub of_accepted : (log : List Record) → (h : IsAccepted log) → system_of log ≡ replayed h.image h.requests
+of_accepted log h =
+    ap system_of h.whole ∙ replayed_append no_system (image_of h.image) h.requests ∙ ap (λ s. replayed s h.requests) (image_stands h.image)
 
-  pub accepted_append : (log : List Record) (r : Record) → IsAccepted HasSpelling log → IsNext HasSpelling (system_of log) r → IsAccepted HasSpelling (log ++ r ∷ [])
-  accepted_append log r h can = record {
-    image = h.image;
-    requests = h.requests ++ r ∷ [];
-    consistent = h.consistent;
-    spelled = h.spelled;
-    whole = ap (λ x. x ++ r ∷ []) h.whole ∙ append_assoc (image_of h.image) h.requests (r ∷ []);
-    next = next_append h.image h.requests r h.next (subst (λ s. IsNext HasSpelling s r) (of_accepted log h) can);
-  }
+pub accepted_append : (log : List Record) (r : Record) → IsAccepted log → IsNext (system_of log) r → IsAccepted (log ++ r ∷ [])
+accepted_append log r h can = record {
+  image = h.image;
+  requests = h.requests ++ r ∷ [];
+  consistent = h.consistent;
+  spelled = h.spelled;
+  whole = ap (λ x. x ++ r ∷ []) h.whole ∙ append_assoc (image_of h.image) h.requests (r ∷ []);
+  next = next_append h.image h.requests r h.next (subst (λ s. IsNext s r) (of_accepted log h) can);
+}
 
-  -- an accepted log stands for a consistent system, where accepted requests keep systems consistent
-  module _ (keeps : (s : System) (now node : ℕ) (asked : Request) (a : Accepted) → IsConsistent s → IsLawful s node asked → applied s now node asked ≡ Ok a → IsConsistent a.system) where
-    pub next_consistent : (s : System) (r : Record) → IsNext HasSpelling s r → IsConsistent s → IsConsistent (after_record s r)
-    next_consistent s r can sound =
-        next_keeps (λ x y. IsConsistent x → IsConsistent y) (λ x now node asked a follows is h. keeps x now node asked a h follows.names is) s r can sound
+-- an accepted log stands for a consistent system, where accepted requests keep systems consistent
+module _ (keeps : (s : System) (now node : ℕ) (asked : Request) (a : Accepted) → IsConsistent s → IsLawful s node asked → applied s now node asked ≡ Ok a → IsConsistent a.system) where
+  pub next_consistent : (s : System) (r : Record) → IsNext s r → IsConsistent s → IsConsistent (after_record s r)
+  next_consistent s r can sound =
+      next_keeps (λ x y. IsConsistent x → IsConsistent y) (λ x now node asked a follows is h. keeps x now node asked a h follows.names is) s r can sound
 
-    pub accepted_consistent : (log : List Record) → IsAccepted HasSpelling log → IsConsistent (system_of log)
-    accepted_consistent log h =
-        subst IsConsistent (sym (of_accepted log h)) (all_keep IsConsistent next_consistent h.image h.requests h.next h.consistent)
+  pub accepted_consistent : (log : List Record) → IsAccepted log → IsConsistent (system_of log)
+  accepted_consistent log h =
+      subst IsConsistent (sym (of_accepted log h)) (all_keep IsConsistent next_consistent h.image h.requests h.next h.consistent)
 
-  -- no record takes a node away, where no request does
-  module _ (names : (s : System) (now node : ℕ) (asked : Request) (a : Accepted) → applied s now node asked ≡ Ok a → map (λ n. n.name) a.system.nodes ≡ map (λ n. n.name) s.nodes) where
-    pub next_cluster : (s : System) (r : Record) → IsNext HasSpelling s r → cluster (after_record s r) ≡ cluster s
-    next_cluster s r can = next_keeps (λ x y. cluster y ≡ cluster x) (λ x now node asked a follows is. names x now node asked a is) s r can
+-- no record takes a node away, where no request does
+module _ (names : (s : System) (now node : ℕ) (asked : Request) (a : Accepted) → applied s now node asked ≡ Ok a → map (λ n. n.name) a.system.nodes ≡ map (λ n. n.name) s.nodes) where
+  pub next_cluster : (s : System) (r : Record) → IsNext s r → cluster (after_record s r) ≡ cluster s
+  next_cluster s r can = next_keeps (λ x y. cluster y ≡ cluster x) (λ x now node asked a follows is. names x now node asked a is) s r can

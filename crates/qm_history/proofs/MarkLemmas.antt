@@ -1,48 +1,25 @@
 -- Marks stay until a checkpoint gives another.
-use Rattle.std.proofs.Common.{◌≡◌, ℕ, ◌<◌, All, Bool, true, false, cond, not, ◌&&◌, List, [], ◌∷◌, ◌++◌, map, filter, refl, sym, ◌∙◌, ap, subst, arith, Option, None, Some, Ok, Err, find}
-use Rattle.std.specs.Prelude.{◌==◌, IfSome, IsOk, Result, filter_map, option_to_list, is_some}
+use Rattle.std.proofs.Common.{◌≡◌, ℕ, ◌<◌, All, Bool, true, false, cond, not, ◌&&◌, List, [], ◌∷◌, ◌++◌, map, filter, refl, sym, ◌∙◌, ap, subst, arith, Option, None, Some, Ok, Err, find, ◌==◌, IfSome, IsOk, Result, filter_map, option_to_list, is_some}
 use Rattle.std.specs.List.{AllByRecursion, cons_option}
 use Rattle.std.specs.Option.{option_map_or}
 use Rattle.std.proofs.lemmas.Bool.Decides.{nat_tests}
 use Rattle.std.proofs.lemmas.List.Elements.{All-head, All-tail}
 use Rattle.qm_kinds.specs.declared.entry.Entry.{Entry}
-use Rattle.qm_kinds.specs.declared.entry.EntryState.{EntryState}
+use Rattle.qm_history.specs.Common.{EntryState, Fate, Record, Body, Refusal, EntryChange, Request, StopMode, System, applied, at_moment, change_of, completed, first_refusal_of, changed_entry, entry_set_to, entry_numbered, is_among, IsLawful, interrupted, after_loss, Accepted, unless_refused, replied, settled, as_pending, stopped_when_idle, entries_on_stop, with_fate, reset_in, reset_fate, is_running_in, entry_aborting, entry_of, AreNext, CanStandBehind, after_body, after_record, replayed, system_after}
 use Rattle.qm_kinds.specs.declared.entry.EntryState.TheVariants as state
-use Rattle.qm_kinds.specs.declared.entry.Fate.{Fate}
 use Rattle.qm_kinds.specs.declared.entry.Fate.TheVariants as fate
 use Rattle.qm_kinds.specs.declared.queue.Queue.{Queue}
-use Rattle.qm_kinds.specs.declared.record.Record.{Record}
-use Rattle.qm_kinds.specs.declared.record.Body.{Body}
 use Rattle.qm_kinds.specs.declared.record.Body.TheVariants as body
-use Rattle.qm_kinds.specs.declared.refusal.Refusal.{Refusal}
-use Rattle.qm_kinds.specs.declared.request.EntryChange.{EntryChange}
 use Rattle.qm_kinds.specs.declared.reply.Act.TheVariants.{EntryIs, EntryDeleted}
-use Rattle.qm_kinds.specs.declared.request.Request.{Request}
 use Rattle.qm_kinds.specs.declared.request.Request.TheVariants as request
-use Rattle.qm_kinds.specs.declared.request.StopMode.{StopMode}
 use Rattle.qm_kinds.specs.declared.request.StopMode.TheVariants as stop
-use Rattle.qm_kinds.specs.declared.system.System.{System}
-use Rattle.qm_model.specs.Applied.{applied, at_moment, change_of, completed, first_refusal_of}
 use Rattle.qm_model.specs.Consistent.{IsConsistent, IsEntry}
 use Rattle.qm_model.specs.Due.{due, entry_at, is_over}
 use Rattle.qm_model.specs.Ending.{ended, fated, requeued, aborted_status, node_lost_status}
-use Rattle.qm_model.specs.Entries.{changed_entry, entry_set_to}
-use Rattle.qm_model.specs.Find.{entry_numbered, is_among}
 use Rattle.qm_model.specs.JobStates.{fate_of, is_aborting}
-use Rattle.qm_model.specs.Lawful.{IsLawful}
-use Rattle.qm_model.specs.Losing.{interrupted, after_loss}
 use Rattle.qm_model.specs.Merging.{moved_to, waits_in}
-use Rattle.qm_model.specs.Outcome.{Accepted, unless_refused}
-use Rattle.qm_model.specs.Replying.{replied}
 use Rattle.qm_model.specs.Runs.{MarkReport, EndReport, entry_of_run, after_report, report_act, reported_of}
-use Rattle.qm_model.specs.Settling.{settled}
 use Rattle.qm_model.specs.Standing.{with_entry, node_at, has_run, is_run_on, is_executing}
-use Rattle.qm_model.specs.Starting.{as_pending}
-use Rattle.qm_model.specs.States.{stopped_when_idle}
-use Rattle.qm_model.specs.Stopping.{entries_on_stop, with_fate, reset_in, reset_fate, is_running_in, entry_aborting}
-use Rattle.qm_model.specs.Submitting.{entry_of}
-use Rattle.qm_history.specs.Accepted.{AreNext, CanStandBehind}
-use Rattle.qm_model.specs.Folding.{after_body, after_record, replayed, system_after}
 use Rattle.qm_history.specs.Marks.{finds_running, mark_after, mark_behind, last_mark, HaveMarks}
 use Rattle.qm_history.proofs.LogLemmas.{next_consistent}
 
@@ -138,12 +115,9 @@ module _ (Q : ℕ → List ℕ → Type 0) where
   lost_at false e o here there = here
 
   told_loss : (queues : List Queue) (now : ℕ) (lost : List (List ℕ)) (st : EntryState) (e : Entry) → Q e.number e.mark → IfSome (after_loss queues now lost st e) (λ (x : Entry). Q x.number x.mark)
-  told_loss queues now lost state.Pending e h = h
-  told_loss queues now lost state.Holding e h = h
-  told_loss queues now lost (state.Timed at) e h = h
   told_loss queues now lost (state.Running queue node run) e h = lost_at (is_among lost node) e (interrupted queues now e) h (told_interrupted queues now e h)
   told_loss queues now lost (state.Aborting queue node run f) e h = lost_at (is_among lost node) e (fated queues now f e) h (told_fated queues now f e h)
-  told_loss queues now lost (state.Retained status until) e h = h
+  told_loss queues now lost _ e h = h
 
   reset_at : (b : Bool) (x e : Entry) → Q x.number x.mark → Q e.number e.mark → Q (cond b x e).number (cond b x e).mark
   reset_at true x e here there = here
@@ -263,16 +237,6 @@ module _ (marks : ℕ → List ℕ) (next : ℕ) where
     name = node_at node s.nodes
 
     changed : (asked : Request) → Told Mine found.entries → Told (After s now node asked) (change_of found now name asked).system.entries
-    changed (request.Append file bytes) h = plain found.entries h
-    changed (request.Fill file lines) h = plain found.entries h
-    changed (request.Drop file) h = plain found.entries h
-    changed (request.DefineForm form) h = plain found.entries h
-    changed (request.DeleteForm form) h = plain found.entries h
-    changed (request.DefineCharacteristic characteristic) h = plain found.entries h
-    changed (request.DeleteCharacteristic characteristic) h = plain found.entries h
-    changed (request.InitializeQueue new) h = plain found.entries h
-    changed (request.SetQueue queue change) h = plain found.entries h
-    changed (request.StartQueue queue change) h = plain found.entries h
     changed (request.StopQueue queue how) h = plain _ (told_stop Mine how queue found.entries h)
     changed (request.AbortJob queue entry requeue) h = plain _ (told_aborting Mine found _ _ h)
     changed (request.DeleteQueue queue) h = plain _ (told_filter Mine _ found.entries h)
@@ -288,10 +252,9 @@ module _ (marks : ℕ → List ℕ) (next : ℕ) where
         told_mark found now run value (entry_of_run found name run) (told_found Mine (λ e. has_run run e && is_run_on name e) found.entries h) h
     changed (request.Done run status) h =
         plain _ (told_done Mine found now run status (entry_of_run found name run) (told_found Mine (λ e. has_run run e && is_run_on name e) found.entries h) h)
-    changed request.Tick h = plain found.entries h
-    changed request.NodeUp h = plain found.entries h
     changed (request.NodeLost nodes) h = plain _ (told_filter_map Mine _ (λ e k. told_loss Mine found.queues now nodes e.state e k) found.entries h)
     changed (request.Took epoch gone up may) h = plain _ (told_filter_map Mine _ (λ e k. told_loss Mine found.queues now gone e.state e k) found.entries h)
+    changed _ h = plain found.entries h
 
     of_system : Told Mine s.entries → Told Mine found.entries
     of_system h = told_map Mine (entry_at now) (λ e k. k) (filter (λ e. not (is_over now e.state)) s.entries) (told_filter Mine (λ e. not (is_over now e.state)) s.entries h)
@@ -317,27 +280,20 @@ module _ (alone : (s : System) → map as_pending (settled s).system.entries ≡
       (told_pending (After marks s.next_entry s now node asked) (settled (stopped_when_idle x.system)).system.entries x.system.entries (alone (stopped_when_idle x.system))
       (changed marks s.next_entry s now node refl asked (of_system marks s.next_entry s now node refl before)))
 
-  module _ (HasSpelling : Record → Type 0)
-      (keeps : (s : System) (now node : ℕ) (asked : Request) (a : Accepted) → IsConsistent s → IsLawful s node asked → applied s now node asked ≡ Ok a → IsConsistent a.system)
-    where
-      marks_after_ok : (s : System) (now node : ℕ) (asked : Request) (marks : ℕ → List ℕ) → IsConsistent s → HaveMarks marks s.entries → (res : Result Accepted Refusal) → applied s now node asked ≡ res → IsOk res
-          → HaveMarks (λ number. mark_after number (marks number) s now node asked) (system_after s res).entries
-      marks_after_ok s now node asked marks sound h (Ok a) is ok = marks_after_request s now node asked a marks sound h is
-      marks_after_ok s now node asked marks sound h (Err refusal) is ok = cc
+  module _ (keeps : (s : System) (now node : ℕ) (asked : Request) (a : Accepted) → IsConsistent s → IsLawful s node asked → applied s now node asked ≡ Ok a → IsConsistent a.system) where
+    marks_after_ok : (s : System) (now node : ℕ) (asked : Request) (marks : ℕ → List ℕ) → IsConsistent s → HaveMarks marks s.entries → (res : Result Accepted Refusal) → applied s now node asked ≡ res → IsOk res
+        → HaveMarks (λ number. mark_after number (marks number) s now node asked) (system_after s res).entries
+    marks_after_ok s now node asked marks sound h (Ok a) is ok = marks_after_request s now node asked a marks sound h is
+    marks_after_ok s now node asked marks sound h (Err refusal) is ok = cc
 
-      marks_after_body : (s : System) (now node : ℕ) (b : Body) (marks : ℕ → List ℕ) → IsConsistent s → HaveMarks marks s.entries → CanStandBehind HasSpelling s now node b
-          → HaveMarks (λ number. mark_behind number (marks number) s now node b) (after_body s now node b).entries
-      marks_after_body s now node (body.Ask asked) marks sound h can = marks_after_ok s now node asked marks sound h (applied s now node asked) refl can.accepted
-      marks_after_body s now node (body.Head nodes may next_entry next_run last) marks sound h can = absurd can
-      marks_after_body s now node (body.Form f) marks sound h can = absurd can
-      marks_after_body s now node (body.Characteristic c) marks sound h can = absurd can
-      marks_after_body s now node (body.File f) marks sound h can = absurd can
-      marks_after_body s now node (body.Queue q) marks sound h can = absurd can
-      marks_after_body s now node (body.Entry e) marks sound h can = absurd can
+    marks_after_body : (s : System) (now node : ℕ) (b : Body) (marks : ℕ → List ℕ) → IsConsistent s → HaveMarks marks s.entries → CanStandBehind s now node b
+        → HaveMarks (λ number. mark_behind number (marks number) s now node b) (after_body s now node b).entries
+    marks_after_body s now node (body.Ask asked) marks sound h can = marks_after_ok s now node asked marks sound h (applied s now node asked) refl can.accepted
+    marks_after_body s now node _ marks sound h can = absurd can
 
-      pub marks_after_records : (s : System) (records : List Record) (marks : ℕ → List ℕ) → IsConsistent s → HaveMarks marks s.entries → AreNext HasSpelling s records
-          → HaveMarks (λ number. last_mark number (marks number) s records) (replayed s records).entries
-      marks_after_records s [] marks sound h next = h
-      marks_after_records s (r ∷ records) marks sound h next =
-          marks_after_records (after_record s r) records (λ number. mark_behind number (marks number) s r.moment r.node r.body)
-          (next_consistent HasSpelling keeps s r next.0 sound) (marks_after_body s r.moment r.node r.body marks sound h next.0) next.1
+    pub marks_after_records : (s : System) (records : List Record) (marks : ℕ → List ℕ) → IsConsistent s → HaveMarks marks s.entries → AreNext s records
+        → HaveMarks (λ number. last_mark number (marks number) s records) (replayed s records).entries
+    marks_after_records s [] marks sound h next = h
+    marks_after_records s (r ∷ records) marks sound h next =
+        marks_after_records (after_record s r) records (λ number. mark_behind number (marks number) s r.moment r.node r.body)
+        (next_consistent keeps s r next.0 sound) (marks_after_body s r.moment r.node r.body marks sound h next.0) next.1

@@ -1,10 +1,9 @@
 -- A master is sound, unformatted or damaged at one place, and never two of these.
-use Rattle.std.proofs.Common.{◌≡◌, ℕ, ◌<◌, ◌^◌, inl, inr, List, [], ◌∷◌, ◌++◌, length, map, refl, sym, ◌∙◌, ap, subst, arith}
-use Rattle.std.proofs.lemmas.List.{append_assoc, append-nil}
-use Rattle.qm_kinds.specs.declared.record.Record.{Record}
+use Rattle.std.proofs.Common.{◌≡◌, ℕ, ◌<◌, ◌^◌, inl, inr, List, [], ◌∷◌, ◌++◌, length, map, refl, sym, ◌∙◌, ap, subst, arith, append_assoc, append-nil}
+use Rattle.qm_glog.specs.Records.{IsLog}
 use Rattle.qm_history.specs.Judged.{ReadsOneWay}
 use Rattle.qm_history.specs.Master.{MasterRecord, MasterState, master_text, master_of, no_master, AreMaster, AllStandInMaster, CanStandInMaster}
-use Rattle.qm_history.specs.Start.{IsFirstBadMaster, IsMasterDamaged, IsUnformatted}
+use Rattle.qm_history.specs.Start.{IsFirstBadMaster, IsMasterDamaged, IsUnformatted, place_of}
 use Rattle.qm_history.proofs.StartLemmas.{one_small, one_text, master_append}
 
 -- no record of this text can stand there
@@ -55,35 +54,33 @@ first_place done (q ∷ a) (r ∷ b) bad worse behind more small all each same n
     (behind_one done a q bad none) (behind_one done b q worse (subst (λ x. NoneCanStand (done ++ x ∷ b) worse) one none_too)) in
     omega (arith, further)
 
-module _ (IsLog : List ℕ → List (List ℕ) → Type 0) (IsBrokenAt : List ℕ → ℕ → Type 0) (place_of : List (List ℕ) → ℕ → ℕ) (HasSpelling : Record → Type 0) (record_text : Record → List ℕ)
-    (one_way : ReadsOneWay IsLog IsBrokenAt)
-  where
-    abbrev FirstBad : List (List ℕ) → ℕ → Type 0
-    FirstBad bodies index = IsFirstBadMaster IsLog IsBrokenAt place_of HasSpelling record_text bodies index
+module _ (one_way : ReadsOneWay) where
+  abbrev FirstBad : List (List ℕ) → ℕ → Type 0
+  FirstBad bodies index = IsFirstBadMaster bodies index
 
-    abbrev Damaged : List ℕ → ℕ → Type 0
-    Damaged file place = IsMasterDamaged IsLog IsBrokenAt place_of HasSpelling record_text file place
+  abbrev Damaged : List ℕ → ℕ → Type 0
+  Damaged file place = IsMasterDamaged file place
 
-    never_bad : (masters : List MasterRecord) (index : ℕ) → AreMaster masters → FirstBad (map master_text masters) index → ⊥
-    never_bad masters index are bad = clash [] masters bad.before bad.bad bad.behind (omega arith) are.each bad.each bad.whole bad.none
+  never_bad : (masters : List MasterRecord) (index : ℕ) → AreMaster masters → FirstBad (map master_text masters) index → ⊥
+  never_bad masters index are bad = clash [] masters bad.before bad.bad bad.behind (omega arith) are.each bad.each bad.whole bad.none
 
-    one_index : (bodies : List (List ℕ)) (p q : ℕ) → FirstBad bodies p → FirstBad bodies q → p ≡ q
-    one_index bodies p q a b =
-        a.index_is ∙ first_place [] a.before b.before a.bad b.bad a.behind b.behind (omega arith) a.each b.each (sym a.whole ∙ b.whole) a.none b.none ∙ sym b.index_is
+  one_index : (bodies : List (List ℕ)) (p q : ℕ) → FirstBad bodies p → FirstBad bodies q → p ≡ q
+  one_index bodies p q a b =
+      a.index_is ∙ first_place [] a.before b.before a.bad b.bad a.behind b.behind (omega arith) a.each b.each (sym a.whole ∙ b.whole) a.none b.none ∙ sym b.index_is
 
-    pub sound_master : (file : List ℕ) (masters : List MasterRecord) (place : ℕ) → IsLog file (map master_text masters) → AreMaster masters → Damaged file place → ⊥
-    sound_master file masters place log are (begins, inl broken) = one_way.sound file (map master_text masters) place log broken
-    sound_master file masters place log are (begins, inr (bodies, index, log_too, bad, place_is)) =
-        never_bad masters index are (subst (λ b. FirstBad b index) (one_way.logs file bodies (map master_text masters) log_too log) bad)
+  pub sound_master : (file : List ℕ) (masters : List MasterRecord) (place : ℕ) → IsLog file (map master_text masters) → AreMaster masters → Damaged file place → ⊥
+  sound_master file masters place log are (begins, inl broken) = one_way.sound file (map master_text masters) place log broken
+  sound_master file masters place log are (begins, inr (bodies, index, log_too, bad, place_is)) =
+      never_bad masters index are (subst (λ b. FirstBad b index) (one_way.logs file bodies (map master_text masters) log_too log) bad)
 
-    pub one_place : (file : List ℕ) (p q : ℕ) → Damaged file p → Damaged file q → p ≡ q
-    one_place file p q (begins, inl broken) (begins_too, inl broken_too) = one_way.place file p q broken broken_too
-    one_place file p q (begins, inl broken) (begins_too, inr (bodies, index, log, bad, place_is)) = absurd (one_way.sound file bodies p log broken)
-    one_place file p q (begins, inr (bodies, index, log, bad, place_is)) (begins_too, inl broken) = absurd (one_way.sound file bodies q log broken)
-    one_place file p q (begins, inr (bodies, index, log, bad, place_is)) (begins_too, inr (others, at, log_too, bad_too, place_is_too)) =
-        let same : bodies ≡ others = one_way.logs file bodies others log log_too in
-        let index_is : index ≡ at = one_index others index at (subst (λ b. FirstBad b index) same bad) bad_too in
-        place_is ∙ ap (λ b. place_of b index) same ∙ ap (place_of others) index_is ∙ sym place_is_too
+  pub one_place : (file : List ℕ) (p q : ℕ) → Damaged file p → Damaged file q → p ≡ q
+  one_place file p q (begins, inl broken) (begins_too, inl broken_too) = one_way.place file p q broken broken_too
+  one_place file p q (begins, inl broken) (begins_too, inr (bodies, index, log, bad, place_is)) = absurd (one_way.sound file bodies p log broken)
+  one_place file p q (begins, inr (bodies, index, log, bad, place_is)) (begins_too, inl broken) = absurd (one_way.sound file bodies q log broken)
+  one_place file p q (begins, inr (bodies, index, log, bad, place_is)) (begins_too, inr (others, at, log_too, bad_too, place_is_too)) =
+      let same : bodies ≡ others = one_way.logs file bodies others log log_too in
+      let index_is : index ≡ at = one_index others index at (subst (λ b. FirstBad b index) same bad) bad_too in
+      place_is ∙ ap (λ b. place_of b index) same ∙ ap (place_of others) index_is ∙ sym place_is_too
 
-    pub unformatted_apart : (files : ℕ → List ℕ) (byte place : ℕ) → IsUnformatted IsLog IsBrokenAt place_of HasSpelling record_text files byte → Damaged (files 0) place → ⊥
-    unformatted_apart files byte place (is, other) (begins, damage) = other (is ∙ begins)
+  pub unformatted_apart : (files : ℕ → List ℕ) (byte place : ℕ) → IsUnformatted files byte → Damaged (files 0) place → ⊥
+  unformatted_apart files byte place (is, other) (begins, damage) = other (is ∙ begins)

@@ -1,14 +1,9 @@
 -- Lists of a cluster's nodes, each once and in its order.
-use Rattle.std.proofs.Common.{◌≡◌, ◌≢◌, ℕ, zero, suc, ◌<◌, ◌⊎◌, inl, inr, Bool, true, false, cond, ◌||◌, List, [], ◌∷◌, length, map, refl, sym, ◌∙◌, ap, subst, arith}
-use Rattle.std.specs.Prelude.{filter, All}
+use Rattle.std.proofs.Common.{◌≡◌, ◌≢◌, ℕ, zero, suc, ◌<◌, ◌⊎◌, inl, inr, Bool, true, false, cond, ◌||◌, List, [], ◌∷◌, length, map, refl, sym, ◌∙◌, ap, subst, arith, filter, All, bytes_eq}
 use Rattle.std.specs.List.{AllByRecursion}
-use Rattle.std.specs.Str.{bytes_eq}
 use Rattle.std.proofs.lemmas.Slice.Eq.{bytes_eq-Decides}
-use Rattle.qm_kinds.specs.declared.system.Node.{Node}
+use Rattle.qm_history.specs.Common.{Node, is_among, node_at, nodes_where}
 use Rattle.qm_model.specs.Consistent.{AreDistinct}
-use Rattle.qm_model.specs.Find.{is_among}
-use Rattle.qm_model.specs.Standing.{node_at}
-use Rattle.qm_history.specs.World.{nodes_where}
 
 abbrev pub names : List Node → List (List ℕ)
 names nodes = map (λ (n : Node). n.name) nodes

@@ -1,28 +1,23 @@
 -- A node's lines, the step behind its STEP line, its own fetches and steps, and its leave.
-use Rattle.std.proofs.Common.{◌≡◌, ℕ, lit<, lit≤, false, List, [], ◌∷◌, ◌++◌, refl, map, length, None}
-use Rattle.std.specs.Prelude.{codes, ◌==◌, if◌then◌else◌}
+use Rattle.std.proofs.Common.{◌≡◌, ℕ, lit<, lit≤, false, List, [], ◌∷◌, ◌++◌, refl, map, length, None, true, codes, ◌==◌, if◌then◌else◌}
 use Rattle.std.specs.Fmt.{digits}
-use Rattle.qm_kinds.specs.declared.input.Input.{Input}
+use Rattle.qm_history.specs.Common.{Input, Report, Work, KeptRun, WentOn, MadeStep, Whole, IsCourse, text, Visit}
 use Rattle.qm_kinds.specs.declared.input.Input.TheVariants as input
 use Rattle.qm_kinds.specs.declared.request.Request.TheVariants as request
-use Rattle.qm_kinds.specs.declared.work.Report.{Report}
 use Rattle.qm_kinds.specs.declared.work.Report.TheVariants as report
-use Rattle.qm_kinds.specs.declared.work.Work.{Work}
-use Rattle.qm_kinds.specs.declared.entry.JobKind.TheVariants as job
+use Rattle.qm_kinds.specs.declared.entry.JobRetain.TheVariants.{Default}
 use Rattle.qm_model.specs.Filing.{filling}
 use Rattle.qm_history.specs.declared.call.Call.{Call}
 use Rattle.qm_history.specs.declared.call.Call.TheVariants as call
 use Rattle.qm_history.specs.declared.turn.Turn.{Turn}
 use Rattle.qm_history.specs.declared.world.World.{World}
 use Rattle.qm_history.specs.Blocks.{AreHanded, blocks_next}
-use Rattle.qm_model.specs.Kept.{KeptRun, WentOn}
-use Rattle.qm_history.specs.Course.{MadeStep, Whole, IsCourse}
 use Rattle.qm_history.specs.Script.{UserLine, LineSort, Command, Act}
-use Rattle.qm_history.specs.Text.{text}
-use Rattle.qm_history.specs.Visits.{Visit}
-use Rattle.qm_history.proofs.LegalTurns.{follows, takes}
-use Rattle.qm_history.proofs.Serving.{Asked, new_site, world_of, history, no_items, Any}
+use Rattle.qm_history.proofs.LegalTurns.{follows, takes, a_is_name, both_fit, says}
+use Rattle.qm_history.proofs.Serving.{Asked, new_site, world_of, history, no_items}
+use Rattle.qm_model.proofs.Duties.{plain_work}
 use Rattle.qm_history.proofs.TwoNodes.{asks, listing_file, print_queue, print_job}
+use Rattle.qm_history.proofs.Spelled.{listing_file_fits, lp_is_name, print_job_fits, print_queue_fits}
 
 abbrev reports : Report → Asked
 reports told = record { node = 0; reading = 1000; call = call.Report 1 told }
@@ -76,20 +71,7 @@ read l reading earlier known =
 
 -- the job as the node has it
 abbrev pub work : Work
-work = record {
-  run = 1;
-  entry = 1;
-  kind = job.Print;
-  name = codes "F";
-  user = codes "SYSTEM";
-  device = codes "LP";
-  text = filling 72;
-  shape = record { length = 66; width = 132; top = 0; bottom = 6; left = 0; right = 0; wrap = false };
-  copies = 1;
-  flag = false;
-  again = false;
-  mark = [];
-}
+work = plain_work 1 (codes "F") (codes "LP") (filling 72)
 
 abbrev pub run_at : ℕ → KeptRun
 run_at block = record { run = 1; aborting = false; paused = false; work = work; place = record { at = block; used = 0 }; fetched = 3 }
@@ -104,7 +86,7 @@ what_each_step_handed_over = (refl, (refl, tt))
 pub what_the_device_got : map length (blocks_next (run_at 0) ++ blocks_next (run_at 1)) ≡ 3841 ∷ 769 ∷ []
 what_the_device_got = refl
 
-pub it_is_a_course : IsCourse Any read Whole site turns 0 lines 0
+pub it_is_a_course : IsCourse read Whole site turns 0 lines 0
 unfolding digits
 it_is_a_course = record {
   steps = steps;
@@ -116,26 +98,26 @@ it_is_a_course = record {
         why_is = refl;
         outside = tt;
         can_come = (
-          takes refl refl refl refl refl (follows (lit< tt) (lit≤ tt) refl (refl, refl, refl) refl),
-          ((refl, follows (lit< tt) (lit≤ tt) tt tt refl, refl), tt),
+          takes refl refl refl refl refl (follows (says (lit< tt) (lit< tt, both_fit, both_fit, both_fit)) (lit< tt) (lit≤ tt) refl (refl, refl, refl) refl),
+          ((refl, follows (says (lit< tt) (listing_file_fits, lit< tt)) (lit< tt) (lit≤ tt) tt tt refl, refl), tt),
         );
       },
       (refl, refl, refl, (refl, refl, refl, refl)),
     ),
     (
-      (record { node_there = lit< tt; why_is = refl; outside = tt; can_come = ((refl, follows (lit< tt) (lit≤ tt) (lit≤ tt, tt, lit< tt) tt refl, refl), tt) }, (refl, refl, refl, refl)),
+      (record { node_there = lit< tt; why_is = refl; outside = tt; can_come = ((refl, follows (says (lit< tt) (print_queue_fits (codes "A") (codes "LP") a_is_name lp_is_name)) (lit< tt) (lit≤ tt) (lit≤ tt, tt, lit< tt) tt refl, refl), tt) }, (refl, refl, refl, refl)),
       (
-        (record { node_there = lit< tt; why_is = refl; outside = tt; can_come = ((refl, follows (lit< tt) (lit≤ tt) tt tt refl, refl), tt) }, (refl, refl, refl, refl)),
+        (record { node_there = lit< tt; why_is = refl; outside = tt; can_come = ((refl, follows (says (lit< tt) (print_job_fits (codes "LP") Default true lp_is_name tt)) (lit< tt) (lit≤ tt) tt tt refl, refl), tt) }, (refl, refl, refl, refl)),
         (
           (record { node_there = lit< tt; why_is = refl; outside = tt; can_come = (tt, tt) }, refl),
           (
             (refl, tt),
-            (record { node_there = lit< tt; why_is = refl; outside = tt; can_come = ((refl, follows (lit< tt) (lit≤ tt) tt tt refl, refl), tt) }, (refl, refl, refl, refl)),
+            (record { node_there = lit< tt; why_is = refl; outside = tt; can_come = ((refl, follows (says (lit< tt) (lit< tt, record { few = lit≤ tt; all = (lit< tt, tt) })) (lit< tt) (lit≤ tt) tt tt refl, refl), tt) }, (refl, refl, refl, refl)),
             (
               (record { node_there = lit< tt; why_is = refl; outside = tt; can_come = (tt, tt) }, refl),
               (
                 (refl, tt),
-                (record { node_there = lit< tt; why_is = refl; outside = tt; can_come = ((refl, follows (lit< tt) (lit≤ tt) tt tt refl, refl), tt) }, (refl, refl, refl, refl)),
+                (record { node_there = lit< tt; why_is = refl; outside = tt; can_come = ((refl, follows (says (lit< tt) (lit< tt, lit< tt)) (lit< tt) (lit≤ tt) tt tt refl, refl), tt) }, (refl, refl, refl, refl)),
                 (
                   (record { node_there = lit< tt; why_is = refl; outside = tt; can_come = (tt, tt) }, refl),
                   (

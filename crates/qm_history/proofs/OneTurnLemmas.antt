@@ -1,20 +1,8 @@
 -- Where no disk fails and there is room, the turn of a call is the computed one.
-use Rattle.std.proofs.Common.{◌≡◌, ℕ, ◌+◌, inl, inr, Bool, true, false, not, ◌||◌, List, [], ◌∷◌, refl, sym, ◌∙◌, ap, subst, Option, None, Some, Ok, Err}
-use Rattle.std.specs.Prelude.{is_none, Result}
-use Rattle.qm_kinds.specs.declared.input.Input.{Input}
+use Rattle.std.proofs.Common.{◌≡◌, ℕ, ◌+◌, inl, inr, Bool, true, false, not, ◌||◌, List, [], ◌∷◌, refl, sym, ◌∙◌, ap, subst, Option, None, Some, Ok, Err, is_none, Result}
+use Rattle.qm_history.specs.Common.{Input, Query, Row, Refusal, Request, System, applied, is_among, Accepted, view, node_at, input_of, why_of, acting, system_of, told_by, after_event, CanCome, CanAllCome, system_in, role_in, log_read, gone_in, up_with}
 use Rattle.qm_kinds.specs.declared.input.Input.TheVariants as input
-use Rattle.qm_kinds.specs.declared.query.Query.{Query}
-use Rattle.qm_kinds.specs.declared.query.Row.{Row}
-use Rattle.qm_kinds.specs.declared.record.Record.{Record}
-use Rattle.qm_kinds.specs.declared.refusal.Refusal.{Refusal}
-use Rattle.qm_kinds.specs.declared.request.Request.{Request}
 use Rattle.qm_kinds.specs.declared.request.Request.TheVariants as request
-use Rattle.qm_kinds.specs.declared.system.System.{System}
-use Rattle.qm_model.specs.Applied.{applied}
-use Rattle.qm_model.specs.Find.{is_among}
-use Rattle.qm_model.specs.Outcome.{Accepted}
-use Rattle.qm_model.specs.Rows.{view}
-use Rattle.qm_model.specs.Standing.{node_at}
 use Rattle.qm_history.specs.declared.call.Call.{Call}
 use Rattle.qm_history.specs.declared.call.Call.TheVariants as call
 use Rattle.qm_history.specs.declared.event.Event.{Event}
@@ -22,15 +10,9 @@ use Rattle.qm_history.specs.declared.event.Event.TheVariants as event
 use Rattle.qm_history.specs.declared.turn.Turn.{Turn}
 use Rattle.qm_history.specs.declared.turn.Why.{Why}
 use Rattle.qm_history.specs.declared.world.World.{World}
-use Rattle.qm_history.specs.Calls.{input_of, why_of}
-use Rattle.qm_model.specs.Acting.{acting}
 use Rattle.qm_history.specs.Computed.{decided, asked_of, viewed, fenced_or, compacted, come_up, started, goes, going, own_events, takeover, taking, unless_refused_at_once, behind_takeover, unless_down, events_of_call, turn_of, AreAllDetermined, AreDetermined}
-use Rattle.qm_model.specs.Folding.{system_of}
-use Rattle.qm_history.specs.Leaving.{told_by}
-use Rattle.qm_history.specs.Step.{after_event, CanCome, CanAllCome}
 use Rattle.qm_history.specs.Takeover.{takes_over, nodes_on, may_after, is_named, StandsOrFails, UnlessRefused}
 use Rattle.qm_history.specs.Turn.{Beside, Nothing, ATakeover, fence, FencedOr, IsDecided, IsAsked, IsViewed, IsCompaction, IsChange, IsFull, IsComeUp, start_refusal, IsStarted, has_other_manager, loss_of, IsStopped, IsLeftFull, IsLeft, IsGoing, IsOwn, IsBehindTakeover, UnlessDown, is_down, IsServed, IsTurnOf}
-use Rattle.qm_history.specs.World.{system_in, role_in, log_read, gone_in, up_with}
 use Rattle.qm_history.proofs.TellingLemmas.{IsPlain, own_plain}
 
 -- ---- each kind of answer
@@ -111,9 +93,7 @@ left_one w node now true events plain (inr h) = never_left_full node events (goi
 going_one : (w : World) (node now : ℕ) (asked : Call) (events : List Event) → AreAllDetermined events → IsGoing w node now asked events
     → events ≡ going (goes node asked) w node now (has_other_manager w node)
 going_one w node now call.Leave events plain h = left_one w node now (has_other_manager w node) events plain h
-going_one w node now (call.Line line what) events plain h = stopped_one w node now (has_other_manager w node) events plain h
-going_one w node now (call.Fetch known) events plain h = stopped_one w node now (has_other_manager w node) events plain h
-going_one w node now (call.Report run told) events plain h = stopped_one w node now (has_other_manager w node) events plain h
+going_one w node now _ events plain h = stopped_one w node now (has_other_manager w node) events plain h
 
 own_one : (w : World) (node reading : ℕ) (asked : Call) (beside : Beside) (what : Input) (events : List Event) → AreAllDetermined events
     → IsOwn w node reading asked beside what events → events ≡ own_events w node reading asked beside what
@@ -122,14 +102,12 @@ own_one w node reading asked beside (input.Ask request.Tick) events plain h =
 own_one w node reading asked beside (input.Ask r) events plain h = asked_one w node reading r events plain h
 own_one w node reading asked beside (input.Show query) events plain h =
     viewed_one node (acting reading (system_in w)) query (view (system_in w) (role_in w) query) events h
-own_one w node reading asked beside (input.Fetch known) events plain h = h
 own_one w node reading asked beside input.Compact events plain h =
     fenced_one (fence w node) (compacted w node) (IsCompaction node events) events (compacted_one w node events plain) h
-own_one w node reading asked beside (input.TakeManager on) events plain h = h
 own_one w node reading asked beside input.StartNode events plain h =
     started_one w node (acting reading (system_in w)) beside (start_refusal w node) events plain h
 own_one w node reading asked beside input.StopNode events plain h = going_one w node (acting reading (system_in w)) asked events plain h
-own_one w node reading asked beside (input.Fault place kind) events plain h = h
+own_one w node reading asked beside _ events plain h = h
 
 -- what begins with no takeover is determined event by event
 all_determined : (events : List Event) → IsPlain events → AreDetermined events → AreAllDetermined events
@@ -139,12 +117,12 @@ all_determined (e ∷ events) begins h = h
 
 -- ---- takeovers
 
-module _ (HasSpelling : Record → Type 0) (w : World) (node reading : ℕ) (asked : Call) where
+module _ (w : World) (node reading : ℕ) (asked : Call) where
   abbrev Then : World → List Event → Type 0
   Then after own = IsOwn after node reading asked ATakeover (input_of asked) own
 
   -- a takeover that stands is the computed one
-  took_one : (n moment epoch : ℕ) (gone up may : List (List ℕ)) (kept : Option Bool) → CanCome HasSpelling w (event.Took n moment epoch gone up may kept)
+  took_one : (n moment epoch : ℕ) (gone up may : List (List ℕ)) (kept : Option Bool) → CanCome w (event.Took n moment epoch gone up may kept)
       → n ≡ node → moment ≡ acting reading (system_of (log_read w kept)) → may ≡ may_after (system_of (log_read w kept)) (nodes_on (input_of asked))
       → event.Took n moment epoch gone up may kept ≡ takeover w node reading (nodes_on (input_of asked)) kept
   took_one n moment epoch gone up may kept can same_node same_moment same_may =
@@ -153,14 +131,14 @@ module _ (HasSpelling : Record → Type 0) (w : World) (node reading : ℕ) (ask
       let same_up : up ≡ up_with w node (system_of (log_read w kept)) = can.nodes.up_is ∙ ap (λ x. up_with w x (system_of (log_read w kept))) same_node in
       cc
 
-  named_one : (n moment epoch : ℕ) (gone up may : List (List ℕ)) (kept : Option Bool) → CanCome HasSpelling w (event.Took n moment epoch gone up may kept)
+  named_one : (n moment epoch : ℕ) (gone up may : List (List ℕ)) (kept : Option Bool) → CanCome w (event.Took n moment epoch gone up may kept)
       → n ≡ node → may ≡ may_after (system_of (log_read w kept)) (nodes_on (input_of asked))
       → is_named (system_of (log_read w kept)) (nodes_on (input_of asked)) node ≡ true
   named_one n moment epoch gone up may kept can same_node same_may =
       let s : System = system_of (log_read w kept) in
       sym (ap (λ l. is_among l (node_at node s.nodes)) same_may) ∙ sym (ap (λ x. is_among may (node_at x s.nodes)) same_node) ∙ can.nodes.named
 
-  stands_one : (events : List Event) → CanAllCome HasSpelling w events → AreDetermined events → StandsOrFails w node reading (nodes_on (input_of asked)) Then events
+  stands_one : (events : List Event) → CanAllCome w events → AreDetermined events → StandsOrFails w node reading (nodes_on (input_of asked)) Then events
       → events ≡ taking w node reading asked (told_by events) (is_named (system_of (log_read w (told_by events))) (nodes_on (input_of asked)) node)
   stands_one (event.Took n moment epoch gone up may kept ∷ events) can plain h =
       let e : Event = takeover w node reading (nodes_on (input_of asked)) kept in
@@ -182,7 +160,7 @@ module _ (HasSpelling : Record → Type 0) (w : World) (node reading : ℕ) (ask
   refused_one true events others one h = h
   refused_one false events others one h = one h
 
-  behind_one : (events : List Event) → CanAllCome HasSpelling w events → AreDetermined events → (takes : Bool) → IsBehindTakeover w node reading asked takes events
+  behind_one : (events : List Event) → CanAllCome w events → AreDetermined events → (takes : Bool) → IsBehindTakeover w node reading asked takes events
       → events ≡ behind_takeover w node reading asked (told_by events) takes
   behind_one events can plain false h =
       own_one w node reading asked Nothing (input_of asked) events (all_determined events (own_plain w node reading asked Nothing (input_of asked) events h) plain) h
@@ -196,7 +174,7 @@ module _ (HasSpelling : Record → Type 0) (w : World) (node reading : ℕ) (ask
   down_one true Rest events others one h = h
   down_one false Rest events others one h = one h
 
-  served_one : (events : List Event) → CanAllCome HasSpelling w events → AreDetermined events → IsServed w node reading asked events
+  served_one : (events : List Event) → CanAllCome w events → AreDetermined events → IsServed w node reading asked events
       → events ≡ events_of_call w node reading (told_by events) asked
   served_one events can plain h =
       down_one (is_down w node (input_of asked)) (IsBehindTakeover w node reading asked (takes_over w (input_of asked)) events) events
@@ -209,17 +187,17 @@ whole_turn t because events same_why same_events =
     let first : t ≡ record t { why = because } = ap (λ (x : Why). record t { why = x }) same_why in
     first ∙ ap (λ (x : List Event). record t { why = because; events = x }) same_events
 
-pub turn_one : (HasSpelling : Record → Type 0) (w : World) (asked : Call) (t : Turn) → IsTurnOf HasSpelling w asked t → AreDetermined t.events
+pub turn_one : (w : World) (asked : Call) (t : Turn) → IsTurnOf w asked t → AreDetermined t.events
     → t ≡ turn_of w t.node t.moment (told_by t.events) asked
-turn_one HasSpelling w asked t h plain =
+turn_one w asked t h plain =
     whole_turn t (why_of asked) (events_of_call w t.node t.moment (told_by t.events) asked) h.0.why_is
-    (served_one HasSpelling w t.node t.moment asked t.events h.0.can_come plain h.1)
+    (served_one w t.node t.moment asked t.events h.0.can_come plain h.1)
 
-pub turns_one : (HasSpelling : Record → Type 0) (w : World) (asked : Call) (t u : Turn) → t.node ≡ u.node → t.moment ≡ u.moment → told_by t.events ≡ told_by u.events
-    → IsTurnOf HasSpelling w asked t → IsTurnOf HasSpelling w asked u → AreDetermined t.events → AreDetermined u.events → t ≡ u
-turns_one HasSpelling w asked t u same_node same_moment same_told first second plain plain_too =
-    turn_one HasSpelling w asked t first plain
+pub turns_one : (w : World) (asked : Call) (t u : Turn) → t.node ≡ u.node → t.moment ≡ u.moment → told_by t.events ≡ told_by u.events
+    → IsTurnOf w asked t → IsTurnOf w asked u → AreDetermined t.events → AreDetermined u.events → t ≡ u
+turns_one w asked t u same_node same_moment same_told first second plain plain_too =
+    turn_one w asked t first plain
     ∙ ap (λ n. turn_of w n t.moment (told_by t.events) asked) same_node
     ∙ ap (λ m. turn_of w u.node m (told_by t.events) asked) same_moment
     ∙ ap (λ k. turn_of w u.node u.moment k asked) same_told
-    ∙ sym (turn_one HasSpelling w asked u second plain_too)
+    ∙ sym (turn_one w asked u second plain_too)

@@ -1,21 +1,13 @@
 -- Lines that are read as they are served, and STEP lines.
-use Rattle.std.proofs.Common.{◌≡◌, ℕ, Bool, true, false, List, refl, sym, ◌∙◌, ap, subst, Option, None, Some}
-use Rattle.std.specs.Prelude.{codes, if◌then◌else◌}
-use Rattle.std.specs.Option.{option_and_then}
-use Rattle.std.specs.Str.{bytes_eq}
+use Rattle.std.proofs.Common.{◌≡◌, ℕ, Bool, true, false, List, refl, sym, ◌∙◌, ap, subst, Option, None, Some, codes, if◌then◌else◌, option_and_then, bytes_eq}
 use Rattle.std.proofs.lemmas.Slice.Eq.{bytes_eq-Decides}
-use Rattle.qm_kinds.specs.declared.input.Input.{Input}
+use Rattle.qm_history.specs.Common.{Input, cut_at_blank, read, text_asked, scans_of, Visit}
 use Rattle.qm_kinds.specs.declared.input.Input.TheVariants as input
 use Rattle.qm_kinds.specs.Names.{system_user}
 use Rattle.qm_model.specs.Script as served
 use Rattle.qm_model.specs.Script.{act_of, act_from, is_act_word, step_number, steps_in}
-use Rattle.qm_model.specs.Texts.{cut_at_blank}
-use Rattle.qm_dcl.specs.Lines.{input_of}
 use Rattle.qm_history.specs.Acts.{act_asked, act_with, word_act, step_act}
-use Rattle.qm_history.specs.Reading.{read, text_asked}
-use Rattle.qm_history.specs.Scans.{scans_of}
 use Rattle.qm_history.specs.Script.{UserLine, LineSort, Command, Items, Act, line_by_system, sort_served, steps_asked}
-use Rattle.qm_history.specs.Visits.{Visit}
 
 yes : {A : Type 0} (b : Bool) (x y : A) → b ≡ true → (if b then x else y) ≡ x
 yes true x y is = refl
@@ -25,13 +17,13 @@ no_more : {A : Type 0} (b : Bool) (x y : A) → b ≡ false → (if b then x els
 no_more true x y is = cc
 no_more false x y is = refl
 
-module _ (items_mean : ℕ → List ℕ → List ℕ → Input) where
+module _ (items_mean : ℕ → List ℕ → List ℕ → Input) (command_means : List ℕ → ℕ → List ℕ → Input) where
   pub commands_same : (l : served.ScriptLine) (reading : ℕ) (earlier : List Visit) (known : List ℕ) → l.sort ≡ served.Command
-      → read items_mean (line_by_system l) reading earlier known ≡ input_of l.sort reading l.text
+      → read items_mean command_means (line_by_system l) reading earlier known ≡ command_means system_user reading l.text
   commands_same l reading earlier known is = same l.sort is
     where
       same : (sort : served.Sort) → sort ≡ served.Command
-          → text_asked items_mean (sort_served sort) system_user reading l.text (scans_of earlier) known ≡ input_of sort reading l.text
+          → text_asked items_mean command_means (sort_served sort) system_user reading l.text (scans_of earlier) known ≡ command_means system_user reading l.text
       same served.Command is = refl
       same served.Site is = cc
 
@@ -72,11 +64,11 @@ step_cut known text steps (Some parts) in_text is = by_word (bytes_eq parts.0 (c
     by_word false same =
         let none : None ≡ Some steps = sym (no_more (bytes_eq parts.0 (codes "STEP")) (step_number parts.1) None same) ∙ is in cc
 
-pub steps_fetch : (items_mean : ℕ → List ℕ → List ℕ → Input) (l : UserLine) (reading : ℕ) (earlier : List Visit) (known : List ℕ) (steps : ℕ) → steps_asked l.line.sort l.line.text ≡ Some steps
-    → read items_mean l reading earlier known ≡ input.Fetch known
-steps_fetch items_mean l reading earlier known steps is = by_sort l.line.sort is
+pub steps_fetch : (items_mean : ℕ → List ℕ → List ℕ → Input) (command_means : List ℕ → ℕ → List ℕ → Input) (l : UserLine) (reading : ℕ) (earlier : List Visit) (known : List ℕ) (steps : ℕ) → steps_asked l.line.sort l.line.text ≡ Some steps
+    → read items_mean command_means l reading earlier known ≡ input.Fetch known
+steps_fetch items_mean command_means l reading earlier known steps is = by_sort l.line.sort is
   where
-    by_sort : (sort : LineSort) → steps_asked sort l.line.text ≡ Some steps → text_asked items_mean sort l.user reading l.line.text (scans_of earlier) known ≡ input.Fetch known
+    by_sort : (sort : LineSort) → steps_asked sort l.line.text ≡ Some steps → text_asked items_mean command_means sort l.user reading l.line.text (scans_of earlier) known ≡ input.Fetch known
     by_sort Command is = cc
     by_sort Items is = cc
     by_sort Act is = step_cut known l.line.text steps (cut_at_blank l.line.text) is is

@@ -1,48 +1,25 @@
 -- A job that went back into its queue runs again, however often its entry changes.
-use Rattle.std.proofs.Common.{◌≡◌, ℕ, ◌<◌, ◌≤◌, inl, inr, Bool, true, false, cond, not, ◌&&◌, List, [], ◌∷◌, ◌++◌, map, filter, refl, sym, ◌∙◌, ap, subst, arith, Option, None, Some, Ok, find}
-use Rattle.std.specs.Prelude.{◌==◌, IfSome, filter_map, option_to_list}
+use Rattle.std.proofs.Common.{◌≡◌, ℕ, ◌<◌, ◌≤◌, inl, inr, Bool, true, false, cond, not, ◌&&◌, List, [], ◌∷◌, ◌++◌, map, filter, refl, sym, ◌∙◌, ap, subst, arith, Option, None, Some, Ok, find, ◌==◌, IfSome, filter_map, option_to_list}
 use Rattle.std.specs.List.{AllByRecursion, cons_option}
 use Rattle.std.specs.Option.{option_map_or}
 use Rattle.std.proofs.lemmas.Bool.Decides.{nat_tests}
 use Rattle.qm_kinds.specs.declared.entry.Entry.{Entry}
-use Rattle.qm_kinds.specs.declared.entry.EntryState.{EntryState}
+use Rattle.qm_history.specs.Common.{EntryState, Fate, Record, EntryChange, Request, StopMode, System, Work, applied, at_moment, change_of, completed, first_refusal_of, changed_entry, entry_set_to, entry_numbered, is_among, interrupted, after_loss, Accepted, replied, settled, as_pending, stopped_when_idle, entries_on_stop, with_fate, reset_in, reset_fate, is_running_in, entry_aborting, entry_of, AreNext, IsNext, answered, after_record, replayed, Visit}
 use Rattle.qm_kinds.specs.declared.entry.EntryState.TheVariants as state
-use Rattle.qm_kinds.specs.declared.entry.Fate.{Fate}
 use Rattle.qm_kinds.specs.declared.entry.Fate.TheVariants as fate
 use Rattle.qm_kinds.specs.declared.queue.Queue.{Queue}
-use Rattle.qm_kinds.specs.declared.record.Record.{Record}
 use Rattle.qm_kinds.specs.declared.reply.Act.TheVariants.{EntryIs, EntryDeleted}
-use Rattle.qm_kinds.specs.declared.request.EntryChange.{EntryChange}
-use Rattle.qm_kinds.specs.declared.request.Request.{Request}
 use Rattle.qm_kinds.specs.declared.request.Request.TheVariants as request
-use Rattle.qm_kinds.specs.declared.request.StopMode.{StopMode}
 use Rattle.qm_kinds.specs.declared.request.StopMode.TheVariants as stop
-use Rattle.qm_kinds.specs.declared.system.System.{System}
-use Rattle.qm_kinds.specs.declared.work.Work.{Work}
-use Rattle.qm_model.specs.Applied.{applied, at_moment, change_of, completed, first_refusal_of}
 use Rattle.qm_model.specs.Due.{due, entry_at, is_over}
 use Rattle.qm_model.specs.Duties.{work_of}
 use Rattle.qm_model.specs.Ending.{ended, fated, requeued, aborted_status, node_lost_status}
-use Rattle.qm_model.specs.Entries.{changed_entry, entry_set_to}
-use Rattle.qm_model.specs.Find.{entry_numbered, is_among}
 use Rattle.qm_model.specs.JobStates.{fate_of}
-use Rattle.qm_model.specs.Losing.{interrupted, after_loss}
 use Rattle.qm_model.specs.Merging.{moved_to, waits_in}
-use Rattle.qm_model.specs.Outcome.{Accepted}
-use Rattle.qm_model.specs.Replying.{replied}
 use Rattle.qm_model.specs.Runs.{RunReport, MarkReport, EndReport, entry_of_run, after_report, report_act, reported_of}
-use Rattle.qm_model.specs.Settling.{settled}
 use Rattle.qm_model.specs.Standing.{with_entry, node_at, has_run, is_run_on, is_executing}
-use Rattle.qm_model.specs.Starting.{as_pending}
-use Rattle.qm_model.specs.States.{stopped_when_idle}
-use Rattle.qm_model.specs.Stopping.{entries_on_stop, with_fate, reset_in, reset_fate, is_running_in, entry_aborting}
-use Rattle.qm_model.specs.Submitting.{entry_of}
-use Rattle.qm_history.specs.Accepted.{AreNext, IsNext}
 use Rattle.qm_history.specs.Again.{AreAgain, is_to_go_back, finds_going_back, goes_back, PutsBack}
 use Rattle.qm_history.specs.Blocks.{Gives, system_shown}
-use Rattle.qm_history.specs.Course.{answered}
-use Rattle.qm_model.specs.Folding.{after_record, replayed}
-use Rattle.qm_history.specs.Visits.{Visit}
 use Rattle.qm_history.proofs.GivenLemmas.{IsAmong, among, gives_work}
 use Rattle.qm_history.proofs.LogLemmas.{next_keeps, all_keep}
 use Rattle.qm_history.proofs.MarkLemmas.{accepted_is}
@@ -137,13 +114,10 @@ module _ (number : ℕ) where
   one_of false a o here there = there
 
   of_loss : (queues : List Queue) (now : ℕ) (lost : List (List ℕ)) (st : EntryState) (e : Entry) → Runs e → IfSome (after_loss queues now lost st e) Runs
-  of_loss queues now lost state.Pending e h = h
-  of_loss queues now lost state.Holding e h = h
-  of_loss queues now lost (state.Timed at) e h = h
   of_loss queues now lost (state.Running queue node run) e h =
       one_of (is_among lost node) (interrupted queues now e) (Some e) (one_of e.restart (Some (requeued e)) (ended queues now node_lost_status e) (λ is. refl) (of_end queues now node_lost_status e h)) h
   of_loss queues now lost (state.Aborting queue node run f) e h = one_of (is_among lost node) (fated queues now f e) (Some e) (of_fate queues now f e h) h
-  of_loss queues now lost (state.Retained status until) e h = h
+  of_loss queues now lost _ e h = h
 
   of_report : (queues : List Queue) (now : ℕ) (report : RunReport) (f : Option Fate) (e : Entry) → Runs e → IfSome (after_report queues now report f e) Runs
   of_report queues now (MarkReport value) None e h = h
@@ -208,11 +182,9 @@ module _ (number : ℕ) where
   -- ---- what goes back runs again
 
   back_at : (met : System) (now run : ℕ) (report : RunReport) (f : Option Fate) (e : Entry) → is_to_go_back f ≡ true → IfSome (after_report met.queues now report f e) Runs
-  back_at met now run report None e h = cc
   back_at met now run (MarkReport value) (Some fate.Requeue) e h = λ is. refl
   back_at met now run (EndReport status) (Some fate.Requeue) e h = λ is. refl
-  back_at met now run report (Some fate.Finish) e h = cc
-  back_at met now run report (Some fate.Remove) e h = cc
+  back_at met now run report _ e h = cc
 
   all_unit : (es : List Entry) → AllByRecursion (λ (e : Entry). Unit {0}) es
   all_unit [] = tt
@@ -249,12 +221,9 @@ module _ (number : ℕ) where
   lost_aborting queues now f e false h = λ is. let yes : false ≡ true = h is in cc
 
   lost_back : (queues : List Queue) (now : ℕ) (lost : List (List ℕ)) (st : EntryState) (e : Entry) → Back lost st e → IfSome (after_loss queues now lost st e) Runs
-  lost_back queues now lost state.Pending e h = λ is. let yes : false ≡ true = h is in cc
-  lost_back queues now lost state.Holding e h = λ is. let yes : false ≡ true = h is in cc
-  lost_back queues now lost (state.Timed at) e h = λ is. let yes : false ≡ true = h is in cc
   lost_back queues now lost (state.Running queue node run) e h = lost_running queues now e (is_among lost node) h
   lost_back queues now lost (state.Aborting queue node run f) e h = lost_aborting queues now f e (is_among lost node) h
-  lost_back queues now lost (state.Retained status until) e h = λ is. let yes : false ≡ true = h is in cc
+  lost_back queues now lost _ e h = λ is. let yes : false ≡ true = h is in cc
 
   changed_back : (s : System) (now node : ℕ) (asked : Request) → PutsBack number s now node asked
       → AreAgain number (change_of (due now (at_moment now s)) now (node_at node s.nodes) asked).system.entries
@@ -285,17 +254,17 @@ module _ (number : ℕ) where
     pub stays_again : (s : System) (now node : ℕ) (asked : Request) (a : Accepted) → number < s.next_entry → AreAgain number s.entries → applied s now node asked ≡ Ok a → AreAgain number a.system.entries
     stays_again s now node asked a given h is = settled_again s now node asked a is (changed s now node given asked (of_system s now node given h))
 
-    module _ (HasSpelling : Record → Type 0) (grows : (s : System) (now node : ℕ) (asked : Request) (a : Accepted) → applied s now node asked ≡ Ok a → s.next_entry ≤ a.system.next_entry) where
+    module _ (grows : (s : System) (now node : ℕ) (asked : Request) (a : Accepted) → applied s now node asked ≡ Ok a → s.next_entry ≤ a.system.next_entry) where
       abbrev Holds : System → Type 0
       Holds s = (number < s.next_entry) × AreAgain number s.entries
 
-      one_record : (s : System) (r : Record) → IsNext HasSpelling s r → Holds s → Holds (after_record s r)
+      one_record : (s : System) (r : Record) → IsNext s r → Holds s → Holds (after_record s r)
       one_record s r can h =
-          next_keeps HasSpelling (λ x y. Holds x → Holds y)
+          next_keeps (λ x y. Holds x → Holds y)
           (λ x now node asked a follows is k. let more : x.next_entry ≤ a.system.next_entry = grows x now node asked a is in let less : number < x.next_entry = k.0 in (omega arith, stays_again x now node asked a k.0 k.1 is)) s r can h
 
-      pub records_again : (s : System) (records : List Record) → AreNext HasSpelling s records → number < s.next_entry → AreAgain number s.entries → AreAgain number (replayed s records).entries
-      records_again s records next given h = (all_keep HasSpelling Holds one_record s records next (given, h)).1
+      pub records_again : (s : System) (records : List Record) → AreNext s records → number < s.next_entry → AreAgain number s.entries → AreAgain number (replayed s records).entries
+      records_again s records next given h = (all_keep Holds one_record s records next (given, h)).1
 
   -- ---- fetches
 

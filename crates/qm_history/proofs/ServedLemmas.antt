@@ -1,34 +1,18 @@
 -- What the computed turn of a call holds is what may come of it.
-use Rattle.std.proofs.Common.{◌≡◌, ℕ, inl, Bool, true, false, not, ◌||◌, cond, List, [], ◌∷◌, refl, sym, ◌∙◌, ap, subst, Option, None, Some, Ok, Err}
-use Rattle.std.specs.Prelude.{IsOk, IsNone, is_some, is_none, Result}
-use Rattle.qm_kinds.specs.declared.input.Input.{Input}
+use Rattle.std.proofs.Common.{◌≡◌, ℕ, inl, Bool, true, false, not, ◌||◌, cond, List, [], ◌∷◌, refl, sym, ◌∙◌, ap, subst, Option, None, Some, Ok, Err, IsOk, IsNone, is_some, is_none, Result}
+use Rattle.qm_history.specs.Common.{Input, Query, Row, Record, Refusal, Request, System, applied, are_numbers_spent, at_moment, change_of, completed, Accepted, unless_refused, view, node_at, input_of, acting, system_of, after_event, system_in, role_in, is_live, log_read, doubt_read}
 use Rattle.qm_kinds.specs.declared.input.Input.TheVariants as input
-use Rattle.qm_kinds.specs.declared.query.Query.{Query}
-use Rattle.qm_kinds.specs.declared.query.Row.{Row}
-use Rattle.qm_kinds.specs.declared.record.Record.{Record}
-use Rattle.qm_kinds.specs.declared.refusal.Refusal.{Refusal}
 use Rattle.qm_kinds.specs.declared.refusal.Refusal.TheVariants.{NumbersSpent, BadValue}
-use Rattle.qm_kinds.specs.declared.request.Request.{Request}
 use Rattle.qm_kinds.specs.declared.request.Request.TheVariants as request
-use Rattle.qm_kinds.specs.declared.system.System.{System}
-use Rattle.qm_model.specs.Applied.{applied, are_numbers_spent, at_moment, change_of, completed}
 use Rattle.qm_model.specs.Due.{due}
-use Rattle.qm_model.specs.Outcome.{Accepted, unless_refused}
-use Rattle.qm_model.specs.Rows.{view}
-use Rattle.qm_model.specs.Standing.{node_at}
 use Rattle.qm_history.specs.declared.call.Call.{Call}
 use Rattle.qm_history.specs.declared.call.Call.TheVariants as call
 use Rattle.qm_history.specs.declared.event.Event.{Event}
 use Rattle.qm_history.specs.declared.event.Event.TheVariants as event
 use Rattle.qm_history.specs.declared.world.World.{World}
-use Rattle.qm_history.specs.Calls.{input_of}
-use Rattle.qm_model.specs.Acting.{acting}
 use Rattle.qm_history.specs.Computed.{decided, asked_of, viewed, fenced_or, compacted, started, going, own_events, takeover, taking, unless_refused_at_once, behind_takeover, unless_down, events_of_call}
-use Rattle.qm_model.specs.Folding.{system_of}
-use Rattle.qm_history.specs.Step.{after_event}
 use Rattle.qm_history.specs.Takeover.{takes_over, nodes_on, is_named, StandsOrFails, UnlessRefused}
 use Rattle.qm_history.specs.Turn.{Beside, Nothing, ATakeover, fence, FencedOr, IsDecided, IsAsked, IsViewed, IsCompaction, IsChange, start_refusal, IsStarted, has_other_manager, loss_of, IsStopped, IsLeft, IsOwn, IsBehindTakeover, UnlessDown, is_down, IsServed}
-use Rattle.qm_history.specs.World.{system_in, role_in, is_live, log_read, doubt_read}
 
 -- ---- each kind of answer
 
@@ -96,16 +80,14 @@ own_is w node reading asked beside (input.Ask request.Tick) =
     fenced_is (fence w node) (asked_of w node (acting reading (system_in w)) request.Tick) (IsAsked w node reading request.Tick) (asked_is w node reading request.Tick)
 own_is w node reading asked beside (input.Ask r) = asked_is w node reading r
 own_is w node reading asked beside (input.Show query) = viewed_is node (acting reading (system_in w)) query (view (system_in w) (role_in w) query)
-own_is w node reading asked beside (input.Fetch known) = refl
 own_is w node reading asked beside input.Compact = fenced_is (fence w node) (compacted w node) (IsCompaction node) refl
-own_is w node reading asked beside (input.TakeManager on) = refl
 own_is w node reading asked beside input.StartNode =
     started_is w node (acting reading (system_in w)) beside (start_refusal w node) (λ none. (start_at (are_numbers_spent (system_in w)) (is_live w node) none).0)
 own_is w node reading call.Leave beside input.StopNode = left_is w node (acting reading (system_in w)) (has_other_manager w node)
 own_is w node reading (call.Line line what) beside input.StopNode = stopped_is w node (acting reading (system_in w)) (has_other_manager w node)
 own_is w node reading (call.Fetch known) beside input.StopNode = stopped_is w node (acting reading (system_in w)) (has_other_manager w node)
 own_is w node reading (call.Report run told) beside input.StopNode = stopped_is w node (acting reading (system_in w)) (has_other_manager w node)
-own_is w node reading asked beside (input.Fault place kind) = refl
+own_is w node reading asked beside _ = refl
 
 -- ---- takeovers
 

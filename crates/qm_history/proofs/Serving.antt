@@ -1,19 +1,11 @@
 -- Calls at a site whose disks don't fail, one after the other, and the turns that they make. For worked cases.
-use Rattle.std.proofs.Common.{ℕ, true, false, List, [], ◌∷◌, Option, None}
-use Rattle.std.specs.Prelude.{codes}
-use Rattle.std.specs.Option.{option_map}
+use Rattle.std.proofs.Common.{ℕ, true, false, List, [], ◌∷◌, Option, None, codes, option_map}
 use Rattle.qm_kinds.specs.declared.query.Listing.{Listing}
-use Rattle.qm_kinds.specs.declared.query.Query.{Query}
-use Rattle.qm_kinds.specs.declared.query.Row.{Row}
-use Rattle.qm_kinds.specs.declared.record.Record.{Record}
-use Rattle.qm_kinds.specs.declared.system.System.{System}
+use Rattle.qm_history.specs.Common.{Query, Row, Record, System, after_turn, image_of, site_of}
 use Rattle.qm_history.specs.declared.call.Call.{Call}
 use Rattle.qm_history.specs.declared.turn.Turn.{Turn}
 use Rattle.qm_history.specs.declared.world.World.{World}
 use Rattle.qm_history.specs.Computed.{turn_of}
-use Rattle.qm_history.specs.Legal.{after_turn}
-use Rattle.qm_model.specs.Log.{image_of}
-use Rattle.qm_history.specs.Site.{site_of}
 
 -- a call of a node, when its clock told this
 pub record Asked : Type 0 where
@@ -54,7 +46,3 @@ listing_of what user = record {
 -- no row is printed as its items
 abbrev pub no_items : Row → List ℕ
 no_items r = []
-
--- every record is spelled
-abbrev pub Any : Record → Type 0
-Any r = Unit {0}

@@ -1,18 +1,8 @@
 -- A turn has one event or two.
-use Rattle.std.proofs.Common.{◌≡◌, ℕ, inl, inr, Bool, true, false, cond, not, ◌||◌, List, [], ◌∷◌, refl, sym, ◌∙◌, ap, subst, Option, None, Some, Ok, Err}
-use Rattle.std.specs.Prelude.{◌==◌, IfSome, is_none, Result}
-use Rattle.qm_kinds.specs.declared.input.Input.{Input}
+use Rattle.std.proofs.Common.{◌≡◌, ℕ, inl, inr, Bool, true, false, cond, not, ◌||◌, List, [], ◌∷◌, refl, sym, ◌∙◌, ap, subst, Option, None, Some, Ok, Err, ◌==◌, IfSome, is_none, Result}
+use Rattle.qm_history.specs.Common.{Input, Query, Row, Refusal, Reply, Request, applied, Accepted, view, input_of, acting, IsLegalTurn, after_event, system_in, role_in, held_by}
 use Rattle.qm_kinds.specs.declared.input.Input.TheVariants as input
-use Rattle.qm_kinds.specs.declared.query.Query.{Query}
-use Rattle.qm_kinds.specs.declared.query.Row.{Row}
-use Rattle.qm_kinds.specs.declared.record.Record.{Record}
-use Rattle.qm_kinds.specs.declared.refusal.Refusal.{Refusal}
-use Rattle.qm_kinds.specs.declared.reply.Reply.{Reply}
-use Rattle.qm_kinds.specs.declared.request.Request.{Request}
 use Rattle.qm_kinds.specs.declared.request.Request.TheVariants as request
-use Rattle.qm_model.specs.Applied.{applied}
-use Rattle.qm_model.specs.Outcome.{Accepted}
-use Rattle.qm_model.specs.Rows.{view}
 use Rattle.qm_history.specs.declared.call.Call.{Call}
 use Rattle.qm_history.specs.declared.call.Call.TheVariants as call
 use Rattle.qm_history.specs.declared.event.Event.{Event}
@@ -20,14 +10,9 @@ use Rattle.qm_history.specs.declared.event.Event.TheVariants as event
 use Rattle.qm_history.specs.declared.turn.Turn.{Turn}
 use Rattle.qm_history.specs.declared.world.Role.{Role}
 use Rattle.qm_history.specs.declared.world.World.{World}
-use Rattle.qm_history.specs.Calls.{input_of}
-use Rattle.qm_model.specs.Acting.{acting}
 use Rattle.qm_history.specs.Happening.{is_takeover, may_come_first, AreOneOrTwo}
-use Rattle.qm_history.specs.Legal.{IsLegalTurn}
-use Rattle.qm_history.specs.Step.{after_event}
 use Rattle.qm_history.specs.Takeover.{takes_over, nodes_on, is_named, IsFailure, StandsOrFails, UnlessRefused, TakesOverThen}
 use Rattle.qm_history.specs.Turn.{Nothing, ATakeover, fence, FencedOr, IsRecorded, IsDecided, IsAsked, IsViewed, IsCompaction, IsChange, IsFull, start_refusal, IsStarted, has_other_manager, loss_of, IsLost, IsStopped, IsLeftFull, IsLeft, IsGoing, IsOwn, IsBehindTakeover, UnlessDown, is_down}
-use Rattle.qm_history.specs.World.{system_in, role_in, held_by}
 
 -- one event that is no takeover
 abbrev pub IsOne : List Event → Type 0
@@ -124,9 +109,7 @@ left_two w node moment true events (inr h) = left_full_two node events h
 
 going_two : (w : World) (node moment : ℕ) (asked : Call) (events : List Event) → IsGoing w node moment asked events → AreOneOrTwo events
 going_two w node moment call.Leave events h = left_two w node moment (has_other_manager w node) events h
-going_two w node moment (call.Line line what) events h = stopped_two w node moment (has_other_manager w node) events h
-going_two w node moment (call.Fetch known) events h = stopped_two w node moment (has_other_manager w node) events h
-going_two w node moment (call.Report run told) events h = stopped_two w node moment (has_other_manager w node) events h
+going_two w node moment _ events h = stopped_two w node moment (has_other_manager w node) events h
 
 -- ---- a call's own events
 
@@ -207,7 +190,7 @@ module _ (w : World) (node reading : ℕ) (asked : Call) (events : List Event) w
   down_two true h = subst AreOneOrTwo (sym h) tt
   down_two false h = behind_two (takes_over w (input_of asked)) refl h
 
-pub turn_two : (HasSpelling : Record → Type 0) (w : World) (t : Turn) → IsLegalTurn HasSpelling w t → AreOneOrTwo t.events
-turn_two HasSpelling w t (asked, inl whole) = down_two w t.node t.moment asked t.events (is_down w t.node (input_of asked)) whole.1
-turn_two HasSpelling w t (asked, inr short) =
+pub turn_two : (w : World) (t : Turn) → IsLegalTurn w t → AreOneOrTwo t.events
+turn_two w t (asked, inl whole) = down_two w t.node t.moment asked t.events (is_down w t.node (input_of asked)) whole.1
+turn_two w t (asked, inr short) =
     takeover_two w t.node t.moment (nodes_on (input_of asked)) (λ after own. own ≡ []) (λ v own h. subst IsOneAtMost (sym h) tt) t.events short.1.2

@@ -1,30 +1,20 @@
 -- The duties of a node in a consistent system are by run, each once, and their works can be carried out.
-use Rattle.std.proofs.Common.{◌≡◌, ◌∙◌, ℕ, nat_lt, Bool, true, false, List, [], ◌∷◌, get_or, map, filter, fold, refl, sym, ap, subst, arith, Option, None, Some}
-use Rattle.std.specs.Prelude.{IfSome, ◌≢◌, unwrap_or}
+use Rattle.std.proofs.Common.{◌≡◌, ◌∙◌, ℕ, nat_lt, Bool, true, false, List, [], ◌∷◌, get_or, map, filter, fold, refl, sym, ap, subst, arith, Option, Some, IfSome, ◌≢◌, unwrap_or, bytes_eq, All, AllPairs, nat_cmp, Less}
 use Rattle.std.specs.Option.{option_map_or}
-use Rattle.std.specs.Str.{bytes_eq}
 use Rattle.std.specs.Cmp.{nat_cmp_total}
-use Rattle.std.specs.List.{All, AllPairs}
-use Rattle.std.specs.Ordering.{nat_cmp}
-use Rattle.std.specs.declared.cmp.Ordering.TheVariants.{Less}
 use Rattle.std.proofs.lemmas.Bool.Decides.{nat_tests}
 use Rattle.std.proofs.lemmas.List.Elements.{All-cons, All-nil, All-head, All-tail, filter_passes}
 use Rattle.std.proofs.lemmas.List.Kept.{AllPairs-filter}
 use Rattle.qm_kinds.specs.declared.entry.Entry.{Entry}
-use Rattle.qm_kinds.specs.declared.entry.EntryState.{EntryState}
-use Rattle.qm_kinds.specs.declared.entry.EntryState.TheVariants.{Pending, Holding, Timed, Running, Aborting, Retained}
-use Rattle.qm_kinds.specs.declared.system.System.{System}
-use Rattle.qm_kinds.specs.declared.work.Duty.{Duty}
-use Rattle.qm_kinds.specs.declared.work.Work.{Work}
-use Rattle.qm_model.specs.Consistent.{IsConsistent}
-use Rattle.qm_model.specs.Duties.{IsProperWork, by_run, duties, duty_of, run_number}
+use Rattle.qm_history.specs.Common.{EntryState, System, Duty, IsConsistent, AreShown}
+use Rattle.qm_kinds.specs.declared.entry.EntryState.TheVariants.{Running, Aborting}
+use Rattle.qm_model.specs.Duties.{by_run, duties, duty_of, run_number}
 use Rattle.qm_model.specs.Inserting.{inserted}
 use Rattle.qm_model.specs.JobStates.{run_of, runs_on}
 use Rattle.qm_model.specs.Standing.{is_run_on}
 use Rattle.qm_model.proofs.DutyLemmas.{proper_duties}
 use Rattle.qm_model.proofs.InsertLemmas.{all_inserted, order_inserted}
 use Rattle.qm_model.proofs.ListLemmas.{Pairs, all_pairs_of, pairs_of}
-use Rattle.qm_history.specs.ShownDuties.{AreShown}
 
 abbrev before : Entry → Entry → Bool
 before a b = nat_lt (run_number a) (run_number b)
@@ -62,12 +52,9 @@ sorted_by_run es pairs = sorted_behind es [] tt (λ k d within. All-nil (Apart (
 -- ---- apart
 
 run_on : (node : List ℕ) (state : EntryState) → option_map_or (λ name. bytes_eq name node) (runs_on state) false ≡ true → (run : ℕ) × (run_of state ≡ Some run)
-run_on node Pending on = let bad : false ≡ true = on in cc
-run_on node Holding on = let bad : false ≡ true = on in cc
-run_on node (Timed at) on = let bad : false ≡ true = on in cc
 run_on node (Running queue name run) on = (run, refl)
 run_on node (Aborting queue name run fate) on = (run, refl)
-run_on node (Retained status until) on = let bad : false ≡ true = on in cc
+run_on node _ on = let bad : false ≡ true = on in cc
 
 entries_apart : (a b : Entry) → (run : ℕ) × (run_of a.state ≡ Some run) → (run : ℕ) × (run_of b.state ≡ Some run) → IfSome (run_of a.state) (λ run. run_of b.state ≢ Some run) → Apart a b
 entries_apart a b (first, first_is) (second, second_is) other same =

@@ -4,28 +4,20 @@ use Rattle.std.specs.Int.{w64, to_le_bytes, from_le_bytes}
 use Rattle.std.specs.List.{AllByRecursion}
 use Rattle.std.proofs.lemmas.List.{length-replicate}
 use Rattle.std.proofs.lemmas.Nat.{from_le_bytes-to_le_bytes_8}
-use Rattle.qm_kinds.specs.declared.record.Record.{Record}
-use Rattle.qm_kinds.specs.declared.record.Body.{Body}
+use Rattle.qm_history.specs.Common.{Record, Body, System, AreNext, IsAccepted, CanStandBehind, after_record, system_of, image_of, first_world, Hold, HoldRecords, Starts, system_in, IsSound, IsLog, HasSpelling, record_text}
 use Rattle.qm_kinds.specs.declared.record.Body.TheVariants as body
-use Rattle.qm_kinds.specs.declared.system.System.{System}
 use Rattle.qm_history.specs.declared.world.World.{World}
-use Rattle.qm_history.specs.Accepted.{AreNext, IsAccepted, CanStandBehind}
-use Rattle.qm_model.specs.Folding.{after_record, system_of}
 use Rattle.qm_history.specs.Master.{MasterRecord, Found, Epoch, Live, MasterState, master_text, after_master, master_of, no_master, CanBeLater, CanStandInMaster, AllStandInMaster, AreMaster}
-use Rattle.qm_model.specs.Log.{image_of}
-use Rattle.qm_history.specs.Start.{first_world, Hold, HoldRecords, Starts}
-use Rattle.qm_history.specs.World.{system_in, IsSound}
 
-module _ (HasSpelling : Record → Type 0) where
-  pub first_sound : (log : List Record) (epoch : ℕ) → IsAccepted HasSpelling log → IsSound HasSpelling (first_world log epoch)
-  first_sound log epoch h = record {
-    log = h;
-    live = length-replicate (length (system_of log).nodes) true;
-    held = length-replicate (length (system_of log).nodes) 0;
-    manager = tt;
-    doubt = tt;
-    alone = λ some. refl;
-  }
+pub first_sound : (log : List Record) (epoch : ℕ) → IsAccepted log → IsSound (first_world log epoch)
+first_sound log epoch h = record {
+  log = h;
+  live = length-replicate (length (system_of log).nodes) true;
+  held = length-replicate (length (system_of log).nodes) 0;
+  manager = tt;
+  doubt = tt;
+  alone = λ some. refl;
+}
 
 -- ---- masters
 
@@ -105,80 +97,74 @@ masters_small records h = all_small [] records (omega arith) h.each
 
 -- ---- records
 
-module _ (IsLog : List ℕ → List (List ℕ) → Type 0) (HasSpelling : Record → Type 0) (record_text : Record → List ℕ) where
-  pub hold_begins : (files : ℕ → List ℕ) (log : List Record) → Hold IsLog HasSpelling record_text files log
-      → (w : World) × Starts IsLog HasSpelling record_text files w × IsSound HasSpelling w × (system_in w ≡ system_of log)
-  hold_begins files log h = (
-    first_world h.records h.says.epoch,
-    record { says = h.says; records = h.records; hold = h.hold; begins = refl },
-    first_sound HasSpelling h.records h.says.epoch h.hold.accepted,
-    h.same,
-  )
+pub hold_begins : (files : ℕ → List ℕ) (log : List Record) → Hold files log
+    → (w : World) × Starts files w × IsSound w × (system_in w ≡ system_of log)
+hold_begins files log h = (
+  first_world h.records h.says.epoch,
+  record { says = h.says; records = h.records; hold = h.hold; begins = refl },
+  first_sound h.records h.says.epoch h.hold.accepted,
+  h.same,
+)
 
-  pub starts_sound : (files : ℕ → List ℕ) (w : World) → Starts IsLog HasSpelling record_text files w → IsSound HasSpelling w
-  starts_sound files w h = subst (IsSound HasSpelling) (sym h.begins) (first_sound HasSpelling h.records h.says.epoch h.hold.accepted)
+pub starts_sound : (files : ℕ → List ℕ) (w : World) → Starts files w → IsSound w
+starts_sound files w h = subst IsSound (sym h.begins) (first_sound h.records h.says.epoch h.hold.accepted)
 
-  pub starts_hold : (files : ℕ → List ℕ) (w : World) → Starts IsLog HasSpelling record_text files w → Hold IsLog HasSpelling record_text files w.log
-  starts_hold files w h = record { says = h.says; records = h.records; hold = h.hold; same = ap (λ (v : World). system_of v.log) (sym h.begins) }
+pub starts_hold : (files : ℕ → List ℕ) (w : World) → Starts files w → Hold files w.log
+starts_hold files w h = record { says = h.says; records = h.records; hold = h.hold; same = ap (λ (v : World). system_of v.log) (sym h.begins) }
 
-  module _ (one_log : (file : List ℕ) (a b : List (List ℕ)) → IsLog file a → IsLog file b → a ≡ b) (one_record : (q r : Record) → HasSpelling q → HasSpelling r → record_text q ≡ record_text r → q ≡ r) where
-    abbrev AllSpelled : List Record → Type 0
-    AllSpelled records = AllByRecursion HasSpelling records
+module _ (one_log : (file : List ℕ) (a b : List (List ℕ)) → IsLog file a → IsLog file b → a ≡ b) (one_record : (q r : Record) → HasSpelling q → HasSpelling r → record_text q ≡ record_text r → q ≡ r) where
+  abbrev AllSpelled : List Record → Type 0
+  AllSpelled records = AllByRecursion HasSpelling records
 
-    same_records : (a b : List Record) → AllSpelled a → AllSpelled b → map record_text a ≡ map record_text b → a ≡ b
-    same_records [] [] spelled_a spelled_b same = refl
-    same_records [] (r ∷ b) spelled_a spelled_b same = cc
-    same_records (r ∷ a) [] spelled_a spelled_b same = cc
-    same_records (q ∷ a) (r ∷ b) spelled_a spelled_b same =
-        let first : record_text q ≡ record_text r = cc in
-        let others : map record_text a ≡ map record_text b = cc in
-        let one : q ≡ r = one_record q r spelled_a.0 spelled_b.0 first in
-        let more : a ≡ b = same_records a b spelled_a.1 spelled_b.1 others in
-        cc
+  same_records : (a b : List Record) → AllSpelled a → AllSpelled b → map record_text a ≡ map record_text b → a ≡ b
+  same_records [] [] spelled_a spelled_b same = refl
+  same_records [] (r ∷ b) spelled_a spelled_b same = cc
+  same_records (r ∷ a) [] spelled_a spelled_b same = cc
+  same_records (q ∷ a) (r ∷ b) spelled_a spelled_b same =
+      let first : record_text q ≡ record_text r = cc in
+      let others : map record_text a ≡ map record_text b = cc in
+      let one : q ≡ r = one_record q r spelled_a.0 spelled_b.0 first in
+      let more : a ≡ b = same_records a b spelled_a.1 spelled_b.1 others in
+      cc
 
-    both_spelled : (a b : List Record) → AllSpelled a → AllSpelled b → AllSpelled (a ++ b)
-    both_spelled [] b first second = second
-    both_spelled (r ∷ a) b first second = (first.0, both_spelled a b first.1 second)
+  both_spelled : (a b : List Record) → AllSpelled a → AllSpelled b → AllSpelled (a ++ b)
+  both_spelled [] b first second = second
+  both_spelled (r ∷ a) b first second = (first.0, both_spelled a b first.1 second)
 
-    body_spelled : (s : System) (moment node : ℕ) (b : Body) → CanStandBehind HasSpelling s moment node b → HasSpelling (record { moment = moment; node = node; body = b })
-    body_spelled s moment node (body.Ask asked) can = can.spelled
-    body_spelled s moment node (body.Head nodes may next_entry next_run last) can = absurd can
-    body_spelled s moment node (body.Form f) can = absurd can
-    body_spelled s moment node (body.Characteristic c) can = absurd can
-    body_spelled s moment node (body.File f) can = absurd can
-    body_spelled s moment node (body.Queue q) can = absurd can
-    body_spelled s moment node (body.Entry e) can = absurd can
+  body_spelled : (s : System) (moment node : ℕ) (b : Body) → CanStandBehind s moment node b → HasSpelling (record { moment = moment; node = node; body = b })
+  body_spelled s moment node (body.Ask asked) can = can.spelled
+  body_spelled s moment node _ can = absurd can
 
-    next_spelled : (s : System) (records : List Record) → AreNext HasSpelling s records → AllSpelled records
-    next_spelled s [] next = tt
-    next_spelled s (r ∷ records) next = (body_spelled s r.moment r.node r.body next.0, next_spelled (after_record s r) records next.1)
+  next_spelled : (s : System) (records : List Record) → AreNext s records → AllSpelled records
+  next_spelled s [] next = tt
+  next_spelled s (r ∷ records) next = (body_spelled s r.moment r.node r.body next.0, next_spelled (after_record s r) records next.1)
 
-    accepted_spelled : (log : List Record) → IsAccepted HasSpelling log → AllSpelled log
-    accepted_spelled log h = subst AllSpelled (sym h.whole) (both_spelled (image_of h.image) h.requests h.spelled (next_spelled h.image h.requests h.next))
+  accepted_spelled : (log : List Record) → IsAccepted log → AllSpelled log
+  accepted_spelled log h = subst AllSpelled (sym h.whole) (both_spelled (image_of h.image) h.requests h.spelled (next_spelled h.image h.requests h.next))
 
-    -- files have one master
-    pub says_one : (files : ℕ → List ℕ) (says said : MasterState) (records others : List Record) → HoldRecords IsLog HasSpelling record_text files says records
-        → HoldRecords IsLog HasSpelling record_text files said others → says ≡ said
-    says_one files says said records others h k =
-        let masters : h.masters ≡ k.masters =
-        one_list h.masters k.masters (masters_small h.masters h.are_master) (masters_small k.masters k.are_master)
-        (one_log (files 0) (map master_text h.masters) (map master_text k.masters) h.master_is_log k.master_is_log) in
-        h.says_is ∙ ap (master_of no_master) masters ∙ sym k.says_is
+  -- files have one master
+  pub says_one : (files : ℕ → List ℕ) (says said : MasterState) (records others : List Record) → HoldRecords files says records
+      → HoldRecords files said others → says ≡ said
+  says_one files says said records others h k =
+      let masters : h.masters ≡ k.masters =
+      one_list h.masters k.masters (masters_small h.masters h.are_master) (masters_small k.masters k.are_master)
+      (one_log (files 0) (map master_text h.masters) (map master_text k.masters) h.master_is_log k.master_is_log) in
+      h.says_is ∙ ap (master_of no_master) masters ∙ sym k.says_is
 
-    pub starts_one : (files : ℕ → List ℕ) (w v : World) → Starts IsLog HasSpelling record_text files w → Starts IsLog HasSpelling record_text files v → w ≡ v
-    starts_one files w v h k =
-        let says : h.says ≡ k.says = says_one files h.says k.says h.records k.records h.hold k.hold in
-        let live : IsLog (files k.says.live) (map record_text h.records) = subst (λ (m : MasterState). IsLog (files m.live) (map record_text h.records)) says h.hold.live_is_log in
-        let records : h.records ≡ k.records =
-        same_records h.records k.records (accepted_spelled h.records h.hold.accepted) (accepted_spelled k.records k.hold.accepted)
-        (one_log (files k.says.live) (map record_text h.records) (map record_text k.records) live k.hold.live_is_log) in
-        h.begins ∙ ap (λ (x : List Record). first_world x h.says.epoch) records ∙ ap (λ (m : MasterState). first_world k.records m.epoch) says ∙ sym k.begins
+  pub starts_one : (files : ℕ → List ℕ) (w v : World) → Starts files w → Starts files v → w ≡ v
+  starts_one files w v h k =
+      let says : h.says ≡ k.says = says_one files h.says k.says h.records k.records h.hold k.hold in
+      let live : IsLog (files k.says.live) (map record_text h.records) = subst (λ (m : MasterState). IsLog (files m.live) (map record_text h.records)) says h.hold.live_is_log in
+      let records : h.records ≡ k.records =
+      same_records h.records k.records (accepted_spelled h.records h.hold.accepted) (accepted_spelled k.records k.hold.accepted)
+      (one_log (files k.says.live) (map record_text h.records) (map record_text k.records) live k.hold.live_is_log) in
+      h.begins ∙ ap (λ (x : List Record). first_world x h.says.epoch) records ∙ ap (λ (m : MasterState). first_world k.records m.epoch) says ∙ sym k.begins
 
-    -- files stand for one system
-    pub starts_system : (files : ℕ → List ℕ) (log : List Record) (v : World) → Hold IsLog HasSpelling record_text files log → Starts IsLog HasSpelling record_text files v
-        → system_in v ≡ system_of log
-    starts_system files log v h k =
-        let begun = hold_begins files log h in ap system_in (starts_one files v begun.0 k begun.1) ∙ begun.3
+  -- files stand for one system
+  pub starts_system : (files : ℕ → List ℕ) (log : List Record) (v : World) → Hold files log → Starts files v
+      → system_in v ≡ system_of log
+  starts_system files log v h k =
+      let begun = hold_begins files log h in ap system_in (starts_one files v begun.0 k begun.1) ∙ begun.3
 
-    pub hold_one : (files : ℕ → List ℕ) (a b : List Record) → Hold IsLog HasSpelling record_text files a → Hold IsLog HasSpelling record_text files b → system_of a ≡ system_of b
-    hold_one files a b h k = let begun = hold_begins files a h in sym begun.3 ∙ starts_system files b begun.0 k begun.1
+  pub hold_one : (files : ℕ → List ℕ) (a b : List Record) → Hold files a → Hold files b → system_of a ≡ system_of b
+  hold_one files a b h k = let begun = hold_begins files a h in sym begun.3 ∙ starts_system files b begun.0 k begun.1

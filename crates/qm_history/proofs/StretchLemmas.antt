@@ -1,17 +1,9 @@
 -- The steps of a node come in stretches, one for each fetch.
-use Rattle.std.proofs.Common.{◌≡◌, ℕ, zero, suc, ◌<◌, inl, inr, Bool, true, false, cond, not, List, [], ◌∷◌, ◌++◌, length, refl, sym, subst, arith, Option, None, Some, map, Contains}
-use Rattle.std.specs.Prelude.{◌==◌, IfSome, slice_get}
-use Rattle.std.specs.Option.{option_map}
+use Rattle.std.proofs.Common.{◌≡◌, ℕ, zero, suc, ◌<◌, inl, inr, Bool, true, false, cond, not, List, [], ◌∷◌, ◌++◌, length, refl, sym, subst, arith, Option, None, Some, map, Contains, ◌==◌, IfSome, slice_get, option_map, append_assoc}
 use Rattle.std.specs.List.{AllByRecursion, cons_option}
 use Rattle.std.proofs.lemmas.Bool.Decides.{nat_tests}
-use Rattle.std.proofs.lemmas.List.{append_assoc}
-use Rattle.qm_kinds.specs.declared.input.Input.{Input}
-use Rattle.qm_kinds.specs.declared.record.Record.{Record}
-use Rattle.qm_kinds.specs.declared.work.Duty.{Duty}
-use Rattle.qm_kinds.specs.declared.work.Place.{Place}
-use Rattle.qm_kinds.specs.declared.work.Report.{Report}
+use Rattle.qm_history.specs.Common.{Input, Duty, Place, Report, Work, UserLine, steps_asked, Visit, visits_of}
 use Rattle.qm_kinds.specs.declared.work.Report.TheVariants as report
-use Rattle.qm_kinds.specs.declared.work.Work.{Work}
 use Rattle.qm_model.specs.Reports.{begin}
 use Rattle.qm_history.specs.declared.call.Answer.{Answer}
 use Rattle.qm_history.specs.declared.call.Answer.TheVariants as answer
@@ -20,8 +12,6 @@ use Rattle.qm_history.specs.declared.turn.Turn.{Turn}
 use Rattle.qm_history.specs.Blocks.{broken_step, all_steps, last_step, Gives, IsGiven, IsFetchedBehind, IsLeftBy, IsInStretch, ComeInStretches}
 use Rattle.qm_model.specs.Kept.{KeptRun, KeptRuns, run_kept, kept_of, kept_after, moved_to, without_run, behind_mark, behind_report, report_told}
 use Rattle.qm_history.specs.Course.{NodeState, MadeStep, goes_on, NextTurn, Extent, Whole, Begun, IsBrokenOff, next_run, IsCourse, GoesOn, Follows, ALine, AStep, AFetch, ALeave, NoTurn, behind_step, behind_line, behind_step_line, behind_fetch, next_at, own_stage, answered, is_live_behind, at_first, Over}
-use Rattle.qm_history.specs.Script.{UserLine, steps_asked}
-use Rattle.qm_history.specs.Visits.{Visit, visits_of}
 
 same_number : (a b : ℕ) → (a == b) ≡ true → a ≡ b
 same_number a b h = grind (arith, nat_tests)
@@ -248,10 +238,7 @@ pub record AreGood (all : List Visit) (earlier steps : List MadeStep) : Type 0 w
 
 next_kept : (P : KeptRun → Type 0) (n : NodeState) (next : NextTurn) → AllByRecursion P n.kept.runs → IfSome (next_run n next) P
 next_kept P n (AStep run round) all = found P run n.kept.runs all
-next_kept P n (ALine l lines) all = tt
-next_kept P n AFetch all = tt
-next_kept P n ALeave all = tt
-next_kept P n NoTurn all = tt
+next_kept P n _ all = tt
 
 -- the step within which a course broke off
 broken_good : (extent : Extent) (n : NodeState) (before : List Visit) (earlier : List MadeStep) (next : NextTurn) (broken : Option KeptRun) → IsSoFar n before earlier
@@ -263,12 +250,12 @@ broken_good Begun n before earlier next (Some k) so h = record {
   given = (given_later before [] k (found_is (IsGiven before) (next_run n next) k h.0 (next_kept (IsGiven before) n next so.given)), tt);
 }
 
-module _ (HasSpelling : Record → Type 0) (read : UserLine → ℕ → List Visit → List ℕ → Input) (extent : Extent) (broken : Option KeptRun) where
+module _ (read : UserLine → ℕ → List Visit → List ℕ → Input) (extent : Extent) (broken : Option KeptRun) where
   follows_on : (all : List Visit) (n : NodeState) (before : List Visit) (v : Visit) (others : List Visit) (steps : List MadeStep) (earlier : List MadeStep) (next : NextTurn) → IsSoFar n before earlier
       → ((k : KeptRun) → IsGiven before k → IsGiven all k)
       → ((after : NodeState) (left : List MadeStep) (earlier : List MadeStep) → IsSoFar after (before ++ v ∷ []) earlier
-      → GoesOn HasSpelling read extent broken after (before ++ v ∷ []) (is_live_behind v) others left → AreGood all earlier (left ++ broken_step broken))
-      → Follows HasSpelling read extent broken n before steps v others (λ after left. GoesOn HasSpelling read extent broken after (before ++ v ∷ []) (is_live_behind v) others left) next
+      → GoesOn read extent broken after (before ++ v ∷ []) (is_live_behind v) others left → AreGood all earlier (left ++ broken_step broken))
+      → Follows read extent broken n before steps v others (λ after left. GoesOn read extent broken after (before ++ v ∷ []) (is_live_behind v) others left) next
       → AreGood all earlier (steps ++ broken_step broken)
   follows_on all n before v others steps earlier (ALine l lines) so later on h =
       on (behind_line (length before) n lines (steps_asked l.line.sort l.line.text) (answered v)) steps earlier
@@ -305,21 +292,21 @@ module _ (HasSpelling : Record → Type 0) (read : UserLine → ℕ → List Vis
   follows_on all n before v others steps earlier NoTurn so later on h = absurd h
 
   pub good : (visits : List Visit) (n : NodeState) (before : List Visit) (live : Bool) (steps : List MadeStep) (earlier : List MadeStep) → IsSoFar n before earlier
-      → GoesOn HasSpelling read extent broken n before live visits steps → AreGood (before ++ visits) earlier (steps ++ broken_step broken)
+      → GoesOn read extent broken n before live visits steps → AreGood (before ++ visits) earlier (steps ++ broken_step broken)
   good [] n before live steps earlier so h =
       subst (λ xs. AreGood (before ++ []) earlier (xs ++ broken_step broken)) (sym h.1) (broken_good extent n before earlier (next_at live n n.stage) broken so h.2)
   good (v ∷ others) n before live steps earlier so h =
       follows_on (before ++ v ∷ others) n before v others steps earlier (next_at live n n.stage) so (given_later before (v ∷ others))
       (λ after left more sound goes. subst (λ vs. AreGood vs more (left ++ broken_step broken)) (append_assoc before (v ∷ []) others) (good others after (before ++ v ∷ []) (is_live_behind v) left more sound goes)) h
 
-module _ (HasSpelling : Record → Type 0) (read : UserLine → ℕ → List Visit → List ℕ → Input) (extent : Extent) where
-  course_good : (w : World) (turns : List Turn) (node : ℕ) (lines : List UserLine) (faults : ℕ) → (h : IsCourse HasSpelling read extent w turns node lines faults) → AreGood (visits_of node w turns) [] (all_steps h.steps h.broken)
+module _ (read : UserLine → ℕ → List Visit → List ℕ → Input) (extent : Extent) where
+  course_good : (w : World) (turns : List Turn) (node : ℕ) (lines : List UserLine) (faults : ℕ) → (h : IsCourse read extent w turns node lines faults) → AreGood (visits_of node w turns) [] (all_steps h.steps h.broken)
   course_good w turns node lines faults h =
-      good HasSpelling read extent h.broken (visits_of node w turns) (at_first lines) [] _ h.steps [] (record { stretch = tt; given = tt; made = tt }) h.turns_are
+      good read extent h.broken (visits_of node w turns) (at_first lines) [] _ h.steps [] (record { stretch = tt; given = tt; made = tt }) h.turns_are
 
-  pub course_stretches : (w : World) (turns : List Turn) (node : ℕ) (lines : List UserLine) (faults : ℕ) → (h : IsCourse HasSpelling read extent w turns node lines faults) → ComeInStretches [] (all_steps h.steps h.broken)
+  pub course_stretches : (w : World) (turns : List Turn) (node : ℕ) (lines : List UserLine) (faults : ℕ) → (h : IsCourse read extent w turns node lines faults) → ComeInStretches [] (all_steps h.steps h.broken)
   course_stretches w turns node lines faults h = let all = course_good w turns node lines faults h in all.stretches
 
-  pub course_given : (w : World) (turns : List Turn) (node : ℕ) (lines : List UserLine) (faults : ℕ) → (h : IsCourse HasSpelling read extent w turns node lines faults)
+  pub course_given : (w : World) (turns : List Turn) (node : ℕ) (lines : List UserLine) (faults : ℕ) → (h : IsCourse read extent w turns node lines faults)
       → AllByRecursion (λ (m : MadeStep). IsGiven (visits_of node w turns) m.run) (all_steps h.steps h.broken)
   course_given w turns node lines faults h = let all = course_good w turns node lines faults h in all.given

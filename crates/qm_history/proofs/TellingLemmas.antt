@@ -1,30 +1,18 @@
 -- A takeover that read the files tells what has become of the record in doubt.
-use Rattle.std.proofs.Common.{◌≡◌, ℕ, inl, inr, Bool, true, false, not, ◌||◌, List, [], ◌∷◌, refl, sym, ◌∙◌, ap, subst, Option, None, Some, Ok, Err}
-use Rattle.std.specs.Prelude.{IsSome, IsNone, is_some, is_none, Result}
-use Rattle.qm_kinds.specs.declared.input.Input.{Input}
+use Rattle.std.proofs.Common.{◌≡◌, ℕ, inl, inr, Bool, true, false, not, ◌||◌, List, [], ◌∷◌, refl, sym, ◌∙◌, ap, subst, Option, None, Some, Ok, Err, IsSome, IsNone, is_some, is_none, Result}
+use Rattle.qm_history.specs.Common.{Input, Record, Refusal, Request, applied, Accepted, view, input_of, acting, IsLegalTurn, after_event, CanAllCome, system_in, role_in, doubt_read}
 use Rattle.qm_kinds.specs.declared.input.Input.TheVariants as input
-use Rattle.qm_kinds.specs.declared.record.Record.{Record}
-use Rattle.qm_kinds.specs.declared.refusal.Refusal.{Refusal}
-use Rattle.qm_kinds.specs.declared.request.Request.{Request}
 use Rattle.qm_kinds.specs.declared.request.Request.TheVariants as request
-use Rattle.qm_model.specs.Applied.{applied}
-use Rattle.qm_model.specs.Outcome.{Accepted}
-use Rattle.qm_model.specs.Rows.{view}
 use Rattle.qm_history.specs.declared.call.Call.{Call}
 use Rattle.qm_history.specs.declared.call.Call.TheVariants as call
 use Rattle.qm_history.specs.declared.event.Event.{Event}
 use Rattle.qm_history.specs.declared.event.Event.TheVariants as event
 use Rattle.qm_history.specs.declared.turn.Turn.{Turn}
 use Rattle.qm_history.specs.declared.world.World.{World}
-use Rattle.qm_history.specs.Calls.{input_of}
-use Rattle.qm_model.specs.Acting.{acting}
 use Rattle.qm_history.specs.Happening.{is_takeover}
-use Rattle.qm_history.specs.Legal.{IsLegalTurn}
-use Rattle.qm_history.specs.Step.{after_event, CanAllCome}
 use Rattle.qm_history.specs.Takeover.{takes_over, nodes_on, is_named, IsFailure, StandsOrFails, UnlessRefused, TakesOverThen}
 use Rattle.qm_history.specs.Telling.{TellsWhatItRead}
 use Rattle.qm_history.specs.Turn.{Beside, Nothing, ATakeover, fence, IsAsked, IsCompaction, IsChange, start_refusal, IsComeUp, IsStarted, has_other_manager, loss_of, IsStopped, IsLeftFull, IsLeft, IsGoing, IsOwn, IsBehindTakeover, UnlessDown, is_down}
-use Rattle.qm_history.specs.World.{system_in, role_in, doubt_read}
 use Rattle.qm_history.proofs.ShapeLemmas.{IsOne, asked_one, viewed_one, compaction_one, full_one, fence_plain, fenced_one}
 
 -- ---- a call's own events begin with no takeover
@@ -70,9 +58,7 @@ left_plain w node moment true events (inr h) = left_full_plain node events h
 
 going_plain : (w : World) (node moment : ℕ) (asked : Call) (events : List Event) → IsGoing w node moment asked events → IsPlain events
 going_plain w node moment call.Leave events h = left_plain w node moment (has_other_manager w node) events h
-going_plain w node moment (call.Line line what) events h = stopped_plain w node moment (has_other_manager w node) events h
-going_plain w node moment (call.Fetch known) events h = stopped_plain w node moment (has_other_manager w node) events h
-going_plain w node moment (call.Report run told) events h = stopped_plain w node moment (has_other_manager w node) events h
+going_plain w node moment _ events h = stopped_plain w node moment (has_other_manager w node) events h
 
 pub own_plain : (w : World) (node reading : ℕ) (asked : Call) (beside : Beside) (what : Input) (events : List Event) → IsOwn w node reading asked beside what events → IsPlain events
 own_plain w node reading asked beside (input.Ask request.Tick) events h =
@@ -110,34 +96,34 @@ plain_tells w (event.TakeDoubt node tried kept ∷ []) h = cc
 plain_tells w (event.TakeDoubt node tried kept ∷ e ∷ events) h = cc
 plain_tells w (e ∷ events) h = tt
 
-module _ (HasSpelling : Record → Type 0) (w : World) (node reading : ℕ) (on : Option (List (List ℕ))) (Then : World → List Event → Type 0) where
-  stands_tells : (events : List Event) → CanAllCome HasSpelling w events → StandsOrFails w node reading on Then events → TellsWhatItRead w events
+module _ (w : World) (node reading : ℕ) (on : Option (List (List ℕ))) (Then : World → List Event → Type 0) where
+  stands_tells : (events : List Event) → CanAllCome w events → StandsOrFails w node reading on Then events → TellsWhatItRead w events
   stands_tells (event.Took n moment epoch gone up may kept ∷ events) can h = can.0.told
   stands_tells (event.TakeDoubt n tried kept ∷ []) can h = λ new. told_both kept w w.doubt refl can.0.1 (h.1 new)
   stands_tells (event.TakeDoubt n tried kept ∷ e ∷ events) can h =
       told_both kept w w.doubt refl can.0.1 (nothing_left w (after_event w (event.TakeDoubt n tried kept)) node reading on tried e events h.1)
   stands_tells events can h = absurd h
 
-  refused_tells : (refused : Bool) (events : List Event) → CanAllCome HasSpelling w events → UnlessRefused refused node (StandsOrFails w node reading on Then events) events → TellsWhatItRead w events
+  refused_tells : (refused : Bool) (events : List Event) → CanAllCome w events → UnlessRefused refused node (StandsOrFails w node reading on Then events) events → TellsWhatItRead w events
   refused_tells true events can h = subst (TellsWhatItRead w) (sym h) tt
   refused_tells false events can h = stands_tells events can h
 
-  takeover_tells : (events : List Event) → CanAllCome HasSpelling w events → TakesOverThen w node reading on Then events → TellsWhatItRead w events
+  takeover_tells : (events : List Event) → CanAllCome w events → TakesOverThen w node reading on Then events → TellsWhatItRead w events
   takeover_tells events can h = refused_tells (not (is_none w.manager || is_named (system_in w) on node)) events can h
 
 -- ---- a turn
 
-module _ (HasSpelling : Record → Type 0) (w : World) (node reading : ℕ) (asked : Call) (events : List Event) (can : CanAllCome HasSpelling w events) where
+module _ (w : World) (node reading : ℕ) (asked : Call) (events : List Event) (can : CanAllCome w events) where
   behind_tells : (takes : Bool) → IsBehindTakeover w node reading asked takes events → TellsWhatItRead w events
   behind_tells false h = plain_tells w events (own_plain w node reading asked Nothing (input_of asked) events h)
   behind_tells true h =
-      takeover_tells HasSpelling w node reading (nodes_on (input_of asked)) (λ after own. IsOwn after node reading asked ATakeover (input_of asked) own) events can h
+      takeover_tells w node reading (nodes_on (input_of asked)) (λ after own. IsOwn after node reading asked ATakeover (input_of asked) own) events can h
 
   down_tells : (down : Bool) → UnlessDown down node reading (input_of asked) (IsBehindTakeover w node reading asked (takes_over w (input_of asked)) events) events → TellsWhatItRead w events
   down_tells true h = subst (TellsWhatItRead w) (sym h) tt
   down_tells false h = behind_tells (takes_over w (input_of asked)) h
 
-pub turn_tells : (HasSpelling : Record → Type 0) (w : World) (t : Turn) → IsLegalTurn HasSpelling w t → TellsWhatItRead w t.events
-turn_tells HasSpelling w t (asked, inl whole) = down_tells HasSpelling w t.node t.moment asked t.events whole.0.can_come (is_down w t.node (input_of asked)) whole.1
-turn_tells HasSpelling w t (asked, inr short) =
-    takeover_tells HasSpelling w t.node t.moment (nodes_on (input_of asked)) (λ after own. own ≡ []) t.events short.0.can_come short.1.2
+pub turn_tells : (w : World) (t : Turn) → IsLegalTurn w t → TellsWhatItRead w t.events
+turn_tells w t (asked, inl whole) = down_tells w t.node t.moment asked t.events whole.0.can_come (is_down w t.node (input_of asked)) whole.1
+turn_tells w t (asked, inr short) =
+    takeover_tells w t.node t.moment (nodes_on (input_of asked)) (λ after own. own ≡ []) t.events short.0.can_come short.1.2

@@ -1,22 +1,16 @@
 -- A print job that a stop of its node interrupts goes on at its mark on the other node.
-use Rattle.std.proofs.Common.{◌≡◌, ℕ, true, false, List, [], ◌∷◌, ◌++◌, refl, None, Some}
-use Rattle.std.specs.Prelude.{codes, decimal}
+use Rattle.std.proofs.Common.{◌≡◌, ℕ, true, false, List, [], ◌∷◌, ◌++◌, refl, None, Some, codes, decimal}
 use Rattle.std.specs.Fmt.{digits}
-use Rattle.qm_kinds.specs.declared.entry.JobRetain.TheVariants.{Default, Failed}
-use Rattle.qm_kinds.specs.declared.entry.JobKind.TheVariants as job
-use Rattle.qm_kinds.specs.declared.file.FileName.{FileName}
-use Rattle.qm_kinds.specs.declared.input.Input.{Input}
+use Rattle.qm_kinds.specs.declared.entry.JobRetain.TheVariants.{Failed}
+use Rattle.qm_history.specs.Common.{FileName, Input, QueueChange, Job, Request, text}
 use Rattle.qm_kinds.specs.declared.input.Input.TheVariants as input
 use Rattle.qm_kinds.specs.declared.query.Listing.TheVariants.{Entries}
 use Rattle.qm_kinds.specs.declared.queue.QueueKind.TheVariants as queue
-use Rattle.qm_kinds.specs.declared.queue.QueueChange.{QueueChange}
-use Rattle.qm_kinds.specs.declared.request.Job.{Job}
-use Rattle.qm_kinds.specs.declared.request.Request.{Request}
 use Rattle.qm_kinds.specs.declared.request.Request.TheVariants as request
 use Rattle.qm_kinds.specs.declared.work.Report.TheVariants as report
+use Rattle.qm_model.proofs.Site.{a_print_job}
 use Rattle.qm_history.specs.declared.call.Call.TheVariants as call
 use Rattle.qm_history.specs.declared.world.World.{World}
-use Rattle.qm_history.specs.Text.{text}
 use Rattle.qm_history.proofs.Serving.{Asked, new_site, world_of, listing_of, history, no_items}
 
 abbrev pub asks : ℕ → ℕ → Input → Asked
@@ -28,7 +22,7 @@ marks node run count = record { node = node; reading = 1000; call = call.Report 
 abbrev pub listing_file : FileName
 listing_file = record { name = codes "F"; extension = Some (codes "LIS") }
 
-abbrev no_change : QueueChange
+abbrev pub no_change : QueueChange
 no_change = record { limit = None; characteristics = None; form = None; blocks = None; by_size = None; retain = None }
 
 abbrev pub print_queue : List ℕ → List ℕ → Request
@@ -38,22 +32,7 @@ abbrev pub generic_queue : Request
 generic_queue = request.InitializeQueue (record { name = codes "GP"; kind = queue.GenericPrint; node = None; device = None; targets = codes "LPA" ∷ codes "LPB" ∷ []; change = no_change; start = true })
 
 abbrev pub print_job : List ℕ → Job
-print_job name = record {
-  user = codes "SYSTEM";
-  kind = job.Print;
-  queue = name;
-  file = listing_file;
-  name = codes "F";
-  priority = 100;
-  after = None;
-  hold = false;
-  retain = Default;
-  restart = true;
-  characteristics = [];
-  form = None;
-  copies = 1;
-  flag = false;
-}
+print_job name = a_print_job name (codes "F")
 
 -- A prints three pages of each of two jobs and stops. B goes on with the one that may restart.
 abbrev pub calls : List Asked

@@ -1,9 +1,8 @@
 -- A print job that a stop of its node interrupts goes on at its mark on the other node: each turn may be made.
-use Rattle.std.proofs.Common.{◌≡◌, ℕ, lit<, lit≤, false, List, [], ◌∷◌, refl, None, Some}
-use Rattle.std.specs.Prelude.{codes, decimal}
+use Rattle.std.proofs.Common.{◌≡◌, ℕ, lit<, lit≤, true, false, List, [], ◌∷◌, refl, None, Some, codes, decimal}
 use Rattle.std.specs.Fmt.{digits}
 use Rattle.qm_kinds.specs.declared.entry.EntryState.TheVariants.{Pending}
-use Rattle.qm_kinds.specs.declared.entry.JobRetain.TheVariants.{Failed}
+use Rattle.qm_kinds.specs.declared.entry.JobRetain.TheVariants.{Default, Failed}
 use Rattle.qm_kinds.specs.declared.input.Input.TheVariants as input
 use Rattle.qm_kinds.specs.declared.query.Listing.TheVariants.{Entries}
 use Rattle.qm_kinds.specs.declared.queue.QueueState.TheVariants.{Started}
@@ -18,20 +17,21 @@ use Rattle.qm_history.specs.declared.turn.Why.{Why}
 use Rattle.qm_history.specs.declared.turn.Why.TheVariants as why
 use Rattle.qm_history.specs.declared.world.World.{World}
 use Rattle.qm_history.specs.Legal.{after_turn, IsLegalTurn, IsLegal}
-use Rattle.qm_history.proofs.LegalTurns.{follows, serves, takes}
-use Rattle.qm_history.proofs.Serving.{listing_of, history, Any}
+use Rattle.qm_history.proofs.LegalTurns.{a_fits, a_is_name, b_fits, b_is_name, both_fit, follows, says, serves, takes}
+use Rattle.qm_history.proofs.Serving.{listing_of, history}
+use Rattle.qm_history.proofs.Spelled.{generic_queue_fits, gp_is_name, listing_file_fits, lpa_is_name, lpb_is_name, lpc_is_name, print_job_fits, print_queue_fits}
 use Rattle.qm_history.proofs.TwoNodes.{calls, site, listing_file, print_queue, generic_queue, print_job}
 
 -- a turn may be made in a world
 record MayBeMade (w : World) (t : Turn) : Type 0 where
-  legal : IsLegalTurn Any w t
+  legal : IsLegalTurn w t
 
 -- each of these turns may, behind those before it
 abbrev MayAllBeMade : World → List Turn → Type 0
 MayAllBeMade w [] = Unit {0}
 MayAllBeMade w (t ∷ turns) = MayBeMade w t × MayAllBeMade (after_turn w t) turns
 
-all_legal : (w : World) (turns : List Turn) → MayAllBeMade w turns → IsLegal Any w turns
+all_legal : (w : World) (turns : List Turn) → MayAllBeMade w turns → IsLegal w turns
 all_legal w [] all = tt
 all_legal w (t ∷ turns) all = (all.0.legal, all_legal (after_turn w t) turns all.1)
 
@@ -187,31 +187,31 @@ world_24 = after_turn world_23 turn_23
 
 may_1 : MayBeMade world_1 turn_1
 unfolding digits
-may_1 = record { legal = serves (call.Line 1 (input.Ask (request.Fill listing_file 420))) (lit< tt) refl tt (takes refl refl refl refl refl (follows (lit< tt) (lit≤ tt) refl (refl, refl, refl) refl), ((refl, follows (lit< tt) (lit≤ tt) tt tt refl, refl), tt)) (refl, refl, refl, (refl, refl, refl, refl)) }
+may_1 = record { legal = serves (call.Line 1 (input.Ask (request.Fill listing_file 420))) (lit< tt) refl tt (takes refl refl refl refl refl (follows (says (lit< tt) (lit< tt, both_fit, both_fit, both_fit)) (lit< tt) (lit≤ tt) refl (refl, refl, refl) refl), ((refl, follows (says (lit< tt) (listing_file_fits, lit< tt)) (lit< tt) (lit≤ tt) tt tt refl, refl), tt)) (refl, refl, refl, (refl, refl, refl, refl)) }
 
 may_2 : MayBeMade world_2 turn_2
 unfolding digits
-may_2 = record { legal = serves (call.Line 2 (input.Ask (print_queue (codes "A") (codes "LPA")))) (lit< tt) refl tt ((refl, follows (lit< tt) (lit≤ tt) (lit≤ tt, tt, lit< tt) tt refl, refl), tt) (refl, refl, refl, refl) }
+may_2 = record { legal = serves (call.Line 2 (input.Ask (print_queue (codes "A") (codes "LPA")))) (lit< tt) refl tt ((refl, follows (says (lit< tt) (print_queue_fits (codes "A") (codes "LPA") a_is_name lpa_is_name)) (lit< tt) (lit≤ tt) (lit≤ tt, tt, lit< tt) tt refl, refl), tt) (refl, refl, refl, refl) }
 
 may_3 : MayBeMade world_3 turn_3
 unfolding digits
-may_3 = record { legal = serves (call.Line 3 (input.Ask (print_queue (codes "B") (codes "LPB")))) (lit< tt) refl tt ((refl, follows (lit< tt) (lit≤ tt) (lit≤ tt, tt, lit< tt) tt refl, refl), tt) (refl, refl, refl, refl) }
+may_3 = record { legal = serves (call.Line 3 (input.Ask (print_queue (codes "B") (codes "LPB")))) (lit< tt) refl tt ((refl, follows (says (lit< tt) (print_queue_fits (codes "B") (codes "LPB") b_is_name lpb_is_name)) (lit< tt) (lit≤ tt) (lit≤ tt, tt, lit< tt) tt refl, refl), tt) (refl, refl, refl, refl) }
 
 may_4 : MayBeMade world_4 turn_4
 unfolding digits
-may_4 = record { legal = serves (call.Line 4 (input.Ask generic_queue)) (lit< tt) refl tt ((refl, follows (lit< tt) (lit≤ tt) (lit≤ tt, tt, lit< tt) tt refl, refl), tt) (refl, refl, refl, refl) }
+may_4 = record { legal = serves (call.Line 4 (input.Ask generic_queue)) (lit< tt) refl tt ((refl, follows (says (lit< tt) generic_queue_fits) (lit< tt) (lit≤ tt) (lit≤ tt, tt, lit< tt) tt refl, refl), tt) (refl, refl, refl, refl) }
 
 may_5 : MayBeMade world_5 turn_5
 unfolding digits
-may_5 = record { legal = serves (call.Line 5 (input.Ask (print_queue (codes "A") (codes "LPC")))) (lit< tt) refl tt ((refl, follows (lit< tt) (lit≤ tt) (lit≤ tt, tt, lit< tt) tt refl, refl), tt) (refl, refl, refl, refl) }
+may_5 = record { legal = serves (call.Line 5 (input.Ask (print_queue (codes "A") (codes "LPC")))) (lit< tt) refl tt ((refl, follows (says (lit< tt) (print_queue_fits (codes "A") (codes "LPC") a_is_name lpc_is_name)) (lit< tt) (lit≤ tt) (lit≤ tt, tt, lit< tt) tt refl, refl), tt) (refl, refl, refl, refl) }
 
 may_6 : MayBeMade world_6 turn_6
 unfolding digits
-may_6 = record { legal = serves (call.Line 6 (input.Ask (request.Submit (print_job (codes "GP"))))) (lit< tt) refl tt ((refl, follows (lit< tt) (lit≤ tt) tt tt refl, refl), tt) (refl, refl, refl, refl) }
+may_6 = record { legal = serves (call.Line 6 (input.Ask (request.Submit (print_job (codes "GP"))))) (lit< tt) refl tt ((refl, follows (says (lit< tt) (print_job_fits (codes "GP") Default true gp_is_name tt)) (lit< tt) (lit≤ tt) tt tt refl, refl), tt) (refl, refl, refl, refl) }
 
 may_7 : MayBeMade world_7 turn_7
 unfolding digits
-may_7 = record { legal = serves (call.Line 7 (input.Ask (request.Submit (record (print_job (codes "LPC")) { retain = Failed; restart = false })))) (lit< tt) refl tt ((refl, follows (lit< tt) (lit≤ tt) tt tt refl, refl), tt) (refl, refl, refl, refl) }
+may_7 = record { legal = serves (call.Line 7 (input.Ask (request.Submit (record (print_job (codes "LPC")) { retain = Failed; restart = false })))) (lit< tt) refl tt ((refl, follows (says (lit< tt) (print_job_fits (codes "LPC") Failed false lpc_is_name tt)) (lit< tt) (lit≤ tt) tt tt refl, refl), tt) (refl, refl, refl, refl) }
 
 may_8 : MayBeMade world_8 turn_8
 unfolding digits
@@ -219,27 +219,27 @@ may_8 = record { legal = serves (call.Line 8 (input.Fetch [])) (lit< tt) refl tt
 
 may_9 : MayBeMade world_9 turn_9
 unfolding digits
-may_9 = record { legal = serves (call.Report 1 (report.Mark (decimal 1) (record { at = 1; used = 0 }))) (lit< tt) refl tt ((refl, follows (lit< tt) (lit≤ tt) tt tt refl, refl), tt) (refl, refl, refl, refl) }
+may_9 = record { legal = serves (call.Report 1 (report.Mark (decimal 1) (record { at = 1; used = 0 }))) (lit< tt) refl tt ((refl, follows (says (lit< tt) (lit< tt, record { few = lit≤ tt; all = (lit< tt, tt) })) (lit< tt) (lit≤ tt) tt tt refl, refl), tt) (refl, refl, refl, refl) }
 
 may_10 : MayBeMade world_10 turn_10
 unfolding digits
-may_10 = record { legal = serves (call.Report 2 (report.Mark (decimal 1) (record { at = 1; used = 0 }))) (lit< tt) refl tt ((refl, follows (lit< tt) (lit≤ tt) tt tt refl, refl), tt) (refl, refl, refl, refl) }
+may_10 = record { legal = serves (call.Report 2 (report.Mark (decimal 1) (record { at = 1; used = 0 }))) (lit< tt) refl tt ((refl, follows (says (lit< tt) (lit< tt, record { few = lit≤ tt; all = (lit< tt, tt) })) (lit< tt) (lit≤ tt) tt tt refl, refl), tt) (refl, refl, refl, refl) }
 
 may_11 : MayBeMade world_11 turn_11
 unfolding digits
-may_11 = record { legal = serves (call.Report 1 (report.Mark (decimal 2) (record { at = 2; used = 0 }))) (lit< tt) refl tt ((refl, follows (lit< tt) (lit≤ tt) tt tt refl, refl), tt) (refl, refl, refl, refl) }
+may_11 = record { legal = serves (call.Report 1 (report.Mark (decimal 2) (record { at = 2; used = 0 }))) (lit< tt) refl tt ((refl, follows (says (lit< tt) (lit< tt, record { few = lit≤ tt; all = (lit< tt, tt) })) (lit< tt) (lit≤ tt) tt tt refl, refl), tt) (refl, refl, refl, refl) }
 
 may_12 : MayBeMade world_12 turn_12
 unfolding digits
-may_12 = record { legal = serves (call.Report 2 (report.Mark (decimal 2) (record { at = 2; used = 0 }))) (lit< tt) refl tt ((refl, follows (lit< tt) (lit≤ tt) tt tt refl, refl), tt) (refl, refl, refl, refl) }
+may_12 = record { legal = serves (call.Report 2 (report.Mark (decimal 2) (record { at = 2; used = 0 }))) (lit< tt) refl tt ((refl, follows (says (lit< tt) (lit< tt, record { few = lit≤ tt; all = (lit< tt, tt) })) (lit< tt) (lit≤ tt) tt tt refl, refl), tt) (refl, refl, refl, refl) }
 
 may_13 : MayBeMade world_13 turn_13
 unfolding digits
-may_13 = record { legal = serves (call.Report 1 (report.Mark (decimal 3) (record { at = 3; used = 0 }))) (lit< tt) refl tt ((refl, follows (lit< tt) (lit≤ tt) tt tt refl, refl), tt) (refl, refl, refl, refl) }
+may_13 = record { legal = serves (call.Report 1 (report.Mark (decimal 3) (record { at = 3; used = 0 }))) (lit< tt) refl tt ((refl, follows (says (lit< tt) (lit< tt, record { few = lit≤ tt; all = (lit< tt, tt) })) (lit< tt) (lit≤ tt) tt tt refl, refl), tt) (refl, refl, refl, refl) }
 
 may_14 : MayBeMade world_14 turn_14
 unfolding digits
-may_14 = record { legal = serves (call.Report 2 (report.Mark (decimal 3) (record { at = 3; used = 0 }))) (lit< tt) refl tt ((refl, follows (lit< tt) (lit≤ tt) tt tt refl, refl), tt) (refl, refl, refl, refl) }
+may_14 = record { legal = serves (call.Report 2 (report.Mark (decimal 3) (record { at = 3; used = 0 }))) (lit< tt) refl tt ((refl, follows (says (lit< tt) (lit< tt, record { few = lit≤ tt; all = (lit< tt, tt) })) (lit< tt) (lit≤ tt) tt tt refl, refl), tt) (refl, refl, refl, refl) }
 
 may_15 : MayBeMade world_15 turn_15
 unfolding digits
@@ -247,11 +247,11 @@ may_15 = record { legal = serves (call.Line 9 (input.StopNode)) (lit< tt) refl t
 
 may_16 : MayBeMade world_16 turn_16
 unfolding digits
-may_16 = record { legal = serves (call.Line 10 (input.Fetch [])) (lit< tt) refl tt (takes refl refl refl refl refl (follows (lit< tt) (lit≤ tt) refl (refl, refl, refl) refl), (tt, tt)) (refl, refl, refl, refl) }
+may_16 = record { legal = serves (call.Line 10 (input.Fetch [])) (lit< tt) refl tt (takes refl refl refl refl refl (follows (says (lit< tt) (lit< tt, a_fits, b_fits, both_fit)) (lit< tt) (lit≤ tt) refl (refl, refl, refl) refl), (tt, tt)) (refl, refl, refl, refl) }
 
 may_17 : MayBeMade world_17 turn_17
 unfolding digits
-may_17 = record { legal = serves (call.Report 3 (report.Mark (decimal 4) (record { at = 4; used = 0 }))) (lit< tt) refl tt ((refl, follows (lit< tt) (lit≤ tt) tt tt refl, refl), tt) (refl, refl, refl, refl) }
+may_17 = record { legal = serves (call.Report 3 (report.Mark (decimal 4) (record { at = 4; used = 0 }))) (lit< tt) refl tt ((refl, follows (says (lit< tt) (lit< tt, record { few = lit≤ tt; all = (lit< tt, tt) })) (lit< tt) (lit≤ tt) tt tt refl, refl), tt) (refl, refl, refl, refl) }
 
 may_18 : MayBeMade world_18 turn_18
 unfolding digits
@@ -263,15 +263,15 @@ may_19 = record { legal = serves (call.Fetch (3 ∷ [])) (lit< tt) refl tt (tt, 
 
 may_20 : MayBeMade world_20 turn_20
 unfolding digits
-may_20 = record { legal = serves (call.Report 3 (report.Mark (decimal 5) (record { at = 5; used = 0 }))) (lit< tt) refl tt ((refl, follows (lit< tt) (lit≤ tt) tt tt refl, refl), tt) (refl, refl, refl, refl) }
+may_20 = record { legal = serves (call.Report 3 (report.Mark (decimal 5) (record { at = 5; used = 0 }))) (lit< tt) refl tt ((refl, follows (says (lit< tt) (lit< tt, record { few = lit≤ tt; all = (lit< tt, tt) })) (lit< tt) (lit≤ tt) tt tt refl, refl), tt) (refl, refl, refl, refl) }
 
 may_21 : MayBeMade world_21 turn_21
 unfolding digits
-may_21 = record { legal = serves (call.Report 3 (report.Mark (decimal 6) (record { at = 6; used = 0 }))) (lit< tt) refl tt ((refl, follows (lit< tt) (lit≤ tt) tt tt refl, refl), tt) (refl, refl, refl, refl) }
+may_21 = record { legal = serves (call.Report 3 (report.Mark (decimal 6) (record { at = 6; used = 0 }))) (lit< tt) refl tt ((refl, follows (says (lit< tt) (lit< tt, record { few = lit≤ tt; all = (lit< tt, tt) })) (lit< tt) (lit≤ tt) tt tt refl, refl), tt) (refl, refl, refl, refl) }
 
 may_22 : MayBeMade world_22 turn_22
 unfolding digits
-may_22 = record { legal = serves (call.Report 3 (report.Done 1)) (lit< tt) refl tt ((refl, follows (lit< tt) (lit≤ tt) tt tt refl, refl), tt) (refl, refl, refl, refl) }
+may_22 = record { legal = serves (call.Report 3 (report.Done 1)) (lit< tt) refl tt ((refl, follows (says (lit< tt) (lit< tt, lit< tt)) (lit< tt) (lit≤ tt) tt tt refl, refl), tt) (refl, refl, refl, refl) }
 
 may_23 : MayBeMade world_23 turn_23
 unfolding digits
@@ -288,5 +288,5 @@ pub those_turns : history site calls ≡ turns
 unfolding digits
 those_turns = refl
 
-pub they_are_legal : IsLegal Any site turns
+pub they_are_legal : IsLegal site turns
 they_are_legal = all_legal site turns (may_1, (may_2, (may_3, (may_4, (may_5, (may_6, (may_7, (may_8, (may_9, (may_10, (may_11, (may_12, (may_13, (may_14, (may_15, (may_16, (may_17, (may_18, (may_19, (may_20, (may_21, (may_22, (may_23, (may_24, tt))))))))))))))))))))))))

@@ -3,18 +3,11 @@
 -- START/QUEUE/MANAGER, on its list of nodes.
 use Rattle.std.specs.Prelude.{◌≡◌, ◌<◌, ◌≤◌, ℕ, List, ◌++◌, length, map, filter, IsOk}
 use Rattle.std.specs.List.{AllByRecursion}
-use Rattle.qm_kinds.specs.declared.record.Record.{Record}
-use Rattle.qm_kinds.specs.declared.record.Body.{Body}
+use Rattle.qm_model.specs.Common.{Record, Body, Request, System, applied, IsConsistent, is_among, IsLawful, request_record, image_of}
 use Rattle.qm_kinds.specs.declared.record.Body.TheVariants as body
-use Rattle.qm_kinds.specs.declared.request.Request.{Request}
 use Rattle.qm_kinds.specs.declared.request.Request.TheVariants as request
-use Rattle.qm_kinds.specs.declared.system.System.{System}
-use Rattle.qm_model.specs.Applied.{applied}
-use Rattle.qm_model.specs.Consistent.{IsConsistent}
-use Rattle.qm_model.specs.Find.{is_among}
-use Rattle.qm_model.specs.Lawful.{IsLawful}
-use Rattle.qm_model.specs.Log.{request_record, image_of}
 use Rattle.qm_model.specs.Folding.{EachStands}
+use Rattle.qm_record.specs.Spelling.{HasSpelling}
 
 -- the names of the cluster's nodes, in its order
 abbrev pub cluster : System → List (List ℕ)
@@ -30,42 +23,39 @@ HasListsOfNodes s (request.NodeLost nodes) = IsListOfNodes s nodes
 HasListsOfNodes s (request.Took epoch gone up may) = IsListOfNodes s gone × IsListOfNodes s up × IsListOfNodes s may
 HasListsOfNodes s _ = Unit {0}
 
--- Which records have a spelling is said by the format of the queue file (HasSpelling of qm_record, which laws cite). Worked
--- cases take any record for one.
-module _ (HasSpelling : Record → Type 0) where
-  -- A request can be the next record: it is spelled, from a node of the cluster, not of an earlier moment, its names and lists
-  -- keep their rules, and it isn't refused.
-  pub record CanFollow (s : System) (moment node : ℕ) (asked : Request) : Type 0 where
-    pub spelled : HasSpelling (request_record moment node asked)
-    pub node_there : node < length s.nodes
-    pub not_earlier : s.last ≤ moment
-    pub names : IsLawful s node asked
-    pub lists : HasListsOfNodes s asked
-    pub accepted : IsOk (applied s moment node asked)
+-- A request can be the next record: it is spelled, from a node of the cluster, not of an earlier moment, its names and lists
+-- keep their rules, and it isn't refused.
+pub record CanFollow (s : System) (moment node : ℕ) (asked : Request) : Type 0 where
+  pub spelled : HasSpelling (request_record moment node asked)
+  pub node_there : node < length s.nodes
+  pub not_earlier : s.last ≤ moment
+  pub names : IsLawful s node asked
+  pub lists : HasListsOfNodes s asked
+  pub accepted : IsOk (applied s moment node asked)
 
-  -- behind an image stand requests alone
-  abbrev pub CanStandBehind : System → ℕ → ℕ → Body → Type 0
-  CanStandBehind s moment node (body.Ask asked) = CanFollow s moment node asked
-  CanStandBehind s moment node (body.Head nodes may next_entry next_run last) = ⊥
-  CanStandBehind s moment node (body.Form f) = ⊥
-  CanStandBehind s moment node (body.Characteristic c) = ⊥
-  CanStandBehind s moment node (body.File f) = ⊥
-  CanStandBehind s moment node (body.Queue q) = ⊥
-  CanStandBehind s moment node (body.Entry e) = ⊥
+-- behind an image stand requests alone
+abbrev pub CanStandBehind : System → ℕ → ℕ → Body → Type 0
+CanStandBehind s moment node (body.Ask asked) = CanFollow s moment node asked
+CanStandBehind s moment node (body.Head nodes may next_entry next_run last) = ⊥
+CanStandBehind s moment node (body.Form f) = ⊥
+CanStandBehind s moment node (body.Characteristic c) = ⊥
+CanStandBehind s moment node (body.File f) = ⊥
+CanStandBehind s moment node (body.Queue q) = ⊥
+CanStandBehind s moment node (body.Entry e) = ⊥
 
-  -- the record can be the next one
-  abbrev pub IsNext : System → Record → Type 0
-  IsNext s r = CanStandBehind s r.moment r.node r.body
+-- the record can be the next one
+abbrev pub IsNext : System → Record → Type 0
+IsNext s r = CanStandBehind s r.moment r.node r.body
 
-  -- each record is the next one of those before it
-  abbrev pub AreNext : System → List Record → Type 0
-  AreNext s records = EachStands IsNext s records
+-- each record is the next one of those before it
+abbrev pub AreNext : System → List Record → Type 0
+AreNext s records = EachStands IsNext s records
 
-  -- the rows of the image of a consistent system, and then requests
-  pub record IsAccepted (log : List Record) : Type 0 where
-    pub image : System
-    pub requests : List Record
-    pub consistent : IsConsistent image
-    pub spelled : AllByRecursion HasSpelling (image_of image)
-    pub whole : log ≡ image_of image ++ requests
-    pub next : AreNext image requests
+-- the rows of the image of a consistent system, and then requests
+pub record IsAccepted (log : List Record) : Type 0 where
+  pub image : System
+  pub requests : List Record
+  pub consistent : IsConsistent image
+  pub spelled : AllByRecursion HasSpelling (image_of image)
+  pub whole : log ≡ image_of image ++ requests
+  pub next : AreNext image requests

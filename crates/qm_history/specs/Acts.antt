@@ -1,16 +1,11 @@
 -- What the acts at the site ask for: every word.
 -- OpenVMS System Services Reference Manual, $SNDJBC, on checkpoints and ends of jobs. This site's own: the words and their form.
-use Rattle.std.specs.Prelude.{ℕ, nat_le, ◌+◌, ◌-◌, ◌*◌, ◌&&◌, if◌then◌else◌, List, [], ◌∷◌, length, codes, Option, None, Some}
-use Rattle.std.specs.Option.{option_map, option_and_then}
-use Rattle.std.specs.Str.{bytes_eq}
-use Rattle.qm_kinds.specs.Files.{file_name_of}
-use Rattle.qm_kinds.specs.declared.file.FileName.{FileName}
-use Rattle.qm_kinds.specs.declared.input.Input.{Input}
+use Rattle.std.specs.Prelude.{ℕ, nat_le, ◌+◌, ◌-◌, ◌*◌, ◌&&◌, if◌then◌else◌, List, [], ◌∷◌, length, codes, Option, None, Some, option_map, option_and_then, bytes_eq}
+use Rattle.qm_model.specs.Common.{file_name_of, FileName, Input, cut_at_blank}
 use Rattle.qm_kinds.specs.declared.input.Input.TheVariants as input
 use Rattle.qm_kinds.specs.declared.refusal.ParseKind.TheVariants as parse
 use Rattle.qm_kinds.specs.declared.request.Request.TheVariants as request
 use Rattle.qm_model.specs.Script.{act_of, is_act_word, steps_in}
-use Rattle.qm_model.specs.Texts.{cut_at_blank}
 
 -- what has none of the forms
 abbrev pub malformed : Input

@@ -2,18 +2,10 @@
 -- OpenVMS System Manager's Manual, Setting Up and Maintaining Queues, on jobs that restart; DCL Dictionary, STOP/QUEUE/REQUEUE.
 use Rattle.std.specs.Prelude.{◌≡◌, ℕ, ◌==◌, Bool, true, false, ◌&&◌, List, Option, None, Some}
 use Rattle.std.specs.List.{AllByRecursion}
-use Rattle.qm_kinds.specs.declared.entry.Entry.{Entry}
-use Rattle.qm_kinds.specs.declared.entry.EntryState.{EntryState}
+use Rattle.qm_model.specs.Common.{Entry, EntryState, Fate, Request, System, at_moment, due, is_among, fate_of}
 use Rattle.qm_kinds.specs.declared.entry.EntryState.TheVariants as state
-use Rattle.qm_kinds.specs.declared.entry.Fate.{Fate}
 use Rattle.qm_kinds.specs.declared.entry.Fate.TheVariants as fate
-use Rattle.qm_kinds.specs.declared.request.Request.{Request}
 use Rattle.qm_kinds.specs.declared.request.Request.TheVariants as request
-use Rattle.qm_kinds.specs.declared.system.System.{System}
-use Rattle.qm_model.specs.Applied.{at_moment}
-use Rattle.qm_model.specs.Due.{due}
-use Rattle.qm_model.specs.Find.{is_among}
-use Rattle.qm_model.specs.JobStates.{fate_of}
 use Rattle.qm_history.specs.Marks.{reporting}
 
 -- each entry of the number is one that runs again

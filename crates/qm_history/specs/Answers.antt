@@ -1,20 +1,10 @@
 -- What the call of a turn is answered.
 -- OpenVMS System Services Reference Manual, $SNDJBC and $GETQUI, on what a call returns.
 use Rattle.std.specs.Prelude.{ℕ, List, [], ◌∷◌, Option, None, Some, Result, Ok, Err, unwrap_or}
-use Rattle.qm_kinds.specs.declared.input.Input.{Input}
+use Rattle.qm_model.specs.Common.{Input, Row, Refusal, Act, Reply, Start, applied, duties, Accepted, view, node_at, system_of}
 use Rattle.qm_kinds.specs.declared.input.Input.TheVariants as input
-use Rattle.qm_kinds.specs.declared.query.Row.{Row}
-use Rattle.qm_kinds.specs.declared.refusal.Refusal.{Refusal}
-use Rattle.qm_kinds.specs.declared.reply.Act.{Act}
 use Rattle.qm_kinds.specs.declared.reply.Act.TheVariants as act
-use Rattle.qm_kinds.specs.declared.reply.Reply.{Reply}
 use Rattle.qm_kinds.specs.declared.request.Request.TheVariants as request
-use Rattle.qm_kinds.specs.declared.run.Start.{Start}
-use Rattle.qm_model.specs.Applied.{applied}
-use Rattle.qm_model.specs.Duties.{duties}
-use Rattle.qm_model.specs.Outcome.{Accepted}
-use Rattle.qm_model.specs.Rows.{view}
-use Rattle.qm_model.specs.Standing.{node_at}
 use Rattle.qm_history.specs.declared.call.Answer.{Answer}
 use Rattle.qm_history.specs.declared.call.Answer.TheVariants as answer
 use Rattle.qm_history.specs.declared.call.Takeover.{Takeover}
@@ -24,7 +14,6 @@ use Rattle.qm_history.specs.declared.turn.Turn.{Turn}
 use Rattle.qm_history.specs.declared.turn.Why.{Why}
 use Rattle.qm_history.specs.declared.turn.Why.TheVariants as why
 use Rattle.qm_history.specs.declared.world.World.{World}
-use Rattle.qm_model.specs.Folding.{system_of}
 use Rattle.qm_history.specs.Step.{after_event}
 use Rattle.qm_history.specs.World.{system_in, is_live, log_read, role_in}
 

@@ -1,11 +1,9 @@
 -- What nodes may ask for.
 -- OpenVMS User's Manual, on entering commands. This site's own: the acts, and that a compaction isn't built.
 use Rattle.std.specs.Prelude.{◌≡◌, ◌<◌, ◌^◌, true, length}
-use Rattle.qm_kinds.specs.declared.input.Input.{Input}
+use Rattle.qm_model.specs.Common.{Input, Request, is_built}
 use Rattle.qm_kinds.specs.declared.input.Input.TheVariants as input
-use Rattle.qm_kinds.specs.declared.request.Request.{Request}
 use Rattle.qm_kinds.specs.declared.request.Request.TheVariants as request
-use Rattle.qm_model.specs.Built.{is_built}
 use Rattle.qm_record.specs.Spelling.{IsShortChange, IsShortEntryChange, IsShortQueue}
 
 -- the lists of a request that is accepted are short enough for its record

@@ -2,20 +2,13 @@
 -- OpenVMS System Manager's Manual, Setting Up and Maintaining Queues, on jobs that restart at a checkpoint.
 use Rattle.std.specs.Prelude.{◌≡◌, ◌⊎◌, ℕ, ◌<◌, ◌≤◌, ◌==◌, Bool, ◌&&◌, if◌then◌else◌, List, [], ◌∷◌, ◌++◌, find, take, drop, slice_get, Option, None, Some, Contains}
 use Rattle.std.specs.List.{AllByRecursion}
-use Rattle.qm_kinds.specs.declared.entry.Entry.{Entry}
+use Rattle.qm_model.specs.Common.{Entry, System, Duty, Work, run_number, work_of, page_blocks, begin, course, blocks_before_report, KeptRun, StepEnd, WentOn, DeviceFailed, CutShort, report_told}
 use Rattle.qm_kinds.specs.declared.entry.JobKind.TheVariants.{Print}
-use Rattle.qm_kinds.specs.declared.system.System.{System}
-use Rattle.qm_kinds.specs.declared.work.Duty.{Duty}
 use Rattle.qm_kinds.specs.declared.work.Report.TheVariants as report
-use Rattle.qm_kinds.specs.declared.work.Work.{Work}
-use Rattle.qm_model.specs.Duties.{run_number, work_of}
-use Rattle.qm_model.specs.Pages.{page_blocks}
-use Rattle.qm_model.specs.Reports.{begin, course, blocks_before_report}
 use Rattle.qm_history.specs.declared.call.Answer.{Answer}
 use Rattle.qm_history.specs.declared.call.Answer.TheVariants as answer
 use Rattle.qm_history.specs.declared.event.Event.{Event}
 use Rattle.qm_history.specs.declared.world.World.{World}
-use Rattle.qm_model.specs.Kept.{KeptRun, StepEnd, WentOn, DeviceFailed, CutShort, report_told}
 use Rattle.qm_history.specs.Course.{MadeStep, answered}
 use Rattle.qm_history.specs.Step.{after_event}
 use Rattle.qm_history.specs.Visits.{Visit}

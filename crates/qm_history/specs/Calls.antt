@@ -1,11 +1,9 @@
 -- What a call asks for, and why its turn is made.
 -- OpenVMS System Services Reference Manual, $SNDJBC, on what symbionts and users ask for. This site's own: that a node leaves.
 use Rattle.std.specs.Prelude.{ℕ, Bool, true, false}
-use Rattle.qm_kinds.specs.declared.input.Input.{Input}
+use Rattle.qm_model.specs.Common.{Input, Request, Report}
 use Rattle.qm_kinds.specs.declared.input.Input.TheVariants as input
-use Rattle.qm_kinds.specs.declared.request.Request.{Request}
 use Rattle.qm_kinds.specs.declared.request.Request.TheVariants as request
-use Rattle.qm_kinds.specs.declared.work.Report.{Report}
 use Rattle.qm_kinds.specs.declared.work.Report.TheVariants as report
 use Rattle.qm_history.specs.declared.call.Call.{Call}
 use Rattle.qm_history.specs.declared.call.Call.TheVariants as call

@@ -1,11 +1,9 @@
 -- What the value stands for on which the nodes work in turns: its own turns behind the world with which it began.
 -- OpenVMS System Manager's Manual, Managing the Queue Manager and Queue Database, on the queue manager process and its files.
 -- This site's own: one value with the files and the image, and the notes of its turns.
-use Rattle.std.specs.Prelude.{◌≡◌, ◌≢◌, ◌⊎◌, ℕ, ◌+◌, ◌-◌, ◌^◌, ◌<◌, ◌≤◌, min, Bool, true, false, List, [], ◌∷◌, ◌++◌, length, filter_map, count_by, ◌&&◌, is_some, Option, None, Some, IsTrue, IsNone}
-use Rattle.std.specs.Option.{option_map}
+use Rattle.std.specs.Prelude.{◌≡◌, ◌≢◌, ◌⊎◌, ℕ, ◌+◌, ◌-◌, ◌^◌, ◌<◌, ◌≤◌, min, Bool, true, false, List, [], ◌∷◌, ◌++◌, length, filter_map, count_by, ◌&&◌, is_some, Option, None, Some, IsTrue, IsNone, option_map}
 use Rattle.qm_disk.specs.Disk.{CrashState, Meaning, LeavesOnly, OnlyLooks, TellsFaults}
-use Rattle.qm_kinds.specs.declared.record.Record.{Record}
-use Rattle.qm_kinds.specs.declared.system.System.{System}
+use Rattle.qm_model.specs.Common.{Record, System}
 use Rattle.qm_history.specs.declared.call.Answer.{Answer}
 use Rattle.qm_history.specs.declared.call.Answer.TheVariants as answer
 use Rattle.qm_history.specs.declared.call.Call.{Call}
@@ -101,43 +99,40 @@ abbrev pub LeavesTurn : List Turn → Option Turn → Answer → Type 0
 LeavesTurn turns None told = MayLeaveNone turns told
 LeavesTurn turns (Some t) told = told ≢ answer.HistoryFull
 
-module _ (HasSpelling : Record → Type 0) where
-  -- Each noted turn is one of the call that is noted with it.
-  abbrev pub IsNoted : World → Call → Option Turn → (World → Type 0) → Type 0
-  IsNoted w asked None Rest = Rest w
-  IsNoted w asked (Some t) Rest = (IsTurnOf HasSpelling w asked t ⊎ IsCutShort HasSpelling w asked t) × Rest (after_turn w t)
+-- Each noted turn is one of the call that is noted with it.
+abbrev pub IsNoted : World → Call → Option Turn → (World → Type 0) → Type 0
+IsNoted w asked None Rest = Rest w
+IsNoted w asked (Some t) Rest = (IsTurnOf w asked t ⊎ IsCutShort w asked t) × Rest (after_turn w t)
 
-  abbrev pub AreNoted : World → List Note → Type 0
-  AreNoted w [] = Unit {0}
-  AreNoted w (n ∷ notes) = IsNoted w n.asked n.turn (λ after. AreNoted after notes)
+abbrev pub AreNoted : World → List Note → Type 0
+AreNoted w [] = Unit {0}
+AreNoted w (n ∷ notes) = IsNoted w n.asked n.turn (λ after. AreNoted after notes)
 
-module _ (record_text : Record → List ℕ) (HasSpelling : Record → Type 0) where
-  -- Each noted turn up to the first one in which a disk failed, that one too, tells of room what is so of its noted call.
-  abbrev pub IsNotedInRoom : World → Room → Call → Option Turn → (World → Room → Type 0) → Type 0
-  IsNotedInRoom w room asked None Rest = Rest w room
-  IsNotedInRoom w room asked (Some t) Rest =
-      IsRoomTold record_text w room asked t
-      × UnlessFailed record_text HasSpelling (tells_disk_fault t.events) (Rest (after_turn w t) (room_after_events record_text w room t.events))
+-- Each noted turn up to the first one in which a disk failed, that one too, tells of room what is so of its noted call.
+abbrev pub IsNotedInRoom : World → Room → Call → Option Turn → (World → Room → Type 0) → Type 0
+IsNotedInRoom w room asked None Rest = Rest w room
+IsNotedInRoom w room asked (Some t) Rest =
+    IsRoomTold w room asked t
+    × UnlessFailed (tells_disk_fault t.events) (Rest (after_turn w t) (room_after_events w room t.events))
 
-  abbrev pub AreRoomTold : World → Room → List Note → Type 0
-  AreRoomTold w room [] = Unit {0}
-  AreRoomTold w room (n ∷ notes) = IsNotedInRoom w room n.asked n.turn (λ after room. AreRoomTold after room notes)
+abbrev pub AreRoomTold : World → Room → List Note → Type 0
+AreRoomTold w room [] = Unit {0}
+AreRoomTold w room (n ∷ notes) = IsNotedInRoom w room n.asked n.turn (λ after room. AreRoomTold after room notes)
 
--- what is said of a file as a log, and how records are spelled
-module _ (IsLog : List ℕ → List (List ℕ) → Type 0) (HasSpelling : Record → Type 0) (record_text : Record → List ℕ) {D : Type 0} (m : Meaning D) where
+module _ {D : Type 0} (m : Meaning D) where
   -- The chest began in this world, on disks that hold it. Each of its turns is one of the call that is noted with it, and tells
   -- of room what is so of that call. Behind them it stands for the world that they leave: in memory, on the disks, and at each
   -- moment since it began in what a crash leaves.
   pub record StandsFor (w : World) (began : D) (c : Chest D) (notes : List Note) : Type 0 where
-    pub starts : Starts IsLog HasSpelling record_text (m.seen began) w
+    pub starts : Starts (m.seen began) w
     -- so early that all turns that can be kept find epochs that a master can hold
     pub early : starts.says.epoch < 2 ^ 61
-    pub noted : AreNoted HasSpelling w notes
-    pub room : AreRoomTold record_text HasSpelling w (room_in record_text starts.says starts.hold.masters starts.records) notes
+    pub noted : AreNoted w notes
+    pub room : AreRoomTold w (room_in starts.says starts.hold.masters starts.records) notes
     pub caps : AreAboveCap starts.says.cap c.turns
     pub tells : TellsWorld (after_turns w c.turns) c
-    pub keeps : Keeps IsLog HasSpelling record_text m (after_turns w c.turns) c.disk
-    pub moments : LeavesOnly m began c.disk (λ crashed. HoldIn IsLog HasSpelling record_text crashed w c.turns)
+    pub keeps : Keeps m (after_turns w c.turns) c.disk
+    pub moments : LeavesOnly m began c.disk (λ crashed. HoldIn crashed w c.turns)
 
   -- What holds of the chest and the notes of the turns that it was handed in: that is what a turnstile keeps between two turns.
   -- Of disks that don't tell their contents nothing is known but how many calls failed.
@@ -151,26 +146,25 @@ module _ (IsLog : List ℕ → List (List ℕ) → Type 0) (HasSpelling : Record
   -- how far the later files reach, by how far the earlier ones did
   abbrev pub Grow : CrashState → CrashState → (Room → Room) → Type 0
   Grow before after grown =
-      (said says : MasterState) (old new : List Record) → (was : HoldRecords IsLog HasSpelling record_text before said old)
-      → (is : HoldRecords IsLog HasSpelling record_text after says new)
-      → room_in record_text says is.masters new ≡ grown (room_in record_text said was.masters old)
+      (said says : MasterState) (old new : List Record) → (was : HoldRecords before said old)
+      → (is : HoldRecords after says new) → room_in says is.masters new ≡ grown (room_in said was.masters old)
 
   -- A call that left a turn: the turn is one of the call, with this answer, and no file is damaged; at each moment a crash leaves
   -- what it may within the turn; where the turn writes nothing, the files are as they were; and where no disk failed in it, they
   -- then reach as far as its events tell.
   pub record AddsTurn (w : World) (old new : D) (asked : Call) (t : Turn) (told : Answer) : Type 0 where
-    pub answers : MayAnswer HasSpelling w asked t told
+    pub answers : MayAnswer w asked t told
     pub undamaged : (file place : ℕ) → told ≡ answer.Damaged file place → ⊥
-    pub moments : LeavesOnly m old new (λ crashed. HoldWithin IsLog HasSpelling record_text crashed w t)
+    pub moments : LeavesOnly m old new (λ crashed. HoldWithin crashed w t)
     pub files : LeavesFiles m (are_without_write t.events) old new
-    pub compacts : CompactsFiles IsLog HasSpelling record_text m (after_turn w t) old new (compacted_by t.events)
-    pub reaches : tells_disk_fault t.events ≡ false → Grow (m.seen old) (m.seen new) (λ room. room_after_events record_text w room t.events)
+    pub compacts : CompactsFiles m (after_turn w t) old new (compacted_by t.events)
+    pub reaches : tells_disk_fault t.events ≡ false → Grow (m.seen old) (m.seen new) (λ room. room_after_events w room t.events)
 
   -- a call that left none: at each moment a crash leaves what it might before, the files reach no further, and where no more
   -- turns are kept nothing is written
   pub record AddsNone (w : World) (old new : D) (told : Answer) : Type 0 where
     pub files : told ≡ answer.HistoryFull → OnlyLooks m old new
-    pub moments : LeavesOnly m old new (λ crashed. HoldWorld IsLog HasSpelling record_text crashed w)
+    pub moments : LeavesOnly m old new (λ crashed. HoldWorld crashed w)
     pub reaches : Grow (m.seen old) (m.seen new) (λ room. room)
 
   abbrev pub Adds : World → D → D → Call → Option Turn → Answer → Type 0
@@ -181,8 +175,8 @@ module _ (IsLog : List ℕ → List (List ℕ) → Type 0) (HasSpelling : Record
   abbrev pub TellsRoom : World → CrashState → Call → Option Turn → Type 0
   TellsRoom w files asked None = Unit {0}
   TellsRoom w files asked (Some t) =
-      (says : MasterState) (records : List Record) → (h : HoldRecords IsLog HasSpelling record_text files says records)
-      → IsRoomTold record_text w (room_in record_text says h.masters records) asked t
+      (says : MasterState) (records : List Record) → (h : HoldRecords files says records)
+      → IsRoomTold w (room_in says h.masters records) asked t
 
   -- What the noted call of this node, with this reading, does to a chest that stands for a world and these notes, where it
   -- keeps the rules: the turn is of that node, reading and call, or there is none for a reason; the answer tells of a disk that

@@ -3,20 +3,11 @@
 -- which queue file holds a compaction, for which the first stands here.
 use Rattle.std.specs.Prelude.{◌≡◌, ℕ, ◌+◌, Bool, true, false, is_none, ◌||◌, not, List, [], ◌∷◌, Option, None, Some, Result, Ok, Err, unwrap_or, IfSome}
 use Rattle.std.specs.List.{AllByRecursion}
-use Rattle.qm_kinds.specs.declared.input.Input.{Input}
+use Rattle.qm_model.specs.Common.{Input, Query, Row, Refusal, Request, System, applied, IsLawful, Accepted, view, acting, system_of}
 use Rattle.qm_kinds.specs.declared.input.Input.TheVariants as input
-use Rattle.qm_kinds.specs.declared.query.Query.{Query}
-use Rattle.qm_kinds.specs.declared.query.Row.{Row}
-use Rattle.qm_kinds.specs.declared.record.Record.{Record}
-use Rattle.qm_kinds.specs.declared.refusal.Refusal.{Refusal}
 use Rattle.qm_kinds.specs.declared.refusal.Refusal.TheVariants as refused
-use Rattle.qm_kinds.specs.declared.request.Request.{Request}
 use Rattle.qm_kinds.specs.declared.request.Request.TheVariants as request
-use Rattle.qm_kinds.specs.declared.system.System.{System}
-use Rattle.qm_model.specs.Applied.{applied}
-use Rattle.qm_model.specs.Lawful.{IsLawful}
-use Rattle.qm_model.specs.Outcome.{Accepted}
-use Rattle.qm_model.specs.Rows.{view}
+use Rattle.qm_record.specs.Spelling.{HasSpelling}
 use Rattle.qm_history.specs.declared.call.Call.{Call}
 use Rattle.qm_history.specs.declared.call.Call.TheVariants as call
 use Rattle.qm_history.specs.declared.event.Event.{Event}
@@ -24,8 +15,6 @@ use Rattle.qm_history.specs.declared.event.Event.TheVariants as event
 use Rattle.qm_history.specs.declared.turn.Turn.{Turn}
 use Rattle.qm_history.specs.declared.world.World.{World}
 use Rattle.qm_history.specs.Calls.{input_of, why_of}
-use Rattle.qm_model.specs.Acting.{acting}
-use Rattle.qm_model.specs.Folding.{system_of}
 use Rattle.qm_history.specs.Records.{record_of}
 use Rattle.qm_history.specs.Step.{after_event}
 use Rattle.qm_history.specs.Takeover.{takes_over, nodes_on, may_after, is_named}
@@ -133,8 +122,8 @@ IsLawfulInput s node (input.Ask asked) = IsLawful s node asked
 IsLawfulInput s node asked = Unit {0}
 
 -- what the events record has a spelling
-abbrev pub AreSpelled : (Record → Type 0) → List Event → Type 0
-AreSpelled HasSpelling events = AllByRecursion (λ (e : Event). IfSome (record_of e) HasSpelling) events
+abbrev pub AreSpelled : List Event → Type 0
+AreSpelled events = AllByRecursion (λ (e : Event). IfSome (record_of e) HasSpelling) events
 
 -- what is told of a world alone, and neither of a disk, nor of room, nor of a queue file
 abbrev pub is_determined : Event → Bool

@@ -4,7 +4,7 @@
 use Rattle.std.specs.Prelude.{◌≡◌, ◌≢◌, ℕ, ◌≤◌, Bool, true, false, List, [], ◌∷◌, Option, None, Some}
 use Rattle.std.specs.List.{list_all, AllByRecursion}
 use Rattle.qm_disk.specs.Disk.{CrashState, Meaning, IsLeft, OnlyLooks}
-use Rattle.qm_kinds.specs.declared.record.Record.{Record}
+use Rattle.qm_model.specs.Common.{Record, image_of}
 use Rattle.qm_history.specs.declared.event.Event.{Event}
 use Rattle.qm_history.specs.declared.event.Event.TheVariants as event
 use Rattle.qm_history.specs.declared.turn.Turn.{Turn}
@@ -12,7 +12,6 @@ use Rattle.qm_history.specs.declared.world.Role.{Role}
 use Rattle.qm_history.specs.declared.world.World.{World}
 use Rattle.qm_history.specs.Leaving.{MayBeLeft, MayBeLeftBehind, MayBeLeftIn}
 use Rattle.qm_history.specs.Master.{MasterState}
-use Rattle.qm_model.specs.Log.{image_of}
 use Rattle.qm_history.specs.Start.{Hold, HoldRecords}
 use Rattle.qm_history.specs.World.{system_in}
 
@@ -58,47 +57,45 @@ abbrev pub LeavesFiles : {D : Type 0} → Meaning D → Bool → D → D → Typ
 LeavesFiles m true old new = OnlyLooks m old new
 LeavesFiles m false old new = Unit {0}
 
--- what is said of a file as a log, and how records are spelled
-module _ (IsLog : List ℕ → List (List ℕ) → Type 0) (HasSpelling : Record → Type 0) (record_text : Record → List ℕ) where
-  -- the files hold a log that a crash may leave behind these turns, and their master tells the epoch
-  pub record HoldWorld (files : CrashState) (w : World) : Type 0 where
-    pub log : List Record
-    pub left : MayBeLeftBehind w log
-    pub holds : Hold IsLog HasSpelling record_text files log
-    pub epoch : IsEpochOf w w.manager holds.says.epoch
-    -- each epoch that a node holds is in the master
-    pub recorded : AllByRecursion (λ (held : ℕ). held ≤ holds.says.epoch) w.held
+-- the files hold a log that a crash may leave behind these turns, and their master tells the epoch
+pub record HoldWorld (files : CrashState) (w : World) : Type 0 where
+  pub log : List Record
+  pub left : MayBeLeftBehind w log
+  pub holds : Hold files log
+  pub epoch : IsEpochOf w w.manager holds.says.epoch
+  -- each epoch that a node holds is in the master
+  pub recorded : AllByRecursion (λ (held : ℕ). held ≤ holds.says.epoch) w.held
 
-  -- the files hold what a crash within this turn may leave
-  pub record HoldWithin (files : CrashState) (w : World) (t : Turn) : Type 0 where
-    pub log : List Record
-    pub left : MayBeLeft w t log
-    pub holds : Hold IsLog HasSpelling record_text files log
-    pub recorded : AllByRecursion (λ (held : ℕ). held ≤ holds.says.epoch) w.held
+-- the files hold what a crash within this turn may leave
+pub record HoldWithin (files : CrashState) (w : World) (t : Turn) : Type 0 where
+  pub log : List Record
+  pub left : MayBeLeft w t log
+  pub holds : Hold files log
+  pub recorded : AllByRecursion (λ (held : ℕ). held ≤ holds.says.epoch) w.held
 
-  -- the files hold what a crash at some moment of these turns may leave
-  pub record HoldIn (files : CrashState) (w : World) (turns : List Turn) : Type 0 where
-    pub log : List Record
-    pub left : MayBeLeftIn w turns log
-    pub holds : Hold IsLog HasSpelling record_text files log
+-- the files hold what a crash at some moment of these turns may leave
+pub record HoldIn (files : CrashState) (w : World) (turns : List Turn) : Type 0 where
+  pub log : List Record
+  pub left : MayBeLeftIn w turns log
+  pub holds : Hold files log
 
-  -- A compaction has made this file the live one, which wasn't before, and it holds the rows of the system alone.
-  pub record Compacts (before after : CrashState) (file : ℕ) (w : World) : Type 0 where
-    pub said : MasterState
-    pub says : MasterState
-    pub old : List Record
-    pub was : HoldRecords IsLog HasSpelling record_text before said old
-    pub is : HoldRecords IsLog HasSpelling record_text after says (image_of (system_in w))
-    pub live : says.live ≡ file
-    pub other : file ≢ said.live
+-- A compaction has made this file the live one, which wasn't before, and it holds the rows of the system alone.
+pub record Compacts (before after : CrashState) (file : ℕ) (w : World) : Type 0 where
+  pub said : MasterState
+  pub says : MasterState
+  pub old : List Record
+  pub was : HoldRecords before said old
+  pub is : HoldRecords after says (image_of (system_in w))
+  pub live : says.live ≡ file
+  pub other : file ≢ said.live
 
-  module _ {D : Type 0} (m : Meaning D) where
-    -- what the disks read as, and each crash state, is the world's; so what was acknowledged is there
-    pub record Keeps (w : World) (disk : D) : Type 0 where
-      pub reads : HoldWorld (m.seen disk) w
-      pub crash : (crashed : CrashState) → IsLeft (m.may_leave disk) crashed → HoldWorld crashed w
+module _ {D : Type 0} (m : Meaning D) where
+  -- what the disks read as, and each crash state, is the world's; so what was acknowledged is there
+  pub record Keeps (w : World) (disk : D) : Type 0 where
+    pub reads : HoldWorld (m.seen disk) w
+    pub crash : (crashed : CrashState) → IsLeft (m.may_leave disk) crashed → HoldWorld crashed w
 
-    -- a turn that compacts leaves the image in the other file
-    abbrev pub CompactsFiles : World → D → D → Option ℕ → Type 0
-    CompactsFiles w old new None = Unit {0}
-    CompactsFiles w old new (Some file) = Compacts (m.seen old) (m.seen new) file w
+  -- a turn that compacts leaves the image in the other file
+  abbrev pub CompactsFiles : World → D → D → Option ℕ → Type 0
+  CompactsFiles w old new None = Unit {0}
+  CompactsFiles w old new (Some file) = Compacts (m.seen old) (m.seen new) file w

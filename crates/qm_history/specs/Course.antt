@@ -3,12 +3,9 @@
 -- OpenVMS System Manager's Manual, Setting Up and Maintaining Queues, on symbionts. This site's own: STEP, and that a node
 -- goes on until nothing is left to do.
 use Rattle.std.specs.Prelude.{◌≡◌, ◌⊎◌, ◌≤◌, ℕ, zero, suc, Bool, true, false, List, [], ◌∷◌, ◌++◌, length, count_by, Option, None, Some}
-use Rattle.qm_kinds.specs.declared.input.Input.{Input}
-use Rattle.qm_kinds.specs.declared.record.Record.{Record}
+use Rattle.qm_model.specs.Common.{Input, Act, Report}
 use Rattle.qm_kinds.specs.declared.refusal.Refusal.TheVariants as refused
-use Rattle.qm_kinds.specs.declared.reply.Act.{Act}
 use Rattle.qm_kinds.specs.declared.reply.Act.TheVariants as act
-use Rattle.qm_kinds.specs.declared.work.Report.{Report}
 use Rattle.qm_model.specs.Kept.{KeptRun, KeptRuns, StepEnd, WentOn, DeviceFailed, CutShort, IsEndOf, kept_behind, known, no_runs, report_told, run_kept, with_duties, without_steps}
 use Rattle.qm_history.specs.declared.call.Answer.{Answer}
 use Rattle.qm_history.specs.declared.call.Answer.TheVariants as answer
@@ -175,11 +172,11 @@ IsStepOf n run m = (run_kept run n.kept.runs ≡ Some m.run) × IsEndOf m.run.ab
 
 -- How a line is read is said where commands and item lists are: by its text and its user, the moment that the clock told, the
 -- node's turns before it, which tell what listings it has begun, and, for STEP, the runs that it keeps.
-module _ (HasSpelling : Record → Type 0) (read : UserLine → ℕ → List Visit → List ℕ → Input) where
+module _ (read : UserLine → ℕ → List Visit → List ℕ → Input) where
   -- the turn served this call whole; or it is the last one of a course that was only begun, and was cut short
   abbrev pub ServesOrEnds : Extent → World → Call → Turn → List Visit → Type 0
-  ServesOrEnds Whole w asked t others = IsTurnOf HasSpelling w asked t
-  ServesOrEnds Begun w asked t others = IsTurnOf HasSpelling w asked t ⊎ (IsCutShort HasSpelling w asked t × (others ≡ []))
+  ServesOrEnds Whole w asked t others = IsTurnOf w asked t
+  ServesOrEnds Begun w asked t others = IsTurnOf w asked t ⊎ (IsCutShort w asked t × (others ≡ []))
 
   -- the call of a line
   abbrev pub call_of_line : NodeState → List Visit → UserLine → Turn → Call

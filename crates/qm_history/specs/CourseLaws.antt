@@ -1,23 +1,12 @@
 -- What the laws say of turns and their answers, of texts, of courses of nodes, and of the blocks that their steps hand over.
 -- This site's own: all of it.
-use Rattle.std.specs.Prelude.{◌≡◌, ◌≢◌, ◌⊎◌, ◌<◌, ◌≤◌, ℕ, Bool, true, false, List, [], ◌∷◌, ◌++◌, length, slice_get, is_some, Option, Some, codes, None}
+use Rattle.std.specs.Prelude.{◌≡◌, ◌≢◌, ◌⊎◌, ◌<◌, ◌≤◌, ℕ, Bool, true, false, List, [], ◌∷◌, ◌++◌, length, slice_get, is_some, Option, Some, codes, None, bytes_eq}
 use Rattle.std.specs.List.{AllByRecursion}
-use Rattle.std.specs.Str.{bytes_eq}
 use Rattle.qm_kinds.specs.declared.entry.JobKind.TheVariants.{Print}
-use Rattle.qm_kinds.specs.declared.input.Input.{Input}
-use Rattle.qm_kinds.specs.declared.input.Input.TheVariants.{Fetch}
-use Rattle.qm_kinds.specs.declared.query.Row.{Row}
-use Rattle.qm_kinds.specs.declared.record.Record.{Record}
+use Rattle.qm_model.specs.Common.{Input, Fetch, Row, Work, normal_status, KeptRun, WentOn, report_told, page_blocks, node_at, cut_at_blank, system_user}
 use Rattle.qm_kinds.specs.declared.work.Report.TheVariants.{Done}
-use Rattle.qm_kinds.specs.declared.work.Work.{Work}
-use Rattle.qm_model.specs.Batch.{normal_status}
-use Rattle.qm_model.specs.Kept.{KeptRun, WentOn, report_told}
-use Rattle.qm_model.specs.Pages.{page_blocks}
 use Rattle.qm_model.specs.Reports.{begin, next_block}
 use Rattle.qm_model.specs.Script as served
-use Rattle.qm_model.specs.Standing.{node_at}
-use Rattle.qm_model.specs.Texts.{cut_at_blank}
-use Rattle.qm_dcl.specs.Lines as line
 use Rattle.qm_history.specs.declared.call.Answer.{Answer}
 use Rattle.qm_history.specs.declared.call.Call.{Call}
 use Rattle.qm_history.specs.declared.event.Event.TheVariants as event
@@ -92,72 +81,69 @@ VisitsFollow w before behind = visits w (before ++ behind) ≡ visits w before +
 abbrev pub IsComputed : World → Call → Turn → Type 0
 IsComputed w asked t = t ≡ turn_of w t.node t.moment (told_by t.events) asked
 
-module _ (HasSpelling : Record → Type 0) where
-  -- this holds of each turn by which a call may be answered something
-  abbrev pub OfAnsweredTurns : (World → Turn → Type 0) → Type 0
-  OfAnsweredTurns Holds = (w : World) (asked : Call) (t : Turn) (told : Answer) → MayAnswer HasSpelling w asked t told → Holds w t
+-- this holds of each turn by which a call may be answered something
+abbrev pub OfAnsweredTurns : (World → Turn → Type 0) → Type 0
+OfAnsweredTurns Holds = (w : World) (asked : Call) (t : Turn) (told : Answer) → MayAnswer w asked t told → Holds w t
 
-  -- this holds of the turns of TICK and COMPACT, served whole or cut short, of a node that holds another epoch than the manager's
-  abbrev pub OfOtherEpochs : (World → Turn → Role → Type 0) → Type 0
-  OfOtherEpochs Holds =
-      (w : World) (asked : Call) (t : Turn) (role : Role) → w.manager ≡ Some role → held_by w t.node ≢ role.epoch
-      → IsForManager (input_of asked) → IsTurnOf HasSpelling w asked t ⊎ IsCutShort HasSpelling w asked t → Holds w t role
+-- this holds of the turns of TICK and COMPACT, served whole or cut short, of a node that holds another epoch than the manager's
+abbrev pub OfOtherEpochs : (World → Turn → Role → Type 0) → Type 0
+OfOtherEpochs Holds =
+    (w : World) (asked : Call) (t : Turn) (role : Role) → w.manager ≡ Some role → held_by w t.node ≢ role.epoch
+    → IsForManager (input_of asked) → IsTurnOf w asked t ⊎ IsCutShort w asked t → Holds w t role
 
-  -- the history stays legal without the turn
-  abbrev pub StaysLegalWithout : World → List Turn → Turn → List Turn → Type 0
-  StaysLegalWithout w before t behind = IsLegal HasSpelling w (before ++ t ∷ behind) → IsLegal HasSpelling w (before ++ behind)
+-- the history stays legal without the turn
+abbrev pub StaysLegalWithout : World → List Turn → Turn → List Turn → Type 0
+StaysLegalWithout w before t behind = IsLegal w (before ++ t ∷ behind) → IsLegal w (before ++ behind)
 
-  -- the history stays legal with the turn, where that is legal there
-  abbrev pub StaysLegalWith : World → List Turn → Turn → List Turn → Type 0
-  StaysLegalWith w before t behind =
-      IsLegalTurn HasSpelling (after_turns w before) t → IsLegal HasSpelling w (before ++ behind) → IsLegal HasSpelling w (before ++ t ∷ behind)
+-- the history stays legal with the turn, where that is legal there
+abbrev pub StaysLegalWith : World → List Turn → Turn → List Turn → Type 0
+StaysLegalWith w before t behind =
+    IsLegalTurn (after_turns w before) t → IsLegal w (before ++ behind) → IsLegal w (before ++ t ∷ behind)
 
-  -- a compaction is a legal turn of a live node that holds the manager's epoch
-  abbrev pub CompactionsMayCome : Type 0
-  CompactionsMayCome =
-      (w : World) (role : Role) (node file line moment : ℕ) → w.manager ≡ Some role → held_by w node ≡ role.epoch
-      → is_live w node ≡ true → node < length (system_in w).nodes → IsQueueFile file
-      → IsLegalTurn HasSpelling w (compaction node role.epoch file line moment)
+-- a compaction is a legal turn of a live node that holds the manager's epoch
+abbrev pub CompactionsMayCome : Type 0
+CompactionsMayCome =
+    (w : World) (role : Role) (node file line moment : ℕ) → w.manager ≡ Some role → held_by w node ≡ role.epoch
+    → is_live w node ≡ true → node < length (system_in w).nodes → IsQueueFile file
+    → IsLegalTurn w (compaction node role.epoch file line moment)
 
-  -- A call that a node of the cluster may make: it asks for nothing that is the queue manager's own, what it asks for keeps the
-  -- rules on names, and what its turn records has a spelling, where a takeover finds this of a record in doubt.
-  pub record MayCall (w : World) (node reading : ℕ) (kept : Option Bool) (asked : Call) : Type 0 where
-    pub there : node < length (system_in w).nodes
-    pub told : is_some kept ≡ is_some w.doubt
-    pub outside : IsFromOutside (input_of asked)
-    pub lawful : IsLawfulInput (system_in w) node (input_of asked)
-    pub spelled : AreSpelled HasSpelling (turn_of w node reading kept asked).events
+-- A call that a node of the cluster may make: it asks for nothing that is the queue manager's own, what it asks for keeps the
+-- rules on names, and what its turn records has a spelling, where a takeover finds this of a record in doubt.
+pub record MayCall (w : World) (node reading : ℕ) (kept : Option Bool) (asked : Call) : Type 0 where
+  pub there : node < length (system_in w).nodes
+  pub told : is_some kept ≡ is_some w.doubt
+  pub outside : IsFromOutside (input_of asked)
+  pub lawful : IsLawfulInput (system_in w) node (input_of asked)
+  pub spelled : AreSpelled (turn_of w node reading kept asked).events
 
-  -- in a sound world the computed turn is one of the call
-  abbrev pub EachCallHasATurn : Type 0
-  EachCallHasATurn =
-      (w : World) (node reading : ℕ) (kept : Option Bool) (asked : Call) → IsSound HasSpelling w → MayCall w node reading kept asked
-      → IsTurnOf HasSpelling w asked (turn_of w node reading kept asked)
+-- in a sound world the computed turn is one of the call
+abbrev pub EachCallHasATurn : Type 0
+EachCallHasATurn =
+    (w : World) (node reading : ℕ) (kept : Option Bool) (asked : Call) → IsSound w → MayCall w node reading kept asked
+    → IsTurnOf w asked (turn_of w node reading kept asked)
 
-  -- this holds of each turn in which no disk failed, all had room and nothing was compacted
-  abbrev pub OfTurnsWithoutFault : (World → Call → Turn → Type 0) → Type 0
-  OfTurnsWithoutFault Holds =
-      (w : World) (asked : Call) (t : Turn) → IsTurnOf HasSpelling w asked t → AreDetermined t.events → Holds w asked t
+-- this holds of each turn in which no disk failed, all had room and nothing was compacted
+abbrev pub OfTurnsWithoutFault : (World → Call → Turn → Type 0) → Type 0
+OfTurnsWithoutFault Holds =
+    (w : World) (asked : Call) (t : Turn) → IsTurnOf w asked t → AreDetermined t.events → Holds w asked t
 
-  -- two such turns of one call, of one node at one moment, are the same, where reading told the same of a record in doubt
-  abbrev pub TurnsWithoutFaultAreOne : Type 0
-  TurnsWithoutFaultAreOne =
-      (w : World) (asked : Call) (t u : Turn) → t.node ≡ u.node → t.moment ≡ u.moment → told_by t.events ≡ told_by u.events
-      → IsTurnOf HasSpelling w asked t → IsTurnOf HasSpelling w asked u → AreDetermined t.events → AreDetermined u.events → t ≡ u
+-- two such turns of one call, of one node at one moment, are the same, where reading told the same of a record in doubt
+abbrev pub TurnsWithoutFaultAreOne : Type 0
+TurnsWithoutFaultAreOne =
+    (w : World) (asked : Call) (t u : Turn) → t.node ≡ u.node → t.moment ≡ u.moment → told_by t.events ≡ told_by u.events
+    → IsTurnOf w asked t → IsTurnOf w asked u → AreDetermined t.events → AreDetermined u.events → t ≡ u
 
-  -- this holds of notes of which each turn is one of the call that is noted with it
-  abbrev pub OfNotedCalls : (World → List Note → Type 0) → Type 0
-  OfNotedCalls Holds = (notes : List Note) (w : World) → AreNoted HasSpelling w notes → Holds w notes
+-- this holds of notes of which each turn is one of the call that is noted with it
+abbrev pub OfNotedCalls : (World → List Note → Type 0) → Type 0
+OfNotedCalls Holds = (notes : List Note) (w : World) → AreNoted w notes → Holds w notes
 
-module _ (record_text : Record → List ℕ) where
-  -- this holds of each turn that tells of room what is so, and of that room
-  abbrev pub OfTurnsInRoom : (Room → Turn → Type 0) → Type 0
-  OfTurnsInRoom Holds = (w : World) (m : Room) (asked : Call) (t : Turn) → IsRoomTold record_text w m asked t → Holds m t
+-- this holds of each turn that tells of room what is so, and of that room
+abbrev pub OfTurnsInRoom : (Room → Turn → Type 0) → Type 0
+OfTurnsInRoom Holds = (w : World) (m : Room) (asked : Call) (t : Turn) → IsRoomTold w m asked t → Holds m t
 
-  -- where each noted turn tells of room what is so, up to the first one in which a disk failed, the history is within that room
-  abbrev pub StayWithinRoom : (Record → Type 0) → World → List Note → Type 0
-  StayWithinRoom HasSpelling w notes =
-      (room : Room) → AreRoomTold record_text HasSpelling w room notes → AreWithinRoom record_text HasSpelling w room (turns_noted notes)
+-- where each noted turn tells of room what is so, up to the first one in which a disk failed, the history is within that room
+abbrev pub StayWithinRoom : World → List Note → Type 0
+StayWithinRoom w notes = (room : Room) → AreRoomTold w room notes → AreWithinRoom w room (turns_noted notes)
 
 -- ---- texts
 
@@ -194,17 +180,21 @@ LineReader = UserLine → ℕ → List Visit → List ℕ → Input
 abbrev pub ItemReader : Type 0
 ItemReader = ℕ → List ℕ → List ℕ → Input
 
--- a command of SYSTEM asks for what it does where a script is served
-abbrev pub CommandsAreRead : ItemReader → Type 0
-CommandsAreRead items_mean =
+-- what the text of a command of a user asks for that is read at a moment
+abbrev pub CommandReader : Type 0
+CommandReader = List ℕ → ℕ → List ℕ → Input
+
+-- a command of SYSTEM asks for what its text does
+abbrev pub CommandsAreRead : ItemReader → CommandReader → Type 0
+CommandsAreRead items_mean command_means =
     (l : served.ScriptLine) (reading : ℕ) (earlier : List Visit) (known : List ℕ) → l.sort ≡ served.Command
-    → read items_mean (line_by_system l) reading earlier known ≡ line.input_of l.sort reading l.text
+    → read items_mean command_means (line_by_system l) reading earlier known ≡ command_means system_user reading l.text
 
 -- a line behind which steps may follow asks for the node's runs
-abbrev pub StepLinesFetch : ItemReader → Type 0
-StepLinesFetch items_mean =
+abbrev pub StepLinesFetch : ItemReader → CommandReader → Type 0
+StepLinesFetch items_mean command_means =
     (l : UserLine) (reading : ℕ) (earlier : List Visit) (known : List ℕ) (steps : ℕ) → steps_asked l.line.sort l.line.text ≡ Some steps
-    → read items_mean l reading earlier known ≡ Fetch known
+    → read items_mean command_means l reading earlier known ≡ Fetch known
 
 -- an act with words behind it asks for what it does where a script is served, but for STEP
 abbrev pub ActsAreRead : Type 0
@@ -219,60 +209,59 @@ LoneActsAreRead =
 
 -- ---- courses
 
-module _ (HasSpelling : Record → Type 0) where
-  -- this holds of each course: of how its lines are read, its turns, its steps, and these with the one within which it broke off
-  abbrev pub OfEachCourse : (LineReader → List Visit → List MadeStep → List MadeStep → Type 0) → Type 0
-  OfEachCourse Holds =
-      (reads : LineReader) (extent : Extent) (w : World) (turns : List Turn) (node : ℕ) (lines : List UserLine) (faults : ℕ)
-      (h : IsCourse HasSpelling reads extent w turns node lines faults) → Holds reads (visits_of node w turns) h.steps (all_steps h.steps h.broken)
+-- this holds of each course: of how its lines are read, its turns, its steps, and these with the one within which it broke off
+abbrev pub OfEachCourse : (LineReader → List Visit → List MadeStep → List MadeStep → Type 0) → Type 0
+OfEachCourse Holds =
+    (reads : LineReader) (extent : Extent) (w : World) (turns : List Turn) (node : ℕ) (lines : List UserLine) (faults : ℕ)
+    (h : IsCourse reads extent w turns node lines faults) → Holds reads (visits_of node w turns) h.steps (all_steps h.steps h.broken)
 
-  -- each report that a node tells in a turn is of a step that it made
-  abbrev pub CoursesReportSteps : Type 0
-  CoursesReportSteps = OfEachCourse (λ reads visits steps all. ReportSteps HasSpelling reads visits steps)
+-- each report that a node tells in a turn is of a step that it made
+abbrev pub CoursesReportSteps : Type 0
+CoursesReportSteps = OfEachCourse (λ reads visits steps all. ReportSteps reads visits steps)
 
-  module _ (reads : LineReader) where
-    -- a node that begins its lines comes by these turns and steps to a state, in which it is live or not
-    abbrev pub ComesTo : World → List Turn → ℕ → List UserLine → List MadeStep → NodeState → Bool → Type 0
-    ComesTo w turns node lines steps then then_live =
-        Reaches HasSpelling reads (at_first lines) [] (is_live w node) (visits_of node w turns) steps then then_live
+module _ (reads : LineReader) where
+  -- a node that begins its lines comes by these turns and steps to a state, in which it is live or not
+  abbrev pub ComesTo : World → List Turn → ℕ → List UserLine → List MadeStep → NodeState → Bool → Type 0
+  ComesTo w turns node lines steps then then_live =
+      Reaches reads (at_first lines) [] (is_live w node) (visits_of node w turns) steps then then_live
 
-    -- a course that was only begun has reached a state, unless its last turn was cut short of the call that comes next there
-    abbrev pub BegunCoursesReach : Type 0
-    BegunCoursesReach =
-        (w : World) (turns : List Turn) (node : ℕ) (lines : List UserLine) (faults : ℕ)
-        (h : IsCourse HasSpelling reads Begun w turns node lines faults)
-        → IsCutAtEnd HasSpelling reads (at_first lines) [] (is_live w node) (visits_of node w turns) h.steps
-        ⊎ HasReached HasSpelling reads h.broken (at_first lines) [] (is_live w node) (visits_of node w turns) h.steps
+  -- a course that was only begun has reached a state, unless its last turn was cut short of the call that comes next there
+  abbrev pub BegunCoursesReach : Type 0
+  BegunCoursesReach =
+      (w : World) (turns : List Turn) (node : ℕ) (lines : List UserLine) (faults : ℕ)
+      (h : IsCourse reads Begun w turns node lines faults)
+      → IsCutAtEnd reads (at_first lines) [] (is_live w node) (visits_of node w turns) h.steps
+      ⊎ HasReached reads h.broken (at_first lines) [] (is_live w node) (visits_of node w turns) h.steps
 
-    -- from the state that it has reached a course goes on by a turn of its own node that follows there, if its device fails no
-    -- more often than it may
-    abbrev pub BegunCoursesGoOn : Type 0
-    BegunCoursesGoOn =
-        (extent : Extent) (broken : Option KeptRun) (w : World) (turns : List Turn) (t : Turn) (node : ℕ) (lines : List UserLine) (faults : ℕ)
-        (steps more : List MadeStep) (then : NodeState) (then_live : Bool) → t.node ≡ node → ComesTo w turns node lines steps then then_live
-        → GoesOn HasSpelling reads extent broken then (visits_of node w turns) then_live (visit_behind w turns t ∷ []) more
-        → failed_steps (steps ++ more) ≤ faults → IsCourse HasSpelling reads extent w (turns ++ t ∷ []) node lines faults
+  -- from the state that it has reached a course goes on by a turn of its own node that follows there, if its device fails no
+  -- more often than it may
+  abbrev pub BegunCoursesGoOn : Type 0
+  BegunCoursesGoOn =
+      (extent : Extent) (broken : Option KeptRun) (w : World) (turns : List Turn) (t : Turn) (node : ℕ) (lines : List UserLine) (faults : ℕ)
+      (steps more : List MadeStep) (then : NodeState) (then_live : Bool) → t.node ≡ node → ComesTo w turns node lines steps then then_live
+      → GoesOn reads extent broken then (visits_of node w turns) then_live (visit_behind w turns t ∷ []) more
+      → failed_steps (steps ++ more) ≤ faults → IsCourse reads extent w (turns ++ t ∷ []) node lines faults
 
-    -- and it reaches the next state, if that turn was served whole
-    abbrev pub BegunCoursesReachOn : Type 0
-    BegunCoursesReachOn =
-        (w : World) (turns : List Turn) (t : Turn) (node : ℕ) (lines : List UserLine) (steps more : List MadeStep) (then last : NodeState)
-        (then_live last_live : Bool) → t.node ≡ node → ComesTo w turns node lines steps then then_live
-        → Reaches HasSpelling reads then (visits_of node w turns) then_live (visit_behind w turns t ∷ []) more last last_live
-        → ComesTo w (turns ++ t ∷ []) node lines (steps ++ more) last last_live
+  -- and it reaches the next state, if that turn was served whole
+  abbrev pub BegunCoursesReachOn : Type 0
+  BegunCoursesReachOn =
+      (w : World) (turns : List Turn) (t : Turn) (node : ℕ) (lines : List UserLine) (steps more : List MadeStep) (then last : NodeState)
+      (then_live last_live : Bool) → t.node ≡ node → ComesTo w turns node lines steps then then_live
+      → Reaches reads then (visits_of node w turns) then_live (visit_behind w turns t ∷ []) more last last_live
+      → ComesTo w (turns ++ t ∷ []) node lines (steps ++ more) last last_live
 
-    -- two histories in which a node makes the same turns in the same worlds have the same courses of it
-    abbrev pub CoursesAreOfOwnTurns : Type 0
-    CoursesAreOfOwnTurns =
-        (extent : Extent) (w v : World) (turns others : List Turn) (node : ℕ) (lines : List UserLine) (faults : ℕ)
-        → is_live w node ≡ is_live v node → visits_of node w turns ≡ visits_of node v others → IsCourse HasSpelling reads extent w turns node lines faults
-        → IsCourse HasSpelling reads extent v others node lines faults
+  -- two histories in which a node makes the same turns in the same worlds have the same courses of it
+  abbrev pub CoursesAreOfOwnTurns : Type 0
+  CoursesAreOfOwnTurns =
+      (extent : Extent) (w v : World) (turns others : List Turn) (node : ℕ) (lines : List UserLine) (faults : ℕ)
+      → is_live w node ≡ is_live v node → visits_of node w turns ≡ visits_of node v others → IsCourse reads extent w turns node lines faults
+      → IsCourse reads extent v others node lines faults
 
-    -- a course stays where another node's turn comes behind
-    abbrev pub CoursesStayBehindOthers : Type 0
-    CoursesStayBehindOthers =
-        (extent : Extent) (w : World) (turns : List Turn) (t : Turn) (node : ℕ) (lines : List UserLine) (faults : ℕ) → t.node ≢ node
-        → IsCourse HasSpelling reads extent w turns node lines faults → IsCourse HasSpelling reads extent w (turns ++ t ∷ []) node lines faults
+  -- a course stays where another node's turn comes behind
+  abbrev pub CoursesStayBehindOthers : Type 0
+  CoursesStayBehindOthers =
+      (extent : Extent) (w : World) (turns : List Turn) (t : Turn) (node : ℕ) (lines : List UserLine) (faults : ℕ) → t.node ≢ node
+      → IsCourse reads extent w turns node lines faults → IsCourse reads extent w (turns ++ t ∷ []) node lines faults
 
 -- ---- blocks
 

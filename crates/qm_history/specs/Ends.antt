@@ -1,10 +1,8 @@
 -- How a node's turns end, how the program ends, and what the sink has then.
 -- DCL Dictionary, SHOW QUEUE, on its display. This site's own: the ends of a program, and what each says of the transcript.
 use Rattle.std.specs.Prelude.{◌≡◌, ℕ, Bool, true, false, if◌then◌else◌, List, [], ◌∷◌, ◌++◌, flat_map, codes, None}
-use Rattle.qm_kinds.specs.declared.query.Query.{Query}
+use Rattle.qm_model.specs.Common.{Query, System, view}
 use Rattle.qm_kinds.specs.declared.query.Listing.TheVariants as listing
-use Rattle.qm_kinds.specs.declared.system.System.{System}
-use Rattle.qm_model.specs.Rows.{view}
 use Rattle.qm_model.specs.Transcript.{row_lines}
 use Rattle.qm_history.specs.Answers.{rows_shown}
 use Rattle.qm_history.specs.Course.{Extent, Whole, Begun}

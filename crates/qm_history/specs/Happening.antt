@@ -2,14 +2,12 @@
 -- OpenVMS System Manager's Manual, Managing the Queue Manager and Queue Database, on failover. This site's own: epochs.
 use Rattle.std.specs.Prelude.{◌≡◌, ◌<◌, ℕ, Bool, true, false, List, [], ◌∷◌, ◌++◌, filter_map, flat_map, Option, None, Some}
 use Rattle.std.specs.List.{list_any}
-use Rattle.qm_kinds.specs.declared.input.Input.{Input}
+use Rattle.qm_model.specs.Common.{Input, Record, request_record}
 use Rattle.qm_kinds.specs.declared.input.Input.TheVariants as input
-use Rattle.qm_kinds.specs.declared.record.Record.{Record}
 use Rattle.qm_kinds.specs.declared.request.Request.TheVariants as request
 use Rattle.qm_history.specs.declared.event.Event.{Event}
 use Rattle.qm_history.specs.declared.event.Event.TheVariants as event
 use Rattle.qm_history.specs.declared.turn.Turn.{Turn}
-use Rattle.qm_model.specs.Log.{request_record}
 
 -- the events of turns, in their order
 abbrev pub events_of : List Turn → List Event

@@ -2,17 +2,7 @@
 -- This site's own: all of it.
 use Rattle.std.specs.Prelude.{◌≡◌, ◌⊎◌, ◌<◌, ℕ, true, List, [], ◌∷◌, ◌++◌, Some, Ok, All, option_to_list}
 use Rattle.qm_kinds.specs.declared.record.Body.TheVariants as body
-use Rattle.qm_kinds.specs.declared.record.Record.{Record}
-use Rattle.qm_kinds.specs.declared.reply.Act.TheVariants.{Submitted}
-use Rattle.qm_kinds.specs.declared.entry.EntryState.{EntryState}
-use Rattle.qm_kinds.specs.declared.request.Job.{Job}
-use Rattle.qm_kinds.specs.declared.request.Request.{Request}
-use Rattle.qm_kinds.specs.declared.request.Request.TheVariants.{Submit}
-use Rattle.qm_kinds.specs.declared.system.System.{System}
-use Rattle.qm_model.specs.Applied.{applied}
-use Rattle.qm_model.specs.Consistent.{IsConsistent}
-use Rattle.qm_model.specs.Folding.{replayed}
-use Rattle.qm_model.specs.Outcome.{Accepted}
+use Rattle.qm_model.specs.Common.{Record, Submitted, EntryState, Job, Request, Submit, System, applied, IsConsistent, replayed, Accepted}
 use Rattle.qm_model.specs.Standing.{StandsInOne}
 use Rattle.qm_history.specs.declared.event.Event.{Event}
 use Rattle.qm_history.specs.declared.turn.Turn.{Turn}
@@ -145,50 +135,49 @@ OfEachEventLeft Holds =
 
 -- ---- histories
 
-module _ (HasSpelling : Record → Type 0) where
-  -- this holds of records that are accepted one after the other: of the system before them, and the one behind them
-  abbrev pub OfNextRecords : (System → List Record → System → Type 0) → Type 0
-  OfNextRecords Holds = (s : System) (records : List Record) → AreNext HasSpelling s records → Holds s records (replayed s records)
+-- this holds of records that are accepted one after the other: of the system before them, and the one behind them
+abbrev pub OfNextRecords : (System → List Record → System → Type 0) → Type 0
+OfNextRecords Holds = (s : System) (records : List Record) → AreNext s records → Holds s records (replayed s records)
 
-  -- this holds of each legal history
-  abbrev pub OfHistories : (World → List Turn → Type 0) → Type 0
-  OfHistories Holds = (w : World) (turns : List Turn) → IsLegal HasSpelling w turns → Holds w turns
+-- this holds of each legal history
+abbrev pub OfHistories : (World → List Turn → Type 0) → Type 0
+OfHistories Holds = (w : World) (turns : List Turn) → IsLegal w turns → Holds w turns
 
-  -- this holds of each legal history from a sound world, and of the world behind it
-  abbrev pub OfSoundHistories : (World → List Turn → World → Type 0) → Type 0
-  OfSoundHistories Holds =
-      (w : World) (turns : List Turn) → IsSound HasSpelling w → IsLegal HasSpelling w turns → Holds w turns (after_turns w turns)
+-- this holds of each legal history from a sound world, and of the world behind it
+abbrev pub OfSoundHistories : (World → List Turn → World → Type 0) → Type 0
+OfSoundHistories Holds =
+    (w : World) (turns : List Turn) → IsSound w → IsLegal w turns → Holds w turns (after_turns w turns)
 
-  -- this holds of the systems before and behind each legal history from a sound world
-  abbrev pub OfLaterSystems : (System → System → Type 0) → Type 0
-  OfLaterSystems Holds = OfSoundHistories (λ w turns after. Holds (system_in w) (system_in after))
+-- this holds of the systems before and behind each legal history from a sound world
+abbrev pub OfLaterSystems : (System → System → Type 0) → Type 0
+OfLaterSystems Holds = OfSoundHistories (λ w turns after. Holds (system_in w) (system_in after))
 
-  -- this holds of each turn that is legal in a sound world
-  abbrev pub OfSoundTurns : (World → Turn → Type 0) → Type 0
-  OfSoundTurns Holds = (w : World) (t : Turn) → IsSound HasSpelling w → IsLegalTurn HasSpelling w t → Holds w t
+-- this holds of each turn that is legal in a sound world
+abbrev pub OfSoundTurns : (World → Turn → Type 0) → Type 0
+OfSoundTurns Holds = (w : World) (t : Turn) → IsSound w → IsLegalTurn w t → Holds w t
 
-  -- this holds of events that may come one behind another
-  abbrev pub OfEvents : (World → List Event → Type 0) → Type 0
-  OfEvents Holds = (w : World) (events : List Event) → CanAllCome HasSpelling w events → Holds w events
+-- this holds of events that may come one behind another
+abbrev pub OfEvents : (World → List Event → Type 0) → Type 0
+OfEvents Holds = (w : World) (events : List Event) → CanAllCome w events → Holds w events
 
-  -- behind what may come in a sound world, the world is sound
-  abbrev pub KeepSound : {X : Type 0} → (World → X → Type 0) → (World → X → World) → Type 0
-  KeepSound {X} MayCome after = (w : World) (x : X) → IsSound HasSpelling w → MayCome w x → IsSound HasSpelling (after w x)
+-- behind what may come in a sound world, the world is sound
+abbrev pub KeepSound : {X : Type 0} → (World → X → Type 0) → (World → X → World) → Type 0
+KeepSound {X} MayCome after = (w : World) (x : X) → IsSound w → MayCome w x → IsSound (after w x)
 
-  -- each log that may be left is accepted
-  abbrev pub AreAccepted : (List Record → Type 0) → Type 0
-  AreAccepted MayBe = (log : List Record) → MayBe log → IsAccepted HasSpelling log
+-- each log that may be left is accepted
+abbrev pub AreAccepted : (List Record → Type 0) → Type 0
+AreAccepted MayBe = (log : List Record) → MayBe log → IsAccepted log
 
-  -- each log that a crash at a moment of a legal history from a sound world leaves is accepted
-  abbrev pub CrashesLeaveAccepted : Type 0
-  CrashesLeaveAccepted = OfSoundHistories (λ w turns after. AreAccepted (MayBeLeftIn w turns))
+-- each log that a crash at a moment of a legal history from a sound world leaves is accepted
+abbrev pub CrashesLeaveAccepted : Type 0
+CrashesLeaveAccepted = OfSoundHistories (λ w turns after. AreAccepted (MayBeLeftIn w turns))
 
-  -- this holds of each world with which a program begins that finds an accepted log
-  abbrev pub OfFirstWorlds : (List Record → World → Type 0) → Type 0
-  OfFirstWorlds Holds = (log : List Record) (epoch : ℕ) → IsAccepted HasSpelling log → Holds log (first_world log epoch)
+-- this holds of each world with which a program begins that finds an accepted log
+abbrev pub OfFirstWorlds : (List Record → World → Type 0) → Type 0
+OfFirstWorlds Holds = (log : List Record) (epoch : ℕ) → IsAccepted log → Holds log (first_world log epoch)
 
-  -- a program that begins on what a crash left within the last turn of a legal history begins in a sound world
-  abbrev pub BeginSoundBehindCrashes : Type 0
-  BeginSoundBehindCrashes =
-      (w : World) (before : List Turn) (t : Turn) (log : List Record) (epoch : ℕ) → IsSound HasSpelling w
-      → IsLegal HasSpelling w (before ++ t ∷ []) → MayBeLeft (after_turns w before) t log → IsSound HasSpelling (first_world log epoch)
+-- a program that begins on what a crash left within the last turn of a legal history begins in a sound world
+abbrev pub BeginSoundBehindCrashes : Type 0
+BeginSoundBehindCrashes =
+    (w : World) (before : List Turn) (t : Turn) (log : List Record) (epoch : ℕ) → IsSound w
+    → IsLegal w (before ++ t ∷ []) → MayBeLeft (after_turns w before) t log → IsSound (first_world log epoch)

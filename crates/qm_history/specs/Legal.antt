@@ -1,7 +1,6 @@
 -- Histories: turns, one after the other.
 -- OpenVMS System Manager's Manual, Managing the Queue Manager and Queue Database, on one queue manager for a cluster.
 use Rattle.std.specs.Prelude.{◌⊎◌, List, [], ◌∷◌}
-use Rattle.qm_kinds.specs.declared.record.Record.{Record}
 use Rattle.qm_history.specs.declared.call.Call.{Call}
 use Rattle.qm_history.specs.declared.turn.Turn.{Turn}
 use Rattle.qm_history.specs.declared.world.World.{World}
@@ -17,12 +16,11 @@ abbrev pub after_turns : World → List Turn → World
 after_turns w [] = w
 after_turns w (t ∷ turns) = after_turns (after_turn w t) turns
 
-module _ (HasSpelling : Record → Type 0) where
-  -- some call was served in this turn, whole or as far as memory lasted
-  abbrev pub IsLegalTurn : World → Turn → Type 0
-  IsLegalTurn w t = (asked : Call) × (IsTurnOf HasSpelling w asked t ⊎ IsCutShort HasSpelling w asked t)
+-- some call was served in this turn, whole or as far as memory lasted
+abbrev pub IsLegalTurn : World → Turn → Type 0
+IsLegalTurn w t = (asked : Call) × (IsTurnOf w asked t ⊎ IsCutShort w asked t)
 
-  -- each turn is legal behind those before it
-  abbrev pub IsLegal : World → List Turn → Type 0
-  IsLegal w [] = Unit {0}
-  IsLegal w (t ∷ turns) = IsLegalTurn w t × IsLegal (after_turn w t) turns
+-- each turn is legal behind those before it
+abbrev pub IsLegal : World → List Turn → Type 0
+IsLegal w [] = Unit {0}
+IsLegal w (t ∷ turns) = IsLegalTurn w t × IsLegal (after_turn w t) turns

@@ -42,3 +42,4 @@ pub mod CourseLaws
 pub mod ShownDuties
 pub mod Askable
 pub mod Serving
+pub mod Common

@@ -1,15 +1,9 @@
 -- A script whole: lines of users, commands that go on in the next line, item lists, and which fault is told.
 -- OpenVMS User's Manual, on command procedures and continued lines; DCL Dictionary, SUBMIT, /USER. This site's own: the form.
-use Rattle.std.specs.Prelude.{ℕ, nat_eq, ◌==◌, ◌+◌, nat_lt, Bool, true, false, if◌then◌else◌, List, [], ◌∷◌, ◌++◌, length, take, position, ◌-◌, Option, None, Some, Result, Ok, Err}
+use Rattle.std.specs.Prelude.{ℕ, nat_eq, ◌==◌, ◌+◌, nat_lt, Bool, true, false, if◌then◌else◌, List, [], ◌∷◌, ◌++◌, length, take, position, ◌-◌, Option, None, Some, Result, Ok, Err, option_map, option_and_then}
 use Rattle.std.specs.List.{list_all, slice_split, ends_with}
-use Rattle.std.specs.Option.{option_map, option_and_then}
-use Rattle.qm_kinds.specs.Files.{name_of}
-use Rattle.qm_kinds.specs.Names.{system_user}
-use Rattle.qm_kinds.specs.declared.script.ScriptKind.{ScriptKind}
+use Rattle.qm_model.specs.Common.{name_of, system_user, ScriptKind, is_among, is_line_byte, node_name_of, cut_at, cut_at_blank}
 use Rattle.qm_kinds.specs.declared.script.ScriptKind.TheVariants as wrong
-use Rattle.qm_model.specs.Find.{is_among}
-use Rattle.qm_model.specs.Script.{is_line_byte, node_name_of}
-use Rattle.qm_model.specs.Texts.{cut_at, cut_at_blank}
 use Rattle.qm_history.specs.Script.{LineSort, Command, Items, Act, UserLine}
 
 -- a line of a script at which it isn't one, and what is wrong; 0 stands for the script as a whole

@@ -2,24 +2,12 @@
 -- OpenVMS System Services Reference Manual, $SNDJBC, on checkpoint data; OpenVMS System Manager's Manual, Setting Up and
 -- Maintaining Queues, on jobs that restart at a checkpoint.
 -- This site's own: that a job which goes back into its queue has its last mark.
-use Rattle.std.specs.Prelude.{◌≡◌, ◌⊎◌, ℕ, ◌==◌, Bool, false, not, ◌&&◌, ◌||◌, if◌then◌else◌, List, [], ◌∷◌, Option, None, Some}
+use Rattle.std.specs.Prelude.{◌≡◌, ◌⊎◌, ℕ, ◌==◌, Bool, false, not, ◌&&◌, ◌||◌, if◌then◌else◌, List, [], ◌∷◌, Option, None, Some, bytes_eq}
 use Rattle.std.specs.List.{AllByRecursion}
 use Rattle.std.specs.Option.{option_map_or}
-use Rattle.std.specs.Str.{bytes_eq}
-use Rattle.qm_kinds.specs.declared.entry.Entry.{Entry}
-use Rattle.qm_kinds.specs.declared.record.Record.{Record}
-use Rattle.qm_kinds.specs.declared.record.Body.{Body}
+use Rattle.qm_model.specs.Common.{Entry, Record, Body, Request, System, at_moment, due, is_over, is_among, is_aborting, runs_on, entry_of_run, node_at, after_record}
 use Rattle.qm_kinds.specs.declared.record.Body.TheVariants as body
-use Rattle.qm_kinds.specs.declared.request.Request.{Request}
 use Rattle.qm_kinds.specs.declared.request.Request.TheVariants as request
-use Rattle.qm_kinds.specs.declared.system.System.{System}
-use Rattle.qm_model.specs.Applied.{at_moment}
-use Rattle.qm_model.specs.Due.{due, is_over}
-use Rattle.qm_model.specs.Find.{is_among}
-use Rattle.qm_model.specs.JobStates.{is_aborting, runs_on}
-use Rattle.qm_model.specs.Runs.{entry_of_run}
-use Rattle.qm_model.specs.Standing.{node_at}
-use Rattle.qm_model.specs.Folding.{after_record}
 
 -- the entry that a report names, as the moment finds it
 abbrev pub reporting : System → ℕ → ℕ → ℕ → Option Entry

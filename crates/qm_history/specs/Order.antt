@@ -3,7 +3,6 @@
 use Rattle.std.specs.Prelude.{◌≡◌, ◌≢◌, ℕ, Bool, false, List, [], ◌∷◌, drop, take, Option, None, Some}
 use Rattle.std.specs.List.{AllByRecursion}
 use Rattle.qm_kinds.specs.declared.input.Input.{Input}
-use Rattle.qm_kinds.specs.declared.record.Record.{Record}
 use Rattle.qm_history.specs.declared.turn.Turn.{Turn}
 use Rattle.qm_history.specs.declared.turn.Why.{Why}
 use Rattle.qm_history.specs.declared.turn.Why.TheVariants as why
@@ -72,12 +71,12 @@ IsWaiting Working next = ⊥
 IsWaiting Leaving next = ⊥
 IsWaiting Over next = ⊥
 
-module _ (HasSpelling : Record → Type 0) (read : UserLine → ℕ → List Visit → List ℕ → Input) where
+module _ (read : UserLine → ℕ → List Visit → List ℕ → Input) where
   -- behind its turns, with these steps, the node waits
   abbrev pub Waits : World → List Turn → ℕ → List UserLine → List MadeStep → Type 0
   Waits start turns node lines steps =
       (then : NodeState) × (then_live : Bool)
-      × Reaches HasSpelling read (at_first lines) [] (is_live start node) (visits_of node start turns) steps then then_live
+      × Reaches read (at_first lines) [] (is_live start node) (visits_of node start turns) steps then then_live
       × IsWaiting then.stage (next_at then_live then then.stage)
 
   -- where one thread serves all nodes, each node waits but the one whose turn was the last

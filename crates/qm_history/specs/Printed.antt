@@ -4,28 +4,18 @@
 use Rattle.std.specs.Prelude.{◌≡◌, ℕ, ◌<◌, ◌≤◌, ◌==◌, Bool, true, false, ◌&&◌, ◌||◌, is_some, List, [], ◌∷◌, ◌++◌, length, drop, slice_get, Option, None, Some, IsNone, Contains}
 use Rattle.std.specs.List.{AllByRecursion}
 use Rattle.std.specs.Option.{option_map_or}
-use Rattle.qm_kinds.specs.declared.entry.Entry.{Entry}
+use Rattle.qm_model.specs.Common.{Entry, Input, Record, Body, System, Work, normal_status, entry_numbered, page_blocks, WentOn, report_told, after_record}
 use Rattle.qm_kinds.specs.declared.entry.JobKind.TheVariants.{Print}
-use Rattle.qm_kinds.specs.declared.input.Input.{Input}
-use Rattle.qm_kinds.specs.declared.record.Record.{Record}
-use Rattle.qm_kinds.specs.declared.record.Body.{Body}
 use Rattle.qm_kinds.specs.declared.record.Body.TheVariants as body
 use Rattle.qm_kinds.specs.declared.request.Request.TheVariants as request
-use Rattle.qm_kinds.specs.declared.system.System.{System}
 use Rattle.qm_kinds.specs.declared.work.Report.TheVariants as report
-use Rattle.qm_kinds.specs.declared.work.Work.{Work}
-use Rattle.qm_model.specs.Batch.{normal_status}
-use Rattle.qm_model.specs.Find.{entry_numbered}
-use Rattle.qm_model.specs.Pages.{page_blocks}
 use Rattle.qm_model.specs.Reports.{begin, printed}
 use Rattle.qm_history.specs.declared.event.Event.{Event}
 use Rattle.qm_history.specs.declared.turn.Turn.{Turn}
 use Rattle.qm_history.specs.declared.turn.Why.{Why}
 use Rattle.qm_history.specs.declared.turn.Why.TheVariants as why
 use Rattle.qm_history.specs.declared.world.World.{World}
-use Rattle.qm_model.specs.Kept.{WentOn, report_told}
 use Rattle.qm_history.specs.Course.{Extent, IsCourse, MadeStep}
-use Rattle.qm_model.specs.Folding.{after_record}
 use Rattle.qm_history.specs.Legal.{after_turn, IsLegal}
 use Rattle.qm_history.specs.Marks.{reporting, finds_running, names_entry}
 use Rattle.qm_history.specs.Records.{record_of}
@@ -155,17 +145,17 @@ ComesAgainElsewhere a b =
     → ((begin a.run.work).at ≤ b.run.place.at) × ((begin b.run.work).at ≤ a.run.place.at)
 
 -- How lines are read is a parameter of courses.
-module _ (HasSpelling : Record → Type 0) (read : UserLine → ℕ → List Visit → List ℕ → Input) where
+module _ (read : UserLine → ℕ → List Visit → List ℕ → Input) where
   -- the steps are those of a course of each node, whole or begun
   abbrev pub AreMade : World → List Turn → (ℕ → List MadeStep) → Type 0
   AreMade w turns steps =
-      (node : ℕ) → (extent : Extent) × (lines : List UserLine) × (faults : ℕ) × (h : IsCourse HasSpelling read extent w turns node lines faults) × (steps node ≡ h.steps)
+      (node : ℕ) → (extent : Extent) × (lines : List UserLine) × (faults : ℕ) × (h : IsCourse read extent w turns node lines faults) × (steps node ≡ h.steps)
 
   -- In a legal history from a sound world in which nothing is in doubt, where the nodes made these steps, a job that was left
   -- alone, and whose run ended well, had each of its blocks handed over at least once, behind the mark that it had in the first
   -- world. A mark in doubt there would be one that no step of the history told.
   abbrev pub EachCame : World → List Turn → (ℕ → List MadeStep) → ℕ → Type 0
   EachCame w turns steps entry =
-      IsSound HasSpelling w → IsNone w.doubt → IsLegal HasSpelling w turns → AreMade w turns steps → IsLeftAlone w turns entry
+      IsSound w → IsNone w.doubt → IsLegal w turns → AreMade w turns steps → IsLeftAlone w turns entry
       → (node : ℕ) (m : MadeStep) → EndsWell w turns steps entry node m → (index : ℕ) (block : List ℕ)
       → printed_before (system_in w) entry m ≤ index → slice_get (page_blocks m.run.work) index ≡ Some block → Came steps entry index block

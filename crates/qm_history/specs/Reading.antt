@@ -1,16 +1,12 @@
 -- What a line of a script asks for.
 -- DCL Dictionary; OpenVMS System Services Reference Manual, $SNDJBC and $GETQUI. This site's own: acts at the site, and item lists
 -- in hexadecimal.
-use Rattle.std.specs.Prelude.{ℕ, nat_le, Bool, ◌&&◌, ◌||◌, if◌then◌else◌, is_some, List, Option, None, Some}
-use Rattle.std.specs.Option.{option_and_then}
-use Rattle.qm_kinds.specs.declared.input.Input.{Input}
+use Rattle.std.specs.Prelude.{ℕ, nat_le, Bool, ◌&&◌, ◌||◌, if◌then◌else◌, is_some, List, Option, None, Some, option_and_then}
+use Rattle.qm_model.specs.Common.{Input, cut_at_blank}
 use Rattle.qm_kinds.specs.declared.input.Input.TheVariants as input
 use Rattle.qm_kinds.specs.declared.refusal.ParseKind.TheVariants as parse
 use Rattle.qm_kinds.specs.Requests.{request_kind}
 use Rattle.qm_model.specs.Script.{act_number}
-use Rattle.qm_model.specs.Texts.{cut_at_blank}
-use Rattle.qm_dcl.specs.Command.{command_of}
-use Rattle.qm_dcl.specs.Lines.{or_fault}
 use Rattle.qm_history.specs.Acts.{act_asked, hex_bytes, malformed}
 use Rattle.qm_history.specs.Scans.{Scans, scanned, scans_of}
 use Rattle.qm_history.specs.Script.{UserLine, LineSort, Command, Items, Act}
@@ -35,7 +31,8 @@ with_scans s input.StartNode = input.StartNode
 with_scans s input.StopNode = input.StopNode
 with_scans s (input.Fault place kind) = input.Fault place kind
 
--- What the bytes of an item list mean in the call of a function by a user is the one thing that isn't said here.
+-- What the bytes of an item list mean in the call of a function by a user, and what the text of a command of a user asks for that is read
+-- at a moment, is all that isn't said here.
 module _ (items_mean : ℕ → List ℕ → List ℕ → Input) where
   -- a function, and the bytes of its items
   abbrev pub items_by : List ℕ → Scans → Option ℕ → Option (List ℕ) → Input
@@ -48,13 +45,14 @@ module _ (items_mean : ℕ → List ℕ → List ℕ → Input) where
   items_from user s None = malformed
   items_from user s (Some parts) = items_by user s (function_of parts.0) (hex_bytes parts.1)
 
-  -- what a text of a sort asks for that is read at a moment
-  abbrev pub text_asked : LineSort → List ℕ → ℕ → List ℕ → Scans → List ℕ → Input
-  text_asked Command user reading text s known = or_fault (command_of user reading text)
-  text_asked Items user reading text s known = items_from user s (cut_at_blank text)
-  text_asked Act user reading text s known = act_asked known text
+  module _ (command_means : List ℕ → ℕ → List ℕ → Input) where
+    -- what a text of a sort asks for that is read at a moment
+    abbrev pub text_asked : LineSort → List ℕ → ℕ → List ℕ → Scans → List ℕ → Input
+    text_asked Command user reading text s known = command_means user reading text
+    text_asked Items user reading text s known = items_from user s (cut_at_blank text)
+    text_asked Act user reading text s known = act_asked known text
 
-  -- What a line asks for: by its text and its user; for a command, by what the node's clock told, from which relative times count;
-  -- for an item list, by the listings that the node has begun in its turns; and for STEP, by the runs that it keeps.
-  abbrev pub read : UserLine → ℕ → List Visit → List ℕ → Input
-  read l reading earlier known = text_asked l.line.sort l.user reading l.line.text (scans_of earlier) known
+    -- What a line asks for: by its text and its user; for a command, by what the node's clock told, from which relative times count;
+    -- for an item list, by the listings that the node has begun in its turns; and for STEP, by the runs that it keeps.
+    abbrev pub read : UserLine → ℕ → List Visit → List ℕ → Input
+    read l reading earlier known = text_asked l.line.sort l.user reading l.line.text (scans_of earlier) known

@@ -1,9 +1,8 @@
 -- Which record an event puts into the log.
 -- OpenVMS System Manager's Manual, Managing the Queue Manager and Queue Database, on the journal file.
 use Rattle.std.specs.Prelude.{Option, None, Some}
-use Rattle.qm_kinds.specs.declared.record.Record.{Record}
+use Rattle.qm_model.specs.Common.{Record, request_record}
 use Rattle.qm_kinds.specs.declared.request.Request.TheVariants as request
-use Rattle.qm_model.specs.Log.{request_record}
 use Rattle.qm_history.specs.declared.event.Event.{Event}
 use Rattle.qm_history.specs.declared.event.Event.TheVariants as event
 

@@ -1,17 +1,12 @@
 -- The listings that a node has begun by item lists, as its turns tell.
 -- OpenVMS System Services Reference Manual, $GETQUI, on wildcard searches and the calls that go on with them.
 -- This site's own: one listing for each function and node, which a STOP of the node ends.
-use Rattle.std.specs.Prelude.{ℕ, List, [], ◌∷◌, fold, Bool, true, false, Option, None, Some}
-use Rattle.std.specs.Option.{unwrap_or}
+use Rattle.std.specs.Prelude.{ℕ, List, [], ◌∷◌, fold, Bool, true, false, Option, None, Some, unwrap_or}
 use Rattle.qm_kinds.specs.declared.input.Input.TheVariants as input
-use Rattle.qm_kinds.specs.declared.query.After.{After}
+use Rattle.qm_model.specs.Common.{After, Listing, Query, Row, Refusal}
 use Rattle.qm_kinds.specs.declared.query.After.TheVariants as after
-use Rattle.qm_kinds.specs.declared.query.Listing.{Listing}
 use Rattle.qm_kinds.specs.declared.query.Listing.TheVariants as listing
-use Rattle.qm_kinds.specs.declared.query.Query.{Query}
-use Rattle.qm_kinds.specs.declared.query.Row.{Row}
 use Rattle.qm_kinds.specs.declared.query.Row.TheVariants as row
-use Rattle.qm_kinds.specs.declared.refusal.Refusal.{Refusal}
 use Rattle.qm_kinds.specs.declared.refusal.Refusal.TheVariants as refused
 use Rattle.qm_history.specs.declared.call.Answer.{Answer}
 use Rattle.qm_history.specs.declared.call.Answer.TheVariants as answer

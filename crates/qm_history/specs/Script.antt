@@ -1,7 +1,6 @@
 -- The lines of a node, and who asks for what.
 -- OpenVMS User's Manual, on command procedures; DCL Dictionary, SUBMIT, /USER. This site's own: the form of a script, and STEP.
-use Rattle.std.specs.Prelude.{ℕ, List, filter, map, Option, None}
-use Rattle.std.specs.Str.{bytes_eq}
+use Rattle.std.specs.Prelude.{ℕ, List, filter, map, Option, None, bytes_eq}
 use Rattle.qm_kinds.specs.Names.{system_user}
 use Rattle.qm_model.specs.Script.{ScriptLine, Sort, steps_in}
 use Rattle.qm_model.specs.Script as served

@@ -1,10 +1,8 @@
 -- The queue manager that nodes ask, whatever it is: what its one call does.
 -- OpenVMS System Manager's Manual, Managing the Queue Manager and Queue Database, on the queue manager process.
 -- This site's own: one value, on which each call of a node is one turn.
-use Rattle.std.specs.Prelude.{◌≡◌, ◌⊎◌, ◌≤◌, ℕ, Bool, true, false, IsTrue, List, [], ◌∷◌, ◌++◌, length, map}
-use Rattle.std.specs.Prelude.{option_to_list, Option, None, Some}
+use Rattle.std.specs.Prelude.{◌≡◌, ◌⊎◌, ◌≤◌, ℕ, Bool, true, false, IsTrue, List, [], ◌∷◌, ◌++◌, length, map, option_to_list, Option, None, Some}
 use Rattle.qm_disk.specs.Faults.{Tells}
-use Rattle.qm_record.specs.Spelling.{HasSpelling}
 use Rattle.qm_history.specs.declared.call.Answer.{Answer}
 use Rattle.qm_history.specs.declared.call.Answer.TheVariants as answer
 use Rattle.qm_history.specs.declared.call.Call.{Call}
@@ -41,7 +39,7 @@ behind w (Some t) = after_turn w t
 -- the turn is one of the call that was answered so, if there is one
 abbrev pub IsAnswered : World → Call → Option Turn → Answer → Type 0
 IsAnswered w asked None told = Unit {0}
-IsAnswered w asked (Some t) told = MayAnswer HasSpelling w asked t told
+IsAnswered w asked (Some t) told = MayAnswer w asked t told
 
 -- what the turn tells of a disk that failed is what its call was told, unless the answer hides that
 abbrev pub TellsDisk : Option Turn → Answer → Type 0
@@ -52,7 +50,7 @@ module _ {S : Type 0} (m : Meaning S) where
   -- In a world for which the value stood, the call left this turn, or none, and was answered so; then it stands for the world
   -- behind that.
   pub record ServesAt (w : World) (asked : Call) (old new : S) (turn : Option Turn) (told : Answer) : Type 0 where
-    pub sound : IsSound HasSpelling w
+    pub sound : IsSound w
     pub names : map (λ n. n.name) (system_in w).nodes ≡ m.nodes old
     pub answers : IsAnswered w asked turn told
     pub does : m.does w old new asked turn told
@@ -77,7 +75,7 @@ module _ {S : Type 0} (m : Meaning S) where
   abbrev pub AreMade : World → S → List Turn → S → Type 0
   AreMade w old [] new = new ≡ old
   AreMade w old (t ∷ turns) new =
-      (asked : Call) × (told : Answer) × (next : S) × MayAnswer HasSpelling w asked t told × m.does w old next asked (Some t) told
+      (asked : Call) × (told : Answer) × (next : S) × MayAnswer w asked t told × m.does w old next asked (Some t) told
       × AreMade (after_turn w t) next turns new
 
   -- no more was asked for, or a call that left no turn

@@ -1,10 +1,8 @@
 -- What an answer shows of runs, whatever the disks tell.
 -- OpenVMS System Services Reference Manual, $GETQUI, on executing jobs.
-use Rattle.std.specs.Prelude.{List}
-use Rattle.std.specs.List.{All}
+use Rattle.std.specs.Prelude.{List, All}
 use Rattle.std.specs.Ordering.{nat_cmp}
-use Rattle.qm_kinds.specs.declared.work.Duty.{Duty}
-use Rattle.qm_model.specs.Consistent.{IsInOrder}
+use Rattle.qm_model.specs.Common.{Duty, IsInOrder}
 use Rattle.qm_model.specs.Duties.{HasProperWork}
 use Rattle.qm_history.specs.declared.call.Answer.{Answer}
 use Rattle.qm_history.specs.declared.call.Answer.TheVariants as answer

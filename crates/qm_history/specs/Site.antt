@@ -1,8 +1,7 @@
 -- The site that is made for nodes.
 -- OpenVMS System Manager's Manual, Managing the Queue Manager and Queue Database, on creating a queue database.
 use Rattle.std.specs.Prelude.{ℕ, false, List, [], ◌∷◌, map}
-use Rattle.qm_kinds.specs.declared.system.System.{System}
-use Rattle.qm_model.specs.First.{first_form, first_queue}
+use Rattle.qm_model.specs.Common.{System, first_form, first_queue}
 
 -- the node that has the first queue
 abbrev pub first_name : List (List ℕ) → List ℕ

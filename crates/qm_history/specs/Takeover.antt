@@ -2,18 +2,13 @@
 -- OpenVMS System Manager's Manual, Managing the Queue Manager and Queue Database, on failover; DCL Dictionary,
 -- START/QUEUE/MANAGER, /ON. This site's own: START/QUEUE/MANAGER as a move to the calling node, and the list without preference.
 use Rattle.std.specs.Prelude.{◌≡◌, ◌≢◌, ℕ, ◌+◌, Bool, true, false, is_none, ◌||◌, not, List, [], ◌∷◌, filter, Option, None, Some, IsNone}
-use Rattle.qm_kinds.specs.declared.input.Input.{Input}
+use Rattle.qm_model.specs.Common.{Input, System, is_among, node_at, acting, system_of}
 use Rattle.qm_kinds.specs.declared.input.Input.TheVariants as input
 use Rattle.qm_kinds.specs.declared.request.Request.TheVariants as request
-use Rattle.qm_kinds.specs.declared.system.System.{System}
-use Rattle.qm_model.specs.Find.{is_among}
-use Rattle.qm_model.specs.Standing.{node_at}
 use Rattle.qm_history.specs.declared.event.Event.{Event}
 use Rattle.qm_history.specs.declared.event.Event.TheVariants as event
 use Rattle.qm_history.specs.declared.world.World.{World}
 use Rattle.qm_history.specs.Accepted.{cluster}
-use Rattle.qm_model.specs.Acting.{acting}
-use Rattle.qm_model.specs.Folding.{system_of}
 use Rattle.qm_history.specs.Step.{after_event}
 use Rattle.qm_history.specs.World.{system_in, log_read}
 

@@ -4,8 +4,7 @@
 use Rattle.std.specs.Prelude.{ℕ, Bool, true, false, List, [], ◌∷◌, ◌++◌, length, map, flat_map, decimal, codes, Option, None, Some}
 use Rattle.std.specs.List.{range_with_len}
 use Rattle.qm_kinds.specs.declared.input.Input.TheVariants as input
-use Rattle.qm_kinds.specs.declared.query.Row.{Row}
-use Rattle.qm_model.specs.Standing.{node_at}
+use Rattle.qm_model.specs.Common.{Row, node_at}
 use Rattle.qm_model.specs.Transcript.{row_lines, full_line, journal_line}
 use Rattle.qm_model.specs.Words.{act_text, start_text, refusal_line}
 use Rattle.qm_history.specs.declared.call.Answer.{Answer}

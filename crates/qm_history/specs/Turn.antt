@@ -3,20 +3,10 @@
 -- System Services Reference Manual, $SNDJBC and $GETQUI. This site's own: fenced calls, compaction, and nodes that stop and start.
 use Rattle.std.specs.Prelude.{◌≡◌, ◌⊎◌, ◌<◌, ℕ, ◌==◌, Bool, true, false, not, ◌&&◌, if◌then◌else◌, List, [], ◌∷◌, length, Option, None, Some, Result, Ok, Err}
 use Rattle.std.specs.Option.{option_and_then, option_map_or}
-use Rattle.qm_kinds.specs.declared.input.Input.{Input}
+use Rattle.qm_model.specs.Common.{Input, Query, Row, Refusal, Reply, Request, applied, are_numbers_spent, Accepted, view, node_at, acting}
 use Rattle.qm_kinds.specs.declared.input.Input.TheVariants as input
-use Rattle.qm_kinds.specs.declared.query.Query.{Query}
-use Rattle.qm_kinds.specs.declared.query.Row.{Row}
-use Rattle.qm_kinds.specs.declared.record.Record.{Record}
-use Rattle.qm_kinds.specs.declared.refusal.Refusal.{Refusal}
 use Rattle.qm_kinds.specs.declared.refusal.Refusal.TheVariants as refused
-use Rattle.qm_kinds.specs.declared.reply.Reply.{Reply}
-use Rattle.qm_kinds.specs.declared.request.Request.{Request}
 use Rattle.qm_kinds.specs.declared.request.Request.TheVariants as request
-use Rattle.qm_model.specs.Applied.{applied, are_numbers_spent}
-use Rattle.qm_model.specs.Outcome.{Accepted}
-use Rattle.qm_model.specs.Rows.{view}
-use Rattle.qm_model.specs.Standing.{node_at}
 use Rattle.qm_history.specs.declared.call.Call.{Call}
 use Rattle.qm_history.specs.declared.call.Call.TheVariants as call
 use Rattle.qm_history.specs.declared.event.Event.{Event}
@@ -25,7 +15,6 @@ use Rattle.qm_history.specs.declared.turn.Turn.{Turn}
 use Rattle.qm_history.specs.declared.world.Role.{Role}
 use Rattle.qm_history.specs.declared.world.World.{World}
 use Rattle.qm_history.specs.Calls.{input_of, why_of, IsFromOutside, is_start}
-use Rattle.qm_model.specs.Acting.{acting}
 use Rattle.qm_history.specs.Step.{CanAllCome}
 use Rattle.qm_history.specs.Takeover.{takes_over, nodes_on, TakesOverThen}
 use Rattle.qm_history.specs.World.{system_in, is_live, held_by, role_in}
@@ -178,18 +167,17 @@ abbrev pub IsTakeoverAlone : World → ℕ → ℕ → Input → List Event → 
 IsTakeoverAlone w node reading asked events =
     (is_down w node asked ≡ false) × (takes_over w asked ≡ true) × TakesOverThen w node reading (nodes_on asked) (λ after own. own ≡ []) events
 
-module _ (HasSpelling : Record → Type 0) where
-  -- a turn of this call: its node is one of the cluster, and its events may come one after the other
-  pub record IsTurn (w : World) (asked : Call) (t : Turn) : Type 0 where
-    pub node_there : t.node < length (system_in w).nodes
-    pub why_is : t.why ≡ why_of asked
-    pub outside : IsFromOutside (input_of asked)
-    pub can_come : CanAllCome HasSpelling w t.events
+-- a turn of this call: its node is one of the cluster, and its events may come one after the other
+pub record IsTurn (w : World) (asked : Call) (t : Turn) : Type 0 where
+  pub node_there : t.node < length (system_in w).nodes
+  pub why_is : t.why ≡ why_of asked
+  pub outside : IsFromOutside (input_of asked)
+  pub can_come : CanAllCome w t.events
 
-  -- the call was served whole in this turn
-  abbrev pub IsTurnOf : World → Call → Turn → Type 0
-  IsTurnOf w asked t = IsTurn w asked t × IsServed w t.node t.moment asked t.events
+-- the call was served whole in this turn
+abbrev pub IsTurnOf : World → Call → Turn → Type 0
+IsTurnOf w asked t = IsTurn w asked t × IsServed w t.node t.moment asked t.events
 
-  -- the call's turn was cut short behind its takeover
-  abbrev pub IsCutShort : World → Call → Turn → Type 0
-  IsCutShort w asked t = IsTurn w asked t × IsTakeoverAlone w t.node t.moment (input_of asked) t.events
+-- the call's turn was cut short behind its takeover
+abbrev pub IsCutShort : World → Call → Turn → Type 0
+IsCutShort w asked t = IsTurn w asked t × IsTakeoverAlone w t.node t.moment (input_of asked) t.events

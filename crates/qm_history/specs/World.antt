@@ -1,18 +1,12 @@
 -- A queue system between two turns, and what makes it sound.
 -- OpenVMS System Manager's Manual, Managing the Queue Manager and Queue Database, on the queue manager and failover.
 -- This site's own: that each takeover begins a new epoch, and the record in doubt.
-use Rattle.std.specs.Prelude.{◌≡◌, ◌<◌, ℕ, ◌==◌, Bool, true, false, not, ◌&&◌, if◌then◌else◌, List, [], ◌∷◌, ◌++◌, length, slice_get, slice_set, unwrap_or, option_to_list, Option, None, Some, IfSome, IsSome, IsNone}
+use Rattle.std.specs.Prelude.{◌≡◌, ◌<◌, ℕ, ◌==◌, Bool, true, false, not, ◌&&◌, if◌then◌else◌, List, [], ◌∷◌, ◌++◌, length, slice_get, slice_set, unwrap_or, option_to_list, Option, None, Some, IfSome, IsSome, IsNone, option_map}
 use Rattle.std.specs.List.{list_all}
-use Rattle.std.specs.Option.{option_map}
-use Rattle.qm_kinds.specs.declared.record.Record.{Record}
-use Rattle.qm_kinds.specs.declared.system.Node.{Node}
-use Rattle.qm_kinds.specs.declared.system.System.{System}
-use Rattle.qm_model.specs.Rows.{ManagerRole}
-use Rattle.qm_model.specs.Standing.{node_at}
+use Rattle.qm_model.specs.Common.{Record, Node, System, ManagerRole, node_at, system_of}
 use Rattle.qm_history.specs.declared.world.Role.{Role}
 use Rattle.qm_history.specs.declared.world.World.{World}
 use Rattle.qm_history.specs.Accepted.{cluster, IsAccepted, IsNext}
-use Rattle.qm_model.specs.Folding.{system_of}
 
 -- the system that the log stands for
 abbrev pub system_in : World → System
@@ -63,13 +57,12 @@ gone_in w s = if is_none_taken w then cluster s else nodes_where (λ live n. n.u
 abbrev pub up_with : World → ℕ → System → List (List ℕ)
 up_with w node s = nodes_where (λ live n. live) (slice_set w.live node true) s.nodes
 
-module _ (HasSpelling : Record → Type 0) where
-  -- The log is accepted, each node has a place in both lists, the manager is a node of the cluster, and a record in doubt may
-  -- stand behind the log, and stands beside no manager.
-  pub record IsSound (w : World) : Type 0 where
-    pub log : IsAccepted HasSpelling w.log
-    pub live : length w.live ≡ length (system_in w).nodes
-    pub held : length w.held ≡ length (system_in w).nodes
-    pub manager : IfSome w.manager (λ (role : Role). role.node < length (system_in w).nodes)
-    pub doubt : IfSome w.doubt (IsNext HasSpelling (system_in w))
-    pub alone : IsSome w.doubt → IsNone w.manager
+-- The log is accepted, each node has a place in both lists, the manager is a node of the cluster, and a record in doubt may
+-- stand behind the log, and stands beside no manager.
+pub record IsSound (w : World) : Type 0 where
+  pub log : IsAccepted w.log
+  pub live : length w.live ≡ length (system_in w).nodes
+  pub held : length w.held ≡ length (system_in w).nodes
+  pub manager : IfSome w.manager (λ (role : Role). role.node < length (system_in w).nodes)
+  pub doubt : IfSome w.doubt (IsNext (system_in w))
+  pub alone : IsSome w.doubt → IsNone w.manager

@@ -5,16 +5,15 @@ ghost use Rattle.qm_history.specs.Blocks.{AreFirst, IsWorkOf, ComeInStretches, C
 ghost use Rattle.qm_model.specs.Kept.{KeptRun};
 ghost use Rattle.qm_history.specs.CourseLaws.{AreGiven, HandsOverNext, OfEachCourse, OfEachGiven, OfEachStretch, OfStretches, WhereEndedWell};
 
-use crate::format::Format;
 use qm_model::print_jobs_report_each_block;
 
 /// The steps that a node makes for its runs, and the one within which its course broke off, come in stretches, one for each
 /// fetch that gave a run to the node. The first step of each begins behind the mark with which the work was fetched, and each
 /// other one at the checkpoint of the step of that run before it. A step of a print run hands over the next block of its
 /// pages, if one is left.
-pub fn steps_come_in_stretches<F: Format>()
-    ensures stretches { OfEachCourse F.has_spelling (λ reads visits steps all. ComeInStretches [] all) }
-    ensures given { OfEachCourse F.has_spelling (λ reads visits steps all. AreGiven visits all) }
+pub fn steps_come_in_stretches()
+    ensures stretches { OfEachCourse (λ reads visits steps all. ComeInStretches [] all) }
+    ensures given { OfEachCourse (λ reads visits steps all. AreGiven visits all) }
     ensures next_block { (k : KeptRun) → k.work.kind ≡ Print → HandsOverNext k }
 {
     print_jobs_report_each_block();

@@ -8,19 +8,17 @@ ghost use Rattle.qm_history.specs.Legal.{after_turns};
 ghost use Rattle.qm_history.specs.Step.{after_event, after_events, CanAllCome};
 ghost use Rattle.qm_history.specs.Laws.{EpochsRise, OfEachEvent, OfEvents, OfHistories, OfLaterTurns, WasFound};
 
-use crate::format::Format;
-
 /// The events of a legal history may come one behind another, and lead to the world behind it. So what is said of events is
 /// said of histories.
-pub fn histories_are_events<F: Format>()
-    ensures come { OfHistories F.has_spelling (λ w turns. CanAllCome F.has_spelling w (events_of turns)) }
+pub fn histories_are_events()
+    ensures come { OfHistories (λ w turns. CanAllCome w (events_of turns)) }
     ensures world { (w : World) (turns : List Turn) → after_turns w turns ≡ after_events w (events_of turns) }
 {}
 
 /// The epochs of takeovers that stand rise, from above the greatest that was recorded or tried before.
-pub fn epochs_rise<F: Format>()
-    ensures events { OfEvents F.has_spelling EpochsRise }
-    ensures history { OfHistories F.has_spelling (λ w turns. EpochsRise w (events_of turns)) }
+pub fn epochs_rise()
+    ensures events { OfEvents EpochsRise }
+    ensures history { OfHistories (λ w turns. EpochsRise w (events_of turns)) }
 {}
 
 /// A refusal, a listing, what has no room, a node that may not be manager, a fenced call and a compaction leave the world.

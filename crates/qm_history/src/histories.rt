@@ -10,27 +10,25 @@ ghost use Rattle.qm_history.specs.World.{is_live};
 ghost use Rattle.qm_history.specs.Laws.{OfSoundTurns};
 ghost use Rattle.qm_history.specs.CourseLaws.{BeginsWithFirst, CompactionsMayCome, CoursesAreOfOwnTurns, CoursesStayBehindOthers, FollowsTurns, IsFenceAlone, IsListed, LineReader, OfEachCompaction, OfOtherEpochs, StandsBetween, StaysLegalWith, StaysLegalWithout, text_answered, VisitsFollow, RowPrinter};
 
-use crate::format::Format;
-
 /// TICK and COMPACT of a node that holds another epoch than the present manager's change nothing: the turn holds the fence
 /// alone, or the node is down.
-pub fn other_epochs_are_fenced<F: Format>()
-    ensures world { OfOtherEpochs F.has_spelling (λ w t role. after_turn w t ≡ w) }
-    ensures fenced { OfOtherEpochs F.has_spelling (λ w t role. is_live w t.node ≡ true → IsFenceAlone w t role) }
+pub fn other_epochs_are_fenced()
+    ensures world { OfOtherEpochs (λ w t role. after_turn w t ≡ w) }
+    ensures fenced { OfOtherEpochs (λ w t role. is_live w t.node ≡ true → IsFenceAlone w t role) }
 {}
 
 /// A turn that holds a fence changes nothing.
-pub fn fenced_turns_change_nothing<F: Format>()
-    ensures { OfSoundTurns F.has_spelling (λ w t. has_fence t.events ≡ true → after_turn w t ≡ w) }
+pub fn fenced_turns_change_nothing()
+    ensures { OfSoundTurns (λ w t. has_fence t.events ≡ true → after_turn w t ≡ w) }
 {}
 
 /// A legal history stays legal without a turn that holds a compaction alone, and with one more where that turn is legal, as it
 /// is at a live node that holds the manager's epoch. All other turns are made in the same worlds, so their answers, listings
 /// and duties stay.
-pub fn compactions_can_go_and_come<F: Format>()
-    ensures go { OfEachCompaction (StaysLegalWithout F.has_spelling) }
-    ensures come { OfEachCompaction (StaysLegalWith F.has_spelling) }
-    ensures may_come { CompactionsMayCome F.has_spelling }
+pub fn compactions_can_go_and_come()
+    ensures go { OfEachCompaction StaysLegalWithout }
+    ensures come { OfEachCompaction StaysLegalWith }
+    ensures may_come { CompactionsMayCome }
     ensures with_it { OfEachCompaction StandsBetween }
     ensures without_it { (w : World) (before behind : List Turn) → VisitsFollow w before behind }
 {}
@@ -51,7 +49,7 @@ pub fn turns_tell_their_answers()
 
 /// The course of a node is one of its own turns alone, each in the world in which it is made. So it stays where other nodes'
 /// turns come behind, and two histories in which the node makes the same turns in the same worlds have the same courses.
-pub fn courses_are_of_own_turns<F: Format>()
-    ensures own { (reads : LineReader) → CoursesAreOfOwnTurns F.has_spelling reads }
-    ensures behind { (reads : LineReader) → CoursesStayBehindOthers F.has_spelling reads }
+pub fn courses_are_of_own_turns()
+    ensures own { (reads : LineReader) → CoursesAreOfOwnTurns reads }
+    ensures behind { (reads : LineReader) → CoursesStayBehindOthers reads }
 {}

@@ -14,7 +14,6 @@ mod devices;
 mod entries;
 mod event;
 mod events;
-mod format;
 mod histories;
 mod marks;
 mod masters;
@@ -46,7 +45,6 @@ pub use events::{
     acknowledged_records_stay, epochs_rise, histories_are_events, logs_grow,
     some_events_change_nothing,
 };
-pub use format::{FileFormat, Format, QueueFile};
 pub use histories::{
     compactions_can_go_and_come, courses_are_of_own_turns, fenced_turns_change_nothing,
     other_epochs_are_fenced, texts_follow_turns, turns_tell_their_answers,
@@ -56,7 +54,7 @@ pub use masters::{masters_are_judged_once, queue_files_read_one_way};
 pub use printed::{blocks_come_again_elsewhere_behind_marks, no_block_is_left_out_of_a_stretch};
 pub use reading::lines_are_read_as_they_are_served;
 pub use serve::Serve;
-pub use sound::{sound_worlds_are_consistent, worlds_on_queue_files_stay_sound, worlds_stay_sound};
+pub use sound::{sound_worlds_are_consistent, worlds_stay_sound};
 pub use start::{files_that_hold_a_log_begin_a_world, programs_begin_sound};
 pub use takeovers::takeovers_tell_what_they_read;
 pub use turn::{Turn, Why};

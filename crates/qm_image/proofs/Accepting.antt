@@ -1,24 +1,11 @@
 -- What holds of a job that nothing refuses, and of the bytes of a file.
-use Rattle.std.proofs.Common.{◌≡◌, ℕ, ◌≤◌, ◌<◌, ◌+◌, ◌==◌, nat_le, nat_lt, Bool, true, false, cond, List, [], ◌∷◌, length, Option, None, Some, refl, sym, subst, arith}
-use Rattle.std.specs.Prelude.{is_none, is_some, IsSome}
+use Rattle.std.proofs.Common.{◌≡◌, ℕ, ◌≤◌, ◌<◌, ◌+◌, ◌==◌, nat_le, nat_lt, Bool, true, false, cond, List, [], ◌∷◌, length, Option, None, Some, refl, sym, subst, arith, is_none, is_some, IsSome}
 use Rattle.std.specs.Option.{option_map, option_map_or, option_and_then}
 use Rattle.std.proofs.lemmas.Bool.Decides.{nat_tests}
 use Rattle.std.proofs.lemmas.Option.{same_Some}
-use Rattle.qm_kinds.specs.declared.entry.EntryState.TheVariants.{Pending, Timed}
-use Rattle.qm_kinds.specs.declared.file.File.{File}
-use Rattle.qm_kinds.specs.declared.file.FileName.{FileName}
-use Rattle.qm_kinds.specs.declared.limits.TheConstants.{ENTRIES_LIMIT, FILE_LIMIT}
-use Rattle.qm_kinds.specs.declared.refusal.Refusal.{Refusal}
+use Rattle.qm_model.specs.Common.{Pending, Timed, File, FileName, ENTRIES_LIMIT, FILE_LIMIT, Refusal, Job, System, AreFiles, queue_named, file_named, same_file_name, run_of, is_other_kind, first_refusal, refused_where, refused_form, refused_characteristics}
 use Rattle.qm_kinds.specs.declared.refusal.Refusal.TheVariants.{NoSuchQueue, WrongKind, NoSuchFile, BadValue, EntriesFull, NumbersSpent}
-use Rattle.qm_kinds.specs.declared.request.Job.{Job}
-use Rattle.qm_kinds.specs.declared.system.System.{System}
-use Rattle.qm_model.specs.Consistent.{AreFiles}
-use Rattle.qm_model.specs.Find.{queue_named, file_named, same_file_name}
-use Rattle.qm_model.specs.JobStates.{run_of}
-use Rattle.qm_model.specs.Kinds.{is_other_kind}
-use Rattle.qm_model.specs.Outcome.{first_refusal, refused_where}
 use Rattle.qm_model.specs.Submitting.{has_bad_value, submit_refusal, state_of}
-use Rattle.qm_model.specs.Wanted.{refused_form, refused_characteristics}
 use Rattle.qm_image.proofs.Found.{found_all}
 use Rattle.qm_rules.proofs.Refusing.{none_first, none_where}
 

@@ -1,28 +1,12 @@
 -- An entry that is changed: it is found as the moment finds it, and what it becomes takes its place.
-use Rattle.std.proofs.Common.{◌≡◌, ◌∙◌, ℕ, ◌==◌, Bool, true, false, cond, not, ◌&&◌, List, [], ◌∷◌, filter, find, map, Option, None, Some, Ok, Err, nat_le, ◌<◌, refl, sym, ap, subst}
-use Rattle.std.specs.Prelude.{is_none, IfSome, IsSome}
-use Rattle.std.specs.List.{All}
+use Rattle.std.proofs.Common.{◌≡◌, ◌∙◌, ℕ, ◌==◌, Bool, true, false, cond, not, ◌&&◌, List, [], ◌∷◌, filter, find, map, Option, None, Some, Ok, Err, nat_le, ◌<◌, refl, sym, ap, subst, is_none, IfSome, IsSome, All, nat_cmp}
 use Rattle.std.specs.Option.{option_map_or, option_and_then}
-use Rattle.std.specs.Ordering.{nat_cmp}
 use Rattle.std.proofs.lemmas.List.Elements.{All-weaker}
 use Rattle.std.proofs.lemmas.Option.{same_Some}
-use Rattle.qm_kinds.specs.declared.entry.Entry.{Entry}
-use Rattle.qm_kinds.specs.declared.entry.EntryState.{EntryState}
-use Rattle.qm_kinds.specs.declared.entry.EntryState.TheVariants.{Pending, Holding, Timed, Running, Aborting, Retained}
-use Rattle.qm_kinds.specs.declared.refusal.Refusal.{Refusal}
+use Rattle.qm_model.specs.Common.{Entry, EntryState, Pending, Holding, Timed, Running, Aborting, Retained, Refusal, EntryIs, EntryChange, System, IsInOrder, is_over, state_at, entry_at, entry_numbered, is_pending, is_waiting, first_refusal, refused_where, replied, refused_form, refused_characteristics}
 use Rattle.qm_kinds.specs.declared.refusal.Refusal.TheVariants.{NoSuchEntry, EntryBusy, NotHeld, WrongKind}
-use Rattle.qm_kinds.specs.declared.reply.Act.TheVariants.{EntryIs}
-use Rattle.qm_kinds.specs.declared.request.EntryChange.{EntryChange}
 use Rattle.qm_kinds.specs.declared.request.Request.TheVariants as request
-use Rattle.qm_kinds.specs.declared.system.System.{System}
-use Rattle.qm_model.specs.Consistent.{IsInOrder}
-use Rattle.qm_model.specs.Due.{is_over, state_at, entry_at}
 use Rattle.qm_model.specs.Entries.{refused_queue, is_entry_of_other_kind, entry_change_refusal, set_entry_refusal, changed_entry, entry_set_to, entry_set}
-use Rattle.qm_model.specs.Find.{entry_numbered}
-use Rattle.qm_model.specs.JobStates.{is_pending, is_waiting}
-use Rattle.qm_model.specs.Outcome.{first_refusal, refused_where}
-use Rattle.qm_model.specs.Replying.{replied}
-use Rattle.qm_model.specs.Wanted.{refused_form, refused_characteristics}
 use Rattle.qm_parts.specs.Rooms.{HavePlacesFor}
 use Rattle.qm_parts.specs.Tables.{Tables}
 use Rattle.qm_parts.proofs.Ordered.{each_found}

@@ -1,22 +1,11 @@
 -- What is found in lists, and what of it a moment leaves.
-use Rattle.std.proofs.Common.{◌≡◌, ◌∙◌, ℕ, ◌+◌, ◌≤◌, ◌==◌, Bool, true, false, not, cond, List, [], ◌∷◌, count_by, filter, find, map, nat_le, Option, None, Some, refl, sym, ap, subst, arith}
+use Rattle.std.proofs.Common.{◌≡◌, ◌∙◌, ℕ, ◌+◌, ◌≤◌, ◌==◌, Bool, true, false, not, cond, List, [], ◌∷◌, count_by, filter, find, map, nat_le, Option, None, Some, refl, sym, ap, subst, arith, bytes_eq}
 use Rattle.std.specs.List.{All, list_any}
 use Rattle.std.specs.Option.{option_map_or}
-use Rattle.std.specs.Str.{bytes_eq}
 use Rattle.std.proofs.lemmas.List.Elements.{All-head, All-tail}
 use Rattle.std.proofs.lemmas.Option.{same_Some}
 use Rattle.std.proofs.lemmas.Slice.Eq.{bytes_eq-Decides}
-use Rattle.qm_kinds.specs.declared.entry.Entry.{Entry}
-use Rattle.qm_kinds.specs.declared.entry.EntryState.{EntryState}
-use Rattle.qm_kinds.specs.declared.entry.EntryState.TheVariants.{Pending, Holding, Timed, Running, Aborting, Retained}
-use Rattle.qm_kinds.specs.declared.queue.Queue.{Queue}
-use Rattle.qm_kinds.specs.declared.queue.QueueState.TheVariants.{Stopped}
-use Rattle.qm_model.specs.Due.{state_at, is_over, entry_at}
-use Rattle.qm_model.specs.Find.{queue_named, entry_numbered}
-use Rattle.qm_model.specs.JobStates.{run_of}
-use Rattle.qm_model.specs.Standing.{is_executing, occupies}
-use Rattle.qm_model.specs.States.{state_when_idle, when_idle}
-use Rattle.qm_model.specs.Stopping.{is_running_in}
+use Rattle.qm_model.specs.Common.{Entry, EntryState, Pending, Holding, Timed, Running, Aborting, Retained, Queue, Stopped, state_at, is_over, entry_at, queue_named, entry_numbered, run_of, is_executing, occupies, state_when_idle, when_idle, is_running_in}
 use Rattle.qm_parts.proofs.Counts.{one_if, count_cons, not_found}
 
 -- what is found has what all have

@@ -1,7 +1,6 @@
 -- What was taken for a request was prepared for it, and what was prepared is handed on.
 use Rattle.std.proofs.Common.{◌≡◌, ℕ, List, None, Result, Ok, Err, subst}
-use Rattle.qm_kinds.specs.declared.request.Request.{Request}
-use Rattle.qm_model.specs.Applied.{refusal_of}
+use Rattle.qm_model.specs.Common.{Request, refusal_of}
 use Rattle.qm_image.specs.declared.image.Image.{Image}
 use Rattle.qm_image.specs.declared.prepared.Change.{Change}
 use Rattle.qm_image.specs.declared.refused.Refused.{Refused}

@@ -1,9 +1,7 @@
 -- What is found under a number.
-use Rattle.std.proofs.Common.{◌≡◌, ℕ, ◌==◌, Bool, true, false, cond, List, [], ◌∷◌, find, Some, refl, subst}
-use Rattle.std.proofs.lemmas.Bool.{eqb-true}
+use Rattle.std.proofs.Common.{◌≡◌, ℕ, ◌==◌, Bool, true, false, cond, List, [], ◌∷◌, find, Some, refl, subst, eqb-true}
 use Rattle.std.proofs.lemmas.Option.{same_Some}
-use Rattle.qm_kinds.specs.declared.entry.Entry.{Entry}
-use Rattle.qm_model.specs.Find.{entry_numbered}
+use Rattle.qm_model.specs.Common.{Entry, entry_numbered}
 
 abbrev numbered : ℕ → Entry → Bool
 numbered n e = e.number == n

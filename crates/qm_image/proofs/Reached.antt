@@ -1,17 +1,8 @@
 -- What an acting moment leaves of what holds of the entries.
-use Rattle.std.proofs.Common.{◌≡◌, ◌∙◌, ℕ, Bool, true, false, cond, not, ◌&&◌, ◌||◌, List, [], ◌∷◌, filter, find, map, nat_le, None, Some, refl, ap}
-use Rattle.std.specs.List.{All}
+use Rattle.std.proofs.Common.{◌≡◌, ◌∙◌, ℕ, Bool, true, false, cond, not, ◌&&◌, ◌||◌, List, [], ◌∷◌, filter, find, map, nat_le, None, Some, refl, ap, All, bytes_eq}
 use Rattle.std.specs.Option.{option_map_or}
-use Rattle.std.specs.Str.{bytes_eq}
 use Rattle.std.proofs.lemmas.List.Elements.{All-filter, All-map}
-use Rattle.qm_kinds.specs.declared.entry.Entry.{Entry}
-use Rattle.qm_kinds.specs.declared.entry.EntryState.{EntryState}
-use Rattle.qm_kinds.specs.declared.entry.EntryState.TheVariants.{Pending, Holding, Timed, Running, Aborting, Retained}
-use Rattle.qm_kinds.specs.declared.file.FileName.{FileName}
-use Rattle.qm_model.specs.Due.{state_at, is_over, entry_at}
-use Rattle.qm_model.specs.JobStates.{run_of, runs_in}
-use Rattle.qm_model.specs.Find.{same_file_name}
-use Rattle.qm_model.specs.Queues.{runs_for}
+use Rattle.qm_model.specs.Common.{Entry, EntryState, Pending, Holding, Timed, Running, Aborting, Retained, FileName, state_at, is_over, entry_at, run_of, runs_in, same_file_name, runs_for}
 
 -- ---- what isn't found still isn't
 

@@ -1,30 +1,21 @@
 -- The entries of a system, put into its tables one after another.
-use Rattle.std.proofs.Common.{◌≡◌, ◌≢◌, ◌∙◌, ℕ, ◌+◌, ◌<◌, ◌==◌, Bool, true, false, cond, List, [], ◌∷◌, ◌++◌, length, get_or, take, Option, None, Some, IfSome, refl, sym, ap, subst, arith}
+use Rattle.std.proofs.Common.{◌≡◌, ◌≢◌, ◌∙◌, ℕ, ◌+◌, ◌<◌, ◌==◌, Bool, true, false, cond, List, [], ◌∷◌, ◌++◌, length, get_or, take, Option, None, Some, IfSome, refl, sym, ap, subst, arith, nat_cmp, Less, eqb-true}
 use Rattle.std.specs.List.{All, AllPairs, list_any}
 use Rattle.std.specs.Option.{option_map_or}
-use Rattle.std.specs.Ordering.{nat_cmp}
-use Rattle.std.specs.declared.cmp.Ordering.TheVariants.{Less}
-use Rattle.std.proofs.lemmas.Bool.{eqb-true}
 use Rattle.std.proofs.lemmas.Bool.Decides.{nat_tests}
 use Rattle.std.proofs.lemmas.List.{append-nil, get_or-take, get_or_default, length-take-le, take_more}
 use Rattle.std.proofs.lemmas.List.Elements.{All-weaker}
 use Rattle.std.proofs.lemmas.List.Folds.{list_any_none}
-use Rattle.qm_kinds.specs.declared.entry.Entry.{Entry}
-use Rattle.qm_kinds.specs.declared.entry.EntryState.{EntryState}
-use Rattle.qm_kinds.specs.declared.entry.EntryState.TheVariants.{Pending, Holding, Timed, Running, Aborting, Retained}
-use Rattle.qm_kinds.specs.declared.system.System.{System}
-use Rattle.qm_model.specs.Consistent.{IsConsistent, IsEntry}
-use Rattle.qm_model.specs.JobStates.{run_of}
-use Rattle.qm_model.specs.Standing.{has_run}
+use Rattle.qm_model.specs.Common.{Entry, EntryState, Pending, Holding, Timed, Running, Aborting, Retained, System, IsConsistent, IsEntry, run_of, has_run}
 use Rattle.qm_parts.specs.Mirror.{run_of_entry, run_in_state}
 use Rattle.qm_parts.specs.Tables.{Tables, with_tables}
 use Rattle.qm_image.specs.Restoring.{DifferInEntries}
-use Rattle.qm_timers.specs.Spool.{Counted, count_of}
-use Rattle.qm_timers.specs.Timers.{moment_of}
+use Rattle.qm_tables.specs.Spool.{Counted, count_of}
+use Rattle.qm_tables.specs.Timers.{moment_of}
 use Rattle.qm_image.specs.Timers.{AreTimersOf, moment_in}
 use Rattle.qm_image.proofs.Timed.{timers_behind}
-use Rattle.qm_timers.specs.SpoolCounts.{CountsOf, IsCountedAs}
-use Rattle.qm_timers.proofs.SpoolCounting.{counts_entered}
+use Rattle.qm_tables.specs.SpoolCounts.{CountsOf, IsCountedAs}
+use Rattle.qm_tables.proofs.SpoolCounting.{counts_entered}
 
 less_is : (m n : ℕ) → nat_cmp m n ≡ Less → m < n
 less_is m n h = grind (arith, nat_tests)

@@ -1,8 +1,6 @@
 -- An entry that has no run.
 use Rattle.std.proofs.Common.{◌≡◌, Option, None, IfSome, sym, subst}
-use Rattle.qm_kinds.specs.declared.entry.Entry.{Entry}
-use Rattle.qm_kinds.specs.declared.run.Run.{Run}
-use Rattle.qm_model.specs.JobStates.{run_of}
+use Rattle.qm_model.specs.Common.{Entry, Run, run_of}
 use Rattle.qm_parts.specs.Mirror.{run_of_entry}
 use Rattle.qm_parts.proofs.Mirrored.{no_run}
 

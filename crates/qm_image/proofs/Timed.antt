@@ -1,29 +1,19 @@
 -- The timers that entries want, after some of them came, went or changed.
-use Rattle.std.proofs.Common.{◌≡◌, ◌∙◌, ℕ, ◌<◌, ◌≤◌, ◌==◌, nat_le, nat_lt, Bool, true, false, not, cond, List, [], ◌∷◌, ◌++◌, get_or, length, filter, find, map, Option, Some, None, is_some, refl, sym, ap, subst, arith}
-use Rattle.std.specs.List.{All}
+use Rattle.std.proofs.Common.{◌≡◌, ◌∙◌, ℕ, ◌<◌, ◌≤◌, ◌==◌, nat_le, nat_lt, Bool, true, false, not, cond, List, [], ◌∷◌, ◌++◌, get_or, length, filter, find, map, Option, Some, None, is_some, refl, sym, ap, subst, arith, All, nat_cmp, bytes_eq, option_to_list}
 use Rattle.std.specs.Option.{IfSome, IsSome, option_and_then, option_map, option_map_or}
-use Rattle.std.specs.Ordering.{nat_cmp}
-use Rattle.std.specs.Str.{bytes_eq}
-use Rattle.std.specs.Prelude.{option_to_list}
 use Rattle.std.proofs.lemmas.Bool.Decides.{nat_tests}
 use Rattle.std.proofs.lemmas.List.Elements.{All-head, All-tail}
 use Rattle.std.proofs.lemmas.List.Sums.{length-filter, count_by-le-length}
-use Rattle.qm_kinds.specs.declared.entry.Entry.{Entry}
-use Rattle.qm_kinds.specs.declared.entry.EntryState.{EntryState}
-use Rattle.qm_kinds.specs.declared.entry.EntryState.TheVariants.{Pending, Holding, Timed, Running, Aborting, Retained}
-use Rattle.qm_model.specs.Consistent.{IsInOrder}
+use Rattle.qm_model.specs.Common.{Entry, EntryState, Pending, Holding, Timed, Running, Aborting, Retained, IsInOrder, entry_numbered, run_of, with_entry}
 use Rattle.qm_model.specs.Due.{state_at, is_over, entry_at, is_due}
-use Rattle.qm_model.specs.Find.{entry_numbered}
-use Rattle.qm_model.specs.JobStates.{run_of}
-use Rattle.qm_model.specs.Standing.{with_entry}
 use Rattle.qm_model.proofs.InsertLemmas.{one_goes}
 use Rattle.qm_parts.specs.Mirror.{run_of_entry}
 use Rattle.qm_parts.proofs.Asked.{none_of_number, fails_of_number, passes_of_number}
 use Rattle.qm_parts.proofs.Left.{agree_at_it}
 use Rattle.qm_parts.proofs.Ordered.{each_found}
 use Rattle.qm_parts.specs.Timing.{is_at_home}
-use Rattle.qm_timers.specs.Timers.{moment_of, timer_of, without, with_timer, later_than}
-use Rattle.qm_timers.proofs.TimerNumbers.{timer_of-All, absent_all, without-absent}
+use Rattle.qm_tables.specs.Timers.{moment_of, timer_of, without, with_timer, later_than}
+use Rattle.qm_tables.proofs.TimerNumbers.{timer_of-All, absent_all, without-absent}
 use Rattle.qm_image.specs.Preparing.{IsLeftOf}
 use Rattle.qm_image.proofs.Numbered.{number_found}
 use Rattle.qm_image.proofs.Runless.{runless}

@@ -1,8 +1,6 @@
 -- What a call owes that decides on a request, and takes the memory for its change.
 use Rattle.std.specs.Prelude.{◌≡◌, ℕ, List, IfOk, Result}
-use Rattle.qm_kinds.specs.declared.request.Request.{Request}
-use Rattle.qm_kinds.specs.declared.system.System.{System}
-use Rattle.qm_model.specs.Applied.{change_of, refusal_of}
+use Rattle.qm_model.specs.Common.{Request, System, change_of, refusal_of}
 use Rattle.qm_image.specs.declared.image.Image.{Image}
 use Rattle.qm_image.specs.declared.prepared.Change.{Change}
 use Rattle.qm_image.specs.declared.refused.Refused.{Refused}

@@ -1,8 +1,6 @@
 -- What the loss of nodes leaves of the entries, and the room that it takes.
 use Rattle.std.specs.Prelude.{ℕ, ◌≤◌, List, count_by, filter_map}
-use Rattle.qm_kinds.specs.declared.entry.Entry.{Entry}
-use Rattle.qm_kinds.specs.declared.queue.Queue.{Queue}
-use Rattle.qm_model.specs.Losing.{after_loss}
+use Rattle.qm_model.specs.Common.{Entry, Queue, after_loss}
 use Rattle.qm_parts.specs.Nodes.{is_run_on_one}
 use Rattle.qm_parts.specs.Tables.{Tables}
 

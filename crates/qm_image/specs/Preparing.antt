@@ -1,41 +1,20 @@
 -- Changes that are decided, and for which memory is taken.
 use Rattle.std.specs.Prelude.{◌≡◌, ◌<◌, ◌≤◌, ◌+◌, ◌^◌, ℕ, true, false, List, [], ◌∷◌, ◌++◌, length, count_by, find, All, Option, None, Some, IfSome, IsSome, vec_capacity}
 use Rattle.std.specs.Option.{option_map_or, option_and_then}
-use Rattle.qm_kinds.specs.declared.entry.Entry.{Entry}
-use Rattle.qm_kinds.specs.declared.file.FileName.{FileName}
-use Rattle.qm_kinds.specs.declared.form.Characteristic.{Characteristic}
-use Rattle.qm_kinds.specs.declared.form.Form.{Form}
-use Rattle.qm_kinds.specs.declared.limits.TheConstants.{ENTRIES_LIMIT, LAST_CHARACTERISTIC}
-use Rattle.qm_kinds.specs.declared.queue.Queue.{Queue}
-use Rattle.qm_kinds.specs.declared.queue.QueueState.{QueueState}
-use Rattle.qm_kinds.specs.declared.reply.Act.TheVariants.{Submitted, EntryDeleted}
-use Rattle.qm_kinds.specs.declared.system.System.{System}
+use Rattle.qm_model.specs.Common.{Entry, FileName, Characteristic, Form, ENTRIES_LIMIT, LAST_CHARACTERISTIC, Queue, QueueState, Submitted, EntryDeleted, System, at_moment, completed, IsConsistent, due, entry_set_to, entry_numbered, file_named, same_file_name, is_waiting, run_of, Accepted, replied, replied_with_queue, run_reported, settled, with_entry, with_queue, stopped_when_idle, queue_stopped, entry_aborting}
 use Rattle.qm_model.specs.Appending.{appended, is_spool_full}
-use Rattle.qm_model.specs.Applied.{at_moment, completed}
-use Rattle.qm_model.specs.Consistent.{IsConsistent}
-use Rattle.qm_model.specs.Due.{due}
 use Rattle.qm_model.specs.Characteristics.{is_characteristic_taken, characteristic_defined, characteristic_deleted}
-use Rattle.qm_model.specs.Entries.{entry_set_to}
 use Rattle.qm_model.specs.Filing.{dropped}
-use Rattle.qm_model.specs.Find.{entry_numbered, file_named, same_file_name}
 use Rattle.qm_model.specs.Forms.{is_form_taken, form_defined, form_deleted}
-use Rattle.qm_model.specs.JobStates.{is_waiting, run_of}
 use Rattle.qm_model.specs.Merging.{merged}
 use Rattle.qm_model.specs.Nodes.{ticked, node_up, nodes_lost, taken_over}
-use Rattle.qm_model.specs.Outcome.{Accepted}
 use Rattle.qm_model.specs.Queues.{queue_deleted, runs_for}
-use Rattle.qm_model.specs.Replying.{replied, replied_with_queue}
-use Rattle.qm_model.specs.Runs.{run_reported}
-use Rattle.qm_model.specs.Settling.{settled}
-use Rattle.qm_model.specs.Standing.{with_entry, with_queue}
-use Rattle.qm_model.specs.States.{stopped_when_idle}
-use Rattle.qm_model.specs.Stopping.{queue_stopped, entry_aborting}
-use Rattle.qm_queues.specs.declared.queues.settings.Settings.{Settings}
-use Rattle.qm_queues.specs.Queues.{with_queue_put}
-use Rattle.qm_queues.specs.Settings.{with_settings_and_state}
+use Rattle.qm_tables.specs.declared.queues.settings.Settings.{Settings}
+use Rattle.qm_tables.specs.Queues.{with_queue_put}
+use Rattle.qm_tables.specs.Settings.{with_settings_and_state}
 use Rattle.qm_parts.specs.Mirror.{run_of_entry}
 use Rattle.qm_parts.specs.Rooms.{CanPut, HavePlacesFor, is_home}
-use Rattle.qm_timers.specs.Spool.{HasRoomFor}
+use Rattle.qm_tables.specs.Spool.{HasRoomFor}
 use Rattle.qm_image.specs.declared.image.Image.{Image}
 use Rattle.qm_image.specs.declared.prepared.Prepared.{Prepared}
 use Rattle.qm_image.specs.declared.prepared.Change.{Change}

@@ -1,14 +1,12 @@
 -- How the entries of a system come into its tables, one by one.
 use Rattle.std.specs.Prelude.{◌≡◌, ◌==◌, ◌<◌, ◌+◌, ℕ, if◌then◌else◌, false, List, IfSome}
 use Rattle.std.specs.List.{list_any}
-use Rattle.qm_kinds.specs.declared.entry.Entry.{Entry}
-use Rattle.qm_kinds.specs.declared.file.FileName.{FileName}
-use Rattle.qm_model.specs.Standing.{has_run}
+use Rattle.qm_model.specs.Common.{Entry, FileName, has_run}
 use Rattle.qm_parts.specs.Mirror.{run_of_entry}
 use Rattle.qm_parts.specs.Tables.{Tables}
-use Rattle.qm_timers.specs.SpoolCounts.{IsCountedAs}
-use Rattle.qm_timers.specs.Spool.{Counted, count_of}
-use Rattle.qm_timers.specs.Timers.{moment_of}
+use Rattle.qm_tables.specs.SpoolCounts.{IsCountedAs}
+use Rattle.qm_tables.specs.Spool.{Counted, count_of}
+use Rattle.qm_tables.specs.Timers.{moment_of}
 use Rattle.qm_image.specs.Timers.{moment_in}
 
 -- the run that the entry may have has a number that was given, and no entry of the tables has it

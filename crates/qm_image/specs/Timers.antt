@@ -1,12 +1,7 @@
 -- The timers that entries want.
-use Rattle.std.specs.Prelude.{◌≡◌, ◌≤◌, ℕ, not, List, filter, map, Option, None, Some}
-use Rattle.std.specs.Option.{option_and_then}
-use Rattle.qm_kinds.specs.declared.entry.Entry.{Entry}
-use Rattle.qm_kinds.specs.declared.entry.EntryState.{EntryState}
-use Rattle.qm_kinds.specs.declared.entry.EntryState.TheVariants.{Pending, Holding, Timed, Running, Aborting, Retained}
-use Rattle.qm_model.specs.Due.{entry_at, is_over}
-use Rattle.qm_model.specs.Find.{entry_numbered}
-use Rattle.qm_timers.specs.Timers.{moment_of}
+use Rattle.std.specs.Prelude.{◌≡◌, ◌≤◌, ℕ, not, List, filter, map, Option, None, Some, option_and_then}
+use Rattle.qm_model.specs.Common.{Entry, EntryState, Pending, Holding, Timed, Running, Aborting, Retained, entry_at, is_over, entry_numbered}
+use Rattle.qm_tables.specs.Timers.{moment_of}
 
 -- the moment that a job in this state waits for, or until which it is kept, if there is one
 abbrev pub moment_in : EntryState → Option ℕ

@@ -1,8 +1,6 @@
 // Whether a file is there, and how long it is.
 ghost use Rattle.std.specs.Prelude.{◌≡◌, ◌≤◌, length, is_some};
-ghost use Rattle.qm_kinds.specs.declared.limits.TheConstants.{FILE_LIMIT};
-ghost use Rattle.qm_model.specs.Appending.{bytes_of};
-ghost use Rattle.qm_model.specs.Find.{file_named};
+ghost use Rattle.qm_model.specs.Common.{FILE_LIMIT, bytes_of, file_named};
 
 use crate::image::Image;
 use qm_kinds::FileName;

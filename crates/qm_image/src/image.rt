@@ -1,11 +1,11 @@
 // The image of a queue system.
 ghost use Rattle.std.proofs.Props.{props};
-ghost use Rattle.qm_timers.specs.SpoolCounts.{CountsOf};
+ghost use Rattle.qm_tables.specs.SpoolCounts.{CountsOf};
 ghost use Rattle.qm_image.specs.Timers.{AreTimersOf};
 
 use qm_kinds::{Moment, Name, Seq};
 use qm_parts::Parts;
-use qm_timers::Spool;
+use qm_tables::Spool;
 use std::alloc::Global;
 
 /// A queue system in memory.

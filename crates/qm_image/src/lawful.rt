@@ -1,8 +1,6 @@
 // What the names in a request keep to.
 ghost use Rattle.std.specs.Prelude.{◌≡◌, ◌↔◌, ◌&&◌, nat_lt, true, filter, map, slice_get, Some};
-ghost use Rattle.qm_model.specs.Built.{is_built};
-ghost use Rattle.qm_model.specs.Find.{is_among};
-ghost use Rattle.qm_model.specs.Lawful.{IsLawful};
+ghost use Rattle.qm_model.specs.Common.{is_built, is_among, IsLawful};
 ghost use Rattle.qm_image.specs.Image.{system_of};
 
 use crate::image::Image;

@@ -1,9 +1,7 @@
 // What an image shows.
-ghost use Rattle.std.specs.Prelude.{◌≡◌, IfSome, is_some};
-ghost use Rattle.std.specs.Option.{option_copied};
+ghost use Rattle.std.specs.Prelude.{◌≡◌, IfSome, is_some, option_copied};
 ghost use Rattle.qm_match.specs.Keys.{schedule_of};
-ghost use Rattle.qm_model.specs.Applied.{are_numbers_spent};
-ghost use Rattle.qm_model.specs.Find.{queue_named};
+ghost use Rattle.qm_model.specs.Common.{are_numbers_spent, queue_named};
 ghost use Rattle.qm_ready.specs.Jobs.{IsRowOf, fitting};
 ghost use Rattle.qm_parts.specs.Tables.{with_tables};
 ghost use Rattle.qm_image.specs.Image.{system_of};

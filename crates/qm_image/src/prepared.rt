@@ -3,8 +3,8 @@ use qm_kinds::{
     Characteristic, Entry, Fate, FileName, Form, Moment, Name, Queue, QueueState, Seq, Start,
     StopMode,
 };
-use qm_queues::Settings;
 use qm_rules::Reported;
+use qm_tables::Settings;
 
 /// A change that was decided on, with the memory that it takes. Bytes for a file that is there are still the request's, and so
 /// are the names of nodes that come up or go.

@@ -1,11 +1,9 @@
 // The image of a system's rows.
 ghost use Rattle.std.specs.Prelude.{◌≡◌, IfOk, OnOk, [], ◌∷◌, ◌++◌, ◌<◌, All, IsSome};
-ghost use Rattle.qm_kinds.specs.declared.limits.TheConstants.{ENTRIES_LIMIT};
-ghost use Rattle.qm_model.specs.Consistent.{IsConsistent};
-ghost use Rattle.qm_model.specs.Find.{file_named};
+ghost use Rattle.qm_model.specs.Common.{ENTRIES_LIMIT, IsConsistent, file_named};
 ghost use Rattle.qm_parts.specs.Tables.{with_tables};
-ghost use Rattle.qm_timers.specs.Spool.{count_of};
-ghost use Rattle.qm_timers.specs.SpoolCounts.{CountsOf};
+ghost use Rattle.qm_tables.specs.Spool.{count_of};
+ghost use Rattle.qm_tables.specs.SpoolCounts.{CountsOf};
 ghost use Rattle.qm_image.specs.Image.{system_of};
 ghost use Rattle.qm_image.specs.Restoring.{HasOwnRun, DifferInEntries, IsNamedOnceMore, HasTimerOf};
 ghost use Rattle.qm_image.specs.Timers.{AreTimersOf};
@@ -14,8 +12,7 @@ use crate::image::Image;
 use crate::moments::moment_in;
 use qm_kinds::{Entry, Queue, Seq, System};
 use qm_parts::{Parts, TableSet};
-use qm_queues::{FormTable, QueueTable};
-use qm_timers::Spool;
+use qm_tables::{FormTable, QueueTable, Spool};
 use std::alloc::{AllocError, Global};
 
 fn copy_queues(alloc: Global, queues: &[Queue]) -> Result<Vec<Queue>, AllocError>

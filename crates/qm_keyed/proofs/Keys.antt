@@ -1,12 +1,8 @@
 -- What the place of a key says of rows.
-use Rattle.std.proofs.Common.{◌≡◌, ◌∙◌, ℕ, suc, ◌+◌, ◌<◌, Bool, true, false, not, if◌then◌else◌, List, [], ◌∷◌, length, get_or, map, set, Some, None, is_some, sym, ap, arith}
-use Rattle.std.specs.List.{All, find, filter, insert, remove, slice_get}
-use Rattle.std.specs.Ordering.{is_eq, is_lt}
+use Rattle.std.proofs.Common.{◌≡◌, ◌∙◌, ℕ, suc, ◌+◌, ◌<◌, Bool, true, false, not, if◌then◌else◌, List, [], ◌∷◌, length, get_or, map, set, Some, None, is_some, sym, ap, arith, All, find, filter, insert, remove, slice_get, is_eq, is_lt, Ordering}
 use Rattle.std.specs.Cmp.{IsTotalOrder}
-use Rattle.std.specs.declared.cmp.Ordering.{Ordering}
 use Rattle.std.proofs.lemmas.List.{take-append-drop, set_split}
-use Rattle.qm_model.specs.Consistent.{IsInOrder}
-use Rattle.qm_model.specs.Inserting.{inserted}
+use Rattle.qm_model.specs.Common.{IsInOrder, inserted}
 use Rattle.qm_keyed.specs.Places.{StandsAt, BelongsAt}
 use Rattle.qm_keyed.specs.Rows.{Rows, with_row}
 use Rattle.qm_keyed.proofs.Rows.{PassesAt, passes, fails, find_at, find_none, filter_at, filter_none, map_at, map_none, next_behind, next_from}

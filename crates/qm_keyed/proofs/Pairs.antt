@@ -1,9 +1,8 @@
 -- What holds of each two rows of a list holds of those of its parts, and of those of a list that is made of them.
-use Rattle.std.proofs.Common.{ℕ, zero, suc, ◌+◌, ◌<◌, ◌≤◌, List, [], ◌∷◌, ◌++◌, length, get_or, take, drop, arith}
+use Rattle.std.proofs.Common.{ℕ, zero, suc, ◌+◌, ◌<◌, ◌≤◌, List, [], ◌∷◌, ◌++◌, length, get_or, take, drop, arith, slice_set}
 use Rattle.std.specs.List.{All, AllWithin, AllPairs}
 use Rattle.std.proofs.lemmas.List.{get_or-take, get_or-drop, length-take, length-drop, set_split}
 use Rattle.std.proofs.lemmas.List.Elements.{All-append}
-use Rattle.std.specs.Prelude.{slice_set}
 
 module _ {X : Type 0} (R : X → X → Type 0) where
   pub pairs_nil : AllPairs R []

@@ -1,12 +1,11 @@
 -- What a binary search finds in rows that are in order.
-use Rattle.std.proofs.Common.{◌≡◌, ◌∙◌, ℕ, ◌+◌, List, length, get_or, Result, Ok, Err, ap, sym, arith}
+use Rattle.std.proofs.Common.{◌≡◌, ◌∙◌, ℕ, ◌+◌, List, length, get_or, Result, Ok, Err, ap, sym, arith, Ordering}
 use Rattle.std.specs.Ordering.{ordering_reverse, is_lt}
 use Rattle.std.specs.Cmp.{IsTotalOrder, alike_right}
 use denote.Param.Members.{Mut}
 use denote.Ref.{Bor}
 use Rattle.std.specs.Fn.{Called, ComputesKey}
 use Rattle.std.specs.List.Sorted.{IsSearchInRange, IsBinarySearchResult, IsSortedBy}
-use Rattle.std.specs.declared.cmp.Ordering.{Ordering}
 use Rattle.std.proofs.lemmas.Fn.{always_returns_same}
 use Rattle.std.proofs.lemmas.List.Sorted.{searchable_from_sorted}
 use Rattle.qm_model.specs.Consistent.{IsInOrder}

@@ -25,8 +25,7 @@ pub trait Keyed<K: Ord> {
 
 /// Queues stand by name.
 impl Keyed<Name> for Queue {
-    ghost use Rattle.std.specs.Prelude.{refl};
-    ghost use Rattle.std.specs.Str.{bytes_eq};
+    ghost use Rattle.std.specs.Prelude.{refl, bytes_eq};
     ghost use Rattle.std.specs.Ordering.{is_lt};
     ghost use Rattle.std.specs.Cmp.Lexicographic.{texts_ties};
     ghost use Rattle.qm_model.specs.Find.{name_cmp};
@@ -69,8 +68,7 @@ impl Keyed<u16> for Form {
 
 /// and by name too.
 impl Keyed<Name> for Form {
-    ghost use Rattle.std.specs.Prelude.{refl};
-    ghost use Rattle.std.specs.Str.{bytes_eq};
+    ghost use Rattle.std.specs.Prelude.{refl, bytes_eq};
     ghost use Rattle.std.specs.Ordering.{is_lt};
     ghost use Rattle.std.specs.Cmp.Lexicographic.{texts_ties};
     ghost use Rattle.qm_model.specs.Find.{name_cmp};

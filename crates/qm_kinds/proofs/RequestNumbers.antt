@@ -1,6 +1,5 @@
 -- A kind of requests is read as its number is written.
-use Rattle.std.proofs.Common.{◌≡◌, ℕ, Bool, true, false, cond, eqb, Option, Some, None, refl, ap, ◌∙◌}
-use Rattle.std.proofs.lemmas.Bool.{eqb-true}
+use Rattle.std.proofs.Common.{◌≡◌, ℕ, Bool, true, false, cond, eqb, Option, Some, None, refl, ap, ◌∙◌, eqb-true}
 use Rattle.qm_kinds.specs.declared.request_kind.RequestKind.{RequestKind}
 use Rattle.qm_kinds.specs.declared.request_kind.RequestKind.TheVariants as request
 use Rattle.qm_kinds.specs.Requests.{request_kind, request_number}

@@ -1,6 +1,5 @@
 -- The names of files.
-use Rattle.std.specs.Prelude.{ℕ, ◌==◌, ◌+◌, List, [], ◌∷◌, ◌++◌, take, drop, position, Option, None, Some}
-use Rattle.std.specs.Option.{option_and_then, option_map}
+use Rattle.std.specs.Prelude.{ℕ, ◌==◌, ◌+◌, List, [], ◌∷◌, ◌++◌, take, drop, position, Option, None, Some, option_and_then, option_map}
 use Rattle.std.specs.Result.{result_ok}
 use Rattle.qm_kinds.specs.Text.{text_of, is_name_byte}
 use Rattle.qm_kinds.specs.declared.file.FileName.{FileName}

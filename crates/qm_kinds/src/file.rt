@@ -1,6 +1,5 @@
 // The files of a site, and their names.
-ghost use Rattle.std.specs.Prelude.{◌≡◌, ◌==◌, ◌<◌, Some, IfSome, length, position};
-ghost use Rattle.std.specs.Option.{option_copied};
+ghost use Rattle.std.specs.Prelude.{◌≡◌, ◌==◌, ◌<◌, Some, IfSome, length, position, option_copied};
 ghost use Rattle.qm_kinds.specs.Files.{file_name_of, file_name_from, file_name_text};
 
 use crate::name::Name;

@@ -1,8 +1,7 @@
 // The checkpoint of a job.
-ghost use Rattle.std.specs.Prelude.{◌≡◌, ◌≤◌, length};
+ghost use Rattle.std.specs.Prelude.{◌≡◌, ◌≤◌, length, nat_eq};
 ghost use Rattle.std.specs.Cmp.{partial_equiv_from_equiv};
 ghost use Rattle.std.specs.Cmp.Lexicographic.{pointwise, nat_list_eq_equiv};
-ghost use Rattle.std.specs.Prelude.{nat_eq};
 ghost use Rattle.qm_kinds.specs.Text.{mark_of};
 
 use crate::fault::MarkFault;

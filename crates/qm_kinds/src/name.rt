@@ -1,12 +1,9 @@
 // The names of nodes, queues, forms, jobs, users and devices.
 ghost use Rattle.std.specs.Char.{to_ascii_uppercase};
-ghost use Rattle.std.specs.Prelude.{position, not, ◌≡◌, ◌<◌, length, take, Some, true, IfSome, IfNone};
+ghost use Rattle.std.proofs.Common.{rules, position, not, ◌≡◌, ◌<◌, length, take, Some, true, IfSome, IfNone, nat_eq, nat_cmp};
 ghost use Rattle.std.specs.List.{list_all};
-ghost use Rattle.std.specs.Ordering.{nat_cmp};
 ghost use Rattle.std.specs.Cmp.{partial_equiv_from_equiv};
 ghost use Rattle.std.specs.Cmp.Lexicographic.{pointwise, slice_cmp, nat_list_eq_equiv, nat_list_cmp_total, texts_po, texts_ties};
-ghost use Rattle.std.specs.Prelude.{nat_eq};
-ghost use Rattle.std.proofs.Common.{rules};
 ghost use Rattle.qm_kinds.specs.Text.{IsText, is_name_byte, text_of};
 
 use crate::fault::NameFault;

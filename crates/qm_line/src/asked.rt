@@ -3,10 +3,10 @@ ghost use Rattle.std.specs.Prelude.{◌≡◌, ◌==◌, IfOk, OnErr};
 ghost use Rattle.std.specs.List.{list_any};
 ghost use Rattle.qm_dcl.specs.Command.{command_of};
 ghost use Rattle.qm_dcl.specs.Lines.{or_fault};
-ghost use Rattle.qm_script.specs.Asked.{line_with};
 ghost use Rattle.qm_script.specs.ClusterLines.{line_sort_view, user_line_view};
 ghost use Rattle.qm_script.specs.Extents.{joined};
 ghost use Rattle.qm_script.specs.Wanting.{MayTakeMemory};
+ghost use Rattle.qm_line.specs.Asked.{line_with};
 
 use qm_dcl::{DclFault, read_command};
 use qm_kinds::{Input, Moment, Name};
@@ -56,8 +56,10 @@ pub fn read_line(
     scans: &Scans,
     known: &[u64],
 ) -> Result<Input, AllocError>
-    ensures input { IfOk result (λ input. input ≡ line_with (user_line_view line.now) now scans.now known.now) }
-    ensures no_memory { OnErr result (MayTakeMemory (line_sort_view line.now.sort) (line_with (user_line_view line.now) now scans.now known.now)) }
+    ensures input { IfOk result (λ input. input
+        ≡ line_with (user_line_view line.now) now scans.now known.now) }
+    ensures no_memory { OnErr result (MayTakeMemory (line_sort_view line.now.sort)
+        (line_with (user_line_view line.now) now scans.now known.now)) }
 {
     match line.sort {
         LineSort::Command => read_whole(alloc, line.text, line.user, now),

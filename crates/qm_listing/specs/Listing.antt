@@ -2,9 +2,8 @@
 -- DCL Dictionary, SHOW QUEUE, on /ALL_JOBS.
 use Rattle.std.specs.Prelude.{◌≡◌, ℕ, IsTrue, List}
 use Rattle.qm_store.specs.Recorded.{Holds, Recorded}
-use Rattle.qm_disk.specs.Disk.{CrashState, Meaning}
+use Rattle.qm_history.specs.Common.{CrashState, Meaning, System}
 use Rattle.qm_history.specs.Ends.{show_text}
-use Rattle.qm_kinds.specs.declared.system.System.{System}
 use Rattle.qm_restore.specs.QueueFile.{IsSiteFile}
 
 -- the files hold a site with this system

@@ -65,7 +65,8 @@ fn listing_of<D: Disk>(alloc: Global, restored: &Restored<D>) -> Result<Vec<u8>,
 /// OpenVMS DCL Dictionary, SHOW QUEUE.
 pub fn list_queues<D: Disk>(alloc: Global, disk: D) -> Listed<D>
     ensures listing { IfOk result.text (λ text. IsListingOf D.meaning disk text.items) }
-    ensures fault { IsTrue D.meaning.tells → IfErr result.text (IsRestoreFault (D.meaning.seen disk)) }
+    ensures fault { IsTrue D.meaning.tells
+        → IfErr result.text (IsRestoreFault (D.meaning.seen disk)) }
 
     // The files read as before, and a crash at any moment leaves what it might before.
     ensures looks { OnlyLooks D.meaning disk result.disk }

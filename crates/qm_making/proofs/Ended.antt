@@ -1,28 +1,9 @@
 -- What is left of an entry whose run is reported.
-use Rattle.std.proofs.Common.{◌≡◌, ◌∙◌, ℕ, Bool, true, false, cond, List, [], find, Option, Some, None, refl, sym, ap, subst}
+use Rattle.std.proofs.Common.{◌≡◌, ◌∙◌, ℕ, Bool, true, false, cond, List, [], find, Option, Some, None, refl, sym, ap, subst, nat_cmp, bytes_eq}
 use Rattle.std.specs.Option.{IfSome, IsSome, option_map_or, option_and_then}
-use Rattle.std.specs.Ordering.{nat_cmp}
-use Rattle.std.specs.Str.{bytes_eq}
 use Rattle.std.proofs.lemmas.Option.{same_Some}
 use Rattle.std.proofs.lemmas.Slice.Eq.{bytes_eq-Decides}
-use Rattle.qm_kinds.specs.Sizes.{is_success}
-use Rattle.qm_kinds.specs.declared.entry.Entry.{Entry}
-use Rattle.qm_kinds.specs.declared.entry.EntryState.TheVariants.{Retained}
-use Rattle.qm_kinds.specs.declared.entry.Fate.{Fate}
-use Rattle.qm_kinds.specs.declared.entry.Fate.TheVariants.{Requeue, Finish, Remove}
-use Rattle.qm_kinds.specs.declared.queue.Queue.{Queue}
-use Rattle.qm_kinds.specs.declared.reply.Act.{Act}
-use Rattle.qm_kinds.specs.declared.run.Run.{Run}
-use Rattle.qm_kinds.specs.declared.system.System.{System}
-use Rattle.qm_model.specs.Consistent.{IsInOrder}
-use Rattle.qm_model.specs.Ending.{queue_retain, ended, requeued, fated, aborted_status, node_lost_status}
-use Rattle.qm_model.specs.Find.{entry_numbered}
-use Rattle.qm_model.specs.JobStates.{fate_of}
-use Rattle.qm_model.specs.Losing.{interrupted}
-use Rattle.qm_model.specs.Replying.{replied}
-use Rattle.qm_model.specs.Retaining.{is_retained, retained_until}
-use Rattle.qm_model.specs.Runs.{RunReport, MarkReport, EndReport, after_report, report_act, reported_of, run_reported, entry_of_run}
-use Rattle.qm_model.specs.Standing.{with_entry}
+use Rattle.qm_model.specs.Common.{is_success, Entry, Retained, Fate, Requeue, Finish, Remove, Queue, Act, Run, System, IsInOrder, queue_retain, ended, requeued, fated, aborted_status, node_lost_status, entry_numbered, fate_of, interrupted, replied, is_retained, retained_until, RunReport, MarkReport, EndReport, after_report, report_act, reported_of, run_reported, entry_of_run, with_entry}
 use Rattle.qm_parts.specs.Mirror.{run_of_entry}
 use Rattle.qm_parts.proofs.Ordered.{each_found}
 use Rattle.qm_image.specs.Preparing.{IsLeftOf}

@@ -1,25 +1,14 @@
 -- What holds of the entries still, after one of them came, went or changed.
-use Rattle.std.proofs.Common.{◌≡◌, ◌∙◌, ℕ, ◌+◌, ◌<◌, Bool, true, false, cond, List, [], ◌∷◌, ◌++◌, get_or, map, find, Option, Some, None, refl, sym, ap, arith, subst}
-use Rattle.std.specs.List.{All, count_by}
-use Rattle.std.specs.Option.{IfSome}
-use Rattle.std.specs.Ordering.{nat_cmp}
+use Rattle.std.proofs.Common.{◌≡◌, ◌∙◌, ℕ, ◌+◌, ◌<◌, Bool, true, false, cond, List, [], ◌∷◌, ◌++◌, get_or, map, find, Option, Some, None, refl, sym, ap, arith, subst, All, count_by, IfSome, nat_cmp, append-nil}
 use Rattle.std.proofs.lemmas.List.Sums.{sum_by-cons}
-use Rattle.qm_model.specs.Consistent.{IsInOrder}
-use Rattle.qm_model.specs.Find.{same_file_name, entry_numbered}
+use Rattle.qm_model.specs.Common.{IsInOrder, same_file_name, entry_numbered, Entry, Fate, EntryState, Pending, Holding, Timed, Running, Aborting, Retained, with_entry, is_running_in, state_with_fate, with_fate, reset_fate, reset_in}
 use Rattle.qm_parts.proofs.Left.{absent_stays, agree_at_it}
-use Rattle.qm_timers.proofs.NamedRows.{itself}
-use Rattle.std.proofs.lemmas.List.{append-nil}
+use Rattle.qm_tables.proofs.NamedRows.{itself}
 use Rattle.std.proofs.lemmas.List.Elements.{All-head, All-tail}
-use Rattle.qm_kinds.specs.declared.entry.Entry.{Entry}
-use Rattle.qm_kinds.specs.declared.entry.Fate.{Fate}
-use Rattle.qm_kinds.specs.declared.entry.EntryState.{EntryState}
-use Rattle.qm_kinds.specs.declared.entry.EntryState.TheVariants.{Pending, Holding, Timed, Running, Aborting, Retained}
 use Rattle.qm_model.specs.Merging.{moved_to, waits_in}
-use Rattle.qm_model.specs.Standing.{with_entry}
-use Rattle.qm_model.specs.Stopping.{is_running_in, state_with_fate, with_fate, reset_fate, reset_in}
-use Rattle.qm_timers.specs.Spool.{Counted, count_of}
-use Rattle.qm_timers.specs.SpoolCounts.{CountsOf, IsCountedAs}
-use Rattle.qm_timers.proofs.SpoolCounting.{counts_entered, counts_kept, counts_changed}
+use Rattle.qm_tables.specs.Spool.{Counted, count_of}
+use Rattle.qm_tables.specs.SpoolCounts.{CountsOf, IsCountedAs}
+use Rattle.qm_tables.proofs.SpoolCounting.{counts_entered, counts_kept, counts_changed}
 use Rattle.qm_image.specs.Timers.{moment_in, AreTimersOf}
 use Rattle.qm_image.proofs.Timed.{wanted_map, wanted_changed}
 use Rattle.qm_image.specs.Preparing.{IsLeftOf}

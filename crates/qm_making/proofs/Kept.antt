@@ -1,7 +1,7 @@
 -- What stays where entries come, go or change, one after another.
 use Rattle.std.proofs.Common.{◌∙◌, refl, ap, arith}
 use Rattle.qm_parts.specs.Tables.{Tables}
-use Rattle.qm_timers.specs.Spool.{Kept}
+use Rattle.qm_tables.specs.Spool.{Kept}
 use Rattle.qm_image.specs.declared.image.Image.{Image}
 use Rattle.qm_making.specs.Keeping.{KeepsOthers}
 

@@ -3,3 +3,4 @@ pub mod Kept
 pub mod Ended
 pub mod Lost
 pub mod Stopped
+pub mod Filling

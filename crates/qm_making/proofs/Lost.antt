@@ -1,34 +1,16 @@
 -- What the loss of nodes leaves of the entries, one after another.
-use Rattle.std.proofs.Common.{◌≡◌, ◌∙◌, ℕ, ◌+◌, ◌≤◌, ◌==◌, nat_le, Bool, true, false, not, cond, List, [], ◌∷◌, ◌++◌, get_or, length, count_by, filter, filter_map, find, map, Option, Some, None, refl, sym, ap, subst, arith}
+use Rattle.std.proofs.Common.{◌≡◌, ◌∙◌, ℕ, ◌+◌, ◌≤◌, ◌==◌, nat_le, Bool, true, false, not, cond, List, [], ◌∷◌, ◌++◌, get_or, length, count_by, filter, filter_map, find, map, Option, Some, None, refl, sym, ap, subst, arith, nat_cmp, option_to_list, bytes_eq}
 use Rattle.std.specs.List.{cons_option}
 use Rattle.std.specs.Option.{IfSome, option_map_or}
-use Rattle.std.specs.Ordering.{nat_cmp}
-use Rattle.std.specs.Prelude.{option_to_list}
-use Rattle.std.specs.Str.{bytes_eq}
 use Rattle.std.proofs.lemmas.List.Sums.{length-filter, count_by-le-length}
-use Rattle.qm_kinds.specs.Sizes.{is_success}
-use Rattle.qm_kinds.specs.declared.entry.Entry.{Entry}
-use Rattle.qm_kinds.specs.declared.entry.EntryState.{EntryState}
-use Rattle.qm_kinds.specs.declared.entry.EntryState.TheVariants.{Pending, Holding, Timed, Running, Aborting, Retained}
-use Rattle.qm_kinds.specs.declared.entry.Fate.{Fate}
-use Rattle.qm_kinds.specs.declared.entry.Fate.TheVariants.{Requeue, Finish, Remove}
-use Rattle.qm_kinds.specs.declared.queue.Queue.{Queue}
-use Rattle.qm_kinds.specs.declared.system.Node.{Node}
-use Rattle.qm_model.specs.Consistent.{IsInOrder}
-use Rattle.qm_model.specs.Due.{entry_at, is_over, state_at}
-use Rattle.qm_model.specs.Ending.{aborted_status, ended, fated, node_lost_status, queue_retain, requeued}
-use Rattle.qm_model.specs.Find.{entry_numbered, is_among}
-use Rattle.qm_model.specs.JobStates.{fate_of, run_of, runs_on}
-use Rattle.qm_model.specs.Losing.{after_loss, interrupted, without_node}
+use Rattle.qm_model.specs.Common.{is_success, Entry, EntryState, Pending, Holding, Timed, Running, Aborting, Retained, Fate, Requeue, Finish, Remove, Queue, Node, IsInOrder, entry_at, is_over, state_at, aborted_status, ended, fated, node_lost_status, queue_retain, requeued, entry_numbered, is_among, fate_of, run_of, runs_on, after_loss, interrupted, without_node, is_retained, retained_until, with_entry}
 use Rattle.qm_model.specs.Nodes.{up_exactly}
-use Rattle.qm_model.specs.Retaining.{is_retained, retained_until}
-use Rattle.qm_model.specs.Standing.{with_entry}
 use Rattle.qm_parts.specs.Nodes.{is_run_on_one}
 use Rattle.qm_parts.proofs.Counts.{count_agree, count_cons, found_passes}
 use Rattle.qm_parts.proofs.Left.{agree_at_it}
 use Rattle.qm_parts.proofs.Reach.{count_filter_le, count_map}
-use Rattle.qm_timers.specs.Timers.{is_before, with_timer, without}
-use Rattle.qm_timers.proofs.TimerNumbers.{length-inserted}
+use Rattle.qm_tables.specs.Timers.{is_before, with_timer, without}
+use Rattle.qm_tables.proofs.TimerNumbers.{length-inserted}
 use Rattle.qm_image.specs.Losing.{entries_left}
 use Rattle.qm_image.specs.Preparing.{IsLeftOf}
 use Rattle.qm_image.specs.Timers.{entries_at}

@@ -1,24 +1,12 @@
 -- What a stop makes of the queue of a name.
-use Rattle.std.proofs.Common.{◌≡◌, ◌∙◌, ℕ, suc, Bool, true, false, cond, List, [], ◌∷◌, get_or, Some, None, refl, sym, ap, arith}
-use Rattle.std.specs.List.{All}
-use Rattle.std.specs.Str.{bytes_eq}
+use Rattle.std.proofs.Common.{◌≡◌, ◌∙◌, ℕ, suc, Bool, true, false, cond, List, [], ◌∷◌, get_or, Some, None, refl, sym, ap, arith, All, bytes_eq, Less, Equal}
 use Rattle.std.specs.Cmp.{tied_itself}
 use Rattle.std.specs.Cmp.Lexicographic.{nat_list_cmp_total}
-use Rattle.std.specs.declared.cmp.Ordering.TheVariants.{Less, Equal}
 use Rattle.std.proofs.lemmas.List.Elements.{All-tail}
 use Rattle.std.proofs.lemmas.Slice.Eq.{bytes_eq-Decides}
-use Rattle.qm_kinds.specs.declared.entry.Entry.{Entry}
-use Rattle.qm_kinds.specs.declared.queue.Queue.{Queue}
-use Rattle.qm_kinds.specs.declared.queue.QueueState.{QueueState}
-use Rattle.qm_kinds.specs.declared.request.StopMode.{StopMode}
-use Rattle.qm_kinds.specs.declared.request.StopMode.TheVariants.{Pause, Next, Reset}
-use Rattle.qm_model.specs.Consistent.{IsInOrder}
-use Rattle.qm_model.specs.Find.{name_cmp, queue_named}
-use Rattle.qm_model.specs.Standing.{with_queue}
-use Rattle.qm_model.specs.States.{state_on_stop}
-use Rattle.qm_model.specs.Stopping.{stopped_queue, entries_on_stop}
-use Rattle.qm_timers.specs.Spool.{Counted}
-use Rattle.qm_timers.specs.SpoolCounts.{CountsOf}
+use Rattle.qm_model.specs.Common.{Entry, Queue, QueueState, StopMode, Pause, Next, Reset, IsInOrder, name_cmp, queue_named, with_queue, state_on_stop, stopped_queue, entries_on_stop}
+use Rattle.qm_tables.specs.Spool.{Counted}
+use Rattle.qm_tables.specs.SpoolCounts.{CountsOf}
 use Rattle.qm_making.proofs.Entries.{timers_reset, counts_reset}
 use Rattle.qm_image.specs.Timers.{AreTimersOf}
 

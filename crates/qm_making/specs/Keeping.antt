@@ -1,8 +1,6 @@
 -- What stays where entries come, go or change.
-use Rattle.std.specs.Prelude.{◌≡◌, ◌≤◌, ◌+◌, ℕ, false, length, IfSome}
-use Rattle.std.specs.Str.{bytes_eq}
-use Rattle.qm_kinds.specs.declared.entry.Entry.{Entry}
-use Rattle.qm_model.specs.Find.{entry_numbered}
+use Rattle.std.specs.Prelude.{◌≡◌, ◌≤◌, ◌+◌, ℕ, false, length, IfSome, bytes_eq}
+use Rattle.qm_model.specs.Common.{Entry, entry_numbered}
 use Rattle.qm_parts.specs.Rooms.{HavePlacesFor}
 use Rattle.qm_parts.specs.Tables.{Tables}
 use Rattle.qm_image.specs.declared.image.Image.{Image}

@@ -1,8 +1,6 @@
 -- What a change comes to that is made of an image.
 use Rattle.std.specs.Prelude.{◌≡◌}
-use Rattle.qm_kinds.specs.declared.reply.Act.{Act}
-use Rattle.qm_model.specs.Outcome.{Accepted}
-use Rattle.qm_model.specs.Replying.{replied}
+use Rattle.qm_model.specs.Common.{Act, Accepted, replied}
 use Rattle.qm_image.specs.declared.image.Image.{Image}
 use Rattle.qm_image.specs.Image.{system_of}
 

@@ -6,7 +6,7 @@ ghost use Rattle.qm_image.specs.Image.{system_of};
 ghost use Rattle.qm_making.specs.Keeping.{KeepsOthers};
 ghost use Rattle.qm_image.specs.Preparing.{found};
 ghost use Rattle.qm_image.specs.Timers.{entries_at, HasCome};
-ghost use Rattle.qm_timers.specs.Timers.{moment_of};
+ghost use Rattle.qm_tables.specs.Timers.{moment_of};
 
 use crate::making::leave;
 use qm_ending::{Leaving, leave_files};

@@ -1,6 +1,7 @@
 //! The changes of an image that were prepared are made, each by a call that takes no memory: all room which it needs is there.
 #![tactic(auto)]
 
+mod deciding;
 mod defining;
 mod due;
 mod entering;
@@ -10,6 +11,12 @@ mod merging;
 mod nodes;
 mod queue_act;
 
+pub use deciding::{
+    prepare_append, prepare_define_characteristic, prepare_define_form,
+    prepare_delete_characteristic, prepare_delete_form, prepare_delete_queue, prepare_drop,
+    prepare_fill, prepare_initialize, prepare_node_lost, prepare_node_up, prepare_set,
+    prepare_start, prepare_stop, prepare_took,
+};
 pub use defining::{define_characteristic, define_form, remove_characteristic, remove_form};
 pub use due::reach;
 pub use entering::enter;

@@ -1,18 +1,14 @@
 // Changes of queues and entries are made.
 ghost use Rattle.std.specs.Prelude.{◌≡◌, ◌<◌, ◌≤◌, find, None, IfSome};
 ghost use Rattle.std.specs.Ordering.{nat_cmp};
-ghost use Rattle.qm_model.specs.Consistent.{IsConsistent, IsInOrder};
-ghost use Rattle.qm_model.specs.Find.{entry_numbered};
+ghost use Rattle.qm_model.specs.Common.{IsConsistent, IsInOrder, entry_numbered, run_reported, with_queue, queue_stopped, stopped_queue, entries_on_stop, entry_aborting};
 ghost use Rattle.qm_model.specs.Queues.{runs_for, queue_deleted};
-ghost use Rattle.qm_model.specs.Runs.{run_reported};
-ghost use Rattle.qm_model.specs.Standing.{with_queue};
-ghost use Rattle.qm_model.specs.Stopping.{queue_stopped, stopped_queue, entries_on_stop, entry_aborting};
 ghost use Rattle.qm_parts.specs.Rooms.{CanPut};
 ghost use Rattle.qm_rules.specs.Ending.{report_of};
 ghost use Rattle.qm_image.specs.Image.{system_of};
 ghost use Rattle.qm_making.specs.Keeping.{KeepsOthers, KeepsTimerRoom, HasPlaceIfMoved};
 ghost use Rattle.qm_image.specs.Timers.{moment_left};
-ghost use Rattle.qm_timers.specs.Timers.{with_timer, without};
+ghost use Rattle.qm_tables.specs.Timers.{with_timer, without};
 ghost use Rattle.qm_image.specs.Preparing.{queue_put, queue_changed, entry_replaced, entry_removed, with_left, CanReplace, IsLeftOf};
 ghost use Rattle.qm_making.specs.Replying.{IsMade};
 
@@ -21,8 +17,8 @@ use qm_ending::{Leaving, after_report, fate_of, leave_files, report_act};
 use qm_image::{Image, moment_in};
 use qm_kinds::{Act, Entry, Fate, Moment, Name, Queue, QueueState, StopMode};
 use qm_parts::{Parts, see_entries};
-use qm_queues::Settings;
 use qm_rules::{Reported, state_on_stop};
+use qm_tables::Settings;
 
 // The queue has the state that a stop leaves, if it is there.
 fn set_stopped(parts: &mut Parts, name: &Name, how: StopMode)

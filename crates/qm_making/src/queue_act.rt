@@ -1,9 +1,8 @@
 // What is replied to a request that changes a queue.
 ghost use Rattle.std.specs.Prelude.{◌≡◌};
 ghost use Rattle.std.specs.Option.{option_copied, option_map_or};
-ghost use Rattle.qm_kinds.specs.declared.queue.QueueState.TheVariants.{Stopped};
+ghost use Rattle.qm_model.specs.Common.{Stopped, state_when_idle, stopped_when_idle};
 ghost use Rattle.qm_model.specs.Replying.{state_of_queue};
-ghost use Rattle.qm_model.specs.States.{state_when_idle, stopped_when_idle};
 ghost use Rattle.qm_image.specs.Image.{system_of};
 
 use qm_image::Image;

@@ -1,8 +1,6 @@
 -- What counts of jobs where a queue chooses one of them.
 use Rattle.std.specs.Prelude.{ℕ, ◌==◌, nat_lt, Bool, ◌&&◌, ◌||◌, if◌then◌else◌}
-use Rattle.qm_kinds.specs.declared.entry.Entry.{Entry}
-use Rattle.qm_kinds.specs.declared.queue.Queue.{Queue}
-use Rattle.qm_model.specs.Kinds.{is_print_queue}
+use Rattle.qm_model.specs.Common.{Entry, Queue, is_print_queue}
 use Rattle.qm_match.specs.declared.order.Key.{Key}
 use Rattle.qm_match.specs.declared.order.Schedule.{Schedule}
 use Rattle.qm_match.specs.declared.order.Schedule.TheVariants.{BySize, ByNumber}

@@ -1,8 +1,6 @@
 // What follows for whoever keeps keys in order.
 ghost use Rattle.std.specs.Prelude.{◌≡◌, ◌≢◌, ◌||◌, true, false};
-ghost use Rattle.qm_kinds.specs.declared.entry.Entry.{Entry};
-ghost use Rattle.qm_kinds.specs.declared.queue.Queue.{Queue};
-ghost use Rattle.qm_model.specs.Before.{before};
+ghost use Rattle.qm_model.specs.Common.{Entry, Queue, before};
 ghost use Rattle.qm_match.specs.declared.order.Key.{Key};
 ghost use Rattle.qm_match.specs.declared.order.Schedule.{Schedule};
 ghost use Rattle.qm_match.specs.Keys.{comes_before, key_of, schedule_of};

@@ -1,18 +1,10 @@
 -- The blocks and reports of print and batch jobs.
-use Rattle.std.proofs.Common.{◌≡◌, ℕ, Bool, true, false, List, [], ◌∷◌, ◌++◌, length, map, refl}
-use Rattle.std.specs.Prelude.{codes}
-use Rattle.std.specs.List.{flat_map}
+use Rattle.std.proofs.Common.{◌≡◌, ℕ, Bool, true, false, List, [], ◌∷◌, ◌++◌, length, map, refl, codes, flat_map}
 use Rattle.std.specs.Fmt.{digits}
 use Rattle.qm_kinds.specs.declared.entry.JobKind.TheVariants.{Batch, Print}
-use Rattle.qm_kinds.specs.declared.form.Shape.{Shape}
-use Rattle.qm_model.specs.First.{first_form}
-use Rattle.qm_model.specs.Filing.{filling}
-use Rattle.qm_kinds.specs.declared.work.Work.{Work}
-use Rattle.qm_kinds.specs.declared.work.Place.{Place}
-use Rattle.qm_kinds.specs.declared.work.Report.{Report}
+use Rattle.qm_model.specs.Common.{Shape, first_form, filling, Work, Place, Report, page_blocks}
 use Rattle.qm_kinds.specs.declared.work.Report.TheVariants.{Mark, Done}
 use Rattle.qm_model.specs.Reports.{Step, Handed, Reported, begin, course, reports, next_report, blocks_before_report}
-use Rattle.qm_model.specs.Pages.{page_blocks}
 
 -- one copy of a text on a form
 abbrev printing : Shape → List ℕ → Work

@@ -1,17 +1,12 @@
 -- The requests that are built are lawful.
-use Rattle.std.proofs.Common.{◌≡◌, ℕ, ◌<◌, Bool, true, false, not, List, length, Option, None, Some, refl}
+use Rattle.std.proofs.Common.{◌≡◌, ℕ, ◌<◌, Bool, true, false, not, List, length, Option, None, Some, refl, leb-true, IfSome}
 use Rattle.std.specs.Char.{is_ascii_digit}
 use Rattle.std.specs.List.{list_all}
-use Rattle.std.proofs.lemmas.Bool.{leb-true}
-use Rattle.std.specs.Prelude.{IfSome}
 use Rattle.std.specs.Option.{option_map_or}
 use Rattle.qm_kinds.specs.declared.name.TheConstants.{SHORT_NAME_BYTES}
-use Rattle.qm_kinds.specs.declared.request.Request.{Request}
+use Rattle.qm_model.specs.Common.{Request, System, is_built, is_short, is_definable, IsLawful}
 use Rattle.qm_kinds.specs.declared.request.Request.TheVariants.{Append, Fill, Drop, DefineForm, DeleteForm, DefineCharacteristic, DeleteCharacteristic, InitializeQueue, SetQueue, StartQueue, StopQueue, AbortJob, DeleteQueue, Merge, Submit, SetEntry, DeleteEntry, Mark, Done, Tick}
-use Rattle.qm_kinds.specs.declared.system.System.{System}
-use Rattle.qm_model.specs.Built.{is_built, is_short, is_definable}
 use Rattle.qm_model.specs.Consistent.{IsShort, IsDefinable}
-use Rattle.qm_model.specs.Lawful.{IsLawful}
 use Rattle.qm_model.proofs.SettlingLemmas.{and_left, and_right}
 
 short : (name : List ℕ) → is_short name ≡ true → IsShort name

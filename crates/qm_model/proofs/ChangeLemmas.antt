@@ -1,29 +1,12 @@
 -- What keeps a system sound, which is consistent but for queues that are stopping.
-use Rattle.std.proofs.Common.{◌≡◌, ◌≢◌, ℕ, suc, ◌<◌, ◌≤◌, ◌⊎◌, inl, inr, Bool, true, false, cond, List, [], ◌∷◌, ◌++◌, length, refl, sym, ◌∙◌, ap, subst, arith, Option, None, Some, All, AllPairs, Contains, filter, find, map}
-use Rattle.std.specs.Prelude.{◌==◌, IfSome, IsSome, filter_map}
+use Rattle.std.proofs.Common.{◌≡◌, ◌≢◌, ℕ, suc, ◌<◌, ◌≤◌, ◌⊎◌, inl, inr, Bool, true, false, cond, List, [], ◌∷◌, ◌++◌, length, refl, sym, ◌∙◌, ap, subst, arith, Option, None, Some, All, AllPairs, Contains, filter, find, map, get_or, ◌==◌, IfSome, IsSome, filter_map, bytes_eq, nat_cmp, Less}
 use Rattle.std.specs.List.{list_any, cons_option}
-use Rattle.std.specs.Option.{option_map, option_to_list}
-use Rattle.std.specs.Str.{bytes_eq}
-use Rattle.std.specs.Ordering.{nat_cmp}
-use Rattle.std.specs.declared.cmp.Ordering.TheVariants.{Less}
+use Rattle.std.specs.Option.{option_map, option_map_or, option_to_list}
 use Rattle.std.proofs.lemmas.List.Elements.{All-weaker, All-map}
-use Rattle.qm_kinds.specs.declared.entry.Entry.{Entry}
-use Rattle.qm_kinds.specs.declared.entry.EntryState.{EntryState}
-use Rattle.qm_kinds.specs.declared.entry.JobKind.{JobKind}
-use Rattle.qm_kinds.specs.declared.limits.TheConstants.{END_OF_RUNS, QUEUES_LIMIT}
-use Rattle.qm_kinds.specs.declared.queue.Queue.{Queue}
-use Rattle.qm_kinds.specs.declared.queue.QueueState.{QueueState}
-use Rattle.qm_kinds.specs.declared.queue.QueueState.TheVariants.{Stopped, Started, Paused, Stopping}
-use Rattle.qm_kinds.specs.declared.system.Node.{Node}
-use Rattle.qm_kinds.specs.declared.system.System.{System}
-use Rattle.qm_model.specs.Find.{name_cmp}
-use Rattle.qm_model.specs.Consistent.{IsConsistent, IsInOrder, IsShort, AreNodes, AreForms, AreCharacteristics, AreFiles, AreDefined, IsEntry, IsQueue, AreEntries, IsExecutionQueue, IsPlaced, IsMounted}
-use Rattle.qm_model.specs.JobStates.{run_of, runs_in, runs_on}
-use Rattle.qm_model.specs.Kinds.{is_generic, job_kind, execution_kind}
-use Rattle.qm_model.specs.Standing.{occupies, with_entry}
-use Rattle.qm_model.specs.States.{state_when_idle, stopped_when_idle}
+use Rattle.qm_model.specs.Common.{Entry, EntryState, JobKind, File, Characteristic, Form, END_OF_RUNS, QUEUES_LIMIT, Queue, QueueState, Stopped, Started, Paused, Stopping, Node, System, name_cmp, queue_named, file_named, run_of, runs_in, runs_on, is_generic, job_kind, execution_kind, occupies, with_entry, state_when_idle, stopped_when_idle}
+use Rattle.qm_model.specs.Consistent.{IsConsistent, IsInOrder, IsShort, AreNodes, AreForms, AreCharacteristics, AreFiles, AreDefined, IsEntry, IsQueue, AreEntries, IsExecutionQueue, IsPlaced, IsMounted, HasForm}
 use Rattle.qm_model.proofs.ListLemmas.{pairs_of, all_pairs_of, Becomes, none, gone, turned, becomes_all, becomes_pairs, becomes_shorter}
-use Rattle.qm_model.proofs.SoundLemmas.{AreApart}
+use Rattle.qm_model.proofs.SoundLemmas.{AreApart, entry_in_state}
 
 -- what is asked of a queue, but that it isn't stopping without a run
 pub record IsSoundQueue (s : System) (q : Queue) : Type 0 where
@@ -48,6 +31,10 @@ pub record IsSound (s : System) : Type 0 where
   pub next_entry : 0 < s.next_entry
   pub next_run : (0 < s.next_run) × (s.next_run ≤ END_OF_RUNS)
 
+-- a queue that is stopping has a run
+abbrev pub HasRunWhileStopping : System → Queue → Type 0
+HasRunWhileStopping s q = q.state ≡ Stopping → list_any (λ e. option_map_or (λ name. bytes_eq name q.name) (runs_in e.state) false) s.entries ≡ true
+
 sound_queue : (s : System) (q : Queue) → IsQueue s q → IsSoundQueue s q
 sound_queue s q h = record { name = h.name; placed = h.placed; mounted = h.mounted; characteristics = h.characteristics; limit = h.limit; sizes = h.sizes }
 
@@ -65,6 +52,125 @@ sound_of s h = record {
   next_entry = h.next_entry;
   next_run = h.next_run;
 }
+
+-- a sound system is consistent, where each queue that is stopping has a run
+pub consistent_of : (s : System) → IsSound s → All (HasRunWhileStopping s) s.queues → IsConsistent s
+consistent_of s h stopping = record {
+  nodes = h.nodes;
+  may = h.may;
+  forms = h.forms;
+  characteristics = h.characteristics;
+  files = h.files;
+  queues = record {
+    few = h.few;
+    each = λ i d within. let k = h.queues i d within in record { name = k.name; placed = k.placed; mounted = k.mounted; characteristics = k.characteristics; limit = k.limit; sizes = k.sizes; stopping = stopping i d within };
+    order = h.order;
+  };
+  entries = h.entries;
+  next_entry = h.next_entry;
+  next_run = h.next_run;
+}
+
+-- ---- a system that differs in some parts from a sound one
+
+-- another list of nodes that may be queue manager, other files, other entries, other next numbers and another last moment
+abbrev pub aside : System → List (List ℕ) → List File → List Entry → ℕ → ℕ → ℕ → System
+aside s may files entries number run last = record s { may = may; files = files; entries = entries; next_entry = number; next_run = run; last = last }
+
+-- no queue looks at these
+pub sound_aside : (s : System) (may : List (List ℕ)) (files : List File) (entries : List Entry) (number run last : ℕ) → IsSound s
+    → may ≡ filter (λ name. list_any (bytes_eq name) may) (map (λ (n : Node). n.name) s.nodes) → AreFiles files → AreEntries (aside s may files entries number run last)
+    → 0 < number → (0 < run) × (run ≤ END_OF_RUNS) → IsSound (aside s may files entries number run last)
+sound_aside s may files entries number run last h among kept each next next_run = record {
+  nodes = h.nodes;
+  may = among;
+  forms = h.forms;
+  characteristics = h.characteristics;
+  files = kept;
+  few = h.few;
+  queues = All-weaker (IsSoundQueue s) (IsSoundQueue (aside s may files entries number run last)) (λ q k. record { name = k.name; placed = k.placed; mounted = k.mounted; characteristics = k.characteristics; limit = k.limit; sizes = k.sizes }) s.queues h.queues;
+  order = h.order;
+  entries = each;
+  next_entry = next;
+  next_run = next_run;
+}
+
+-- other files, where those of the entries are still there
+pub sound_of_files : (s : System) (files : List File) → IsSound s → AreFiles files → All (λ (x : Entry). IsSome (file_named x.file files)) s.entries → IsSound (record s { files = files })
+sound_of_files s files h kept there =
+    sound_aside s s.may files s.entries s.next_entry s.next_run s.last h h.may kept
+    (record {
+      few = h.entries.few;
+      each = λ i d within. let k = h.entries.each i d within in record { number = k.number; home = k.home; file = there i d within; form = k.form; characteristics = k.characteristics; queue = k.queue; node = k.node; run = k.run };
+      order = h.entries.order;
+      runs = h.entries.runs;
+    })
+    h.next_entry h.next_run
+
+-- other forms and characteristics, where those of queues and entries are still there
+pub sound_of_definitions : (s : System) (fs : List Form) (cs : List Characteristic) → IsSound s → AreForms fs → AreCharacteristics cs
+    → All (λ (q : Queue). IsMounted fs q.kind q.mounted × AreDefined q.characteristics.0 cs) s.queues
+    → All (λ (x : Entry). HasForm fs x.kind x.form × AreDefined x.characteristics.0 cs) s.entries → IsSound (record s { forms = fs; characteristics = cs })
+sound_of_definitions s fs cs h forms characteristics queues entries = record {
+  nodes = h.nodes;
+  may = h.may;
+  forms = forms;
+  characteristics = characteristics;
+  files = h.files;
+  few = h.few;
+  queues = λ i d within. let k = h.queues i d within in let m = queues i d within in record { name = k.name; placed = k.placed; mounted = m.0; characteristics = m.1; limit = k.limit; sizes = k.sizes };
+  order = h.order;
+  entries = record {
+    few = h.entries.few;
+    each = λ i d within. let k = h.entries.each i d within in let m = entries i d within in record { number = k.number; home = k.home; file = k.file; form = m.0; characteristics = m.1; queue = k.queue; node = k.node; run = k.run };
+    order = h.entries.order;
+    runs = h.entries.runs;
+  };
+  next_entry = h.next_entry;
+  next_run = h.next_run;
+}
+
+-- what is asked of an entry's queues
+abbrev pub HasQueues : List Queue → Entry → Type 0
+HasQueues qs x =
+    (IsSome (queue_named x.home qs) × IfSome (queue_named x.home qs) (λ q. job_kind q.kind ≡ x.kind)) × IfSome (runs_in x.state) (IsExecutionQueue x.kind qs)
+
+-- other queues, where the entries have theirs
+pub queues_change : (s : System) (qs : List Queue) → IsSound s → length qs ≤ QUEUES_LIMIT → All (IsSoundQueue (record s { queues = qs })) qs → AllPairs (λ (a b : Queue). name_cmp a.name b.name ≡ Less) qs
+    → All (HasQueues qs) s.entries → IsSound (record s { queues = qs })
+queues_change s qs h few each order has = record {
+  nodes = h.nodes;
+  may = h.may;
+  forms = h.forms;
+  characteristics = h.characteristics;
+  files = h.files;
+  few = few;
+  queues = each;
+  order = order;
+  entries = record {
+    few = h.entries.few;
+    each = λ i d within. let k = h.entries.each i d within in let m = has i d within in record { number = k.number; home = m.0; file = k.file; form = k.form; characteristics = k.characteristics; queue = m.1; node = k.node; run = k.run };
+    order = h.entries.order;
+    runs = h.entries.runs;
+  };
+  next_entry = h.next_entry;
+  next_run = h.next_run;
+}
+
+-- entries each of which became another, as far apart as they were
+pub entries_become : (s : System) (es : List Entry) (R : Entry → Entry → Type 0) → IsSound s → ((x y u v : Entry) → R x y → R u v → AreApart x u → AreApart y v)
+    → ((x y : Entry) → R x y → IsEntry s x → IsEntry (record s { entries = es }) y) → Becomes (λ (x : Entry). Unit {0}) R s.entries es → IsSound (record s { entries = es })
+entries_become s es R h apart each b =
+    let before : AllPairs AreApart s.entries = λ i j d below within. (h.entries.order i j d below within, h.entries.runs i j d below within) in
+    let after : AllPairs AreApart es = all_pairs_of AreApart es (becomes_pairs (λ (x : Entry). Unit {0}) R AreApart AreApart apart b (pairs_of AreApart s.entries before)) in
+    sound_aside s s.may s.files es s.next_entry s.next_run s.last h h.may h.files
+    (record {
+      few = omega (arith, becomes_shorter (λ (x : Entry). Unit {0}) R b, h.entries.few);
+      each = becomes_all (λ (x : Entry). Unit {0}) R (IsEntry s) (IsEntry (record s { entries = es })) each b h.entries.each;
+      order = λ i j d below within. (after i j d below within).0;
+      runs = λ i j d below within. (after i j d below within).1;
+    })
+    h.next_entry h.next_run
 
 -- ---- entries that keep all but their state, mark and repetition, and whose run stays or ends
 
@@ -101,16 +207,11 @@ module _ (s : System) (es : List Entry) where
   of_entries = record s { entries = es }
 
   calm_entry : (x : Entry) (state : EntryState) (mark : List ℕ) (again : Bool) → Calms x.state state → IsEntry s x → IsEntry of_entries (in_state x state mark again)
-  calm_entry x state mark again calms h = record {
-    number = h.number;
-    home = h.home;
-    file = h.file;
-    form = h.form;
-    characteristics = h.characteristics;
-    queue = if_some_at (IsExecutionQueue x.kind s.queues) (runs_in x.state) (runs_in state) (queue_calms x.state state calms) h.queue;
-    node = if_some_at (Contains (map (λ (n : Node). n.name) s.nodes)) (runs_on x.state) (runs_on state) (node_calms x.state state calms) h.node;
-    run = if_some_at (λ run. (0 < run) × (run < s.next_run)) (run_of x.state) (run_of state) (run_calms x.state state calms) h.run;
-  }
+  calm_entry x state mark again calms h =
+      entry_in_state s es s.next_run x state mark again h
+      (if_some_at (IsExecutionQueue x.kind s.queues) (runs_in x.state) (runs_in state) (queue_calms x.state state calms) h.queue)
+      (if_some_at (Contains (map (λ (n : Node). n.name) s.nodes)) (runs_on x.state) (runs_on state) (node_calms x.state state calms) h.node)
+      (if_some_at (λ run. (0 < run) × (run < s.next_run)) (run_of x.state) (run_of state) (run_calms x.state state calms) h.run)
 
   calmer_entry : (x y : Entry) → Calmer x y → IsEntry s x → IsEntry of_entries y
   calmer_entry x y c h = subst (λ z. IsEntry of_entries z) (sym c.same) (calm_entry x y.state y.mark y.again c.calms h)
@@ -128,31 +229,8 @@ module _ (s : System) (es : List Entry) where
     differs (run_of x.state) (run_of u.state) (run_of y.state) (run_of v.state) (run_calms x.state y.state c.calms) (run_calms u.state v.state d.calms) h.1,
   )
 
-  Any : Entry → Type 0
-  Any x = Unit {0}
-
   pub entries_calm : IsSound s → Becomes (λ (x : Entry). Unit {0}) Calmer s.entries es → IsSound of_entries
-  entries_calm h b =
-      let before : AllPairs AreApart s.entries = λ i j d below within. (h.entries.order i j d below within, h.entries.runs i j d below within) in
-      let after : AllPairs AreApart es = all_pairs_of AreApart es (becomes_pairs (λ (x : Entry). Unit {0}) Calmer AreApart AreApart calmer_apart b (pairs_of AreApart s.entries before)) in
-      record {
-        nodes = h.nodes;
-        may = h.may;
-        forms = h.forms;
-        characteristics = h.characteristics;
-        files = h.files;
-        few = h.few;
-        queues = All-weaker (IsSoundQueue s) (IsSoundQueue of_entries) (λ q k. record { name = k.name; placed = k.placed; mounted = k.mounted; characteristics = k.characteristics; limit = k.limit; sizes = k.sizes }) s.queues h.queues;
-        order = h.order;
-        entries = record {
-          few = omega (arith, becomes_shorter (λ (x : Entry). Unit {0}) Calmer b, h.entries.few);
-          each = becomes_all (λ (x : Entry). Unit {0}) Calmer (IsEntry s) (IsEntry of_entries) calmer_entry b h.entries.each;
-          order = λ i j d below within. (after i j d below within).0;
-          runs = λ i j d below within. (after i j d below within).1;
-        };
-        next_entry = h.next_entry;
-        next_run = h.next_run;
-      }
+  entries_calm h b = entries_become s es Calmer h calmer_apart calmer_entry b
 
 -- ---- how entries change
 
@@ -212,16 +290,9 @@ module _ (s : System) (f : Node → Node) (keeps : (n : Node) → (f n).name ≡
   same_names = names_stay f keeps s.nodes
 
   node_entry : (x : Entry) → IsEntry s x → IsEntry of_nodes x
-  node_entry x h = record {
-    number = h.number;
-    home = h.home;
-    file = h.file;
-    form = h.form;
-    characteristics = h.characteristics;
-    queue = h.queue;
-    node = subst (λ names. IfSome (runs_on x.state) (Contains names)) (sym same_names) h.node;
-    run = h.run;
-  }
+  node_entry x h =
+      let node = subst (λ names. IfSome (runs_on x.state) (Contains names)) (sym same_names) h.node in
+      record { number = h.number; home = h.home; file = h.file; form = h.form; characteristics = h.characteristics; queue = h.queue; node = node; run = h.run }
 
   pub nodes_keep : IsSound s → IsSound of_nodes
   unfolding Renamed
@@ -297,18 +368,6 @@ module _ (s : System) (f : Queue → QueueState) where
   abbrev pub of_queues : System
   of_queues = record s { queues = map (restated f) s.queues }
 
-  restated_entry : (x : Entry) → IsEntry s x → IsEntry of_queues x
-  restated_entry x h = record {
-    number = h.number;
-    home = there f (λ q. job_kind q.kind ≡ x.kind) (λ q k. k) x.home s.queues h.home;
-    file = h.file;
-    form = h.form;
-    characteristics = h.characteristics;
-    queue = executes_if f x.kind s.queues (runs_in x.state) h.queue;
-    node = h.node;
-    run = h.run;
-  }
-
   restated_queue : (q : Queue) → IsSoundQueue s q → IsSoundQueue of_queues (restated f q)
   restated_queue q h = record {
     name = h.name;
@@ -321,22 +380,14 @@ module _ (s : System) (f : Queue → QueueState) where
 
   pub states_change : IsSound s → IsSound of_queues
   unfolding Restated
-  states_change h = record {
-    nodes = h.nodes;
-    may = h.may;
-    forms = h.forms;
-    characteristics = h.characteristics;
-    files = h.files;
-    few = rw (same_length (restated f) s.queues) h.few;
-    queues = All-map (IsSoundQueue of_queues) (restated f) s.queues (All-weaker (IsSoundQueue s) (λ q. IsSoundQueue of_queues (restated f q)) restated_queue s.queues h.queues);
-    order = all_pairs_of (λ (a b : Queue). name_cmp a.name b.name ≡ Less) (map (restated f) s.queues)
-        (becomes_pairs (λ (q : Queue). Unit {0}) Restated (λ a b. name_cmp a.name b.name ≡ Less) (λ a b. name_cmp a.name b.name ≡ Less)
-        (λ q p u v same also k. subst (λ n. name_cmp p.name n ≡ Less) (sym also) (subst (λ n. name_cmp n u.name ≡ Less) (sym same) k)) (all_restated f s.queues)
-        (pairs_of (λ (a b : Queue). name_cmp a.name b.name ≡ Less) s.queues h.order));
-    entries = record { few = h.entries.few; each = All-weaker (IsEntry s) (IsEntry of_queues) restated_entry s.entries h.entries.each; order = h.entries.order; runs = h.entries.runs };
-    next_entry = h.next_entry;
-    next_run = h.next_run;
-  }
+  states_change h =
+      queues_change s (map (restated f) s.queues) h (rw (same_length (restated f) s.queues) h.few)
+      (All-map (IsSoundQueue of_queues) (restated f) s.queues (All-weaker (IsSoundQueue s) (λ q. IsSoundQueue of_queues (restated f q)) restated_queue s.queues h.queues))
+      (all_pairs_of (λ (a b : Queue). name_cmp a.name b.name ≡ Less) (map (restated f) s.queues)
+      (becomes_pairs (λ (q : Queue). Unit {0}) Restated (λ a b. name_cmp a.name b.name ≡ Less) (λ a b. name_cmp a.name b.name ≡ Less)
+      (λ q p u v same also k. subst (λ n. name_cmp p.name n ≡ Less) (sym also) (subst (λ n. name_cmp n u.name ≡ Less) (sym same) k)) (all_restated f s.queues)
+      (pairs_of (λ (a b : Queue). name_cmp a.name b.name ≡ Less) s.queues h.order)))
+      (All-weaker (IsEntry s) (HasQueues (map (restated f) s.queues)) (λ x k. (there f (λ q. job_kind q.kind ≡ x.kind) (λ q m. m) x.home s.queues k.home, executes_if f x.kind s.queues (runs_in x.state) k.queue)) s.entries h.entries.each)
 
 -- ---- queues that stop when they have no run make a sound system consistent
 
@@ -350,30 +401,5 @@ stopping_has_run false Stopping h = cc
 pub idle_is_consistent : (s : System) → IsSound s → IsConsistent (stopped_when_idle s)
 idle_is_consistent s h =
     let state : Queue → QueueState = λ q. state_when_idle (list_any (occupies q.name) s.entries) q.state in
-    let k : IsSound (of_queues s state) = states_change s state h in
-    record {
-      nodes = k.nodes;
-      may = k.may;
-      forms = k.forms;
-      characteristics = k.characteristics;
-      files = k.files;
-      queues = record {
-        few = k.few;
-        each = All-map (IsQueue (stopped_when_idle s)) (restated state) s.queues
-            (All-weaker (IsSoundQueue s) (λ q. IsQueue (stopped_when_idle s) (restated state q))
-            (λ q m. let r = restated_queue s state q m in record {
-              name = r.name;
-              placed = r.placed;
-              mounted = r.mounted;
-              characteristics = r.characteristics;
-              limit = r.limit;
-              sizes = r.sizes;
-              stopping = λ stopping. stopping_has_run (list_any (occupies q.name) s.entries) q.state stopping;
-            })
-            s.queues h.queues);
-        order = k.order;
-      };
-      entries = k.entries;
-      next_entry = k.next_entry;
-      next_run = k.next_run;
-    }
+    consistent_of (stopped_when_idle s) (states_change s state h)
+    (All-map (HasRunWhileStopping (stopped_when_idle s)) (restated state) s.queues (λ i d within. let q = get_or s.queues i d in stopping_has_run (list_any (occupies q.name) s.entries) q.state))

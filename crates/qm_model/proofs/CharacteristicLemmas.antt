@@ -1,32 +1,18 @@
 -- Characteristics that are defined or deleted leave a sound system.
-use Rattle.std.proofs.Common.{◌≡◌, ◌≢◌, ℕ, ◌≤◌, ◌^◌, Bool, true, false, not, List, [], ◌∷◌, get_or, refl, sym, ◌∙◌, ap, subst, arith, Option, None, Some, All, Contains, filter, map}
-use Rattle.std.specs.Prelude.{◌==◌, nat_lt, is_some, is_none, IsBitSet, bit_and}
+use Rattle.std.proofs.Common.{◌≡◌, ◌≢◌, ℕ, ◌≤◌, ◌^◌, Bool, true, false, not, List, [], ◌∷◌, get_or, refl, sym, ◌∙◌, ap, subst, arith, Option, None, Some, All, Contains, filter, map, ◌==◌, nat_lt, is_some, is_none, IsBitSet, bit_and, nat_cmp, bytes_eq, Less}
 use Rattle.std.specs.Option.{option_map_or}
-use Rattle.std.specs.Ordering.{nat_cmp}
-use Rattle.std.specs.Str.{bytes_eq}
-use Rattle.std.specs.declared.cmp.Ordering.TheVariants.{Less}
 use Rattle.std.proofs.lemmas.Bool.Decides.{nat_tests, Decides-eqb}
 use Rattle.std.proofs.lemmas.List.Elements.{All-map, All-weaker, All-contains, All-filter}
 use Rattle.std.proofs.lemmas.List.Kept.{AllPairs-filter}
 use Rattle.std.proofs.lemmas.Slice.Eq.{bytes_eq-Decides}
-use Rattle.qm_kinds.specs.declared.entry.Entry.{Entry}
-use Rattle.qm_kinds.specs.declared.form.Characteristic.{Characteristic}
-use Rattle.qm_kinds.specs.declared.limits.TheConstants.{LAST_CHARACTERISTIC}
-use Rattle.qm_kinds.specs.declared.queue.Queue.{Queue}
-use Rattle.qm_kinds.specs.declared.refusal.Refusal.{Refusal}
+use Rattle.qm_model.specs.Common.{Entry, Characteristic, LAST_CHARACTERISTIC, Queue, Refusal, Name, Number, System, is_characteristic, characteristic_wanted, refused_where, with_characteristic_defined, refused_by_queue, refused_by_entry}
 use Rattle.qm_kinds.specs.declared.refusal.Refusal.TheVariants.{BadValue, DuplicateCharacteristic, NoSuchCharacteristic}
-use Rattle.qm_kinds.specs.declared.request.NameOrNumber.TheVariants.{Name, Number}
-use Rattle.qm_kinds.specs.declared.system.System.{System}
-use Rattle.qm_model.specs.Find.{is_characteristic, characteristic_wanted}
 use Rattle.qm_model.specs.Consistent.{IsDefinable, AreCharacteristics, AreDefined, IsEntry}
-use Rattle.qm_model.specs.Outcome.{refused_where}
-use Rattle.qm_model.specs.Inserting.{with_characteristic_defined}
-use Rattle.qm_model.specs.Referring.{refused_by_queue, refused_by_entry}
 use Rattle.qm_model.specs.Characteristics.{is_characteristic_taken, define_characteristic_refusal, characteristic_defined, has_number, has_named, delete_characteristic_refusal, characteristic_deleted}
 use Rattle.qm_model.proofs.SettlingLemmas.{IsIn}
 use Rattle.qm_model.proofs.ListLemmas.{Pairs, pairs_of, all_pairs_of, contains_in}
 use Rattle.qm_model.proofs.InsertLemmas.{all_inserted, order_inserted, apart_inserted, in_inserted, not_found, in_kept, found_only, all_in}
-use Rattle.qm_model.proofs.ChangeLemmas.{IsSound, IsSoundQueue}
+use Rattle.qm_model.proofs.ChangeLemmas.{IsSound, IsSoundQueue, sound_of_definitions}
 use Rattle.qm_model.proofs.SubmitLemmas.{number_in}
 use Rattle.qm_model.proofs.RefusalLemmas.{at_most, not_false, none_first, not_refused, none_by_queue, none_by_entry, or_false_left, or_false_right}
 
@@ -37,24 +23,10 @@ module _ (s : System) (cs : List Characteristic) where
   of_characteristics = record s { characteristics = cs }
 
   characteristics_change : IsSound s → AreCharacteristics cs → All (λ (q : Queue). AreDefined q.characteristics.0 cs) s.queues → All (λ (x : Entry). AreDefined x.characteristics.0 cs) s.entries → IsSound of_characteristics
-  characteristics_change h new of_queues of_entries = record {
-    nodes = h.nodes;
-    may = h.may;
-    forms = h.forms;
-    characteristics = new;
-    files = h.files;
-    few = h.few;
-    queues = λ i d within. let k = h.queues i d within in record { name = k.name; placed = k.placed; mounted = k.mounted; characteristics = of_queues i d within; limit = k.limit; sizes = k.sizes };
-    order = h.order;
-    entries = record {
-      few = h.entries.few;
-      each = λ i d within. let k = h.entries.each i d within in record { number = k.number; home = k.home; file = k.file; form = k.form; characteristics = of_entries i d within; queue = k.queue; node = k.node; run = k.run };
-      order = h.entries.order;
-      runs = h.entries.runs;
-    };
-    next_entry = h.next_entry;
-    next_run = h.next_run;
-  }
+  characteristics_change h new of_queues of_entries =
+      sound_of_definitions s s.forms cs h h.forms new
+      (λ i d within. ((h.queues i d within).mounted, of_queues i d within))
+      (λ i d within. ((h.entries.each i d within).form, of_entries i d within))
 
 -- ---- a characteristic is defined
 

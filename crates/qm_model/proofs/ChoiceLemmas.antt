@@ -1,19 +1,10 @@
 -- Which queue and which job are chosen, and what it means that none is.
-use Rattle.std.proofs.Common.{◌≡◌, ◌<◌, Bool, true, false, cond, ◌&&◌, List, [], ◌∷◌, ◌++◌, refl, ap, subst, Option, None, Some, All, Contains, find}
+use Rattle.std.proofs.Common.{◌≡◌, ◌<◌, Bool, true, false, cond, ◌&&◌, List, [], ◌∷◌, ◌++◌, refl, ap, subst, Option, None, Some, All, Contains, find, option_map, option_and_then, Less}
 use Rattle.std.specs.List.{list_any}
-use Rattle.std.specs.Option.{option_map, option_and_then}
-use Rattle.std.specs.declared.cmp.Ordering.TheVariants.{Less}
 use Rattle.std.specs.Cmp.Lexicographic.{nat_list_cmp_total}
 use Rattle.std.proofs.lemmas.Bool.Decides.{Decides-ltb}
 use Rattle.std.proofs.lemmas.List.Elements.{All-cons, All-nil, All-weaker}
-use Rattle.qm_kinds.specs.declared.entry.Entry.{Entry}
-use Rattle.qm_kinds.specs.declared.limits.TheConstants.{END_OF_RUNS}
-use Rattle.qm_kinds.specs.declared.queue.Queue.{Queue}
-use Rattle.qm_kinds.specs.declared.system.System.{System}
-use Rattle.qm_model.specs.Find.{name_cmp}
-use Rattle.qm_model.specs.Consistent.{IsInOrder}
-use Rattle.qm_model.specs.Fitting.{fits}
-use Rattle.qm_model.specs.Free.{is_free}
+use Rattle.qm_model.specs.Common.{Entry, END_OF_RUNS, Queue, System, name_cmp, IsInOrder, fits, is_free}
 use Rattle.qm_model.specs.Settling.{Choice, can_start, next_queue, next_job, next_choice, has_run_numbers}
 use Rattle.qm_model.specs.Starting.{HasNoneToStart, IsFirstToStart}
 use Rattle.qm_model.proofs.SettlingLemmas.{and_left, with_queue_of, none_can_start}

@@ -1,18 +1,10 @@
 -- What is due leaves a system consistent.
-use Rattle.std.proofs.Common.{◌≡◌, ℕ, ◌<◌, ◌≤◌, length, Bool, true, false, cond, not, List, [], ◌∷◌, refl, sym, ◌∙◌, ap, subst, Option, None, All, Contains, filter, map}
-use Rattle.std.specs.Prelude.{nat_le, IfSome}
+use Rattle.std.proofs.Common.{◌≡◌, ℕ, ◌<◌, ◌≤◌, length, Bool, true, false, cond, not, List, [], ◌∷◌, refl, sym, ◌∙◌, ap, subst, Option, None, All, Contains, filter, map, nat_le, IfSome, bytes_eq}
 use Rattle.std.specs.Option.{option_map_or}
-use Rattle.std.specs.Str.{bytes_eq}
-use Rattle.qm_kinds.specs.declared.entry.Entry.{Entry}
-use Rattle.qm_kinds.specs.declared.entry.EntryState.{EntryState}
-use Rattle.qm_kinds.specs.declared.entry.EntryState.TheVariants.{Pending, Holding, Timed, Running, Aborting, Retained}
-use Rattle.qm_kinds.specs.declared.system.Node.{Node}
-use Rattle.qm_kinds.specs.declared.system.System.{System}
+use Rattle.qm_model.specs.Common.{Entry, EntryState, Pending, Timed, Node, System, run_of, runs_in, runs_on, state_at, is_over, entry_at, due}
 use Rattle.qm_model.specs.Consistent.{IsConsistent, IsEntry, IsExecutionQueue}
-use Rattle.qm_model.specs.JobStates.{run_of, runs_in, runs_on}
-use Rattle.qm_model.specs.Due.{state_at, is_over, entry_at, due}
 use Rattle.qm_model.proofs.ListLemmas.{Becomes, none, gone, turned, becomes_shorter, becomes_all}
-use Rattle.qm_model.proofs.SoundLemmas.{still_consistent, apart_at}
+use Rattle.qm_model.proofs.SoundLemmas.{still_consistent, apart_at, entry_in_state}
 
 module _ {X : Type 0} (f : EntryState → Option X) (pending : f Pending ≡ None) (timed : (at : ℕ) → f (Timed at) ≡ None) where
   of_either : (b : Bool) (at : ℕ) → f (cond b Pending (Timed at)) ≡ f (Timed at)
@@ -20,12 +12,8 @@ module _ {X : Type 0} (f : EntryState → Option X) (pending : f Pending ≡ Non
   of_either false at = refl
 
   same_at : (now : ℕ) (state : EntryState) → f (state_at now state) ≡ f state
-  same_at now Pending = refl
-  same_at now Holding = refl
   same_at now (Timed at) = of_either (nat_le at now) at
-  same_at now (Running queue node run) = refl
-  same_at now (Aborting queue node run fate) = refl
-  same_at now (Retained status until) = refl
+  same_at now _ = refl
 
 pub same_run : (now : ℕ) (state : EntryState) → run_of (state_at now state) ≡ run_of state
 same_run = same_at run_of refl (λ at. refl)
@@ -38,11 +26,7 @@ same_node = same_at runs_on refl (λ at. refl)
 
 over_has_no_run : (now : ℕ) (test : List ℕ → Bool) (state : EntryState) → is_over now state ≡ true → option_map_or test (runs_in state) false ≡ true → ⊥
 over_has_no_run now test Pending over h = cc
-over_has_no_run now test Holding over h = cc
-over_has_no_run now test (Timed at) over h = cc
-over_has_no_run now test (Running queue node run) over h = cc
-over_has_no_run now test (Aborting queue node run fate) over h = cc
-over_has_no_run now test (Retained status until) over h = cc
+over_has_no_run now test _ over h = cc
 
 module _ (s : System) (now : ℕ) (sound : IsConsistent s) where
   Over : Entry → Type 0
@@ -63,16 +47,11 @@ module _ (s : System) (now : ℕ) (sound : IsConsistent s) where
   becomes (x ∷ xs) = becomes_at x xs (is_over now x.state) refl (becomes xs)
 
   entry_stays : (x : Entry) → IsEntry s x → IsEntry (due now s) (entry_at now x)
-  entry_stays x h = record {
-    number = h.number;
-    home = h.home;
-    file = h.file;
-    form = h.form;
-    characteristics = h.characteristics;
-    queue = subst (λ (o : Option (List ℕ)). IfSome o (IsExecutionQueue x.kind s.queues)) (sym (same_queue now x.state)) h.queue;
-    node = subst (λ (o : Option (List ℕ)). IfSome o (Contains (map (λ (n : Node). n.name) s.nodes))) (sym (same_node now x.state)) h.node;
-    run = subst (λ (o : Option ℕ). IfSome o (λ run. (0 < run) × (run < s.next_run))) (sym (same_run now x.state)) h.run;
-  }
+  entry_stays x h =
+      entry_in_state s (due now s).entries s.next_run x (state_at now x.state) x.mark x.again h
+      (subst (λ (o : Option (List ℕ)). IfSome o (IsExecutionQueue x.kind s.queues)) (sym (same_queue now x.state)) h.queue)
+      (subst (λ (o : Option (List ℕ)). IfSome o (Contains (map (λ (n : Node). n.name) s.nodes))) (sym (same_node now x.state)) h.node)
+      (subst (λ (o : Option ℕ). IfSome o (λ run. (0 < run) × (run < s.next_run))) (sym (same_run now x.state)) h.run)
 
   pub due_all : (P : Entry → Type 0) → ((x : Entry) → P x → P (entry_at now x)) → All P s.entries → All P (due now s).entries
   unfolding Over Turned

@@ -1,18 +1,9 @@
 -- What a node has to do for its runs, and what it gets of their jobs.
-use Rattle.std.proofs.Common.{◌≡◌, ℕ, Bool, true, false, [], ◌∷◌, ◌++◌, refl, map, None, Some}
-use Rattle.std.specs.Prelude.{codes, is_some}
+use Rattle.std.proofs.Common.{List, ◌≡◌, ℕ, Bool, true, false, [], ◌∷◌, ◌++◌, refl, map, None, Some, codes, is_some}
 use Rattle.qm_kinds.specs.declared.entry.JobKind.TheVariants as job
-use Rattle.qm_kinds.specs.declared.entry.JobRetain.TheVariants.{Default}
-use Rattle.qm_kinds.specs.declared.form.Shape.{Shape}
+use Rattle.qm_model.specs.Common.{Default, Shape, Name, Pause, System, first_system, Work, Duty, duties}
 use Rattle.qm_kinds.specs.declared.queue.QueueKind.TheVariants as queue
-use Rattle.qm_kinds.specs.declared.request.NameOrNumber.TheVariants.{Name}
 use Rattle.qm_kinds.specs.declared.request.Request.TheVariants as request
-use Rattle.qm_kinds.specs.declared.request.StopMode.TheVariants.{Pause}
-use Rattle.qm_kinds.specs.declared.system.System.{System}
-use Rattle.qm_model.specs.First.{first_system}
-use Rattle.qm_kinds.specs.declared.work.Work.{Work}
-use Rattle.qm_kinds.specs.declared.work.Duty.{Duty}
-use Rattle.qm_model.specs.Duties.{duties}
 use Rattle.qm_model.proofs.Site.{after, first_asks, file, listing_file, no_change, print_queue, print_job, batch_job, a_print_job}
 
 abbrev letter : Shape
@@ -46,39 +37,32 @@ pub duties_of_four_runs : map how (duties four_runs (codes "A") (2 ∷ 3 ∷ 9 �
     ≡ (1, false, false, true) ∷ (2, false, false, false) ∷ (3, false, true, false) ∷ (4, true, false, true) ∷ []
 duties_of_four_runs = refl
 
--- the text of the job's file, the device of its queue and the shape of its form
-abbrev report_work : Work
-report_work = record {
-  run = 1;
-  entry = 1;
+-- the work of a print job with the settings that a job has by default: its run, its name, the device of its queue, and the text of
+-- its file
+abbrev pub plain_work : ℕ → List ℕ → List ℕ → List ℕ → Work
+plain_work run name device bytes = record {
+  run = run;
+  entry = run;
   kind = job.Print;
-  name = codes "REPORT";
-  user = codes "SMITH";
-  device = codes "LPA0";
-  text = codes "one" ++ 10 ∷ codes "two";
-  shape = letter;
-  copies = 2;
-  flag = true;
-  again = false;
-  mark = [];
-}
-
--- a batch job has the shape of the form DEFAULT, and a queue's device is named as the queue where none was given
-abbrev batch_work : Work
-batch_work = record {
-  run = 2;
-  entry = 2;
-  kind = job.Batch;
-  name = codes "J";
+  name = name;
   user = codes "SYSTEM";
-  device = codes "SYS$BATCH";
-  text = codes "$ EXIT 3";
+  device = device;
+  text = bytes;
   shape = record { length = 66; width = 132; top = 0; bottom = 6; left = 0; right = 0; wrap = false };
   copies = 1;
   flag = false;
   again = false;
   mark = [];
 }
+
+-- the text of the job's file, the device of its queue and the shape of its form
+abbrev report_work : Work
+report_work =
+    record (plain_work 1 (codes "REPORT") (codes "LPA0") (codes "one" ++ 10 ∷ codes "two")) { user = codes "SMITH"; shape = letter; copies = 2; flag = true }
+
+-- a batch job has the shape of the form DEFAULT, and a queue's device is named as the queue where none was given
+abbrev batch_work : Work
+batch_work = record (plain_work 2 (codes "J") (codes "SYS$BATCH") (codes "$ EXIT 3")) { kind = job.Batch }
 
 pub work_of_two_runs : map (λ (d : Duty). d.work) (duties four_runs (codes "A") (3 ∷ 4 ∷ [])) ≡ Some report_work ∷ Some batch_work ∷ None ∷ None ∷ []
 work_of_two_runs = refl

@@ -3,17 +3,9 @@ use Rattle.std.proofs.Common.{ℕ, ◌≤◌, ◌==◌, Bool, true, false, cond,
 use Rattle.std.specs.List.{list_any}
 use Rattle.std.specs.Option.{IfSome, option_map_or}
 use Rattle.std.proofs.lemmas.List.Elements.{All-cons, All-nil, All-head, All-tail}
-use Rattle.qm_kinds.specs.declared.entry.Entry.{Entry}
-use Rattle.qm_kinds.specs.declared.file.File.{File}
-use Rattle.qm_kinds.specs.declared.form.Form.{Form}
-use Rattle.qm_kinds.specs.declared.limits.TheConstants.{FILE_LIMIT}
-use Rattle.qm_kinds.specs.declared.request.NameOrNumber.TheVariants.{Name}
-use Rattle.qm_kinds.specs.declared.system.System.{System}
+use Rattle.qm_model.specs.Common.{Entry, File, Form, FILE_LIMIT, Name, System, is_form, same_file_name, form_wanted, file_named, first_form, is_run_on}
 use Rattle.qm_model.specs.Consistent.{HasRoom, IsProperForm, IsConsistent}
 use Rattle.qm_model.specs.Duties.{run_number, work_of, duty_of, by_run, duties, form_that_shapes, IsProperWork, HasProperWork}
-use Rattle.qm_model.specs.Find.{is_form, same_file_name, form_wanted, file_named}
-use Rattle.qm_model.specs.First.{first_form}
-use Rattle.qm_model.specs.Standing.{is_run_on}
 
 module _ {X : Type 0} (p : X → Bool) (P : X → Type 0) where
   found_at : (x : X) (xs : List X) (b : Bool) → P x → IfSome (find p xs) P → IfSome (cond b (Some x) (find p xs)) P

@@ -1,23 +1,14 @@
 -- What becomes of jobs whose runs end, are cut short or are lost with their node.
-use Rattle.std.proofs.Common.{◌≡◌, ℕ, ◌-◌, Bool, true, false, List, [], ◌∷◌, ◌++◌, map, refl, None, Some}
-use Rattle.std.specs.Prelude.{codes, Ok, Err}
-use Rattle.qm_kinds.specs.declared.entry.Entry.{Entry}
-use Rattle.qm_kinds.specs.declared.entry.EntryState.{EntryState}
+use Rattle.std.proofs.Common.{◌≡◌, ℕ, ◌-◌, Bool, true, false, List, [], ◌∷◌, ◌++◌, map, refl, None, Some, codes, Ok, Err}
+use Rattle.qm_model.specs.Common.{Entry, EntryState, JobRetain, QueueRetain, Stopped, Started, Stopping, Request, System, first_system, is_retained}
 use Rattle.qm_kinds.specs.declared.entry.EntryState.TheVariants as state
 use Rattle.qm_kinds.specs.declared.entry.Fate.TheVariants as fate
-use Rattle.qm_kinds.specs.declared.entry.JobRetain.{JobRetain}
 use Rattle.qm_kinds.specs.declared.entry.JobRetain.TheVariants as retain
-use Rattle.qm_kinds.specs.declared.queue.QueueRetain.{QueueRetain}
 use Rattle.qm_kinds.specs.declared.queue.QueueRetain.TheVariants.{Nothing, Failed, All}
-use Rattle.qm_kinds.specs.declared.queue.QueueState.TheVariants.{Stopped, Started, Stopping}
 use Rattle.qm_kinds.specs.declared.refusal.Refusal.TheVariants as refused
 use Rattle.qm_kinds.specs.declared.reply.Act.TheVariants as act
 use Rattle.qm_kinds.specs.declared.request.StopMode.TheVariants as stop
-use Rattle.qm_kinds.specs.declared.request.Request.{Request}
 use Rattle.qm_kinds.specs.declared.request.Request.TheVariants.{Append, Fill, StartQueue, StopQueue, DeleteEntry, Submit, Mark, Done, Tick, Took}
-use Rattle.qm_kinds.specs.declared.system.System.{System}
-use Rattle.qm_model.specs.First.{first_system}
-use Rattle.qm_model.specs.Retaining.{is_retained}
 use Rattle.qm_model.proofs.Site.{Ask, answers, after, starts, states, first_asks, file, listing_file, no_change, print_queue, print_queue_on, generic_queue, print_job, batch_job, a_print_job}
 
 -- what a queue with a setting does with a job whose setting is given, after a success and after a failure

@@ -1,27 +1,19 @@
 -- A file that is made or grows leaves a sound system.
-use Rattle.std.proofs.Common.{◌≡◌, ℕ, ◌+◌, ◌≤◌, Bool, true, false, cond, ◌||◌, ◌&&◌, List, [], ◌∷◌, ◌++◌, length, refl, sym, ◌∙◌, ap, subst, arith, length-append, Option, None, Some, All}
-use Rattle.std.specs.Prelude.{nat_lt, nat_le, is_some, is_none, IsSome, bytes_eq}
+use Rattle.std.proofs.Common.{◌≡◌, ℕ, ◌+◌, ◌≤◌, Bool, true, false, cond, ◌||◌, ◌&&◌, List, [], ◌∷◌, ◌++◌, length, refl, sym, ◌∙◌, ap, subst, arith, length-append, Option, None, Some, All, nat_lt, nat_le, is_some, is_none, IsSome, bytes_eq, Ordering, Less, Equal, Greater}
 use Rattle.std.specs.Option.{option_map_or, option_eq, option_cmp}
 use Rattle.std.specs.Ordering.{ordering_then, match_ordering, is_eq}
 use Rattle.std.specs.Cmp.{IsTotalOrder, then_total, on_total}
 use Rattle.std.specs.Cmp.Lexicographic.{nat_list_cmp_total, options_total, texts_ties}
-use Rattle.std.specs.declared.cmp.Ordering.{Ordering}
-use Rattle.std.specs.declared.cmp.Ordering.TheVariants.{Less, Equal, Greater}
 use Rattle.std.proofs.lemmas.List.Elements.{All-cons, All-nil, All-head, All-tail, All-weaker}
 use Rattle.std.proofs.lemmas.List.Sums.{sum_by-cons}
 use Rattle.std.proofs.lemmas.Slice.Eq.{bytes_eq-Decides}
-use Rattle.qm_kinds.specs.declared.file.File.{File}
-use Rattle.qm_kinds.specs.declared.file.FileName.{FileName}
+use Rattle.qm_model.specs.Common.{File, FileName, System, name_cmp, file_name_cmp, same_file_name, file_named, AreFiles, spooled, refused_where}
 use Rattle.qm_kinds.specs.declared.limits.TheConstants.{FILES_LIMIT, FILE_LIMIT, SPOOL_LIMIT}
 use Rattle.qm_kinds.specs.declared.refusal.Refusal.TheVariants.{SpoolFull}
-use Rattle.qm_kinds.specs.declared.system.System.{System}
-use Rattle.qm_model.specs.Find.{name_cmp, file_name_cmp, same_file_name, file_named}
-use Rattle.qm_model.specs.Consistent.{AreFiles, IsEntry, spooled}
-use Rattle.qm_model.specs.Outcome.{refused_where}
 use Rattle.qm_model.specs.Appending.{bytes_of, with_file, refused_as_named, is_spool_full, append_refusal, appended}
 use Rattle.qm_model.proofs.SettlingLemmas.{and_left, and_right}
 use Rattle.qm_model.proofs.ListLemmas.{Pairs, pairs_of, all_pairs_of}
-use Rattle.qm_model.proofs.ChangeLemmas.{IsSound, IsSoundQueue}
+use Rattle.qm_model.proofs.ChangeLemmas.{IsSound, sound_of_files}
 use Rattle.qm_model.proofs.RefusalLemmas.{at_most, none_first, not_refused, or_false_left, or_false_right}
 
 -- ---- the order of file names
@@ -191,24 +183,7 @@ module _ (s : System) (fs : List File) (stays : (n : FileName) → IsSome (file_
   of_files = record s { files = fs }
 
   pub files_change : IsSound s → AreFiles fs → IsSound of_files
-  files_change h files = record {
-    nodes = h.nodes;
-    may = h.may;
-    forms = h.forms;
-    characteristics = h.characteristics;
-    files = files;
-    few = h.few;
-    queues = All-weaker (IsSoundQueue s) (IsSoundQueue of_files) (λ q k. record { name = k.name; placed = k.placed; mounted = k.mounted; characteristics = k.characteristics; limit = k.limit; sizes = k.sizes }) s.queues h.queues;
-    order = h.order;
-    entries = record {
-      few = h.entries.few;
-      each = All-weaker (IsEntry s) (IsEntry of_files) (λ x k. record { number = k.number; home = k.home; file = stays x.file k.file; form = k.form; characteristics = k.characteristics; queue = k.queue; node = k.node; run = k.run }) s.entries h.entries.each;
-      order = h.entries.order;
-      runs = h.entries.runs;
-    };
-    next_entry = h.next_entry;
-    next_run = h.next_run;
-  }
+  files_change h files = sound_of_files s fs h files (λ i d within. let k = h.entries.each i d within in stays _ k.file)
 
 few_files : (o : Option File) (n long : ℕ) → long + one_if (is_some o) ≡ n + 1 → (is_none o && nat_le FILES_LIMIT n) ≡ false → n ≤ FILES_LIMIT → long ≤ FILES_LIMIT
 few_files None n long h room few = omega (arith, h, at_most 4095 n room)

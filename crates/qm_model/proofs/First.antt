@@ -1,23 +1,21 @@
 -- The system of a new site is consistent.
-use Rattle.std.proofs.Common.{◌≡◌, ◌<◌, ◌≤◌, ◌^◌, ℕ, true, List, [], ◌∷◌, length, refl, arith, lit<, lit≤, All}
-use Rattle.std.specs.Str.{bytes_eq}
+use Rattle.std.proofs.Common.{◌≡◌, ◌<◌, ◌≤◌, ◌^◌, ℕ, true, List, [], ◌∷◌, length, refl, arith, lit<, lit≤, All, bytes_eq}
 use Rattle.std.specs.Int.Bits.{and_zero_l}
 use Rattle.std.proofs.lemmas.List.Elements.{All-from_recursion}
 use Rattle.std.proofs.lemmas.Slice.Eq.{bytes_eq-Decides}
-use Rattle.qm_kinds.specs.declared.system.Node.{Node}
+use Rattle.qm_model.specs.Common.{Node, first_system, first_form, first_queue}
 use Rattle.qm_model.specs.Consistent.{IsConsistent, AreNodes, IsProperForm, IsQueue, AreDefined}
-use Rattle.qm_model.specs.First.{first_system, first_form, first_queue}
 
-all_of_none : {X : Type 0} (P : X → Type 0) → All P []
+pub all_of_none : {X : Type 0} (P : X → Type 0) → All P []
 all_of_none P = All-from_recursion P [] tt
 
-all_of_one : {X : Type 0} (P : X → Type 0) (x : X) → P x → All P (x ∷ [])
+pub all_of_one : {X : Type 0} (P : X → Type 0) (x : X) → P x → All P (x ∷ [])
 all_of_one P x h = All-from_recursion P (x ∷ []) (h, tt)
 
-never : (i j n : ℕ) → n ≤ 1 → i < j → j < n → ⊥
+pub never : (i j n : ℕ) → n ≤ 1 → i < j → j < n → ⊥
 never i j n few below within = omega (arith, few, below, within)
 
-itself : (name : List ℕ) → bytes_eq name name ≡ true
+pub itself : (name : List ℕ) → bytes_eq name name ≡ true
 itself name = (bytes_eq-Decides name name).1 refl
 
 nodes : (node : List ℕ) → length node ≤ 6 → AreNodes (first_system node).nodes
@@ -28,7 +26,7 @@ nodes node short = record {
   distinct = λ i j d below within. absurd (never i j 1 (lit≤ tt) below within);
 }
 
-form : IsProperForm first_form
+pub form : IsProperForm first_form
 form = record {
   number = lit≤ tt;
   name = (lit≤ tt, refl);

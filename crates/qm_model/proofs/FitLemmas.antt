@@ -1,10 +1,7 @@
 -- A job fits where nothing is a reason why it doesn't.
 use Rattle.std.proofs.Common.{◌≡◌, Bool, true, false, ◌&&◌, [], ◌∷◌, refl, is_none}
-use Rattle.qm_kinds.specs.declared.entry.Entry.{Entry}
-use Rattle.qm_kinds.specs.declared.queue.Queue.{Queue}
-use Rattle.qm_kinds.specs.declared.system.System.{System}
+use Rattle.qm_model.specs.Common.{Entry, Queue, System, is_pending}
 use Rattle.qm_model.specs.Fitting.{NotPending, OtherKind, NotStarted, NotPassedOn, LacksCharacteristics, OtherStock, OutsideSizes, first_misfit, misfit_of, fits, is_of_kind, is_open, is_reached, has_characteristics, has_stock, has_size}
-use Rattle.qm_model.specs.JobStates.{is_pending}
 
 no_reason : (a b c d e f g : Bool) → (a && b && c && d && e && f && g)
     ≡ is_none (first_misfit ((a, NotPending) ∷ (b, OtherKind) ∷ (c, NotStarted) ∷ (d, NotPassedOn) ∷ (e, LacksCharacteristics) ∷ (f, OtherStock) ∷ (g, OutsideSizes) ∷ []))

@@ -1,35 +1,19 @@
 -- Forms that are defined or deleted leave a sound system.
-use Rattle.std.proofs.Common.{◌≡◌, ◌≢◌, ℕ, ◌+◌, ◌≤◌, Bool, true, false, not, ◌||◌, List, [], ◌∷◌, refl, sym, ap, subst, Option, None, Some, All, filter}
-use Rattle.std.specs.Prelude.{◌==◌, nat_lt, nat_le, is_some, is_none, IfSome, IsSome}
-use Rattle.std.specs.Ordering.{nat_cmp}
-use Rattle.std.specs.Str.{bytes_eq}
-use Rattle.std.specs.declared.cmp.Ordering.TheVariants.{Less}
+use Rattle.std.proofs.Common.{◌≡◌, ◌≢◌, ℕ, ◌+◌, ◌≤◌, Bool, true, false, not, ◌||◌, List, [], ◌∷◌, refl, sym, ap, subst, Option, None, Some, All, filter, ◌==◌, nat_lt, nat_le, is_some, is_none, IfSome, IsSome, nat_cmp, bytes_eq, Less}
 use Rattle.std.proofs.lemmas.List.Elements.{All-weaker, All-filter}
 use Rattle.std.proofs.lemmas.List.Kept.{AllPairs-filter}
 use Rattle.std.proofs.lemmas.Slice.Eq.{bytes_eq-Decides}
-use Rattle.qm_kinds.specs.declared.entry.Entry.{Entry}
-use Rattle.qm_kinds.specs.declared.entry.JobKind.{JobKind}
+use Rattle.qm_model.specs.Common.{Entry, JobKind, Form, Queue, QueueKind, Refusal, Name, Number, System, default_form, is_form, form_wanted, refused_where, with_form, refused_by_queue, refused_by_entry}
 use Rattle.qm_kinds.specs.declared.entry.JobKind.TheVariants as job
-use Rattle.qm_kinds.specs.declared.form.Form.{Form}
 use Rattle.qm_kinds.specs.declared.limits.TheConstants.{LAST_FORM}
-use Rattle.qm_kinds.specs.declared.queue.Queue.{Queue}
-use Rattle.qm_kinds.specs.declared.queue.QueueKind.{QueueKind}
-use Rattle.qm_kinds.specs.declared.queue.QueueKind.TheVariants.{Batch, Print, GenericBatch, GenericPrint}
+use Rattle.qm_kinds.specs.declared.queue.QueueKind.TheVariants.{Print}
 use Rattle.qm_kinds.specs.declared.refusal.Holder.TheVariants.{Always}
-use Rattle.qm_kinds.specs.declared.refusal.Refusal.{Refusal}
 use Rattle.qm_kinds.specs.declared.refusal.Refusal.TheVariants.{BadValue, DuplicateForm, NoSuchForm, Referenced}
-use Rattle.qm_kinds.specs.declared.request.NameOrNumber.TheVariants.{Name, Number}
-use Rattle.qm_kinds.specs.declared.system.System.{System}
-use Rattle.qm_kinds.specs.Names.{default_form}
-use Rattle.qm_model.specs.Find.{is_form, form_wanted}
 use Rattle.qm_model.specs.Consistent.{IsShort, IsDefinable, HasRoom, IsProperForm, AreForms, IsMounted, HasForm, IsEntry}
-use Rattle.qm_model.specs.Outcome.{refused_where}
-use Rattle.qm_model.specs.Inserting.{with_form}
-use Rattle.qm_model.specs.Referring.{refused_by_queue, refused_by_entry}
 use Rattle.qm_model.specs.Forms.{is_bad_form, is_form_taken, define_form_refusal, form_defined, is_named, delete_form_refusal, form_deleted}
 use Rattle.qm_model.proofs.ListLemmas.{pairs_of, all_pairs_of}
 use Rattle.qm_model.proofs.InsertLemmas.{all_inserted, order_inserted, apart_inserted, missed, there_inserted, not_found, found_kept}
-use Rattle.qm_model.proofs.ChangeLemmas.{IsSound, IsSoundQueue}
+use Rattle.qm_model.proofs.ChangeLemmas.{IsSound, IsSoundQueue, sound_of_definitions}
 use Rattle.qm_model.proofs.CharacteristicLemmas.{numbers_trans, lower_number, higher_number, nothing_there, other_name}
 use Rattle.qm_model.proofs.RefusalLemmas.{at_most, none_by_queue, none_by_entry, none_first, not_refused, or_false_left, or_false_right, not_at_least}
 
@@ -40,24 +24,10 @@ module _ (s : System) (fs : List Form) where
   of_forms = record s { forms = fs }
 
   forms_change : IsSound s → AreForms fs → All (λ (q : Queue). IsMounted fs q.kind q.mounted) s.queues → All (λ (x : Entry). HasForm fs x.kind x.form) s.entries → IsSound of_forms
-  forms_change h new of_queues of_entries = record {
-    nodes = h.nodes;
-    may = h.may;
-    forms = new;
-    characteristics = h.characteristics;
-    files = h.files;
-    few = h.few;
-    queues = λ i d within. let k = h.queues i d within in record { name = k.name; placed = k.placed; mounted = of_queues i d within; characteristics = k.characteristics; limit = k.limit; sizes = k.sizes };
-    order = h.order;
-    entries = record {
-      few = h.entries.few;
-      each = λ i d within. let k = h.entries.each i d within in record { number = k.number; home = k.home; file = k.file; form = of_entries i d within; characteristics = k.characteristics; queue = k.queue; node = k.node; run = k.run };
-      order = h.entries.order;
-      runs = h.entries.runs;
-    };
-    next_entry = h.next_entry;
-    next_run = h.next_run;
-  }
+  forms_change h new of_queues of_entries =
+      sound_of_definitions s fs s.characteristics h new h.characteristics
+      (λ i d within. (of_queues i d within, (h.queues i d within).characteristics))
+      (λ i d within. (of_entries i d within, (h.entries.each i d within).characteristics))
 
 pub if_some_more : {X : Type 0} (P Q : X → Type 0) (o : Option X) → ((x : X) → o ≡ Some x → P x → Q x) → IfSome o P → IfSome o Q
 if_some_more P Q None more h = tt
@@ -65,10 +35,8 @@ if_some_more P Q (Some x) more h = more x refl h
 
 -- a form that is mounted or asked for is still there
 still_mounted : (fs gs : List Form) (kind : QueueKind) (mounted : Option (List ℕ)) → ((n : List ℕ) → mounted ≡ Some n → IsSome (form_wanted (Name n) fs) → IsSome (form_wanted (Name n) gs)) → IsMounted fs kind mounted → IsMounted gs kind mounted
-still_mounted fs gs Batch mounted more h = h
 still_mounted fs gs Print mounted more h = (h.0, if_some_more (λ n. IsSome (form_wanted (Name n) fs)) (λ n. IsSome (form_wanted (Name n) gs)) mounted more h.1)
-still_mounted fs gs GenericBatch mounted more h = h
-still_mounted fs gs GenericPrint mounted more h = h
+still_mounted fs gs _ mounted more h = h
 
 still_has_form : (fs gs : List Form) (kind : JobKind) (form : Option (List ℕ)) → ((n : List ℕ) → form ≡ Some n → IsSome (form_wanted (Name n) fs) → IsSome (form_wanted (Name n) gs)) → HasForm fs kind form → HasForm gs kind form
 still_has_form fs gs job.Batch form more h = h

@@ -1,51 +1,31 @@
 -- A queue that is initialized leaves a sound system.
-use Rattle.std.proofs.Common.{◌≡◌, ◌≢◌, ℕ, suc, ◌+◌, ◌<◌, ◌≤◌, inl, inr, Bool, true, false, cond, not, ◌||◌, ◌&&◌, List, [], ◌∷◌, length, get_or, refl, sym, ◌∙◌, ap, subst, arith, Option, None, Some, All, Contains, find, map}
-use Rattle.std.specs.Prelude.{nat_lt, nat_le, is_some, is_none, IfSome, IsSome, IsNone, slice_get, unwrap_or}
+use Rattle.std.proofs.Common.{◌≡◌, ◌≢◌, ℕ, suc, ◌+◌, ◌<◌, ◌≤◌, inl, inr, Bool, true, false, cond, not, ◌||◌, ◌&&◌, List, [], ◌∷◌, length, get_or, refl, sym, ◌∙◌, ap, subst, arith, Option, None, Some, All, Contains, find, map, nat_lt, nat_le, is_some, is_none, IfSome, IsSome, IsNone, slice_get, unwrap_or, is_lt, bytes_eq, Ordering, Less, Equal, Greater}
 use Rattle.std.specs.List.{list_any}
 use Rattle.std.specs.Option.{option_map, option_map_or, option_and_then, option_or}
-use Rattle.std.specs.Ordering.{is_lt}
 use Rattle.std.specs.Cmp.Lexicographic.{nat_list_cmp_total}
-use Rattle.std.specs.Str.{bytes_eq}
-use Rattle.std.specs.declared.cmp.Ordering.{Ordering}
-use Rattle.std.specs.declared.cmp.Ordering.TheVariants.{Less, Equal, Greater}
 use Rattle.std.proofs.lemmas.Bool.Decides.{nat_tests}
 use Rattle.std.proofs.lemmas.List.Elements.{All-weaker, All-filter, Contains-get_or}
 use Rattle.std.proofs.lemmas.List.Kept.{AllPairs-filter}
 use Rattle.std.proofs.lemmas.Option.{slice_get-map, unwrap_or-slice_get}
 use Rattle.std.proofs.lemmas.Slice.Eq.{bytes_eq-Decides}
-use Rattle.qm_kinds.specs.declared.entry.Entry.{Entry}
-use Rattle.qm_kinds.specs.declared.entry.JobKind.{JobKind}
-use Rattle.qm_kinds.specs.declared.form.Form.{Form}
+use Rattle.qm_model.specs.Common.{Entry, JobKind, Form, Queue, QueueKind, Refusal, Node, System, default_form, name_cmp, queue_named, runs_in, is_generic, job_kind, execution_kind, is_same_kind, is_print_queue, is_same_queue_kind, refused_where, node_at, is_bad_change, change_refusal, with_change, NewQueue}
 use Rattle.qm_kinds.specs.declared.limits.TheConstants.{QUEUES_LIMIT, TARGETS_LIMIT}
-use Rattle.qm_kinds.specs.declared.queue.Queue.{Queue}
-use Rattle.qm_kinds.specs.declared.queue.QueueKind.{QueueKind}
 use Rattle.qm_kinds.specs.declared.queue.QueueKind.TheVariants.{Batch, Print, GenericBatch, GenericPrint}
-use Rattle.qm_kinds.specs.declared.refusal.Refusal.{Refusal}
 use Rattle.qm_kinds.specs.declared.refusal.Refusal.TheVariants.{BadValue, DuplicateQueue, QueuesFull, NoSuchNode, GenericTarget}
-use Rattle.qm_kinds.specs.declared.system.Node.{Node}
-use Rattle.qm_kinds.specs.declared.system.System.{System}
-use Rattle.qm_kinds.specs.Names.{default_form}
-use Rattle.qm_model.specs.Find.{name_cmp, queue_named}
 use Rattle.qm_model.specs.Consistent.{IsShort, AreForms, IsEntry, IsExecutionQueue, IsPlaced, IsMounted}
-use Rattle.qm_model.specs.JobStates.{runs_in}
-use Rattle.qm_model.specs.Kinds.{is_generic, job_kind, execution_kind, is_same_kind, is_print_queue, is_same_queue_kind}
-use Rattle.qm_model.specs.Outcome.{refused_where}
-use Rattle.qm_model.specs.Standing.{node_at}
 use Rattle.qm_model.specs.Inserting.{with_new_queue}
-use Rattle.qm_model.specs.Settings.{is_bad_change, change_refusal, with_change}
-use Rattle.qm_kinds.specs.declared.queue.NewQueue.{NewQueue}
 use Rattle.qm_model.specs.Queues.{has_repeats, is_misplaced, refused_unless_stopped, refused_node, is_target, refused_targets, initialize_refusal, plain_queue, without_queue, initialized}
 use Rattle.qm_model.proofs.SettlingLemmas.{IsIn}
 use Rattle.qm_model.proofs.ListLemmas.{Pairs, pairs_of, all_pairs_of, contains_in}
 use Rattle.qm_model.proofs.InsertLemmas.{all_inserted, longer, order_inserted, missed, hit, not_found, none_left, all_kept, fewer, one_goes, none_any}
 use Rattle.qm_model.proofs.SoundLemmas.{kind_is}
-use Rattle.qm_model.proofs.ChangeLemmas.{named, IsSound, IsSoundQueue, same_length}
+use Rattle.qm_model.proofs.ChangeLemmas.{HasQueues, queues_change, named, IsSound, IsSoundQueue, same_length}
 use Rattle.qm_model.proofs.FileLemmas.{names_equal}
 use Rattle.qm_model.proofs.RefusalLemmas.{no_map, not_true, not_false, at_most, none_first, not_refused, or_false_left, or_false_right, not_at_least}
 use Rattle.qm_model.proofs.SubmitLemmas.{none_set}
 use Rattle.qm_model.proofs.CharacteristicLemmas.{other_name}
 use Rattle.qm_model.proofs.FormLemmas.{if_some_more}
-use Rattle.qm_model.proofs.QueueLemmas.{HasQueues, queues_change, placed_still, still_named, settings_change}
+use Rattle.qm_model.proofs.QueueLemmas.{placed_still, still_named, settings_change}
 
 -- ---- where a new queue is placed
 
@@ -103,27 +83,14 @@ target_kind kind (Some q) h = (refl, kind_is kind q.kind h)
 
 same_queue_kind : (a b : QueueKind) → not (is_same_queue_kind a b) ≡ false → a ≡ b
 same_queue_kind Batch Batch h = refl
-same_queue_kind Batch Print h = cc
-same_queue_kind Batch GenericBatch h = cc
-same_queue_kind Batch GenericPrint h = cc
-same_queue_kind Print Batch h = cc
 same_queue_kind Print Print h = refl
-same_queue_kind Print GenericBatch h = cc
-same_queue_kind Print GenericPrint h = cc
-same_queue_kind GenericBatch Batch h = cc
-same_queue_kind GenericBatch Print h = cc
 same_queue_kind GenericBatch GenericBatch h = refl
-same_queue_kind GenericBatch GenericPrint h = cc
-same_queue_kind GenericPrint Batch h = cc
-same_queue_kind GenericPrint Print h = cc
-same_queue_kind GenericPrint GenericBatch h = cc
 same_queue_kind GenericPrint GenericPrint h = refl
+same_queue_kind _ _ h = cc
 
 default_mounted : (fs : List Form) (kind : QueueKind) → AreForms fs → IsMounted fs kind (cond (is_print_queue kind) (Some default_form) None)
-default_mounted fs Batch h = refl
 default_mounted fs Print h = (refl, h.default.1)
-default_mounted fs GenericBatch h = refl
-default_mounted fs GenericPrint h = refl
+default_mounted fs _ h = refl
 
 below_at : (a b : List ℕ) (o : Ordering) → name_cmp a b ≡ o → (is_lt o ≡ true → o ≡ Less)
 below_at a b Less is h = refl

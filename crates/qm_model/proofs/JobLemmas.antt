@@ -1,39 +1,14 @@
 -- Each lawful request leaves a consistent system.
-use Rattle.std.proofs.Common.{◌≡◌, ℕ, ◌&&◌, Bool, true, false, cond, List, refl, sym, ◌∙◌, ap, subst, inl, inr, Option, None, Some, All, filter, map, Ok}
-use Rattle.std.specs.Prelude.{IfSome, filter_map}
+use Rattle.std.proofs.Common.{◌≡◌, ℕ, ◌&&◌, Bool, true, false, cond, List, refl, sym, ◌∙◌, ap, subst, inl, inr, Option, None, Some, All, filter, map, Ok, IfSome, filter_map}
 use Rattle.std.specs.Option.{option_map_or}
 use Rattle.std.proofs.lemmas.List.Elements.{All-weaker}
-use Rattle.qm_kinds.specs.declared.entry.Entry.{Entry}
-use Rattle.qm_kinds.specs.declared.entry.EntryState.{EntryState}
-use Rattle.qm_kinds.specs.declared.entry.EntryState.TheVariants.{Pending, Holding, Timed, Running, Aborting, Retained}
-use Rattle.qm_kinds.specs.declared.entry.Fate.{Fate}
-use Rattle.qm_kinds.specs.declared.entry.Fate.TheVariants.{Requeue, Finish, Remove}
-use Rattle.qm_kinds.specs.declared.queue.Queue.{Queue}
-use Rattle.qm_kinds.specs.declared.request.Request.{Request}
+use Rattle.qm_model.specs.Common.{Entry, EntryState, Pending, Running, Aborting, Retained, Fate, Requeue, Finish, Remove, Queue, Request, Node, System, is_success, entry_numbered, same_file_name, is_among, Accepted, at_moment, refusal_of, asks_for_numbers, are_numbers_spent, first_refusal_of, change_of, completed, applied, fate_of, replied, with_entry, node_at, is_executing, has_run, is_run_on, entry_at, due, filling, is_retained, retained_until, queue_retain, aborted_status, node_lost_status, ended, requeued, fated, state_with_fate, with_fate, reset_fate, entry_aborting, RunReport, MarkReport, EndReport, after_report, report_act, entry_of_run, reported_of, run_reported, is_named, runs_for, IsLawful}
 use Rattle.qm_kinds.specs.declared.request.Request.TheVariants as request
-use Rattle.qm_kinds.specs.declared.system.Node.{Node}
-use Rattle.qm_kinds.specs.declared.system.System.{System}
-use Rattle.qm_kinds.specs.Sizes.{is_success}
-use Rattle.qm_model.specs.Find.{entry_numbered, same_file_name, is_among}
-use Rattle.qm_model.specs.Consistent.{IsConsistent, IsEntry, IsQueue, AreEntries}
-use Rattle.qm_model.specs.Outcome.{Accepted}
-use Rattle.qm_model.specs.Applied.{at_moment, refusal_of, asks_for_numbers, are_numbers_spent, first_refusal_of, change_of, completed, applied}
-use Rattle.qm_model.specs.JobStates.{fate_of}
-use Rattle.qm_model.specs.Replying.{replied}
-use Rattle.qm_model.specs.Standing.{with_entry, node_at, is_executing, has_run, is_run_on}
-use Rattle.qm_model.specs.Due.{entry_at, due}
-use Rattle.qm_model.specs.Filing.{filling}
-use Rattle.qm_model.specs.Retaining.{is_retained, retained_until}
-use Rattle.qm_model.specs.Ending.{queue_retain, aborted_status, node_lost_status, ended, requeued, fated}
+use Rattle.qm_model.specs.Consistent.{IsConsistent, IsEntry, AreEntries}
 use Rattle.qm_model.specs.Losing.{interrupted, after_loss, without_node, without_nodes}
 use Rattle.qm_model.specs.States.{state_on_start, stopped_when_idle}
-use Rattle.qm_model.specs.Stopping.{state_with_fate, with_fate, reset_fate, entry_aborting}
-use Rattle.qm_model.specs.Runs.{RunReport, MarkReport, EndReport, after_report, report_act, entry_of_run, reported_of, run_reported}
 use Rattle.qm_model.specs.Nodes.{as_up, up_exactly, with_manager}
-use Rattle.qm_model.specs.Forms.{is_named}
 use Rattle.qm_model.specs.Characteristics.{has_named}
-use Rattle.qm_model.specs.Queues.{runs_for}
-use Rattle.qm_model.specs.Lawful.{IsLawful}
 use Rattle.qm_model.proofs.SettlingLemmas.{IsIn, accepted_is}
 use Rattle.qm_model.proofs.ListLemmas.{Pairs, pairs_of}
 use Rattle.qm_model.proofs.SoundLemmas.{AreApart, find_in, unique, one_outcome, settled_is_consistent}
@@ -47,7 +22,7 @@ use Rattle.qm_model.proofs.InitializeLemmas.{node_there, initialized_sound}
 use Rattle.qm_model.proofs.DueLemmas.{due_is_consistent, due_shorter, due_all}
 use Rattle.qm_model.proofs.RefusalLemmas.{accepted_unrefused, numbers_left}
 use Rattle.qm_model.proofs.SubmitLemmas.{submitted_sound}
-use Rattle.qm_model.proofs.ChangeLemmas.{IsSound, IsSoundQueue, sound_of, Calms, Calmer, itself, entries_calm, one_calms, all_calm, nodes_keep, names_stay, idle_is_consistent}
+use Rattle.qm_model.proofs.ChangeLemmas.{IsSound, sound_aside, sound_of, consistent_of, Calms, Calmer, itself, entries_calm, one_calms, all_calm, nodes_keep, names_stay, idle_is_consistent}
 
 -- ---- what becomes of an entry
 
@@ -82,20 +57,13 @@ interrupted_calms : (qs : List Queue) (now : ℕ) (x : Entry) → IfSome (interr
 interrupted_calms qs now x = either_calms x.restart (Some (requeued x)) (ended qs now node_lost_status x) x (requeued_calms x) (ended_calms qs now node_lost_status x)
 
 loss_calms : (qs : List Queue) (now : ℕ) (lost : List (List ℕ)) (state : EntryState) (x : Entry) → IfSome (after_loss qs now lost state x) (Calmer x)
-loss_calms qs now lost Pending x = itself x
-loss_calms qs now lost Holding x = itself x
-loss_calms qs now lost (Timed at) x = itself x
 loss_calms qs now lost (Running queue node run) x = either_calms (is_among lost node) (interrupted qs now x) (Some x) x (interrupted_calms qs now x) (itself x)
 loss_calms qs now lost (Aborting queue node run fate) x = either_calms (is_among lost node) (fated qs now fate x) (Some x) x (fated_calms qs now fate x) (itself x)
-loss_calms qs now lost (Retained status until) x = itself x
+loss_calms qs now lost _ x = itself x
 
 fate_keeps : (fate : Fate) (state : EntryState) → Calms state (state_with_fate fate state)
 fate_keeps fate Pending = inl (refl, refl, refl)
-fate_keeps fate Holding = inl (refl, refl, refl)
-fate_keeps fate (Timed at) = inl (refl, refl, refl)
-fate_keeps fate (Running queue node run) = inl (refl, refl, refl)
-fate_keeps fate (Aborting queue node run old) = inl (refl, refl, refl)
-fate_keeps fate (Retained status until) = inl (refl, refl, refl)
+fate_keeps fate _ = inl (refl, refl, refl)
 
 with_fate_calms : (fate : Fate) (x : Entry) → Calmer x (with_fate fate x)
 with_fate_calms fate x = record { same = refl; calms = fate_keeps fate x.state }
@@ -145,19 +113,7 @@ entries_aside s may last h = record {
 }
 
 may_changes : (s : System) (may : List (List ℕ)) → may ≡ filter (is_among may) (map (λ (n : Node). n.name) s.nodes) → IsSound s → IsSound (record s { may = may })
-may_changes s may is h = record {
-  nodes = h.nodes;
-  may = is;
-  forms = h.forms;
-  characteristics = h.characteristics;
-  files = h.files;
-  few = h.few;
-  queues = All-weaker (IsSoundQueue s) (IsSoundQueue (record s { may = may })) (λ q k. record { name = k.name; placed = k.placed; mounted = k.mounted; characteristics = k.characteristics; limit = k.limit; sizes = k.sizes }) s.queues h.queues;
-  order = h.order;
-  entries = entries_aside s may s.last h.entries;
-  next_entry = h.next_entry;
-  next_run = h.next_run;
-}
+may_changes s may is h = sound_aside s may s.files s.entries s.next_entry s.next_run s.last h is h.files (entries_aside s may s.last h.entries) h.next_entry h.next_run
 
 manager_sound : (s : System) (now : ℕ) (gone up may : List (List ℕ)) → may ≡ filter (is_among may) (map (λ (n : Node). n.name) s.nodes) → IsSound s → IsSound (with_manager s now gone up may)
 manager_sound s now gone up may is h =
@@ -167,21 +123,9 @@ manager_sound s now gone up may is h =
     may_changes among may (subst (λ ns. may ≡ filter (is_among may) ns) (sym names) is) (nodes_keep left (up_exactly up) (λ n. refl) (lost_sound s now gone h))
 
 at_moment_sound : (s : System) (now : ℕ) → IsConsistent s → IsConsistent (at_moment now s)
-at_moment_sound s now h = record {
-  nodes = h.nodes;
-  may = h.may;
-  forms = h.forms;
-  characteristics = h.characteristics;
-  files = h.files;
-  queues = record {
-    few = h.queues.few;
-    each = All-weaker (IsQueue s) (IsQueue (at_moment now s)) (λ q k. record { name = k.name; placed = k.placed; mounted = k.mounted; characteristics = k.characteristics; limit = k.limit; sizes = k.sizes; stopping = k.stopping }) s.queues h.queues.each;
-    order = h.queues.order;
-  };
-  entries = entries_aside s s.may now h.entries;
-  next_entry = h.next_entry;
-  next_run = h.next_run;
-}
+at_moment_sound s now h =
+    consistent_of (at_moment now s) (sound_aside s s.may s.files s.entries s.next_entry s.next_run now (sound_of s h) h.may h.files (entries_aside s s.may now h.entries) h.next_entry h.next_run)
+    (λ i d within. (h.queues.each i d within).stopping)
 
 pub found_is_consistent : (s : System) (now : ℕ) → IsConsistent s → IsConsistent (due now (at_moment now s))
 found_is_consistent s now h = due_is_consistent (at_moment now s) now (at_moment_sound s now h)

@@ -1,31 +1,14 @@
 -- Each limit, at its last value and one further.
-use Rattle.std.proofs.Common.{◌≡◌, ℕ, ◌+◌, Bool, true, false, ◌||◌, ◌&&◌, List, [], ◌∷◌, length, refl, ◌∙◌, ap, map, Option, None, Some, Err}
-use Rattle.std.specs.Prelude.{◌==◌, ok_or, codes, replicate, is_none, nat_lt, is_some, if◌then◌else◌}
+use Rattle.std.proofs.Common.{◌≡◌, ℕ, ◌+◌, Bool, true, false, ◌||◌, ◌&&◌, List, [], ◌∷◌, length, refl, ◌∙◌, ap, map, Option, None, Some, Err, ◌==◌, ok_or, codes, replicate, is_none, nat_lt, is_some, if◌then◌else◌}
 use Rattle.std.specs.List.{range_with_len, slice_split}
-use Rattle.qm_kinds.specs.declared.file.File.{File}
-use Rattle.qm_kinds.specs.declared.file.FileName.{FileName}
-use Rattle.qm_kinds.specs.declared.form.Form.{Form}
-use Rattle.qm_kinds.specs.declared.queue.NewQueue.{NewQueue}
+use Rattle.qm_model.specs.Common.{File, FileName, Form, NewQueue, Started, Refusal, Start, Request, System, bytes_of, is_spool_full, first_refusal_of, spooled, file_named, first_system, first_queue, is_bad_change, settled, entry_of}
 use Rattle.qm_kinds.specs.declared.queue.QueueKind.TheVariants as queue
-use Rattle.qm_kinds.specs.declared.queue.QueueState.TheVariants.{Started}
-use Rattle.qm_kinds.specs.declared.refusal.Refusal.{Refusal}
 use Rattle.qm_kinds.specs.declared.refusal.Refusal.TheVariants as refused
-use Rattle.qm_kinds.specs.declared.run.Start.{Start}
 use Rattle.qm_kinds.specs.declared.script.ScriptKind.TheVariants as script_fault
-use Rattle.qm_kinds.specs.declared.request.Request.{Request}
 use Rattle.qm_kinds.specs.declared.request.Request.TheVariants.{Append, DefineForm, DefineCharacteristic, InitializeQueue, Submit, Fill}
-use Rattle.qm_kinds.specs.declared.system.System.{System}
-use Rattle.qm_model.specs.Appending.{bytes_of, is_spool_full}
-use Rattle.qm_model.specs.Applied.{first_refusal_of}
 use Rattle.qm_model.specs.Batch.{is_label, is_status, is_mark}
-use Rattle.qm_model.specs.Consistent.{spooled}
-use Rattle.qm_model.specs.Find.{file_named}
-use Rattle.qm_model.specs.First.{first_system, first_queue}
 use Rattle.qm_model.specs.Queues.{is_misplaced}
 use Rattle.qm_model.specs.Script.{script_of, lines_from, node_name_of}
-use Rattle.qm_model.specs.Settings.{is_bad_change}
-use Rattle.qm_model.specs.Settling.{settled}
-use Rattle.qm_model.specs.Submitting.{entry_of}
 use Rattle.qm_model.proofs.Site.{after, first_asks, file, listing_file, no_change, a_batch_job}
 
 abbrev site : System

@@ -1,26 +1,12 @@
 -- What is listed, and in which order.
-use Rattle.std.proofs.Common.{◌≡◌, ℕ, Bool, true, false, List, [], ◌∷◌, ◌++◌, refl, map, Option, None, Some}
-use Rattle.std.specs.Prelude.{codes, Result, Ok, Err}
-use Rattle.qm_kinds.specs.declared.query.After.{After}
+use Rattle.std.proofs.Common.{◌≡◌, ℕ, Bool, true, false, List, [], ◌∷◌, ◌++◌, refl, map, Option, None, Some, codes, Result, Ok, Err}
+use Rattle.qm_model.specs.Common.{After, Listing, Query, Row, QueueChange, Refusal, NameOrNumber, Name, Request, System, first_system, view, duties, Duty}
 use Rattle.qm_kinds.specs.declared.query.After.TheVariants as after
-use Rattle.qm_kinds.specs.declared.query.Listing.{Listing}
 use Rattle.qm_kinds.specs.declared.query.Listing.TheVariants as listing
-use Rattle.qm_kinds.specs.declared.query.Query.{Query}
-use Rattle.qm_kinds.specs.declared.query.Row.{Row}
 use Rattle.qm_kinds.specs.declared.query.Row.TheVariants as row
 use Rattle.qm_kinds.specs.declared.queue.QueueKind.TheVariants as queue
-use Rattle.qm_kinds.specs.declared.queue.QueueChange.{QueueChange}
-use Rattle.qm_kinds.specs.declared.refusal.Refusal.{Refusal}
 use Rattle.qm_kinds.specs.declared.refusal.Refusal.TheVariants as refused
-use Rattle.qm_kinds.specs.declared.request.NameOrNumber.{NameOrNumber}
-use Rattle.qm_kinds.specs.declared.request.NameOrNumber.TheVariants.{Name}
-use Rattle.qm_kinds.specs.declared.request.Request.{Request}
 use Rattle.qm_kinds.specs.declared.request.Request.TheVariants.{Append, Fill, DefineForm, DefineCharacteristic, InitializeQueue, SetQueue, DeleteQueue, Submit, Mark, Done, NodeLost}
-use Rattle.qm_kinds.specs.declared.system.System.{System}
-use Rattle.qm_model.specs.First.{first_system}
-use Rattle.qm_model.specs.Rows.{view}
-use Rattle.qm_model.specs.Duties.{duties}
-use Rattle.qm_kinds.specs.declared.work.Duty.{Duty}
 use Rattle.qm_model.proofs.Site.{Ask, after as system_after_all, starts, first_asks, file, listing_file, no_change, print_queue, a_print_job, a_batch_job}
 
 -- what names a row

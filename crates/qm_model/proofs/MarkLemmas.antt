@@ -1,22 +1,15 @@
 -- What print jobs report, and where a run begins that gets the value of a mark.
-use Rattle.std.proofs.Common.{◌≡◌, ℕ, ◌+◌, ◌-◌, ◌*◌, ◌<◌, ◌≤◌, ◌^◌, Bool, true, cond, ◌&&◌, List, [], ◌∷◌, ◌++◌, length, map, take, drop, length-drop, length-append, refl, sym, ◌∙◌, ap, subst, arith}
-use Rattle.std.specs.Prelude.{nat_le, fold, filter_map, decimal, max}
+use Rattle.std.proofs.Common.{◌≡◌, ℕ, ◌+◌, ◌-◌, ◌*◌, ◌<◌, ◌≤◌, ◌^◌, Bool, true, cond, ◌&&◌, List, [], ◌∷◌, ◌++◌, length, map, take, drop, length-drop, length-append, refl, sym, ◌∙◌, ap, subst, arith, nat_le, fold, filter_map, decimal, max, leb-true, le-leb}
 use Rattle.std.specs.List.{list_all, range_with_len}
 use Rattle.std.specs.Char.{is_ascii_digit}
 use Rattle.std.proofs.lemmas.Bool.Decides.{Decides-ltb}
-use Rattle.std.proofs.lemmas.Bool.{leb-true, le-leb}
 use Rattle.std.proofs.lemmas.Fmt.{digits_decimal, digits_value-decimal}
 use Rattle.std.proofs.lemmas.List.FromFn.{length-map-range_with_len}
 use Rattle.std.proofs.lemmas.Str.Parse.{IsDigitsTest, IsNumeralModel, numerals_by_fold}
 use Rattle.qm_kinds.specs.declared.entry.JobKind.TheVariants.{Print}
-use Rattle.qm_model.specs.Texts.{value_of}
-use Rattle.qm_kinds.specs.declared.work.Work.{Work}
-use Rattle.qm_kinds.specs.declared.work.Place.{Place}
-use Rattle.qm_kinds.specs.declared.work.Report.{Report}
+use Rattle.qm_model.specs.Common.{value_of, Work, Place, Report, page_blocks, normal_status}
 use Rattle.qm_kinds.specs.declared.work.Report.TheVariants.{Done}
 use Rattle.qm_model.specs.Reports.{Step, printed, begin_at, begin, print_steps, course_of, course, report_of, reports, with_mark, mark_behind, BeginAtMarks, blocks_before_report}
-use Rattle.qm_model.specs.Pages.{page_blocks}
-use Rattle.qm_model.specs.Batch.{normal_status}
 use Rattle.qm_model.proofs.SettlingLemmas.{and_left, and_right}
 use Rattle.qm_model.proofs.ReportLemmas.{drop_next, one_left, more_left, last_report, next_mark}
 

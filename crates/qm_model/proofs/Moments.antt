@@ -1,6 +1,5 @@
 -- The texts of moments. Their numbers were taken from another program's calendar.
-use Rattle.std.proofs.Common.{◌≡◌, refl}
-use Rattle.std.specs.Prelude.{codes}
+use Rattle.std.proofs.Common.{◌≡◌, refl, codes}
 use Rattle.qm_model.specs.Calendar.{date_from_month, date_from_year, date_of_day}
 use Rattle.qm_model.specs.MomentText.{month_letters, moment_text}
 

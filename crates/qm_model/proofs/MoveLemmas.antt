@@ -1,40 +1,19 @@
 -- Dropping a file, moving and changing waiting jobs, and stopping a queue leave a sound system.
-use Rattle.std.proofs.Common.{◌≡◌, ℕ, ◌≤◌, Bool, true, false, cond, not, List, [], ◌∷◌, length, refl, sym, ◌∙◌, ap, subst, arith, Option, None, Some, All, AllPairs, find, filter, map}
-use Rattle.std.specs.Prelude.{is_none, IfSome, IsSome}
+use Rattle.std.proofs.Common.{◌≡◌, ℕ, ◌≤◌, Bool, true, false, cond, not, List, [], ◌∷◌, length, refl, sym, ◌∙◌, ap, subst, arith, Option, None, Some, All, find, filter, map, is_none, IfSome, IsSome, bytes_eq, Less}
 use Rattle.std.specs.Option.{option_map_or}
-use Rattle.std.specs.Str.{bytes_eq}
-use Rattle.std.specs.declared.cmp.Ordering.TheVariants.{Less}
-use Rattle.std.proofs.lemmas.List.Elements.{All-cons, All-nil, All-weaker, All-filter}
+use Rattle.std.proofs.lemmas.List.Elements.{All-cons, All-nil, All-filter}
 use Rattle.std.proofs.lemmas.List.Filters.{length-filter_both, sum_by-filter_both}
 use Rattle.std.proofs.lemmas.List.Kept.{AllPairs-filter}
 use Rattle.std.proofs.lemmas.Slice.Eq.{bytes_eq-Decides}
-use Rattle.qm_kinds.specs.declared.entry.Entry.{Entry}
-use Rattle.qm_kinds.specs.declared.entry.JobKind.{JobKind}
+use Rattle.qm_model.specs.Common.{Entry, JobKind, File, FileName, Queue, QueueState, Refusal, StopMode, Pause, Next, Reset, System, same_file_name, file_named, file_name_cmp, queue_named, IsEntry, run_of, is_waiting, job_kind, is_same_kind, is_other_kind, refused_where, refused_as_named, with_queue, state_on_stop, is_running_in, reset_fate, with_fate, reset_in, entries_on_stop, stopped_queue, queue_stopped}
 use Rattle.qm_kinds.specs.declared.entry.JobKind.TheVariants as job
-use Rattle.qm_kinds.specs.declared.file.File.{File}
-use Rattle.qm_kinds.specs.declared.file.FileName.{FileName}
-use Rattle.qm_kinds.specs.declared.queue.Queue.{Queue}
-use Rattle.qm_kinds.specs.declared.queue.QueueState.{QueueState}
-use Rattle.qm_kinds.specs.declared.refusal.Refusal.{Refusal}
 use Rattle.qm_kinds.specs.declared.refusal.Refusal.TheVariants.{NoSuchFile, NoSuchQueue, WrongKind}
-use Rattle.qm_kinds.specs.declared.request.StopMode.{StopMode}
-use Rattle.qm_kinds.specs.declared.request.StopMode.TheVariants.{Pause, Next, Reset}
-use Rattle.qm_kinds.specs.declared.system.System.{System}
-use Rattle.qm_model.specs.Find.{same_file_name, file_named, file_name_cmp, queue_named}
-use Rattle.qm_model.specs.Consistent.{IsEntry}
-use Rattle.qm_model.specs.JobStates.{run_of, is_waiting}
-use Rattle.qm_model.specs.Kinds.{job_kind, is_same_kind, is_other_kind}
-use Rattle.qm_model.specs.Outcome.{refused_where}
-use Rattle.qm_model.specs.Appending.{refused_as_named}
 use Rattle.qm_model.specs.Filing.{drop_refusal, dropped}
-use Rattle.qm_model.specs.Standing.{with_queue}
-use Rattle.qm_model.specs.States.{state_on_stop}
-use Rattle.qm_model.specs.Stopping.{is_running_in, reset_fate, with_fate, reset_in, entries_on_stop, stopped_queue, queue_stopped}
 use Rattle.qm_model.specs.Merging.{waits_in, are_of_two_kinds, merge_refusal, moved_to, merged}
 use Rattle.qm_model.proofs.SettlingLemmas.{and_right}
-use Rattle.qm_model.proofs.ListLemmas.{Becomes, none, turned, pairs_of, all_pairs_of, becomes_all, becomes_pairs, becomes_shorter}
+use Rattle.qm_model.proofs.ListLemmas.{Becomes, none, turned}
 use Rattle.qm_model.proofs.SoundLemmas.{AreApart, apart_at}
-use Rattle.qm_model.proofs.ChangeLemmas.{IsSound, IsSoundQueue, of_entries, Calmer, itself, entries_calm, restated, states_change}
+use Rattle.qm_model.proofs.ChangeLemmas.{IsSound, sound_of_files, entries_become, of_entries, Calmer, itself, entries_calm, restated, states_change}
 use Rattle.qm_model.proofs.RefusalLemmas.{no_map, none_first, not_refused, is_there}
 use Rattle.qm_model.proofs.FileLemmas.{same_name}
 
@@ -77,30 +56,14 @@ dropped_sound before s name h clear keeps =
     let fs : List File = filter p s.files in
     let long = length-filter_both p q (λ g. not_not (same_file_name g.name name)) s.files in
     let size = sum_by-filter_both p q (λ g. not_not (same_file_name g.name name)) (λ (g : File). length g.bytes) s.files in
-    let t : System = record s { files = fs } in
-    record {
-      nodes = h.nodes;
-      may = h.may;
-      forms = h.forms;
-      characteristics = h.characteristics;
-      files = record {
-        few = omega (arith, long, h.files.few);
-        each = All-filter p (λ (g : File). length g.bytes ≤ 1048576) s.files h.files.each;
-        total = omega (arith, size, h.files.total);
-        order = AllPairs-filter (λ (a b : File). file_name_cmp a.name b.name ≡ Less) p s.files h.files.order;
-      };
-      few = h.few;
-      queues = All-weaker (IsSoundQueue s) (IsSoundQueue t) (λ q k. record { name = k.name; placed = k.placed; mounted = k.mounted; characteristics = k.characteristics; limit = k.limit; sizes = k.sizes }) s.queues h.queues;
-      order = h.order;
-      entries = record {
-        few = h.entries.few;
-        each = λ i d within. let k = h.entries.each i d within in record { number = k.number; home = k.home; file = kept_file _ name s.files (unnamed i d within) k.file; form = k.form; characteristics = k.characteristics; queue = k.queue; node = k.node; run = k.run };
-        order = h.entries.order;
-        runs = h.entries.runs;
-      };
-      next_entry = h.next_entry;
-      next_run = h.next_run;
-    }
+    sound_of_files s fs h
+    (record {
+      few = omega (arith, long, h.files.few);
+      each = All-filter p (λ (g : File). length g.bytes ≤ 1048576) s.files h.files.each;
+      total = omega (arith, size, h.files.total);
+      order = AllPairs-filter (λ (a b : File). file_name_cmp a.name b.name ≡ Less) p s.files h.files.order;
+    })
+    (λ i d within. kept_file _ name s.files (unnamed i d within) (h.entries.each i d within).file)
 
 -- ---- entries that keep their numbers and runs
 
@@ -116,27 +79,7 @@ module _ (s : System) (es : List Entry) (R : Entry → Entry → Type 0) where
 
   pub entries_turn : IsSound s → ((x y : Entry) → R x y → Same x y) → ((x y : Entry) → R x y → IsEntry s x → IsEntry (of_entries s es) y)
       → Becomes (λ (x : Entry). Unit {0}) R s.entries es → IsSound (of_entries s es)
-  entries_turn h same each b =
-      let before : AllPairs AreApart s.entries = λ i j d below within. (h.entries.order i j d below within, h.entries.runs i j d below within) in
-      let after : AllPairs AreApart es = all_pairs_of AreApart es (becomes_pairs (λ (x : Entry). Unit {0}) R AreApart AreApart (same_apart same) b (pairs_of AreApart s.entries before)) in
-      record {
-        nodes = h.nodes;
-        may = h.may;
-        forms = h.forms;
-        characteristics = h.characteristics;
-        files = h.files;
-        few = h.few;
-        queues = All-weaker (IsSoundQueue s) (IsSoundQueue (of_entries s es)) (λ q k. record { name = k.name; placed = k.placed; mounted = k.mounted; characteristics = k.characteristics; limit = k.limit; sizes = k.sizes }) s.queues h.queues;
-        order = h.order;
-        entries = record {
-          few = omega (arith, becomes_shorter (λ (x : Entry). Unit {0}) R b, h.entries.few);
-          each = becomes_all (λ (x : Entry). Unit {0}) R (IsEntry s) (IsEntry (of_entries s es)) each b h.entries.each;
-          order = λ i j d below within. (after i j d below within).0;
-          runs = λ i j d below within. (after i j d below within).1;
-        };
-        next_entry = h.next_entry;
-        next_run = h.next_run;
-      }
+  entries_turn h same each b = entries_become s es R h (same_apart same) each b
 
 each_turned : (R : Entry → Entry → Type 0) (f : Entry → Entry) → ((x : Entry) → R x (f x)) → (xs : List Entry) → Becomes (λ (x : Entry). Unit {0}) R xs (map f xs)
 each_turned R f h [] = none

@@ -1,26 +1,9 @@
 -- No change touches the moment or the numbers of runs, and entries' numbers only rise.
 use Rattle.std.proofs.Common.{◌≡◌, ℕ, ◌+◌, ◌≤◌, Bool, true, false, cond, List, length, map, refl, sym, ◌∙◌, ap, subst, arith, Option, None, Some, Ok}
 use Rattle.std.specs.Option.{option_map_or}
-use Rattle.qm_kinds.specs.declared.entry.Entry.{Entry}
-use Rattle.qm_kinds.specs.declared.request.Request.{Request}
+use Rattle.qm_model.specs.Common.{Entry, Request, Node, System, Pending, EntryIs, changed_entry, entry_set_to, Accepted, replied, at_moment, first_refusal_of, change_of, completed, applied, due, node_at, is_executing, entry_numbered, stopped_when_idle, settled, is_built, without_node, RunReport, MarkReport, EndReport, entry_of_run, run_reported, reported_of}
 use Rattle.qm_kinds.specs.declared.request.Request.TheVariants.{Append, InitializeQueue, SetQueue, StartQueue, StopQueue, AbortJob, DeleteQueue, Submit, SetEntry, DeleteEntry, Mark, Done, Tick, NodeUp, NodeLost, Took}
-use Rattle.qm_kinds.specs.declared.system.Node.{Node}
-use Rattle.qm_kinds.specs.declared.system.System.{System}
-use Rattle.qm_kinds.specs.declared.entry.EntryState.TheVariants.{Pending}
-use Rattle.qm_kinds.specs.declared.reply.Act.TheVariants.{EntryIs}
-use Rattle.qm_model.specs.Entries.{changed_entry, entry_set_to}
-use Rattle.qm_model.specs.Outcome.{Accepted}
-use Rattle.qm_model.specs.Replying.{replied}
-use Rattle.qm_model.specs.Applied.{at_moment, first_refusal_of, change_of, completed, applied}
-use Rattle.qm_model.specs.Due.{due}
-use Rattle.qm_model.specs.Standing.{node_at, is_executing}
-use Rattle.qm_model.specs.Find.{entry_numbered}
-use Rattle.qm_model.specs.States.{stopped_when_idle}
-use Rattle.qm_model.specs.Settling.{settled}
-use Rattle.qm_model.specs.Built.{is_built}
-use Rattle.qm_model.specs.Losing.{without_node}
 use Rattle.qm_model.specs.Nodes.{as_up, up_exactly}
-use Rattle.qm_model.specs.Runs.{RunReport, MarkReport, EndReport, entry_of_run, run_reported, reported_of}
 use Rattle.qm_model.proofs.ChangeLemmas.{names_stay}
 use Rattle.qm_model.proofs.SettlingLemmas.{rest_stays, numbers_taken, accepted_is}
 

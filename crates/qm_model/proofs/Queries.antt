@@ -1,23 +1,11 @@
 -- What is listed of a site: whose entries, queues of which kinds, forms and characteristics, and the queue manager.
-use Rattle.std.proofs.Common.{◌≡◌, ℕ, Bool, true, false, List, [], ◌∷◌, refl, map, Option, None, Some}
-use Rattle.std.specs.Prelude.{codes, Result, Ok, Err}
+use Rattle.std.proofs.Common.{◌≡◌, ℕ, Bool, true, false, List, [], ◌∷◌, refl, map, Option, None, Some, codes, Result, Ok, Err}
 use Rattle.std.specs.Fmt.{digits}
-use Rattle.qm_kinds.specs.declared.form.Form.{Form}
-use Rattle.qm_kinds.specs.declared.query.Listing.{Listing}
+use Rattle.qm_model.specs.Common.{Form, Listing, Query, Row, QueueKind, QueueState, Started, Refusal, DefineForm, DefineCharacteristic, InitializeQueue, Took, System, first_system, view, ManagerRole}
 use Rattle.qm_kinds.specs.declared.query.Listing.TheVariants as listing
-use Rattle.qm_kinds.specs.declared.query.Query.{Query}
-use Rattle.qm_kinds.specs.declared.query.Row.{Row}
 use Rattle.qm_kinds.specs.declared.query.Row.TheVariants as row
-use Rattle.qm_kinds.specs.declared.queue.QueueKind.{QueueKind}
 use Rattle.qm_kinds.specs.declared.queue.QueueKind.TheVariants as queue
-use Rattle.qm_kinds.specs.declared.queue.QueueState.{QueueState}
-use Rattle.qm_kinds.specs.declared.queue.QueueState.TheVariants.{Started}
-use Rattle.qm_kinds.specs.declared.refusal.Refusal.{Refusal}
 use Rattle.qm_kinds.specs.declared.refusal.Refusal.TheVariants as refused
-use Rattle.qm_kinds.specs.declared.request.Request.TheVariants.{DefineForm, DefineCharacteristic, InitializeQueue, Took}
-use Rattle.qm_kinds.specs.declared.system.System.{System}
-use Rattle.qm_model.specs.First.{first_system}
-use Rattle.qm_model.specs.Rows.{view, ManagerRole}
 use Rattle.qm_model.specs.Words.{entry_text}
 use Rattle.qm_model.proofs.Site.{Ask, after, first_asks, no_change, print_queue, generic_queue}
 use Rattle.qm_model.proofs.Listings.{asking, labels, site, day}

@@ -1,44 +1,22 @@
 -- Queues that are deleted or set leave a sound system.
-use Rattle.std.proofs.Common.{◌≡◌, ℕ, ◌<◌, ◌≤◌, Bool, true, false, cond, not, ◌||◌, ◌&&◌, List, [], ◌∷◌, length, get_or, refl, sym, ◌∙◌, ap, subst, arith, Option, None, Some, All, AllPairs, filter, find, map}
-use Rattle.std.specs.Prelude.{◌==◌, nat_lt, is_some, is_none, IfSome, IsSome, unwrap_or}
+use Rattle.std.proofs.Common.{◌≡◌, ℕ, ◌<◌, ◌≤◌, Bool, true, false, cond, not, ◌||◌, ◌&&◌, List, [], ◌∷◌, get_or, refl, sym, ◌∙◌, ap, subst, arith, Option, None, Some, All, filter, find, map, ◌==◌, nat_lt, is_some, is_none, IfSome, IsSome, unwrap_or, bytes_eq, Less}
 use Rattle.std.specs.List.{list_any}
 use Rattle.std.specs.Option.{option_map, option_map_or, option_and_then, option_or}
-use Rattle.std.specs.Str.{bytes_eq}
-use Rattle.std.specs.declared.cmp.Ordering.TheVariants.{Less}
 use Rattle.std.proofs.lemmas.List.Elements.{All-map, All-weaker, All-filter}
 use Rattle.std.proofs.lemmas.List.Kept.{AllPairs-filter}
 use Rattle.std.proofs.lemmas.Slice.Eq.{bytes_eq-Decides}
-use Rattle.qm_kinds.specs.declared.entry.Entry.{Entry}
-use Rattle.qm_kinds.specs.declared.entry.EntryState.{EntryState}
+use Rattle.qm_model.specs.Common.{Entry, EntryState, JobKind, Form, Queue, QueueChange, QueueKind, QueueState, Refusal, NameOrNumber, Node, System, name_cmp, queue_named, form_wanted, run_of, runs_in, refused_where, refused_form, refused_characteristics, form_named, with_queue, entry_at, state_at, refused_by_queue, refused_by_entry}
 use Rattle.qm_kinds.specs.declared.entry.EntryState.TheVariants as entry
-use Rattle.qm_kinds.specs.declared.entry.JobKind.{JobKind}
-use Rattle.qm_kinds.specs.declared.form.Form.{Form}
-use Rattle.qm_kinds.specs.declared.limits.TheConstants.{QUEUES_LIMIT}
-use Rattle.qm_kinds.specs.declared.queue.Queue.{Queue}
-use Rattle.qm_kinds.specs.declared.queue.QueueChange.{QueueChange}
-use Rattle.qm_kinds.specs.declared.queue.QueueKind.{QueueKind}
 use Rattle.qm_kinds.specs.declared.queue.QueueKind.TheVariants.{Batch, Print, GenericBatch, GenericPrint}
-use Rattle.qm_kinds.specs.declared.queue.QueueState.{QueueState}
-use Rattle.qm_kinds.specs.declared.refusal.Refusal.{Refusal}
 use Rattle.qm_kinds.specs.declared.refusal.Refusal.TheVariants.{NoSuchQueue, NoSuchForm, BadValue, WrongKind}
-use Rattle.qm_kinds.specs.declared.request.NameOrNumber.{NameOrNumber}
-use Rattle.qm_kinds.specs.declared.system.Node.{Node}
-use Rattle.qm_kinds.specs.declared.system.System.{System}
-use Rattle.qm_model.specs.Find.{name_cmp, queue_named, form_wanted}
 use Rattle.qm_model.specs.Consistent.{IsEntry, IsExecutionQueue, IsPlaced, IsMounted, AreDefined}
-use Rattle.qm_model.specs.JobStates.{run_of, runs_in}
 use Rattle.qm_model.specs.Kinds.{is_generic, job_kind, execution_kind, is_batch_queue, is_print_queue}
-use Rattle.qm_model.specs.Outcome.{refused_where}
-use Rattle.qm_model.specs.Wanted.{refused_form, refused_characteristics, form_named}
-use Rattle.qm_model.specs.Standing.{with_queue}
-use Rattle.qm_model.specs.Due.{entry_at, state_at}
-use Rattle.qm_model.specs.Referring.{refused_by_queue, refused_by_entry}
 use Rattle.qm_model.specs.Settings.{are_bad_sizes, is_bad_change, is_change_of_other_kind, change_refusal, with_change}
 use Rattle.qm_model.specs.Queues.{refused_unless_stopped, without_queue, runs_for, delete_queue_refusal, queue_deleted, set_queue_refusal}
 use Rattle.qm_model.proofs.ListLemmas.{Becomes, none, gone, turned, Pairs, pairs_of, all_pairs_of}
 use Rattle.qm_model.proofs.InsertLemmas.{found_kept, found_only, all_in, all_kept, fewer, none_any}
 use Rattle.qm_model.proofs.SoundLemmas.{name_not_below}
-use Rattle.qm_model.proofs.ChangeLemmas.{named, IsSound, IsSoundQueue, Calmer, itself, entries_calm, same_length}
+use Rattle.qm_model.proofs.ChangeLemmas.{named, HasQueues, queues_change, IsSound, IsSoundQueue, Calmer, itself, entries_calm, same_length}
 use Rattle.qm_model.proofs.DueLemmas.{same_run, same_queue}
 use Rattle.qm_model.proofs.RefusalLemmas.{not_true, at_most, none_first, not_refused, is_there, none_by_queue, none_by_entry, or_false_left, or_false_right, not_zero}
 use Rattle.qm_model.proofs.SubmitLemmas.{found_form}
@@ -47,34 +25,8 @@ use Rattle.qm_model.proofs.FormLemmas.{differs_through, if_some_more}
 
 -- ---- other queues
 
--- what is asked of an entry's queues
-abbrev pub HasQueues : List Queue → Entry → Type 0
-HasQueues qs x =
-    (IsSome (queue_named x.home qs) × IfSome (queue_named x.home qs) (λ q. job_kind q.kind ≡ x.kind)) × IfSome (runs_in x.state) (IsExecutionQueue x.kind qs)
-
-module _ (s : System) (qs : List Queue) where
-  abbrev pub of_queues : System
-  of_queues = record s { queues = qs }
-
-  pub queues_change : IsSound s → length qs ≤ QUEUES_LIMIT → All (IsSoundQueue of_queues) qs → AllPairs (λ (a b : Queue). name_cmp a.name b.name ≡ Less) qs → All (HasQueues qs) s.entries → IsSound of_queues
-  queues_change h few each order has = record {
-    nodes = h.nodes;
-    may = h.may;
-    forms = h.forms;
-    characteristics = h.characteristics;
-    files = h.files;
-    few = few;
-    queues = each;
-    order = order;
-    entries = record {
-      few = h.entries.few;
-      each = λ i d within. let k = h.entries.each i d within in let m = has i d within in record { number = k.number; home = m.0; file = k.file; form = k.form; characteristics = k.characteristics; queue = m.1; node = k.node; run = k.run };
-      order = h.entries.order;
-      runs = h.entries.runs;
-    };
-    next_entry = h.next_entry;
-    next_run = h.next_run;
-  }
+abbrev pub of_queues : System → List Queue → System
+of_queues s qs = record s { queues = qs }
 
 -- a queue stays placed where its targets still are execution queues of its kind
 pub placed_still : (ns : List Node) (qs ps : List Queue) (q : Queue) (generic : Bool)
@@ -106,12 +58,9 @@ still_executes name n qs kind other h = subst (λ (o : Option Queue). IsSome o �
 
 runs_elsewhere : (name : List ℕ) (home : Bool) (state : EntryState)
     → (option_map_or (λ run. true) (run_of state) false && (option_map_or (λ n. bytes_eq n name) (runs_in state) false || home)) ≡ false → IfSome (runs_in state) (λ n. bytes_eq n name ≡ false)
-runs_elsewhere name home entry.Pending h = tt
-runs_elsewhere name home entry.Holding h = tt
-runs_elsewhere name home (entry.Timed at) h = tt
 runs_elsewhere name home (entry.Running queue node run) h = or_false_left (bytes_eq queue name) home h
 runs_elsewhere name home (entry.Aborting queue node run fate) h = or_false_left (bytes_eq queue name) home h
-runs_elsewhere name home (entry.Retained status until) h = tt
+runs_elsewhere name home _ h = tt
 
 pub runs_for_at : (name : List ℕ) (now : ℕ) (x : Entry) → runs_for name x ≡ false → runs_for name (entry_at now x) ≡ false
 runs_for_at name now x h =

@@ -1,17 +1,9 @@
 -- What is known where a request isn't refused.
-use Rattle.std.proofs.Common.{◌≡◌, ℕ, ◌<◌, ◌≤◌, Bool, true, false, cond, not, ◌||◌, List, ◌∷◌, refl, arith, Option, None, Some, Ok, All, find}
-use Rattle.std.specs.Prelude.{◌==◌, nat_lt, nat_le, is_none, IfSome, IsSome}
+use Rattle.std.proofs.Common.{◌≡◌, ℕ, ◌<◌, ◌≤◌, Bool, true, false, cond, not, ◌||◌, List, ◌∷◌, refl, arith, Option, None, Some, Ok, All, find, ◌==◌, nat_lt, nat_le, is_none, IfSome, IsSome}
 use Rattle.std.specs.Option.{option_map, option_map_or}
 use Rattle.std.proofs.lemmas.Bool.Decides.{nat_tests}
-use Rattle.qm_kinds.specs.declared.entry.Entry.{Entry}
-use Rattle.qm_kinds.specs.declared.entry.JobKind.{JobKind}
+use Rattle.qm_model.specs.Common.{Entry, JobKind, Queue, Refusal, NumbersSpent, job_kind, is_same_kind, is_other_kind, Accepted, refused_where, first_refusal, unless_refused, refused_by_queue, refused_by_entry}
 use Rattle.qm_kinds.specs.declared.entry.JobKind.TheVariants.{Batch, Print}
-use Rattle.qm_kinds.specs.declared.queue.Queue.{Queue}
-use Rattle.qm_kinds.specs.declared.refusal.Refusal.{Refusal}
-use Rattle.qm_kinds.specs.declared.refusal.Refusal.TheVariants.{NumbersSpent}
-use Rattle.qm_model.specs.Kinds.{job_kind, is_same_kind, is_other_kind}
-use Rattle.qm_model.specs.Outcome.{Accepted, refused_where, first_refusal, unless_refused}
-use Rattle.qm_model.specs.Referring.{refused_by_queue, refused_by_entry}
 use Rattle.qm_model.proofs.InsertLemmas.{not_found}
 
 pub none_first : (o : Option Refusal) (os : List (Option Refusal)) → first_refusal (o ∷ os) ≡ None → (o ≡ None) × (first_refusal os ≡ None)

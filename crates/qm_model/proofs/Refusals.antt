@@ -1,21 +1,14 @@
 -- Refusals of requests on literals.
-use Rattle.std.proofs.Common.{◌≡◌, [], ◌∷◌, ◌++◌, true, false, Some, None, Err, refl, replicate}
-use Rattle.std.specs.Prelude.{codes}
-use Rattle.qm_kinds.specs.declared.entry.JobKind.TheVariants.{Batch, Print}
-use Rattle.qm_kinds.specs.declared.entry.JobRetain.TheVariants.{Default}
-use Rattle.qm_kinds.specs.declared.file.FileName.{FileName}
+use Rattle.std.proofs.Common.{◌≡◌, [], ◌∷◌, ◌++◌, true, false, Some, None, Err, refl, replicate, codes}
+use Rattle.qm_kinds.specs.declared.entry.JobKind.TheVariants.{Print}
+use Rattle.qm_model.specs.Common.{FileName, Number, System, applied, append_refusal, is_spool_full, Job, first_system}
 use Rattle.qm_kinds.specs.declared.refusal.Refusal.TheVariants as refused
 use Rattle.qm_kinds.specs.declared.refusal.Holder.TheVariants as holder
-use Rattle.qm_kinds.specs.declared.request.NameOrNumber.TheVariants.{Number}
 use Rattle.qm_kinds.specs.declared.request.Request.TheVariants.{Append}
 use Rattle.qm_kinds.specs.declared.script.ScriptKind.TheVariants.{Form}
-use Rattle.qm_kinds.specs.declared.system.System.{System}
-use Rattle.qm_model.specs.Applied.{applied}
-use Rattle.qm_model.specs.Appending.{append_refusal, is_spool_full}
-use Rattle.qm_kinds.specs.declared.request.Job.{Job}
 use Rattle.qm_model.specs.Submitting.{submit_refusal, entry_of}
 use Rattle.qm_model.specs.Script.{script_of}
-use Rattle.qm_model.specs.First.{first_system}
+use Rattle.qm_model.proofs.Site.{a_batch_job}
 
 abbrev pub night_file : FileName
 night_file = record { name = codes "NIGHT"; extension = Some (codes "COM") }
@@ -26,22 +19,7 @@ site = record (first_system (codes "A")) { files = record { name = night_file; b
 
 -- a batch job for it
 abbrev pub night_job : Job
-night_job = record {
-  user = codes "SMITH";
-  kind = Batch;
-  queue = codes "SYS$BATCH";
-  file = night_file;
-  name = codes "NIGHT";
-  priority = 100;
-  after = None;
-  hold = false;
-  retain = Default;
-  restart = false;
-  characteristics = [];
-  form = None;
-  copies = 1;
-  flag = false;
-}
+night_job = record (a_batch_job (codes "SYS$BATCH") (codes "NIGHT")) { user = codes "SMITH" }
 
 pub taken : submit_refusal site night_job ≡ None
 taken = refl

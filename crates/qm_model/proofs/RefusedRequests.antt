@@ -1,20 +1,13 @@
 -- Requests that are refused, and what some others do.
-use Rattle.std.proofs.Common.{◌≡◌, ℕ, Bool, true, false, List, [], ◌∷◌, refl, Option, None, Some}
-use Rattle.std.specs.Prelude.{codes, Result, Ok, Err}
+use Rattle.std.proofs.Common.{◌≡◌, ℕ, Bool, true, false, List, [], ◌∷◌, refl, Option, None, Some, codes, Result, Ok, Err}
 use Rattle.qm_kinds.specs.declared.entry.EntryState.TheVariants as state
-use Rattle.qm_kinds.specs.declared.entry.JobRetain.TheVariants.{Default}
+use Rattle.qm_model.specs.Common.{Default, Stopped, Started, Paused, Refusal, Name, Number, Request, System, first_system, first_form}
 use Rattle.qm_kinds.specs.declared.queue.QueueKind.TheVariants as queue
-use Rattle.qm_kinds.specs.declared.queue.QueueState.TheVariants.{Stopped, Started, Paused}
 use Rattle.qm_kinds.specs.declared.refusal.Holder.TheVariants as holder
-use Rattle.qm_kinds.specs.declared.refusal.Refusal.{Refusal}
 use Rattle.qm_kinds.specs.declared.refusal.Refusal.TheVariants as refused
 use Rattle.qm_kinds.specs.declared.reply.Act.TheVariants as act
-use Rattle.qm_kinds.specs.declared.request.NameOrNumber.TheVariants.{Name, Number}
-use Rattle.qm_kinds.specs.declared.request.Request.{Request}
 use Rattle.qm_kinds.specs.declared.request.Request.TheVariants.{Append, Fill, Drop, DefineForm, DeleteForm, InitializeQueue, SetQueue, StartQueue, StopQueue, AbortJob, DeleteQueue, Merge, SetEntry, Mark, Done, Tick, NodeLost}
 use Rattle.qm_kinds.specs.declared.request.StopMode.TheVariants as stop
-use Rattle.qm_kinds.specs.declared.system.System.{System}
-use Rattle.qm_model.specs.First.{first_system, first_form}
 use Rattle.qm_model.proofs.Site.{Told, answers, after, first_asks, file, listing_file, no_change, print_queue, generic_queue, print_job, batch_job}
 
 -- a started print queue LP with a running and a waiting job, a generic queue GP before it, and the file F

@@ -1,15 +1,10 @@
 -- What runs report, from each place on.
-use Rattle.std.proofs.Common.{◌≡◌, ℕ, zero, suc, ◌+◌, ◌-◌, ◌≤◌, Bool, true, false, cond, List, [], ◌∷◌, length, drop, length-drop, refl, sym, ◌∙◌, ap, subst, arith}
-use Rattle.std.specs.Prelude.{nat_lt, filter_map, decimal}
+use Rattle.std.proofs.Common.{◌≡◌, ℕ, zero, suc, ◌+◌, ◌-◌, ◌≤◌, Bool, true, false, cond, List, [], ◌∷◌, length, drop, length-drop, refl, sym, ◌∙◌, ap, subst, arith, nat_lt, filter_map, decimal}
 use Rattle.std.proofs.lemmas.Bool.Decides.{nat_tests}
-use Rattle.qm_kinds.specs.declared.entry.JobKind.{JobKind}
+use Rattle.qm_model.specs.Common.{JobKind, Work, Place, Report, page_blocks, lines}
 use Rattle.qm_kinds.specs.declared.entry.JobKind.TheVariants.{Batch, Print}
-use Rattle.qm_kinds.specs.declared.work.Work.{Work}
-use Rattle.qm_kinds.specs.declared.work.Place.{Place}
-use Rattle.qm_kinds.specs.declared.work.Report.{Report}
 use Rattle.qm_kinds.specs.declared.work.Report.TheVariants.{Mark, Done}
 use Rattle.qm_model.specs.Reports.{Step, print_report, print_steps, line_limit, steps_of, batch_steps, course_of, report_of, reports, EndOnce, GoOnAtMarks}
-use Rattle.qm_model.specs.Pages.{page_blocks, lines}
 use Rattle.qm_model.specs.Batch.{BatchMove, GoOn, Output, SaveMark, EndRun, move_at, normal_status}
 
 -- the reports of some steps

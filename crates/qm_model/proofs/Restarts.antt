@@ -1,15 +1,12 @@
 -- Runs that stop with their node, and go on at another one behind their marks.
-use Rattle.std.proofs.Common.{◌≡◌, ℕ, false, List, [], ◌∷◌, ◌++◌, refl, map}
-use Rattle.std.specs.Prelude.{codes}
+use Rattle.std.proofs.Common.{◌≡◌, ℕ, false, List, [], ◌∷◌, ◌++◌, refl, map, codes}
 use Rattle.std.specs.Option.{option_map_or}
 use Rattle.std.specs.Fmt.{digits}
 use Rattle.qm_kinds.specs.declared.entry.JobRetain.TheVariants.{Failed}
 use Rattle.qm_kinds.specs.declared.request.Request.TheVariants as request
-use Rattle.qm_kinds.specs.declared.system.System.{System}
-use Rattle.qm_kinds.specs.declared.work.Duty.{Duty}
+use Rattle.qm_model.specs.Common.{System, Duty, duties}
 use Rattle.qm_kinds.specs.declared.work.Report.TheVariants.{Done}
 use Rattle.qm_model.specs.Reports.{Step, Handed, Reported, begin, course}
-use Rattle.qm_model.specs.Duties.{duties}
 use Rattle.qm_model.specs.Words.{entry_text}
 use Rattle.qm_model.proofs.Site.{Ask, after, first_asks, listing_file, print_queue_on, generic_queue, print_job, a_print_job}
 use Rattle.qm_model.proofs.Ends.{two_nodes, B_takes_over}

@@ -1,19 +1,11 @@
 -- Listings that go on row by row: each gives the least row behind the last one, and then no more.
-use Rattle.std.proofs.Common.{◌≡◌, ℕ, true, false, List, [], ◌∷◌, refl, Option, None, Some}
-use Rattle.std.specs.Prelude.{codes, Result, Ok, Err}
-use Rattle.qm_kinds.specs.declared.query.After.{After}
+use Rattle.std.proofs.Common.{◌≡◌, ℕ, true, false, List, [], ◌∷◌, refl, Option, None, Some, codes, Result, Ok, Err}
+use Rattle.qm_model.specs.Common.{After, Listing, Row, Refusal, Request, System, first_system, view, ManagerRole}
 use Rattle.qm_kinds.specs.declared.query.After.TheVariants as after
-use Rattle.qm_kinds.specs.declared.query.Listing.{Listing}
 use Rattle.qm_kinds.specs.declared.query.Listing.TheVariants as listing
-use Rattle.qm_kinds.specs.declared.query.Row.{Row}
 use Rattle.qm_kinds.specs.declared.query.Row.TheVariants as row
-use Rattle.qm_kinds.specs.declared.refusal.Refusal.{Refusal}
 use Rattle.qm_kinds.specs.declared.refusal.Refusal.TheVariants as refused
-use Rattle.qm_kinds.specs.declared.request.Request.{Request}
 use Rattle.qm_kinds.specs.declared.request.Request.TheVariants.{Fill, DeleteForm, DeleteQueue, DeleteEntry}
-use Rattle.qm_kinds.specs.declared.system.System.{System}
-use Rattle.qm_model.specs.First.{first_system}
-use Rattle.qm_model.specs.Rows.{view, ManagerRole}
 use Rattle.qm_model.proofs.Site.{after as system_after_all, first_asks, listing_file, no_change, print_queue, generic_queue, print_job}
 use Rattle.qm_model.proofs.Listings.{asking, site}
 use Rattle.qm_model.proofs.Queries.{with_stationery, default_form, letter_form, invoice_form}

@@ -1,36 +1,15 @@
 -- A changed entry leaves a sound system.
-use Rattle.std.proofs.Common.{◌≡◌, ℕ, ◌⊎◌, inl, inr, Bool, true, false, cond, not, ◌||◌, ◌&&◌, List, [], ◌∷◌, ◌++◌, refl, sym, ◌∙◌, ap, subst, arith, Option, None, Some, All, find}
-use Rattle.std.specs.Prelude.{◌==◌, nat_le, is_some, is_none, IfSome, IsSome, unwrap_or}
+use Rattle.std.proofs.Common.{◌≡◌, ℕ, ◌⊎◌, inl, inr, Bool, true, false, cond, not, ◌||◌, ◌&&◌, List, [], ◌∷◌, ◌++◌, refl, sym, ◌∙◌, ap, subst, arith, Option, None, Some, All, find, ◌==◌, nat_le, is_some, is_none, IfSome, IsSome, unwrap_or, nat_cmp, Less}
 use Rattle.std.specs.Option.{option_map, option_map_or, option_and_then, option_or, option_to_list}
-use Rattle.std.specs.Ordering.{nat_cmp}
-use Rattle.std.specs.declared.cmp.Ordering.TheVariants.{Less}
 use Rattle.std.proofs.lemmas.Bool.Decides.{nat_tests, Decides-eqb}
 use Rattle.std.proofs.lemmas.List.Elements.{All-cons, All-nil, All-head, All-tail, All-weaker}
-use Rattle.qm_kinds.specs.declared.entry.Entry.{Entry}
-use Rattle.qm_kinds.specs.declared.entry.EntryState.{EntryState}
-use Rattle.qm_kinds.specs.declared.entry.EntryState.TheVariants.{Pending, Holding, Timed, Running, Aborting, Retained}
-use Rattle.qm_kinds.specs.declared.entry.JobKind.{JobKind}
+use Rattle.qm_model.specs.Common.{Entry, EntryState, Pending, Holding, Timed, Running, Aborting, Retained, JobKind, Form, Queue, Refusal, EntryIs, NameOrNumber, Name, System, queue_named, entry_numbered, form_wanted, run_of, is_pending, is_waiting, refused_where, refused_form, refused_characteristics, form_named, characteristics_of, EntryChange, replied, with_entry, state_at, entry_at}
 use Rattle.qm_kinds.specs.declared.entry.JobKind.TheVariants as job
 use Rattle.qm_kinds.specs.declared.form.CharacteristicSet.{CharacteristicSet}
-use Rattle.qm_kinds.specs.declared.form.Form.{Form}
-use Rattle.qm_kinds.specs.declared.queue.Queue.{Queue}
-use Rattle.qm_kinds.specs.declared.refusal.Refusal.{Refusal}
 use Rattle.qm_kinds.specs.declared.refusal.Refusal.TheVariants.{NoSuchEntry, EntryBusy, NotHeld, NoSuchQueue, NoSuchForm, WrongKind}
-use Rattle.qm_kinds.specs.declared.reply.Act.TheVariants.{EntryIs}
-use Rattle.qm_kinds.specs.declared.request.NameOrNumber.{NameOrNumber}
-use Rattle.qm_kinds.specs.declared.request.NameOrNumber.TheVariants.{Name}
-use Rattle.qm_kinds.specs.declared.system.System.{System}
-use Rattle.qm_model.specs.Find.{queue_named, entry_numbered, form_wanted}
 use Rattle.qm_model.specs.Consistent.{IsEntry, HasForm, AreDefined}
-use Rattle.qm_model.specs.JobStates.{run_of, is_pending, is_waiting}
 use Rattle.qm_model.specs.Kinds.{job_kind, is_print, is_other_kind}
-use Rattle.qm_model.specs.Outcome.{refused_where}
-use Rattle.qm_model.specs.Wanted.{refused_form, refused_characteristics, form_named, characteristics_of}
-use Rattle.qm_kinds.specs.declared.request.EntryChange.{EntryChange}
 use Rattle.qm_model.specs.Entries.{refused_queue, is_entry_of_other_kind, entry_change_refusal, set_entry_refusal, with_fields, changed_entry, entry_set_to, entry_set}
-use Rattle.qm_model.specs.Replying.{replied}
-use Rattle.qm_model.specs.Standing.{with_entry}
-use Rattle.qm_model.specs.Due.{state_at, entry_at}
 use Rattle.qm_model.proofs.ListLemmas.{Becomes, none, turned, Pairs, pairs_of}
 use Rattle.qm_model.proofs.SoundLemmas.{AreApart, one_outcome}
 use Rattle.qm_model.proofs.ChangeLemmas.{IsSound, of_entries}
@@ -89,7 +68,7 @@ may_change s number change apart clear =
     All-weaker (λ (x : Entry). x.number ≡ number → find (numbered number) s.entries ≡ Some x) (λ (x : Entry). x.number ≡ number → CanChange s.queues s.forms change x)
     (λ x found is. can_change s change x (subst (λ (o : Option Entry). option_and_then (entry_change_refusal s change) o ≡ None) (found is) r2.0)) s.entries (found_first number s.entries apart)
 
-waiting_at : (now : ℕ) (state : EntryState) → is_waiting state ≡ true → is_waiting (state_at now state) ≡ true
+pub waiting_at : (now : ℕ) (state : EntryState) → is_waiting state ≡ true → is_waiting (state_at now state) ≡ true
 waiting_at now Pending h = refl
 waiting_at now Holding h = refl
 waiting_at now (Timed at) h = waiting_timed (nat_le at now)
@@ -97,20 +76,16 @@ waiting_at now (Timed at) h = waiting_timed (nat_le at now)
     waiting_timed : (b : Bool) → is_waiting (cond b Pending (Timed at)) ≡ true
     waiting_timed true = refl
     waiting_timed false = refl
-waiting_at now (Running queue node run) h = h
-waiting_at now (Aborting queue node run fate) h = h
-waiting_at now (Retained status until) h = h
+waiting_at now _ h = h
 
 pub still_may : (qs : List Queue) (fs : List Form) (number now : ℕ) (change : EntryChange) (x : Entry) → (x.number ≡ number → CanChange qs fs change x) → (entry_at now x).number ≡ number → CanChange qs fs change (entry_at now x)
 still_may qs fs number now change x h is = let k = h is in (waiting_at now x.state k.0, k.1, k.2, k.3)
 
 waiting_has_no_run : (state : EntryState) → is_waiting state ≡ true → run_of state ≡ None
-waiting_has_no_run Pending h = refl
-waiting_has_no_run Holding h = refl
-waiting_has_no_run (Timed at) h = refl
 waiting_has_no_run (Running queue node run) h = cc
 waiting_has_no_run (Aborting queue node run fate) h = cc
 waiting_has_no_run (Retained status until) h = cc
+waiting_has_no_run _ h = refl
 
 -- ---- what it becomes
 

@@ -1,20 +1,9 @@
 -- Starting jobs comes to an end, and leaves all but entries and run numbers as it was.
-use Rattle.std.proofs.Common.{◌≡◌, ℕ, zero, suc, ◌+◌, ◌≤◌, ◌⊎◌, inl, inr, Bool, true, false, cond, ◌&&◌, ◌||◌, not, List, [], ◌∷◌, ◌++◌, length, refl, sym, ◌∙◌, ap, arith, lit≤, Option, None, Some, filter, find, Ok}
-use Rattle.std.specs.Prelude.{◌==◌}
+use Rattle.std.proofs.Common.{◌≡◌, ℕ, zero, suc, ◌+◌, ◌≤◌, ◌⊎◌, inl, inr, Bool, true, false, cond, ◌&&◌, ◌||◌, not, List, [], ◌∷◌, ◌++◌, length, refl, sym, ◌∙◌, ap, arith, lit≤, Option, None, Some, filter, find, Ok, ◌==◌}
 use Rattle.std.specs.List.{list_any, fold}
 use Rattle.std.specs.Option.{option_map, option_map_or, option_and_then, option_to_list}
 use Rattle.std.proofs.lemmas.Bool.Decides.{nat_tests}
-use Rattle.qm_kinds.specs.declared.entry.Entry.{Entry}
-use Rattle.qm_kinds.specs.declared.queue.Queue.{Queue}
-use Rattle.qm_kinds.specs.declared.refusal.Refusal.{Refusal}
-use Rattle.qm_kinds.specs.declared.run.Start.{Start}
-use Rattle.qm_kinds.specs.declared.system.System.{System}
-use Rattle.qm_model.specs.Outcome.{Accepted, unless_refused}
-use Rattle.qm_model.specs.Standing.{with_entry}
-use Rattle.qm_model.specs.Fitting.{fits}
-use Rattle.qm_model.specs.JobStates.{is_pending}
-use Rattle.qm_model.specs.Before.{before, first_of}
-use Rattle.qm_model.specs.Free.{is_free}
+use Rattle.qm_model.specs.Common.{Entry, Queue, Refusal, Start, System, Accepted, unless_refused, with_entry, fits, is_pending, before, first_of, is_free}
 use Rattle.qm_model.specs.Settling.{Choice, Settled, can_start, next_queue, next_job, next_choice, has_run_numbers, made_running, after_start, start_of, preceded_by, settled_within, settled, is_among_started}
 
 pub and_left : (a b : Bool) → (a && b) ≡ true → a ≡ true

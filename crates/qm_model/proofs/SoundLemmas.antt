@@ -1,32 +1,16 @@
 -- What keeps a system consistent while its entries change.
-use Rattle.std.proofs.Common.{◌≡◌, ◌≢◌, ℕ, zero, suc, ◌+◌, ◌<◌, ◌≤◌, ◌⊎◌, inl, inr, Bool, true, false, cond, ◌&&◌, ◌||◌, not, List, [], ◌∷◌, ◌++◌, length, refl, sym, ◌∙◌, ap, subst, arith, Option, None, Some, All, AllPairs, Contains, filter, find, map}
-use Rattle.std.specs.Prelude.{◌==◌, IfSome, IsSome, unwrap_or}
+use Rattle.std.proofs.Common.{◌≡◌, ◌≢◌, ℕ, zero, suc, ◌+◌, ◌<◌, ◌≤◌, ◌⊎◌, inl, inr, Bool, true, false, cond, ◌&&◌, ◌||◌, not, List, [], ◌∷◌, ◌++◌, length, refl, sym, ◌∙◌, ap, subst, arith, Option, None, Some, All, AllPairs, Contains, filter, find, map, ◌==◌, IfSome, IsSome, unwrap_or, nat_cmp, Less, bytes_eq}
 use Rattle.std.specs.List.{list_any}
 use Rattle.std.specs.Option.{option_map, option_map_or, option_and_then, option_to_list}
-use Rattle.std.specs.Ordering.{nat_cmp}
-use Rattle.std.specs.declared.cmp.Ordering.TheVariants.{Less}
-use Rattle.std.specs.Str.{bytes_eq}
 use Rattle.std.specs.Cmp.Lexicographic.{nat_list_cmp_total}
 use Rattle.std.proofs.lemmas.Bool.Decides.{nat_tests, Decides-eqb, Decides-ltb}
 use Rattle.std.proofs.lemmas.List.Elements.{All-cons, All-head, All-tail, All-weaker}
 use Rattle.std.proofs.lemmas.Slice.Eq.{bytes_eq-Decides}
-use Rattle.qm_kinds.specs.declared.entry.Entry.{Entry}
-use Rattle.qm_kinds.specs.declared.entry.EntryState.{EntryState}
+use Rattle.qm_model.specs.Common.{Entry, EntryState, JobKind, END_OF_RUNS, Queue, QueueKind, Node, System, name_cmp, run_of, runs_in, runs_on, is_pending, is_generic, job_kind, execution_kind, is_same_kind, with_entry, fits, is_of_kind, is_open, is_started, is_up}
 use Rattle.qm_kinds.specs.declared.entry.EntryState.TheVariants as entry
-use Rattle.qm_kinds.specs.declared.entry.JobKind.{JobKind}
 use Rattle.qm_kinds.specs.declared.entry.JobKind.TheVariants as job
-use Rattle.qm_kinds.specs.declared.limits.TheConstants.{END_OF_RUNS}
-use Rattle.qm_kinds.specs.declared.queue.Queue.{Queue}
-use Rattle.qm_kinds.specs.declared.queue.QueueKind.{QueueKind}
 use Rattle.qm_kinds.specs.declared.queue.QueueKind.TheVariants.{Batch, Print, GenericBatch, GenericPrint}
-use Rattle.qm_kinds.specs.declared.system.Node.{Node}
-use Rattle.qm_kinds.specs.declared.system.System.{System}
-use Rattle.qm_model.specs.Find.{name_cmp}
 use Rattle.qm_model.specs.Consistent.{IsConsistent, IsEntry, IsQueue, IsExecutionQueue}
-use Rattle.qm_model.specs.JobStates.{run_of, runs_in, is_pending}
-use Rattle.qm_model.specs.Kinds.{is_generic, job_kind, execution_kind, is_same_kind}
-use Rattle.qm_model.specs.Standing.{with_entry}
-use Rattle.qm_model.specs.Fitting.{fits, is_of_kind, is_open, is_started, is_up}
 use Rattle.qm_model.specs.Settling.{Choice, can_start, next_queue, next_job, next_choice, has_run_numbers, made_running, after_start, settled_within, settled}
 use Rattle.qm_model.proofs.SettlingLemmas.{IsIn, and_left, and_right, first_in, in_filter, fits_pending, job_of_choice, with_queue_of, settled_by}
 use Rattle.qm_model.proofs.ListLemmas.{Pairs, pairs_of, all_pairs_of, Becomes, none, turned, in_all, becomes_all, becomes_pairs, becomes_shorter, becomes_any, contains_in}
@@ -46,6 +30,14 @@ apart_at m m' n n' a a' b b' p q r t h =
 
 not_below : (m n : ℕ) → m ≡ n → nat_cmp m n ≡ Less → ⊥
 not_below m n same less = grind (arith, nat_tests)
+
+-- ---- an entry in another state, among other entries
+
+pub entry_in_state : (s : System) (es : List Entry) (next : ℕ) (x : Entry) (state : EntryState) (mark : List ℕ) (again : Bool) → IsEntry s x → IfSome (runs_in state) (IsExecutionQueue x.kind s.queues)
+    → IfSome (runs_on state) (Contains (map (λ (n : Node). n.name) s.nodes)) → IfSome (run_of state) (λ run. (0 < run) × (run < next))
+    → IsEntry (record s { entries = es; next_run = next }) (record x { state = state; mark = mark; again = again })
+entry_in_state s es next x state mark again h queue node run =
+    record { number = h.number; home = h.home; file = h.file; form = h.form; characteristics = h.characteristics; queue = queue; node = node; run = run }
 
 -- ---- a change of the entries alone, and of the number of the next run
 
@@ -224,11 +216,7 @@ other_run (Some run) n h = λ is. let same : n ≡ run = cc in omega (arith, h.1
 
 pending_has_no_run : (state : EntryState) (test : List ℕ → Bool) → is_pending state ≡ true → option_map_or test (runs_in state) false ≡ true → ⊥
 pending_has_no_run entry.Pending test pending h = cc
-pending_has_no_run entry.Holding test pending h = cc
-pending_has_no_run (entry.Timed at) test pending h = cc
-pending_has_no_run (entry.Running queue node run) test pending h = cc
-pending_has_no_run (entry.Aborting queue node run fate) test pending h = cc
-pending_has_no_run (entry.Retained status until) test pending h = cc
+pending_has_no_run _ test pending h = cc
 
 fits_kind : (s : System) (e : Entry) (q : Queue) → fits s e q ≡ true → is_of_kind e q ≡ true
 fits_kind s e q h = and_right (is_pending e.state) (is_of_kind e q) (and_left _ _ (and_left _ _ (and_left _ _ (and_left _ _ (and_left _ _ h)))))
@@ -281,28 +269,12 @@ module _ (s : System) (c : Choice) (sound : IsConsistent s) (choice : IsChoice s
       (node_of s.nodes c.queue.node (and_right (is_started c.queue.state) (is_up s.nodes c.queue.node) (fits_open s c.entry c.queue choice.fit)))
 
   entry_stays : (x : Entry) → IsEntry s x → IsEntry (after_start s c) x
-  entry_stays x h = record {
-    number = h.number;
-    home = h.home;
-    file = h.file;
-    form = h.form;
-    characteristics = h.characteristics;
-    queue = h.queue;
-    node = h.node;
-    run = weaker_run (run_of x.state) s.next_run h.run;
-  }
+  entry_stays x h = entry_in_state s (after_start s c).entries (s.next_run + 1) x x.state x.mark x.again h h.queue h.node (weaker_run (run_of x.state) s.next_run h.run)
 
   entry_runs : (x : Entry) → IsEntry s x → x ≡ c.entry → IsEntry (after_start s c) (made_running s.next_run c.queue x)
-  entry_runs x h is = record {
-    number = h.number;
-    home = h.home;
-    file = h.file;
-    form = h.form;
-    characteristics = h.characteristics;
-    queue = subst (λ (z : Entry). IsExecutionQueue z.kind s.queues c.queue.name) (sym is) runs_there;
-    node = runs_on_node;
-    run = (sound.next_run.0, omega arith);
-  }
+  entry_runs x h is =
+      entry_in_state s (after_start s c).entries (s.next_run + 1) x (entry.Running c.queue.name (unwrap_or c.queue.node []) s.next_run) x.mark x.again h
+      (subst (λ (z : Entry). IsExecutionQueue z.kind s.queues c.queue.name) (sym is) runs_there) runs_on_node (sound.next_run.0, omega arith)
 
   each : (x y : Entry) → Step x y → IsEntry s x → IsEntry (after_start s c) y
   each x y (inl p) h = subst (λ z. IsEntry (after_start s c) z) (sym p.1) (entry_stays x h)

@@ -1,19 +1,10 @@
 -- Each entry stands in one queue.
-use Rattle.std.proofs.Common.{◌≡◌, ℕ, ◌+◌, Bool, true, false, cond, List, [], ◌∷◌, count_by, refl, sym, ◌∙◌, arith, Option, None, Some, All, find}
-use Rattle.std.specs.Prelude.{IfSome, IsSome, unwrap_or}
-use Rattle.std.specs.Str.{bytes_eq}
-use Rattle.std.specs.declared.cmp.Ordering.TheVariants.{Less}
+use Rattle.std.proofs.Common.{◌≡◌, ℕ, ◌+◌, Bool, true, false, cond, List, [], ◌∷◌, count_by, refl, sym, ◌∙◌, arith, Option, None, Some, All, find, IfSome, IsSome, unwrap_or, bytes_eq, Less}
 use Rattle.std.proofs.lemmas.List.Elements.{All-head, All-tail, All-weaker}
 use Rattle.std.proofs.lemmas.List.Sums.{sum_by-cons}
 use Rattle.std.proofs.lemmas.Slice.Eq.{bytes_eq-Decides}
-use Rattle.qm_kinds.specs.declared.entry.Entry.{Entry}
-use Rattle.qm_kinds.specs.declared.entry.JobKind.{JobKind}
-use Rattle.qm_kinds.specs.declared.queue.Queue.{Queue}
-use Rattle.qm_kinds.specs.declared.system.System.{System}
-use Rattle.qm_model.specs.Find.{name_cmp, queue_named}
+use Rattle.qm_model.specs.Common.{Entry, JobKind, Queue, System, name_cmp, queue_named, runs_in, stands_in}
 use Rattle.qm_model.specs.Consistent.{IsConsistent, IsEntry, IsExecutionQueue}
-use Rattle.qm_model.specs.JobStates.{runs_in}
-use Rattle.qm_model.specs.Standing.{stands_in}
 use Rattle.qm_model.proofs.ListLemmas.{Pairs, pairs_of}
 use Rattle.qm_model.proofs.SoundLemmas.{name_not_below}
 

@@ -1,15 +1,9 @@
 -- Each job that is started is the first of those that can start.
-use Rattle.std.proofs.Common.{◌≡◌, ℕ, zero, suc, Bool, true, false, cond, List, [], ◌∷◌, length, refl, sym, subst, arith, Option, None, Some, All, filter}
-use Rattle.std.specs.Prelude.{IfSome, IsSome}
-use Rattle.std.specs.List.{fold}
+use Rattle.std.proofs.Common.{◌≡◌, ℕ, zero, suc, Bool, true, false, cond, List, [], ◌∷◌, length, refl, sym, subst, arith, Option, None, Some, All, filter, IfSome, IsSome, fold}
 use Rattle.std.specs.Option.{option_map, option_map_or, option_and_then}
 use Rattle.std.proofs.lemmas.Bool.Decides.{nat_tests}
 use Rattle.std.proofs.lemmas.List.Elements.{All-head, All-tail, All-cons, All-nil}
-use Rattle.qm_kinds.specs.declared.entry.Entry.{Entry}
-use Rattle.qm_kinds.specs.declared.queue.Queue.{Queue}
-use Rattle.qm_kinds.specs.declared.system.System.{System}
-use Rattle.qm_model.specs.Fitting.{fits}
-use Rattle.qm_model.specs.Before.{before, first_of}
+use Rattle.qm_model.specs.Common.{Entry, Queue, System, fits, before, first_of}
 use Rattle.qm_model.specs.Settling.{Choice, Settled, AreStarts, next_queue, next_job, next_choice, has_run_numbers, after_start, start_of, preceded_by, settled_within, settled}
 use Rattle.qm_model.proofs.SettlingLemmas.{first_in, in_filter, with_queue_of}
 

@@ -1,20 +1,10 @@
 -- What becomes of the jobs that are started.
-use Rattle.std.proofs.Common.{◌≡◌, ℕ, zero, suc, ◌+◌, ◌<◌, Bool, true, false, cond, ◌&&◌, List, [], ◌∷◌, ◌++◌, length, map, refl, sym, ◌∙◌, ap, subst, arith, Option, None, Some, All, Contains, inl, inr}
-use Rattle.std.specs.Prelude.{◌==◌, unwrap_or}
+use Rattle.std.proofs.Common.{◌≡◌, ℕ, zero, suc, ◌+◌, ◌<◌, Bool, true, false, cond, ◌&&◌, List, [], ◌∷◌, ◌++◌, length, map, refl, sym, ◌∙◌, ap, subst, arith, Option, None, Some, All, Contains, inl, inr, ◌==◌, unwrap_or, option_to_list}
 use Rattle.std.specs.List.{range_with_len, slice_index_or}
-use Rattle.std.specs.Option.{option_to_list}
 use Rattle.std.proofs.lemmas.Bool.Decides.{Decides-eqb}
 use Rattle.std.proofs.lemmas.List.Elements.{All-cons, All-nil, All-head, All-tail, All-weaker}
-use Rattle.qm_kinds.specs.declared.entry.Entry.{Entry}
-use Rattle.qm_kinds.specs.declared.entry.EntryState.{EntryState}
+use Rattle.qm_model.specs.Common.{Entry, EntryState, Queue, Start, Node, System, with_entry, fits, is_open, is_started, is_up, is_pending}
 use Rattle.qm_kinds.specs.declared.entry.EntryState.TheVariants as entry
-use Rattle.qm_kinds.specs.declared.queue.Queue.{Queue}
-use Rattle.qm_kinds.specs.declared.run.Start.{Start}
-use Rattle.qm_kinds.specs.declared.system.Node.{Node}
-use Rattle.qm_kinds.specs.declared.system.System.{System}
-use Rattle.qm_model.specs.Standing.{with_entry}
-use Rattle.qm_model.specs.Fitting.{fits, is_open, is_started, is_up}
-use Rattle.qm_model.specs.JobStates.{is_pending}
 use Rattle.qm_model.specs.Settling.{Choice, Settled, next_choice, made_running, after_start, start_of, settled_within, settled}
 use Rattle.qm_model.specs.Starting.{as_pending, WasStarted}
 use Rattle.qm_model.proofs.SettlingLemmas.{IsIn, and_left, and_right, fits_pending, settled_by}
@@ -153,11 +143,7 @@ kept_within (suc n) s e h among = kept_by n s e (next_choice s) refl h among (λ
 
 pending_state : (state : EntryState) → is_pending state ≡ true → state ≡ entry.Pending
 pending_state entry.Pending h = refl
-pending_state entry.Holding h = cc
-pending_state (entry.Timed at) h = cc
-pending_state (entry.Running queue node run) h = cc
-pending_state (entry.Aborting queue node run fate) h = cc
-pending_state (entry.Retained status until) h = cc
+pending_state _ h = cc
 
 fits_open : (s : System) (e : Entry) (q : Queue) → fits s e q ≡ true → is_open s q ≡ true
 fits_open s e q h = and_right (is_pending e.state && _) (is_open s q) (and_left _ _ (and_left _ _ (and_left _ _ (and_left _ _ h))))

@@ -1,16 +1,9 @@
 -- Which jobs start, and in which order.
-use Rattle.std.proofs.Common.{◌≡◌, ℕ, ◌-◌, true, false, List, [], ◌∷◌, ◌++◌, refl, None, Some}
-use Rattle.std.specs.Prelude.{codes, Ok}
+use Rattle.std.proofs.Common.{◌≡◌, ℕ, ◌-◌, true, false, List, [], ◌∷◌, ◌++◌, refl, None, Some, codes, Ok}
 use Rattle.qm_kinds.specs.declared.entry.EntryState.TheVariants as state
-use Rattle.qm_kinds.specs.declared.entry.JobRetain.TheVariants.{Default}
-use Rattle.qm_kinds.specs.declared.queue.QueueChange.{QueueChange}
-use Rattle.qm_kinds.specs.declared.queue.QueueState.TheVariants.{Started}
+use Rattle.qm_model.specs.Common.{Default, QueueChange, Started, NameOrNumber, Name, Number, Request, first_system, first_form}
 use Rattle.qm_kinds.specs.declared.reply.Act.TheVariants as act
-use Rattle.qm_kinds.specs.declared.request.NameOrNumber.{NameOrNumber}
-use Rattle.qm_kinds.specs.declared.request.NameOrNumber.TheVariants.{Name, Number}
-use Rattle.qm_kinds.specs.declared.request.Request.{Request}
 use Rattle.qm_kinds.specs.declared.request.Request.TheVariants.{Append, Fill, SetQueue, StartQueue, DefineForm, DefineCharacteristic, Submit, Done, Tick}
-use Rattle.qm_model.specs.First.{first_system, first_form}
 use Rattle.qm_model.proofs.Site.{Ask, answers, after, starts, states, first_asks, file, listing_file, no_change, print_queue, generic_queue, print_job, batch_job, a_print_job}
 
 -- the first site's queue is stopped, so its job waits

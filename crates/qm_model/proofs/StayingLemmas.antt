@@ -1,10 +1,7 @@
 -- What isn't due at a moment stays as it is.
-use Rattle.std.proofs.Common.{◌≡◌, ℕ, Bool, true, false, cond, not, List, [], ◌∷◌, refl, ◌∙◌, ap, None, Some, filter, map, All}
+use Rattle.std.proofs.Common.{◌≡◌, ℕ, Bool, true, false, cond, not, List, [], ◌∷◌, refl, ◌∙◌, ap, Some, filter, map, All}
 use Rattle.std.proofs.lemmas.List.Elements.{All-head, All-tail}
-use Rattle.qm_kinds.specs.declared.entry.Entry.{Entry}
-use Rattle.qm_kinds.specs.declared.entry.EntryState.{EntryState}
-use Rattle.qm_kinds.specs.declared.entry.EntryState.TheVariants.{Pending, Holding, Timed, Running, Aborting, Retained}
-use Rattle.qm_kinds.specs.declared.system.System.{System}
+use Rattle.qm_model.specs.Common.{Entry, EntryState, Pending, Timed, Retained, System}
 use Rattle.qm_model.specs.Due.{state_at, is_over, is_due, entry_at, due}
 
 kept : (f : Entry → Entry) (e : Entry) (es : List Entry) (b : Bool) → b ≡ false → map f (cond (not b) (e ∷ es) es) ≡ f e ∷ map f es
@@ -13,21 +10,12 @@ kept f e es false h = refl
 
 -- what isn't due isn't over and stays
 not_over : (now : ℕ) (state : EntryState) → is_due now state ≡ false → is_over now state ≡ false
-not_over now Pending h = refl
-not_over now Holding h = refl
-not_over now (Timed at) h = refl
-not_over now (Running queue node run) h = refl
-not_over now (Aborting queue node run fate) h = refl
-not_over now (Retained status None) h = refl
 not_over now (Retained status (Some until)) h = h
+not_over now _ h = refl
 
 stays_at : (now : ℕ) (state : EntryState) → is_due now state ≡ false → state_at now state ≡ state
-stays_at now Pending h = refl
-stays_at now Holding h = refl
 stays_at now (Timed at) h = ap (λ (b : Bool). cond b Pending (Timed at)) h
-stays_at now (Running queue node run) h = refl
-stays_at now (Aborting queue node run fate) h = refl
-stays_at now (Retained status until) h = refl
+stays_at now _ h = refl
 
 same_at : (now : ℕ) (e : Entry) → is_due now e.state ≡ false → entry_at now e ≡ e
 same_at now e h = ap (λ (state : EntryState). record e { state = state }) (stays_at now e.state h)

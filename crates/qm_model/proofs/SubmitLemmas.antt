@@ -1,43 +1,22 @@
 -- A submitted job leaves a sound system.
-use Rattle.std.proofs.Common.{◌≡◌, ◌≢◌, ℕ, ◌+◌, ◌*◌, ◌<◌, ◌≤◌, ◌^◌, inl, inr, max, Bool, true, false, cond, List, [], ◌∷◌, ◌++◌, length, get_or, refl, sym, ◌∙◌, ap, subst, arith, length-append, Option, None, Some, Contains, find, map}
-use Rattle.std.specs.Prelude.{◌==◌, nat_lt, nat_le, is_none, IfSome, IsSome, IsBitSet, bit_and, bit_or, fold}
+use Rattle.std.proofs.Common.{◌≡◌, ◌≢◌, ℕ, ◌+◌, ◌*◌, ◌<◌, ◌≤◌, ◌^◌, inl, inr, max, Bool, true, false, cond, List, [], ◌∷◌, ◌++◌, length, get_or, refl, sym, ◌∙◌, ap, subst, arith, length-append, Option, None, Some, Contains, find, map, ◌==◌, nat_lt, nat_le, is_none, IfSome, IsSome, IsBitSet, bit_and, bit_or, fold, option_map, option_and_then, nat_cmp, bytes_eq, Less}
 use Rattle.std.specs.Int.{bit_at}
-use Rattle.std.specs.Option.{option_map, option_and_then}
-use Rattle.std.specs.Ordering.{nat_cmp}
-use Rattle.std.specs.Str.{bytes_eq}
-use Rattle.std.specs.declared.cmp.Ordering.TheVariants.{Less}
 use Rattle.std.specs.Int.Bits.{and_zero_l}
 use Rattle.std.proofs.lemmas.Nat.Bits.{and_pow, bit_at_or, bit_at-pow_other}
 use Rattle.std.proofs.lemmas.Bool.Decides.{nat_tests, Decides-eqb}
 use Rattle.std.proofs.lemmas.List.Elements.{All-push, All-weaker}
 use Rattle.std.proofs.lemmas.List.Quantifiers.{all_pairs_push}
 use Rattle.std.proofs.lemmas.Slice.Eq.{bytes_eq-Decides}
-use Rattle.qm_kinds.specs.declared.entry.Entry.{Entry}
-use Rattle.qm_kinds.specs.declared.entry.EntryState.TheVariants.{Pending, Timed}
-use Rattle.qm_kinds.specs.declared.entry.JobKind.{JobKind}
+use Rattle.qm_model.specs.Common.{Entry, EntryState, Holding, Pending, Timed, JobKind, Characteristic, Form, File, ENTRIES_LIMIT, Queue, Refusal, NameOrNumber, Name, System, file_named, queue_named, is_form, form_wanted, is_characteristic, characteristic_wanted, run_of, runs_in, runs_on, job_kind, refused_where, Job}
 use Rattle.qm_kinds.specs.declared.entry.JobKind.TheVariants as job
-use Rattle.qm_kinds.specs.declared.form.Characteristic.{Characteristic}
-use Rattle.qm_kinds.specs.declared.form.Form.{Form}
-use Rattle.qm_kinds.specs.declared.file.File.{File}
-use Rattle.qm_kinds.specs.declared.limits.TheConstants.{ENTRIES_LIMIT}
-use Rattle.qm_kinds.specs.declared.queue.Queue.{Queue}
-use Rattle.qm_kinds.specs.declared.refusal.Refusal.{Refusal}
 use Rattle.qm_kinds.specs.declared.refusal.Refusal.TheVariants.{BadValue, NoSuchForm, EntriesFull, NumbersSpent}
-use Rattle.qm_kinds.specs.declared.request.NameOrNumber.{NameOrNumber}
-use Rattle.qm_kinds.specs.declared.request.NameOrNumber.TheVariants.{Name}
-use Rattle.qm_kinds.specs.declared.system.System.{System}
-use Rattle.qm_model.specs.Find.{file_named, queue_named, is_form, form_wanted, is_characteristic, characteristic_wanted}
 use Rattle.qm_model.specs.Consistent.{AreDefined, AreForms, HasForm, IsEntry}
-use Rattle.qm_model.specs.JobStates.{run_of, runs_in, runs_on}
-use Rattle.qm_model.specs.Kinds.{job_kind}
-use Rattle.qm_model.specs.Outcome.{refused_where}
-use Rattle.qm_kinds.specs.declared.request.Job.{Job}
 use Rattle.qm_model.specs.Wanted.{refused_form, refused_characteristics, with_characteristic, set_of}
 use Rattle.qm_model.specs.Submitting.{has_bad_value, submit_refusal, state_of, form_of, entry_of, submitted}
 use Rattle.qm_model.proofs.SettlingLemmas.{IsIn}
 use Rattle.qm_model.proofs.ListLemmas.{contains_in}
 use Rattle.qm_model.proofs.SoundLemmas.{find_in}
-use Rattle.qm_model.proofs.ChangeLemmas.{IsSound, IsSoundQueue}
+use Rattle.qm_model.proofs.ChangeLemmas.{IsSound, sound_aside}
 use Rattle.qm_model.proofs.RefusalLemmas.{none_first, not_refused, is_there, of_kind, not_at_least}
 
 -- ---- characteristics that are defined
@@ -102,32 +81,25 @@ has_form s job.Print (Some wanted) h none = found_form s.forms wanted (form_want
 
 -- ---- one more entry
 
+-- what is said of running jobs is said of no new one
+module _ {X : Type 0} (f : EntryState → Option X) (holding : f Holding ≡ None) (pending : f Pending ≡ None) (timed : (at : ℕ) → f (Timed at) ≡ None) where
+  none_at : (at : ℕ) (b : Bool) → f (cond b (Timed at) Pending) ≡ None
+  none_at at true = timed at
+  none_at at false = pending
+
+  none_yet : (hold : Bool) (after : Option ℕ) (now : ℕ) → f (state_of hold after now) ≡ None
+  none_yet true after now = holding
+  none_yet false None now = pending
+  none_yet false (Some at) now = none_at at (nat_lt now at)
+
 pub no_run : (hold : Bool) (after : Option ℕ) (now : ℕ) → run_of (state_of hold after now) ≡ None
-no_run true after now = refl
-no_run false None now = refl
-no_run false (Some at) now = no_run_at (nat_lt now at)
-  where
-    no_run_at : (b : Bool) → run_of (cond b (Timed at) Pending) ≡ None
-    no_run_at true = refl
-    no_run_at false = refl
+no_run = none_yet run_of refl refl (λ at. refl)
 
 pub no_queue : (hold : Bool) (after : Option ℕ) (now : ℕ) → runs_in (state_of hold after now) ≡ None
-no_queue true after now = refl
-no_queue false None now = refl
-no_queue false (Some at) now = no_queue_at (nat_lt now at)
-  where
-    no_queue_at : (b : Bool) → runs_in (cond b (Timed at) Pending) ≡ None
-    no_queue_at true = refl
-    no_queue_at false = refl
+no_queue = none_yet runs_in refl refl (λ at. refl)
 
 pub no_node : (hold : Bool) (after : Option ℕ) (now : ℕ) → runs_on (state_of hold after now) ≡ None
-no_node true after now = refl
-no_node false None now = refl
-no_node false (Some at) now = no_node_at (nat_lt now at)
-  where
-    no_node_at : (b : Bool) → runs_on (cond b (Timed at) Pending) ≡ None
-    no_node_at true = refl
-    no_node_at false = refl
+no_node = none_yet runs_on refl refl (λ at. refl)
 
 pub if_none : {X : Type 0} (P : X → Type 0) (o : Option X) → o ≡ None → IfSome o P
 if_none P o h = subst (λ x. IfSome x P) (sym h) tt
@@ -137,16 +109,9 @@ module _ (s : System) (e : Entry) where
   with_one = record s { entries = s.entries ++ e ∷ []; next_entry = s.next_entry + 1 }
 
   old_entry : (x : Entry) → IsEntry s x → IsEntry with_one x
-  old_entry x h = record {
-    number = (h.number.0, omega (arith, h.number.1));
-    home = h.home;
-    file = h.file;
-    form = h.form;
-    characteristics = h.characteristics;
-    queue = h.queue;
-    node = h.node;
-    run = h.run;
-  }
+  old_entry x h =
+      let number : (0 < x.number) × (x.number < s.next_entry + 1) = (h.number.0, omega (arith, h.number.1)) in
+      record { number = number; home = h.home; file = h.file; form = h.form; characteristics = h.characteristics; queue = h.queue; node = h.node; run = h.run }
 
   below : (m n : ℕ) → m < n → nat_cmp m n ≡ Less
   below m n h = grind (arith, nat_tests)
@@ -156,26 +121,17 @@ module _ (s : System) (e : Entry) where
   differs (Some run) p h = λ is. let no : ◌≡◌ {A = Option ℕ} None (Some run) = sym h ∙ is in cc
 
   pub pushed_sound : IsSound s → IsEntry with_one e → e.number ≡ s.next_entry → run_of e.state ≡ None → length s.entries < ENTRIES_LIMIT → IsSound with_one
-  pushed_sound h new number idle room = record {
-    nodes = h.nodes;
-    may = h.may;
-    forms = h.forms;
-    characteristics = h.characteristics;
-    files = h.files;
-    few = h.few;
-    queues = All-weaker (IsSoundQueue s) (IsSoundQueue with_one) (λ q k. record { name = k.name; placed = k.placed; mounted = k.mounted; characteristics = k.characteristics; limit = k.limit; sizes = k.sizes }) s.queues h.queues;
-    order = h.order;
-    entries = record {
-      few = omega (arith, room, length-append s.entries (e ∷ []));
-      each = All-push (IsEntry with_one) s.entries e (All-weaker (IsEntry s) (IsEntry with_one) old_entry s.entries h.entries.each) new;
-      order = all_pairs_push (λ (a b : Entry). nat_cmp a.number b.number ≡ Less) s.entries e h.entries.order
-          (λ k d within. below (get_or s.entries k d).number e.number (omega (arith, number, (h.entries.each k d within).number.1)));
-      runs = all_pairs_push (λ (a b : Entry). IfSome (run_of a.state) (λ run. run_of b.state ≢ Some run)) s.entries e h.entries.runs
-          (λ k d within. differs (run_of (get_or s.entries k d).state) (run_of e.state) idle);
-    };
-    next_entry = omega arith;
-    next_run = h.next_run;
-  }
+  pushed_sound h new number idle room =
+      sound_aside s s.may s.files (s.entries ++ e ∷ []) (s.next_entry + 1) s.next_run s.last h h.may h.files
+      (record {
+        few = omega (arith, room, length-append s.entries (e ∷ []));
+        each = All-push (IsEntry with_one) s.entries e (All-weaker (IsEntry s) (IsEntry with_one) old_entry s.entries h.entries.each) new;
+        order = all_pairs_push (λ (a b : Entry). nat_cmp a.number b.number ≡ Less) s.entries e h.entries.order
+            (λ k d within. below (get_or s.entries k d).number e.number (omega (arith, number, (h.entries.each k d within).number.1)));
+        runs = all_pairs_push (λ (a b : Entry). IfSome (run_of a.state) (λ run. run_of b.state ≢ Some run)) s.entries e h.entries.runs
+            (λ k d within. differs (run_of (get_or s.entries k d).state) (run_of e.state) idle);
+      })
+      (omega arith) h.next_run
 
 pub submitted_sound : (s t : System) (now : ℕ) (j : Job) → IsSound t → t.queues ≡ s.queues → t.files ≡ s.files → t.forms ≡ s.forms → length t.entries ≤ length s.entries → submit_refusal s j ≡ None
     → IsSound (submitted t now j).system

@@ -1,22 +1,15 @@
 -- What is printed of each reply, refusal, state and row, by the rules for their texts.
-use Rattle.std.proofs.Common.{◌≡◌, [], ◌∷◌, refl, map, None, Some}
-use Rattle.std.specs.Prelude.{codes}
+use Rattle.std.proofs.Common.{◌≡◌, [], ◌∷◌, refl, map, None, Some, codes}
 use Rattle.std.specs.Fmt.{digits}
-use Rattle.qm_kinds.specs.declared.entry.EntryState.TheVariants.{Pending, Holding, Timed, Running, Aborting, Retained}
-use Rattle.qm_kinds.specs.declared.entry.Fate.TheVariants.{Finish}
-use Rattle.qm_kinds.specs.declared.file.FileName.{FileName}
+use Rattle.qm_model.specs.Common.{Pending, Holding, Timed, Running, Aborting, Retained, Finish, FileName, Queue, Stopped, Started, Paused, Stopping, Name, Number, first_form, first_queue}
 use Rattle.qm_kinds.specs.declared.query.Listing.TheVariants as listing
 use Rattle.qm_kinds.specs.declared.query.Row.TheVariants as row
-use Rattle.qm_kinds.specs.declared.queue.Queue.{Queue}
 use Rattle.qm_kinds.specs.declared.queue.QueueKind.TheVariants as kind
-use Rattle.qm_kinds.specs.declared.queue.QueueState.TheVariants.{Stopped, Started, Paused, Stopping}
 use Rattle.qm_kinds.specs.declared.refusal.Holder.TheVariants as holder
 use Rattle.qm_kinds.specs.declared.refusal.ParseKind.TheVariants as parse
 use Rattle.qm_kinds.specs.declared.refusal.Refusal.TheVariants as refused
 use Rattle.qm_kinds.specs.declared.reply.Act.TheVariants as act
-use Rattle.qm_kinds.specs.declared.request.NameOrNumber.TheVariants.{Name, Number}
 use Rattle.qm_model.specs.Calendar.{date_from_month, date_from_year, date_of_day}
-use Rattle.qm_model.specs.First.{first_form, first_queue}
 use Rattle.qm_model.specs.MomentText.{month_letters, moment_text}
 use Rattle.qm_model.specs.Transcript.{reply_lines, turn_text}
 use Rattle.qm_model.specs.Words.{status_text, act_text, row_text, refusal_line}

@@ -1,26 +1,12 @@
 -- Requests that break two rules at once: they are told the first.
-use Rattle.std.proofs.Common.{◌≡◌, ℕ, true, false, List, [], ◌∷◌, refl, map, Option, None, Some}
-use Rattle.std.specs.Prelude.{codes, replicate}
-use Rattle.qm_kinds.specs.declared.file.File.{File}
-use Rattle.qm_kinds.specs.declared.queue.NewQueue.{NewQueue}
-use Rattle.qm_kinds.specs.declared.queue.QueueChange.{QueueChange}
-use Rattle.qm_kinds.specs.declared.queue.QueueKind.{QueueKind}
+use Rattle.std.proofs.Common.{◌≡◌, ℕ, true, false, List, [], ◌∷◌, refl, map, Option, None, Some, codes, replicate}
+use Rattle.qm_model.specs.Common.{File, NewQueue, QueueChange, QueueKind, Started, Refusal, EntryChange, Job, Name, Number, Request, System, first_refusal_of, first_system, first_form, first_queue, entry_of}
 use Rattle.qm_kinds.specs.declared.queue.QueueKind.TheVariants as queue
-use Rattle.qm_kinds.specs.declared.queue.QueueState.TheVariants.{Started}
 use Rattle.qm_kinds.specs.declared.entry.EntryState.TheVariants as state
 use Rattle.qm_kinds.specs.declared.refusal.Holder.TheVariants as holder
-use Rattle.qm_kinds.specs.declared.refusal.Refusal.{Refusal}
 use Rattle.qm_kinds.specs.declared.refusal.Refusal.TheVariants as refused
-use Rattle.qm_kinds.specs.declared.request.EntryChange.{EntryChange}
-use Rattle.qm_kinds.specs.declared.request.Job.{Job}
-use Rattle.qm_kinds.specs.declared.request.NameOrNumber.TheVariants.{Name, Number}
-use Rattle.qm_kinds.specs.declared.request.Request.{Request}
 use Rattle.qm_kinds.specs.declared.request.Request.TheVariants.{Append, Fill, Drop, DefineForm, DeleteForm, DefineCharacteristic, DeleteCharacteristic, InitializeQueue, SetQueue, StartQueue, StopQueue, AbortJob, DeleteQueue, Merge, Submit, SetEntry, DeleteEntry, Mark, Done, Tick, NodeUp, NodeLost, Took}
 use Rattle.qm_kinds.specs.declared.request.StopMode.TheVariants as stop
-use Rattle.qm_kinds.specs.declared.system.System.{System}
-use Rattle.qm_model.specs.Applied.{first_refusal_of}
-use Rattle.qm_model.specs.First.{first_system, first_form, first_queue}
-use Rattle.qm_model.specs.Submitting.{entry_of}
 use Rattle.qm_model.proofs.Site.{after, first_asks, file, listing_file, no_change, print_queue, generic_queue, a_print_job, a_batch_job}
 
 -- A started print queue LP on the form LETTER with the characteristic DUPLEX, two started generic queues that name it, a job

@@ -1,11 +1,7 @@
 -- Jobs that wait for a moment, at a site whose queue is stopped.
-use Rattle.std.proofs.Common.{◌≡◌, ℕ, Bool, true, false, [], ◌∷◌, refl, Option, None, Some}
-use Rattle.std.specs.Prelude.{codes}
-use Rattle.qm_kinds.specs.declared.entry.EntryState.TheVariants.{Pending, Holding, Timed}
-use Rattle.qm_kinds.specs.declared.request.Request.{Request}
+use Rattle.std.proofs.Common.{◌≡◌, ℕ, Bool, true, false, [], ◌∷◌, refl, Option, None, Some, codes}
+use Rattle.qm_model.specs.Common.{Pending, Holding, Timed, Request, System, first_system}
 use Rattle.qm_kinds.specs.declared.request.Request.TheVariants.{Append, Fill, Submit, Tick}
-use Rattle.qm_kinds.specs.declared.system.System.{System}
-use Rattle.qm_model.specs.First.{first_system}
 use Rattle.qm_model.proofs.Site.{Ask, after, states, file, listing_file, a_batch_job}
 
 abbrev ask_at : ℕ → Request → Ask

@@ -1,10 +1,9 @@
 -- The lines of a batch job.
 -- This site's own few forms of command lines. OpenVMS User's Manual, on command procedures, $RESTART and BATCH$RESTART; DCL Dictionary, SUBMIT, /RESTART.
-use Rattle.std.specs.Prelude.{ℕ, nat_eq, ◌==◌, ◌+◌, ◌-◌, nat_lt, nat_le, Bool, false, ◌&&◌, ◌||◌, not, if◌then◌else◌, List, [], ◌∷◌, ◌++◌, length, take, drop, position, slice_get, Option, None, Some, codes}
+use Rattle.std.specs.Prelude.{ℕ, nat_eq, ◌==◌, ◌+◌, ◌-◌, nat_lt, nat_le, Bool, false, ◌&&◌, ◌||◌, not, if◌then◌else◌, List, [], ◌∷◌, ◌++◌, length, take, drop, position, slice_get, Option, None, Some, codes, bytes_eq}
 use Rattle.std.specs.List.{list_all, list_any, starts_with, ends_with}
 use Rattle.std.specs.Option.{option_map, option_map_or, option_and_then}
 use Rattle.std.specs.Char.{is_ascii_digit}
-use Rattle.std.specs.Str.{bytes_eq}
 use Rattle.qm_kinds.specs.Text.{is_name_byte}
 use Rattle.qm_model.specs.Texts.{value_of}
 

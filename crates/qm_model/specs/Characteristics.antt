@@ -1,9 +1,8 @@
 -- Characteristics are defined and deleted.
 -- DCL Dictionary, DEFINE/CHARACTERISTIC and DELETE/CHARACTERISTIC.
 -- This site's own: the refusal of a taken name or number.
-use Rattle.std.specs.Prelude.{ℕ, ◌^◌, ◌==◌, nat_lt, Bool, false, not, ◌||◌, is_some, is_none, List, [], ◌∷◌, filter, Option, bit_and}
+use Rattle.std.specs.Prelude.{ℕ, ◌^◌, ◌==◌, nat_lt, Bool, false, not, ◌||◌, is_some, is_none, List, [], ◌∷◌, filter, Option, bit_and, bytes_eq}
 use Rattle.std.specs.Option.{option_map_or}
-use Rattle.std.specs.Str.{bytes_eq}
 use Rattle.qm_kinds.specs.declared.form.Characteristic.{Characteristic}
 use Rattle.qm_kinds.specs.declared.limits.TheConstants.{LAST_CHARACTERISTIC}
 use Rattle.qm_kinds.specs.declared.refusal.Refusal.{Refusal}

@@ -2,12 +2,11 @@
 -- OpenVMS System Manager's Manual, Setting Up and Maintaining Queues, on queues, forms and characteristics; Managing the Queue Manager
 -- and Queue Database, on what the queue database holds.
 -- This site's own: the limits in number and size, the files, and the numbers of runs.
-use Rattle.std.specs.Prelude.{◌≡◌, ◌≢◌, ◌<◌, ◌≤◌, ◌+◌, ℕ, Bool, true, false, List, [], length, map, filter, sum_by, find, Option, Some, IfSome, IsSome, IsNone, IsTrue, All, AllPairs, Contains, IsBitSet}
+use Rattle.std.specs.Prelude.{◌≡◌, ◌≢◌, ◌<◌, ◌≤◌, ◌+◌, ℕ, Bool, true, false, List, [], length, map, filter, sum_by, find, Option, Some, IfSome, IsSome, IsNone, IsTrue, All, AllPairs, Contains, IsBitSet, bytes_eq}
 use Rattle.std.specs.List.{list_any, list_all}
 use Rattle.std.specs.Ordering.{nat_cmp}
 use Rattle.std.specs.Char.{is_ascii_digit}
 use Rattle.std.specs.Option.{option_map_or}
-use Rattle.std.specs.Str.{bytes_eq}
 use Rattle.std.specs.declared.cmp.Ordering.{Ordering}
 use Rattle.std.specs.declared.cmp.Ordering.TheVariants.{Less}
 use Rattle.qm_kinds.specs.declared.file.File.{File}

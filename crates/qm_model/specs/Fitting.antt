@@ -1,10 +1,9 @@
 -- Which jobs an execution queue can start, and of a job that it can't start, why not.
 -- OpenVMS System Manager's Manual, Setting Up and Maintaining Queues, on generic queues, characteristics, forms and their stock, and job sizes.
 -- This site's own: that a generic queue has the same states and passes jobs on only while it is started.
-use Rattle.std.specs.Prelude.{ℕ, ◌==◌, nat_le, Bool, true, false, not, ◌&&◌, ◌||◌, if◌then◌else◌, List, [], ◌∷◌, Option, None, Some, bit_and}
+use Rattle.std.specs.Prelude.{ℕ, ◌==◌, nat_le, Bool, true, false, not, ◌&&◌, ◌||◌, if◌then◌else◌, List, [], ◌∷◌, Option, None, Some, bit_and, bytes_eq}
 use Rattle.std.specs.List.{list_any}
 use Rattle.std.specs.Option.{option_map, option_map_or, option_and_then}
-use Rattle.std.specs.Str.{bytes_eq}
 use Rattle.qm_kinds.specs.declared.form.Form.{Form}
 use Rattle.qm_kinds.specs.declared.queue.Queue.{Queue}
 use Rattle.qm_kinds.specs.declared.queue.QueueState.{QueueState}

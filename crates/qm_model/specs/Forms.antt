@@ -1,9 +1,8 @@
 -- Forms are defined and deleted.
 -- DCL Dictionary, DEFINE/FORM and DELETE/FORM.
 -- This site's own: the numbers 0 to 999, and the refusal of a taken name or number.
-use Rattle.std.specs.Prelude.{ℕ, ◌+◌, nat_lt, nat_le, Bool, false, not, ◌||◌, is_some, is_none, List, [], ◌∷◌, filter, Option}
+use Rattle.std.specs.Prelude.{ℕ, ◌+◌, nat_lt, nat_le, Bool, false, not, ◌||◌, is_some, is_none, List, [], ◌∷◌, filter, Option, bytes_eq}
 use Rattle.std.specs.Option.{option_map_or}
-use Rattle.std.specs.Str.{bytes_eq}
 use Rattle.qm_kinds.specs.declared.form.Form.{Form}
 use Rattle.qm_kinds.specs.declared.limits.TheConstants.{LAST_FORM}
 use Rattle.qm_kinds.specs.declared.refusal.Holder.TheVariants.{Always}

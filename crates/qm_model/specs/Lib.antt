@@ -52,3 +52,4 @@ pub mod Lawful
 pub mod Log
 pub mod Folding
 pub mod Laws
+pub mod Common

@@ -1,8 +1,7 @@
 -- Nodes come up and are lost, and a node takes the role of the queue manager.
 -- OpenVMS System Manager's Manual, Managing the Queue Manager and Queue Database, on failover; DCL Dictionary, START/QUEUE/MANAGER.
 -- This site's own: START/QUEUE/MANAGER as a move to the calling node, the list of nodes without preference, and epochs.
-use Rattle.std.specs.Prelude.{ℕ, ◌||◌, List, map}
-use Rattle.std.specs.Str.{bytes_eq}
+use Rattle.std.specs.Prelude.{ℕ, ◌||◌, List, map, bytes_eq}
 use Rattle.qm_kinds.specs.declared.reply.Act.TheVariants.{Ticked, NodeStarted, NodeStopped, Managing}
 use Rattle.qm_kinds.specs.declared.system.Node.{Node}
 use Rattle.qm_kinds.specs.declared.system.System.{System}

@@ -1,10 +1,9 @@
 -- Queues are initialized, set, started and deleted.
 -- DCL Dictionary, INITIALIZE/QUEUE, SET QUEUE, START/QUEUE and DELETE/QUEUE.
 -- This site's own: INITIALIZE/QUEUE of a stopped queue.
-use Rattle.std.specs.Prelude.{ℕ, nat_lt, nat_le, Bool, true, false, not, ◌&&◌, ◌||◌, if◌then◌else◌, is_some, is_none, List, [], ◌∷◌, length, filter, find, Option, None, Some}
+use Rattle.std.specs.Prelude.{ℕ, nat_lt, nat_le, Bool, true, false, not, ◌&&◌, ◌||◌, if◌then◌else◌, is_some, is_none, List, [], ◌∷◌, length, filter, find, Option, None, Some, bytes_eq}
 use Rattle.std.specs.List.{list_any}
 use Rattle.std.specs.Option.{option_map, option_map_or, option_and_then, option_or}
-use Rattle.std.specs.Str.{bytes_eq}
 use Rattle.qm_kinds.specs.declared.entry.Entry.{Entry}
 use Rattle.qm_kinds.specs.declared.limits.TheConstants.{QUEUES_LIMIT, TARGETS_LIMIT}
 use Rattle.qm_kinds.specs.declared.queue.Queue.{Queue}

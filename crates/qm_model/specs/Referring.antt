@@ -1,8 +1,7 @@
 -- What still names a thing keeps it from going.
 -- DCL Dictionary, DELETE/FORM, DELETE/CHARACTERISTIC and DELETE/QUEUE, on things that are referenced.
 -- This site's own: the refusal to delete a characteristic that is in use.
-use Rattle.std.specs.Prelude.{Bool, List, find, Option}
-use Rattle.std.specs.Option.{option_map}
+use Rattle.std.specs.Prelude.{Bool, List, find, Option, option_map}
 use Rattle.qm_kinds.specs.declared.entry.Entry.{Entry}
 use Rattle.qm_kinds.specs.declared.queue.Queue.{Queue}
 use Rattle.qm_kinds.specs.declared.refusal.Refusal.{Refusal}

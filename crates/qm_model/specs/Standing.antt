@@ -1,9 +1,8 @@
 -- Where an entry stands, and how an entry or a queue takes the place of the one under its number or name.
 -- OpenVMS System Services Reference Manual, $GETQUI, on the jobs that stand in a queue.
 -- This site's own: that retained entries stand in their home.
-use Rattle.std.specs.Prelude.{◌≡◌, ◌≢◌, ℕ, ◌==◌, Bool, true, false, if◌then◌else◌, List, [], ◌∷◌, map, flat_map, unwrap_or, option_to_list, slice_get, count_by, Option}
+use Rattle.std.specs.Prelude.{◌≡◌, ◌≢◌, ℕ, ◌==◌, Bool, true, false, if◌then◌else◌, List, [], ◌∷◌, map, flat_map, unwrap_or, option_to_list, slice_get, count_by, Option, bytes_eq}
 use Rattle.std.specs.Option.{option_map_or}
-use Rattle.std.specs.Str.{bytes_eq}
 use Rattle.qm_kinds.specs.declared.entry.Entry.{Entry}
 use Rattle.qm_kinds.specs.declared.entry.EntryState.TheVariants.{Running, Aborting}
 use Rattle.qm_kinds.specs.declared.entry.Fate.{Fate}

@@ -1,9 +1,8 @@
 -- Queues are stopped, and their jobs cut short.
 -- DCL Dictionary, STOP/QUEUE, STOP/QUEUE/NEXT, STOP/QUEUE/RESET, STOP/QUEUE/ABORT and STOP/QUEUE/REQUEUE.
 -- This site's own: STOP/QUEUE/ABORT of batch jobs, and that a job that may not restart isn't requeued.
-use Rattle.std.specs.Prelude.{ℕ, ◌==◌, Bool, false, not, ◌&&◌, if◌then◌else◌, is_none, List, [], ◌∷◌, map, filter, find, Option, None, Some}
+use Rattle.std.specs.Prelude.{ℕ, ◌==◌, Bool, false, not, ◌&&◌, if◌then◌else◌, is_none, List, [], ◌∷◌, map, filter, find, Option, None, Some, bytes_eq}
 use Rattle.std.specs.Option.{option_map_or}
-use Rattle.std.specs.Str.{bytes_eq}
 use Rattle.qm_kinds.specs.declared.entry.Entry.{Entry}
 use Rattle.qm_kinds.specs.declared.entry.EntryState.{EntryState}
 use Rattle.qm_kinds.specs.declared.entry.EntryState.TheVariants.{Pending, Holding, Timed, Running, Aborting, Retained}

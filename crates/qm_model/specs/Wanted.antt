@@ -1,7 +1,6 @@
 -- The forms and characteristics that a request asks for, by name or by number.
 -- DCL Dictionary, SUBMIT and PRINT, /FORM and /CHARACTERISTICS; INITIALIZE/QUEUE, /FORM_MOUNTED and /CHARACTERISTICS.
-use Rattle.std.specs.Prelude.{ℕ, ◌^◌, if◌then◌else◌, List, [], ◌∷◌, fold, Option, None, Some, is_some, is_none, bit_or}
-use Rattle.std.specs.Option.{option_map}
+use Rattle.std.specs.Prelude.{ℕ, ◌^◌, if◌then◌else◌, List, [], ◌∷◌, fold, Option, None, Some, is_some, is_none, bit_or, option_map}
 use Rattle.qm_kinds.specs.declared.form.Characteristic.{Characteristic}
 use Rattle.qm_kinds.specs.declared.form.CharacteristicSet.{CharacteristicSet}
 use Rattle.qm_kinds.specs.declared.form.Form.{Form}

@@ -2,7 +2,7 @@
 use Rattle.std.proofs.Common.{◌≡◌, ℕ, Bool, false, ◌||◌, is_some, ◌-◌, ◌≤◌, ◌<◌, List, [], ◌∷◌, length, get_or, take, drop, take_all, Option, None, Some, refl, sym, ap, ◌∙◌, arith}
 use Rattle.std.specs.List.{list_any}
 use Rattle.std.proofs.lemmas.Bool.Decides.{nat_tests}
-use Rattle.qm_lex.specs.declared.token.Token.{Token}
+use Rattle.qm_commands.specs.declared.tokens.token.Token.{Token}
 use Rattle.qm_commands.specs.declared.table.Row.{Row}
 use Rattle.qm_commands.specs.declared.table.Verb.{Verb}
 use Rattle.qm_commands.specs.declared.word.Word.{Word}

@@ -5,9 +5,8 @@ ghost use Rattle.qm_commands.specs.Rules.{exclusions_of};
 ghost use Rattle.qm_names.specs.Conflicts.{slash_place, is_word_given, place_with, counting_place, conflict_of, earlier, first_conflict, or_conflict};
 
 use crate::names::is_name;
-use qm_commands::{Command, Fault, Row, Verb, Word, fault_at, undone_by};
+use qm_commands::{Command, Fault, Row, Token, TokenKind, Verb, Word, fault_at, undone_by};
 use qm_kinds::ParseKind;
-use qm_lex::{Token, TokenKind};
 
 // Two words that exclude each other.
 type Exclusion = (Word, Word);

@@ -4,10 +4,9 @@ ghost use Rattle.qm_commands.specs.Names.{is_verb, is_object, is_name};
 ghost use Rattle.qm_commands.specs.Spelled.{begins, is_spelled};
 
 use qm_commands::{
-    Row, Verb, Word, begins, bytes_of, is_alone, is_object_alone, is_spelled, is_verb_alone,
+    Row, Token, Verb, Word, begins, bytes_of, is_alone, is_object_alone, is_spelled, is_verb_alone,
     spelling, verb_spelling,
 };
-use qm_lex::Token;
 
 // Whether a token that begins this name spells it whole.
 fn is_as_long(text: &[u8], name: &[u8], token: Token) -> bool

@@ -1,37 +1,27 @@
 -- What nodes ask for can be asked for.
-use Rattle.std.proofs.Common.{◌<◌, ◌^◌, ℕ, length, Bool, true, false, cond, ◌==◌, List, codes, Option, None, Some, Result, Ok, Err, refl, IfOk}
-use Rattle.std.specs.Prelude.{nat_le, ◌&&◌}
-use Rattle.std.specs.Str.{bytes_eq}
+use Rattle.std.proofs.Common.{◌<◌, ◌^◌, ℕ, length, Bool, true, false, cond, ◌==◌, List, codes, Option, None, Some, Result, Ok, Err, refl, IfOk, nat_le, ◌&&◌, bytes_eq}
 use Rattle.qm_kinds.specs.Files.{file_name_of}
-use Rattle.qm_kinds.specs.declared.file.FileName.{FileName}
-use Rattle.qm_kinds.specs.declared.input.Input.{Input}
+use Rattle.qm_history.specs.Common.{FileName, Input, QueueChange, Report, AllOf, cut_at_blank, request_of_report, Scans, IsAskable}
 use Rattle.qm_kinds.specs.declared.input.Input.TheVariants as input
-use Rattle.qm_kinds.specs.declared.queue.QueueChange.{QueueChange}
 use Rattle.qm_kinds.specs.declared.refusal.ParseKind.TheVariants as parse
 use Rattle.qm_kinds.specs.declared.request.NameOrNumber.{NameOrNumber}
 use Rattle.qm_kinds.specs.declared.request.Request.TheVariants.{Append, Fill, Mark, Tick}
-use Rattle.qm_kinds.specs.declared.work.Report.{Report}
 use Rattle.qm_kinds.specs.declared.work.Report.TheVariants as report
-use Rattle.qm_bytes.specs.Spelling.{AllOf}
 use Rattle.qm_record.specs.Spelling.{IsShortChange}
 use Rattle.qm_commands.specs.declared.fault.Fault.{Fault as TextFault}
 use Rattle.qm_model.specs.Batch.{is_mark}
 use Rattle.qm_model.specs.Script.{act_from, act_number, act_of, append_to, done_act, done_by, drop_act, fill_act, filled_by, is_act_word, line_act, malformed_act, mark_act, marked_by, step_act, step_number, steps_in}
-use Rattle.qm_model.specs.Texts.{cut_at_blank}
 use Rattle.qm_dcl.specs.Command.{command_of}
 use Rattle.qm_dcl.specs.Lines.{or_fault}
 use Rattle.qm_dcl.proofs.EachAsked.{OfEach, HasFewIfGiven, of_asked}
 use Rattle.qm_sjc.proofs.EachAsked.{OfEach as OfEachItems, of_items}
 use Rattle.qm_history.specs.Acts.{act_with, bytes_act, bytes_by, hex_bytes, malformed}
 use Rattle.qm_history.specs.Acts as acts
-use Rattle.qm_history.specs.Calls.{request_of_report}
 use Rattle.qm_history.specs.Reading.{function_of, items_by, items_from, text_asked, with_scans}
-use Rattle.qm_history.specs.Scans.{Scans}
 use Rattle.qm_history.specs.Script.{LineSort, Command, Items, Act, UserLine}
-use Rattle.qm_script.specs.Asked.{line_with}
 use Rattle.qm_sjc.specs.Meant.{items_mean}
 use Rattle.qm_node.specs.Asking.{built}
-use Rattle.qm_history.specs.Askable.{IsAskable}
+use Rattle.qm_line.specs.Asked.{line_with, command_means}
 
 -- it can be asked for, as far as it is built
 abbrev Can : Input → Type 0
@@ -232,7 +222,7 @@ items_from_can : (user : List ℕ) (begun : Scans) (parts : Option (List ℕ × 
 items_from_can user begun None = tt
 items_from_can user begun (Some parts) = items_by_can user begun (function_of parts.0) (hex_bytes parts.1)
 
-text_can : (sort : LineSort) (user : List ℕ) (reading : ℕ) (text : List ℕ) (begun : Scans) (known : List ℕ) → Can (text_asked items_mean sort user reading text begun known)
+text_can : (sort : LineSort) (user : List ℕ) (reading : ℕ) (text : List ℕ) (begun : Scans) (known : List ℕ) → Can (text_asked items_mean command_means sort user reading text begun known)
 text_can Command user reading text begun known = command_can (command_of user reading text) (of_asked each_can user reading text)
 text_can Items user reading text begun known = items_from_can user begun (cut_at_blank text)
 text_can Act user reading text begun known = acts_can known text (cut_at_blank text)

@@ -1,19 +1,13 @@
 -- The call of what comes next, and what the node keeps behind it.
-use Rattle.std.proofs.Common.{◌≡◌, ◌+◌, ℕ, Bool, List, [], ◌∷◌, drop, refl, sym, ◌∙◌, ap, subst, Option, None, Some}
-use Rattle.std.specs.Prelude.{IsSome}
-use Rattle.qm_kinds.specs.declared.refusal.Refusal.{Refusal}
+use Rattle.std.proofs.Common.{◌≡◌, ◌+◌, ℕ, Bool, List, [], ◌∷◌, drop, refl, sym, ◌∙◌, ap, subst, Option, None, Some, IsSome}
+use Rattle.qm_history.specs.Common.{Refusal, Report, input_of, Scans, UserLine, steps_asked, known, IsAskable}
 use Rattle.qm_kinds.specs.declared.refusal.Refusal.TheVariants as refused
-use Rattle.qm_kinds.specs.declared.work.Report.{Report}
 use Rattle.qm_symb.specs.Device as symb
 use Rattle.qm_history.specs.declared.call.Answer.{Answer}
 use Rattle.qm_history.specs.declared.call.Answer.TheVariants as answer
 use Rattle.qm_history.specs.declared.call.Call.{Call}
 use Rattle.qm_history.specs.declared.call.Takeover.{Takeover}
-use Rattle.qm_history.specs.Calls.{input_of}
 use Rattle.qm_history.specs.Course.{NodeState, Reading, Fetching, Working, Leaving, Over, Stage, behind_fetch, behind_line, next_at, own_stage, stage_behind, stage_for}
-use Rattle.qm_history.specs.Scans.{Scans}
-use Rattle.qm_history.specs.Script.{UserLine, steps_asked}
-use Rattle.qm_model.specs.Kept.{known}
 use Rattle.qm_script.specs.ClusterLines.{user_line_view}
 use Rattle.qm_node.specs.Node.{CanBeMade, ComesNext, HeldNode, Hears, IsCallOf, IsMadeFor, IsTurn}
 use Rattle.qm_node.specs.declared.course.Asked.{Asked}
@@ -21,7 +15,6 @@ use Rattle.qm_node.specs.declared.course.Next.{Next}
 use Rattle.qm_node.specs.declared.course.Next.TheVariants as next
 use Rattle.qm_node.specs.Answered.{IsLineOrStep, MovesOn, TakesIn, lines_behind}
 use Rattle.qm_node.specs.Asking.{built_call}
-use Rattle.qm_history.specs.Askable.{IsAskable}
 use Rattle.qm_node.specs.Seats.{HeldSeat}
 use Rattle.qm_node.proofs.Askable.{line_askable, report_askable}
 

@@ -1,17 +1,10 @@
 -- Runs are moved behind a fetch, from the last duty to the first.
-use Rattle.std.proofs.Common.{◌≡◌, ◌∙◌, ℕ, ◌+◌, ◌-◌, ◌<◌, Bool, true, false, not, cond, List, [], ◌∷◌, ◌++◌, length, get_or, drop, map, reverse, refl, sym, ap, subst, arith, Option, None, Some}
-use Rattle.std.specs.Prelude.{◌==◌, IfSome}
+use Rattle.std.proofs.Common.{◌≡◌, ◌∙◌, ℕ, ◌+◌, ◌-◌, ◌<◌, Bool, true, false, not, cond, List, [], ◌∷◌, ◌++◌, length, get_or, drop, map, reverse, refl, sym, ap, subst, arith, Option, None, Some, ◌==◌, IfSome, IsSome, option_map, nat_cmp, Less}
 use Rattle.std.specs.List.{All, AllByRecursion, cons_option, filter, find}
-use Rattle.std.specs.Option.{IsSome, option_map}
-use Rattle.std.specs.Ordering.{nat_cmp}
-use Rattle.std.specs.declared.cmp.Ordering.TheVariants.{Less}
 use Rattle.std.proofs.lemmas.List.{append_assoc, drop_more, get_or_append_left, get_or_at, get_or-reverse, length-append, length-reverse, map-append, reverse-append}
 use Rattle.std.proofs.lemmas.List.Elements.{All-filter, All-tail}
-use Rattle.qm_kinds.specs.declared.work.Duty.{Duty}
-use Rattle.qm_kinds.specs.declared.work.Place.{Place}
-use Rattle.qm_kinds.specs.declared.work.Work.{Work}
+use Rattle.qm_history.specs.Common.{Duty, Place, Work, IsInOrder}
 use Rattle.qm_keyed.proofs.Mapped.{order_unmapped}
-use Rattle.qm_model.specs.Consistent.{IsInOrder}
 use Rattle.qm_model.specs.Kept.{KeptRun, kept_after, kept_of, may_step, round_of, run_kept}
 use Rattle.qm_symb.specs.Symbiont.{IsWithinLimits}
 use Rattle.qm_node.specs.declared.row.Row.{Row}

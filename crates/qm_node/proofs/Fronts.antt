@@ -1,7 +1,6 @@
 -- What a sink took of a text.
-use Rattle.std.proofs.Common.{◌≡◌, ℕ, List, [], take, drop, refl, sym, ◌∙◌, Option, None, Some}
+use Rattle.std.proofs.Common.{◌≡◌, ℕ, List, [], take, drop, refl, sym, ◌∙◌, Option, None, Some, take-append-drop, append-nil}
 use Rattle.std.specs.Io.KnownBytes.{Appends}
-use Rattle.std.proofs.lemmas.List.{take-append-drop, append-nil}
 use Rattle.qm_disk.specs.Bytes.{TakesPrefix}
 use Rattle.qm_node.specs.Ends.{TakesFront}
 

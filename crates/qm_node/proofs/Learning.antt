@@ -1,12 +1,7 @@
 -- The duties that an answer shows can be learned.
-use Rattle.std.proofs.Common.{◌≡◌, ◌≤◌, ℕ, List, get_or, length, arith, Option, None, Some}
-use Rattle.std.specs.Prelude.{IfSome}
-use Rattle.qm_kinds.specs.declared.system.System.{System}
-use Rattle.qm_kinds.specs.declared.work.Duty.{Duty}
-use Rattle.qm_kinds.specs.declared.work.Work.{Work}
-use Rattle.qm_model.specs.Consistent.{IsConsistent}
+use Rattle.std.proofs.Common.{◌≡◌, ◌≤◌, ℕ, List, get_or, length, arith, Option, None, Some, IfSome}
+use Rattle.qm_history.specs.Common.{System, Duty, Work, IsConsistent, AreShown}
 use Rattle.qm_model.specs.Duties.{IsProperWork, duties}
-use Rattle.qm_history.specs.ShownDuties.{AreShown}
 use Rattle.qm_history.proofs.ShownDuties.{shown}
 use Rattle.qm_symb.specs.Symbiont.{IsWithinLimits}
 use Rattle.qm_node.specs.Duties.{AreLearnable}

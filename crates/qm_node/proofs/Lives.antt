@@ -1,23 +1,9 @@
 -- Who is live behind the events of a call.
-use Rattle.std.proofs.Common.{◌≡◌, ◌≢◌, ℕ, zero, suc, ◌<◌, inl, inr, Bool, true, false, not, cond, ◌||◌, ◌&&◌, List, [], ◌∷◌, length, refl, sym, ◌∙◌, ap, subst, Option, None, Some, Result, Ok, Err}
-use Rattle.std.specs.Prelude.{◌==◌, is_none, unwrap_or, slice_get, slice_set}
-use Rattle.std.specs.Option.{option_and_then}
-use Rattle.std.proofs.lemmas.List.{get_or-set_same, get_or-set_other}
+use Rattle.std.proofs.Common.{◌≡◌, ◌≢◌, ℕ, zero, suc, ◌<◌, inl, inr, Bool, true, false, not, cond, ◌||◌, ◌&&◌, List, [], ◌∷◌, length, refl, sym, ◌∙◌, ap, subst, Option, None, Some, Result, Ok, Err, ◌==◌, is_none, unwrap_or, slice_get, slice_set, option_and_then, get_or-set_same, get_or-set_other}
 use Rattle.std.proofs.lemmas.Option.{unwrap_or-slice_get}
-use Rattle.qm_kinds.specs.declared.input.Input.{Input}
+use Rattle.qm_history.specs.Common.{Input, Refusal, Reply, Request, Query, Row, acting, applied, Accepted, view, node_at, answer_of, events_answer, last_moment, taken_answer, takeover_of, input_of, request_of_report, after_turn, after_event, after_events, IsSound, held_by, is_live, role_in, system_in}
 use Rattle.qm_kinds.specs.declared.input.Input.TheVariants as input
-use Rattle.qm_kinds.specs.declared.record.Record.{Record}
-use Rattle.qm_kinds.specs.declared.refusal.Refusal.{Refusal}
-use Rattle.qm_kinds.specs.declared.reply.Reply.{Reply}
-use Rattle.qm_kinds.specs.declared.request.Request.{Request}
 use Rattle.qm_kinds.specs.declared.request.Request.TheVariants as request
-use Rattle.qm_kinds.specs.declared.query.Query.{Query}
-use Rattle.qm_kinds.specs.declared.query.Row.{Row}
-use Rattle.qm_model.specs.Acting.{acting}
-use Rattle.qm_model.specs.Applied.{applied}
-use Rattle.qm_model.specs.Outcome.{Accepted}
-use Rattle.qm_model.specs.Rows.{view}
-use Rattle.qm_model.specs.Standing.{node_at}
 use Rattle.qm_history.specs.declared.call.Call.{Call}
 use Rattle.qm_history.specs.declared.call.Call.TheVariants as call
 use Rattle.qm_history.specs.declared.call.Takeover.{Takeover}
@@ -28,16 +14,11 @@ use Rattle.qm_history.specs.declared.turn.Why.{Why}
 use Rattle.qm_history.specs.declared.turn.Why.TheVariants as why
 use Rattle.qm_history.specs.declared.world.Role.{Role}
 use Rattle.qm_history.specs.declared.world.World.{World}
-use Rattle.qm_history.specs.Answers.{answer_of, events_answer, last_moment, taken_answer, takeover_of}
-use Rattle.qm_history.specs.Calls.{input_of, request_of_report}
-use Rattle.qm_history.specs.Legal.{after_turn}
-use Rattle.qm_history.specs.Step.{after_event, after_events}
 use Rattle.qm_history.specs.Takeover.{IsFailure, StandsOrFails, UnlessRefused, is_named, nodes_on, takes_over}
 use Rattle.qm_history.specs.Turn.{ATakeover, Beside, FencedOr, IsAsked, IsBehindTakeover, IsChange, IsComeUp, IsCompaction, IsCutShort, IsDecided, IsFull, IsLeft, IsLeftFull, IsOwn, IsRecorded, IsServed, IsStarted, IsStopped, IsTurnOf, IsViewed, Nothing, UnlessDown, fence, fence_of, has_other_manager, is_down, loss_of, start_refusal}
-use Rattle.qm_history.specs.World.{IsSound, held_by, is_live, role_in, system_in}
-use Rattle.qm_node.specs.declared.living.Bearing.{Bearing}
-use Rattle.qm_node.specs.declared.living.Bearing.TheVariants.{Comes, Stops, Leaves, Stays}
-use Rattle.qm_node.specs.Living.{bearing_of, bearing_of_input, live_behind, live_done, live_full}
+use Rattle.qm_node.specs.declared.living.Presence.{Presence}
+use Rattle.qm_node.specs.declared.living.Presence.TheVariants.{Comes, Stops, Leaves, Stays}
+use Rattle.qm_node.specs.Living.{presence_of, presence_of_input, live_behind, live_done, live_full}
 
 -- ---- one place of a list
 
@@ -55,26 +36,26 @@ set_false (b ∷ live) (suc n) = set_false live n
 
 -- ---- events that leave the nodes as they are
 
--- What is claimed of events from a world on, of a call of this bearing: the answer tells whether its node is live, and the other
+-- What is claimed of events from a world on, of a call of this presence: the answer tells whether its node is live, and the other
 -- nodes stay.
-abbrev OwnTells : World → ℕ → Bearing → Option Takeover → Why → ℕ → List Event → Type 0
-OwnTells w n bearing took because acted events = is_live (after_events w events) n ≡ live_behind (is_live w n) bearing (events_answer w took because acted events)
+abbrev OwnTells : World → ℕ → Presence → Option Takeover → Why → ℕ → List Event → Type 0
+OwnTells w n presence took because acted events = is_live (after_events w events) n ≡ live_behind (is_live w n) presence (events_answer w took because acted events)
 
 abbrev OthersStay : World → ℕ → List Event → Type 0
 OthersStay w n events = (other : ℕ) → other ≢ n → is_live (after_events w events) other ≡ is_live w other
 
-abbrev Tells : World → ℕ → Bearing → Option Takeover → Why → ℕ → List Event → Type 0
-Tells w n bearing took because acted events = OwnTells w n bearing took because acted events × OthersStay w n events
+abbrev Tells : World → ℕ → Presence → Option Takeover → Why → ℕ → List Event → Type 0
+Tells w n presence took because acted events = OwnTells w n presence took because acted events × OthersStay w n events
 
 others_same : (w : World) (n : ℕ) (other : ℕ) → other ≢ n → is_live w other ≡ is_live w other
 others_same w n other differs = refl
 
 module _ (w : World) (n : ℕ) (took : Option Takeover) (because : Why) (acted : ℕ) where
-  abbrev Told : Bearing → List Event → Type 0
-  Told bearing events = Tells w n bearing took because acted events
+  abbrev Told : Presence → List Event → Type 0
+  Told presence events = Tells w n presence took because acted events
 
-  journal_tells : (bearing : Bearing) (m moment : ℕ) (asked : Request) → m ≡ n → Told bearing (event.Doubt m moment asked ∷ [])
-  journal_tells bearing m moment asked same = (ap (λ k. is_live w k) (sym same), others_same w n)
+  journal_tells : (presence : Presence) (m moment : ℕ) (asked : Request) → m ≡ n → Told presence (event.Doubt m moment asked ∷ [])
+  journal_tells presence m moment asked same = (ap (λ k. is_live w k) (sym same), others_same w n)
 
   recorded_tells : (node moment : ℕ) (asked : Request) (reply : Reply) (events : List Event) → node ≡ n → IsRecorded node moment asked reply events → Told Stays events
   recorded_tells node moment asked reply (event.Done k m r told ∷ []) same h = (refl, others_same w n)
@@ -82,8 +63,8 @@ module _ (w : World) (n : ℕ) (took : Option Takeover) (because : Why) (acted :
   recorded_tells node moment asked reply (event.Full k need cap ∷ []) same h = (refl, others_same w n)
   recorded_tells node moment asked reply events same h = absurd h
 
-  refused_tells : (bearing : Bearing) (k m : ℕ) (asked : Input) (refusal : Refusal) (events : List Event) → events ≡ event.Refused k m asked refusal ∷ [] → Told bearing events
-  refused_tells bearing k m asked refusal events is = subst (Told bearing) (sym is) (refl, others_same w n)
+  refused_tells : (presence : Presence) (k m : ℕ) (asked : Input) (refusal : Refusal) (events : List Event) → events ≡ event.Refused k m asked refusal ∷ [] → Told presence events
+  refused_tells presence k m asked refusal events is = subst (Told presence) (sym is) (refl, others_same w n)
 
   decided_tells : (moment : ℕ) (asked : Request) (found : Result Accepted Refusal) (events : List Event) → IsDecided n moment asked found events → Told Stays events
   decided_tells moment asked (Err refusal) events h = refused_tells Stays n moment (input.Ask asked) refusal events h
@@ -124,9 +105,9 @@ module _ (w : World) (n : ℕ) (took : Option Takeover) (because : Why) (acted :
   compaction_tells (event.CompactDoubt k ∷ []) h = (ap (λ j. is_live w j) (sym h), others_same w n)
   compaction_tells events h = absurd h
 
-  full_tells : (bearing : Bearing) (events : List Event) → live_full (is_live w n) bearing ≡ is_live w n → IsFull n events → Told bearing events
-  full_tells bearing (event.Full k need cap ∷ []) stays h = (sym stays, others_same w n)
-  full_tells bearing events stays h = absurd h
+  full_tells : (presence : Presence) (events : List Event) → live_full (is_live w n) presence ≡ is_live w n → IsFull n events → Told presence events
+  full_tells presence (event.Full k need cap ∷ []) stays h = (sym stays, others_same w n)
+  full_tells presence events stays h = absurd h
 
   -- ---- a node comes up or goes
 
@@ -154,19 +135,19 @@ module _ (w : World) (n : ℕ) (took : Option Takeover) (because : Why) (acted :
   }
 
   -- the event alone, with an answer that it was done
-  alone_tells : (bearing : Bearing) (e : Event) (then : Bool) → Turns e then → live_behind (is_live w n) bearing (events_answer w took because acted (e ∷ [])) ≡ then → Told bearing (e ∷ [])
-  alone_tells bearing e then turned told = (turned.own ∙ sym told, turned.others)
+  alone_tells : (presence : Presence) (e : Event) (then : Bool) → Turns e then → live_behind (is_live w n) presence (events_answer w took because acted (e ∷ [])) ≡ then → Told presence (e ∷ [])
+  alone_tells presence e then turned told = (turned.own ∙ sym told, turned.others)
 
   -- and with the record of it behind
-  change_tells : (bearing : Bearing) (first : Event) (then : Bool) (node moment : ℕ) (asked : Request) (found : Result Accepted Refusal) (events : List Event) → node ≡ n → Turns first then
-      → live_done (is_live w n) bearing ≡ then → IsChange first node moment asked found events → Told bearing events
-  change_tells bearing first then node moment asked (Err refusal) events same turned done h = absurd h
-  change_tells bearing first then node moment asked (Ok accepted) (e ∷ event.Done k m r told ∷ []) same turned done h =
-      subst (λ x. Told bearing (x ∷ event.Done k m r told ∷ [])) (sym h.0) (turned.own ∙ sym done, turned.others)
-  change_tells bearing first then node moment asked (Ok accepted) (e ∷ event.Doubt k m r ∷ []) same turned done h =
-      subst (λ x. Told bearing (x ∷ event.Doubt k m r ∷ [])) (sym h.0)
+  change_tells : (presence : Presence) (first : Event) (then : Bool) (node moment : ℕ) (asked : Request) (found : Result Accepted Refusal) (events : List Event) → node ≡ n → Turns first then
+      → live_done (is_live w n) presence ≡ then → IsChange first node moment asked found events → Told presence events
+  change_tells presence first then node moment asked (Err refusal) events same turned done h = absurd h
+  change_tells presence first then node moment asked (Ok accepted) (e ∷ event.Done k m r told ∷ []) same turned done h =
+      subst (λ x. Told presence (x ∷ event.Done k m r told ∷ [])) (sym h.0) (turned.own ∙ sym done, turned.others)
+  change_tells presence first then node moment asked (Ok accepted) (e ∷ event.Doubt k m r ∷ []) same turned done h =
+      subst (λ x. Told presence (x ∷ event.Doubt k m r ∷ [])) (sym h.0)
       (ap (λ j. is_live (after_event w first) j) (sym (h.1.0 ∙ same)), turned.others)
-  change_tells bearing first then node moment asked (Ok accepted) events same turned done h = absurd h
+  change_tells presence first then node moment asked (Ok accepted) events same turned done h = absurd h
 
   come_up_tells : (moment : ℕ) (beside : Beside) (events : List Event) → n < length w.live → IsComeUp w n moment beside events → Told Comes events
   come_up_tells moment ATakeover events within h = subst (Told Comes) (sym h) (alone_tells Comes (event.Started n) true (comes_up n refl within) refl)
@@ -219,7 +200,7 @@ module _ (w : World) (n reading : ℕ) (took : Option Takeover) (because : Why) 
       (decided_tells w n took because acted (acting reading (system_in w)) r (applied (system_in w) (acting reading (system_in w)) n r) events) h
 
   own_of_line : (line : ℕ) (beside : Beside) (what : Input) (events : List Event) → n < length w.live → IsOwn w n reading (call.Line line what) beside what events
-      → Tells w n (bearing_of_input what) took because acted events
+      → Tells w n (presence_of_input what) took because acted events
   own_of_line line beside (input.Ask r) events within h = own_asked (call.Line line (input.Ask r)) beside r events h
   own_of_line line beside (input.Show query) events within h =
       viewed_tells w n took because acted (acting reading (system_in w)) query (view (system_in w) (role_in w) query) events h
@@ -233,7 +214,7 @@ module _ (w : World) (n reading : ℕ) (took : Option Takeover) (because : Why) 
       stopped_tells w n took because acted (acting reading (system_in w)) (has_other_manager w n) events h
   own_of_line line beside (input.Fault place kind) events within h = refused_tells w n took because acted Stays n reading (input.Fault place kind) _ events h
 
-  own_tells : (asked : Call) (beside : Beside) (events : List Event) → n < length w.live → IsOwn w n reading asked beside (input_of asked) events → Tells w n (bearing_of asked) took because acted events
+  own_tells : (asked : Call) (beside : Beside) (events : List Event) → n < length w.live → IsOwn w n reading asked beside (input_of asked) events → Tells w n (presence_of asked) took because acted events
   own_tells (call.Line line what) beside events within h = own_of_line line beside what events within h
   own_tells (call.Fetch known) beside events within h = subst (Tells w n Stays took because acted) (sym h) (refl, others_same w n)
   own_tells (call.Report run told) beside events within h = own_asked (call.Report run told) beside (request_of_report run told) events h
@@ -242,7 +223,7 @@ module _ (w : World) (n reading : ℕ) (took : Option Takeover) (because : Why) 
 -- ---- behind a takeover
 
 -- a call that can take over doesn't go: where there is no room its node is live as before
-full_stays : (w : World) (asked : Call) (live : Bool) → takes_over w (input_of asked) ≡ true → live_full live (bearing_of asked) ≡ live
+full_stays : (w : World) (asked : Call) (live : Bool) → takes_over w (input_of asked) ≡ true → live_full live (presence_of asked) ≡ live
 full_stays w (call.Line line (input.Ask r)) live takes = refl
 full_stays w (call.Line line (input.Show query)) live takes = refl
 full_stays w (call.Line line (input.Fetch known)) live takes = refl
@@ -261,7 +242,7 @@ start_is_told w n moment (Some refusal) h = cc
 start_is_told w n moment None h = cc
 
 -- where nothing follows a takeover that stands, the role was all that was asked for
-role_alone : (w after : World) (n reading : ℕ) (asked : Call) (live : Bool) → takes_over w (input_of asked) ≡ true → IsOwn after n reading asked ATakeover (input_of asked) [] → live_done live (bearing_of asked) ≡ live
+role_alone : (w after : World) (n reading : ℕ) (asked : Call) (live : Bool) → takes_over w (input_of asked) ≡ true → IsOwn after n reading asked ATakeover (input_of asked) [] → live_done live (presence_of asked) ≡ live
 role_alone w after n reading (call.Line line (input.Ask r)) live takes own = refl
 role_alone w after n reading (call.Line line (input.Show query)) live takes own = refl
 role_alone w after n reading (call.Line line (input.Fetch known)) live takes own = refl
@@ -276,7 +257,7 @@ role_alone w after n reading call.Leave live takes own = cc
 
 module _ (w : World) (n reading : ℕ) (took : Option Takeover) (because : Why) (acted : ℕ) (asked : Call) (takes : takes_over w (input_of asked) ≡ true) where
   abbrev Asked : List Event → Type 0
-  Asked events = Tells w n (bearing_of asked) took because acted events
+  Asked events = Tells w n (presence_of asked) took because acted events
 
   failed_tells : (k tried : ℕ) (kept : Option Bool) (on : Option (List (List ℕ))) (after : World) (events : List Event) → k ≡ n → IsFailure w after n reading on tried events
       → Asked (event.TakeDoubt k tried kept ∷ events)
@@ -286,8 +267,8 @@ module _ (w : World) (n reading : ℕ) (took : Option Takeover) (because : Why) 
   failed_tells k tried kept on after (event.NoManager m ∷ []) same h = (refl, others_same w n)
   failed_tells k tried kept on after events same h = absurd h
 
-  taken_answered : (moment : ℕ) (name : List ℕ) (epoch : ℕ) (why : Why) → live_done (is_live w n) (bearing_of asked) ≡ is_live w n
-      → is_live w n ≡ live_behind (is_live w n) (bearing_of asked) (taken_answer took moment name epoch why)
+  taken_answered : (moment : ℕ) (name : List ℕ) (epoch : ℕ) (why : Why) → live_done (is_live w n) (presence_of asked) ≡ is_live w n
+      → is_live w n ≡ live_behind (is_live w n) (presence_of asked) (taken_answer took moment name epoch why)
   taken_answered moment name epoch (why.Line line) done = sym done
   taken_answered moment name epoch why.Fetch done = refl
   taken_answered moment name epoch why.Report done = refl
@@ -318,17 +299,17 @@ module _ (w : World) (n reading : ℕ) (took : Option Takeover) (because : Why) 
 
 module _ (w : World) (n reading : ℕ) (took : Option Takeover) (because : Why) (acted : ℕ) (asked : Call) where
   behind_tells : (takes : Bool) (events : List Event) → n < length w.live → takes_over w (input_of asked) ≡ takes → IsBehindTakeover w n reading asked takes events
-      → Tells w n (bearing_of asked) took because acted events
+      → Tells w n (presence_of asked) took because acted events
   behind_tells false events within is h = own_tells w n reading took because acted asked Nothing events within h
   behind_tells true events within is h =
       unless_tells w n reading took because acted asked is (nodes_on (input_of asked)) (not (is_none w.manager || is_named (system_in w) (nodes_on (input_of asked)) n)) events within h
 
   down_tells : (down : Bool) (events : List Event) → n < length w.live
-      → UnlessDown down n reading (input_of asked) (IsBehindTakeover w n reading asked (takes_over w (input_of asked)) events) events → Tells w n (bearing_of asked) took because acted events
-  down_tells true events within h = refused_tells w n took because acted (bearing_of asked) n reading (input_of asked) _ events h
+      → UnlessDown down n reading (input_of asked) (IsBehindTakeover w n reading asked (takes_over w (input_of asked)) events) events → Tells w n (presence_of asked) took because acted events
+  down_tells true events within h = refused_tells w n took because acted (presence_of asked) n reading (input_of asked) _ events h
   down_tells false events within h = behind_tells (takes_over w (input_of asked)) events within refl h
 
-  pub served_tells : (events : List Event) → n < length w.live → IsServed w n reading asked events → Tells w n (bearing_of asked) took because acted events
+  pub served_tells : (events : List Event) → n < length w.live → IsServed w n reading asked events → Tells w n (presence_of asked) took because acted events
   served_tells events within h = down_tells (is_down w n (input_of asked)) events within h
 
 -- ---- a takeover alone
@@ -363,19 +344,18 @@ leave_down : (w : World) (n reading : ℕ) (down : Bool) (events : List Event) �
 leave_down w n reading true events is h = ap (λ (l : List Event). is_live (after_events w l) n) h ∙ was_down (is_live w n) is
 leave_down w n reading false events is h = left_down w n None why.Leave 0 (acting reading (system_in w)) (has_other_manager w n) events h
 
-module _ (HasSpelling : Record → Type 0) where
-  pub who_left : (w : World) (t : Turn) → IsTurnOf HasSpelling w call.Leave t → is_live (after_turn w t) t.node ≡ false
-  who_left w t turn = leave_down w t.node t.moment (is_down w t.node input.StopNode) t.events refl turn.1
+pub who_left : (w : World) (t : Turn) → IsTurnOf w call.Leave t → is_live (after_turn w t) t.node ≡ false
+who_left w t turn = leave_down w t.node t.moment (is_down w t.node input.StopNode) t.events refl turn.1
 
-  pub answer_tells : (w : World) (asked : Call) (t : Turn) → IsSound HasSpelling w → IsTurnOf HasSpelling w asked t
-      → is_live (after_turn w t) t.node ≡ live_behind (is_live w t.node) (bearing_of asked) (answer_of w t)
-  answer_tells w asked t sound turn =
-      (served_tells w t.node t.moment (takeover_of w t.events) t.why (last_moment t.moment t.events) asked t.events (subst (λ k. t.node < k) (sym sound.live) turn.0.node_there) turn.1).0
+pub answer_tells : (w : World) (asked : Call) (t : Turn) → IsSound w → IsTurnOf w asked t
+    → is_live (after_turn w t) t.node ≡ live_behind (is_live w t.node) (presence_of asked) (answer_of w t)
+answer_tells w asked t sound turn =
+    (served_tells w t.node t.moment (takeover_of w t.events) t.why (last_moment t.moment t.events) asked t.events (subst (λ k. t.node < k) (sym sound.live) turn.0.node_there) turn.1).0
 
-  pub others_whole : (w : World) (asked : Call) (t : Turn) (node : ℕ) → IsSound HasSpelling w → node ≢ t.node → IsTurnOf HasSpelling w asked t → is_live (after_turn w t) node ≡ is_live w node
-  others_whole w asked t node sound other turn =
-      (served_tells w t.node t.moment None t.why 0 asked t.events (subst (λ k. t.node < k) (sym sound.live) turn.0.node_there) turn.1).1 node other
+pub others_whole : (w : World) (asked : Call) (t : Turn) (node : ℕ) → IsSound w → node ≢ t.node → IsTurnOf w asked t → is_live (after_turn w t) node ≡ is_live w node
+others_whole w asked t node sound other turn =
+    (served_tells w t.node t.moment None t.why 0 asked t.events (subst (λ k. t.node < k) (sym sound.live) turn.0.node_there) turn.1).1 node other
 
-  pub others_cut : (w : World) (asked : Call) (t : Turn) (node : ℕ) → node ≢ t.node → IsCutShort HasSpelling w asked t → is_live (after_turn w t) node ≡ is_live w node
-  others_cut w asked t node other turn =
-      unless_stays w t.node t.moment (nodes_on (input_of asked)) (not (is_none w.manager || is_named (system_in w) (nodes_on (input_of asked)) t.node)) t.events turn.1.2 node other
+pub others_cut : (w : World) (asked : Call) (t : Turn) (node : ℕ) → node ≢ t.node → IsCutShort w asked t → is_live (after_turn w t) node ≡ is_live w node
+others_cut w asked t node other turn =
+    unless_stays w t.node t.moment (nodes_on (input_of asked)) (not (is_none w.manager || is_named (system_in w) (nodes_on (input_of asked)) t.node)) t.events turn.1.2 node other

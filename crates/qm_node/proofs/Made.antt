@@ -1,14 +1,11 @@
 -- A turn, from the call that a node made of what came next.
-use Rattle.std.proofs.Common.{◌<◌, ℕ, List, [], ◌∷◌, inl, sym, subst, Option, Some, Result, Ok, Err}
-use Rattle.std.specs.Prelude.{OnOk, IfErr}
+use Rattle.std.proofs.Common.{◌≡◌, ◌<◌, ℕ, List, [], ◌∷◌, inl, sym, subst, Option, None, Some, Result, Ok, Err, OnOk, IfErr}
 use Rattle.std.specs.Io.KnownBytes.{Appends}
 use Rattle.qm_symb.specs.Device as symb
 use Rattle.qm_history.specs.declared.call.Answer.{Answer}
 use Rattle.qm_history.specs.declared.call.Call.{Call}
-use Rattle.qm_history.specs.Askable.{IsAskable}
-use Rattle.qm_history.specs.Calls.{input_of}
-use Rattle.qm_history.specs.Course.{next_at}
-use Rattle.qm_node.specs.Answered.{EndsAt, IsAnsweredBy, IsAnsweredUpTo, IsCalled, MakesTurn}
+use Rattle.qm_history.specs.Common.{IsAskable, input_of, next_at}
+use Rattle.qm_node.specs.Answered.{EndsAt, EndsBy, IsAskedFor, IsCalled, MakesTurn, TakesIn, printed_of, stop_of}
 use Rattle.qm_node.specs.Node.{CanBeMade, ComesNext, IsMadeFor, IsTurn}
 use Rattle.qm_node.specs.Seats.{HeldSeat}
 use Rattle.qm_node.specs.declared.course.Asked.{Asked}
@@ -16,6 +13,7 @@ use Rattle.qm_node.specs.declared.course.Next.{Next}
 use Rattle.qm_node.specs.declared.turn.TurnEnd.{TurnEnd}
 use Rattle.qm_node.proofs.Called.{call_askable, called_can, called_made, called_next}
 
+-- Whom a node asks, as it was before and is behind a call of this node at this reading of its clock, which was answered so.
 pub on_ok : {T E : Type 0} (r : Result T E) (P Q : Type 0) → OnOk r P → (P → Q) → OnOk r Q
 on_ok (Ok x) P Q h f = f h
 on_ok (Err e) P Q h f = h
@@ -43,36 +41,28 @@ module _ {Y : Type 0} (y : symb.Meaning Y) (comes : Next) (here between : HeldSe
   pub few : (most : ℕ) → here.count < most → between.count < most
   few most less = subst (λ (s : HeldSeat). s.count < most) (sym called.same) less
 
-  module _ {A : Type 0} (asks : A → A → ℕ → ℕ → Call → Answer → Type 0) (node : ℕ) (before after : A) (taken given told then : Option (List ℕ)) (clock : Appends told then (asked.moment ∷ [])) where
-    pub made : (there : HeldSeat) → IsAnsweredBy asks node asked.moment comes asked.call between there before after taken given
-        → MakesTurn asks y node comes here there was now told then before after taken given
-    made there answered =
-        let a = subst (λ (s : HeldSeat). IsAnsweredBy asks node asked.moment comes asked.call s there before after taken given) called.same answered in record {
-          asked = record {
-            asked = asked;
-            made = between.node;
-            answer = a.told;
-            call = subst (λ (s : HeldSeat). IsCalled y comes here s asked was now) called.same called;
-            clock = clock;
-            asks_it = a.asks_it;
-          };
-          goes_on = a.goes_on;
-          prints = a.printed;
-          takes_in = a.takes_in;
-        }
+  module _ {A : Type 0} (asks : A → A → ℕ → ℕ → Call → Answer → Type 0) (node : ℕ) (before after : A) (taken given told then : Option (List ℕ)) (clock : Appends told then (asked.moment ∷ [])) (answer : Answer) (asks_it : asks before after node asked.moment asked.call answer) where
+    asked_for : IsAskedFor asks y node comes here was now told then before after
+    asked_for = record {
+      asked = asked;
+      made = between.node;
+      answer = answer;
+      call = subst (λ (s : HeldSeat). IsCalled y comes here s asked was now) called.same called;
+      clock = clock;
+      asks_it = asks_it;
+    }
 
-    pub ended : (stopped : TurnEnd) → IsAnsweredUpTo asks node asked.moment comes asked.call between before after taken given stopped
+    pub made : (there : HeldSeat) → stop_of answer ≡ None → Appends taken given (printed_of between.name asked.call answer) → TakesIn comes asked.call answer between there
+        → MakesTurn asks y node comes here there was now told then before after taken given
+    unfolding asked_for
+    made there goes_on printed takes = record {
+      asked = asked_for;
+      goes_on = goes_on;
+      prints = subst (λ (s : HeldSeat). Appends taken given (printed_of s.name asked.call answer)) called.same printed;
+      takes_in = subst (λ (s : HeldSeat). TakesIn comes asked.call answer s there) called.same takes;
+    }
+
+    pub ended : (stopped : TurnEnd) → EndsBy between.name stopped asked.call answer taken given
         → EndsAt asks y node stopped comes here was now told then before after taken given
-    ended stopped answered =
-        let a = subst (λ (s : HeldSeat). IsAnsweredUpTo asks node asked.moment comes asked.call s before after taken given stopped) called.same answered in
-        inl (record {
-          asked = record {
-            asked = asked;
-            made = between.node;
-            answer = a.told;
-            call = subst (λ (s : HeldSeat). IsCalled y comes here s asked was now) called.same called;
-            clock = clock;
-            asks_it = a.asks_it;
-          };
-          ends = a.ends;
-        })
+    unfolding asked_for
+    ended stopped ends = inl (record { asked = asked_for; ends = subst (λ (s : HeldSeat). EndsBy s.name stopped asked.call answer taken given) called.same ends })

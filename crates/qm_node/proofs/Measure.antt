@@ -1,14 +1,10 @@
 -- Each step that a node makes leaves fewer reports to the runs of its round.
-use Rattle.std.proofs.Common.{◌≡◌, ◌∙◌, ℕ, ◌+◌, ◌<◌, ◌≤◌, Bool, true, false, not, cond, List, [], ◌∷◌, ◌++◌, length, map, filter_map, refl, sym, ap, subst, arith, Option, None, Some}
-use Rattle.std.specs.Prelude.{◌==◌, IfSome}
-use Rattle.std.specs.List.{sum_by}
+use Rattle.std.proofs.Common.{◌≡◌, ◌∙◌, ℕ, ◌+◌, ◌<◌, ◌≤◌, Bool, true, false, not, cond, List, [], ◌∷◌, ◌++◌, length, map, filter_map, refl, sym, ap, subst, arith, Option, None, Some, ◌==◌, IfSome, sum_by}
 use Rattle.std.specs.Option.{option_map_or}
 use Rattle.std.proofs.lemmas.Bool.Decides.{nat_tests}
 use Rattle.std.proofs.lemmas.List.Sums.{sum_by-cons, sum_by-le-sum_by, sum_by_push}
-use Rattle.qm_kinds.specs.declared.work.Place.{Place}
-use Rattle.qm_kinds.specs.declared.work.Report.{Report}
+use Rattle.qm_history.specs.Common.{Place, Report, Work}
 use Rattle.qm_kinds.specs.declared.work.Report.TheVariants.{Done, Mark}
-use Rattle.qm_kinds.specs.declared.work.Work.{Work}
 use Rattle.qm_model.specs.Kept.{KeptRun, KeptRuns, StepEnd, WentOn, DeviceFailed, CutShort, behind_next, kept_behind, moved_to, next_kept, report_told, run_kept, without_run}
 use Rattle.qm_model.specs.Reports.{EndOnce, GoOnAtMarks, Step, Handed, Reported, course, next_report, report_of, reports}
 use Rattle.qm_model.proofs.ReportLemmas.{end_once, go_on_at_marks}

@@ -1,18 +1,12 @@
 -- The runs that a fetch shows stand by number, and the round has each of those that may step once.
-use Rattle.std.proofs.Common.{◌≡◌, ◌∙◌, ℕ, zero, suc, Bool, true, false, cond, List, [], ◌∷◌, ◌++◌, length, get_or, map, refl, sym, ap, subst, arith, Option, None, Some}
-use Rattle.std.specs.Prelude.{◌==◌, IfSome}
+use Rattle.std.proofs.Common.{◌≡◌, ◌∙◌, ℕ, zero, suc, Bool, true, false, cond, List, [], ◌∷◌, ◌++◌, length, get_or, map, refl, sym, ap, subst, arith, Option, None, Some, ◌==◌, IfSome, option_map, IsSome, nat_cmp, Less}
 use Rattle.std.specs.List.{All, AllByRecursion, AllPairs, cons_option, filter}
-use Rattle.std.specs.Option.{option_map, IsSome}
-use Rattle.std.specs.Ordering.{nat_cmp}
-use Rattle.std.specs.declared.cmp.Ordering.TheVariants.{Less}
 use Rattle.std.proofs.lemmas.Bool.Decides.{nat_tests}
 use Rattle.std.proofs.lemmas.List.{get_or_append_left, get_or_at, length-append}
 use Rattle.std.proofs.lemmas.List.Elements.{All-cons, All-nil, All-tail, filter_map-append}
 use Rattle.std.proofs.lemmas.List.Kept.{AllPairs-cons}
-use Rattle.qm_kinds.specs.declared.work.Duty.{Duty}
-use Rattle.qm_kinds.specs.declared.work.Work.{Work}
+use Rattle.qm_history.specs.Common.{Duty, Work, IsInOrder}
 use Rattle.qm_keyed.proofs.Pairs.{pairs_nil}
-use Rattle.qm_model.specs.Consistent.{IsInOrder}
 use Rattle.qm_model.specs.Kept.{KeptRun, kept_after, kept_of, may_step, run_kept, round_of}
 use Rattle.qm_node.specs.Rows.{StandOnce}
 use Rattle.qm_node.proofs.Rows.{itself}

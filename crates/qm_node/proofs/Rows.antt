@@ -1,16 +1,12 @@
 -- Rows with cursors as their callers see them, and what keeps them by number.
-use Rattle.std.proofs.Common.{◌≡◌, ◌∙◌, ℕ, Bool, true, false, not, cond, List, [], ◌∷◌, get_or, map, refl, sym, ap, subst, arith, Option, Some, nat_lt}
-use Rattle.std.specs.Prelude.{◌==◌, if◌then◌else◌}
+use Rattle.std.proofs.Common.{◌≡◌, ◌∙◌, ℕ, Bool, true, false, not, cond, List, [], ◌∷◌, get_or, map, refl, sym, ap, subst, arith, Option, Some, nat_lt, ◌==◌, if◌then◌else◌, option_map, IsSome, nat_cmp}
 use Rattle.std.specs.Cmp.{nat_cmp_total, unsigned_ties}
 use Rattle.std.specs.List.{AllByRecursion, filter, find}
-use Rattle.std.specs.Option.{option_map, IsSome}
-use Rattle.std.specs.Ordering.{nat_cmp}
 use Rattle.std.proofs.lemmas.Bool.Decides.{nat_tests}
 use Rattle.std.proofs.lemmas.List.{get_or-map, length-map}
-use Rattle.qm_kinds.specs.declared.work.Place.{Place}
+use Rattle.qm_history.specs.Common.{Place, IsInOrder}
 use Rattle.qm_keyed.proofs.Keys.{Keys}
 use Rattle.qm_keyed.proofs.Rows.{lesser_is}
-use Rattle.qm_model.specs.Consistent.{IsInOrder}
 use Rattle.qm_model.specs.Kept.{KeptRun, moved_to, run_kept, without_run}
 use Rattle.qm_node.specs.declared.row.Row.{Row}
 use Rattle.qm_node.specs.Rows.{all_bare, bare}

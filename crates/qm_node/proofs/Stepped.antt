@@ -1,19 +1,14 @@
 -- What a step, and its report, leave of the rows.
-use Rattle.std.proofs.Common.{◌≡◌, ◌∙◌, ℕ, suc, ◌-◌, ◌<◌, inl, inr, Bool, true, false, not, cond, List, [], ◌∷◌, ◌++◌, length, get_or, map, set, take, drop, refl, sym, ap, subst, arith, Option, None, Some}
-use Rattle.std.specs.Prelude.{◌==◌, IfOk, IfSome, if◌then◌else◌, slice_get, Result, Ok, Err}
+use Rattle.std.proofs.Common.{◌≡◌, ◌∙◌, ℕ, suc, ◌-◌, ◌<◌, inl, inr, Bool, true, false, not, cond, List, [], ◌∷◌, ◌++◌, length, get_or, map, set, take, drop, refl, sym, ap, subst, arith, Option, None, Some, ◌==◌, IfOk, IfSome, if◌then◌else◌, slice_get, Result, Ok, Err, nat_cmp, Less, Equal, Greater}
 use Rattle.std.specs.Cmp.{nat_cmp_total}
 use Rattle.std.specs.List.{All, AllByRecursion, filter, remove}
 use Rattle.std.specs.Option.{option_map, option_map_or, IsSome}
-use Rattle.std.specs.Ordering.{nat_cmp}
-use Rattle.std.specs.declared.cmp.Ordering.TheVariants.{Less, Equal, Greater}
 use Rattle.std.proofs.lemmas.Bool.{cases_eq, cases_lt}
 use Rattle.std.proofs.lemmas.Bool.Decides.{nat_tests}
 use Rattle.std.proofs.lemmas.List.{get_or-map, get_or-set_same, get_or-set_other, length-set, map-set, set-get_or}
 use Rattle.std.proofs.lemmas.List.Elements.{All-cons, All-nil}
-use Rattle.qm_kinds.specs.declared.work.Place.{Place}
-use Rattle.qm_kinds.specs.declared.work.Report.{Report}
+use Rattle.qm_history.specs.Common.{Place, Report, Work}
 use Rattle.qm_kinds.specs.declared.work.Report.TheVariants.{Done, Mark}
-use Rattle.qm_kinds.specs.declared.work.Work.{Work}
 use Rattle.qm_keyed.specs.Places.{StandsAt}
 use Rattle.qm_keyed.proofs.Keys as keys
 use Rattle.qm_keyed.proofs.Orders.{order_removed, order_set}

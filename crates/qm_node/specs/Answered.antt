@@ -4,8 +4,7 @@ use Rattle.std.specs.Io.KnownBytes.{Appends}
 use Rattle.qm_history.specs.declared.call.Answer.{Answer}
 use Rattle.qm_history.specs.declared.call.Answer.TheVariants as answer
 use Rattle.qm_history.specs.declared.call.Call.{Call}
-use Rattle.qm_history.specs.Course.{Reading}
-use Rattle.qm_history.specs.Script.{UserLine}
+use Rattle.qm_history.specs.Common.{Reading, UserLine}
 use Rattle.qm_node.specs.Node.{HeldNode, Hears, IsCallOf}
 use Rattle.qm_node.specs.declared.course.Asked.{Asked}
 use Rattle.qm_node.specs.declared.course.Next.{Next}
@@ -13,11 +12,13 @@ use Rattle.qm_node.specs.declared.course.Next.TheVariants as next
 use Rattle.qm_scans.specs.Behind.{behind_answer, is_single, step_of}
 use Rattle.qm_show.specs.Turns.{told_text}
 use Rattle.qm_symb.specs.Device as symb
-use Rattle.qm_node.specs.Asking.{built_call, gist_of}
-use Rattle.qm_node.specs.Living.{bearing_of, live_behind}
+use Rattle.qm_node.specs.Asking.{built_call, kind_of_call}
+use Rattle.qm_node.specs.Living.{presence_of, live_behind}
 use Rattle.qm_node.specs.Seats.{HeldSeat}
 use Rattle.qm_node.specs.Ends.{TakesFront}
-use Rattle.qm_node.specs.declared.asking.Gist.{Gist}
+use Rattle.qm_node.specs.Outside.{Outside}
+use Rattle.qm_node.specs.declared.asking.CallKind.{CallKind}
+use Rattle.qm_node.specs.declared.seat.Station.{Station}
 use Rattle.qm_node.specs.declared.turn.TurnEnd.{TurnEnd}
 use Rattle.qm_node.specs.declared.turn.TurnEnd.TheVariants as end
 
@@ -59,11 +60,11 @@ stop_of (answer.Fenced held current) = None
 stop_of (answer.NoManager took name) = None
 
 -- what is printed at a node of this name of a call that was answered so
-abbrev pub printed_by : List ℕ → Gist → Answer → List ℕ
-printed_by name gist told = told_text name gist.why (is_single gist.step) told
+abbrev pub printed_by : List ℕ → CallKind → Answer → List ℕ
+printed_by name kind told = told_text name kind.why (is_single kind.step) told
 
 abbrev pub printed_of : List ℕ → Call → Answer → List ℕ
-printed_of name asked told = printed_by name (gist_of asked) told
+printed_of name asked told = printed_by name (kind_of_call asked) told
 
 -- The call of what comes next was made, as far as that is built, and nothing else of the node changed.
 pub record IsCalled {Y : Type 0} (y : symb.Meaning Y) (next : Next) (old new : HeldSeat) (asked : Asked) (was now : Y) : Type 0 where
@@ -72,11 +73,15 @@ pub record IsCalled {Y : Type 0} (y : symb.Meaning Y) (next : Next) (old new : H
   pub by : IsCallOf y old.begun next old.node.state (record { moment = asked.moment; call = plain }) new.node was now
   pub same : new ≡ record old { node = new.node }
 
+-- the same, by what is the node's own
+abbrev pub CallsAt : {C Y : Type 0} → symb.Meaning Y → Next → HeldSeat → HeldSeat → Station C Y → Station C Y → Asked → Type 0
+CallsAt y next old new was now asked = IsCalled y next old new asked was.symbiont now.symbiont
+
 -- the node behind the answer of what came next
 pub record TakesIn (next : Next) (asked : Call) (told : Answer) (old new : HeldSeat) : Type 0 where
   pub name : new.name ≡ old.name
   pub heard : Hears old.count next old.node told new.node
-  pub live : new.live ≡ live_behind old.live (bearing_of asked) told
+  pub live : new.live ≡ live_behind old.live (presence_of asked) told
   pub count : new.count ≡ old.count + 1
   pub begun : new.begun ≡ behind_answer old.begun (step_of asked) told
 
@@ -85,22 +90,6 @@ abbrev pub EndsBy : List ℕ → TurnEnd → Call → Answer → Option (List �
 EndsBy name stopped asked told taken given =
     ((stop_of told ≡ Some stopped) × (given ≡ taken))
     ⊎ ((stop_of told ≡ None) × TakesFront taken given (printed_of name asked told) × ((stopped ≡ end.Write) ⊎ (stopped ≡ end.NoMemory)))
-
--- Whom a node asks, as it was before and is behind a call of this node at this reading of its clock, which was answered so.
-module _ {A : Type 0} (asks : A → A → ℕ → ℕ → Call → Answer → Type 0) (node now : ℕ) (next : Next) (asked : Call) where
-  -- The call was asked and answered, the sink took what is printed of it, and the node took the answer in.
-  pub record IsAnsweredBy (here there : HeldSeat) (before after : A) (taken given : Option (List ℕ)) : Type 0 where
-    pub told : Answer
-    pub asks_it : asks before after node now asked told
-    pub goes_on : stop_of told ≡ None
-    pub printed : Appends taken given (printed_of here.name asked told)
-    pub takes_in : TakesIn next asked told here there
-
-  -- The call was asked, and the node's turns stop there.
-  pub record IsAnsweredUpTo (here : HeldSeat) (before after : A) (taken given : Option (List ℕ)) (stopped : TurnEnd) : Type 0 where
-    pub told : Answer
-    pub asks_it : asks before after node now asked told
-    pub ends : EndsBy here.name stopped asked told taken given
 
 module _ {A Y : Type 0} (asks : A → A → ℕ → ℕ → Call → Answer → Type 0) (y : symb.Meaning Y) (node : ℕ) where
   -- What comes next was asked, with one reading of the clock.
@@ -135,3 +124,10 @@ module _ {A Y : Type 0} (asks : A → A → ℕ → ℕ → Call → Answer → 
   abbrev pub EndsAt : TurnEnd → Next → HeldSeat → Y → Y → Option (List ℕ) → Option (List ℕ) → A → A → Option (List ℕ) → Option (List ℕ) → Type 0
   EndsAt stopped next old was now told then before after taken given =
       EndsAsked stopped next old was now told then before after taken given ⊎ EndsUnasked stopped was now told then before after taken given
+
+  -- the same, by what the turn touches
+  abbrev pub Makes : Next → HeldSeat → HeldSeat → Outside A Y → Outside A Y → Type 0
+  Makes next here there old new = MakesTurn next here there old.symbiont new.symbiont old.told new.told old.value new.value old.taken new.taken
+
+  abbrev pub EndsIn : Next → HeldSeat → Outside A Y → Outside A Y → TurnEnd → Type 0
+  EndsIn next here old new stopped = EndsAt stopped next here old.symbiont new.symbiont old.told new.told old.value new.value old.taken new.taken

@@ -1,18 +1,15 @@
 -- What nodes ask for: what their lines do, as far as that is built, and what they ask for of themselves.
 -- OpenVMS User's Manual, on entering commands. This site's own: the acts, and that a compaction isn't built.
 use Rattle.std.specs.Prelude.{ℕ, List}
-use Rattle.qm_kinds.specs.declared.input.Input.{Input}
+use Rattle.qm_history.specs.Common.{Input, why_of, UserLine, Visit}
 use Rattle.qm_kinds.specs.declared.input.Input.TheVariants as input
 use Rattle.qm_kinds.specs.declared.refusal.ParseKind.TheVariants as parse
 use Rattle.qm_history.specs.declared.call.Call.{Call}
 use Rattle.qm_history.specs.declared.call.Call.TheVariants as call
-use Rattle.qm_history.specs.Calls.{why_of}
-use Rattle.qm_history.specs.Script.{UserLine}
-use Rattle.qm_history.specs.Visits.{Visit}
-use Rattle.qm_node.specs.Living.{bearing_of}
+use Rattle.qm_node.specs.Living.{presence_of}
 use Rattle.qm_scans.specs.Behind.{step_of}
-use Rattle.qm_script.specs.Asked.{line_asked}
-use Rattle.qm_node.specs.declared.asking.Gist.{Gist}
+use Rattle.qm_node.specs.declared.asking.CallKind.{CallKind}
+use Rattle.qm_line.specs.Asked.{line_asked}
 
 -- a compaction isn't built, which is wrong from its first byte on
 abbrev pub not_built : Input
@@ -40,6 +37,6 @@ built_call (call.Fetch known) = call.Fetch known
 built_call (call.Report run told) = call.Report run told
 built_call call.Leave = call.Leave
 
--- what is still to be known of a call once it is answered
-abbrev pub gist_of : Call → Gist
-gist_of asked = record { why = why_of asked; bearing = bearing_of asked; step = step_of asked }
+-- of what kind a call is: what is still to be known of it once it is answered
+abbrev pub kind_of_call : Call → CallKind
+kind_of_call asked = record { why = why_of asked; presence = presence_of asked; step = step_of asked }

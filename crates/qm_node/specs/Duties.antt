@@ -1,9 +1,7 @@
 -- What a node can learn of its runs.
-use Rattle.std.specs.Prelude.{List, IfSome}
-use Rattle.std.specs.List.{All}
+use Rattle.std.specs.Prelude.{List, IfSome, All}
 use Rattle.std.specs.Ordering.{nat_cmp}
-use Rattle.qm_kinds.specs.declared.work.Duty.{Duty}
-use Rattle.qm_model.specs.Consistent.{IsInOrder}
+use Rattle.qm_history.specs.Common.{Duty, IsInOrder}
 use Rattle.qm_symb.specs.Symbiont.{IsWithinLimits}
 
 -- each run once, by number, and no work that no symbiont could carry out

@@ -4,6 +4,7 @@ pub mod Steps
 pub mod Rows
 pub mod Measure
 pub mod Node
+pub mod Outside
 pub mod Answered
 pub mod Asking
 pub mod Ends

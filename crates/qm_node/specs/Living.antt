@@ -8,51 +8,51 @@ use Rattle.qm_history.specs.declared.call.Answer.{Answer}
 use Rattle.qm_history.specs.declared.call.Answer.TheVariants as answer
 use Rattle.qm_history.specs.declared.call.Call.{Call}
 use Rattle.qm_history.specs.declared.call.Call.TheVariants as call
-use Rattle.qm_node.specs.declared.living.Bearing.{Bearing}
-use Rattle.qm_node.specs.declared.living.Bearing.TheVariants.{Comes, Stops, Leaves, Stays}
+use Rattle.qm_node.specs.declared.living.Presence.{Presence}
+use Rattle.qm_node.specs.declared.living.Presence.TheVariants.{Comes, Stops, Leaves, Stays}
 
--- what an input is to the node that asks for it
-abbrev pub bearing_of_input : Input → Bearing
-bearing_of_input input.StartNode = Comes
-bearing_of_input input.StopNode = Stops
-bearing_of_input (input.Ask asked) = Stays
-bearing_of_input (input.Show query) = Stays
-bearing_of_input (input.Fetch known) = Stays
-bearing_of_input input.Compact = Stays
-bearing_of_input (input.TakeManager on) = Stays
-bearing_of_input (input.Fault place kind) = Stays
+-- what an input does to whether the node that asks for it is live
+abbrev pub presence_of_input : Input → Presence
+presence_of_input input.StartNode = Comes
+presence_of_input input.StopNode = Stops
+presence_of_input (input.Ask asked) = Stays
+presence_of_input (input.Show query) = Stays
+presence_of_input (input.Fetch known) = Stays
+presence_of_input input.Compact = Stays
+presence_of_input (input.TakeManager on) = Stays
+presence_of_input (input.Fault place kind) = Stays
 
--- and what a call is
-abbrev pub bearing_of : Call → Bearing
-bearing_of (call.Line line asked) = bearing_of_input asked
-bearing_of (call.Fetch known) = Stays
-bearing_of (call.Report run told) = Stays
-bearing_of call.Leave = Leaves
+-- and what a call does
+abbrev pub presence_of : Call → Presence
+presence_of (call.Line line asked) = presence_of_input asked
+presence_of (call.Fetch known) = Stays
+presence_of (call.Report run told) = Stays
+presence_of call.Leave = Leaves
 
 -- what was asked for is done
-abbrev pub live_done : Bool → Bearing → Bool
+abbrev pub live_done : Bool → Presence → Bool
 live_done live Comes = true
 live_done live Stops = false
 live_done live Leaves = false
 live_done live Stays = live
 
 -- there was no room to record it: a node that leaves is gone all the same
-abbrev pub live_full : Bool → Bearing → Bool
+abbrev pub live_full : Bool → Presence → Bool
 live_full live Comes = live
 live_full live Stops = live
 live_full live Leaves = false
 live_full live Stays = live
 
 -- Whether a node is live behind a call that was answered so, where it was live before or not.
-abbrev pub live_behind : Bool → Bearing → Answer → Bool
-live_behind live bearing (answer.Done took moment reply) = live_done live bearing
-live_behind live bearing (answer.Full took need cap) = live_full live bearing
-live_behind live bearing (answer.Journal took then) = then
-live_behind live bearing (answer.Shown took moment rows) = live
-live_behind live bearing (answer.Duties took moment duties) = live
-live_behind live bearing (answer.Refused took refusal) = live
-live_behind live bearing (answer.Fenced held current) = live
-live_behind live bearing (answer.NoManager took name) = live
-live_behind live bearing (answer.Damaged file place) = live
-live_behind live bearing answer.HistoryFull = live
-live_behind live bearing (answer.NoMemory took) = live
+abbrev pub live_behind : Bool → Presence → Answer → Bool
+live_behind live presence (answer.Done took moment reply) = live_done live presence
+live_behind live presence (answer.Full took need cap) = live_full live presence
+live_behind live presence (answer.Journal took then) = then
+live_behind live presence (answer.Shown took moment rows) = live
+live_behind live presence (answer.Duties took moment duties) = live
+live_behind live presence (answer.Refused took refusal) = live
+live_behind live presence (answer.Fenced held current) = live
+live_behind live presence (answer.NoManager took name) = live
+live_behind live presence (answer.Damaged file place) = live
+live_behind live presence answer.HistoryFull = live
+live_behind live presence (answer.NoMemory took) = live

@@ -1,6 +1,5 @@
 -- How many reports are left to the runs of a round.
-use Rattle.std.specs.Prelude.{ℕ, List, length}
-use Rattle.std.specs.List.{sum_by}
+use Rattle.std.specs.Prelude.{ℕ, List, length, sum_by}
 use Rattle.std.specs.Option.{option_map_or}
 use Rattle.qm_model.specs.Kept.{KeptRun, KeptRuns, run_kept}
 use Rattle.qm_model.specs.Reports.{reports}

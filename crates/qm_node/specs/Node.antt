@@ -1,22 +1,17 @@
 -- Where a node is in its course: what comes next, which call that makes, and what its answer leaves.
 -- OpenVMS System Manager's Manual, Setting Up and Maintaining Queues, on symbionts. This site's own: STEP, and that a node goes
 -- on until nothing is left to do.
-use Rattle.std.specs.Prelude.{◌≡◌, ◌∷◌, ℕ, Bool, true, false, List, [], drop, Option, None, Some, IsSome, Result, Ok, Err}
+use Rattle.std.specs.Prelude.{◌≡◌, ◌∷◌, ℕ, Bool, true, false, List, [], drop, slice_get, Option, None, Some, IsSome, Result, Ok, Err}
 use Rattle.std.specs.Io.KnownBytes.{Appends}
-use Rattle.qm_kinds.specs.declared.refusal.Refusal.{Refusal}
+use Rattle.qm_history.specs.Common.{Refusal, Duty, Report, Scans, UserLine, steps_asked}
 use Rattle.qm_kinds.specs.declared.refusal.Refusal.TheVariants.{NumbersSpent}
-use Rattle.qm_kinds.specs.declared.work.Duty.{Duty}
-use Rattle.qm_kinds.specs.declared.work.Report.{Report}
 use Rattle.qm_model.specs.Kept.{KeptRun, KeptRuns, known, next_kept, with_duties, without_steps}
 use Rattle.qm_history.specs.declared.call.Answer.{Answer}
 use Rattle.qm_history.specs.declared.call.Answer.TheVariants as answer
 use Rattle.qm_history.specs.declared.call.Call.TheVariants as call
 use Rattle.qm_history.specs.Course.{NodeState, NextTurn, ALine, AStep, AFetch, ALeave, NoTurn, behind_fetch, behind_line, behind_step, next_at, own_stage}
 use Rattle.qm_history.specs.Course as course
-use Rattle.qm_history.specs.Scans.{Scans}
-use Rattle.qm_history.specs.Script.{steps_asked}
 use Rattle.qm_script.specs.ClusterLines.{user_line_view}
-use Rattle.qm_script.specs.Asked.{line_with}
 use Rattle.qm_symb.specs.Device.{Meaning}
 use Rattle.qm_node.specs.declared.course.Asked.{Asked}
 use Rattle.qm_node.specs.declared.course.Next.{Next}
@@ -25,6 +20,7 @@ use Rattle.qm_node.specs.declared.course.Stage.{Stage}
 use Rattle.qm_node.specs.declared.course.Stage.TheVariants as stage
 use Rattle.qm_node.specs.Duties.{AreLearnable}
 use Rattle.qm_node.specs.Steps.{NextSteps}
+use Rattle.qm_line.specs.Asked.{line_with}
 
 -- where a node is in its course, and the report of the step that it made, until that is answered
 pub record HeldNode : Type 0 where
@@ -46,6 +42,10 @@ IsTurn AFetch (Some Fetch) = Unit {0}
 IsTurn ALeave (Some Leave) = Unit {0}
 IsTurn NoTurn None = Unit {0}
 IsTurn turn next = ⊥
+
+-- this comes next by whatever round begins so
+abbrev pub IsTurnBy : Option ℕ → (List ℕ → NextTurn) → Option Next → Type 0
+IsTurnBy first comes turn = (round : List ℕ) → slice_get round 0 ≡ first → IsTurn (comes round) turn
 
 -- this comes next in the node, where it is live, or where it isn't
 pub record ComesNext (n : NodeState) (next : Next) : Type 0 where
@@ -122,12 +122,18 @@ pub record HearsReport (old : HeldNode) (replied : Answer) (new : HeldNode) : Ty
   pub made : old.made ≡ Some told
   pub leaves : new ≡ record { state = behind_step old.state run (drop 1 old.state.kept.round) told replied; made = None }
 
+-- what the node keeps behind the answer of a line, the first one that was left
+abbrev pub node_behind_line : ℕ → NodeState → UserLine → Answer → HeldNode
+node_behind_line turns n l replied =
+    record { state = behind_line turns n (drop 1 n.lines) (steps_asked l.line.sort l.line.text) replied; made = None }
+
+-- what it keeps behind the answer of a fetch of its own
+abbrev pub node_behind_fetch : ℕ → NodeState → Answer → HeldNode
+node_behind_fetch turns n replied = record { state = behind_fetch turns (record n { stage = own_stage n.stage }) replied; made = None }
+
 -- What the node keeps behind the answer of what came next, where so many turns of its own were before that.
 abbrev pub Hears : ℕ → Next → HeldNode → Answer → HeldNode → Type 0
-Hears turns (Line line) old replied new =
-    let l = user_line_view line.now in
-    new ≡ record { state = behind_line turns old.state (drop 1 old.state.lines) (steps_asked l.line.sort l.line.text) replied; made = None }
+Hears turns (Line line) old replied new = new ≡ node_behind_line turns old.state (user_line_view line.now) replied
 Hears turns (Step run) old replied new = HearsReport old replied new
-Hears turns Fetch old replied new =
-    new ≡ record { state = behind_fetch turns (record old.state { stage = own_stage old.state.stage }) replied; made = None }
+Hears turns Fetch old replied new = new ≡ node_behind_fetch turns old.state replied
 Hears turns Leave old replied new = new ≡ record { state = record old.state { stage = course.Over }; made = None }

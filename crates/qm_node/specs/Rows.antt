@@ -1,14 +1,10 @@
 -- The runs that are kept, each with the cursor of its symbiont.
-use Rattle.std.specs.Prelude.{◌≡◌, ℕ, ◌==◌, Bool, false, if◌then◌else◌, List, [], ◌∷◌, map, slice_get, Option, None, Some, IfSome}
+use Rattle.std.specs.Prelude.{◌≡◌, ℕ, ◌==◌, Bool, false, if◌then◌else◌, List, [], ◌∷◌, map, slice_get, Option, None, Some, IfSome, IsSome}
 use Rattle.std.specs.List.{All, AllByRecursion}
-use Rattle.std.specs.Option.{IsSome}
 use Rattle.std.specs.Ordering.{nat_cmp}
-use Rattle.qm_kinds.specs.declared.work.Place.{Place}
-use Rattle.qm_kinds.specs.declared.work.Report.{Report}
+use Rattle.qm_history.specs.Common.{Place, Report, Work, IsInOrder, KeptRun, KeptRuns, run_kept}
 use Rattle.qm_kinds.specs.declared.work.Report.TheVariants.{Done, Mark}
-use Rattle.qm_kinds.specs.declared.work.Work.{Work}
-use Rattle.qm_model.specs.Consistent.{IsInOrder}
-use Rattle.qm_model.specs.Kept.{KeptRun, KeptRuns, run_kept}
+use Rattle.qm_keyed.specs.Places.{StandsAt}
 use Rattle.qm_symb.specs.Symbiont.{IsWithinLimits}
 use Rattle.qm_node.specs.declared.row.Row.{Row}
 
@@ -62,3 +58,15 @@ pub record AreHeld {C : Type 0} (stands : Work → Place → C → Type 0) (rows
 -- the rows in front of a step: no report is to be told
 abbrev pub AreAtPlaces : {C : Type 0} → (Work → Place → C → Type 0) → List (Row C) → Type 0
 AreAtPlaces stands rows = All (IsSound stands None []) rows
+
+-- they stand by number, and no report is to be told
+abbrev pub AreKept : {C : Type 0} → (Work → Place → C → Type 0) → List (Row C) → Type 0
+AreKept stands rows = IsInOrder nat_cmp (λ row. row.run) rows × AreAtPlaces stands rows
+
+-- the run that steps next, if one may, is among the rows
+abbrev pub HasNext : {C : Type 0} → List (Row C) → List ℕ → Type 0
+HasNext rows round = IfSome (slice_get round 0) (λ run. IsSome (run_kept run (all_bare rows)))
+
+-- and stands there
+abbrev pub NextStandsAt : {C : Type 0} → List (Row C) → List ℕ → ℕ → Type 0
+NextStandsAt rows round place = IfSome (slice_get round 0) (λ run. StandsAt nat_cmp (λ row. row.run) run rows place)

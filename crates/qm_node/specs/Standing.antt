@@ -1,8 +1,6 @@
 -- Where a node stands between two turns.
 use Rattle.std.specs.Prelude.{◌≡◌, ℕ, Bool, List, length}
-use Rattle.qm_history.specs.Course.{NodeState}
-use Rattle.qm_history.specs.Scans.{Scans, scans_of}
-use Rattle.qm_history.specs.Visits.{Visit}
+use Rattle.qm_history.specs.Common.{NodeState, Scans, scans_of, Visit}
 
 -- its state, whether it is live, how many turns it has made, and the listings that it has begun in them
 pub record Standing : Type 0 where

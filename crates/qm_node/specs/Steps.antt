@@ -1,7 +1,6 @@
 -- What a step of a run that a node keeps hands over and reports.
 use Rattle.std.specs.Prelude.{◌≡◌, Some}
-use Rattle.qm_kinds.specs.declared.work.Report.{Report}
-use Rattle.qm_model.specs.Kept.{KeptRun, KeptRuns, StepEnd, WentOn, DeviceFailed, CutShort, IsEndOf, next_kept, report_told}
+use Rattle.qm_history.specs.Common.{Report, KeptRun, KeptRuns, StepEnd, WentOn, DeviceFailed, CutShort, IsEndOf, next_kept, report_told}
 use Rattle.qm_symb.specs.Device.{Meaning}
 use Rattle.qm_symb.specs.Symbiont.{GoesOn, Fails}
 

@@ -3,14 +3,11 @@
 -- $GETTIM.
 use Rattle.std.specs.Prelude.{◌≡◌, ℕ, zero, suc, IsTrue, List, [], ◌∷◌, ◌++◌, Option}
 use Rattle.std.specs.Io.KnownBytes.{Appends}
-use Rattle.qm_disk.specs.Faults.{counted}
-use Rattle.qm_model.specs.Kept.{KeptRun}
+use Rattle.qm_history.specs.Common.{counted, KeptRun, Extent, MadeStep, Visit}
 use Rattle.qm_symb.specs.Device.{Meaning, handed_by}
 use Rattle.qm_symb.specs.declared.handed.HandOver.{HandOver}
 use Rattle.qm_history.specs.Blocks.{AreHanded, all_steps}
-use Rattle.qm_history.specs.Course.{Extent, MadeStep}
 use Rattle.qm_history.specs.Readings.{AreReadings}
-use Rattle.qm_history.specs.Visits.{Visit}
 
 -- a count of calls that failed, behind so many more
 abbrev pub counted_often : ℕ → ℕ → ℕ

@@ -1,8 +1,6 @@
 // Whom a node asks.
 ghost use Rattle.std.specs.Prelude.{ℕ};
-ghost use Rattle.qm_history.specs.Askable.{IsAskable};
-ghost use Rattle.qm_history.specs.Calls.{input_of};
-ghost use Rattle.qm_history.specs.ShownDuties.{ShowsDuties};
+ghost use Rattle.qm_history.specs.Common.{IsAskable, input_of, ShowsDuties};
 ghost use Rattle.qm_history.specs.declared.call.Answer.{Answer as AnyAnswer};
 ghost use Rattle.qm_history.specs.declared.call.Call.{Call as AnyCall};
 

@@ -1,21 +1,21 @@
-// What is asked for, as far as it is built, and what is still to be known of it once it is answered.
+// What is asked for, as far as it is built, and of what kind a call is.
 ghost use Rattle.std.specs.Prelude.{◌≡◌, IsTrue};
 ghost use Rattle.qm_history.specs.Calls.{why_of};
-ghost use Rattle.qm_node.specs.Asking.{built, built_call, gist_of, not_built};
+ghost use Rattle.qm_node.specs.Asking.{built, built_call, kind_of_call, not_built};
 
 use crate::course::Asked;
-use crate::living::{Bearing, bearing_of};
+use crate::living::{Presence, presence_of};
 use qm_history::{Call, Why};
 use qm_kinds::{Input, ParseKind};
 use qm_scans::{ScanStep, step_of};
 
-/// What is still to be known of a call once it is answered: the call itself is handed over.
+/// What kind of call it is, as far as that is still to be known once it is answered: the call itself is handed over.
 #[derive(Clone, Copy)]
-pub struct Gist {
+pub struct CallKind {
     /// Why its turn is made.
     pub why: Why,
-    /// What it is to the node that makes it.
-    pub bearing: Bearing,
+    /// What it does to whether the node that makes it is live.
+    pub presence: Presence,
     /// What it does to the listings that the node has begun.
     pub step: ScanStep,
 }
@@ -99,13 +99,13 @@ fn why_of(call: &Call) -> Why
     }
 }
 
-/// What is still to be known of a call once it is answered.
-pub fn gist_of(call: &Call) -> Gist
-    ensures { result ≡ gist_of call.now }
+/// What kind of call it is.
+pub fn kind_of_call(call: &Call) -> CallKind
+    ensures { result ≡ kind_of_call call.now }
 {
-    Gist {
+    CallKind {
         why: why_of(call),
-        bearing: bearing_of(call),
+        presence: presence_of(call),
         step: step_of(call),
     }
 }

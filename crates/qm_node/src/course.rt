@@ -1,8 +1,7 @@
 // What a node does next.
-ghost use Rattle.std.specs.Prelude.{◌≡◌, ℕ, List, slice_get};
 ghost use Rattle.qm_history.specs.Course.{next_line, next_reading, next_working};
 ghost use Rattle.qm_script.specs.ClusterLines.{user_lines_view};
-ghost use Rattle.qm_node.specs.Node.{IsTurn};
+ghost use Rattle.qm_node.specs.Node.{IsTurn, IsTurnBy};
 
 use qm_history::Call;
 use qm_kinds::Moment;
@@ -60,7 +59,7 @@ pub(crate) fn next_reading<'a>(
     first: Option<u64>,
     lines: &'a [UserLine<'a>],
 ) -> Option<Next<'a>>
-    ensures { (round : List ℕ) → slice_get round 0 ≡ first → IsTurn (next_reading live steps round (user_lines_view lines.now)) result }
+    ensures { IsTurnBy first (λ round. next_reading live steps round (user_lines_view lines.now)) result }
 {
     if steps == 0 {
         return next_line(live, lines);
@@ -73,7 +72,7 @@ pub(crate) fn next_reading<'a>(
 
 /// What comes next while a node works: a step, or the next fetch.
 pub(crate) fn next_working<'a>(first: Option<u64>) -> Option<Next<'a>>
-    ensures { (round : List ℕ) → slice_get round 0 ≡ first → IsTurn (next_working round) result }
+    ensures { IsTurnBy first next_working result }
 {
     match first {
         Some(run) => Some(Next::Step(run)),

@@ -19,11 +19,11 @@ mod seat;
 mod turn;
 
 pub use ask::Ask;
-pub use asking::{Gist, gist_of};
+pub use asking::{CallKind, kind_of_call};
 pub use course::{Asked, Next, Stage};
 pub use gate::{Gate, OpenGate, Point};
 pub use laws::{duties_can_be_learned, steps_lower_the_reports_left};
-pub use living::{Bearing, bearing_of, live_behind};
+pub use living::{Presence, live_behind, presence_of};
 pub use living_laws::{answers_tell_who_is_live, nodes_that_left_are_not_live, other_nodes_stay};
 pub use node::NodeState;
 pub use runs::NodeRuns;

@@ -1,13 +1,13 @@
 // Whether a node is live behind a call.
 ghost use Rattle.std.specs.Prelude.{◌≡◌};
-ghost use Rattle.qm_node.specs.Living.{bearing_of, bearing_of_input, live_behind, live_done, live_full};
+ghost use Rattle.qm_node.specs.Living.{presence_of, presence_of_input, live_behind, live_done, live_full};
 
 use qm_history::{Answer, Call};
 use qm_kinds::Input;
 
-/// What a call is to the node that makes it.
+/// What a call does to whether the node that makes it is live.
 #[derive(Clone, Copy, Debug, PartialEq, Eq)]
-pub enum Bearing {
+pub enum Presence {
     /// The node comes up.
     Comes,
     /// It stops.
@@ -18,53 +18,53 @@ pub enum Bearing {
     Stays,
 }
 
-fn bearing_of_input(input: &Input) -> Bearing
-    ensures { result ≡ bearing_of_input input.now }
+fn presence_of_input(input: &Input) -> Presence
+    ensures { result ≡ presence_of_input input.now }
 {
     match input {
-        Input::StartNode => Bearing::Comes,
-        Input::StopNode => Bearing::Stops,
-        _ => Bearing::Stays,
+        Input::StartNode => Presence::Comes,
+        Input::StopNode => Presence::Stops,
+        _ => Presence::Stays,
     }
 }
 
-/// What a call is to the node that makes it.
-pub fn bearing_of(call: &Call) -> Bearing
-    ensures { result ≡ bearing_of call.now }
+/// What a call does to whether the node that makes it is live.
+pub fn presence_of(call: &Call) -> Presence
+    ensures { result ≡ presence_of call.now }
 {
     match call {
-        Call::Line { input, .. } => bearing_of_input(input),
-        Call::Leave => Bearing::Leaves,
-        Call::Fetch { .. } | Call::Report { .. } => Bearing::Stays,
+        Call::Line { input, .. } => presence_of_input(input),
+        Call::Leave => Presence::Leaves,
+        Call::Fetch { .. } | Call::Report { .. } => Presence::Stays,
     }
 }
 
-fn live_done(live: bool, bearing: Bearing) -> bool
-    ensures { result ≡ live_done live bearing }
+fn live_done(live: bool, presence: Presence) -> bool
+    ensures { result ≡ live_done live presence }
 {
-    match bearing {
-        Bearing::Comes => true,
-        Bearing::Stops | Bearing::Leaves => false,
-        Bearing::Stays => live,
+    match presence {
+        Presence::Comes => true,
+        Presence::Stops | Presence::Leaves => false,
+        Presence::Stays => live,
     }
 }
 
-fn live_full(live: bool, bearing: Bearing) -> bool
-    ensures { result ≡ live_full live bearing }
+fn live_full(live: bool, presence: Presence) -> bool
+    ensures { result ≡ live_full live presence }
 {
-    match bearing {
-        Bearing::Leaves => false,
-        Bearing::Comes | Bearing::Stops | Bearing::Stays => live,
+    match presence {
+        Presence::Leaves => false,
+        Presence::Comes | Presence::Stops | Presence::Stays => live,
     }
 }
 
 /// Whether a node is live behind a call that was answered so, where it was live before or not.
-pub fn live_behind(live: bool, bearing: Bearing, answer: &Answer) -> bool
-    ensures { result ≡ live_behind live bearing answer.now }
+pub fn live_behind(live: bool, presence: Presence, answer: &Answer) -> bool
+    ensures { result ≡ live_behind live presence answer.now }
 {
     match answer {
-        Answer::Done { .. } => live_done(live, bearing),
-        Answer::Full { .. } => live_full(live, bearing),
+        Answer::Done { .. } => live_done(live, presence),
+        Answer::Full { .. } => live_full(live, presence),
         Answer::Journal { live, .. } => *live,
         _ => live,
     }

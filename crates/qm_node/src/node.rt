@@ -1,12 +1,11 @@
 // Where a node is in its course, and how it goes on.
 ghost use Rattle.std.specs.Prelude.{◌≡◌, ℕ, [], None, IfOk, IfSome, IsSome, OnErr, OnOk, drop, option_map};
 ghost use Rattle.qm_history.specs.Course.{at_first, behind_fetch, behind_line, goes_on, is_marked, next_at, own_stage, stage_behind, stage_for};
-ghost use Rattle.qm_history.specs.Script.{steps_asked};
+ghost use Rattle.qm_history.specs.Common.{steps_asked, known, next_kept};
 ghost use Rattle.qm_history.specs.Scans.{Scans as Begun};
-ghost use Rattle.qm_model.specs.Kept.{known, next_kept};
 ghost use Rattle.qm_script.specs.ClusterLines.{user_line_view, user_lines_view};
-ghost use Rattle.qm_script.specs.Asked.{line_with};
-ghost use Rattle.qm_node.specs.Node.{CanBeHeard, CanBeMade, ComesNext, Hears, HearsReport, IsCallOf, IsMadeFor, IsTurn, TellsOne, duties_in, ends_recording, is_spent, kept_fetched, kept_heard, stage_fetched, stage_view};
+ghost use Rattle.qm_node.specs.Node.{CanBeHeard, CanBeMade, ComesNext, Hears, HearsReport, IsCallOf, IsMadeFor, IsTurn, TellsOne, duties_in, ends_recording, is_spent, kept_fetched, kept_heard, node_behind_fetch, node_behind_line, stage_fetched, stage_view};
+ghost use Rattle.qm_line.specs.Asked.{line_with};
 
 use crate::course::{Asked, Next, Stage, next_reading, next_working};
 use crate::runs::NodeRuns;
@@ -134,7 +133,8 @@ fn hear_steps<Y: Symbiont>(
 ) -> Result<(), AllocError>
     requires told { runs.old.made ≡ None }
     requires duties { CanBeHeard answer }
-    ensures heard { OnOk result (runs.new ≡ record runs.old { kept = kept_heard turns runs.old.kept steps answer }) }
+    ensures heard { OnOk result (runs.new
+        ≡ record runs.old { kept = kept_heard turns runs.old.kept steps answer }) }
     ensures no_memory { OnErr result (runs.new ≡ runs.old) }
 {
     let Some(steps) = steps else {
@@ -170,8 +170,10 @@ fn hear_duties<Y: Symbiont>(
 ) -> Result<Stage, AllocError>
     requires told { runs.old.made ≡ None }
     requires duties { CanBeHeard answer }
-    ensures heard { OnOk result (runs.new ≡ record runs.old { kept = kept_fetched turns runs.old.kept answer }) }
-    ensures stage { IfOk result (λ stage. stage_view stage ≡ stage_fetched turns runs.old.kept answer) }
+    ensures heard { OnOk result (runs.new
+        ≡ record runs.old { kept = kept_fetched turns runs.old.kept answer }) }
+    ensures stage { IfOk result (λ stage.
+        stage_view stage ≡ stage_fetched turns runs.old.kept answer) }
     ensures no_memory { OnErr result (runs.new ≡ runs.old) }
 {
     match duties_in(answer) {
@@ -214,7 +216,8 @@ impl<'a, Y: Symbiont> NodeState<'a, Y> {
 
     // The runs of which the reader of a line is told: an act alone may ask for them.
     fn known_for(&self, line: &UserLine<'_>) -> Result<Vec<u64>, AllocError>
-        ensures { (now : ℕ) (begun : Begun) → IfOk result (λ runs. line_with (user_line_view line.now) now begun runs.items
+        ensures { (now : ℕ) (begun : Begun) → IfOk result (λ runs.
+            line_with (user_line_view line.now) now begun runs.items
             ≡ line_with (user_line_view line.now) now begun (known self.now.state.kept)) }
     {
         match line.sort {
@@ -230,7 +233,8 @@ impl<'a, Y: Symbiont> NodeState<'a, Y> {
         now: Moment,
         begun: &Scans,
     ) -> Result<Call, AllocError>
-        ensures { IfOk result (λ call. call ≡ Call.Line line.now.number (line_with (user_line_view line.now) now begun.now (known self.now.state.kept))) }
+        ensures { IfOk result (λ call. call ≡ Call.Line line.now.number
+            (line_with (user_line_view line.now) now begun.now (known self.now.state.kept))) }
     {
         let known = self.known_for(line)?;
         // A `?` would move what was read once more.
@@ -265,7 +269,8 @@ impl<'a, Y: Symbiont> NodeState<'a, Y> {
         requires told { self.old.made ≡ None }
         requires next { ComesNext self.old.state next.now }
         requires can { CanBeMade self.old.state next.now }
-        ensures call { IfOk result (λ asked. IsCallOf Y.meaning begun.now next.now self.old.state asked self.new symbiont.old symbiont.new) }
+        ensures call { IfOk result (λ asked.
+            IsCallOf Y.meaning begun.now next.now self.old.state asked self.new symbiont.old symbiont.new) }
         ensures clock { TellsOne (C.told clock.old) (C.told clock.new) result }
         ensures no_memory { OnErr result (self.new ≡ self.old) }
         ensures nothing_handed { OnErr result (symbiont.new ≡ symbiont.old) }
@@ -309,11 +314,8 @@ impl<'a, Y: Symbiont> NodeState<'a, Y> {
     ) -> Result<(), AllocError>
         requires told { self.old.made ≡ None }
         requires duties { CanBeHeard answer }
-        ensures heard { OnOk result (self.new ≡ record {
-          state = behind_line turns self.old.state (drop 1 self.old.state.lines)
-              (steps_asked (user_line_view line.now).line.sort (user_line_view line.now).line.text) answer;
-          made = None;
-        }) }
+        ensures heard { OnOk result (self.new
+            ≡ node_behind_line turns self.old.state (user_line_view line.now) answer) }
         ensures no_memory { OnErr result (self.new ≡ self.old) }
     {
         hear_steps(&mut self.runs, symbiont, turns, steps_of(line), answer)?;
@@ -335,10 +337,7 @@ impl<'a, Y: Symbiont> NodeState<'a, Y> {
     fn hear_fetch(&mut self, turns: u64, answer: Answer, symbiont: &Y) -> Result<(), AllocError>
         requires told { self.old.made ≡ None }
         requires duties { CanBeHeard answer }
-        ensures heard { OnOk result (self.new ≡ record {
-          state = behind_fetch turns (record self.old.state { stage = own_stage self.old.state.stage }) answer;
-          made = None;
-        }) }
+        ensures heard { OnOk result (self.new ≡ node_behind_fetch turns self.old.state answer) }
         ensures no_memory { OnErr result (self.new ≡ self.old) }
     {
         self.stage = hear_duties(&mut self.runs, symbiont, turns, answer)?;

@@ -61,8 +61,10 @@ pub(crate) fn make_step<Y: Symbiont>(
     requires limits { IsWithinLimits row.old.work }
     requires place { Y.stands row.old.work row.old.place row.old.cursor }
     ensures same { row.new ≡ record row.old { cursor = row.new.cursor } }
-    ensures step { IfOk result (λ told. IsStep Y.meaning (bare row.old) told symbiont.old symbiont.new) }
-    ensures next_place { IfOk result (λ told. IfGoesOn told (λ next. Y.stands row.old.work next row.new.cursor)) }
+    ensures step { IfOk result (λ told.
+        IsStep Y.meaning (bare row.old) told symbiont.old symbiont.new) }
+    ensures next_place { IfOk result (λ told.
+        IfGoesOn told (λ next. Y.stands row.old.work next row.new.cursor)) }
     ensures nothing_handed { OnErr result (symbiont.new ≡ symbiont.old) }
     ensures same_place { OnErr result (Y.stands row.old.work row.old.place row.new.cursor) }
 {

@@ -1,17 +1,14 @@
 // The runs that a node keeps between two turns.
-ghost use Rattle.std.specs.Prelude.{◌≡◌, ◌==◌, ◌≤◌, ◌<◌, ◌-◌, ◌+◌, ◌++◌, [], ℕ, Bool, List, Option, IfOk, IfSome, None, Some, OnErr, OnOk, false, true, filter, find, length, map, not, slice_get, vec_len, vec_capacity};
+ghost use Rattle.std.specs.Prelude.{◌≡◌, ◌==◌, ◌≤◌, ◌<◌, ◌-◌, ◌+◌, ◌++◌, [], ℕ, Bool, List, Option, IfOk, IfSome, None, Some, OnErr, OnOk, false, true, filter, find, length, map, not, slice_get, vec_len, vec_capacity, IsSome, option_map};
 ghost use Rattle.std.specs.List.{All, cons_option};
-ghost use Rattle.std.specs.Option.{IsSome, option_map};
 ghost use Rattle.std.specs.Ordering.{nat_cmp};
-ghost use Rattle.qm_kinds.specs.declared.work.Report.{Report};
+ghost use Rattle.qm_history.specs.Common.{Report, IsInOrder};
 ghost use Rattle.qm_kinds.specs.declared.work.Report.TheVariants.{Done, Mark};
-ghost use Rattle.qm_model.specs.Consistent.{IsInOrder};
-ghost use Rattle.qm_model.specs.Kept.{behind_next, kept_after, kept_of, known, next_kept, no_runs, round_of, run_kept, with_duties, without_steps};
-ghost use Rattle.qm_keyed.specs.Places.{StandsAt};
+ghost use Rattle.qm_model.specs.Kept.{behind_next, kept_after, kept_of, known, next_kept, no_runs, round_of, run_kept, without_steps};
 ghost use Rattle.qm_symb.specs.Symbiont.{IsWithinLimits};
 ghost use Rattle.qm_node.specs.Duties.{AreLearnable};
-ghost use Rattle.qm_node.specs.Held.{HeldRuns};
-ghost use Rattle.qm_node.specs.Rows.{AreAtPlaces, AreHeld, IsSound, all_bare, bare, seen};
+ghost use Rattle.qm_node.specs.Held.{HeldRuns, with_learned};
+ghost use Rattle.qm_node.specs.Rows.{AreAtPlaces, AreHeld, AreKept, HasNext, IsSound, NextStandsAt, all_bare, bare, seen};
 ghost use Rattle.qm_node.specs.Steps.{NextSteps};
 
 use crate::row::{Row, make_step};
@@ -82,7 +79,7 @@ impl<Y: Symbiont> NodeRuns<Y> {
     pub fn learn(&mut self, symbiont: &Y, steps: u32, duties: Vec<Duty>) -> Result<(), AllocError>
         requires told { self.old.made ≡ None }
         requires duties { AreLearnable duties.items }
-        ensures ok { OnOk result (self.new ≡ record self.old { kept = with_duties 0 self.old.kept steps duties.items }) }
+        ensures ok { OnOk result (self.new ≡ with_learned 0 steps duties.items self.old) }
         ensures err { OnErr result (self.new ≡ self.old) }
     {
         self.learn_by(symbiont, 0, steps, duties)
@@ -98,7 +95,7 @@ impl<Y: Symbiont> NodeRuns<Y> {
     ) -> Result<(), AllocError>
         requires told { self.old.made ≡ None }
         requires duties { AreLearnable duties.items }
-        ensures ok { OnOk result (self.new ≡ record self.old { kept = with_duties fetch self.old.kept steps duties.items }) }
+        ensures ok { OnOk result (self.new ≡ with_learned fetch steps duties.items self.old) }
         ensures err { OnErr result (self.new ≡ self.old) }
     {
         let mut rows = Vec::with_capacity(self.alloc, duties.len())?;
@@ -144,7 +141,8 @@ impl<Y: Symbiont> NodeRuns<Y> {
         requires told { self.old.made ≡ None }
         requires next { IsSome (next_kept self.old.kept) }
         ensures made { IfOk result (λ told. self.new ≡ record self.old { made = Some told }) }
-        ensures step { IfOk result (λ told. NextSteps Y.meaning self.old.kept told symbiont.old symbiont.new) }
+        ensures step { IfOk result (λ told.
+            NextSteps Y.meaning self.old.kept told symbiont.old symbiont.new) }
         ensures no_memory { OnErr result (self.new ≡ self.old) }
         ensures nothing_handed { OnErr result (symbiont.new ≡ symbiont.old) }
     {
@@ -183,9 +181,9 @@ fn copy_of(report: &Report) -> Report
 // Where the run stands that steps next.
 fn place_of_next<C>(rows: &[Row<C>], round: &[u64]) -> usize
     requires order { IsInOrder nat_cmp (λ row. row.run) rows.now }
-    requires next { IfSome (slice_get round.now 0) (λ run. IsSome (run_kept run (all_bare rows.now))) }
+    requires next { HasNext rows.now round.now }
     requires some { IsSome (slice_get round.now 0) }
-    ensures { IfSome (slice_get round.now 0) (λ run. StandsAt nat_cmp (λ row. row.run) run rows.now result) }
+    ensures { NextStandsAt rows.now round.now result }
 {
     let Ok(place) = place_of(rows, &round[0]) else {
         unreachable!()
@@ -201,11 +199,12 @@ fn step_first<Y: Symbiont>(
 ) -> Result<Report, AllocError>
     requires order { IsInOrder nat_cmp (λ row. row.run) rows.old.items }
     requires each { AreAtPlaces Y.stands rows.old.items }
-    requires next { IfSome (slice_get round.now 0) (λ run. IsSome (run_kept run (all_bare rows.old.items))) }
+    requires next { HasNext rows.old.items round.now }
     requires some { IsSome (slice_get round.now 0) }
     ensures same { all_bare rows.new.items ≡ all_bare rows.old.items }
     ensures order { IsInOrder nat_cmp (λ row. row.run) rows.new.items }
-    ensures sound { IfOk result (λ told. All (IsSound Y.stands (Some told) round.now) rows.new.items) }
+    ensures sound { IfOk result (λ told.
+        All (IsSound Y.stands (Some told) round.now) rows.new.items) }
     ensures step { IfOk result (λ told. (steps : ℕ) →
         NextSteps Y.meaning (seen rows.old.items round.now steps) told symbiont.old symbiont.new) }
     ensures at_places { OnErr result (AreAtPlaces Y.stands rows.new.items) }
@@ -242,7 +241,8 @@ fn settle<Y: Symbiont>(
 
 // The run that made a step goes on from a place, behind the others of the round.
 fn go_on<Y: Symbiont>(rows: &mut Vec<Row<Y::Cursor>>, round: &mut Vec<u64>, next: Place)
-    requires held { (value : List ℕ) × AreHeld Y.stands rows.old.items round.old.items (Some (Mark value next)) }
+    requires held { (value : List ℕ) ×
+        AreHeld Y.stands rows.old.items round.old.items (Some (Mark value next)) }
     ensures held { AreHeld Y.stands rows.new.items round.new.items None }
     ensures settled { (steps : ℕ) (value : List ℕ) →
         seen rows.new.items round.new.items (steps - 1)
@@ -341,14 +341,14 @@ fn move_one<Y: Symbiont>(
     requires limits { IfSome duty.work IsWithinLimits }
     requires room { vec_len rows.old < vec_capacity rows.old }
     ensures shown { all_bare rows.new.items
-        ≡ all_bare rows.old.items ++ cons_option (kept_of fetch (all_bare old.old.items) duty duty.work) [] }
+        ≡ all_bare rows.old.items
+        ++ cons_option (kept_of fetch (all_bare old.old.items) duty duty.work) [] }
     ensures others { (run : ℕ) → (run == duty.run) ≡ false →
         run_kept run (all_bare old.new.items) ≡ run_kept run (all_bare old.old.items) }
-    ensures order { IsInOrder nat_cmp (λ row. row.run) old.new.items }
-    ensures each { AreAtPlaces Y.stands old.new.items }
+    ensures kept { AreKept Y.stands old.new.items }
     ensures moved { AreAtPlaces Y.stands rows.new.items }
-    ensures few { vec_len rows.new ≤ vec_len rows.old + 1 }
-    ensures capacity { vec_capacity rows.new ≡ vec_capacity rows.old }
+    ensures room { (vec_len rows.new ≤ vec_len rows.old + 1)
+        × (vec_capacity rows.new ≡ vec_capacity rows.old) }
 {
     if let Some(row) = take_shown(symbiont, old, fetch, duty) {
         rows.push_reserved(row);

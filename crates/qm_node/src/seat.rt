@@ -1,15 +1,14 @@
 // A node between two turns, and what it has of its own.
-ghost use Rattle.std.specs.Prelude.{◌≡◌, ◌<◌, ◌^◌, true, None, IfOk, IfSome, OnErr, OnOk};
-ghost use Rattle.qm_history.specs.Course.{at_first, next_at};
+ghost use Rattle.std.specs.Prelude.{◌≡◌, ◌<◌, ◌^◌, None, IfOk, IfSome, OnErr, OnOk};
 ghost use Rattle.qm_history.specs.declared.call.Call.{Call as AnyCall};
-ghost use Rattle.qm_history.specs.Scans.{no_scans};
 ghost use Rattle.qm_node.specs.Node.{CanBeHeard, CanBeMade, ComesNext, IsMadeFor, IsTurn, TellsOne};
 ghost use Rattle.qm_script.specs.ClusterLines.{user_lines_view};
-ghost use Rattle.qm_node.specs.Answered.{IsCalled, TakesIn};
-ghost use Rattle.qm_node.specs.Asking.{gist_of};
+ghost use Rattle.qm_node.specs.Answered.{CallsAt, TakesIn};
+ghost use Rattle.qm_node.specs.Asking.{kind_of_call};
 ghost use Rattle.qm_node.specs.Coming.{IsNoStep, IsStepNext};
+ghost use Rattle.qm_node.specs.Seats.{first_seat, next_turn};
 
-use crate::asking::{Gist, built_asked};
+use crate::asking::{CallKind, built_asked};
 use crate::course::{Asked, Next};
 use crate::living::live_behind;
 use crate::node::NodeState;
@@ -53,7 +52,7 @@ impl<'a, Y: Symbiont> Model for Seat<'a, Y> {
 impl<'a, Y: Symbiont> Seat<'a, Y> {
     /// A live node of this name in front of these lines.
     pub fn new(alloc: Global, name: Name, lines: &'a [UserLine<'a>]) -> Seat<'a, Y>
-        ensures { result ≡ record { name = name; node = record { state = at_first (user_lines_view lines.now); made = None }; live = true; count = 0; begun = no_scans } }
+        ensures { result ≡ first_seat name (user_lines_view lines.now) }
     {
         Seat {
             name,
@@ -73,7 +72,7 @@ impl<'a, Y: Symbiont> Seat<'a, Y> {
 
     /// What comes next, if something does.
     pub fn next(&self) -> Option<Next<'a>>
-        ensures next { IsTurn (next_at self.now.live self.now.node.state self.now.node.state.stage) result }
+        ensures next { IsTurn (next_turn self.now) result }
         ensures can { IfSome result (CanBeMade self.now.node.state) }
     {
         self.state.next(self.live)
@@ -81,8 +80,8 @@ impl<'a, Y: Symbiont> Seat<'a, Y> {
 
     /// The step that comes next, if one does.
     pub fn next_step(&self) -> Option<Next<'a>>
-        ensures step { IfSome result (λ next. IsStepNext (next_at self.now.live self.now.node.state self.now.node.state.stage) self.now.node.state next) }
-        ensures none { result ≡ None → IsNoStep (next_at self.now.live self.now.node.state self.now.node.state.stage) }
+        ensures step { IfSome result (IsStepNext (next_turn self.now) self.now.node.state) }
+        ensures none { result ≡ None → IsNoStep (next_turn self.now) }
     {
         match self.next() {
             Some(Next::Step(run)) => Some(Next::Step(run)),
@@ -100,7 +99,7 @@ impl<'a, Y: Symbiont> Seat<'a, Y> {
         requires told { self.old.node.made ≡ None }
         requires next { ComesNext self.old.node.state next.now }
         requires can { CanBeMade self.old.node.state next.now }
-        ensures call { IfOk result (λ asked. IsCalled Y.meaning next.now self.old self.new asked station.old.symbiont station.new.symbiont) }
+        ensures call { IfOk result (CallsAt Y.meaning next.now self.old self.new station.old station.new) }
         ensures clock { TellsOne (C.told station.old.clock) (C.told station.new.clock) result }
         ensures no_memory { OnErr result (self.new ≡ self.old) }
         ensures nothing_handed { OnErr result (station.new.symbiont ≡ station.old.symbiont) }
@@ -115,7 +114,7 @@ impl<'a, Y: Symbiont> Seat<'a, Y> {
     pub(crate) fn take_in(
         &mut self,
         next: &Next<'a>,
-        gist: &Gist,
+        kind: &CallKind,
         answer: Answer,
         symbiont: &Y,
     ) -> Result<(), AllocError>
@@ -124,10 +123,11 @@ impl<'a, Y: Symbiont> Seat<'a, Y> {
         requires made { IsMadeFor next.now self.old.node.made }
         requires duties { CanBeHeard answer }
         requires few { self.old.count < 2 ^ 32 }
-        ensures { (asked : AnyCall) → gist.now ≡ gist_of asked → OnOk result (TakesIn next.now asked answer self.old self.new) }
+        ensures { (asked : AnyCall) → kind.now ≡ kind_of_call asked
+            → OnOk result (TakesIn next.now asked answer self.old self.new) }
     {
-        let live = live_behind(self.live, gist.bearing, &answer);
-        self.begun.hear(&gist.step, &answer);
+        let live = live_behind(self.live, kind.presence, &answer);
+        self.begun.hear(&kind.step, &answer);
         self.state.hear(next, self.turns, answer, symbiont)?;
         self.live = live;
         self.turns += 1;

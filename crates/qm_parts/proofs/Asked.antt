@@ -1,23 +1,15 @@
 -- What runs are asked for, of the entries that they mirror.
-use Rattle.std.proofs.Common.{◌≡◌, ◌∙◌, ℕ, ◌≤◌, ◌==◌, Bool, true, false, ◌&&◌, nat_lt, min, List, [], ◌∷◌, length, get_or, map, count_by, filter, find, cond, Option, None, Some, is_some, ◌<◌, refl, sym, ap, subst, arith}
+use Rattle.std.proofs.Common.{◌≡◌, ◌∙◌, ℕ, ◌≤◌, ◌==◌, Bool, true, false, ◌&&◌, nat_lt, min, List, [], ◌∷◌, length, get_or, map, count_by, filter, find, cond, Option, None, Some, is_some, ◌<◌, refl, sym, ap, subst, arith, IfSome, nat_cmp, bytes_eq}
 use Rattle.std.specs.List.{All, list_any, reduce}
 use Rattle.std.specs.Option.{option_map, option_map_or}
-use Rattle.std.specs.Prelude.{IfSome}
-use Rattle.std.specs.Ordering.{nat_cmp}
-use Rattle.std.specs.Str.{bytes_eq}
 use Rattle.std.proofs.lemmas.Bool.{and_parts, and_from}
 use Rattle.std.proofs.lemmas.Bool.Decides.{nat_tests}
 use Rattle.std.proofs.lemmas.List.{length-map}
 use Rattle.std.proofs.lemmas.List.Sums.{length-filter}
-use Rattle.qm_queues.proofs.FormsFound.{found_all}
-use Rattle.qm_kinds.specs.declared.entry.Entry.{Entry}
-use Rattle.qm_kinds.specs.declared.run.Run.{Run}
-use Rattle.qm_model.specs.Consistent.{IsInOrder}
-use Rattle.qm_model.specs.Find.{entry_numbered, is_among}
-use Rattle.qm_model.specs.Queues.{runs_for}
-use Rattle.qm_model.specs.Standing.{has_run, is_run_on}
+use Rattle.qm_tables.proofs.FormsFound.{found_all}
+use Rattle.qm_model.specs.Common.{Entry, Run, IsInOrder, entry_numbered, is_among, runs_for, has_run, is_run_on}
 use Rattle.qm_model.specs.Stopping.{is_running_in, the_only_one}
-use Rattle.qm_queues.specs.Runs.{run_numbered}
+use Rattle.qm_tables.specs.Runs.{run_numbered}
 use Rattle.qm_parts.specs.Mirror.{Mirrors, is_live_in, is_run_for}
 use Rattle.qm_parts.specs.Nodes.{is_run_on_one}
 use Rattle.qm_parts.proofs.Counts.{any_counted, is_found, count_agree, count_filter, count_map, not_found, none_counted, found_counted, found_same, found_passes, found_in_filter, other_fails, both_le_first, both_le_second, and_swap}

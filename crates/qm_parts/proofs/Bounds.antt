@@ -2,8 +2,7 @@
 use Rattle.std.proofs.Common.{◌≡◌, ◌∙◌, ℕ, zero, suc, ◌+◌, ◌<◌, ◌≤◌, ⊎_elim, cond, List, [], ◌∷◌, ◌++◌, length, get_or, set, Option, None, Some, refl, sym, subst, arith}
 use Rattle.std.proofs.lemmas.Bool.{cases_lt}
 use Rattle.std.proofs.lemmas.List.{get_or_default, get_or-set_same, get_or-set_other, get_or_append_left}
-use Rattle.qm_kinds.specs.declared.entry.Entry.{Entry}
-use Rattle.qm_kinds.specs.declared.queue.Queue.{Queue}
+use Rattle.qm_model.specs.Common.{Entry, Queue}
 use Rattle.qm_parts.specs.Rooms.{leads_to, reach, IsAtMost, AreBounds}
 
 pub at_most_more : (n m : ℕ) (bound : Option ℕ) → n ≤ m → IsAtMost m bound → IsAtMost n bound

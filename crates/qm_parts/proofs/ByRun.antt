@@ -1,25 +1,13 @@
 -- The entries that have runs on a node stand in order of their runs as the table of runs has them.
-use Rattle.std.proofs.Common.{◌≡◌, ◌∙◌, ℕ, ◌+◌, ◌<◌, ◌≤◌, ◌==◌, inl, inr, Bool, true, false, cond, ◌&&◌, nat_lt, List, [], ◌∷◌, get_or, map, count_by, filter, fold, Option, None, Some, unwrap_or, refl, sym, ap, arith}
+use Rattle.std.proofs.Common.{◌≡◌, ◌∙◌, ℕ, ◌+◌, ◌<◌, ◌≤◌, ◌==◌, inl, inr, Bool, true, false, cond, ◌&&◌, nat_lt, List, [], ◌∷◌, get_or, map, count_by, filter, fold, Option, None, Some, unwrap_or, refl, sym, ap, arith, nat_cmp, bytes_eq, Less}
 use Rattle.std.specs.List.{All, cons_option, filter_map}
 use Rattle.std.specs.Option.{option_map_or}
-use Rattle.std.specs.Ordering.{nat_cmp}
-use Rattle.std.specs.Str.{bytes_eq}
-use Rattle.std.specs.declared.cmp.Ordering.TheVariants.{Less}
 use Rattle.std.proofs.lemmas.Bool.{cases_lt}
 use Rattle.std.proofs.lemmas.Bool.Decides.{nat_tests}
 use Rattle.std.proofs.lemmas.List.Elements.{All-cons, All-nil, All-head, All-tail, All-filter}
 use Rattle.std.proofs.lemmas.List.Kept.{AllPairs-filter}
-use Rattle.qm_kinds.specs.declared.entry.Entry.{Entry}
-use Rattle.qm_kinds.specs.declared.entry.EntryState.{EntryState}
-use Rattle.qm_kinds.specs.declared.entry.EntryState.TheVariants.{Pending, Holding, Timed, Running, Aborting, Retained}
-use Rattle.qm_kinds.specs.declared.run.Run.{Run}
+use Rattle.qm_model.specs.Common.{Entry, EntryState, Pending, Holding, Timed, Running, Aborting, Retained, Run, IsInOrder, run_number, by_run, entry_numbered, inserted, run_of, runs_on, is_run_on}
 use Rattle.qm_keyed.proofs.Pairs.{pairs_nil, pairs_cons, pairs_first}
-use Rattle.qm_model.specs.Consistent.{IsInOrder}
-use Rattle.qm_model.specs.Duties.{run_number, by_run}
-use Rattle.qm_model.specs.Find.{entry_numbered}
-use Rattle.qm_model.specs.Inserting.{inserted}
-use Rattle.qm_model.specs.JobStates.{run_of, runs_on}
-use Rattle.qm_model.specs.Standing.{is_run_on}
 use Rattle.qm_model.proofs.InsertLemmas.{all_inserted}
 use Rattle.qm_parts.specs.ByRun.{entry_on}
 use Rattle.qm_parts.specs.Mirror.{Mirrors, run_in_state}

@@ -1,10 +1,6 @@
 -- What the tests find of one entry.
 use Rattle.std.proofs.Common.{◌≡◌, Bool, true, false, cond, ◌&&◌, List, [], ◌∷◌, refl, ap, filter}
-use Rattle.qm_kinds.specs.declared.entry.Entry.{Entry}
-use Rattle.qm_kinds.specs.declared.queue.Queue.{Queue}
-use Rattle.qm_kinds.specs.declared.system.System.{System}
-use Rattle.qm_model.specs.Fitting.{fits, is_of_kind, is_open, is_reached, has_characteristics, has_stock, has_size}
-use Rattle.qm_model.specs.JobStates.{is_pending}
+use Rattle.qm_model.specs.Common.{Entry, Queue, System, fits, is_of_kind, is_open, is_reached, has_characteristics, has_stock, has_size, is_pending}
 
 -- where the queue is open, the tests may be made in another order
 in_order : (a b c d e f g : Bool) → c ≡ true → ((a && b && e && g) && d && f) ≡ (a && b && c && d && e && f && g)

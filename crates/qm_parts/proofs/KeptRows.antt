@@ -1,21 +1,16 @@
 -- Rows that stay kept.
-use Rattle.std.proofs.Common.{◌≡◌, ◌∙◌, ℕ, ◌+◌, ◌-◌, ◌<◌, ◌≤◌, true, false, not, cond, is_some, ⊎_elim, Bool, List, [], ◌∷◌, ◌++◌, length, get_or, set, Option, Some, None, refl, sym, ap, subst, arith}
+use Rattle.std.proofs.Common.{◌≡◌, ◌∙◌, ℕ, ◌+◌, ◌-◌, ◌<◌, ◌≤◌, true, false, not, cond, is_some, ⊎_elim, Bool, List, [], ◌∷◌, ◌++◌, length, get_or, set, Option, Some, None, refl, sym, ap, subst, arith, IfSome, is_lt, bytes_eq}
 use Rattle.std.proofs.lemmas.Bool.{cases_lt}
-use Rattle.std.specs.Prelude.{IfSome}
 use Rattle.std.specs.Cmp.Lexicographic.{texts_ties}
 use Rattle.std.proofs.lemmas.Option.{same_Some}
 use Rattle.qm_keyed.specs.Places.{StandsAt, BelongsAt}
 use Rattle.qm_keyed.proofs.Rows.{passes, fails, find_at, find_none}
-use Rattle.qm_queues.proofs.QueueNames.{name_of}
-use Rattle.std.specs.Ordering.{is_lt}
-use Rattle.std.specs.Str.{bytes_eq}
+use Rattle.qm_tables.proofs.QueueNames.{name_of}
 use Rattle.std.proofs.lemmas.List.{length-append, get_or_append_left, get_or_default, get_or-set_same, get_or-set_other, length-set}
-use Rattle.qm_kinds.specs.declared.queue.Queue.{Queue}
+use Rattle.qm_model.specs.Common.{Queue, name_cmp, queue_named, without_queue}
 use Rattle.qm_match.specs.declared.order.Key.{Key}
-use Rattle.qm_model.specs.Find.{name_cmp, queue_named}
-use Rattle.qm_model.specs.Queues.{without_queue}
 use Rattle.qm_model.proofs.InsertLemmas.{fewer, longer, one_goes}
-use Rattle.qm_queues.specs.Queues.{with_queue_put}
+use Rattle.qm_tables.specs.Queues.{with_queue_put}
 use Rattle.qm_ready.specs.Rows.{Row, key_numbered}
 use Rattle.qm_parts.specs.Ready.{ready_key, IsRowOf, AreRowsOf, AreReady, KeepsRoom, KeepsKeys, AreKept}
 use Rattle.qm_parts.specs.Rooms.{rooms_of, reach, HaveRoom, AreBounds}

@@ -1,21 +1,12 @@
 -- What the runs are once something became of an entry.
-use Rattle.std.proofs.Common.{◌≡◌, ◌∙◌, ℕ, ◌+◌, ◌==◌, Bool, true, false, not, ◌&&◌, nat_lt, cond, List, [], ◌∷◌, ◌++◌, append-nil, get_or, count_by, Option, None, Some, refl, sym, ap, subst, arith}
+use Rattle.std.proofs.Common.{◌≡◌, ◌∙◌, ℕ, ◌+◌, ◌==◌, Bool, true, false, not, ◌&&◌, nat_lt, cond, List, [], ◌∷◌, ◌++◌, append-nil, get_or, count_by, Option, None, Some, refl, sym, ap, subst, arith, option_to_list, MatchOption, IfSome, nat_cmp, eqb-true}
 use Rattle.std.specs.List.{All, cons_option}
-use Rattle.std.specs.Prelude.{option_to_list, MatchOption, IfSome}
 use Rattle.std.specs.Option.{option_map, option_map_or, option_and_then}
-use Rattle.std.specs.Ordering.{nat_cmp}
-use Rattle.std.proofs.lemmas.Bool.{eqb-true}
 use Rattle.std.proofs.lemmas.Bool.Decides.{nat_tests}
 use Rattle.std.proofs.lemmas.List.Elements.{All-head, All-tail, filter_map-append}
-use Rattle.qm_kinds.specs.declared.entry.Entry.{Entry}
-use Rattle.qm_kinds.specs.declared.entry.EntryState.TheVariants.{Pending, Running}
-use Rattle.qm_kinds.specs.declared.run.Run.{Run}
-use Rattle.qm_model.specs.Consistent.{IsInOrder}
-use Rattle.qm_model.specs.Find.{entry_numbered}
-use Rattle.qm_model.specs.JobStates.{run_of}
-use Rattle.qm_model.specs.Standing.{with_entry, has_run, is_executing}
-use Rattle.qm_entries.proofs.Outcomes.{flat_same}
-use Rattle.qm_queues.specs.Runs.{with_run, without_run, new_run}
+use Rattle.qm_model.specs.Common.{Entry, Pending, Running, Run, IsInOrder, entry_numbered, run_of, with_entry, has_run, is_executing}
+use Rattle.qm_tables.proofs.Outcomes.{flat_same}
+use Rattle.qm_tables.specs.Runs.{with_run, without_run, new_run}
 use Rattle.qm_parts.specs.Mirror.{Mirrors, run_of_entry, runs_of}
 use Rattle.qm_parts.proofs.Counts.{one_if, count_cons, count_append, count_inserted, count_agree, count_filter, count_none, none_counted, found_counted, all_fail, same_tests, other_fails, both_le_second, and_swap}
 use Rattle.qm_parts.proofs.Ordered.{once, each_found}

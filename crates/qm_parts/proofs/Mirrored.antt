@@ -1,17 +1,7 @@
 -- What the mirror says of the entries.
-use Rattle.std.proofs.Common.{◌≡◌, ◌∙◌, ℕ, ◌+◌, ◌==◌, Bool, true, false, ◌&&◌, ◌||◌, List, [], ◌∷◌, count_by, get_or, Option, None, Some, refl, sym, ap, arith}
-use Rattle.std.specs.List.{All}
+use Rattle.std.proofs.Common.{◌≡◌, ◌∙◌, ℕ, ◌+◌, ◌==◌, Bool, true, false, ◌&&◌, ◌||◌, List, [], ◌∷◌, count_by, get_or, Option, None, Some, refl, sym, ap, arith, All, bytes_eq}
 use Rattle.std.specs.Option.{option_map_or}
-use Rattle.std.specs.Str.{bytes_eq}
-use Rattle.qm_kinds.specs.declared.entry.Entry.{Entry}
-use Rattle.qm_kinds.specs.declared.entry.EntryState.{EntryState}
-use Rattle.qm_kinds.specs.declared.entry.EntryState.TheVariants.{Pending, Holding, Timed, Running, Aborting, Retained}
-use Rattle.qm_kinds.specs.declared.run.Run.{Run}
-use Rattle.qm_model.specs.Find.{entry_numbered, is_among}
-use Rattle.qm_model.specs.JobStates.{run_of, runs_in, runs_on}
-use Rattle.qm_model.specs.Queues.{runs_for}
-use Rattle.qm_model.specs.Standing.{occupies, is_executing, has_run, is_run_on}
-use Rattle.qm_model.specs.Stopping.{is_running_in}
+use Rattle.qm_model.specs.Common.{Entry, EntryState, Pending, Holding, Timed, Running, Aborting, Retained, Run, entry_numbered, is_among, run_of, runs_in, runs_on, runs_for, occupies, is_executing, has_run, is_run_on, is_running_in}
 use Rattle.qm_parts.specs.Nodes.{is_run_on_one}
 use Rattle.qm_parts.specs.Mirror.{Mirrors, run_in_state, run_of_entry, runs_of, is_live_in, is_run_for}
 use Rattle.qm_parts.proofs.Counts.{one_if, count_cons, count_agree}

@@ -1,22 +1,14 @@
 -- The rows of tables in which one queue got another state, or other settings.
-use Rattle.std.proofs.Common.{◌≡◌, ◌≢◌, ◌∙◌, ℕ, ◌<◌, ◌≤◌, ⊎_elim, Bool, true, false, cond, ◌&&◌, List, length, get_or, set, map, Option, None, Some, refl, sym, ap, subst, arith}
+use Rattle.std.proofs.Common.{◌≡◌, ◌≢◌, ◌∙◌, ℕ, ◌<◌, ◌≤◌, ⊎_elim, Bool, true, false, cond, ◌&&◌, List, length, get_or, set, map, Option, None, Some, refl, sym, ap, subst, arith, option_map, option_and_then, is_eq, bytes_eq}
 use Rattle.std.specs.List.{list_any}
-use Rattle.std.specs.Option.{option_map, option_and_then}
-use Rattle.std.specs.Ordering.{is_eq}
-use Rattle.std.specs.Str.{bytes_eq}
 use Rattle.std.specs.Cmp.Lexicographic.{texts_ties}
 use Rattle.std.proofs.lemmas.Bool.{cases_lt}
 use Rattle.std.proofs.lemmas.List.{get_or_default, get_or-map, get_or-set_same, get_or-set_other, length-map, length-set}
 use Rattle.std.proofs.lemmas.Option.{same_Some}
 use Rattle.std.proofs.lemmas.Slice.Eq.{bytes_eq-Decides}
 use Rattle.qm_keyed.specs.Places.{StandsAt}
-use Rattle.qm_kinds.specs.declared.entry.Entry.{Entry}
-use Rattle.qm_kinds.specs.declared.queue.Queue.{Queue}
-use Rattle.qm_model.specs.Find.{name_cmp, entry_numbered, queue_named}
-use Rattle.qm_model.specs.Fitting.{is_started, passes_on_to}
-use Rattle.qm_model.specs.Kinds.{is_generic}
-use Rattle.qm_model.specs.Standing.{with_queue}
-use Rattle.qm_queues.proofs.QueueNames.{name_of}
+use Rattle.qm_model.specs.Common.{Entry, Queue, name_cmp, entry_numbered, queue_named, is_started, passes_on_to, is_generic, with_queue}
+use Rattle.qm_tables.proofs.QueueNames.{name_of}
 use Rattle.qm_ready.specs.Rows.{Row}
 use Rattle.qm_parts.specs.Ready.{key_where_ready, ready_key, IsRowOf, AreReady, KeepsRoom, LeavesKind}
 use Rattle.qm_renewal.specs.Renewing.{room_of}

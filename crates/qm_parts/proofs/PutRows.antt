@@ -1,10 +1,7 @@
 -- The room of the rows once a queue came or went.
 use Rattle.std.proofs.Common.{◌≡◌, ℕ, ◌+◌, ◌≤◌, Bool, true, false, cond, List, length, get_or, count_by, None, refl, ap, arith}
-use Rattle.qm_kinds.specs.declared.entry.Entry.{Entry}
-use Rattle.qm_kinds.specs.declared.queue.Queue.{Queue}
-use Rattle.qm_model.specs.Find.{queue_named}
-use Rattle.qm_model.specs.Queues.{without_queue}
-use Rattle.qm_queues.specs.Queues.{with_queue_put}
+use Rattle.qm_model.specs.Common.{Entry, Queue, queue_named, without_queue}
+use Rattle.qm_tables.specs.Queues.{with_queue_put}
 use Rattle.qm_ready.specs.Rows.{Row}
 use Rattle.qm_parts.specs.Rooms.{AreMet, CanPut, HaveRoom, is_home, is_one_of, reach, rooms_of}
 use Rattle.qm_parts.specs.Tables.{Tables}

@@ -1,27 +1,14 @@
 -- How many jobs may come to a queue, once something became of entries or queues.
-use Rattle.std.proofs.Common.{◌≡◌, ◌∙◌, ℕ, ◌+◌, ◌<◌, ◌≤◌, Bool, true, false, cond, not, ◌&&◌, ◌||◌, ◌==◌, List, [], ◌∷◌, ◌++◌, length, get_or, take, drop, map, filter, find, count_by, Option, None, Some, refl, sym, ap, subst, arith}
-use Rattle.std.specs.Prelude.{IfSome}
+use Rattle.std.proofs.Common.{◌≡◌, ◌∙◌, ℕ, ◌+◌, ◌<◌, ◌≤◌, Bool, true, false, cond, not, ◌&&◌, ◌||◌, ◌==◌, List, [], ◌∷◌, ◌++◌, length, get_or, take, drop, map, filter, find, count_by, Option, None, Some, refl, sym, ap, subst, arith, IfSome, is_lt, nat_cmp, bytes_eq}
 use Rattle.std.specs.List.{list_any}
 use Rattle.std.specs.Option.{option_map, option_map_or}
-use Rattle.std.specs.Ordering.{is_lt, nat_cmp}
-use Rattle.std.specs.Str.{bytes_eq}
 use Rattle.std.proofs.lemmas.List.{length-map, get_or-map, take-append-drop}
 use Rattle.std.proofs.lemmas.Slice.Eq.{bytes_eq-Decides}
-use Rattle.qm_entries.proofs.Outcomes.{flat_changed, flat_gone}
-use Rattle.qm_kinds.specs.declared.entry.Entry.{Entry}
-use Rattle.qm_kinds.specs.declared.queue.Queue.{Queue}
-use Rattle.qm_kinds.specs.declared.system.System.{System}
+use Rattle.qm_tables.proofs.Outcomes.{flat_changed, flat_gone}
+use Rattle.qm_model.specs.Common.{Entry, Queue, System, IsInOrder, name_cmp, queue_named, entry_numbered, fits, is_of_kind, is_open, is_reached, is_started, has_characteristics, has_stock, has_size, passes_on_to, inserted, is_pending, is_waiting, is_generic, without_queue, with_entry}
 use Rattle.qm_model.proofs.QueueLemmas.{still_named}
-use Rattle.qm_model.specs.Consistent.{IsInOrder}
-use Rattle.qm_model.specs.Find.{name_cmp, queue_named, entry_numbered}
-use Rattle.qm_model.specs.Fitting.{fits, is_of_kind, is_open, is_reached, is_started, has_characteristics, has_stock, has_size, passes_on_to}
-use Rattle.qm_model.specs.Inserting.{inserted}
-use Rattle.qm_model.specs.JobStates.{is_pending, is_waiting}
-use Rattle.qm_model.specs.Kinds.{is_generic}
 use Rattle.qm_model.specs.Merging.{moved_to, waits_in}
-use Rattle.qm_model.specs.Queues.{without_queue}
-use Rattle.qm_model.specs.Standing.{with_entry}
-use Rattle.qm_queues.specs.Queues.{with_queue_put}
+use Rattle.qm_tables.specs.Queues.{with_queue_put}
 use Rattle.qm_parts.specs.Rooms.{targets_of, is_one_of, leads_to, may_come, reach, is_home, HaveRoom}
 use Rattle.qm_parts.specs.Tables.{Tables}
 use Rattle.qm_parts.proofs.Counts.{one_if, count_cons, count_append, count_agree, count_filter, both_le_second}

@@ -1,23 +1,10 @@
 -- Under which numbers keys are ready, once something became of entries or queues.
-use Rattle.std.proofs.Common.{◌≡◌, ◌∙◌, ℕ, ◌<◌, ◌==◌, Bool, true, false, cond, ◌&&◌, List, [], ◌∷◌, ◌++◌, map, find, Option, None, Some, refl, sym, ap, arith}
-use Rattle.std.specs.Prelude.{option_to_list}
-use Rattle.std.specs.List.{All}
-use Rattle.std.specs.Option.{option_map, option_and_then}
+use Rattle.std.proofs.Common.{◌≡◌, ◌∙◌, ℕ, ◌<◌, ◌==◌, Bool, true, false, cond, ◌&&◌, List, [], ◌∷◌, ◌++◌, map, find, Option, None, Some, refl, sym, ap, arith, option_to_list, All, option_map, option_and_then}
 use Rattle.std.proofs.lemmas.Bool.Decides.{nat_tests}
 use Rattle.std.proofs.lemmas.List.Elements.{All-head, All-tail}
-use Rattle.qm_kinds.specs.declared.entry.Entry.{Entry}
-use Rattle.qm_kinds.specs.declared.entry.EntryState.{EntryState}
-use Rattle.qm_kinds.specs.declared.entry.EntryState.TheVariants.{Pending, Holding, Timed, Running, Aborting, Retained}
-use Rattle.qm_kinds.specs.declared.entry.Fate.{Fate}
-use Rattle.qm_kinds.specs.declared.queue.Queue.{Queue}
+use Rattle.qm_model.specs.Common.{Entry, EntryState, Pending, Holding, Timed, Running, Aborting, Retained, Fate, Queue, entry_numbered, is_of_kind, is_open, is_reached, has_characteristics, has_stock, has_size, no_system, is_pending, with_entry, is_running_in, state_with_fate, with_fate, reset_fate, reset_in}
 use Rattle.qm_match.specs.declared.order.Key.{Key}
 use Rattle.qm_match.specs.Keys.{key_of}
-use Rattle.qm_model.specs.Find.{entry_numbered}
-use Rattle.qm_model.specs.Fitting.{is_of_kind, is_open, is_reached, has_characteristics, has_stock, has_size}
-use Rattle.qm_model.specs.Folding.{no_system}
-use Rattle.qm_model.specs.JobStates.{is_pending}
-use Rattle.qm_model.specs.Standing.{with_entry}
-use Rattle.qm_model.specs.Stopping.{is_running_in, state_with_fate, with_fate, reset_fate, reset_in}
 use Rattle.qm_parts.specs.Ready.{key_where_ready, ready_key, without_number}
 use Rattle.qm_parts.specs.Tables.{Tables, with_tables}
 

@@ -1,21 +1,10 @@
 -- Under which numbers keys are ready, once the states of queues changed.
-use Rattle.std.proofs.Common.{◌≡◌, ◌∙◌, ℕ, ◌<◌, Bool, true, false, cond, ◌&&◌, ◌||◌, List, [], ◌∷◌, length, get_or, map, Option, None, Some, refl, sym, ap, subst, arith}
+use Rattle.std.proofs.Common.{◌≡◌, ◌∙◌, ℕ, ◌<◌, Bool, true, false, cond, ◌&&◌, ◌||◌, List, [], ◌∷◌, length, get_or, map, Option, None, Some, refl, sym, ap, subst, arith, bytes_eq}
 use Rattle.std.specs.List.{list_any}
 use Rattle.std.specs.Option.{option_map, option_map_or, option_and_then}
-use Rattle.std.specs.Str.{bytes_eq}
 use Rattle.std.proofs.lemmas.List.{length-map, get_or-map}
-use Rattle.qm_kinds.specs.declared.entry.Entry.{Entry}
-use Rattle.qm_kinds.specs.declared.queue.Queue.{Queue}
-use Rattle.qm_kinds.specs.declared.queue.QueueState.{QueueState}
-use Rattle.qm_kinds.specs.declared.queue.QueueState.TheVariants.{Stopped, Started, Paused, Stopping}
+use Rattle.qm_model.specs.Common.{Entry, Queue, QueueState, Stopped, Started, Paused, Stopping, entry_numbered, queue_named, is_started, is_of_kind, is_open, is_up, is_reached, passes_on_to, has_characteristics, has_stock, has_size, no_system, is_pending, is_generic, occupies, when_idle, state_when_idle}
 use Rattle.qm_match.specs.Keys.{key_of}
-use Rattle.qm_model.specs.Find.{entry_numbered, queue_named}
-use Rattle.qm_model.specs.Fitting.{is_started, is_of_kind, is_open, is_up, is_reached, passes_on_to, has_characteristics, has_stock, has_size}
-use Rattle.qm_model.specs.Folding.{no_system}
-use Rattle.qm_model.specs.JobStates.{is_pending}
-use Rattle.qm_model.specs.Kinds.{is_generic}
-use Rattle.qm_model.specs.Standing.{occupies}
-use Rattle.qm_model.specs.States.{when_idle, state_when_idle}
 use Rattle.qm_ready.specs.Rows.{Row}
 use Rattle.qm_parts.specs.Ready.{key_where_ready, ready_key, IsRowOf, AreReady}
 use Rattle.qm_parts.specs.Tables.{Tables, with_tables}

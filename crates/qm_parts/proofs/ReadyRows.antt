@@ -1,15 +1,6 @@
 -- The rows of tables in which one entry changed.
-use Rattle.std.proofs.Common.{◌≡◌, ◌∙◌, ℕ, ◌<◌, ◌==◌, Bool, true, false, cond, List, [], ◌∷◌, ◌++◌, map, None, Some, refl, sym, ap}
-use Rattle.std.specs.List.{All}
-use Rattle.std.specs.Option.{option_and_then}
-use Rattle.qm_kinds.specs.declared.entry.Entry.{Entry}
-use Rattle.qm_kinds.specs.declared.entry.EntryState.TheVariants.{Running}
-use Rattle.qm_kinds.specs.declared.entry.Fate.{Fate}
-use Rattle.qm_kinds.specs.declared.queue.Queue.{Queue}
-use Rattle.qm_model.specs.Find.{entry_numbered}
-use Rattle.qm_model.specs.JobStates.{is_pending}
-use Rattle.qm_model.specs.Standing.{with_entry}
-use Rattle.qm_model.specs.Stopping.{with_fate, reset_in}
+use Rattle.std.proofs.Common.{◌≡◌, ◌∙◌, ℕ, ◌<◌, ◌==◌, Bool, true, false, cond, List, [], ◌∷◌, ◌++◌, map, None, Some, refl, sym, ap, All, option_and_then}
+use Rattle.qm_model.specs.Common.{Entry, Running, Fate, Queue, entry_numbered, is_pending, with_entry, with_fate, reset_in}
 use Rattle.qm_ready.specs.Rows.{Row}
 use Rattle.qm_parts.specs.Ready.{key_where_ready, ready_key, without_number, AreReady, AreReadyBut}
 use Rattle.qm_parts.specs.Tables.{Tables}

@@ -1,16 +1,8 @@
 -- Rows that have an old key of a job, and what becomes of them.
-use Rattle.std.proofs.Common.{◌≡◌, ◌∙◌, ℕ, ◌<◌, ◌≤◌, ◌==◌, Bool, true, false, cond, List, length, get_or, Option, None, Some, refl, sym, ap, subst, arith}
-use Rattle.std.specs.Prelude.{IfSome}
-use Rattle.std.specs.Option.{option_and_then, option_map}
-use Rattle.qm_kinds.specs.declared.entry.Entry.{Entry}
-use Rattle.qm_kinds.specs.declared.queue.Queue.{Queue}
+use Rattle.std.proofs.Common.{◌≡◌, ◌∙◌, ℕ, ◌<◌, ◌≤◌, ◌==◌, Bool, true, false, cond, List, length, get_or, Option, None, Some, refl, sym, ap, subst, arith, IfSome, option_and_then, option_map}
+use Rattle.qm_model.specs.Common.{Entry, Queue, entry_numbered, fits, no_system, is_pending, with_entry}
 use Rattle.qm_match.specs.declared.order.Key.{Key}
 use Rattle.qm_match.specs.Keys.{key_of}
-use Rattle.qm_model.specs.Find.{entry_numbered}
-use Rattle.qm_model.specs.Fitting.{fits}
-use Rattle.qm_model.specs.Folding.{no_system}
-use Rattle.qm_model.specs.JobStates.{is_pending}
-use Rattle.qm_model.specs.Standing.{with_entry}
 use Rattle.qm_ready.specs.Rows.{Row, key_numbered}
 use Rattle.qm_parts.specs.Ready.{key_where_ready, ready_key, without_number, IsRowOf, IsStale, AreReady, AreReadyBut, AreStale}
 use Rattle.qm_renewal.specs.Renewing.{pending_key}

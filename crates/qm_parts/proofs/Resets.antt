@@ -1,22 +1,12 @@
 -- What becomes of entries whose runs are to be cut short.
-use Rattle.std.proofs.Common.{◌≡◌, ◌∙◌, ℕ, ◌+◌, ◌<◌, ◌≤◌, ◌==◌, Bool, true, false, ◌&&◌, ◌||◌, cond, nat_lt, List, [], ◌∷◌, length, get_or, take, map, count_by, find, Option, Some, refl, sym, ap, arith}
+use Rattle.std.proofs.Common.{◌≡◌, ◌∙◌, ℕ, ◌+◌, ◌<◌, ◌≤◌, ◌==◌, Bool, true, false, ◌&&◌, ◌||◌, cond, nat_lt, List, [], ◌∷◌, length, get_or, take, map, count_by, find, Option, Some, refl, sym, ap, arith, nat_cmp, bytes_eq}
 use Rattle.std.specs.List.{All, cons_option}
 use Rattle.std.specs.Option.{option_map_or}
-use Rattle.std.specs.Ordering.{nat_cmp}
-use Rattle.std.specs.Str.{bytes_eq}
 use Rattle.std.proofs.lemmas.Bool.Decides.{nat_tests}
 use Rattle.std.proofs.lemmas.List.Elements.{All-head, All-tail}
 use Rattle.std.proofs.lemmas.List.Folds.{list_any_more}
-use Rattle.qm_kinds.specs.declared.entry.Entry.{Entry}
-use Rattle.qm_kinds.specs.declared.entry.EntryState.{EntryState}
-use Rattle.qm_kinds.specs.declared.entry.EntryState.TheVariants.{Pending, Holding, Timed, Running, Aborting, Retained}
-use Rattle.qm_kinds.specs.declared.entry.Fate.{Fate}
-use Rattle.qm_kinds.specs.declared.run.Run.{Run}
-use Rattle.qm_entries.proofs.Outcomes.{flat_changed}
-use Rattle.qm_model.specs.Consistent.{IsInOrder}
-use Rattle.qm_model.specs.JobStates.{runs_in}
-use Rattle.qm_model.specs.Standing.{with_entry, occupies}
-use Rattle.qm_model.specs.Stopping.{is_running_in, state_with_fate, with_fate, reset_fate, reset_in}
+use Rattle.qm_model.specs.Common.{Entry, EntryState, Pending, Holding, Timed, Running, Aborting, Retained, Fate, Run, IsInOrder, runs_in, with_entry, occupies, is_running_in, state_with_fate, with_fate, reset_fate, reset_in}
+use Rattle.qm_tables.proofs.Outcomes.{flat_changed}
 use Rattle.qm_parts.specs.Mirror.{Mirrors, run_in_state, run_of_entry, runs_of, has_one_in, reset_by}
 use Rattle.qm_parts.proofs.Counts.{any_counted, count_agree, found_counted}
 use Rattle.qm_parts.proofs.Ordered.{each_found}

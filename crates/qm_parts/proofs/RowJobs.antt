@@ -1,16 +1,8 @@
 -- The row of a queue has just the jobs that fit.
-use Rattle.std.proofs.Common.{◌≡◌, ◌∙◌, ℕ, ◌==◌, Bool, true, false, cond, List, [], ◌∷◌, map, filter, Option, None, Some, refl, sym, subst}
-use Rattle.std.specs.Prelude.{IfSome}
-use Rattle.std.specs.Option.{option_map}
-use Rattle.std.specs.Ordering.{nat_cmp}
-use Rattle.qm_kinds.specs.declared.entry.Entry.{Entry}
-use Rattle.qm_kinds.specs.declared.queue.Queue.{Queue}
-use Rattle.qm_kinds.specs.declared.system.System.{System}
+use Rattle.std.proofs.Common.{◌≡◌, ◌∙◌, ℕ, ◌==◌, Bool, true, false, cond, List, [], ◌∷◌, map, filter, Option, None, Some, refl, sym, subst, IfSome, option_map, nat_cmp}
+use Rattle.qm_model.specs.Common.{Entry, Queue, System, IsInOrder, entry_numbered, fits}
 use Rattle.qm_match.specs.declared.order.Schedule.{Schedule}
 use Rattle.qm_match.specs.Keys.{key_of, schedule_of}
-use Rattle.qm_model.specs.Consistent.{IsInOrder}
-use Rattle.qm_model.specs.Find.{entry_numbered}
-use Rattle.qm_model.specs.Fitting.{fits}
 use Rattle.qm_ready.specs.Rows.{Row, IsRow, key_numbered}
 use Rattle.qm_ready.specs.Jobs as jobs
 use Rattle.qm_parts.specs.Ready.{ready_key, IsRowOf}

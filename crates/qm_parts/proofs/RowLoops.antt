@@ -1,10 +1,8 @@
 -- Rows that are changed one by one.
 use Rattle.std.proofs.Common.{◌≡◌, ◌∙◌, ℕ, ◌+◌, ◌<◌, ◌≤◌, ◌&&◌, ◌==◌, Bool, true, false, cond, List, length, get_or, Option, Some, None, refl, sym, ap, subst, arith}
 use Rattle.std.proofs.lemmas.List.{get_or_default}
-use Rattle.qm_kinds.specs.declared.entry.Entry.{Entry}
-use Rattle.qm_kinds.specs.declared.queue.Queue.{Queue}
+use Rattle.qm_model.specs.Common.{Entry, Queue, entry_numbered}
 use Rattle.qm_match.specs.Keys.{key_of}
-use Rattle.qm_model.specs.Find.{entry_numbered}
 use Rattle.qm_match.specs.declared.order.Key.{Key}
 use Rattle.qm_ready.specs.Rows.{Row, has_key, key_numbered, without}
 use Rattle.qm_parts.specs.Ready.{ready_key, without_number, IsRowOf, AreRowsOf, KeepsRoom}

@@ -1,8 +1,5 @@
 -- The rooms of rows, where rows come, go and change their places with their queues.
-use Rattle.std.proofs.Common.{◌≡◌, ◌∙◌, ℕ, zero, suc, ◌+◌, ◌<◌, ◌≤◌, ⊎_elim, List, [], ◌∷◌, ◌++◌, length, get_or, set, insert, remove, refl, sym, ap, subst, arith}
-use Rattle.std.specs.Ordering.{is_eq, is_lt}
-use Rattle.std.specs.declared.cmp.Ordering.TheVariants.{Equal}
-use Rattle.std.specs.Str.{bytes_eq}
+use Rattle.std.proofs.Common.{◌≡◌, ◌∙◌, ℕ, zero, suc, ◌+◌, ◌<◌, ◌≤◌, ⊎_elim, List, [], ◌∷◌, ◌++◌, length, get_or, set, insert, remove, refl, sym, ap, subst, arith, is_eq, is_lt, Equal, bytes_eq}
 use Rattle.std.specs.Cmp.Lexicographic.{texts_ties, on_texts}
 use Rattle.std.proofs.lemmas.Bool.{cases_lt}
 use Rattle.std.proofs.lemmas.List.{get_or-map, length-map, length-append, map-append, get_or_append_left, get_or-set_same, get_or-set_other, length-set, same_lists}
@@ -10,12 +7,10 @@ use Rattle.std.proofs.lemmas.Slice.Eq.{bytes_eq-Decides}
 use Rattle.std.proofs.lemmas.List.Edits.{length-insert, get_or-insert_below, get_or-insert_at, get_or-insert_above, length-remove, get_or-remove_below, get_or-remove_above}
 use Rattle.qm_keyed.specs.Places.{StandsAt, BelongsAt}
 use Rattle.qm_keyed.proofs.Keys.{Keys, put_is, replaced_is, removed, kept}
-use Rattle.qm_kinds.specs.declared.queue.Queue.{Queue}
+use Rattle.qm_model.specs.Common.{Queue, name_cmp, without_queue}
 use Rattle.qm_match.specs.declared.order.Schedule.TheVariants.{ByNumber}
-use Rattle.qm_model.specs.Find.{name_cmp}
-use Rattle.qm_model.specs.Queues.{without_queue}
-use Rattle.qm_queues.proofs.QueueNames.{name_of}
-use Rattle.qm_queues.specs.Queues.{with_queue_put}
+use Rattle.qm_tables.proofs.QueueNames.{name_of}
+use Rattle.qm_tables.specs.Queues.{with_queue_put}
 use Rattle.qm_ready.specs.Rows.{Row}
 use Rattle.qm_parts.specs.Rooms.{rooms_of, AreMet}
 use Rattle.qm_renewal.specs.Renewing.{room_of}

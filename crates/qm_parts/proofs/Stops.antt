@@ -1,24 +1,13 @@
 -- Queues that are stopped one by one.
-use Rattle.std.proofs.Common.{◌≡◌, ◌∙◌, ℕ, zero, suc, ◌+◌, ◌<◌, ◌≤◌, nat_lt, Bool, false, List, [], ◌∷◌, ◌++◌, length, get_or, set, take, drop, map, refl, sym, ap, arith, add-one}
+use Rattle.std.proofs.Common.{◌≡◌, ◌∙◌, ℕ, zero, suc, ◌+◌, ◌<◌, ◌≤◌, nat_lt, Bool, false, List, [], ◌∷◌, ◌++◌, length, get_or, set, take, drop, map, refl, sym, ap, arith, add-one, bytes_eq, Ordering, Less, Equal, Greater}
 use Rattle.std.specs.Ordering.{ordering_reverse}
-use Rattle.std.specs.Str.{bytes_eq}
-use Rattle.std.specs.declared.cmp.Ordering.{Ordering}
-use Rattle.std.specs.declared.cmp.Ordering.TheVariants.{Less, Equal, Greater}
 use Rattle.std.specs.Cmp.Lexicographic.{nat_list_cmp_total}
 use Rattle.std.proofs.lemmas.List.{get_or_default, take_all, drop_all, append-nil}
-use Rattle.qm_kinds.specs.declared.entry.Entry.{Entry}
-use Rattle.qm_kinds.specs.declared.queue.Queue.{Queue}
-use Rattle.qm_kinds.specs.declared.queue.QueueState.{QueueState}
-use Rattle.qm_kinds.specs.declared.queue.QueueState.TheVariants.{Stopped, Stopping}
-use Rattle.qm_kinds.specs.declared.run.Run.{Run}
+use Rattle.qm_model.specs.Common.{Entry, Queue, QueueState, Stopped, Stopping, Run, IsInOrder, name_cmp, with_queue, occupies, when_idle, state_when_idle}
 use Rattle.qm_keyed.specs.Places.{StandsAt}
-use Rattle.qm_model.specs.Consistent.{IsInOrder}
-use Rattle.qm_model.specs.Find.{name_cmp}
-use Rattle.qm_model.specs.Standing.{with_queue, occupies}
-use Rattle.qm_model.specs.States.{when_idle, state_when_idle}
-use Rattle.qm_queues.specs.Queues.{Kept}
-use Rattle.qm_queues.proofs.QueueNames.{name_of, changed, kept_as}
-use Rattle.qm_queues.specs.Runs.{places_in_use}
+use Rattle.qm_tables.specs.Queues.{Kept}
+use Rattle.qm_tables.proofs.QueueNames.{name_of, changed, kept_as}
+use Rattle.qm_tables.specs.Runs.{places_in_use}
 use Rattle.qm_parts.specs.Mirror.{Mirrors, stopped_unless_used}
 use Rattle.qm_parts.proofs.Counts.{any_counted}
 use Rattle.qm_parts.proofs.Mirrored.{count_as, in_queue}

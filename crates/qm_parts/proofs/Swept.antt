@@ -1,16 +1,8 @@
 -- What a moment and a merge of queues make of entries, and what goes with a queue, leaves the runs.
-use Rattle.std.proofs.Common.{◌≡◌, ◌∙◌, ℕ, Bool, true, false, not, ◌&&◌, ◌||◌, cond, List, [], ◌∷◌, count_by, filter, find, map, nat_le, Option, None, Some, refl, sym, ap}
+use Rattle.std.proofs.Common.{◌≡◌, ◌∙◌, ℕ, Bool, true, false, not, ◌&&◌, ◌||◌, cond, List, [], ◌∷◌, count_by, filter, find, map, nat_le, Option, None, Some, refl, sym, ap, bytes_eq}
 use Rattle.std.specs.Option.{option_map_or}
-use Rattle.std.specs.Str.{bytes_eq}
-use Rattle.qm_kinds.specs.declared.entry.Entry.{Entry}
-use Rattle.qm_kinds.specs.declared.entry.EntryState.{EntryState}
-use Rattle.qm_kinds.specs.declared.entry.EntryState.TheVariants.{Pending, Holding, Timed, Running, Aborting, Retained}
-use Rattle.qm_kinds.specs.declared.run.Run.{Run}
-use Rattle.qm_model.specs.Due.{state_at, is_over, entry_at}
-use Rattle.qm_model.specs.JobStates.{run_of}
+use Rattle.qm_model.specs.Common.{Entry, EntryState, Pending, Holding, Timed, Running, Aborting, Retained, Run, state_at, is_over, entry_at, run_of, runs_for, is_executing, occupies}
 use Rattle.qm_model.specs.Merging.{moved_to, waits_in}
-use Rattle.qm_model.specs.Queues.{runs_for}
-use Rattle.qm_model.specs.Standing.{is_executing, occupies}
 use Rattle.qm_parts.specs.Mirror.{Mirrors, run_in_state, run_of_entry, runs_of}
 
 -- one run more, if there is one

@@ -1,11 +1,6 @@
 -- The entries that have runs on a node, as they are found by their runs.
-use Rattle.std.specs.Prelude.{◌≡◌, ℕ, if◌then◌else◌, List, filter, filter_map, Option, None}
-use Rattle.std.specs.Str.{bytes_eq}
-use Rattle.qm_kinds.specs.declared.entry.Entry.{Entry}
-use Rattle.qm_kinds.specs.declared.run.Run.{Run}
-use Rattle.qm_model.specs.Duties.{by_run}
-use Rattle.qm_model.specs.Find.{entry_numbered}
-use Rattle.qm_model.specs.Standing.{is_run_on}
+use Rattle.std.specs.Prelude.{◌≡◌, ℕ, if◌then◌else◌, List, filter, filter_map, Option, None, bytes_eq}
+use Rattle.qm_model.specs.Common.{Entry, Run, by_run, entry_numbered, is_run_on}
 
 -- the entry of a run that is on the node
 abbrev pub entry_on : List ℕ → List Entry → Run → Option Entry

@@ -1,12 +1,8 @@
 -- The keys that are gathered for a row.
 use Rattle.std.specs.Prelude.{◌≡◌, ◌≤◌, ℕ, false, List, map, filter, count_by, slice_index_or}
-use Rattle.qm_kinds.specs.declared.entry.Entry.{Entry}
-use Rattle.qm_kinds.specs.declared.queue.Queue.{Queue}
-use Rattle.qm_kinds.specs.declared.system.System.{System}
+use Rattle.qm_model.specs.Common.{Entry, Queue, System, fits, is_generic}
 use Rattle.qm_match.specs.Keys.{key_of}
 use Rattle.qm_match.specs.declared.order.Key.{Key}
-use Rattle.qm_model.specs.Fitting.{fits}
-use Rattle.qm_model.specs.Kinds.{is_generic}
 use Rattle.qm_parts.specs.Tables.{Tables, with_tables}
 
 -- no more of these jobs fit the queue than keys have room

@@ -1,17 +1,9 @@
 -- The runs of entries, and when a table of runs mirrors them.
-use Rattle.std.specs.Prelude.{◌≡◌, ℕ, ◌==◌, nat_lt, Bool, false, ◌&&◌, ◌||◌, if◌then◌else◌, List, count_by, filter_map, Option, None, Some}
+use Rattle.std.specs.Prelude.{◌≡◌, ℕ, ◌==◌, nat_lt, Bool, false, ◌&&◌, ◌||◌, if◌then◌else◌, List, count_by, filter_map, Option, None, Some, bytes_eq}
 use Rattle.std.specs.List.{list_any}
 use Rattle.std.specs.Option.{option_map_or}
-use Rattle.std.specs.Str.{bytes_eq}
-use Rattle.qm_kinds.specs.declared.entry.Entry.{Entry}
-use Rattle.qm_kinds.specs.declared.entry.EntryState.{EntryState}
-use Rattle.qm_kinds.specs.declared.entry.EntryState.TheVariants.{Pending, Holding, Timed, Running, Aborting, Retained}
-use Rattle.qm_kinds.specs.declared.queue.Queue.{Queue}
-use Rattle.qm_kinds.specs.declared.run.Run.{Run}
-use Rattle.qm_model.specs.Find.{entry_numbered}
-use Rattle.qm_model.specs.States.{state_when_idle}
-use Rattle.qm_model.specs.Stopping.{is_running_in, reset_in}
-use Rattle.qm_queues.specs.Runs.{places_in_use}
+use Rattle.qm_model.specs.Common.{Entry, EntryState, Pending, Holding, Timed, Running, Aborting, Retained, Queue, Run, entry_numbered, state_when_idle, is_running_in, reset_in}
+use Rattle.qm_tables.specs.Runs.{places_in_use}
 
 -- the run that an entry of this number has in this state, if it has one
 abbrev pub run_in_state : ℕ → EntryState → Option Run

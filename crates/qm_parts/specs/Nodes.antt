@@ -1,11 +1,7 @@
 -- Which nodes are up, and which entries have a run on some of them.
 use Rattle.std.specs.Prelude.{ℕ, Bool, false, List}
 use Rattle.std.specs.Option.{option_map_or}
-use Rattle.qm_kinds.specs.declared.entry.Entry.{Entry}
-use Rattle.qm_kinds.specs.declared.system.Node.{Node}
-use Rattle.qm_model.specs.Find.{is_among}
-use Rattle.qm_model.specs.JobStates.{runs_on}
-use Rattle.qm_model.specs.Losing.{without_node}
+use Rattle.qm_model.specs.Common.{Entry, Node, is_among, runs_on, without_node}
 use Rattle.qm_model.specs.Nodes.{as_up, up_exactly}
 use Rattle.qm_parts.specs.declared.nodes.NodeChange.{NodeChange}
 use Rattle.qm_parts.specs.declared.nodes.NodeChange.TheVariants.{Up, Down, Exactly}

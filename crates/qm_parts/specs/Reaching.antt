@@ -1,10 +1,7 @@
 -- Whether jobs of a home reach a queue.
-use Rattle.std.specs.Prelude.{◌≡◌, ℕ, Bool, false, ◌||◌, List, Option}
+use Rattle.std.specs.Prelude.{◌≡◌, ℕ, Bool, false, ◌||◌, List, Option, bytes_eq}
 use Rattle.std.specs.Option.{option_map_or}
-use Rattle.std.specs.Str.{bytes_eq}
-use Rattle.qm_kinds.specs.declared.queue.Queue.{Queue}
-use Rattle.qm_model.specs.Find.{queue_named}
-use Rattle.qm_model.specs.Fitting.{passes_on_to}
+use Rattle.qm_model.specs.Common.{Queue, queue_named, passes_on_to}
 use Rattle.qm_parts.specs.declared.fitting.Asked.{Asked}
 
 -- the home is the queue itself, or a generic queue that passes jobs on to it

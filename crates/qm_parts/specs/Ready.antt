@@ -1,13 +1,8 @@
 -- The jobs that are ready for a queue, and the rows of their keys.
-use Rattle.std.specs.Prelude.{◌≡◌, ◌<◌, ◌≤◌, ◌+◌, ◌==◌, ℕ, false, if◌then◌else◌, List, length, Option, None, Some, IfSome, slice_index_or}
-use Rattle.std.specs.Option.{option_and_then}
-use Rattle.qm_kinds.specs.declared.entry.Entry.{Entry}
-use Rattle.qm_kinds.specs.declared.queue.Queue.{Queue}
+use Rattle.std.specs.Prelude.{◌≡◌, ◌<◌, ◌≤◌, ◌+◌, ◌==◌, ℕ, false, if◌then◌else◌, List, length, Option, None, Some, IfSome, slice_index_or, option_and_then}
+use Rattle.qm_model.specs.Common.{Entry, Queue, entry_numbered, fits, no_system}
 use Rattle.qm_match.specs.Keys.{key_of, schedule_of}
 use Rattle.qm_match.specs.declared.order.Key.{Key}
-use Rattle.qm_model.specs.Find.{entry_numbered}
-use Rattle.qm_model.specs.Fitting.{fits}
-use Rattle.qm_model.specs.Folding.{no_system}
 use Rattle.qm_ready.specs.Rows.{Row, key_numbered}
 use Rattle.qm_parts.specs.Rooms.{rooms_of, HaveRoom, AreBounds}
 use Rattle.qm_parts.specs.Tables.{Tables, with_tables}

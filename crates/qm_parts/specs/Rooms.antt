@@ -1,11 +1,8 @@
 -- The queues that a job may come to, and the room that their rows have.
-use Rattle.std.specs.Prelude.{◌≡◌, ◌<◌, ◌≤◌, ◌+◌, ℕ, Bool, true, false, ◌||◌, if◌then◌else◌, List, [], length, map, count_by, Option, None, IfSome, slice_index_or}
+use Rattle.std.specs.Prelude.{◌≡◌, ◌<◌, ◌≤◌, ◌+◌, ℕ, Bool, true, false, ◌||◌, if◌then◌else◌, List, [], length, map, count_by, Option, None, IfSome, slice_index_or, bytes_eq}
 use Rattle.std.specs.List.{list_any}
 use Rattle.std.specs.Option.{option_map_or}
-use Rattle.std.specs.Str.{bytes_eq}
-use Rattle.qm_kinds.specs.declared.entry.Entry.{Entry}
-use Rattle.qm_kinds.specs.declared.queue.Queue.{Queue}
-use Rattle.qm_model.specs.Find.{entry_numbered, queue_named}
+use Rattle.qm_model.specs.Common.{Entry, Queue, entry_numbered, queue_named}
 use Rattle.qm_ready.specs.Rows.{Row}
 use Rattle.qm_renewal.specs.Renewing.{room_of}
 use Rattle.qm_parts.specs.Tables.{Tables}

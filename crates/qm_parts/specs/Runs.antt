@@ -1,16 +1,9 @@
 -- What an entry has to do with the runs of the tables.
-use Rattle.std.specs.Prelude.{◌≡◌, ◌<◌, ◌-◌, ℕ, if◌then◌else◌, is_some, false, ◌&&◌, List, find, filter, map, min, Option, None, Some, IfSome, MatchOption}
+use Rattle.std.specs.Prelude.{◌≡◌, ◌<◌, ◌-◌, ℕ, if◌then◌else◌, is_some, false, ◌&&◌, List, find, filter, map, min, Option, None, Some, IfSome, MatchOption, option_map, option_and_then}
 use Rattle.std.specs.List.{list_any, reduce}
-use Rattle.std.specs.Option.{option_map, option_and_then}
-use Rattle.qm_kinds.specs.declared.entry.Entry.{Entry}
-use Rattle.qm_kinds.specs.declared.entry.EntryState.{EntryState}
-use Rattle.qm_kinds.specs.declared.entry.EntryState.TheVariants.{Running}
-use Rattle.qm_kinds.specs.declared.run.Run.{Run}
-use Rattle.qm_model.specs.Find.{entry_numbered}
-use Rattle.qm_model.specs.Standing.{has_run, is_run_on}
-use Rattle.qm_model.specs.Stopping.{is_running_in}
-use Rattle.qm_entries.specs.Changes.{with_changed, with_state}
-use Rattle.qm_queues.specs.Runs.{Begun, run_numbered, with_run, without_run}
+use Rattle.qm_model.specs.Common.{Entry, EntryState, Running, Run, entry_numbered, has_run, is_run_on, is_running_in}
+use Rattle.qm_tables.specs.Changes.{with_changed, with_state}
+use Rattle.qm_tables.specs.Runs.{Begun, run_numbered, with_run, without_run}
 use Rattle.qm_parts.specs.Mirror.{run_of_entry}
 use Rattle.qm_parts.specs.Tables.{Tables}
 

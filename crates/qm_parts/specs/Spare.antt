@@ -1,7 +1,6 @@
 -- The room of what went, and of what comes.
 use Rattle.std.specs.Prelude.{◌≡◌, ◌+◌, ◌-◌, ℕ, if◌then◌else◌, is_some, List, length}
-use Rattle.qm_kinds.specs.declared.queue.Queue.{Queue}
-use Rattle.qm_model.specs.Find.{queue_named}
+use Rattle.qm_model.specs.Common.{Queue, queue_named}
 use Rattle.qm_parts.specs.Tables.{Tables}
 
 -- the room of forms that went is room for others

@@ -1,8 +1,7 @@
 -- What is stopped where no run is left.
 use Rattle.std.specs.Prelude.{◌≡◌, ℕ, List, slice_set, slice_index_or}
-use Rattle.qm_kinds.specs.declared.queue.Queue.{Queue}
-use Rattle.qm_kinds.specs.declared.run.Run.{Run}
-use Rattle.qm_queues.specs.Queues.{Kept}
+use Rattle.qm_model.specs.Common.{Queue, Run}
+use Rattle.qm_tables.specs.Queues.{Kept}
 use Rattle.qm_parts.specs.Mirror.{stopped_unless_used}
 
 -- the queue at a place is stopped, if it is stopping and has none of the runs, and nothing else changes

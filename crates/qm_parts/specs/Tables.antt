@@ -1,11 +1,6 @@
 -- The tables that belong together: what their callers see.
 use Rattle.std.specs.Prelude.{ℕ, List}
-use Rattle.qm_kinds.specs.declared.entry.Entry.{Entry}
-use Rattle.qm_kinds.specs.declared.form.Characteristic.{Characteristic}
-use Rattle.qm_kinds.specs.declared.form.Form.{Form}
-use Rattle.qm_kinds.specs.declared.queue.Queue.{Queue}
-use Rattle.qm_kinds.specs.declared.system.Node.{Node}
-use Rattle.qm_kinds.specs.declared.system.System.{System}
+use Rattle.qm_model.specs.Common.{Entry, Characteristic, Form, Queue, Node, System}
 
 -- the forms, the characteristics and the entries by number, the queues by name, the number of the next run, the timers in order of
 -- their moments, how many more of each have room, and for how many jobs the rows of the queues have room, in their order

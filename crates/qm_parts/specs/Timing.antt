@@ -1,10 +1,8 @@
 -- The timers of the entries of a queue.
-use Rattle.std.specs.Prelude.{ℕ, Bool, false, not, List}
+use Rattle.std.specs.Prelude.{ℕ, Bool, false, not, List, bytes_eq}
 use Rattle.std.specs.Option.{option_map_or}
-use Rattle.std.specs.Str.{bytes_eq}
-use Rattle.qm_kinds.specs.declared.entry.Entry.{Entry}
-use Rattle.qm_model.specs.Find.{entry_numbered}
-use Rattle.qm_timers.specs.Timers.{KeepsNumbers}
+use Rattle.qm_model.specs.Common.{Entry, entry_numbered}
+use Rattle.qm_tables.specs.Timers.{KeepsNumbers}
 use Rattle.qm_parts.specs.Tables.{Tables}
 
 -- the entry of a number has this queue as its home

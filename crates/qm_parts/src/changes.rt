@@ -1,25 +1,13 @@
 // What becomes of the tables, with the rows of ready jobs.
 ghost use Rattle.std.specs.Prelude.{◌≡◌, ◌≤◌, ◌<◌, ◌+◌, ◌-◌, ◌^◌, ◌++◌, ◌∷◌, [], All, None, Some, false, length, map, find, count_by};
 ghost use Rattle.std.specs.Ordering.{nat_cmp};
-ghost use Rattle.qm_kinds.specs.declared.entry.EntryState.TheVariants.{Pending};
-ghost use Rattle.qm_kinds.specs.declared.limits.TheConstants.{END_OF_RUNS, LAST_CHARACTERISTIC};
-ghost use Rattle.qm_model.specs.Characteristics.{is_characteristic_taken};
-ghost use Rattle.qm_model.specs.Consistent.{IsInOrder};
-ghost use Rattle.qm_model.specs.Due.{entry_at};
-ghost use Rattle.qm_model.specs.Find.{entry_numbered};
-ghost use Rattle.qm_model.specs.Forms.{is_form_taken};
-ghost use Rattle.qm_model.specs.Inserting.{with_form, with_characteristic_defined};
-ghost use Rattle.qm_model.specs.JobStates.{run_of};
+ghost use Rattle.qm_model.specs.Common.{Pending, END_OF_RUNS, LAST_CHARACTERISTIC, is_characteristic_taken, IsInOrder, entry_at, entry_numbered, is_form_taken, with_form, with_characteristic_defined, run_of, without_queue, runs_for, with_entry, with_queue, when_idle, with_fate, reset_in};
 ghost use Rattle.qm_model.specs.Merging.{moved_to, waits_in};
-ghost use Rattle.qm_model.specs.Queues.{without_queue, runs_for};
-ghost use Rattle.qm_model.specs.Standing.{with_entry, with_queue};
-ghost use Rattle.qm_model.specs.States.{when_idle};
-ghost use Rattle.qm_model.specs.Stopping.{with_fate, reset_in};
-ghost use Rattle.qm_queues.specs.Forms.{without_form, without_characteristic};
-ghost use Rattle.qm_queues.specs.Queues.{with_queue_put};
-ghost use Rattle.qm_queues.specs.Settings.{with_settings_and_state, with_state};
-ghost use Rattle.qm_entries.specs.Changes.{with_changed};
-ghost use Rattle.qm_entries.specs.Entries.{without_entry, without_home, without_over};
+ghost use Rattle.qm_tables.specs.Forms.{without_form, without_characteristic};
+ghost use Rattle.qm_tables.specs.Queues.{with_queue_put};
+ghost use Rattle.qm_tables.specs.Settings.{with_settings_and_state, with_state};
+ghost use Rattle.qm_tables.specs.Changes.{with_changed};
+ghost use Rattle.qm_tables.specs.Entries.{without_entry, without_home, without_over};
 ghost use Rattle.qm_parts.specs.Runs.{KeepsRun, state_numbered, with_running};
 ghost use Rattle.qm_parts.specs.Spare.{KeepsCharacteristicRoom, KeepsFormRoom, room_with, room_without};
 ghost use Rattle.qm_parts.specs.Rooms.{AreBounds, CanPut, HavePlacesFor, is_home, HasPlacesIfMoved};
@@ -30,7 +18,7 @@ use crate::rooms::{forget_each, raise_each};
 use crate::rows::{close_up, forget_number, make_way, refill_all, refill_for};
 use crate::tables::TableSet;
 use qm_kinds::{Characteristic, Entry, Fate, Form, Moment, Name, Queue, QueueState};
-use qm_queues::Settings;
+use qm_tables::Settings;
 
 // For how many more queues there is room once one of this name was put in: it takes the place of any other of its name.
 fn room_with(tables: &TableSet, name: &Name, room: usize) -> usize

@@ -1,18 +1,14 @@
 // What becomes of entries, and of their runs.
 ghost use Rattle.std.specs.Prelude.{◌≡◌, ◌≤◌, ◌<◌, ◌+◌, ◌-◌, ◌++◌, ◌∷◌, [], All, None, Some};
-ghost use Rattle.qm_kinds.specs.declared.entry.EntryState.TheVariants.{Pending};
-ghost use Rattle.qm_kinds.specs.declared.limits.TheConstants.{END_OF_RUNS};
-ghost use Rattle.qm_model.specs.Find.{entry_numbered};
-ghost use Rattle.qm_model.specs.JobStates.{run_of};
-ghost use Rattle.qm_model.specs.Standing.{with_entry};
-ghost use Rattle.qm_entries.specs.Entries.{without_entry};
+ghost use Rattle.qm_model.specs.Common.{Pending, END_OF_RUNS, entry_numbered, run_of, with_entry};
+ghost use Rattle.qm_tables.specs.Entries.{without_entry};
 ghost use Rattle.qm_parts.specs.Mirror.{run_of_entry};
 ghost use Rattle.qm_parts.specs.Runs.{CanPutRun, CanRestoreRun, EndsRun, KeepsRun, PutsRun, state_numbered, run_room_with, with_running};
 
 use crate::running::see_order;
 use crate::tables::TableSet;
 use qm_kinds::{Entry, EntryState, Name, Run};
-use qm_queues::Runs;
+use qm_tables::Runs;
 
 impl TableSet {
     /// Puts in an entry that has no run, and for which there is room. Its number is greater than all others. It moves no

@@ -1,13 +1,13 @@
 // Jobs that are to be cut short.
 ghost use Rattle.std.specs.Prelude.{◌≡◌, map};
 ghost use Rattle.qm_model.specs.Stopping.{state_with_fate, with_fate, reset_fate, reset_in};
-ghost use Rattle.qm_entries.specs.Changes.{with_changed};
+ghost use Rattle.qm_tables.specs.Changes.{with_changed};
 ghost use Rattle.qm_parts.specs.Mirror.{reset_by};
 
 use crate::running::{is_running_in, see_order};
 use crate::tables::TableSet;
-use qm_entries::EntryTable;
 use qm_kinds::{Entry, EntryState, Fate, Name, Run};
+use qm_tables::EntryTable;
 
 impl TableSet {
     /// The run of the entry of a number, if it has one, is to be cut short, with this fate. It asks a logarithm of the

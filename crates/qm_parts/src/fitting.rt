@@ -1,10 +1,6 @@
 // Whether a queue can start a job, by what the tables hold.
-ghost use Rattle.std.specs.Prelude.{◌≡◌, ◌&&◌, true, Some};
-ghost use Rattle.std.specs.Option.{option_copied};
-ghost use Rattle.std.specs.Str.{bytes_eq};
-ghost use Rattle.qm_kinds.specs.declared.system.System.{System};
-ghost use Rattle.qm_model.specs.Find.{queue_named};
-ghost use Rattle.qm_model.specs.Fitting.{is_open, is_up, is_reached, has_stock, fits, stock_of};
+ghost use Rattle.std.specs.Prelude.{◌≡◌, ◌&&◌, true, Some, option_copied, bytes_eq};
+ghost use Rattle.qm_model.specs.Common.{System, queue_named, is_open, is_up, is_reached, has_stock, fits, stock_of};
 ghost use Rattle.qm_parts.specs.Reaching.{KnowsWay, is_way};
 ghost use Rattle.qm_parts.specs.Tables.{with_tables};
 

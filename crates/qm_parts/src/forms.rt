@@ -1,10 +1,7 @@
 // What becomes of forms and characteristics.
 ghost use Rattle.std.specs.Prelude.{◌≡◌, ◌≤◌, ◌<◌, ◌-◌, false, OnErr, OnOk};
-ghost use Rattle.qm_kinds.specs.declared.limits.TheConstants.{LAST_CHARACTERISTIC};
-ghost use Rattle.qm_model.specs.Characteristics.{is_characteristic_taken};
-ghost use Rattle.qm_model.specs.Forms.{is_form_taken};
-ghost use Rattle.qm_model.specs.Inserting.{with_form, with_characteristic_defined};
-ghost use Rattle.qm_queues.specs.Forms.{without_form, without_characteristic};
+ghost use Rattle.qm_model.specs.Common.{LAST_CHARACTERISTIC, is_characteristic_taken, is_form_taken, with_form, with_characteristic_defined};
+ghost use Rattle.qm_tables.specs.Forms.{without_form, without_characteristic};
 ghost use Rattle.qm_parts.specs.Spare.{KeepsCharacteristicRoom, KeepsFormRoom};
 
 use crate::tables::TableSet;

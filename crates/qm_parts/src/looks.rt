@@ -1,10 +1,7 @@
 // What is seen of the tables and of a queue.
 ghost use Rattle.std.specs.Prelude.{◌≡◌, not};
 ghost use Rattle.std.specs.Ordering.{nat_cmp};
-ghost use Rattle.qm_kinds.specs.declared.system.System.{System};
-ghost use Rattle.qm_model.specs.Consistent.{IsInOrder};
-ghost use Rattle.qm_model.specs.Fitting.{is_open};
-ghost use Rattle.qm_model.specs.Kinds.{is_generic};
+ghost use Rattle.qm_model.specs.Common.{System, IsInOrder, is_open, is_generic};
 ghost use Rattle.qm_parts.specs.Tables.{with_tables};
 
 use crate::fitting::is_open;

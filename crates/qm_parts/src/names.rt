@@ -1,9 +1,7 @@
 // Names of queues, byte by byte: most are short and differ early, so a plain loop tells two apart sooner than a comparison in groups.
-ghost use Rattle.std.specs.Prelude.{◌≡◌};
-ghost use Rattle.std.specs.Str.{bytes_eq};
+ghost use Rattle.std.specs.Prelude.{◌≡◌, bytes_eq};
 ghost use Rattle.qm_keyed.specs.Places.{IsPlace};
-ghost use Rattle.qm_model.specs.Consistent.{IsInOrder};
-ghost use Rattle.qm_model.specs.Find.{name_cmp};
+ghost use Rattle.qm_model.specs.Common.{IsInOrder, name_cmp};
 
 use qm_kinds::{Name, Queue};
 use std::cmp::Ordering;

@@ -1,6 +1,5 @@
 // Nodes come up and go down.
-ghost use Rattle.std.specs.Prelude.{◌≡◌, map, filter, find, count_by};
-ghost use Rattle.std.specs.Option.{option_copied};
+ghost use Rattle.std.specs.Prelude.{◌≡◌, map, filter, find, count_by, option_copied};
 ghost use Rattle.qm_model.specs.Find.{is_among};
 ghost use Rattle.qm_parts.specs.Nodes.{changed_node, is_run_on_one};
 ghost use Rattle.qm_parts.specs.Runs.{least_entry};

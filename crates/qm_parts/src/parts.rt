@@ -1,20 +1,14 @@
 // The tables with the rows of ready jobs, and what is asked of them.
-ghost use Rattle.std.specs.Prelude.{◌≡◌, ◌≤◌, ◌<◌, ℕ, [], length, count_by, slice_index_or, vec_len, vec_capacity, None, find, is_some, IfOk, IfSome, OnErr, OnOk};
+ghost use Rattle.std.specs.Prelude.{◌≡◌, ◌≤◌, ◌<◌, ℕ, [], length, count_by, slice_index_or, vec_len, vec_capacity, None, find, is_some, IfOk, IfSome, OnErr, OnOk, option_copied, option_map};
 ghost use Rattle.std.specs.List.{list_any};
-ghost use Rattle.std.specs.Option.{option_copied, option_map};
 ghost use Rattle.std.specs.Ordering.{nat_cmp};
-ghost use Rattle.qm_model.specs.Consistent.{IsInOrder};
-ghost use Rattle.qm_model.specs.Find.{name_cmp, queue_named, entry_numbered};
-ghost use Rattle.qm_model.specs.Free.{places_taken};
-ghost use Rattle.qm_model.specs.Queues.{runs_for};
-ghost use Rattle.qm_model.specs.Standing.{occupies, has_run};
+ghost use Rattle.qm_model.specs.Common.{IsInOrder, name_cmp, queue_named, entry_numbered, places_taken, runs_for, occupies, has_run, System};
 ghost use Rattle.qm_model.specs.Stopping.{job_meant};
-ghost use Rattle.qm_entries.specs.Boxed.{contents};
-ghost use Rattle.qm_entries.specs.Tags.{tags_of};
+ghost use Rattle.qm_tables.specs.Boxed.{contents};
+ghost use Rattle.qm_tables.specs.Tags.{tags_of};
 ghost use Rattle.qm_parts.specs.ByRun.{AreByRun};
 ghost use Rattle.qm_parts.specs.Runs.{running_in, running_on};
 ghost use Rattle.qm_kinds.specs.declared.queue.Queue.{Queue as AnyQueue};
-ghost use Rattle.qm_kinds.specs.declared.system.System.{System};
 ghost use Rattle.qm_match.specs.Keys.{schedule_of};
 ghost use Rattle.qm_ready.specs.Jobs.{IsRowOf as HasJobs, fitting};
 ghost use Rattle.qm_parts.specs.Ready.{AreKept, HasReady};
@@ -29,8 +23,8 @@ use crate::rows::refill_all;
 use crate::tables::TableSet;
 use qm_kinds::{Characteristic, Entry, Form, Name, Node, Queue, Run};
 use qm_match::Schedule;
-use qm_queues::{FormTable, QueueTable};
 use qm_ready::ReadyRow;
+use qm_tables::{FormTable, QueueTable};
 use std::alloc::{AllocError, Global};
 use std::marker::Model;
 

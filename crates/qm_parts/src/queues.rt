@@ -1,17 +1,15 @@
 // What becomes of queues.
 ghost use Rattle.std.specs.Prelude.{◌≡◌, ◌<◌, length, map};
-ghost use Rattle.qm_model.specs.Queues.{without_queue};
-ghost use Rattle.qm_model.specs.Standing.{with_queue};
-ghost use Rattle.qm_model.specs.States.{when_idle};
-ghost use Rattle.qm_queues.specs.Queues.{with_queue_put};
-ghost use Rattle.qm_queues.specs.Settings.{with_settings_and_state, with_state};
+ghost use Rattle.qm_model.specs.Common.{without_queue, with_queue, when_idle};
+ghost use Rattle.qm_tables.specs.Queues.{with_queue_put};
+ghost use Rattle.qm_tables.specs.Settings.{with_settings_and_state, with_state};
 ghost use Rattle.qm_parts.specs.Mirror.{stopped_unless_used};
 ghost use Rattle.qm_parts.specs.Spare.{room_with, room_without};
 ghost use Rattle.qm_parts.specs.Stopping.{StopsAt};
 
 use crate::tables::TableSet;
 use qm_kinds::{Name, Queue, QueueState};
-use qm_queues::{QueueTable, Runs, Settings};
+use qm_tables::{QueueTable, Runs, Settings};
 
 impl TableSet {
     /// Sets the state of the queue of a name. Where there is none, nothing changes. It asks a logarithm of the queues.

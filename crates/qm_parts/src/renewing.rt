@@ -1,7 +1,6 @@
 // The key of a job that changed goes from its place in each row to its new one, comes, or goes: each row by itself is renewed by
 // `qm_renewal`.
-ghost use Rattle.std.specs.Prelude.{◌≡◌, ◌≤◌, length, IfSome, Some, None};
-ghost use Rattle.std.specs.Option.{option_and_then, option_copied};
+ghost use Rattle.std.specs.Prelude.{◌≡◌, ◌≤◌, length, IfSome, Some, None, option_and_then, option_copied};
 ghost use Rattle.qm_model.specs.Find.{entry_numbered, queue_named};
 ghost use Rattle.qm_parts.specs.Ready.{AreReady, AreStale, IsRowOf, IsStale, KeepsRoom, ready_key};
 ghost use Rattle.qm_parts.specs.Rooms.{HaveRoom, reach, rooms_of};

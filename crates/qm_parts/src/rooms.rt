@@ -1,6 +1,6 @@
 // The room that the rows of ready jobs have.
 ghost use Rattle.std.specs.Prelude.{◌≡◌, ◌≤◌, ◌<◌, ◌+◌, ℕ, true, length, count_by, OnErr, OnOk, slice_index_or, None};
-ghost use Rattle.qm_entries.specs.Boxed.{contents};
+ghost use Rattle.qm_tables.specs.Boxed.{contents};
 ghost use Rattle.qm_parts.specs.Ready.{KeepsKeys};
 ghost use Rattle.qm_parts.specs.Rooms.{AreBounds, HasRoomWhere, IsAtMost, IsRaisedWhere, is_home, is_one_of, leads_to, may_come, reach, targets_of, HasRoomFor, is_named, is_target};
 ghost use Rattle.qm_renewal.specs.Renewing.{room_of};

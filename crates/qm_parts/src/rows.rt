@@ -1,15 +1,10 @@
 // The rows of ready jobs: how one is built anew, and how the key of one job goes.
 ghost use Rattle.std.specs.Prelude.{◌≡◌, ◌≤◌, ◌<◌, ◌+◌, [], ◌∷◌, ◌++◌, length, insert, remove, true, IfSome, Some, None, ℕ, slice_index_or};
-ghost use Rattle.qm_kinds.specs.declared.system.System.{System};
+ghost use Rattle.qm_model.specs.Common.{System, IsInOrder, name_cmp, entry_numbered, queue_named, without_queue, with_queue, is_open, stock_of};
 ghost use Rattle.qm_keyed.specs.Places.{StandsAt};
 ghost use Rattle.qm_kinds.specs.declared.queue.Queue.{Queue as AnyQueue};
-ghost use Rattle.qm_model.specs.Consistent.{IsInOrder};
-ghost use Rattle.qm_model.specs.Find.{name_cmp, entry_numbered, queue_named};
-ghost use Rattle.qm_model.specs.Queues.{without_queue};
-ghost use Rattle.qm_queues.specs.Queues.{with_queue_put};
-ghost use Rattle.qm_model.specs.Standing.{with_queue};
-ghost use Rattle.qm_model.specs.Fitting.{is_open, stock_of};
-ghost use Rattle.qm_entries.specs.Boxed.{contents};
+ghost use Rattle.qm_tables.specs.Queues.{with_queue_put};
+ghost use Rattle.qm_tables.specs.Boxed.{contents};
 ghost use Rattle.qm_ready.specs.Rows.{Row};
 ghost use Rattle.qm_parts.specs.Gathering.{AreKeysOf, HasRoomForKeys, IsExecutionAt};
 ghost use Rattle.qm_parts.specs.Ready.{AreReady, AreReadyBut, IsRowOf, KeepsRoom, LeavesKind, ready_key};

@@ -3,19 +3,15 @@ ghost use Rattle.std.specs.Prelude.{◌≡◌, ◌==◌, find, filter, count_by,
 ghost use Rattle.std.specs.List.{list_any};
 ghost use Rattle.std.specs.Option.{option_copied, option_map, option_map_or};
 ghost use Rattle.std.specs.Ordering.{nat_cmp};
-ghost use Rattle.qm_model.specs.Consistent.{IsInOrder};
-ghost use Rattle.qm_model.specs.Free.{places_taken};
-ghost use Rattle.qm_model.specs.Queues.{runs_for};
-ghost use Rattle.qm_model.specs.Standing.{occupies, has_run};
+ghost use Rattle.qm_model.specs.Common.{IsInOrder, places_taken, runs_for, occupies, has_run};
 ghost use Rattle.qm_model.specs.Stopping.{is_running_in, the_only_one, job_meant};
 ghost use Rattle.qm_parts.specs.ByRun.{AreByRun};
 ghost use Rattle.qm_parts.specs.Mirror.{Mirrors, is_live_in, is_run_for};
 ghost use Rattle.qm_parts.specs.Runs.{least_entry, running_in, running_on};
 
 use crate::tables::TableSet;
-use qm_entries::EntryTable;
 use qm_kinds::{Entry, EntryState, Name, Run};
-use qm_queues::Runs;
+use qm_tables::{EntryTable, Runs};
 
 impl TableSet {
     /// How many places of a queue are taken by runs, aborting or not. It asks a logarithm of the queues that have runs.

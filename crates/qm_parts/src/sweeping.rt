@@ -1,9 +1,8 @@
 // What a moment and a merge of queues make of entries, and what goes with a queue. It concerns no entry that has a run.
 ghost use Rattle.std.specs.Prelude.{◌≡◌, map, find, count_by, None};
-ghost use Rattle.qm_model.specs.Due.{entry_at};
+ghost use Rattle.qm_model.specs.Common.{entry_at, runs_for};
 ghost use Rattle.qm_model.specs.Merging.{moved_to, waits_in};
-ghost use Rattle.qm_model.specs.Queues.{runs_for};
-ghost use Rattle.qm_entries.specs.Entries.{without_home, without_over};
+ghost use Rattle.qm_tables.specs.Entries.{without_home, without_over};
 
 use crate::tables::TableSet;
 use qm_kinds::{Moment, Name};

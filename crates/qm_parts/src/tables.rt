@@ -1,17 +1,13 @@
 // The tables that belong together.
-ghost use Rattle.std.specs.Prelude.{◌≡◌, ◌≤◌, ◌<◌, length, OnErr, OnOk, []};
-ghost use Rattle.std.specs.Option.{option_copied};
+ghost use Rattle.std.specs.Prelude.{◌≡◌, ◌≤◌, ◌<◌, length, OnErr, OnOk, [], option_copied};
 ghost use Rattle.std.specs.Ordering.{nat_cmp};
-ghost use Rattle.qm_model.specs.Consistent.{IsInOrder};
-ghost use Rattle.qm_model.specs.Find.{name_cmp, queue_named, entry_numbered};
-ghost use Rattle.qm_entries.specs.Boxed.{contents};
-ghost use Rattle.qm_entries.specs.Tags.{tags_of};
+ghost use Rattle.qm_model.specs.Common.{IsInOrder, name_cmp, queue_named, entry_numbered};
+ghost use Rattle.qm_tables.specs.Boxed.{contents};
+ghost use Rattle.qm_tables.specs.Tags.{tags_of};
 
 use crate::names::place_of;
-use qm_entries::EntryTable;
 use qm_kinds::{Characteristic, Entry, Form, Name, Node, Queue, Seq};
-use qm_queues::{FormTable, QueueTable, Runs};
-use qm_timers::Timers;
+use qm_tables::{EntryTable, FormTable, QueueTable, Runs, Timers};
 use std::alloc::{AllocError, Global};
 use std::marker::Model;
 

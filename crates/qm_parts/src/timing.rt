@@ -2,13 +2,12 @@
 ghost use Rattle.std.specs.Prelude.{◌≡◌, ◌≤◌, ◌<◌, IfSome, OnErr, OnOk};
 ghost use Rattle.qm_parts.specs.Spare.{KeepsTimerRoom};
 ghost use Rattle.qm_parts.specs.Timing.{KeepsTimersElsewhere, is_at_home};
-ghost use Rattle.qm_timers.specs.Timers.{later_than, with_timer, KeepsLater, SetsMoment};
+ghost use Rattle.qm_tables.specs.Timers.{later_than, with_timer, KeepsLater, SetsMoment};
 
 use crate::parts::Parts;
 use crate::tables::TableSet;
-use qm_entries::EntryTable;
 use qm_kinds::{Moment, Name};
-use qm_timers::Timers;
+use qm_tables::{EntryTable, Timers};
 use std::alloc::AllocError;
 
 // Whether the entry of a number has this queue as its home.

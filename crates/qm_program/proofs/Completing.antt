@@ -1,20 +1,15 @@
 -- Over a sound script and the files of a site a run ends well where nothing failed.
-use Rattle.std.proofs.Common.{◌≡◌, ◌⊎◌, ◌+◌, inl, inr, ⊎_elim, ℕ, Bool, true, false, List, length, take, drop, Option, None, Some, Result, Ok, Err, IsTrue, refl, sym, ◌∙◌, subst}
+use Rattle.std.proofs.Common.{◌≡◌, ◌⊎◌, ◌+◌, inl, inr, ⊎_elim, ℕ, Bool, true, false, List, take, drop, Option, None, Some, Result, Ok, Err, IsTrue, refl, sym, ◌∙◌, subst, take-append-drop}
 use Rattle.std.proofs.Math.Nat.{eq-or-lt_of_le}
-use Rattle.std.proofs.lemmas.List.{take-append-drop}
 use Rattle.qm_acting.specs.Reading.{IsRestoreFault, IsUnlawfulAt}
 use Rattle.qm_store.specs.Loading.{IsLoadFault}
 use Rattle.qm_store.specs.Recorded.{Holds, Recorded}
-use Rattle.qm_disk.specs.Disk.{CrashState}
+use Rattle.qm_history.specs.Common.{CrashState, LineFault, script_lines, UserLine, System}
 use Rattle.qm_glog.specs.declared.fault.OpenFault.TheVariants as opening
-use Rattle.qm_history.specs.Chest.{turns_kept}
-use Rattle.qm_history.specs.Lines.{LineFault, script_lines}
-use Rattle.qm_history.specs.Script.{UserLine}
 use Rattle.qm_history.specs.declared.turn.Turn.{Turn}
-use Rattle.qm_kinds.specs.declared.system.System.{System}
 use Rattle.qm_restore.specs.QueueFile.{Begins, IsFirstUnlawful, IsSiteFile}
 use Rattle.qm_program.specs.Causes.{Counts, HasCause}
-use Rattle.qm_program.specs.Doing.{HasSoundScript, IsWithoutFault}
+use Rattle.qm_program.specs.Doing.{EndsWell, HasSoundScript, IsWithoutFault}
 use Rattle.qm_program.specs.Reading.{AreKnown, AreNoSite, AreSite, HoldCluster, IsFaulty, IsFirstFault}
 use Rattle.qm_program.specs.declared.outcome.End.{End}
 use Rattle.qm_program.specs.declared.outcome.End.TheVariants as ends
@@ -92,10 +87,7 @@ module _ (undamaged : Undamaged) (formatted : Formatted) (one_content : OneConte
         ⊎_elim (λ any. not_first left fault sound (λ s. any.1 (Some s.names))) (λ known. not_for_known before now without fault known.0 known.1 known.2) faulty
 
     module _ (turns : List Turn) (old new : Counts) (source : IsWithoutFault old.source new.source) (sink : IsWithoutFault old.sink new.sink) (disk : IsWithoutFault old.disk new.disk) where
-      abbrev EndsWell : End → Type 0
-      EndsWell end = (end ≡ ends.Ok) ⊎ ((end ≡ ends.NoMemory) ⊎ ((end ≡ ends.HistoryFull) × (length turns ≡ turns_kept)))
-
-      pub ends_well : (end : End) → (end ≡ ends.Usage → ⊥) → HasCause tells files left turns old new end → EndsWell end
+      pub ends_well : (end : End) → (end ≡ ends.Usage → ⊥) → HasCause tells files left turns old new end → EndsWell turns end
       ends_well ends.Ok used cause = inl refl
       ends_well ends.Usage used cause = absurd (used refl)
       ends_well ends.Read used cause = absurd (no_count _ _ source cause.0)

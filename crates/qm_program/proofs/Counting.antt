@@ -4,8 +4,7 @@ use Rattle.std.proofs.lemmas.List.Sums.{sum_by-cons}
 use Rattle.qm_node.specs.Taken.{RoseBy, counted_often}
 use Rattle.qm_cluster.specs.Turning.{IsToldTo}
 use Rattle.qm_node.specs.declared.turn.TurnEnd.TheVariants as stop
-use Rattle.qm_disk.specs.Faults.{counted}
-use Rattle.qm_history.specs.Faults.{faults_told, tells_disk_fault}
+use Rattle.qm_history.specs.Common.{counted, faults_told, tells_disk_fault}
 use Rattle.qm_history.specs.declared.turn.Turn.{Turn}
 use Rattle.qm_cluster.specs.Ends.{some_disk_failed}
 use Rattle.qm_serving.specs.SiteServing.{IsToldBut}

@@ -8,22 +8,16 @@ use Rattle.qm_acting.proofs.Spare.{keeps_on, looks_keep}
 use Rattle.qm_chest.specs.Noting.{StartsEarly}
 use Rattle.qm_node.specs.Sides.{Side}
 use Rattle.qm_node.specs.Taken.{RoseBy}
-use Rattle.qm_disk.specs.Disk.{Meaning, OnlyLooks, TellsFaults}
-use Rattle.qm_glog.specs.declared.fault.OpenFault.{OpenFault}
+use Rattle.qm_history.specs.Common.{Meaning, OnlyLooks, TellsFaults, OpenFault, ServingEnd, faults_told, UserLine, Long, TEXT_LIMIT}
 use Rattle.qm_glog.specs.declared.fault.OpenFault.TheVariants as opening
-use Rattle.qm_history.specs.Ends.{ServingEnd}
 use Rattle.qm_history.specs.Ends as serving
-use Rattle.qm_history.specs.Faults.{faults_told}
 use Rattle.qm_history.specs.Lines.{LineFault, script_bytes, script_lines}
-use Rattle.qm_history.specs.Script.{UserLine}
 use Rattle.qm_history.specs.declared.turn.Turn.{Turn}
 use Rattle.qm_history.specs.declared.world.World.{World}
 use Rattle.qm_disk.specs.Bytes.{LosesAtMost}
-use Rattle.qm_kinds.specs.declared.script.ScriptKind.TheVariants.{Long}
 use Rattle.qm_script.specs.ClusterLines.{ReadsLines}
 use Rattle.qm_script.specs.declared.lines.LinesEnd.{LinesEnd}
 use Rattle.qm_script.specs.declared.lines.LinesEnd.TheVariants as lines
-use Rattle.qm_kinds.specs.declared.limits.TheConstants.{TEXT_LIMIT}
 use Rattle.qm_cluster.specs.Ends.{CountsSink}
 use Rattle.qm_chest.specs.Opening.{IsOpened}
 use Rattle.qm_serving.specs.Serving.{Outside, outside}

@@ -1,8 +1,7 @@
 -- A site whose files are sound is listed.
 use Rattle.std.proofs.Common.{◌≡◌, ◌⊎◌, inr, ℕ, Err, IsErrOf, Vec, Global, refl}
 use Rattle.qm_acting.specs.Reading.{IsRestoreFault}
-use Rattle.qm_disk.specs.Disk.{Meaning, TellsFaults}
-use Rattle.qm_glog.specs.declared.fault.OpenFault.{OpenFault}
+use Rattle.qm_history.specs.Common.{Meaning, TellsFaults, OpenFault}
 use Rattle.qm_glog.specs.declared.fault.OpenFault.TheVariants as opening
 use Rattle.qm_program.specs.Doing.{IsWithoutFault}
 use Rattle.qm_program.specs.Ends.{end_of_opening}

@@ -9,16 +9,9 @@ use Rattle.qm_store.specs.Making.{IsQueueCap, KeepsFile, need_for, texts_of}
 use Rattle.qm_store.specs.Recorded.{Holds, IsAtRest, Recorded, new_database}
 use Rattle.qm_disk.specs.Disk.{CrashState, IsLeft, Meaning}
 use Rattle.qm_disk.proofs.Moments.{started}
-use Rattle.qm_glog.specs.Records.{IsLog}
-use Rattle.qm_history.specs.Accepted.{IsAccepted}
-use Rattle.qm_history.specs.Site.{first_name, site_of}
-use Rattle.qm_history.specs.Start.{HoldRecords, Starts}
+use Rattle.qm_history.specs.Common.{IsLog, IsAccepted, first_name, site_of, HoldRecords, Starts, Record, Node, AreNodes, IsConsistent, first_form, first_queue}
 use Rattle.qm_history.specs.declared.world.World.{World}
 use Rattle.qm_kinds.specs.declared.record.Body.TheVariants as body
-use Rattle.qm_kinds.specs.declared.record.Record.{Record}
-use Rattle.qm_kinds.specs.declared.system.Node.{Node}
-use Rattle.qm_model.specs.Consistent.{AreNodes, IsConsistent}
-use Rattle.qm_model.specs.First.{first_form, first_queue}
 use Rattle.qm_model.specs.Log.{head_of, image_of, row}
 use Rattle.qm_record.specs.Spelling.{HasSpelling, node, record_text}
 use Rattle.qm_program.specs.Making.{BeginsNew, HasNewSite, HoldNewSite, Makes, new_world}
@@ -81,7 +74,7 @@ never_full names rows cap need most proper is same more needs given =
 -- ---- what the files have
 
 -- its rows are an accepted log
-pub site_is_accepted : (names : List (List ℕ)) → IsConsistent (site_of names) → AllByRecursion HasSpelling (image_of (site_of names)) → IsAccepted HasSpelling (image_of (site_of names))
+pub site_is_accepted : (names : List (List ℕ)) → IsConsistent (site_of names) → AllByRecursion HasSpelling (image_of (site_of names)) → IsAccepted (image_of (site_of names))
 site_is_accepted names consistent spelled = record {
   image = site_of names;
   requests = [];
@@ -94,8 +87,8 @@ site_is_accepted names consistent spelled = record {
 -- a database of the rows of a new site is that site
 pub has_new_site : {D : Type 0} (m : Meaning D) (names : List (List ℕ)) (cap : ℕ) (rows : List Record) (disk : D) → rows ≡ image_of (site_of names)
     → ((r : Recorded) (disk : D) (crashed : CrashState) → IsAtRest m r disk → IsLeft (m.may_leave disk) crashed → Holds crashed r)
-    → ((files : CrashState) (r : Recorded) (records : List Record) → Holds files r → r.bodies ≡ map record_text records → IsAccepted HasSpelling records
-    → HoldRecords IsLog HasSpelling record_text files r.says records)
+    → ((files : CrashState) (r : Recorded) (records : List Record) → Holds files r → r.bodies ≡ map record_text records → IsAccepted records
+    → HoldRecords files r.says records)
     → IsConsistent (site_of names) → All HasSpelling rows → IsAtRest m (new_database cap rows) disk → HasNewSite m names cap disk
 has_new_site m names cap rows disk same held by_records consistent spelled rest =
     let image = image_of (site_of names) in
@@ -132,12 +125,12 @@ one_spelling none q r spelled_q spelled_r same = (none r q [] spelled_r spelled_
 abbrev OneWorld : Type 0
 OneWorld =
     (files : CrashState) (w v : World) → ((file : List ℕ) (a b : List (List ℕ)) → IsLog file a → IsLog file b → a ≡ b) → ((q r : Record) → HasSpelling q → HasSpelling r → record_text q ≡ record_text r → q ≡ r)
-    → Starts IsLog HasSpelling record_text files w → Starts IsLog HasSpelling record_text files v → w ≡ v
+    → Starts files w → Starts files v → w ≡ v
 
 pub begins_one : ((file : List ℕ) (a b : List (List ℕ)) → IsLog file a → IsLog file b → a ≡ b)
     → ((a b : Record) (rest : List ℕ) → HasSpelling a → HasSpelling b → record_text b ≡ record_text a ++ rest → (b ≡ a) × (rest ≡ []))
     → OneWorld → (names : List (List ℕ)) (cap : ℕ) (files : CrashState) (w : World) → HoldNewSite names cap files
-    → Starts IsLog HasSpelling record_text files w → w ≡ new_world names
+    → Starts files w → w ≡ new_world names
 begins_one one none world names cap files w holds starts =
     world files w (new_world names) one (one_spelling none) starts (new_begins names cap files holds).starts
 

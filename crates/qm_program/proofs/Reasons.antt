@@ -2,10 +2,8 @@
 use Rattle.std.proofs.Common.{ℕ, List, length}
 use Rattle.qm_serving.specs.ClusterServing.{ServesAtOnce}
 use Rattle.qm_serving.specs.ClusterServing as at_once
-use Rattle.qm_disk.specs.Disk.{Meaning}
-use Rattle.qm_history.specs.Ends.{ServingEnd}
+use Rattle.qm_history.specs.Common.{Meaning, ServingEnd, UserLine}
 use Rattle.qm_history.specs.Ends as serving
-use Rattle.qm_history.specs.Script.{UserLine}
 use Rattle.qm_history.specs.declared.turn.Turn.{Turn}
 use Rattle.qm_cluster.specs.Ends.{CountsDisk, stop_of}
 use Rattle.qm_serving.specs.Serving.{Outside, Serves}

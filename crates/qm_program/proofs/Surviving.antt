@@ -10,28 +10,15 @@ use Rattle.qm_node.specs.Sides.{Side}
 use Rattle.qm_node.specs.Taken.{AreTaken}
 use Rattle.qm_disk.specs.Disk.{CrashState, IsLeft, LeavesOnly, Meaning}
 use Rattle.qm_disk.proofs.Moments.{goes_further, started, weaker}
-use Rattle.qm_glog.specs.Records.{IsLog}
-use Rattle.qm_history.specs.Accepted.{cluster}
+use Rattle.qm_history.specs.Common.{cluster, HoldIn, HoldWithin, HoldWorld, Keeps, Extent, IsCourse, MadeStep, Whole, ServingEnd, after_turns, UserLine, lines_of, Hold, Starts, after_events, visits_of, IsSound, system_in, Record, system_of}
 use Rattle.qm_history.specs.Blocks.{ComeInStretches, IsGiven, all_steps}
 use Rattle.qm_history.specs.Chest.{StandsFor}
-use Rattle.qm_history.specs.Contents.{HoldIn, HoldWithin, HoldWorld, Keeps}
-use Rattle.qm_history.specs.Course.{Extent, IsCourse, MadeStep, Whole}
-use Rattle.qm_history.specs.Ends.{ServingEnd}
 use Rattle.qm_history.specs.Ends as serving
 use Rattle.qm_history.specs.Happening.{acknowledged, events_of}
 use Rattle.qm_history.specs.Leaving.{IsLeftWithin, MayBeLeft, MayBeLeftBehind, MayBeLeftIn}
-use Rattle.qm_history.specs.Legal.{after_turns}
-use Rattle.qm_history.specs.Script.{UserLine, lines_of}
-use Rattle.qm_history.specs.Start.{Hold, Starts}
-use Rattle.qm_history.specs.Step.{after_events}
-use Rattle.qm_history.specs.Visits.{visits_of}
-use Rattle.qm_history.specs.World.{IsSound, system_in}
 use Rattle.qm_history.specs.declared.event.Event.{Event}
 use Rattle.qm_history.specs.declared.turn.Turn.{Turn}
 use Rattle.qm_history.specs.declared.world.World.{World}
-use Rattle.qm_kinds.specs.declared.record.Record.{Record}
-use Rattle.qm_model.specs.Folding.{system_of}
-use Rattle.qm_record.specs.Spelling.{HasSpelling, record_text}
 use Rattle.qm_cluster.specs.Ends.{extent_to, stop_of}
 use Rattle.qm_chest.specs.Noted.{HasNoted}
 use Rattle.qm_chest.specs.Opening.{MayBegin}
@@ -46,15 +33,15 @@ use Rattle.qm_program.specs.declared.outcome.End.TheVariants as ends
 -- ---- what a crash leaves
 
 abbrev pub InMoment : World → List Turn → CrashState → Type 0
-InMoment w turns crashed = HoldIn IsLog HasSpelling record_text crashed w turns
+InMoment w turns crashed = HoldIn crashed w turns
 
 abbrev pub InWorld : World → CrashState → Type 0
-InWorld w crashed = HoldWorld IsLog HasSpelling record_text crashed w
+InWorld w crashed = HoldWorld crashed w
 
 -- The steps of a node's course came in turns, and its devices took the blocks of these steps.
 abbrev pub TakesCourse : {Y : Type 0} → symb.Meaning Y → World → List Turn → ℕ → Side Y → Side Y → Type 0
 TakesCourse y w turns node was now =
-    (extent : Extent) × (lines : List UserLine) × (faults : ℕ) × (course : IsCourse HasSpelling read_built extent w turns node lines faults)
+    (extent : Extent) × (lines : List UserLine) × (faults : ℕ) × (course : IsCourse read_built extent w turns node lines faults)
     × AreTaken y course.steps course.broken was.symbiont now.symbiont
 
 module _ {D Y : Type 0} (m : Meaning D)
@@ -87,20 +74,20 @@ module _ {D Y : Type 0} (m : Meaning D)
       (noted : (opened : D) (names : List (List ℕ)) (lines : List UserLine) (end : ServingEnd) → S old.disk names lines (record old { disk = opened }) new turns end → HasNoted m w opened new.disk turns) where
     -- what stands behind the turns, over the disk that was opened
     abbrev StandsOver : D → Type 0
-    StandsOver opened = LeavesOnly m opened new.disk (InMoment w turns) × Keeps IsLog HasSpelling record_text m (after_turns w turns) new.disk
+    StandsOver opened = LeavesOnly m opened new.disk (InMoment w turns) × Keeps m (after_turns w turns) new.disk
 
-    over : (opened disk : D) (ts : List Turn) → disk ≡ new.disk → ts ≡ turns → LeavesOnly m opened disk (InMoment w ts) → Keeps IsLog HasSpelling record_text m (after_turns w ts) disk
+    over : (opened disk : D) (ts : List Turn) → disk ≡ new.disk → ts ≡ turns → LeavesOnly m opened disk (InMoment w ts) → Keeps m (after_turns w ts) disk
         → StandsOver opened
     over opened disk ts on are moments keeps = (
       subst (λ (d : D). LeavesOnly m opened d (InMoment w turns)) on (subst (λ (t : List Turn). LeavesOnly m opened disk (InMoment w t)) are moments),
-      subst (λ (d : D). Keeps IsLog HasSpelling record_text m (after_turns w turns) d) on
-          (subst (λ (t : List Turn). Keeps IsLog HasSpelling record_text m (after_turns w t) disk) are keeps),
+      subst (λ (d : D). Keeps m (after_turns w turns) d) on
+          (subst (λ (t : List Turn). Keeps m (after_turns w t) disk) are keeps),
     )
 
     noted_stands : (opened : D) → HasNoted m w opened new.disk turns → StandsOver opened
     noted_stands opened has = by (has.stands.stands tells)
       where
-        by : StandsFor IsLog HasSpelling record_text m w opened has.last has.notes → StandsOver opened
+        by : StandsFor m w opened has.last has.notes → StandsOver opened
         by stands = over opened has.last.disk has.last.turns has.disk_is has.turns_are stands.moments stands.keeps
 
     served_stands : (end : ServingEnd) (s : ServesScript m S left turns old new end) → StandsOver s.opened
@@ -125,7 +112,7 @@ module _ {D Y : Type 0} (m : Meaning D)
     ]
 
     -- behind turns that were made
-    kept_behind : (files : CrashState) → Keeps IsLog HasSpelling record_text m (after_turns w turns) new.disk
+    kept_behind : (files : CrashState) → Keeps m (after_turns w turns) new.disk
         → (files ≡ m.seen new.disk) ⊎ IsLeft (m.may_leave new.disk) files → InWorld (after_turns w turns) files
     kept_behind files keeps are = elim are [
       | inl seen ↦ subst (InWorld (after_turns w turns)) (sym seen) keeps.reads
@@ -145,8 +132,8 @@ module _ {D Y : Type 0} (m : Meaning D)
   -- ---- devices
 
   module _ (y : symb.Meaning Y) (w : World) (tells : IsTrue m.tells) (begins : MayBegin m old.disk w)
-      (stretches : (extent : Extent) (node : ℕ) (lines : List UserLine) (faults : ℕ) (h : IsCourse HasSpelling read_built extent w turns node lines faults) → ComeInStretches [] (all_steps h.steps h.broken))
-      (given : (extent : Extent) (node : ℕ) (lines : List UserLine) (faults : ℕ) (h : IsCourse HasSpelling read_built extent w turns node lines faults)
+      (stretches : (extent : Extent) (node : ℕ) (lines : List UserLine) (faults : ℕ) (h : IsCourse read_built extent w turns node lines faults) → ComeInStretches [] (all_steps h.steps h.broken))
+      (given : (extent : Extent) (node : ℕ) (lines : List UserLine) (faults : ℕ) (h : IsCourse read_built extent w turns node lines faults)
       → AllByRecursion (λ (m : MadeStep). IsGiven (visits_of node w turns) m.run) (all_steps h.steps h.broken))
       (node : ℕ) (name : List ℕ) (was now : Side Y) (called : slice_get (cluster (system_in w)) node ≡ Some name)
       (before : slice_get old.sides node ≡ Some was) (after : slice_get new.sides node ≡ Some now)
@@ -223,15 +210,15 @@ module _ {D Y : Type 0} (m : Meaning D) (y : symb.Meaning Y) (turns : List Turn)
 -- ---- what was acknowledged
 
 abbrev pub Begins : Type 0
-Begins = (files : CrashState) (log : List Record) → Hold IsLog HasSpelling record_text files log
-    → (w : World) × Starts IsLog HasSpelling record_text files w × IsSound HasSpelling w × (system_in w ≡ system_of log)
+Begins = (files : CrashState) (log : List Record) → Hold files log
+    → (w : World) × Starts files w × IsSound w × (system_in w ≡ system_of log)
 
 module _ (begins : Begins) where
-  goes_on : (MayStand : List Record → Type 0) (turns : List Turn) (files : CrashState) (log : List Record) → Hold IsLog HasSpelling record_text files log → MayStand log
+  goes_on : (MayStand : List Record → Type 0) (turns : List Turn) (files : CrashState) (log : List Record) → Hold files log → MayStand log
       → HasAcknowledged turns log → GoesOnFrom MayStand turns files
   goes_on MayStand turns files log holds stands has = by (begins files log holds)
     where
-      by : (w : World) × Starts IsLog HasSpelling record_text files w × IsSound HasSpelling w × (system_in w ≡ system_of log) → GoesOnFrom MayStand turns files
+      by : (w : World) × Starts files w × IsSound w × (system_in w ≡ system_of log) → GoesOnFrom MayStand turns files
       by begun = record { log = log; stands = stands; acknowledged = has; world = begun.0; starts = begun.1; sound = begun.2; system = begun.3 }
 
   abbrev StayWithin : Type 0
@@ -244,16 +231,16 @@ module _ (begins : Begins) where
   abbrev AreEvents : Type 0
   AreEvents = (w : World) (turns : List Turn) → after_turns w turns ≡ after_events w (events_of turns)
 
-  left_within : StayWithin → (w : World) (before : List Turn) (t : Turn) (crashed : CrashState) (log : List Record) → Hold IsLog HasSpelling record_text crashed log
+  left_within : StayWithin → (w : World) (before : List Turn) (t : Turn) (crashed : CrashState) (log : List Record) → Hold crashed log
       → MayBeLeft (after_turns w before) t log → GoesOnWithin w before t crashed
   left_within stay w before t crashed log holds left =
       goes_on (MayBeLeft (after_turns w before) t) before crashed log holds left (λ some e others r is noted. stay w before t log some e others r left is noted)
 
-  pub goes_on_within : StayWithin → (w : World) (before : List Turn) (t : Turn) (crashed : CrashState) → HoldWithin IsLog HasSpelling record_text crashed (after_turns w before) t
+  pub goes_on_within : StayWithin → (w : World) (before : List Turn) (t : Turn) (crashed : CrashState) → HoldWithin crashed (after_turns w before) t
       → GoesOnWithin w before t crashed
   goes_on_within stay w before t crashed held = left_within stay w before t crashed held.log held.holds held.left
 
-  left_behind : StayBehind → AreEvents → (w : World) (turns : List Turn) (crashed : CrashState) (log : List Record) → Hold IsLog HasSpelling record_text crashed log
+  left_behind : StayBehind → AreEvents → (w : World) (turns : List Turn) (crashed : CrashState) (log : List Record) → Hold crashed log
       → MayBeLeftBehind (after_turns w turns) log → GoesOnBehind w turns crashed
   left_behind stay are_events w turns crashed log holds left = goes_on (MayBeLeftBehind (after_turns w turns)) turns crashed log holds left has
     where
@@ -268,14 +255,14 @@ module _ (begins : Begins) where
           let events : after_turns w turns ≡ after_events w (some ++ e ∷ others) = are_events w turns ∙ ap (after_events w) is in
           in_log (after_turns w turns) r left (subst (λ (v : World). Contains v.log r) (sym events) (stay w some e others r noted))
 
-  pub goes_on_behind : StayBehind → AreEvents → (w : World) (turns : List Turn) (crashed : CrashState) → HoldWorld IsLog HasSpelling record_text crashed (after_turns w turns)
+  pub goes_on_behind : StayBehind → AreEvents → (w : World) (turns : List Turn) (crashed : CrashState) → HoldWorld crashed (after_turns w turns)
       → GoesOnBehind w turns crashed
   goes_on_behind stay are_events w turns crashed held = left_behind stay are_events w turns crashed held.log held.holds held.left
 
   -- at some moment
   pub goes_on_in : StayWithin → StayBehind → AreEvents
       → ((w : World) (turns : List Turn) (log : List Record) → MayBeLeftIn w turns log → IsLeftWithin w turns log ⊎ MayBeLeftBehind (after_turns w turns) log)
-      → (w : World) (turns : List Turn) (crashed : CrashState) → HoldIn IsLog HasSpelling record_text crashed w turns → GoesOnIn w turns crashed
+      → (w : World) (turns : List Turn) (crashed : CrashState) → HoldIn crashed w turns → GoesOnIn w turns crashed
   goes_on_in within behind are_events moment w turns crashed held = elim (moment w turns held.log held.left) [
     | inl at ↦ inl (at.before, at.turn, at.behind, at.turns_are, left_within within w at.before at.turn crashed held.log held.holds at.left)
     | inr left ↦ inr (left_behind behind are_events w turns crashed held.log held.holds left)

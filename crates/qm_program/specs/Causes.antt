@@ -2,14 +2,10 @@
 use Rattle.std.specs.Prelude.{◌≡◌, ◌⊎◌, ◌<◌, ℕ, Bool, List, [], length, Option, IsTrue}
 use Rattle.qm_acting.specs.Reading.{IsRestoreFault}
 use Rattle.qm_node.specs.Taken.{RoseBy}
-use Rattle.qm_disk.specs.Disk.{CrashState}
+use Rattle.qm_history.specs.Common.{CrashState, turns_kept, ServingEnd, faults_told, counted}
 use Rattle.qm_glog.specs.declared.fault.OpenFault.TheVariants as opening
-use Rattle.qm_history.specs.Chest.{turns_kept}
-use Rattle.qm_history.specs.Ends.{ServingEnd}
 use Rattle.qm_history.specs.Ends as serving
-use Rattle.qm_history.specs.Faults.{faults_told}
 use Rattle.qm_history.specs.declared.turn.Turn.{Turn}
-use Rattle.qm_disk.specs.Faults.{counted}
 use Rattle.qm_cluster.specs.Ends.{EndsBy, IsUndamaged}
 use Rattle.qm_program.specs.Reading.{IsFaulty}
 use Rattle.qm_program.specs.declared.outcome.End.{End}
@@ -20,6 +16,9 @@ pub record Counts : Type 0 where
   pub source : ℕ
   pub sink : ℕ
   pub disk : ℕ
+
+abbrev pub counts : ℕ → ℕ → ℕ → Counts
+counts source sink disk = record { source = source; sink = sink; disk = disk }
 
 -- The disk failed so often as turns tell, which is once at least; or once, where the files were made or opened.
 abbrev pub DiskFails : List Turn → ℕ → ℕ → Type 0

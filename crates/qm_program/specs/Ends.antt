@@ -5,14 +5,11 @@ use Rattle.qm_program.specs.declared.outcome.End.{End}
 use Rattle.qm_program.specs.declared.outcome.End.TheVariants as ends
 use Rattle.qm_glog.specs.declared.fault.MakeFault.{MakeFault}
 use Rattle.qm_glog.specs.declared.fault.MakeFault.TheVariants as init
-use Rattle.qm_glog.specs.declared.fault.OpenFault.{OpenFault}
+use Rattle.qm_history.specs.Common.{OpenFault, ServingEnd, LineFault, script_lines, Long}
 use Rattle.qm_glog.specs.declared.fault.OpenFault.TheVariants as opening
-use Rattle.qm_history.specs.Ends.{ServingEnd}
 use Rattle.qm_history.specs.Ends as serving
-use Rattle.qm_history.specs.Lines.{LineFault, script_lines}
 use Rattle.qm_disk.specs.declared.io.whole.ReadEnd.{ReadEnd}
 use Rattle.qm_disk.specs.declared.io.whole.ReadEnd.TheVariants as reading
-use Rattle.qm_kinds.specs.declared.script.ScriptKind.TheVariants.{Long}
 use Rattle.qm_script.specs.declared.lines.LinesEnd.{LinesEnd}
 use Rattle.qm_script.specs.declared.lines.LinesEnd.TheVariants as lines
 

@@ -5,13 +5,8 @@ use Rattle.std.specs.Io.KnownBytes.{Appends, Keeps}
 use Rattle.qm_store.specs.Making.{KeepsFile}
 use Rattle.qm_store.specs.declared.files.TheConstants.{FIRST_QUEUE_FILE}
 use Rattle.qm_disk.specs.Disk.{CrashState, IsLeft, Meaning}
-use Rattle.qm_glog.specs.Records.{IsLog}
-use Rattle.qm_history.specs.Site.{site_of}
-use Rattle.qm_history.specs.Start.{HoldRecords, Starts, first_world}
+use Rattle.qm_history.specs.Common.{site_of, HoldRecords, Starts, first_world, TakesPrefix, image_of}
 use Rattle.qm_history.specs.declared.world.World.{World}
-use Rattle.qm_disk.specs.Bytes.{TakesPrefix}
-use Rattle.qm_model.specs.Log.{image_of}
-use Rattle.qm_record.specs.Spelling.{HasSpelling, record_text}
 use Rattle.qm_program.specs.Task.{initialized}
 use Rattle.qm_program.specs.declared.outcome.End.{End}
 use Rattle.qm_program.specs.declared.outcome.End.TheVariants as ends
@@ -19,7 +14,7 @@ use Rattle.qm_program.specs.declared.outcome.End.TheVariants as ends
 -- the files hold the new site of nodes of these names, all down, and nothing more, under a master with this cap and no epoch
 abbrev pub HoldNewSite : List (List ℕ) → ℕ → CrashState → Type 0
 HoldNewSite names cap files =
-    HoldRecords IsLog HasSpelling record_text files (record { cap = cap; live = FIRST_QUEUE_FILE; epoch = 0 }) (image_of (site_of names))
+    HoldRecords files (record { cap = cap; live = FIRST_QUEUE_FILE; epoch = 0 }) (image_of (site_of names))
 
 -- the world with which a program begins on them
 abbrev pub new_world : List (List ℕ) → World
@@ -27,7 +22,7 @@ new_world names = first_world (image_of (site_of names)) 0
 
 -- the files let a program begin in it, and tell of no epoch
 pub record BeginsNew (names : List (List ℕ)) (files : CrashState) : Type 0 where
-  pub starts : Starts IsLog HasSpelling record_text files (new_world names)
+  pub starts : Starts files (new_world names)
   pub no_epoch : starts.says.epoch ≡ 0
 
 -- the device behind it

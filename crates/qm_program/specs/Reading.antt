@@ -4,19 +4,11 @@ use Rattle.std.specs.Io.KnownBytes.{IsAtEnd}
 use Rattle.qm_acting.specs.Reading.{IsRestoreFault}
 use Rattle.qm_chest.specs.Noting.{StartsEarly}
 use Rattle.qm_store.specs.Recorded.{Holds, Recorded}
-use Rattle.qm_disk.specs.Disk.{CrashState}
+use Rattle.qm_history.specs.Common.{CrashState, cluster, LineFault, script_lines, UserLine, system_in, counted, Long, System, TEXT_LIMIT}
 use Rattle.qm_glog.specs.declared.fault.OpenFault.TheVariants as opening
-use Rattle.qm_history.specs.Accepted.{cluster}
-use Rattle.qm_history.specs.Lines.{LineFault, script_lines}
-use Rattle.qm_history.specs.Script.{UserLine}
-use Rattle.qm_history.specs.World.{system_in}
 use Rattle.qm_history.specs.declared.world.World.{World}
-use Rattle.qm_disk.specs.Faults.{counted}
 use Rattle.qm_disk.specs.Bytes.{LosesAtMost}
-use Rattle.qm_kinds.specs.declared.script.ScriptKind.TheVariants.{Long}
-use Rattle.qm_kinds.specs.declared.system.System.{System}
 use Rattle.qm_restore.specs.QueueFile.{IsSiteFile}
-use Rattle.qm_kinds.specs.declared.limits.TheConstants.{TEXT_LIMIT}
 use Rattle.qm_program.specs.declared.outcome.End.{End}
 use Rattle.qm_program.specs.declared.outcome.End.TheVariants as ends
 

@@ -5,9 +5,8 @@ use Rattle.qm_acting.specs.Spare.{KeepsSpare}
 use Rattle.qm_serving.specs.ClusterServing.{ServesAtOnce}
 use Rattle.qm_disk.specs.Disk.{Meaning, IsQuiet, OnlyLooks}
 use Rattle.qm_glog.specs.declared.fault.OpenFault.TheVariants as opening
-use Rattle.qm_history.specs.Ends.{ServingEnd}
+use Rattle.qm_history.specs.Common.{ServingEnd, UserLine}
 use Rattle.qm_history.specs.Ends as serving
-use Rattle.qm_history.specs.Script.{UserLine}
 use Rattle.qm_history.specs.declared.turn.Turn.{Turn}
 use Rattle.qm_serving.specs.Serving.{Outside, Serves}
 use Rattle.qm_symb.specs.Device as symb

@@ -2,8 +2,7 @@
 -- DCL Dictionary, SHOW QUEUE.
 use Rattle.std.specs.Prelude.{◌≡◌, ℕ, List, Option}
 use Rattle.std.specs.Io.KnownBytes.{Appends}
-use Rattle.qm_disk.specs.Disk.{Meaning, OnlyLooks}
-use Rattle.qm_disk.specs.Bytes.{TakesPrefix}
+use Rattle.qm_history.specs.Common.{Meaning, OnlyLooks, TakesPrefix}
 use Rattle.qm_listing.specs.Listing.{IsListingOf}
 use Rattle.qm_program.specs.declared.outcome.End.{End}
 use Rattle.qm_program.specs.declared.outcome.End.TheVariants as ends

@@ -1,26 +1,21 @@
 -- What is left of a run: by a crash, and at the devices.
-use Rattle.std.specs.Prelude.{◌≡◌, ◌⊎◌, ℕ, List, [], ◌∷◌, ◌++◌, Some, Contains}
+use Rattle.std.specs.Prelude.{◌≡◌, ◌≢◌, ◌⊎◌, ℕ, List, [], ◌∷◌, ◌++◌, slice_get, Option, Some, Contains, IsTrue}
 use Rattle.std.specs.List.{AllByRecursion}
 use Rattle.qm_node.specs.Asking.{read_built}
 use Rattle.qm_node.specs.Taken.{AreTaken}
-use Rattle.qm_disk.specs.Disk.{CrashState}
-use Rattle.qm_glog.specs.Records.{IsLog}
+use Rattle.qm_node.specs.Sides.{Side}
+use Rattle.qm_chest.specs.Opening.{MayBegin}
+use Rattle.qm_disk.specs.Disk.{CrashState, IsLeft, LeavesOnly, Meaning}
 use Rattle.qm_history.specs.Blocks.{ComeInStretches, IsGiven, all_steps}
-use Rattle.qm_history.specs.Course.{Extent, IsCourse, MadeStep}
+use Rattle.qm_history.specs.Common.{cluster, HoldIn, Extent, IsCourse, MadeStep, after_turns, UserLine, Starts, visits_of, IsSound, system_in, Record, system_of}
 use Rattle.qm_history.specs.Happening.{acknowledged, events_of}
 use Rattle.qm_history.specs.Leaving.{MayBeLeft, MayBeLeftBehind}
-use Rattle.qm_history.specs.Legal.{after_turns}
-use Rattle.qm_history.specs.Script.{UserLine}
-use Rattle.qm_history.specs.Start.{Starts}
-use Rattle.qm_history.specs.Visits.{visits_of}
-use Rattle.qm_history.specs.World.{IsSound, system_in}
 use Rattle.qm_history.specs.declared.event.Event.{Event}
 use Rattle.qm_history.specs.declared.turn.Turn.{Turn}
 use Rattle.qm_history.specs.declared.world.World.{World}
-use Rattle.qm_kinds.specs.declared.record.Record.{Record}
-use Rattle.qm_model.specs.Folding.{system_of}
-use Rattle.qm_record.specs.Spelling.{HasSpelling, record_text}
+use Rattle.qm_serving.specs.Serving.{Outside}
 use Rattle.qm_symb.specs.Device as symb
+use Rattle.qm_program.specs.declared.outcome.End.{End}
 
 -- the log has each record that was acknowledged in these turns
 abbrev pub HasAcknowledged : List Turn → List Record → Type 0
@@ -34,8 +29,8 @@ pub record GoesOnFrom (MayStand : List Record → Type 0) (turns : List Turn) (f
   pub stands : MayStand log
   pub acknowledged : HasAcknowledged turns log
   pub world : World
-  pub starts : Starts IsLog HasSpelling record_text files world
-  pub sound : IsSound HasSpelling world
+  pub starts : Starts files world
+  pub sound : IsSound world
   pub system : system_in world ≡ system_of log
 
 -- So it does behind a crash within a turn, from a log that may be left within it.
@@ -58,7 +53,7 @@ pub record TakesCourseInStretches {Y : Type 0} (y : symb.Meaning Y) (w : World) 
   pub extent : Extent
   pub lines : List UserLine
   pub faults : ℕ
-  pub course : IsCourse HasSpelling read_built extent w turns node lines faults
+  pub course : IsCourse read_built extent w turns node lines faults
   pub given : AllByRecursion (λ (m : MadeStep). IsGiven (visits_of node w turns) m.run) (all_steps course.steps course.broken)
   pub stretches : ComeInStretches [] (all_steps course.steps course.broken)
   pub taken : AreTaken y course.steps course.broken was now
@@ -66,3 +61,24 @@ pub record TakesCourseInStretches {Y : Type 0} (y : symb.Meaning Y) (w : World) 
 -- So they did, or no turn was made, and they are as they were.
 abbrev pub TakesInStretches : {Y : Type 0} → symb.Meaning Y → World → List Turn → ℕ → Y → Y → Type 0
 TakesInStretches y w turns node was now = ((turns ≡ []) × (was ≡ now)) ⊎ TakesCourseInStretches y w turns node was now
+
+-- ---- laws of a way to run, by what it leaves of what a source had left, with these turns, what was outside and is there, and the end
+module _ {D Y : Type 0} (m : Meaning D) (runs : Option (List ℕ) → List Turn → Outside D Y → Outside D Y → End → Type 0) where
+  -- A crash at any moment leaves what it might leave before; or the files then hold a log that may be left at some moment of the turns.
+  abbrev pub CrashesAreOfMoments : Type 0
+  CrashesAreOfMoments = (left : Option (List ℕ)) (turns : List Turn) (old new : Outside D Y) (end : End) (w : World)
+      → runs left turns old new end → IsTrue m.tells → MayBegin m old.disk w
+      → LeavesOnly m old.disk new.disk (λ crashed. IsLeft (m.may_leave old.disk) crashed ⊎ HoldIn crashed w turns)
+
+  -- Behind a run that made turns a program goes on, on the files as they read and whatever a crash makes of them.
+  abbrev pub ProgramsGoOnBehind : Type 0
+  ProgramsGoOnBehind = (left : Option (List ℕ)) (turns : List Turn) (old new : Outside D Y) (end : End) (w : World)
+      → runs left turns old new end → IsTrue m.tells → MayBegin m old.disk w → turns ≢ []
+      → (files : CrashState) → (files ≡ m.seen new.disk) ⊎ IsLeft (m.may_leave new.disk) files → GoesOnBehind w turns files
+
+  -- The devices of each node of the cluster took the blocks of the steps of its course, which come in stretches.
+  abbrev pub DevicesTakeStretches : symb.Meaning Y → Type 0
+  DevicesTakeStretches y = (left : Option (List ℕ)) (turns : List Turn) (old new : Outside D Y) (end : End) (w : World)
+      → runs left turns old new end → IsTrue m.tells → MayBegin m old.disk w
+      → (node : ℕ) (name : List ℕ) (was now : Side Y) → slice_get (cluster (system_in w)) node ≡ Some name
+      → slice_get old.sides node ≡ Some was → slice_get new.sides node ≡ Some now → TakesInStretches y w turns node was.symbiont now.symbiont

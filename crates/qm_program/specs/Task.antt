@@ -1,9 +1,7 @@
 -- What the program's words ask for.
-use Rattle.std.specs.Prelude.{ℕ, if◌then◌else◌, List, [], ◌∷◌, ◌++◌, codes, option_map, option_and_then, Option, None, Some}
-use Rattle.std.specs.Str.{bytes_eq}
+use Rattle.std.specs.Prelude.{ℕ, if◌then◌else◌, List, [], ◌∷◌, ◌++◌, codes, option_map, option_and_then, Option, None, Some, bytes_eq}
 use Rattle.qm_store.specs.Making.{IsQueueCap}
-use Rattle.qm_history.specs.Site.{site_of}
-use Rattle.qm_model.specs.Consistent.{AreNodes}
+use Rattle.qm_history.specs.Common.{site_of, AreNodes}
 use Rattle.qm_script.specs.Sites.{cap_of, nodes_of}
 use Rattle.qm_program.specs.declared.task.Task.{Task}
 use Rattle.qm_program.specs.declared.task.Task.TheVariants.{Run, Cluster, Show, Init}

@@ -1,36 +1,23 @@
 // What follows from what a run leaves, whether one thread serves its script or each node has its own.
-ghost use Rattle.std.specs.Prelude.{◌≡◌, ◌≢◌, ◌⊎◌, ℕ, Bool, List, [], Option, Some, IsTrue, length, slice_get};
-ghost use Rattle.qm_node.specs.Sides.{Side};
-ghost use Rattle.qm_disk.specs.Disk.{CrashState, IsLeft, LeavesOnly};
-ghost use Rattle.qm_glog.specs.Records.{IsLog};
-ghost use Rattle.qm_history.specs.Accepted.{cluster};
-ghost use Rattle.qm_history.specs.Chest.{turns_kept};
-ghost use Rattle.qm_history.specs.Contents.{HoldIn, HoldWithin, HoldWorld};
-ghost use Rattle.qm_history.specs.Legal.{after_turns};
-ghost use Rattle.qm_history.specs.World.{system_in};
+ghost use Rattle.std.specs.Prelude.{◌≡◌, ◌≢◌, ℕ, Bool, List, Option, IsTrue};
+ghost use Rattle.qm_history.specs.Common.{CrashState, HoldIn, HoldWithin, HoldWorld, after_turns, system_in, NODES_LIMIT, GREATEST_CAP, LEAST_CAP, LAST_MOMENT};
 ghost use Rattle.qm_history.specs.declared.turn.Turn.{Turn};
 ghost use Rattle.qm_history.specs.declared.world.World.{World};
 ghost use Rattle.qm_chest.specs.Noting.{StartsEarly};
 ghost use Rattle.qm_history.specs.Ends.{show_text};
 ghost use Rattle.qm_listing.specs.Listing.{IsListingOf};
-ghost use Rattle.qm_kinds.specs.declared.limits.TheConstants.{NODES_LIMIT};
-ghost use Rattle.qm_kinds.specs.declared.moment.TheConstants.{LAST_MOMENT};
 ghost use Rattle.qm_kinds.specs.declared.name.TheConstants.{NODE_NAME_BYTES, SHORT_NAME_BYTES};
-ghost use Rattle.qm_record.specs.Spelling.{HasSpelling, record_text};
-ghost use Rattle.qm_kinds.specs.declared.limits.TheConstants.{GREATEST_CAP, LEAST_CAP};
-ghost use Rattle.qm_chest.specs.Opening.{MayBegin};
-ghost use Rattle.qm_serving.specs.Serving.{Outside};
 ghost use Rattle.qm_program.specs.Causes.{Counts, HasCause};
-ghost use Rattle.qm_program.specs.Doing.{HasSoundScript, IsWithoutFault};
+ghost use Rattle.qm_program.specs.Doing.{EndsWell, HasSoundScript, IsWithoutFault};
 ghost use Rattle.qm_program.specs.Running.{RunsAtOnce, RunsTo};
-ghost use Rattle.qm_program.specs.Surviving.{GoesOnBehind, GoesOnIn, GoesOnWithin, TakesInStretches};
+ghost use Rattle.qm_program.specs.Surviving.{CrashesAreOfMoments, DevicesTakeStretches, GoesOnBehind, GoesOnIn, GoesOnWithin, ProgramsGoOnBehind};
 ghost use Rattle.qm_program.specs.declared.task.TheConstants.{USUAL_CAP};
 ghost use Rattle.qm_program.specs.declared.outcome.End.{End};
 
 use qm_chest::sites_begin_one_world;
 use qm_disk::Disk;
 use qm_history::{
-    QueueFile, acknowledged_records_stay, crashes_of_histories_are_of_turns,
+    acknowledged_records_stay, crashes_of_histories_are_of_turns,
     files_that_hold_a_log_begin_a_world, histories_are_events, programs_go_on_after_crashes,
     steps_come_in_stretches,
 };
@@ -40,14 +27,8 @@ use qm_symb::Symbiont;
 /// A crash at any moment of a run leaves what a crash before it might leave; or the files then hold a log that may be left at some
 /// moment of its turns.
 pub fn a_crash_leaves_a_moment_of_the_run<D: Disk, Y: Symbiont>()
-    ensures run { (left : Option (List ℕ)) (turns : List Turn) (old new : Outside D Y) (end : End) (w : World)
-        → RunsTo D.meaning Y.meaning left turns old new end → IsTrue D.meaning.tells → MayBegin D.meaning old.disk w
-        → LeavesOnly D.meaning old.disk new.disk
-        (λ crashed. IsLeft (D.meaning.may_leave old.disk) crashed ⊎ HoldIn IsLog HasSpelling record_text crashed w turns) }
-    ensures cluster { (left : Option (List ℕ)) (turns : List Turn) (old new : Outside D Y) (end : End) (w : World)
-        → RunsAtOnce D.meaning Y.meaning left turns old new end → IsTrue D.meaning.tells → MayBegin D.meaning old.disk w
-        → LeavesOnly D.meaning old.disk new.disk
-        (λ crashed. IsLeft (D.meaning.may_leave old.disk) crashed ⊎ HoldIn IsLog HasSpelling record_text crashed w turns) }
+    ensures run { CrashesAreOfMoments D.meaning (RunsTo D.meaning Y.meaning) }
+    ensures cluster { CrashesAreOfMoments D.meaning (RunsAtOnce D.meaning Y.meaning) }
 {}
 
 /// A program goes on from each such log, in a sound world: within a turn from one that may be left there, with each record that was
@@ -55,29 +36,25 @@ pub fn a_crash_leaves_a_moment_of_the_run<D: Disk, Y: Symbiont>()
 /// record that was acknowledged in them; and at any moment of turns in one of these two ways.
 pub fn programs_go_on_with_what_was_acknowledged()
     ensures within { (w : World) (before : List Turn) (t : Turn) (crashed : CrashState)
-        → HoldWithin IsLog HasSpelling record_text crashed (after_turns w before) t → GoesOnWithin w before t crashed }
+        → HoldWithin crashed (after_turns w before) t
+        → GoesOnWithin w before t crashed }
     ensures behind { (w : World) (turns : List Turn) (crashed : CrashState)
-        → HoldWorld IsLog HasSpelling record_text crashed (after_turns w turns) → GoesOnBehind w turns crashed }
+        → HoldWorld crashed (after_turns w turns)
+        → GoesOnBehind w turns crashed }
     ensures moment { (w : World) (turns : List Turn) (crashed : CrashState)
-        → HoldIn IsLog HasSpelling record_text crashed w turns → GoesOnIn w turns crashed }
+        → HoldIn crashed w turns → GoesOnIn w turns crashed }
 {
-    files_that_hold_a_log_begin_a_world::<QueueFile>();
-    programs_go_on_after_crashes::<QueueFile>();
-    histories_are_events::<QueueFile>();
+    files_that_hold_a_log_begin_a_world();
+    programs_go_on_after_crashes();
+    histories_are_events();
     acknowledged_records_stay();
-    crashes_of_histories_are_of_turns::<QueueFile>();
+    crashes_of_histories_are_of_turns();
 }
 
 /// So it does behind a run that made turns, on the files as they read and whatever a crash makes of them.
 pub fn programs_go_on_behind_runs<D: Disk, Y: Symbiont>()
-    ensures run { (left : Option (List ℕ)) (turns : List Turn) (old new : Outside D Y) (end : End) (w : World)
-        → RunsTo D.meaning Y.meaning left turns old new end → IsTrue D.meaning.tells → MayBegin D.meaning old.disk w → turns ≢ []
-        → (files : CrashState) → (files ≡ D.meaning.seen new.disk) ⊎ IsLeft (D.meaning.may_leave new.disk) files
-        → GoesOnBehind w turns files }
-    ensures cluster { (left : Option (List ℕ)) (turns : List Turn) (old new : Outside D Y) (end : End) (w : World)
-        → RunsAtOnce D.meaning Y.meaning left turns old new end → IsTrue D.meaning.tells → MayBegin D.meaning old.disk w → turns ≢ []
-        → (files : CrashState) → (files ≡ D.meaning.seen new.disk) ⊎ IsLeft (D.meaning.may_leave new.disk) files
-        → GoesOnBehind w turns files }
+    ensures run { ProgramsGoOnBehind D.meaning (RunsTo D.meaning Y.meaning) }
+    ensures cluster { ProgramsGoOnBehind D.meaning (RunsAtOnce D.meaning Y.meaning) }
 {
     programs_go_on_with_what_was_acknowledged();
 }
@@ -85,22 +62,17 @@ pub fn programs_go_on_behind_runs<D: Disk, Y: Symbiont>()
 /// What the devices of each node of the cluster took in a run is the blocks of the steps of its course, which come in stretches, one for
 /// each fetch that gave a run to the node. In a run without a turn they took nothing.
 pub fn blocks_come_in_stretches<D: Disk, Y: Symbiont>()
-    ensures run { (left : Option (List ℕ)) (turns : List Turn) (old new : Outside D Y) (end : End) (w : World)
-        → RunsTo D.meaning Y.meaning left turns old new end → IsTrue D.meaning.tells → MayBegin D.meaning old.disk w
-        → (node : ℕ) (name : List ℕ) (was now : Side Y) → slice_get (cluster (system_in w)) node ≡ Some name
-        → slice_get old.sides node ≡ Some was → slice_get new.sides node ≡ Some now → TakesInStretches Y.meaning w turns node was.symbiont now.symbiont }
-    ensures cluster { (left : Option (List ℕ)) (turns : List Turn) (old new : Outside D Y) (end : End) (w : World)
-        → RunsAtOnce D.meaning Y.meaning left turns old new end → IsTrue D.meaning.tells → MayBegin D.meaning old.disk w
-        → (node : ℕ) (name : List ℕ) (was now : Side Y) → slice_get (cluster (system_in w)) node ≡ Some name
-        → slice_get old.sides node ≡ Some was → slice_get new.sides node ≡ Some now → TakesInStretches Y.meaning w turns node was.symbiont now.symbiont }
+    ensures run { DevicesTakeStretches D.meaning (RunsTo D.meaning Y.meaning) Y.meaning }
+    ensures cluster { DevicesTakeStretches D.meaning (RunsAtOnce D.meaning Y.meaning) Y.meaning }
 {
-    steps_come_in_stretches::<QueueFile>();
+    steps_come_in_stretches();
 }
 
 /// The listing of a disk's site is that of the system of each world with which a run may begin on its files.
 pub fn listings_are_of_the_world_of_a_run<D: Disk>()
-    ensures { (disk : D) (text : List ℕ) (w : World) → IsListingOf D.meaning disk text → IsTrue D.meaning.tells → StartsEarly (D.meaning.seen disk) w
-        → text ≡ show_text (system_in w) }
+    ensures { (disk : D) (text : List ℕ) (w : World)
+        → IsListingOf D.meaning disk text → IsTrue D.meaning.tells
+        → StartsEarly (D.meaning.seen disk) w → text ≡ show_text (system_in w) }
 {
     sites_begin_one_world();
 }
@@ -108,10 +80,10 @@ pub fn listings_are_of_the_world_of_a_run<D: Disk>()
 /// Over a script and files that are sound a run ends well, or for want of memory, or as many turns are kept as can be, where nothing
 /// failed.
 pub(crate) fn sound_scripts_are_served()
-    ensures { (tells : Bool) (files : CrashState) (left : Option (List ℕ)) (turns : List Turn) (old new : Counts) (end : End)
-        → end ≢ End.Usage → IsTrue tells → HasSoundScript left files → IsWithoutFault old.source new.source → IsWithoutFault old.sink new.sink
-        → IsWithoutFault old.disk new.disk → HasCause tells files left turns old new end
-        → (end ≡ End.Ok) ⊎ ((end ≡ End.NoMemory) ⊎ ((end ≡ End.HistoryFull) × (length turns ≡ turns_kept))) }
+    ensures { (tells : Bool) (files : CrashState) (left : Option (List ℕ)) (turns : List Turn)
+        (old new : Counts) (end : End) → end ≢ End.Usage → IsTrue tells → HasSoundScript left files
+        → IsWithoutFault old.source new.source → IsWithoutFault old.sink new.sink → IsWithoutFault old.disk new.disk
+        → HasCause tells files left turns old new end → EndsWell turns end }
 {
     held_files_load();
     one_content();

@@ -2,23 +2,15 @@
 ghost use Rattle.std.specs.Prelude.{◌≡◌, [], ℕ, List, IsTrue, All, IfOk};
 ghost use Rattle.qm_store.specs.Loading.{FailsBy};
 ghost use Rattle.qm_store.specs.Making.{IsQueueCap, KeepsFile};
-ghost use Rattle.qm_disk.specs.Disk.{CrashState, TellsFaults};
-ghost use Rattle.qm_disk.specs.Faults.{Tells};
-ghost use Rattle.qm_glog.specs.Records.{IsLog};
-ghost use Rattle.qm_history.specs.Site.{site_of};
-ghost use Rattle.qm_history.specs.Start.{Starts};
-ghost use Rattle.qm_history.specs.World.{system_in};
+ghost use Rattle.qm_history.specs.Common.{CrashState, TellsFaults, Tells, site_of, Starts, system_in, AreNodes, image_of, CanBeWritten};
 ghost use Rattle.qm_history.specs.declared.world.World.{World};
-ghost use Rattle.qm_model.specs.Consistent.{AreNodes};
-ghost use Rattle.qm_model.specs.Log.{image_of};
-ghost use Rattle.qm_record.specs.Spelling.{CanBeWritten, HasSpelling, record_text};
 ghost use Rattle.qm_program.specs.Ends.{status_of};
 ghost use Rattle.qm_program.specs.Making.{BeginsNew, HasNewSite, HoldNewSite, Makes, made_disk, new_world};
 
 use crate::outcome::{End, Outcome};
 use qm_disk::{Disk, Sink, write_whole};
 use qm_glog::{MakeFault, one_list};
-use qm_history::{QueueFile, files_that_hold_a_log_begin_a_world};
+use qm_history::files_that_hold_a_log_begin_a_world;
 use qm_kinds::{Name, Node, Record};
 use qm_record::no_record_begins_another;
 use qm_restore::{new_rows, new_sites_are_consistent};
@@ -58,7 +50,8 @@ fn make_files<D: Disk>(
 ) -> Result<D, (D, MakeFault)>
     requires nodes { AreNodes (site_of names.now).nodes }
     requires cap { IsQueueCap cap }
-    ensures made { IfOk result (λ disk. IsTrue D.meaning.tells → HasNewSite D.meaning names.now cap disk) }
+    ensures made { IfOk result (λ disk.
+        IsTrue D.meaning.tells → HasNewSite D.meaning names.now cap disk) }
     ensures other { KeepsFile D.meaning 2 disk (made_disk result) }
     ensures faults { TellsFaults D.meaning disk (made_disk result) (FailsBy result MakeFault.Disk) }
 {
@@ -93,7 +86,8 @@ pub(crate) fn make<O: Sink, D: Disk>(
 
     ensures status { result.status ≡ status_of result.end }
     ensures turns { result.turns.items ≡ [] }
-    ensures makes { Makes D.meaning names.now cap disk result.disk (O.taken sink.old) (O.taken sink.new) result.end }
+    ensures makes { Makes D.meaning names.now cap
+        disk result.disk (O.taken sink.old) (O.taken sink.new) result.end }
 
     // Each fault is told, and nothing else is.
     ensures disk { TellsFaults D.meaning disk result.disk (result.end ≡ End.Journal) }
@@ -111,12 +105,14 @@ pub(crate) fn make<O: Sink, D: Disk>(
 /// On the files of a new site a program begins in one world: its log is the site's rows, which stand for its system; no node has
 /// been queue manager, and each is live. No epoch is recorded.
 pub fn new_sites_begin_one_world()
-    ensures begins { (names : List (List ℕ)) (cap : ℕ) (files : CrashState) → HoldNewSite names cap files → BeginsNew names files }
-    ensures one { (names : List (List ℕ)) (cap : ℕ) (files : CrashState) (w : World) → HoldNewSite names cap files
-        → Starts IsLog HasSpelling record_text files w → w ≡ new_world names }
+    ensures begins { (names : List (List ℕ)) (cap : ℕ) (files : CrashState)
+        → HoldNewSite names cap files → BeginsNew names files }
+    ensures one { (names : List (List ℕ)) (cap : ℕ) (files : CrashState) (w : World)
+        → HoldNewSite names cap files → Starts files w
+        → w ≡ new_world names }
     ensures system { (names : List (List ℕ)) → system_in (new_world names) ≡ site_of names }
 {
     one_list();
     no_record_begins_another();
-    files_that_hold_a_log_begin_a_world::<QueueFile>();
+    files_that_hold_a_log_begin_a_world();
 }

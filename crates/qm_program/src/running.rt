@@ -3,16 +3,14 @@
 ghost use Rattle.std.specs.Prelude.{◌≡◌, ◌≤◌, ℕ, List, Option, IfErr, IfOk, IsTrue, None, Ok, Some, length, map};
 ghost use Rattle.qm_acting.specs.Spare.{KeepsSpare};
 ghost use Rattle.qm_node.specs.Sides.{side_of};
-ghost use Rattle.qm_history.specs.Lines.{script_lines};
-ghost use Rattle.qm_kinds.specs.declared.limits.TheConstants.{NODES_LIMIT};
+ghost use Rattle.qm_history.specs.Common.{script_lines, NODES_LIMIT};
 ghost use Rattle.qm_script.specs.ClusterLines.{user_lines_view};
 ghost use Rattle.qm_cluster.specs.Ends.{serving_end};
 ghost use Rattle.qm_chest.specs.Opening.{IsOpened};
-ghost use Rattle.qm_serving.specs.Serving.{outside};
+ghost use Rattle.qm_serving.specs.Serving.{outside, Serves};
 ghost use Rattle.qm_chest.specs.At.{chest_names};
 ghost use Rattle.qm_serving.specs.ClusterServing.{ServesAtOnce};
-ghost use Rattle.qm_serving.specs.Serving.{Serves};
-ghost use Rattle.qm_program.specs.Causes.{HasCause};
+ghost use Rattle.qm_program.specs.Causes.{HasCause, counts};
 ghost use Rattle.qm_program.specs.Ends.{EndsUnopened, EndsUnserved, end_of_lines, end_of_opening, end_of_reading, end_of_serving, status_of};
 ghost use Rattle.qm_program.specs.Reading.{Reads};
 ghost use Rattle.qm_program.specs.Running.{EndsBehind, RunsAtOnce, RunsTo};
@@ -109,10 +107,14 @@ fn lines_for<'a, W: Way<D, Y>, O: Sink, D: Disk, C: Clock, Y: Symbiont>(
     sink: &O,
 ) -> Result<Ready<'a, D>, Outcome<D>>
     ensures same { IfOk result (λ ready. ready.chest ≡ chest) }
-    ensures lines { IfOk result (λ ready. script_lines (Some (chest_names chest)) script.now ≡ Ok (user_lines_view ready.lines.items)) }
+    ensures lines { IfOk result (λ ready.
+        script_lines (Some (chest_names chest)) script.now
+        ≡ Ok (user_lines_view ready.lines.items)) }
     ensures status { IfErr result (λ over. over.status ≡ status_of over.end) }
-    ensures ends { (disk : D) → IsOpened D.meaning disk chest → IfErr result (λ over. EndsBehind D.meaning W.served script.now over.turns.items
-        (outside disk (O.taken sink.now) (map (side_of C.told) stations.now)) (outside over.disk (O.taken sink.now) (map (side_of C.told) stations.now))
+    ensures ends { (disk : D) → IsOpened D.meaning disk chest
+        → IfErr result (λ over. EndsBehind D.meaning W.served script.now over.turns.items
+        (outside disk (O.taken sink.now) (map (side_of C.told) stations.now))
+        (outside over.disk (O.taken sink.now) (map (side_of C.told) stations.now))
         (O.faults sink.now) (O.faults sink.now) over.end) }
 {
     let names = chest.names();
@@ -131,10 +133,13 @@ fn open_lines<'a, W: Way<D, Y>, O: Sink, D: Disk, C: Clock, Y: Symbiont>(
     sink: &O,
 ) -> Result<Ready<'a, D>, Outcome<D>>
     ensures opened { IfOk result (λ ready. IsOpened D.meaning disk ready.chest) }
-    ensures lines { IfOk result (λ ready. script_lines (Some (chest_names ready.chest)) script.now ≡ Ok (user_lines_view ready.lines.items)) }
+    ensures lines { IfOk result (λ ready.
+        script_lines (Some (chest_names ready.chest)) script.now
+        ≡ Ok (user_lines_view ready.lines.items)) }
     ensures status { IfErr result (λ over. over.status ≡ status_of over.end) }
     ensures ends { IfErr result (λ over. EndsBehind D.meaning W.served script.now over.turns.items
-        (outside disk (O.taken sink.now) (map (side_of C.told) stations.now)) (outside over.disk (O.taken sink.now) (map (side_of C.told) stations.now))
+        (outside disk (O.taken sink.now) (map (side_of C.told) stations.now))
+        (outside over.disk (O.taken sink.now) (map (side_of C.told) stations.now))
         (O.faults sink.now) (O.faults sink.now) over.end) }
 {
     match Chest::open(alloc, disk) {
@@ -167,8 +172,10 @@ fn serve_text_in_order<O: Sink, D: Disk, C: Clock, Y: Symbiont>(
 ) -> Outcome<D>
     requires stations { NODES_LIMIT ≤ length stations.old }
     ensures status { result.status ≡ status_of result.end }
-    ensures ends { EndsBehind D.meaning (Serves D.meaning Y.meaning) script.now result.turns.items
-        (outside disk (O.taken sink.old) (map (side_of C.told) stations.old)) (outside result.disk (O.taken sink.new) (map (side_of C.told) stations.new))
+    ensures ends { EndsBehind D.meaning (Serves D.meaning Y.meaning) script.now
+        result.turns.items
+        (outside disk (O.taken sink.old) (map (side_of C.told) stations.old))
+        (outside result.disk (O.taken sink.new) (map (side_of C.told) stations.new))
         (O.faults sink.old) (O.faults sink.new) result.end }
 {
     match open_lines::<InOrder, O, D, C, Y>(alloc, script, disk, stations, sink) {
@@ -198,8 +205,10 @@ where
     Y::Cursor: Send,
     requires stations { NODES_LIMIT ≤ length stations.old }
     ensures status { result.status ≡ status_of result.end }
-    ensures ends { EndsBehind D.meaning (ServesAtOnce D.meaning Y.meaning) script.now result.turns.items
-        (outside disk (O.taken sink.old) (map (side_of C.told) stations.old)) (outside result.disk (O.taken sink.new) (map (side_of C.told) stations.new))
+    ensures ends { EndsBehind D.meaning (ServesAtOnce D.meaning Y.meaning) script.now
+        result.turns.items
+        (outside disk (O.taken sink.old) (map (side_of C.told) stations.old))
+        (outside result.disk (O.taken sink.new) (map (side_of C.told) stations.new))
         (O.faults sink.old) (O.faults sink.new) result.end }
 {
     match open_lines::<AtOnce, O, D, C, Y>(alloc, script, disk, stations, sink) {
@@ -220,9 +229,10 @@ pub(crate) fn serve_in_order<S: Source, O: Sink, D: Disk, C: Clock, Y: Symbiont>
 ) -> Outcome<D>
     requires stations { NODES_LIMIT ≤ length stations.old }
     ensures status { result.status ≡ status_of result.end }
-    ensures cause { HasCause D.meaning.tells (D.meaning.seen disk) (S.remaining source.old) result.turns.items
-        (record { source = S.faults source.old; sink = O.faults sink.old; disk = D.meaning.faults disk })
-        (record { source = S.faults source.new; sink = O.faults sink.new; disk = D.meaning.faults result.disk }) result.end }
+    ensures cause { HasCause D.meaning.tells (D.meaning.seen disk) (S.remaining source.old)
+        result.turns.items
+        (counts (S.faults source.old) (O.faults sink.old) (D.meaning.faults disk))
+        (counts (S.faults source.new) (O.faults sink.new) (D.meaning.faults result.disk)) result.end }
     ensures reads { Reads (S.remaining source.old) (S.remaining source.new) result.end }
     ensures serves { RunsTo D.meaning Y.meaning (S.remaining source.old) result.turns.items
         (outside disk (O.taken sink.old) (map (side_of C.told) stations.old))
@@ -256,9 +266,10 @@ where
     Y::Cursor: Send,
     requires stations { NODES_LIMIT ≤ length stations.old }
     ensures status { result.status ≡ status_of result.end }
-    ensures cause { HasCause D.meaning.tells (D.meaning.seen disk) (S.remaining source.old) result.turns.items
-        (record { source = S.faults source.old; sink = O.faults sink.old; disk = D.meaning.faults disk })
-        (record { source = S.faults source.new; sink = O.faults sink.new; disk = D.meaning.faults result.disk }) result.end }
+    ensures cause { HasCause D.meaning.tells (D.meaning.seen disk) (S.remaining source.old)
+        result.turns.items
+        (counts (S.faults source.old) (O.faults sink.old) (D.meaning.faults disk))
+        (counts (S.faults source.new) (O.faults sink.new) (D.meaning.faults result.disk)) result.end }
     ensures reads { Reads (S.remaining source.old) (S.remaining source.new) result.end }
     ensures serves { RunsAtOnce D.meaning Y.meaning (S.remaining source.old) result.turns.items
         (outside disk (O.taken sink.old) (map (side_of C.told) stations.old))

@@ -1,8 +1,7 @@
 // How the lines of a script are served.
 ghost use Rattle.std.specs.Prelude.{ℕ, List};
 ghost use Rattle.qm_serving.specs.ClusterServing.{ServesAtOnce};
-ghost use Rattle.qm_history.specs.Ends.{ServingEnd};
-ghost use Rattle.qm_history.specs.Script.{UserLine};
+ghost use Rattle.qm_history.specs.Common.{ServingEnd, UserLine};
 ghost use Rattle.qm_history.specs.declared.turn.Turn.{Turn};
 ghost use Rattle.qm_serving.specs.Serving.{Outside, Serves};
 

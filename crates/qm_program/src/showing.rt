@@ -1,6 +1,6 @@
 // How a site is listed.
 ghost use Rattle.std.specs.Prelude.{◌≡◌, ◌⊎◌, ℕ, [], List, Option, IsTrue};
-ghost use Rattle.qm_program.specs.Causes.{HasCause};
+ghost use Rattle.qm_program.specs.Causes.{HasCause, counts};
 ghost use Rattle.qm_program.specs.Doing.{IsWithoutFault};
 ghost use Rattle.qm_program.specs.Ends.{status_of};
 ghost use Rattle.qm_program.specs.Reading.{AreSite};
@@ -17,12 +17,16 @@ use std::alloc::Global;
 pub(crate) fn show<O: Sink, D: Disk>(alloc: Global, sink: &mut O, disk: D) -> Outcome<D>
     ensures status { result.status ≡ status_of result.end }
     ensures turns { result.turns.items ≡ [] }
-    ensures shows { Shows D.meaning disk result.disk (O.taken sink.old) (O.taken sink.new) result.end }
-    ensures cause { (left : Option (List ℕ)) (source : ℕ) → HasCause D.meaning.tells (D.meaning.seen disk) left []
-        (record { source = source; sink = O.faults sink.old; disk = D.meaning.faults disk })
-        (record { source = source; sink = O.faults sink.new; disk = D.meaning.faults result.disk }) result.end }
-    ensures complete { IsTrue D.meaning.tells → AreSite (D.meaning.seen disk) → IsWithoutFault (O.faults sink.old) (O.faults sink.new)
-        → IsWithoutFault (D.meaning.faults disk) (D.meaning.faults result.disk) → (result.end ≡ End.Ok) ⊎ (result.end ≡ End.NoMemory) }
+    ensures shows { Shows D.meaning disk result.disk
+        (O.taken sink.old) (O.taken sink.new) result.end }
+    ensures cause { (left : Option (List ℕ)) (source : ℕ)
+        → HasCause D.meaning.tells (D.meaning.seen disk) left []
+        (counts source (O.faults sink.old) (D.meaning.faults disk))
+        (counts source (O.faults sink.new) (D.meaning.faults result.disk)) result.end }
+    ensures complete { IsTrue D.meaning.tells → AreSite (D.meaning.seen disk)
+        → IsWithoutFault (O.faults sink.old) (O.faults sink.new)
+        → IsWithoutFault (D.meaning.faults disk) (D.meaning.faults result.disk)
+        → (result.end ≡ End.Ok) ⊎ (result.end ≡ End.NoMemory) }
 {
     held_files_load();
     one_content();

@@ -1,6 +1,5 @@
 // What the program's words ask for.
-ghost use Rattle.std.specs.Prelude.{◌≡◌, ◌↔◌, map, IfOk, IfSome, IsTrue, Some};
-ghost use Rattle.std.specs.String.{string_bytes};
+ghost use Rattle.std.specs.Prelude.{◌≡◌, ◌↔◌, map, IfOk, IfSome, IsTrue, Some, string_bytes};
 ghost use Rattle.qm_program.specs.Task.{NamesSite, alone_of, init_of, task_of};
 ghost use Rattle.qm_program.specs.declared.task.Task.TheVariants.{Cluster};
 

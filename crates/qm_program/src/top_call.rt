@@ -1,15 +1,13 @@
 // The top call.
-ghost use Rattle.std.specs.Prelude.{◌≡◌, ◌≢◌, ◌⊎◌, ◌≤◌, List, [], map, length, IsTrue, None, Some};
-ghost use Rattle.std.specs.String.{string_bytes};
+ghost use Rattle.std.specs.Prelude.{◌≡◌, ◌≢◌, ◌≤◌, map, length, Some, string_bytes};
 ghost use Rattle.qm_node.specs.Sides.{side_of};
-ghost use Rattle.qm_history.specs.Chest.{turns_kept};
 ghost use Rattle.qm_kinds.specs.declared.limits.TheConstants.{NODES_LIMIT};
-ghost use Rattle.qm_program.specs.Causes.{HasCause};
-ghost use Rattle.qm_program.specs.Doing.{Does, HasSoundScript, IsWithoutFault, SpareStays};
+ghost use Rattle.qm_serving.specs.Serving.{outside};
+ghost use Rattle.qm_program.specs.Causes.{counts};
+ghost use Rattle.qm_program.specs.Doing.{DoesTask};
 ghost use Rattle.qm_program.specs.Ends.{status_of};
-ghost use Rattle.qm_program.specs.Reading.{AreSite};
 ghost use Rattle.qm_program.specs.Task.{task_of};
-ghost use Rattle.qm_program.specs.declared.task.Task.TheVariants.{Cluster, Run, Show};
+ghost use Rattle.qm_program.specs.declared.task.Task.TheVariants.{Cluster};
 
 use crate::laws::sound_scripts_are_served;
 use crate::making::make;
@@ -55,7 +53,7 @@ use std::thread::Threads;
 /// not be whole. `Journal` comes behind a script that was served whole, where the disk failed at some turn. At each end the disk
 /// and the turns come back. Epochs of 2^61 and more can't be gone on from, which is told as `NoMemory`.
 ///
-/// Laws say what follows from the clause `does` where a script is served, by `run` or by `cluster`. A crash at any moment leaves
+/// Laws say what follows from the field `does` where a script is served, by `run` or by `cluster`. A crash at any moment leaves
 /// what it might before, or a log of some moment of the turns ([`crate::a_crash_leaves_a_moment_of_the_run`]); from each of these
 /// a program goes on with what was acknowledged ([`crate::programs_go_on_with_what_was_acknowledged`]), and so it does behind the
 /// run ([`crate::programs_go_on_behind_runs`]). And what the devices of a node took is the blocks of its steps, which come in
@@ -83,34 +81,14 @@ where
 
     ensures status { result.status ≡ status_of result.end }
 
-    // Words that aren't the program's are told so, and no others are; but memory may run out before.
-    ensures usage { result.end ≡ End.Usage → task_of (map string_bytes words.now) ≡ None }
-    ensures unasked { task_of (map string_bytes words.now) ≡ None → (result.end ≡ End.Usage) ⊎ (result.end ≡ End.NoMemory) }
-
-    // Each end has its cause, and no fault is hidden.
-    ensures cause { HasCause D.meaning.tells (D.meaning.seen disk) (S.remaining source.old) result.turns.items
-        (record { source = S.faults source.old; sink = O.faults sink.old; disk = D.meaning.faults disk })
-        (record { source = S.faults source.new; sink = O.faults sink.new; disk = D.meaning.faults result.disk }) result.end }
-
-    // What is read, what the sink takes, what the clocks tell, what the devices get, which turns are made, and what the disk holds,
-    // then and at each moment, by what the words ask for and by the end.
-    ensures does { Does D.meaning Y.meaning S.remaining (task_of (map string_bytes words.now)) source.old source.new result.turns.items
-        (record { disk = disk; taken = O.taken sink.old; sides = map (side_of C.told) stations.old })
-        (record { disk = result.disk; taken = O.taken sink.new; sides = map (side_of C.told) stations.new }) result.end }
-    ensures others { IsTrue D.meaning.tells → SpareStays D.meaning (task_of (map string_bytes words.now)) disk result.disk }
-
-    // Over a script and files that are sound every line is answered, and each run that can step is carried out, unless the disk, the
-    // sink or the source fails, memory runs out, or as many turns are kept as can be. Devices may fail.
-    ensures complete { (task_of (map string_bytes words.now) ≡ Some Run) ⊎ (task_of (map string_bytes words.now) ≡ Some Cluster)
-        → IsTrue D.meaning.tells → HasSoundScript (S.remaining source.old) (D.meaning.seen disk)
-        → IsWithoutFault (S.faults source.old) (S.faults source.new) → IsWithoutFault (O.faults sink.old) (O.faults sink.new)
-        → IsWithoutFault (D.meaning.faults disk) (D.meaning.faults result.disk)
-        → (result.end ≡ End.Ok) ⊎ ((result.end ≡ End.NoMemory) ⊎ ((result.end ≡ End.HistoryFull) × (length result.turns.items ≡ turns_kept))) }
-
-    // Over files that are sound their site is listed, unless the disk or the sink fails, or memory runs out.
-    ensures listed { task_of (map string_bytes words.now) ≡ Some Show → IsTrue D.meaning.tells → AreSite (D.meaning.seen disk)
-        → IsWithoutFault (O.faults sink.old) (O.faults sink.new) → IsWithoutFault (D.meaning.faults disk) (D.meaning.faults result.disk)
-        → (result.end ≡ End.Ok) ⊎ (result.end ≡ End.NoMemory) }
+    // What is read, what the sink takes, what the clocks tell, what the devices get, which turns are made, what the disk holds, then
+    // and at each moment, and how it ends: by what the words ask for.
+    ensures does { DoesTask D.meaning Y.meaning S.remaining
+        (task_of (map string_bytes words.now)) source.old source.new
+        (outside disk (O.taken sink.old) (map (side_of C.told) stations.old))
+        (outside result.disk (O.taken sink.new) (map (side_of C.told) stations.new))
+        (counts (S.faults source.old) (O.faults sink.old) (D.meaning.faults disk))
+        (counts (S.faults source.new) (O.faults sink.new) (D.meaning.faults result.disk)) result.turns.items result.end }
 {
     sound_scripts_are_served();
     if asks_for_cluster(words) {
@@ -134,22 +112,12 @@ pub fn alone<S: Source, O: Sink, D: Disk, C: Clock, Y: Symbiont>(
     requires words { task_of (map string_bytes words.now) ≢ Some Cluster }
     requires stations { NODES_LIMIT ≤ length stations.old }
     ensures status { result.status ≡ status_of result.end }
-    ensures usage { result.end ≡ End.Usage → task_of (map string_bytes words.now) ≡ None }
-    ensures unasked { task_of (map string_bytes words.now) ≡ None → (result.end ≡ End.Usage) ⊎ (result.end ≡ End.NoMemory) }
-    ensures cause { HasCause D.meaning.tells (D.meaning.seen disk) (S.remaining source.old) result.turns.items
-        (record { source = S.faults source.old; sink = O.faults sink.old; disk = D.meaning.faults disk })
-        (record { source = S.faults source.new; sink = O.faults sink.new; disk = D.meaning.faults result.disk }) result.end }
-    ensures does { Does D.meaning Y.meaning S.remaining (task_of (map string_bytes words.now)) source.old source.new result.turns.items
-        (record { disk = disk; taken = O.taken sink.old; sides = map (side_of C.told) stations.old })
-        (record { disk = result.disk; taken = O.taken sink.new; sides = map (side_of C.told) stations.new }) result.end }
-    ensures others { IsTrue D.meaning.tells → SpareStays D.meaning (task_of (map string_bytes words.now)) disk result.disk }
-    ensures complete { task_of (map string_bytes words.now) ≡ Some Run → IsTrue D.meaning.tells → HasSoundScript (S.remaining source.old) (D.meaning.seen disk)
-        → IsWithoutFault (S.faults source.old) (S.faults source.new) → IsWithoutFault (O.faults sink.old) (O.faults sink.new)
-        → IsWithoutFault (D.meaning.faults disk) (D.meaning.faults result.disk)
-        → (result.end ≡ End.Ok) ⊎ ((result.end ≡ End.NoMemory) ⊎ ((result.end ≡ End.HistoryFull) × (length result.turns.items ≡ turns_kept))) }
-    ensures listed { task_of (map string_bytes words.now) ≡ Some Show → IsTrue D.meaning.tells → AreSite (D.meaning.seen disk)
-        → IsWithoutFault (O.faults sink.old) (O.faults sink.new) → IsWithoutFault (D.meaning.faults disk) (D.meaning.faults result.disk)
-        → (result.end ≡ End.Ok) ⊎ (result.end ≡ End.NoMemory) }
+    ensures does { DoesTask D.meaning Y.meaning S.remaining
+        (task_of (map string_bytes words.now)) source.old source.new
+        (outside disk (O.taken sink.old) (map (side_of C.told) stations.old))
+        (outside result.disk (O.taken sink.new) (map (side_of C.told) stations.new))
+        (counts (S.faults source.old) (O.faults sink.old) (D.meaning.faults disk))
+        (counts (S.faults source.new) (O.faults sink.new) (D.meaning.faults result.disk)) result.turns.items result.end }
 {
     sound_scripts_are_served();
     match read_task(alloc, words) {

@@ -1,7 +1,6 @@
 -- What an insertion and a removal make of a row, and keep.
-use Rattle.std.proofs.Common.{◌≡◌, ◌≢◌, ◌∙◌, ℕ, ◌+◌, ◌==◌, true, false, not, List, [], ◌∷◌, length, get_or, take, drop, IfSome, sym, ap, arith}
+use Rattle.std.proofs.Common.{◌≡◌, ◌≢◌, ◌∙◌, ℕ, ◌+◌, ◌==◌, true, false, not, List, [], ◌∷◌, length, get_or, take, drop, IfSome, sym, ap, arith, get_or-take, get_or-drop, length-take, length-drop, take-append-drop}
 use Rattle.std.specs.List.{All, AllWithin, insert}
-use Rattle.std.proofs.lemmas.List.{get_or-take, get_or-drop, length-take, length-drop, take-append-drop}
 use Rattle.std.proofs.lemmas.List.Kept.{AllPairs-filter}
 use Rattle.std.proofs.lemmas.List.Elements.{All-cons}
 use Rattle.qm_model.specs.Inserting.{inserted}

@@ -1,7 +1,5 @@
 -- What is done to tiers, and what comes of their list.
-use Rattle.std.proofs.Common.{◌≡◌, ◌∙◌, ℕ, zero, suc, ◌+◌, ◌-◌, ◌*◌, ◌<◌, ◌≤◌, List, [], ◌∷◌, ◌++◌, length, get_or, set, take, drop, slice_get, Some, None, refl, sym, ap, subst, subst₂, inl, inr, arith, append_assoc, append-nil, suc-mul, zero-mul}
-use Rattle.std.specs.List.{All, insert, remove}
-use Rattle.std.specs.List.Sorted.{IsPermutation}
+use Rattle.std.proofs.Common.{◌≡◌, ◌∙◌, ℕ, zero, suc, ◌+◌, ◌-◌, ◌*◌, ◌<◌, ◌≤◌, List, [], ◌∷◌, ◌++◌, length, get_or, set, take, drop, slice_get, Some, None, refl, sym, ap, subst, subst₂, inl, inr, arith, append_assoc, append-nil, suc-mul, zero-mul, All, insert, remove, IsPermutation}
 use Rattle.std.proofs.lemmas.Bool.{cases_lt}
 use Rattle.std.proofs.lemmas.List.{length-append, length-set, length-take, length-drop, take-append-drop, take_at, drop_at, get_or-append_right, get_or_append_left, get_or-drop, get_or-take, set-append_left, set-append_right, drop-set, take-set, drop-drop, drop-set-add, drop-set-lt, take-set-le, take_more, set-set, set-get_or, get_or-set_same}
 use Rattle.std.proofs.lemmas.List.Edits.{insert-append_right, remove-append_right, length-remove}

@@ -1,11 +1,6 @@
 -- When a row is that of jobs.
-use Rattle.std.specs.Prelude.{◌≡◌, ℕ, List, filter}
-use Rattle.std.specs.Option.{option_map}
-use Rattle.qm_kinds.specs.declared.entry.Entry.{Entry}
-use Rattle.qm_kinds.specs.declared.queue.Queue.{Queue}
-use Rattle.qm_kinds.specs.declared.system.System.{System}
-use Rattle.qm_model.specs.Find.{entry_numbered}
-use Rattle.qm_model.specs.Fitting.{fits}
+use Rattle.std.specs.Prelude.{◌≡◌, ℕ, List, filter, option_map}
+use Rattle.qm_model.specs.Common.{Entry, Queue, System, entry_numbered, fits}
 use Rattle.qm_match.specs.declared.order.Key.{Key}
 use Rattle.qm_match.specs.declared.order.Schedule.{Schedule}
 use Rattle.qm_match.specs.Keys.{key_of}

@@ -1,13 +1,7 @@
 // What follows for whoever keeps rows.
-ghost use Rattle.std.specs.Prelude.{◌≡◌, ◌≤◌, ℕ, List, IsSome, length};
+ghost use Rattle.std.specs.Prelude.{◌≡◌, ◌≤◌, ℕ, List, IsSome, length, option_map};
 ghost use Rattle.std.specs.Ordering.{nat_cmp};
-ghost use Rattle.std.specs.Option.{option_map};
-ghost use Rattle.qm_kinds.specs.declared.entry.Entry.{Entry};
-ghost use Rattle.qm_kinds.specs.declared.queue.Queue.{Queue};
-ghost use Rattle.qm_kinds.specs.declared.system.System.{System};
-ghost use Rattle.qm_model.specs.Consistent.{IsInOrder};
-ghost use Rattle.qm_model.specs.Find.{entry_numbered};
-ghost use Rattle.qm_model.specs.Settling.{next_job};
+ghost use Rattle.qm_model.specs.Common.{Entry, Queue, System, IsInOrder, entry_numbered, next_job};
 ghost use Rattle.qm_match.specs.declared.order.Key.{Key};
 ghost use Rattle.qm_match.specs.declared.order.Schedule.{Schedule};
 ghost use Rattle.qm_match.specs.Keys.{schedule_of};

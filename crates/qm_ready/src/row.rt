@@ -1,6 +1,5 @@
 // The row of a queue.
-ghost use Rattle.std.specs.Prelude.{◌≡◌, ℕ, ◌+◌, ◌-◌, ◌<◌, ◌≤◌, ◌==◌, ◌&&◌, false, [], length, All, None, Some, IfSome, OnErr, OnOk, if◌then◌else◌, slice_get};
-ghost use Rattle.std.specs.Option.{option_copied};
+ghost use Rattle.std.specs.Prelude.{◌≡◌, ℕ, ◌+◌, ◌-◌, ◌<◌, ◌≤◌, ◌==◌, ◌&&◌, false, [], length, All, None, Some, IfSome, OnErr, OnOk, if◌then◌else◌, slice_get, option_copied};
 ghost use Rattle.qm_match.specs.Keys.{comes_before};
 ghost use Rattle.qm_ready.specs.Rows.{IsRow, first_key, first_number, has_key, key_numbered, with_key, without, HasSameRoom, HaveSameKeys};
 

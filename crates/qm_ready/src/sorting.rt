@@ -1,6 +1,5 @@
 // Keys are put in the order of starts.
-ghost use Rattle.std.specs.Prelude.{◌≡◌, length, vec_capacity};
-ghost use Rattle.std.specs.List.Sorted.{IsPermutation, IsSortedBy};
+ghost use Rattle.std.specs.Prelude.{◌≡◌, length, vec_capacity, IsPermutation, IsSortedBy};
 ghost use Rattle.std.specs.Ordering.{is_lt};
 ghost use Rattle.qm_match.specs.Keys.{comes_before};
 

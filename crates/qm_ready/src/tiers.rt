@@ -1,6 +1,5 @@
 // A list of keys in tiers.
-ghost use Rattle.std.specs.Prelude.{◌≡◌, ◌+◌, ◌*◌, ◌^◌, ◌<◌, ◌≤◌, [], length, All, OnErr, OnOk, insert, remove, take, drop, ◌++◌, slice_get, slice_index_or, vec_len, vec_capacity};
-ghost use Rattle.std.specs.Option.{option_copied};
+ghost use Rattle.std.specs.Prelude.{◌≡◌, ◌+◌, ◌*◌, ◌^◌, ◌<◌, ◌≤◌, [], length, All, OnErr, OnOk, insert, remove, take, drop, ◌++◌, slice_get, slice_index_or, vec_len, vec_capacity, option_copied};
 ghost use Rattle.qm_match.specs.declared.order.Key.{Key};
 ghost use Rattle.qm_ready.specs.Rows.{HasNumbersOnce, IsRow, HaveSameKeys};
 ghost use Rattle.qm_ready.specs.Tiers.{IsTiered, laid, turned};

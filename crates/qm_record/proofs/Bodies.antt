@@ -1,23 +1,12 @@
 -- Each reader of a body reads the fields of its records.
 use Rattle.std.proofs.Common.{◌≡◌, ℕ, Bool, List, Option, None, Some, refl, sym, ap, subst, ◌∙◌}
-use Rattle.qm_kinds.specs.declared.request.Request.{Request}
+use Rattle.qm_model.specs.Common.{Request, EntryChange, Job, FileName, Queue, QueueChange, NewQueue, StopMode, Form, Characteristic, Node, Body}
 use Rattle.qm_kinds.specs.declared.request.Request.TheVariants as ask
-use Rattle.qm_kinds.specs.declared.request.EntryChange.{EntryChange}
-use Rattle.qm_kinds.specs.declared.request.Job.{Job}
-use Rattle.qm_kinds.specs.declared.file.FileName.{FileName}
-use Rattle.qm_kinds.specs.declared.queue.Queue.{Queue}
-use Rattle.qm_kinds.specs.declared.queue.QueueChange.{QueueChange}
-use Rattle.qm_kinds.specs.declared.queue.NewQueue.{NewQueue}
-use Rattle.qm_kinds.specs.declared.request.StopMode.{StopMode}
-use Rattle.qm_kinds.specs.declared.form.Form.{Form}
-use Rattle.qm_kinds.specs.declared.form.Characteristic.{Characteristic}
-use Rattle.qm_kinds.specs.declared.system.Node.{Node}
 use Rattle.qm_bytes.specs.Reading.{Reader}
 use Rattle.qm_bytes.specs.Laws.{Spells, IsReader}
 use Rattle.qm_bytes.proofs.Readers.{said}
 use Rattle.qm_bytes.proofs.Products.{◌&◌, ◌⊗◌, Composed, composed, ends}
 use Rattle.qm_bytes.proofs.Fields.{truth_reader, optional_reader, list_reader, name_reader, file_name_reader, long_bytes_reader, mark_reader, moment_reader}
-use Rattle.qm_kinds.specs.declared.record.Body.{Body}
 use Rattle.qm_kinds.specs.declared.record.Body.TheVariants as body
 use Rattle.qm_kinds.specs.declared.request_kind.RequestKind.TheVariants as requests
 use Rattle.qm_record.specs.declared.kind.RecordKind.{RecordKind}

@@ -1,14 +1,10 @@
 -- Values that a byte tells.
 use Rattle.std.proofs.Common.{◌≡◌, ℕ, zero, suc, true, refl, arith}
-use Rattle.qm_kinds.specs.declared.entry.JobKind.{JobKind}
+use Rattle.qm_model.specs.Common.{JobKind, QueueKind, QueueState, QueueRetain, StopMode}
 use Rattle.qm_kinds.specs.declared.entry.JobKind.TheVariants as job
-use Rattle.qm_kinds.specs.declared.queue.QueueKind.{QueueKind}
 use Rattle.qm_kinds.specs.declared.queue.QueueKind.TheVariants as kind
-use Rattle.qm_kinds.specs.declared.queue.QueueState.{QueueState}
 use Rattle.qm_kinds.specs.declared.queue.QueueState.TheVariants as state
-use Rattle.qm_kinds.specs.declared.queue.QueueRetain.{QueueRetain}
 use Rattle.qm_kinds.specs.declared.queue.QueueRetain.TheVariants as keep
-use Rattle.qm_kinds.specs.declared.request.StopMode.{StopMode}
 use Rattle.qm_kinds.specs.declared.request.StopMode.TheVariants as stop
 use Rattle.qm_bytes.specs.Reading.{between}
 use Rattle.qm_bytes.specs.Laws.{Spells, IsReader}

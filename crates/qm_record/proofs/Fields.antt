@@ -1,8 +1,6 @@
 -- Each reader of a field reads the field's spelling.
 use Rattle.std.proofs.Common.{◌≡◌, ℕ, zero, suc, ◌^◌, ◌<◌, ◌≤◌, Bool, true, false, cond, eqb, List, [], ◌∷◌, Option, None, Some, refl, arith}
-use Rattle.qm_kinds.specs.declared.request.NameOrNumber.{NameOrNumber}
-use Rattle.qm_kinds.specs.declared.request.NameOrNumber.TheVariants.{Name, Number}
-use Rattle.qm_kinds.specs.declared.entry.JobRetain.{JobRetain}
+use Rattle.qm_model.specs.Common.{NameOrNumber, Name, Number, JobRetain}
 use Rattle.qm_kinds.specs.declared.entry.JobRetain.TheVariants as retain
 use Rattle.qm_bytes.specs.Reading.{Reader, between, number_at}
 use Rattle.qm_bytes.specs.Laws.{Spells, IsReader}

@@ -1,9 +1,7 @@
 -- Records: what is read is spelled so, what is spelled so is read, and a fault is the first one.
-use Rattle.std.proofs.Common.{◌≡◌, ℕ, suc, ◌+◌, ◌-◌, ◌^◌, ◌<◌, ◌≤◌, Bool, true, false, cond, eqb, List, [], ◌∷◌, ◌++◌, length, take, Option, None, Some, Result, Ok, Err, refl, sym, ap, subst, ◌∙◌, append_assoc, arith, lit<}
-use Rattle.std.specs.Prelude.{IfOk}
-use Rattle.std.proofs.lemmas.List.{append-nil, take_at, length-append}
+use Rattle.std.proofs.Common.{◌≡◌, ℕ, suc, ◌+◌, ◌-◌, ◌^◌, ◌<◌, ◌≤◌, Bool, true, false, cond, eqb, List, [], ◌∷◌, ◌++◌, length, take, Option, None, Some, Result, Ok, Err, refl, sym, ap, subst, ◌∙◌, append_assoc, arith, lit<, IfOk, append-nil, take_at, length-append}
 use Rattle.std.proofs.lemmas.Bool.Decides.{nat_tests}
-use Rattle.qm_kinds.specs.declared.moment.TheConstants.{LAST_MOMENT}
+use Rattle.qm_model.specs.Common.{LAST_MOMENT, Record, Body}
 use Rattle.qm_bytes.specs.declared.fault.BadField.{BadField}
 use Rattle.qm_bytes.specs.Reading.{Reader, ◌>>=◌, pure, byte_where, between, GivesKept}
 use Rattle.qm_bytes.specs.Laws.{Spells, IsReader}
@@ -11,8 +9,6 @@ use Rattle.qm_bytes.specs.Spelling.{low_first, byte}
 use Rattle.qm_bytes.proofs.Readers.{Passes, byte_reader, same_value, same_rest, found}
 use Rattle.qm_bytes.proofs.Products.{◌&◌, ◌⊗◌, ends, of_fields}
 use Rattle.qm_bytes.proofs.Fields.{lies_between, passes_between, number_up_to_reader}
-use Rattle.qm_kinds.specs.declared.record.Record.{Record}
-use Rattle.qm_kinds.specs.declared.record.Body.{Body}
 use Rattle.qm_record.specs.declared.fault.RecordFault.{RecordFault}
 use Rattle.qm_record.specs.declared.fault.RecordFault.TheVariants.{Bad, NoMemory}
 use Rattle.qm_record.specs.declared.kind.RecordKind.{RecordKind}

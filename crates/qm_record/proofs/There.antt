@@ -1,7 +1,6 @@
 -- What is there to be read, though it isn't kept.
-use Rattle.std.specs.Prelude.{◌==◌}
+use Rattle.std.proofs.Common.{◌≡◌, ℕ, List, Result, Ok, Err, refl, false, Some, zero, suc, arith, ◌==◌}
 use Rattle.std.proofs.lemmas.Bool.Decides.{nat_tests}
-use Rattle.std.proofs.Common.{◌≡◌, ℕ, List, Result, Ok, Err, refl, false, Some, zero, suc, arith}
 use Rattle.qm_bytes.specs.Reading.{Reader, onward, pure, IsThere, GivesKept, byte_where, between, optional_at, list_at}
 
 -- a field that was read, and what is there behind it

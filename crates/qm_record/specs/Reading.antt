@@ -1,34 +1,15 @@
 -- Reading records.
 use Rattle.std.specs.Prelude.{◌≡◌, ℕ, suc, ◌-◌, ◌==◌, if◌then◌else◌, List, [], ◌∷◌, length, Option, None, Some, Result, Ok, Err}
 use Rattle.qm_kinds.specs.declared.request.Request.TheVariants as ask
-use Rattle.qm_kinds.specs.declared.request.EntryChange.{EntryChange}
-use Rattle.qm_kinds.specs.declared.request.Job.{Job}
-use Rattle.qm_kinds.specs.declared.request.NameOrNumber.{NameOrNumber}
-use Rattle.qm_kinds.specs.declared.request.NameOrNumber.TheVariants.{Name, Number}
-use Rattle.qm_kinds.specs.declared.entry.JobKind.{JobKind}
+use Rattle.qm_model.specs.Common.{EntryChange, Job, NameOrNumber, Name, Number, JobKind, JobRetain, QueueKind, QueueState, QueueRetain, Queue, QueueChange, NewQueue, StopMode, Form, Shape, Characteristic, Node, LAST_MOMENT, Record, Body}
 use Rattle.qm_kinds.specs.declared.entry.JobKind.TheVariants as job
-use Rattle.qm_kinds.specs.declared.entry.JobRetain.{JobRetain}
 use Rattle.qm_kinds.specs.declared.entry.JobRetain.TheVariants as retain
-use Rattle.qm_kinds.specs.declared.queue.QueueKind.{QueueKind}
 use Rattle.qm_kinds.specs.declared.queue.QueueKind.TheVariants as kind
-use Rattle.qm_kinds.specs.declared.queue.QueueState.{QueueState}
 use Rattle.qm_kinds.specs.declared.queue.QueueState.TheVariants as state
-use Rattle.qm_kinds.specs.declared.queue.QueueRetain.{QueueRetain}
 use Rattle.qm_kinds.specs.declared.queue.QueueRetain.TheVariants as keep
-use Rattle.qm_kinds.specs.declared.queue.Queue.{Queue}
-use Rattle.qm_kinds.specs.declared.queue.QueueChange.{QueueChange}
-use Rattle.qm_kinds.specs.declared.queue.NewQueue.{NewQueue}
-use Rattle.qm_kinds.specs.declared.request.StopMode.{StopMode}
 use Rattle.qm_kinds.specs.declared.request.StopMode.TheVariants as stop
-use Rattle.qm_kinds.specs.declared.form.Form.{Form}
-use Rattle.qm_kinds.specs.declared.form.Shape.{Shape}
-use Rattle.qm_kinds.specs.declared.form.Characteristic.{Characteristic}
-use Rattle.qm_kinds.specs.declared.system.Node.{Node}
-use Rattle.qm_kinds.specs.declared.moment.TheConstants.{LAST_MOMENT}
 use Rattle.qm_bytes.specs.declared.fault.BadField.{BadField}
 use Rattle.qm_bytes.specs.Reading.{Reader, IsThere, ◌>>=◌, pure, byte_where, between, number_at, number_up_to, truth_at, optional_at, list_at, name_at, file_name_at, long_bytes_at, mark_at, set_at, moment_at}
-use Rattle.qm_kinds.specs.declared.record.Record.{Record}
-use Rattle.qm_kinds.specs.declared.record.Body.{Body}
 use Rattle.qm_kinds.specs.declared.record.Body.TheVariants as body
 use Rattle.qm_kinds.specs.declared.request_kind.RequestKind.TheVariants as requests
 use Rattle.qm_record.specs.declared.kind.RecordKind.{RecordKind}

@@ -1,13 +1,8 @@
 -- The rows of an image, and how long their spellings may be.
-use Rattle.std.specs.Prelude.{ℕ, ◌+◌, ◌*◌, ◌≤◌, Bool, true, false, List, [], ◌∷◌, length, Option, Some, None}
+use Rattle.std.proofs.Common.{arith, length-append, ℕ, ◌+◌, ◌*◌, ◌≤◌, Bool, true, false, List, [], ◌∷◌, length, Option, Some, None}
 use Rattle.std.specs.List.{AllByRecursion}
-use Rattle.std.proofs.Common.{arith, length-append}
 use Rattle.qm_bytes.specs.Spelling.{truth, optional, each, list, short_bytes, IsName, IsList, AllOf}
-use Rattle.qm_kinds.specs.declared.form.Form.{Form}
-use Rattle.qm_kinds.specs.declared.queue.Queue.{Queue}
-use Rattle.qm_kinds.specs.declared.system.Node.{Node}
-use Rattle.qm_kinds.specs.declared.record.Record.{Record}
-use Rattle.qm_kinds.specs.declared.record.Body.{Body}
+use Rattle.qm_model.specs.Common.{Form, Queue, Node, Record, Body}
 use Rattle.qm_kinds.specs.declared.record.Body.TheVariants as body
 use Rattle.qm_record.specs.Spelling.{node, head, form, queue, body_parts, text_of, record_text, NodeFits, FormFits, QueueFits, BodyFits, HasSpelling}
 

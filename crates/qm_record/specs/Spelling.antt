@@ -1,33 +1,14 @@
 -- The one spelling of each record.
 use Rattle.std.specs.Prelude.{◌≡◌, ℕ, ◌<◌, ◌^◌, Bool, true, false, List, [], ◌∷◌, ◌++◌, length, Option, None, Some}
-use Rattle.qm_kinds.specs.declared.request.Request.{Request}
+use Rattle.qm_model.specs.Common.{Request, FileName, EntryChange, Job, NameOrNumber, Name, Number, JobKind, JobRetain, QueueKind, QueueState, QueueRetain, Queue, QueueChange, NewQueue, StopMode, Form, Shape, Characteristic, Node, Record, Body}
 use Rattle.qm_kinds.specs.declared.request.Request.TheVariants as ask
-use Rattle.qm_kinds.specs.declared.request.EntryChange.{EntryChange}
-use Rattle.qm_kinds.specs.declared.request.Job.{Job}
-use Rattle.qm_kinds.specs.declared.request.NameOrNumber.{NameOrNumber}
-use Rattle.qm_kinds.specs.declared.request.NameOrNumber.TheVariants.{Name, Number}
-use Rattle.qm_kinds.specs.declared.entry.JobKind.{JobKind}
 use Rattle.qm_kinds.specs.declared.entry.JobKind.TheVariants as job
-use Rattle.qm_kinds.specs.declared.entry.JobRetain.{JobRetain}
 use Rattle.qm_kinds.specs.declared.entry.JobRetain.TheVariants as retain
-use Rattle.qm_kinds.specs.declared.queue.QueueKind.{QueueKind}
 use Rattle.qm_kinds.specs.declared.queue.QueueKind.TheVariants as kind
-use Rattle.qm_kinds.specs.declared.queue.QueueState.{QueueState}
 use Rattle.qm_kinds.specs.declared.queue.QueueState.TheVariants as state
-use Rattle.qm_kinds.specs.declared.queue.QueueRetain.{QueueRetain}
 use Rattle.qm_kinds.specs.declared.queue.QueueRetain.TheVariants as keep
-use Rattle.qm_kinds.specs.declared.queue.Queue.{Queue}
-use Rattle.qm_kinds.specs.declared.queue.QueueChange.{QueueChange}
-use Rattle.qm_kinds.specs.declared.queue.NewQueue.{NewQueue}
-use Rattle.qm_kinds.specs.declared.request.StopMode.{StopMode}
 use Rattle.qm_kinds.specs.declared.request.StopMode.TheVariants as stop
-use Rattle.qm_kinds.specs.declared.form.Form.{Form}
-use Rattle.qm_kinds.specs.declared.form.Shape.{Shape}
-use Rattle.qm_kinds.specs.declared.form.Characteristic.{Characteristic}
-use Rattle.qm_kinds.specs.declared.system.Node.{Node}
 use Rattle.qm_bytes.specs.Spelling.{low_first, fields, byte, truth, optional, list, long_bytes, short_bytes, file_name, set, moment, IsName, IsMark, IsMoment, AreLongBytes, IsFileName, IsSet, IsList, AllOf}
-use Rattle.qm_kinds.specs.declared.record.Record.{Record}
-use Rattle.qm_kinds.specs.declared.record.Body.{Body}
 use Rattle.qm_kinds.specs.declared.record.Body.TheVariants as body
 use Rattle.qm_kinds.specs.declared.request_kind.RequestKind.TheVariants as requests
 use Rattle.qm_record.specs.declared.kind.RecordKind.{RecordKind}
@@ -142,27 +123,59 @@ abort queue_name entry requeue = fields (short_bytes queue_name ∷ optional (lo
 abbrev pub took : ℕ → List (List ℕ) → List (List ℕ) → List (List ℕ) → List ℕ
 took epoch gone up may = fields (low_first 8 epoch ∷ list short_bytes gone ∷ list short_bytes up ∷ list short_bytes may ∷ [])
 
+-- a file, and the bytes that are added to it
+abbrev pub append_text : FileName → List ℕ → List ℕ
+append_text file bytes = fields (file_name file ∷ long_bytes bytes ∷ [])
+
+-- a file, and how many lines it is to get
+abbrev pub fill_text : FileName → ℕ → List ℕ
+fill_text file lines = file_name file ++ low_first 2 lines
+
+-- a queue, and the settings that are given
+abbrev pub settings_text : List ℕ → QueueChange → List ℕ
+settings_text name change = short_bytes name ++ queue_change change
+
+-- a queue, and how it is stopped
+abbrev pub stop_text : List ℕ → StopMode → List ℕ
+stop_text name how = short_bytes name ++ byte (stop_mode_code how)
+
+-- the queue to which jobs are moved, and the one from which they come
+abbrev pub moved_text : List ℕ → List ℕ → List ℕ
+moved_text to from = short_bytes to ++ short_bytes from
+
+-- an entry, and what is changed of it
+abbrev pub changed_text : ℕ → EntryChange → List ℕ
+changed_text entry change = low_first 4 entry ++ entry_change change
+
+-- a run, and its mark
+abbrev pub run_mark_text : ℕ → List ℕ → List ℕ
+run_mark_text run value = low_first 8 run ++ short_bytes value
+
+-- a run, and the status with which it ended
+abbrev pub done_text : ℕ → ℕ → List ℕ
+done_text run status = low_first 8 run ++ low_first 4 status
+
 -- The kind and the fields of a request: each has a spelling.
 abbrev pub request_parts : Request → Option (RecordKind × List ℕ)
-request_parts (ask.Append file bytes) = Some ((record_kind.Request requests.Append), fields (file_name file ∷ long_bytes bytes ∷ []))
-request_parts (ask.Fill file lines) = Some ((record_kind.Request requests.Fill), file_name file ++ low_first 2 lines)
+request_parts (ask.Append file bytes) = Some ((record_kind.Request requests.Append), append_text file bytes)
+request_parts (ask.Fill file lines) = Some ((record_kind.Request requests.Fill), fill_text file lines)
 request_parts (ask.Drop file) = Some ((record_kind.Request requests.Drop), file_name file)
 request_parts (ask.DefineForm f) = Some ((record_kind.Request requests.DefineForm), form f)
 request_parts (ask.DeleteForm name) = Some ((record_kind.Request requests.DeleteForm), short_bytes name)
 request_parts (ask.DefineCharacteristic c) = Some ((record_kind.Request requests.DefineCharacteristic), characteristic c)
 request_parts (ask.DeleteCharacteristic name) = Some ((record_kind.Request requests.DeleteCharacteristic), short_bytes name)
 request_parts (ask.InitializeQueue new) = Some ((record_kind.Request requests.InitializeQueue), new_queue new)
-request_parts (ask.SetQueue name change) = Some ((record_kind.Request requests.SetQueue), short_bytes name ++ queue_change change)
-request_parts (ask.StartQueue name change) = Some ((record_kind.Request requests.StartQueue), short_bytes name ++ queue_change change)
-request_parts (ask.StopQueue name how) = Some ((record_kind.Request requests.StopQueue), short_bytes name ++ byte (stop_mode_code how))
+request_parts (ask.SetQueue name change) = Some ((record_kind.Request requests.SetQueue), settings_text name change)
+request_parts (ask.StartQueue name change) = Some ((record_kind.Request requests.StartQueue), settings_text name change)
+request_parts (ask.StopQueue name how) = Some ((record_kind.Request requests.StopQueue), stop_text name how)
 request_parts (ask.AbortJob queue_name entry requeue) = Some ((record_kind.Request requests.AbortJob), abort queue_name entry requeue)
 request_parts (ask.DeleteQueue name) = Some ((record_kind.Request requests.DeleteQueue), short_bytes name)
-request_parts (ask.Merge to from) = Some ((record_kind.Request requests.Merge), short_bytes to ++ short_bytes from)
+request_parts (ask.Merge to from) = Some ((record_kind.Request requests.Merge), moved_text to from)
 request_parts (ask.Submit j) = Some ((record_kind.Request requests.Submit), job_text j)
-request_parts (ask.SetEntry entry change) = Some ((record_kind.Request requests.SetEntry), low_first 4 entry ++ entry_change change)
+request_parts (ask.SetEntry entry change) = Some ((record_kind.Request requests.SetEntry), changed_text entry change)
 request_parts (ask.DeleteEntry entry) = Some ((record_kind.Request requests.DeleteEntry), low_first 4 entry)
-request_parts (ask.Mark run value) = Some (record_kind.Mark, low_first 8 run ++ short_bytes value)
-request_parts (ask.Done run status) = Some (record_kind.Done, low_first 8 run ++ low_first 4 status)
+request_parts (ask.Mark run value) = Some (record_kind.Mark, run_mark_text run value)
+request_parts (ask.Done run status) = Some (record_kind.Done, done_text run status)
 request_parts ask.Tick = Some (record_kind.Tick, [])
 request_parts ask.NodeUp = Some (record_kind.NodeUp, [])
 request_parts (ask.NodeLost nodes) = Some (record_kind.NodeLost, list short_bytes nodes)

@@ -35,7 +35,8 @@ pub(crate) fn put_characteristic(
     out: &mut Vec<u8>,
     characteristic: &Characteristic,
 ) -> Result<(), AllocError>
-    ensures ok { OnOk result (out.new.items ≡ out.old.items ++ characteristic_text characteristic.now) }
+    ensures ok { OnOk result (out.new.items
+        ≡ out.old.items ++ characteristic_text characteristic.now) }
     ensures lawful { OnOk result (CharacteristicFits characteristic.now) }
 {
     put_name(out, &characteristic.name)?;

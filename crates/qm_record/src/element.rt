@@ -295,7 +295,8 @@ pub(crate) fn put_optional_list<T: Element>(
     items: &Option<Seq<T>>,
 ) -> Result<(), AllocError>
     requires { AllOf (λ xs. length xs < 2 ^ 16) items.now }
-    ensures ok { OnOk result (out.new.items ≡ out.old.items ++ optional (list T.spelling) items.now) }
+    ensures ok { OnOk result (out.new.items
+        ≡ out.old.items ++ optional (list T.spelling) items.now) }
     ensures lawful { OnOk result (AllOf (IsList T.fits) items.now) }
 {
     match items {

@@ -1,8 +1,7 @@
 // The records of requests about entries that are there.
 ghost use Rattle.std.specs.Prelude.{◌≡◌, ◌++◌, OnOk};
-ghost use Rattle.qm_bytes.specs.Spelling.{low_first};
 ghost use Rattle.qm_bytes.specs.Reading.{GivesKept};
-ghost use Rattle.qm_record.specs.Spelling.{entry_change, EntryChangeFits, IsEntryNumber, IsShortEntryChange};
+ghost use Rattle.qm_record.specs.Spelling.{entry_change, changed_text, EntryChangeFits, IsEntryNumber, IsShortEntryChange};
 ghost use Rattle.qm_record.specs.Reading.{entry_change_at, set_entry_at, delete_entry_at};
 
 use crate::element::{put_optional, put_optional_list, read_optional, read_optional_list};
@@ -36,7 +35,7 @@ pub(crate) fn put_set_entry(
     change: &EntryChange,
 ) -> Result<(), AllocError>
     requires { IsShortEntryChange change.now }
-    ensures ok { OnOk result (out.new.items ≡ out.old.items ++ (low_first 4 entry ++ entry_change change.now)) }
+    ensures ok { OnOk result (out.new.items ≡ out.old.items ++ changed_text entry change.now) }
     ensures entry { OnOk result (IsEntryNumber entry) }
     ensures change { OnOk result (EntryChangeFits change.now) }
 {

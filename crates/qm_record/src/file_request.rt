@@ -1,7 +1,8 @@
 // The records of requests about files.
-ghost use Rattle.std.specs.Prelude.{◌≡◌, ◌<◌, ◌^◌, ◌++◌, [], ◌∷◌, length, OnOk};
-ghost use Rattle.qm_bytes.specs.Spelling.{fields, file_name, long_bytes, low_first, IsFileName, AreLongBytes};
+ghost use Rattle.std.specs.Prelude.{◌≡◌, ◌<◌, ◌^◌, ◌++◌, length, OnOk};
+ghost use Rattle.qm_bytes.specs.Spelling.{IsFileName, AreLongBytes};
 ghost use Rattle.qm_bytes.specs.Reading.{GivesKept};
+ghost use Rattle.qm_record.specs.Spelling.{append_text, fill_text};
 ghost use Rattle.qm_record.specs.Reading.{append_at, fill_at, drop_at};
 
 use qm_bytes::{
@@ -14,7 +15,7 @@ use std::alloc::{AllocError, Global};
 /// Appends the fields of a request to append to a file.
 pub(crate) fn put_append(out: &mut Vec<u8>, file: &FileName, bytes: &[u8]) -> Result<(), AllocError>
     requires { length bytes.now < 2 ^ 32 }
-    ensures ok { OnOk result (out.new.items ≡ out.old.items ++ fields (file_name file.now ∷ long_bytes bytes.now ∷ [])) }
+    ensures ok { OnOk result (out.new.items ≡ out.old.items ++ append_text file.now bytes.now) }
     ensures file { OnOk result (IsFileName file.now) }
     ensures bytes { OnOk result (AreLongBytes bytes.now) }
 {
@@ -41,7 +42,7 @@ pub(crate) fn read_append(
 
 /// Appends a file and how many lines it is to get.
 pub(crate) fn put_fill(out: &mut Vec<u8>, file: &FileName, lines: u16) -> Result<(), AllocError>
-    ensures ok { OnOk result (out.new.items ≡ out.old.items ++ (file_name file.now ++ low_first 2 lines)) }
+    ensures ok { OnOk result (out.new.items ≡ out.old.items ++ fill_text file.now lines) }
     ensures file { OnOk result (IsFileName file.now) }
     ensures lines { OnOk result (lines < 2 ^ 16) }
 {

@@ -1,8 +1,8 @@
 // The records of requests about queues and about the jobs that run in them.
 ghost use Rattle.std.specs.Prelude.{◌≡◌, ◌++◌, OnOk};
-ghost use Rattle.qm_bytes.specs.Spelling.{short_bytes, byte, IsName, AllOf};
+ghost use Rattle.qm_bytes.specs.Spelling.{IsName, AllOf};
 ghost use Rattle.qm_bytes.specs.Reading.{GivesKept};
-ghost use Rattle.qm_record.specs.Spelling.{new_queue as new_queue_text, queue_change, abort, stop_mode_code, NewQueueFits, ChangeFits, IsEntryNumber, IsShortQueue, IsShortChange};
+ghost use Rattle.qm_record.specs.Spelling.{new_queue as new_queue_text, queue_change, settings_text, stop_text, moved_text, abort, NewQueueFits, ChangeFits, IsEntryNumber, IsShortQueue, IsShortChange};
 ghost use Rattle.qm_record.specs.Reading.{change_at, initialize_at, set_queue_at, start_queue_at, stop_queue_at, abort_job_at, delete_queue_at, merge_at};
 
 use crate::element::{
@@ -111,7 +111,7 @@ pub(crate) fn put_settings(
     change: &QueueChange,
 ) -> Result<(), AllocError>
     requires { IsShortChange change.now }
-    ensures ok { OnOk result (out.new.items ≡ out.old.items ++ (short_bytes name.now ++ queue_change change.now)) }
+    ensures ok { OnOk result (out.new.items ≡ out.old.items ++ settings_text name.now change.now) }
     ensures name { OnOk result (IsName name.now) }
     ensures change { OnOk result (ChangeFits change.now) }
 {
@@ -153,7 +153,7 @@ pub(crate) fn read_start_queue(
 
 /// Appends a queue's name and how it is stopped.
 pub(crate) fn put_stop(out: &mut Vec<u8>, name: &Name, how: StopMode) -> Result<(), AllocError>
-    ensures ok { OnOk result (out.new.items ≡ out.old.items ++ (short_bytes name.now ++ byte (stop_mode_code how))) }
+    ensures ok { OnOk result (out.new.items ≡ out.old.items ++ stop_text name.now how) }
     ensures lawful { OnOk result (IsName name.now) }
 {
     put_name(out, name)?;
@@ -216,7 +216,7 @@ pub(crate) fn read_delete_queue(bytes: &mut &[u8]) -> Result<Result<Body, AllocE
 
 /// Appends the queue to which jobs are moved, and the one from which they come.
 pub(crate) fn put_merge(out: &mut Vec<u8>, to: &Name, from: &Name) -> Result<(), AllocError>
-    ensures ok { OnOk result (out.new.items ≡ out.old.items ++ (short_bytes to.now ++ short_bytes from.now)) }
+    ensures ok { OnOk result (out.new.items ≡ out.old.items ++ moved_text to.now from.now) }
     ensures to { OnOk result (IsName to.now) }
     ensures from { OnOk result (IsName from.now) }
 {

@@ -8,22 +8,13 @@ ghost use Rattle.qm_record.specs.Spelling.{record_text, HasSpelling};
 ghost use Rattle.qm_record.specs.Reading.{record_kind_at, body_at, record_at, whole_at, GivesFront, left_by, completed, TellsWhole, last_moment, last_node};
 ghost use Rattle.qm_record.specs.Faults.{IsRead, IsRecord, IsFirstFault};
 
-use crate::definition_request::{
-    read_define_characteristic, read_define_form, read_delete_characteristic, read_delete_form,
-};
-use crate::entry_request::{read_delete_entry, read_set_entry};
 use crate::fault::RecordFault;
-use crate::file_request::{read_append, read_drop, read_fill};
 use crate::kind::RecordKind;
 use crate::node_request::{read_node_lost, read_took};
-use crate::queue_request::{
-    read_abort_job, read_delete_queue, read_initialize, read_merge, read_set_queue,
-    read_start_queue, read_stop_queue,
-};
-use crate::request::{read_done, read_run_mark, read_submit};
+use crate::request::{read_done, read_request, read_run_mark};
 use crate::row::{read_form_row, read_head, read_queue_row};
 use qm_bytes::{BadField, Width, read_byte, read_number_up_to};
-use qm_kinds::{Body, LAST_MOMENT, Moment, Record, Request, RequestKind};
+use qm_kinds::{Body, LAST_MOMENT, Moment, Record, Request};
 use std::alloc::{AllocError, Global};
 
 // Reads the kind of a record.
@@ -55,23 +46,7 @@ fn read_body(
     ensures { GivesKept result bytes.new.now (body_at kind bytes.old.now) }
 {
     match kind {
-        RecordKind::Request(RequestKind::Append) => read_append(alloc, bytes),
-        RecordKind::Request(RequestKind::Fill) => read_fill(bytes),
-        RecordKind::Request(RequestKind::Drop) => read_drop(bytes),
-        RecordKind::Request(RequestKind::DefineForm) => read_define_form(bytes),
-        RecordKind::Request(RequestKind::DeleteForm) => read_delete_form(bytes),
-        RecordKind::Request(RequestKind::DefineCharacteristic) => read_define_characteristic(bytes),
-        RecordKind::Request(RequestKind::DeleteCharacteristic) => read_delete_characteristic(bytes),
-        RecordKind::Request(RequestKind::InitializeQueue) => read_initialize(alloc, bytes),
-        RecordKind::Request(RequestKind::SetQueue) => read_set_queue(alloc, bytes),
-        RecordKind::Request(RequestKind::StartQueue) => read_start_queue(alloc, bytes),
-        RecordKind::Request(RequestKind::StopQueue) => read_stop_queue(bytes),
-        RecordKind::Request(RequestKind::AbortJob) => read_abort_job(bytes),
-        RecordKind::Request(RequestKind::DeleteQueue) => read_delete_queue(bytes),
-        RecordKind::Request(RequestKind::Merge) => read_merge(bytes),
-        RecordKind::Request(RequestKind::Submit) => read_submit(alloc, bytes),
-        RecordKind::Request(RequestKind::SetEntry) => read_set_entry(alloc, bytes),
-        RecordKind::Request(RequestKind::DeleteEntry) => read_delete_entry(bytes),
+        RecordKind::Request(kind) => read_request(alloc, bytes, kind),
         RecordKind::Mark => read_run_mark(bytes),
         RecordKind::Done => read_done(bytes),
         RecordKind::Tick => Ok(Ok(Body::Ask(Request::Tick))),
@@ -188,7 +163,8 @@ pub fn read_record(alloc: Global, bytes: &[u8]) -> Result<Record, RecordFault>
     // What is spelled so is read, unless memory runs out.
     ensures only { (r : AnyRecord) → HasSpelling r → bytes.now ≡ record_text r → IsRead r result }
     // A fault is the first one.
-    ensures first { (place : ℕ) → IsErrOf result (RecordFault.Bad place) → IsFirstFault bytes.now place }
+    ensures first { (place : ℕ) → IsErrOf result (RecordFault.Bad place)
+        → IsFirstFault bytes.now place }
     // Memory runs out for a record alone, and in place of no fault.
     ensures no_memory { IsErrOf result RecordFault.NoMemory → IsRecord bytes.now }
 {
@@ -197,5 +173,6 @@ pub fn read_record(alloc: Global, bytes: &[u8]) -> Result<Record, RecordFault>
 
 /// No record's spelling begins another's.
 pub fn no_record_begins_another()
-    ensures { (a b : AnyRecord) (rest : List ℕ) → HasSpelling a → HasSpelling b → record_text b ≡ record_text a ++ rest → (b ≡ a) × (rest ≡ []) }
+    ensures { (a b : AnyRecord) (rest : List ℕ) → HasSpelling a → HasSpelling b
+        → record_text b ≡ record_text a ++ rest → (b ≡ a) × (rest ≡ []) }
 {}

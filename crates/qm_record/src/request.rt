@@ -1,18 +1,24 @@
-// The records of requests.
+// The records of requests: which kind each is, and what writes and reads its fields.
 ghost use Rattle.std.specs.Prelude.{◌≡◌, ◌<◌, ◌^◌, ◌++◌, Some, length, OnOk};
-ghost use Rattle.qm_bytes.specs.Spelling.{short_bytes, low_first, IsMoment, IsMark};
+ghost use Rattle.qm_bytes.specs.Spelling.{IsMoment, IsMark};
 ghost use Rattle.qm_bytes.specs.Reading.{Gives, GivesKept};
-ghost use Rattle.qm_record.specs.Spelling.{job_text, front, fields_in, text_of, request_parts, JobFits, RequestFits, CanBeRecorded};
-ghost use Rattle.qm_record.specs.Reading.{submit_at, run_mark_at, done_at};
+ghost use Rattle.qm_record.specs.Spelling.{job_text, run_mark_text, done_text, front, fields_in, text_of, request_parts, JobFits, RequestFits, CanBeRecorded};
+ghost use Rattle.qm_record.specs.Reading.{body_at, submit_at, run_mark_at, done_at};
 
-use crate::definition_request::put_characteristic;
+use crate::definition_request::{
+    put_characteristic, read_define_characteristic, read_define_form, read_delete_characteristic,
+    read_delete_form,
+};
 use crate::element::{put_list, put_optional, read_list, read_optional};
-use crate::entry_request::put_set_entry;
+use crate::entry_request::{put_set_entry, read_delete_entry, read_set_entry};
 use crate::field::{job_kind_code, put_byte, put_job_retain, read_job_kind, read_job_retain};
-use crate::file_request::{put_append, put_fill};
+use crate::file_request::{put_append, put_fill, read_append, read_drop, read_fill};
 use crate::kind::RecordKind;
 use crate::node_request::put_took;
-use crate::queue_request::{put_abort, put_merge, put_new_queue, put_settings, put_stop};
+use crate::queue_request::{
+    put_abort, put_merge, put_new_queue, put_settings, put_stop, read_abort_job, read_delete_queue,
+    read_initialize, read_merge, read_set_queue, read_start_queue, read_stop_queue,
+};
 use crate::row::put_form;
 use qm_bytes::{
     BadField, Width, put_file_name, put_mark, put_moment, put_name, put_number,
@@ -79,7 +85,8 @@ pub(crate) fn put_request(
     request: &Request,
 ) -> Result<(), AllocError>
     requires { CanBeRecorded request.now }
-    ensures ok { OnOk result (out.new.items ≡ out.old.items ++ text_of moment node (request_parts request.now)) }
+    ensures ok { OnOk result (out.new.items
+        ≡ out.old.items ++ text_of moment node (request_parts request.now)) }
     ensures moment { OnOk result (IsMoment moment) }
     ensures lawful { OnOk result (RequestFits request.now) }
 {
@@ -91,7 +98,8 @@ pub(crate) fn put_request(
 // Appends the fields of a request.
 fn put_fields(out: &mut Vec<u8>, request: &Request) -> Result<(), AllocError>
     requires { CanBeRecorded request.now }
-    ensures ok { OnOk result (out.new.items ≡ out.old.items ++ fields_in (request_parts request.now)) }
+    ensures ok { OnOk result (out.new.items
+        ≡ out.old.items ++ fields_in (request_parts request.now)) }
     ensures lawful { OnOk result (RequestFits request.now) }
 {
     match request {
@@ -130,9 +138,39 @@ fn put_fields(out: &mut Vec<u8>, request: &Request) -> Result<(), AllocError>
     }
 }
 
+/// Reads the fields of a request. No reader is inlined here either.
+#[tactic(auto, unfolding(crate::specs::Reading::body_at))]
+pub(crate) fn read_request(
+    alloc: Global,
+    bytes: &mut &[u8],
+    kind: RequestKind,
+) -> Result<Result<Body, AllocError>, BadField>
+    ensures { GivesKept result bytes.new.now (body_at (RecordKind.Request kind) bytes.old.now) }
+{
+    match kind {
+        RequestKind::Append => read_append(alloc, bytes),
+        RequestKind::Fill => read_fill(bytes),
+        RequestKind::Drop => read_drop(bytes),
+        RequestKind::DefineForm => read_define_form(bytes),
+        RequestKind::DeleteForm => read_delete_form(bytes),
+        RequestKind::DefineCharacteristic => read_define_characteristic(bytes),
+        RequestKind::DeleteCharacteristic => read_delete_characteristic(bytes),
+        RequestKind::InitializeQueue => read_initialize(alloc, bytes),
+        RequestKind::SetQueue => read_set_queue(alloc, bytes),
+        RequestKind::StartQueue => read_start_queue(alloc, bytes),
+        RequestKind::StopQueue => read_stop_queue(bytes),
+        RequestKind::AbortJob => read_abort_job(bytes),
+        RequestKind::DeleteQueue => read_delete_queue(bytes),
+        RequestKind::Merge => read_merge(bytes),
+        RequestKind::Submit => read_submit(alloc, bytes),
+        RequestKind::SetEntry => read_set_entry(alloc, bytes),
+        RequestKind::DeleteEntry => read_delete_entry(bytes),
+    }
+}
+
 // Appends a run and its mark.
 fn put_run_mark(out: &mut Vec<u8>, run: u64, value: &Mark) -> Result<(), AllocError>
-    ensures ok { OnOk result (out.new.items ≡ out.old.items ++ (low_first 8 run ++ short_bytes value.now)) }
+    ensures ok { OnOk result (out.new.items ≡ out.old.items ++ run_mark_text run value.now) }
     ensures run { OnOk result (run < 2 ^ 64) }
     ensures value { OnOk result (IsMark value.now) }
 {
@@ -142,7 +180,7 @@ fn put_run_mark(out: &mut Vec<u8>, run: u64, value: &Mark) -> Result<(), AllocEr
 
 // Appends a run and the status with which it ended.
 fn put_done(out: &mut Vec<u8>, run: u64, status: u32) -> Result<(), AllocError>
-    ensures ok { OnOk result (out.new.items ≡ out.old.items ++ (low_first 8 run ++ low_first 4 status)) }
+    ensures ok { OnOk result (out.new.items ≡ out.old.items ++ done_text run status) }
     ensures run { OnOk result (run < 2 ^ 64) }
     ensures status { OnOk result (status < 2 ^ 32) }
 {

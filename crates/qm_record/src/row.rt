@@ -55,7 +55,8 @@ pub(crate) fn put_head(
 ) -> Result<(), AllocError>
     requires nodes { length nodes.now < 2 ^ 16 }
     requires may { length may.now < 2 ^ 16 }
-    ensures ok { OnOk result (out.new.items ≡ out.old.items ++ head_text nodes.now may.now next_entry next_run last) }
+    ensures ok { OnOk result (out.new.items
+        ≡ out.old.items ++ head_text nodes.now may.now next_entry next_run last) }
     ensures nodes { OnOk result (IsList NodeFits nodes.now) }
     ensures may { OnOk result (IsList IsName may.now) }
     ensures last { OnOk result (IsMoment last) }

@@ -14,7 +14,8 @@ use std::alloc::{AllocError, Global};
 // Appends a record.
 fn put_body(out: &mut Vec<u8>, moment: Moment, node: u8, body: &Body) -> Result<(), AllocError>
     requires { IsShortBody body.now }
-    ensures ok { OnOk result (out.new.items ≡ out.old.items ++ text_of moment node (body_parts body.now)) }
+    ensures ok { OnOk result (out.new.items
+        ≡ out.old.items ++ text_of moment node (body_parts body.now)) }
     ensures moment { OnOk result (IsMoment moment) }
     ensures lawful { OnOk result (BodyFits body.now) }
 {
@@ -63,7 +64,8 @@ pub fn write_request(
     request: &Request,
 ) -> Result<Vec<u8>, AllocError>
     requires { CanBeRecorded request.now }
-    ensures { IfOk result (λ text. Spells HasSpelling record_text (request_record moment node request.now) text.items) }
+    ensures { IfOk result (λ text.
+        Spells HasSpelling record_text (request_record moment node request.now) text.items) }
 {
     let mut out = Vec::new(alloc);
     put_request(&mut out, moment, node, request)?;

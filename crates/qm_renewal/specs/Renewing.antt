@@ -1,9 +1,8 @@
 -- The room of a row, and the key that a row may have of a job.
 use Rattle.std.specs.Prelude.{ℕ, ◌+◌, if◌then◌else◌, length, Option, None, Some}
-use Rattle.qm_kinds.specs.declared.entry.Entry.{Entry}
+use Rattle.qm_model.specs.Common.{Entry, is_pending}
 use Rattle.qm_match.specs.Keys.{key_of}
 use Rattle.qm_match.specs.declared.order.Key.{Key}
-use Rattle.qm_model.specs.JobStates.{is_pending}
 use Rattle.qm_ready.specs.Rows.{Row}
 
 -- for how many keys a row has room, those that it has counted among them

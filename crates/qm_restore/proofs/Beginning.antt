@@ -1,24 +1,16 @@
 -- The rows with which a queue file begins, and what it means that one isn't there.
-use Rattle.std.specs.Prelude.{zero, IfOk}
-use Rattle.std.proofs.Common.{◌≡◌, ℕ, suc, ◌+◌, ◌<◌, ◌≤◌, List, [], ◌∷◌, ◌++◌, length, map, take, drop, get_or, Bool, true, false, eqb, ltb, Option, Some, Result, Ok, Err, refl, sym, ap, subst, ◌∙◌, arith, add-one, lit<, lit≤}
+use Rattle.std.proofs.Common.{◌≡◌, ℕ, suc, ◌+◌, ◌<◌, ◌≤◌, List, [], ◌∷◌, ◌++◌, length, map, take, drop, get_or, Bool, true, false, eqb, ltb, Option, Some, Result, Ok, Err, refl, sym, ap, subst, ◌∙◌, arith, add-one, lit<, lit≤, zero, IfOk, option_map}
 use Rattle.std.specs.List.{AllByRecursion, slice_get}
-use Rattle.std.specs.Option.{option_map}
-use Rattle.std.proofs.lemmas.List.{take-append-drop, take_more_same, length-take}
+use Rattle.std.proofs.lemmas.List.{take-append-drop, take_more_same, length-take, append-nil}
 use Rattle.std.proofs.lemmas.List.Elements.{All-from_recursion}
 use Rattle.std.specs.Cmp.Lexicographic.{pointwise}
 use Rattle.std.proofs.lemmas.Bool.Decides.{nat_tests, Decides-eqb}
 use Rattle.std.proofs.lemmas.Slice.Eq.{slice_eq-Decides}
 use Rattle.std.proofs.lemmas.Option.{slice_get_within, get_or_from_slice_get, slice_get-map, slice_get_read}
-use Rattle.qm_kinds.specs.declared.record.Body.{Body}
-use Rattle.qm_kinds.specs.declared.record.Record.{Record}
-use Rattle.qm_kinds.specs.declared.system.Node.{Node}
-use Rattle.qm_kinds.specs.declared.system.System.{System}
-use Rattle.qm_model.specs.Consistent.{AreNodes}
-use Rattle.qm_model.specs.Log.{row, head_of}
-use Rattle.qm_record.specs.Spelling.{HasSpelling, record_text}
-use Rattle.qm_record.specs.Faults.{IsRecord}
+use Rattle.qm_history.specs.Common.{Body, Record, Node, System, AreNodes, HasSpelling, record_text, IsRecord}
+use Rattle.qm_model.specs.Log.{row, head_of, image_of}
 use Rattle.qm_restore.specs.Site.{new_system, new_rows}
-use Rattle.qm_restore.specs.QueueFile.{IsFileOf, IsSiteFile, Begins, IsFirstUnlawful}
+use Rattle.qm_restore.specs.QueueFile.{IsFileFrom, IsSiteFile, Begins, IsFirstUnlawful}
 use Rattle.qm_restore.specs.Restoring.{OfBody, named_by, Names, NamesNone, IsOf, BeginsWithRows, Judges, IsRead, IsUnreadableAt, IsFirst}
 use Rattle.qm_restore.specs.declared.fault.RestoreFault.{RestoreFault}
 use Rattle.qm_restore.specs.declared.fault.RestoreFault.TheVariants.{Unlawful, NoMemory}
@@ -29,11 +21,25 @@ use Rattle.qm_restore.proofs.FirstRows.{rows_fit, named_fit}
 abbrev pub head_row : List Node → Record
 head_row nodes = row (head_of (new_system nodes))
 
-pub new_file : (nodes : List Node) → AllByRecursion HasSpelling (new_rows nodes) → IsFileOf nodes (map record_text (new_rows nodes)) (new_system nodes)
-new_file nodes fit = record { requests = []; fit = fit; spelled = refl; lead = record { stand = tt; leave = refl } }
+-- the rows of a system alone
+first_file : (first : System) → AllByRecursion HasSpelling (image_of first) → IsFileFrom first (map record_text (image_of first)) first
+first_file first fit = record {
+  requests = [];
+  fit = subst (AllByRecursion HasSpelling) (sym (append-nil (image_of first))) fit;
+  spelled = ap (λ (rs : List Record). map record_text rs) (sym (append-nil (image_of first)));
+  lead = record { stand = tt; leave = refl };
+}
 
 pub new_site_file : (nodes : List Node) → AreNodes nodes → AllByRecursion HasSpelling (new_rows nodes) → IsSiteFile (map record_text (new_rows nodes)) (new_system nodes)
-new_site_file nodes proper fit = record { nodes = nodes; proper = proper; file = new_file nodes fit }
+new_site_file nodes proper fit = record {
+  first = new_system nodes;
+  is_new = record { nodes = nodes; proper = proper; is = refl };
+  file = first_file (new_system nodes) fit;
+}
+
+-- a queue file begins with the rows of a new site
+pub begins_new : (bodies : List (List ℕ)) (s : System) (f : IsSiteFile bodies s) → IsFileFrom (new_system f.is_new.nodes) bodies s
+begins_new bodies s f = subst (λ (t : System). IsFileFrom t bodies s) f.is_new.is f.file
 
 -- a node that a site can have
 abbrev some_nodes : List Node
@@ -93,12 +99,14 @@ first_is_unlawful [] not = record {
   within = omega arith;
   begins = some_file;
   ends = λ within g. absurd (omega (arith, within));
-  unfinished = λ end s f. not_empty _ _ f.file.spelled;
+  unfinished = λ end s f. not_empty _ _ (begins_new [] s f).spelled;
 }
 first_is_unlawful (first ∷ others) not = record {
   within = omega arith;
   begins = some_file;
-  ends = λ within g. not first g.is.nodes refl g.is.proper g.is.file.fit.0 (same_first first _ g.more _ g.is.file.spelled);
+  ends = λ within g.
+      let f = begins_new _ g.system g.is in
+      not first g.is.is_new.nodes refl g.is.is_new.proper f.fit.0 (same_first first _ g.more _ f.spelled);
   unfinished = λ end s f. absurd (omega (arith, end));
 }
 
@@ -131,7 +139,7 @@ row_text_at rows nodes index row same within is =
 
 -- where a queue file of these nodes begins with some records, and this is the next, it is the row of this index
 next_is_row : (bodies more : List (List ℕ)) (s : System) (nodes : List Node) (index : ℕ) → index < 3 → index < length bodies
-    → IsFileOf nodes (take (index + 1) bodies ++ more) s
+    → IsFileFrom (new_system nodes) (take (index + 1) bodies ++ more) s
     → slice_get bodies index ≡ slice_get (map record_text (new_rows nodes)) index
 next_is_row bodies more s nodes index below within f =
     let long : index < length (take (index + 1) bodies) = omega (arith, length-take (index + 1) bodies) in
@@ -143,11 +151,11 @@ next_is_row bodies more s nodes index below within f =
 
 -- a queue file that begins with the first of these records is of these nodes
 pub of_front : (bodies : List (List ℕ)) (nodes : List Node) → IsOf bodies nodes → (index : ℕ) (more : List (List ℕ)) (s : System) (others : List Node)
-    → IsFileOf others (take (index + 1) bodies ++ more) s → others ≡ nodes
+    → IsFileFrom (new_system others) (take (index + 1) bodies ++ more) s → others ≡ nodes
 of_front bodies nodes of index more s others f =
     let begins : take (index + 1) bodies ++ more ≡ of.first ∷ (take index of.others ++ more) =
     ap (λ (l : List (List ℕ)). take (index + 1) l ++ more) of.are ∙ ap (λ (n : ℕ). take n (of.first ∷ of.others) ++ more) (add-one index) in
-    of.only others (take index of.others ++ more) s (subst (λ (l : List (List ℕ)). IsFileOf others l s) begins f)
+    of.only others (take index of.others ++ more) s (subst (λ (l : List (List ℕ)). IsFileFrom (new_system others) l s) begins f)
 
 pub row_is_unlawful : (bodies : List (List ℕ)) (nodes : List Node) (row : List ℕ) (index : ℕ) → IsOf bodies nodes
     → index ≤ length bodies → take index bodies ≡ take index (map record_text (new_rows nodes))
@@ -163,10 +171,12 @@ row_is_unlawful bodies nodes row index of within same is_row not =
         is = subst (λ (l : List (List ℕ)). IsSiteFile l (new_system nodes)) (sym (ap (λ (l : List (List ℕ)). l ++ drop index (map record_text (new_rows nodes))) same ∙ take-append-drop index (map record_text (new_rows nodes)))) (new_site_file nodes of.proper of.fit);
       };
       ends = λ inside g.
-          let f = subst (λ (ns : List Node). IsFileOf ns (take (index + 1) bodies ++ g.more) g.system) (of_front bodies nodes of index g.more g.system g.is.nodes g.is.file) g.is.file in
+          let whole = begins_new (take (index + 1) bodies ++ g.more) g.system g.is in
+          let f = subst (λ (ns : List Node). IsFileFrom (new_system ns) (take (index + 1) bodies ++ g.more) g.system)
+          (of_front bodies nodes of index g.more g.system g.is.is_new.nodes whole) whole in
           not (next_is_row bodies g.more g.system nodes index below inside f ∙ is_row);
       unfinished = λ end s f.
-          let lengths = ap (λ (l : List (List ℕ)). length l) f.file.spelled in
+          let lengths = ap (λ (l : List (List ℕ)). length l) (begins_new bodies s f).spelled in
           absurd (omega (arith, below, end, lengths));
     }
 
@@ -185,7 +195,7 @@ rows_begin bodies nodes of same =
       only = λ others more s f.
           let first : of.first ≡ record_text (head_row nodes) = same_first _ _ _ _ (sym of.are ∙ whole) in
           of.only others (drop 1 (map record_text (new_rows nodes)) ++ more) s
-          (subst (λ (b : List ℕ). IsFileOf others (b ∷ (drop 1 (map record_text (new_rows nodes)) ++ more)) s) (sym first) f);
+          (subst (λ (b : List ℕ). IsFileFrom (new_system others) (b ∷ (drop 1 (map record_text (new_rows nodes)) ++ more)) s) (sym first) f);
     }
 
 -- ---- how the first record is judged

@@ -1,25 +1,17 @@
 -- The records of a queue file stand for a consistent system, whose nodes are called as its first row says.
 use Rattle.std.proofs.Common.{◌≡◌, ◌∙◌, ℕ, List, [], ◌∷◌, Result, Ok, Err, refl, sym, ap, subst}
-use Rattle.qm_history.specs.Accepted.{CanStandBehind}
-use Rattle.qm_kinds.specs.declared.record.Record.{Record}
-use Rattle.qm_kinds.specs.declared.record.Body.{Body}
+use Rattle.qm_history.specs.Common.{CanStandBehind, Record, Body, Refusal, Request, Node, System, applied, IsConsistent, AreNodes, system_after, after_body, after_record, IsLawful, Accepted}
 use Rattle.qm_kinds.specs.declared.record.Body.TheVariants.{Ask, Head, Form, Characteristic, File, Queue, Entry}
-use Rattle.qm_kinds.specs.declared.refusal.Refusal.{Refusal}
-use Rattle.qm_kinds.specs.declared.request.Request.{Request}
-use Rattle.qm_kinds.specs.declared.system.Node.{Node}
-use Rattle.qm_kinds.specs.declared.system.System.{System}
-use Rattle.qm_model.specs.Applied.{applied}
-use Rattle.qm_model.specs.Consistent.{IsConsistent, AreNodes}
-use Rattle.qm_model.specs.Folding.{system_after, after_body, after_record}
-use Rattle.qm_model.specs.Lawful.{IsLawful}
-use Rattle.qm_model.specs.Outcome.{Accepted}
-use Rattle.qm_record.specs.Spelling.{HasSpelling}
-use Rattle.qm_restore.specs.QueueFile.{LeadTo, IsFileOf, IsSiteFile}
+use Rattle.qm_restore.specs.QueueFile.{LeadTo, IsFileFrom, IsNewSite, IsSiteFile}
 use Rattle.qm_restore.specs.Site.{names_of, new_system}
 
 -- the system of a new site is consistent
 abbrev pub BeginsSo : Type 0
 BeginsSo = (nodes : List Node) → AreNodes nodes → IsConsistent (new_system nodes)
+
+-- so is the first one of a queue file
+pub first_consistent : BeginsSo → (first : System) → IsNewSite first → IsConsistent first
+first_consistent begins first new = subst IsConsistent (sym new.is) (begins new.nodes new.proper)
 
 -- a lawful request keeps a system consistent
 abbrev pub Keeps : Type 0
@@ -34,7 +26,7 @@ module _ (leaves : LeavesNames) where
   names_answered s m n r (Ok a) is = leaves s m n r a is
   names_answered s m n r (Err refusal) is = refl
 
-  names_by_body : (s : System) (m n : ℕ) (b : Body) → CanStandBehind HasSpelling s m n b → names_of (after_body s m n b).nodes ≡ names_of s.nodes
+  names_by_body : (s : System) (m n : ℕ) (b : Body) → CanStandBehind s m n b → names_of (after_body s m n b).nodes ≡ names_of s.nodes
   names_by_body s m n (Ask r) next = names_answered s m n r (applied s m n r) refl
   names_by_body s m n (Head nodes may next_entry next_run last) next = absurd next
   names_by_body s m n (Form f) next = absurd next
@@ -49,15 +41,15 @@ module _ (leaves : LeavesNames) where
       all_keep (after_record s r) t rs (record { stand = lead.stand.1; leave = lead.leave }) ∙ names_by_body s r.moment r.node r.body lead.stand.0
 
   -- the nodes of a queue file keep their names
-  pub names_stay : (nodes : List Node) (bodies : List (List ℕ)) (s : System) → IsFileOf nodes bodies s → names_of s.nodes ≡ names_of nodes
-  names_stay nodes bodies s f = all_keep (new_system nodes) s f.requests f.lead
+  pub names_stay : (first s : System) (bodies : List (List ℕ)) → IsFileFrom first bodies s → names_of s.nodes ≡ names_of first.nodes
+  names_stay first s bodies f = all_keep first s f.requests f.lead
 
 module _ (keeps : Keeps) where
   answered : (s : System) (m n : ℕ) (r : Request) → IsConsistent s → IsLawful s n r → (o : Result Accepted Refusal) → applied s m n r ≡ o → IsConsistent (system_after s o)
   answered s m n r sound lawful (Ok a) is = keeps s m n r a sound lawful is
   answered s m n r sound lawful (Err refusal) is = sound
 
-  by_body : (s : System) (m n : ℕ) (b : Body) → IsConsistent s → CanStandBehind HasSpelling s m n b → IsConsistent (after_body s m n b)
+  by_body : (s : System) (m n : ℕ) (b : Body) → IsConsistent s → CanStandBehind s m n b → IsConsistent (after_body s m n b)
   by_body s m n (Ask r) sound next = answered s m n r sound next.names (applied s m n r) refl
   by_body s m n (Head nodes may next_entry next_run last) sound next = absurd next
   by_body s m n (Form f) sound next = absurd next
@@ -71,5 +63,9 @@ module _ (keeps : Keeps) where
   all_records s t (r ∷ rs) sound lead =
       all_records (after_record s r) t rs (by_body s r.moment r.node r.body sound lead.stand.0) (record { stand = lead.stand.1; leave = lead.leave })
 
+  -- the records of a queue file from a consistent system on
+  files_consistent : (first s : System) (bodies : List (List ℕ)) → IsConsistent first → IsFileFrom first bodies s → IsConsistent s
+  files_consistent first s bodies sound f = all_records first s f.requests sound f.lead
+
   pub site_files_consistent : BeginsSo → (bodies : List (List ℕ)) (s : System) → IsSiteFile bodies s → IsConsistent s
-  site_files_consistent begins bodies s f = all_records (new_system f.nodes) s f.file.requests (begins f.nodes f.proper) f.file.lead
+  site_files_consistent begins bodies s f = files_consistent f.first s bodies (first_consistent begins f.first f.is_new) f.file

@@ -3,14 +3,9 @@ use Rattle.std.proofs.Common.{◌≡◌, ◌<◌, ◌^◌, ℕ, List, [], ◌∷
 use Rattle.std.specs.List.{All, AllByRecursion}
 use Rattle.std.proofs.lemmas.List.Elements.{All-from_recursion, All-same}
 use Rattle.std.proofs.lemmas.List.{length-map}
-use Rattle.qm_kinds.specs.declared.record.Record.{Record}
-use Rattle.qm_kinds.specs.declared.record.Body.{Body}
-use Rattle.qm_kinds.specs.declared.record.Body.TheVariants.{Head}
-use Rattle.qm_kinds.specs.declared.system.Node.{Node}
+use Rattle.qm_history.specs.Common.{Record, Body, Head, Node, first_name, first_form, first_queue}
 use Rattle.qm_kinds.specs.Names.{default_form, batch_queue}
 use Rattle.qm_bytes.specs.Spelling.{IsName}
-use Rattle.qm_history.specs.Site.{first_name}
-use Rattle.qm_model.specs.First.{first_form, first_queue}
 use Rattle.qm_record.specs.Spelling.{HasSpelling, CanBeWritten, BodyFits, NodeFits, FormFits, QueueFits}
 use Rattle.qm_restore.specs.Restoring.{named_by}
 use Rattle.qm_restore.specs.Site.{names_of, new_rows}

@@ -1,27 +1,21 @@
 -- A queue file that goes on, record by record.
-use Rattle.std.proofs.Common.{◌≡◌, ℕ, ◌+◌, ◌<◌, ◌≤◌, List, [], ◌∷◌, ◌++◌, length, map, take, drop, Some, Result, Ok, Err, refl, sym, ap, subst, ◌∙◌, arith, append_assoc}
-use Rattle.std.specs.Prelude.{IfOk, IfErr, OnOk, IsErrOf}
+use Rattle.std.proofs.Common.{◌≡◌, ℕ, ◌+◌, ◌<◌, ◌≤◌, List, [], ◌∷◌, ◌++◌, length, map, take, drop, Some, Result, Ok, Err, refl, sym, ap, subst, ◌∙◌, arith, append_assoc, IfOk, IfErr, OnOk, IsErrOf}
 use Rattle.std.specs.List.{AllByRecursion, slice_get}
 use Rattle.std.proofs.lemmas.List.{take_more, take_all, map-append, append-nil}
 use Rattle.std.proofs.lemmas.Option.{slice_get_within, get_or_from_slice_get}
-use Rattle.qm_kinds.specs.declared.record.Record.{Record}
-use Rattle.qm_kinds.specs.declared.system.Node.{Node}
-use Rattle.qm_kinds.specs.declared.system.System.{System}
-use Rattle.qm_bytes.specs.Laws.{Spells}
-use Rattle.qm_model.specs.Folding.{after_record}
-use Rattle.qm_record.specs.Spelling.{HasSpelling, record_text}
+use Rattle.qm_history.specs.Common.{Record, Node, System, Spells, after_record, image_of, HasSpelling, record_text}
 use Rattle.qm_record.specs.Faults.{IsRead as IsReadSo, IsRecord}
 use Rattle.qm_record.specs.declared.fault.RecordFault.{RecordFault}
 use Rattle.qm_record.specs.declared.fault.RecordFault.TheVariants.{Bad}
 use Rattle.qm_record.specs.declared.fault.RecordFault.TheVariants as record_fault
 use Rattle.qm_restore.specs.Site.{new_system, new_rows}
-use Rattle.qm_restore.specs.QueueFile.{LeadTo, IsFileOf, IsSiteFile, IsFirstUnlawful}
+use Rattle.qm_restore.specs.QueueFile.{LeadTo, IsFileFrom, IsSiteFile, IsFirstUnlawful}
 use Rattle.qm_restore.specs.Restoring.{BeginsWithRows, Judges, GoesOn, GoesTo, Stands, CannotStand, Leaves, LeavesNothing, LeavesBy, IsRefused, RefusesRead, IsFlawOf, IsFlawOfRead, IsFlaw}
 use Rattle.qm_restore.specs.declared.fault.RestoreFault.{RestoreFault}
 use Rattle.qm_restore.specs.declared.fault.RestoreFault.TheVariants.{Unlawful, NoMemory}
 use Rattle.qm_restore.specs.declared.fault.Flaw.{Flaw}
 use Rattle.qm_restore.specs.declared.fault.Flaw.TheVariants.{Unreadable, NoRow, Refused}
-use Rattle.qm_restore.proofs.Beginning.{new_site_file}
+use Rattle.qm_restore.proofs.Beginning.{begins_new, new_site_file}
 use Rattle.qm_restore.proofs.Leading.{lead_more, first_leads, first_cannot}
 
 fit_more : (rs : List Record) (r : Record) → AllByRecursion HasSpelling rs → HasSpelling r → AllByRecursion HasSpelling (rs ++ r ∷ [])
@@ -30,7 +24,7 @@ fit_more (q ∷ rs) r all fits = (all.0, fit_more rs r all.1 fits)
 
 -- ---- the rows
 
-rows_go_on : (nodes : List Node) (more : List (List ℕ)) (t : System) → IsFileOf nodes (map record_text (new_rows nodes) ++ more) t → GoesOn (new_system nodes) more t
+rows_go_on : (nodes : List Node) (more : List (List ℕ)) (t : System) → IsFileFrom (new_system nodes) (map record_text (new_rows nodes) ++ more) t → GoesOn (new_system nodes) more t
 rows_go_on nodes more t f = record {
   records = f.requests;
   fit = f.fit.1.1.1;
@@ -44,7 +38,9 @@ rows_stand bodies nodes b =
     subst (λ (l : List (List ℕ)). Stands l (new_system nodes)) (sym front) (record {
       lawful = new_site_file nodes b.proper b.fit;
       goes_on = λ more t f.
-          rows_go_on nodes more t (subst (λ (ns : List Node). IsFileOf ns (map record_text (new_rows nodes) ++ more) t) (b.only f.nodes more t f.file) f.file);
+          let whole = begins_new (map record_text (new_rows nodes) ++ more) t f in
+          rows_go_on nodes more t
+          (subst (λ (ns : List Node). IsFileFrom (new_system ns) (map record_text (new_rows nodes) ++ more) t) (b.only f.is_new.nodes more t whole) whole);
     })
 
 pub rows_are_there : (bodies : List (List ℕ)) (nodes : List Node) → BeginsWithRows bodies nodes → 3 ≤ length bodies
@@ -53,21 +49,25 @@ rows_are_there bodies nodes b = omega (arith, ap (λ (l : List (List ℕ)). leng
 -- ---- one more record
 
 -- a queue file with one record more
-pub file_goes_on : (nodes : List Node) (bodies : List (List ℕ)) (s t : System) (r : Record) → IsFileOf nodes bodies s → HasSpelling r → GoesTo s r t → IsFileOf nodes (bodies ++ record_text r ∷ []) t
-file_goes_on nodes bodies s t r f fits leaves = record {
-  requests = f.requests ++ r ∷ [];
-  fit = fit_more (new_rows nodes ++ f.requests) r f.fit fits;
-  spelled = ap (λ (x : List (List ℕ)). x ++ record_text r ∷ []) f.spelled
-      ∙ sym (map-append record_text (new_rows nodes ++ f.requests) (r ∷ []));
-  lead = lead_more (new_system nodes) s t f.requests r f.lead leaves;
-}
+file_more : (first : System) (bodies : List (List ℕ)) (s t : System) (r : Record) → IsFileFrom first bodies s → HasSpelling r → GoesTo s r t
+    → IsFileFrom first (bodies ++ record_text r ∷ []) t
+file_more first bodies s t r f fits leaves =
+    let log = append_assoc (image_of first) f.requests (r ∷ []) in
+    record {
+      requests = f.requests ++ r ∷ [];
+      fit = subst (AllByRecursion HasSpelling) log (fit_more (image_of first ++ f.requests) r f.fit fits);
+      spelled = ap (λ (x : List (List ℕ)). x ++ record_text r ∷ []) f.spelled
+          ∙ sym (map-append record_text (image_of first ++ f.requests) (r ∷ []))
+          ∙ ap (λ (rs : List Record). map record_text rs) log;
+      lead = lead_more first s t f.requests r f.lead leaves;
+    }
+
+pub file_goes_on : (bodies : List (List ℕ)) (s t : System) (r : Record) → IsSiteFile bodies s → HasSpelling r → GoesTo s r t → IsSiteFile (bodies ++ record_text r ∷ []) t
+file_goes_on bodies s t r f fits leaves = record { first = f.first; is_new = f.is_new; file = file_more f.first bodies s t r f.file fits leaves }
 
 lawful_more : (front : List (List ℕ)) (s : System) (body : List ℕ) (t : System) → IsSiteFile front s → Leaves body s t → IsSiteFile (front ++ body ∷ []) t
-lawful_more front s body t f l = record {
-  nodes = f.nodes;
-  proper = f.proper;
-  file = subst (λ (b : List ℕ). IsFileOf f.nodes (front ++ b ∷ []) t) (sym l.spells.is) (file_goes_on f.nodes front s t l.value f.file l.spells.fits l.leaves);
-}
+lawful_more front s body t f l =
+    subst (λ (b : List ℕ). IsSiteFile (front ++ b ∷ []) t) (sym l.spells.is) (file_goes_on front s t l.value f l.spells.fits l.leaves)
 
 same_first : (a b : List ℕ) (xs ys : List (List ℕ)) → a ∷ xs ≡ b ∷ ys → a ≡ b
 same_first a b xs ys h = cc

@@ -1,17 +1,13 @@
 -- Records that lead from one system to another.
 use Rattle.std.proofs.Common.{◌≡◌, ◌∙◌, List, [], ◌∷◌, ◌++◌, sym, ap, subst}
-use Rattle.qm_history.specs.Accepted.{IsNext}
-use Rattle.qm_kinds.specs.declared.record.Record.{Record}
-use Rattle.qm_kinds.specs.declared.system.System.{System}
-use Rattle.qm_model.specs.Folding.{after_record}
-use Rattle.qm_record.specs.Spelling.{HasSpelling}
+use Rattle.qm_history.specs.Common.{IsNext, Record, System, after_record}
 use Rattle.qm_restore.specs.QueueFile.{LeadTo}
 use Rattle.qm_restore.specs.Restoring.{GoesTo, CannotStand}
 
 -- one record more
 pub lead_more : (s t u : System) (rs : List Record) (r : Record) → LeadTo s rs t → GoesTo t r u → LeadTo s (rs ++ r ∷ []) u
 lead_more s t u [] r lead goes = record {
-  stand = (subst (λ (x : System). IsNext HasSpelling x r) (sym lead.leave) goes.0, tt);
+  stand = (subst (λ (x : System). IsNext x r) (sym lead.leave) goes.0, tt);
   leave = ap (λ (x : System). after_record x r) lead.leave ∙ goes.1;
 }
 lead_more s t u (q ∷ rs) r lead goes =

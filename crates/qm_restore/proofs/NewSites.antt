@@ -1,17 +1,12 @@
 -- The system of a new site is consistent.
-use Rattle.std.proofs.Common.{◌≡◌, ◌<◌, ◌≤◌, ◌^◌, ℕ, Bool, true, false, List, [], ◌∷◌, length, map, get_or, refl, sym, ap, arith, lit<, lit≤, All}
-use Rattle.std.specs.Prelude.{filter}
+use Rattle.std.proofs.Common.{◌≡◌, ◌<◌, ◌≤◌, ◌^◌, ℕ, Bool, true, false, List, [], ◌∷◌, length, map, get_or, refl, sym, ap, arith, lit<, lit≤, All, filter, bytes_eq}
 use Rattle.std.specs.List.{AllByRecursion, list_any}
-use Rattle.std.specs.Str.{bytes_eq}
 use Rattle.std.specs.Int.Bits.{and_zero_l}
 use Rattle.std.proofs.lemmas.List.Elements.{All-from_recursion, recursion_from_All}
 use Rattle.std.proofs.lemmas.List.Folds.{list_any_at}
 use Rattle.std.proofs.lemmas.Slice.Eq.{bytes_eq-Decides}
-use Rattle.qm_history.specs.Site.{first_name, site_of}
-use Rattle.qm_kinds.specs.declared.system.Node.{Node}
-use Rattle.qm_kinds.specs.declared.system.System.{System}
+use Rattle.qm_history.specs.Common.{first_name, site_of, Node, System, first_form, first_queue}
 use Rattle.qm_model.specs.Consistent.{IsConsistent, AreNodes, IsProperForm, IsQueue, AreDefined}
-use Rattle.qm_model.specs.First.{first_form, first_queue}
 use Rattle.qm_restore.specs.Site.{names_of, new_system}
 
 all_of_none : {X : Type 0} (P : X → Type 0) → All P []

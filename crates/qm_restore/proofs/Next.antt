@@ -1,21 +1,11 @@
 -- Which record can be the next one of a queue file, and that its records are an accepted log.
-use Rattle.std.proofs.Common.{◌≡◌, ◌∙◌, ℕ, List, ◌++◌, map, Result, Ok, Err, IsOk, refl, sym, ap, subst}
-use Rattle.qm_history.specs.Accepted.{HasListsOfNodes, CanFollow, CanStandBehind, IsAccepted, IsNext}
-use Rattle.qm_kinds.specs.declared.record.Record.{Record}
-use Rattle.qm_kinds.specs.declared.record.Body.{Body}
+use Rattle.std.proofs.Common.{◌≡◌, ◌∙◌, ℕ, List, [], ◌∷◌, ◌++◌, map, Result, Ok, Err, IsOk, refl, sym, ap, subst}
+use Rattle.std.specs.List.{AllByRecursion}
+use Rattle.qm_history.proofs.LogLemmas.{image_stands, replayed_append}
+use Rattle.qm_history.specs.Common.{HasListsOfNodes, CanFollow, CanStandBehind, IsAccepted, IsNext, Record, Body, Refusal, Request, System, applied, IsConsistent, after_record, no_system, replayed, system_after, system_of, image_of, Accepted, HasSpelling, record_text}
 use Rattle.qm_kinds.specs.declared.record.Body.TheVariants.{Ask, Head, Form, Characteristic, File, Queue, Entry}
-use Rattle.qm_kinds.specs.declared.refusal.Refusal.{Refusal}
-use Rattle.qm_kinds.specs.declared.request.Request.{Request}
 use Rattle.qm_kinds.specs.declared.request.Request.TheVariants.{NodeLost, Took}
-use Rattle.qm_kinds.specs.declared.system.Node.{Node}
-use Rattle.qm_kinds.specs.declared.system.System.{System}
-use Rattle.qm_model.specs.Applied.{applied}
-use Rattle.qm_model.specs.Consistent.{IsConsistent}
-use Rattle.qm_model.specs.Folding.{after_record, system_after, system_of}
-use Rattle.qm_model.specs.Outcome.{Accepted}
-use Rattle.qm_record.specs.Spelling.{HasSpelling, record_text}
-use Rattle.qm_restore.specs.Site.{new_system, new_rows}
-use Rattle.qm_restore.specs.QueueFile.{CanAct, IsFileOf}
+use Rattle.qm_restore.specs.QueueFile.{CanAct, IsFileFrom}
 use Rattle.qm_restore.specs.Restoring.{GoesTo, CannotStand}
 
 -- a request without lists of nodes
@@ -28,7 +18,7 @@ no_lists s _ no_loss no_manager = tt
 pub no_row : (s : System) (r : Record) → ((asked : Request) → r.body ≡ Ask asked → ⊥) → CannotStand s r
 no_row s r not = by_body r.body not
   where
-    by_body : (b : Body) → ((asked : Request) → b ≡ Ask asked → ⊥) → CanStandBehind HasSpelling s r.moment r.node b → ⊥
+    by_body : (b : Body) → ((asked : Request) → b ≡ Ask asked → ⊥) → CanStandBehind s r.moment r.node b → ⊥
     by_body (Ask asked) other next = other asked refl
     by_body (Head nodes may next_entry next_run last) other next = next
     by_body (Form f) other next = next
@@ -39,8 +29,8 @@ no_row s r not = by_body r.body not
 
 module _ (s : System) (r : Record) (asked : Request) (is : r.body ≡ Ask asked) where
   -- what can be the next record
-  can_follow : IsNext HasSpelling s r → CanFollow HasSpelling s r.moment r.node asked
-  can_follow next = subst (λ (b : Body). CanStandBehind HasSpelling s r.moment r.node b) is next
+  can_follow : IsNext s r → CanFollow s r.moment r.node asked
+  can_follow next = subst (λ (b : Body). CanStandBehind s r.moment r.node b) is next
 
   -- can act,
   pub cannot_act : (CanAct s r.moment r.node asked → ⊥) → CannotStand s r
@@ -57,8 +47,8 @@ module _ (s : System) (r : Record) (asked : Request) (is : r.body ≡ Ask asked)
       no_answer (Err other) is ok = cc
 
   -- and the other way round
-  pub is_next : HasSpelling r → CanAct s r.moment r.node asked → IsOk (applied s r.moment r.node asked) → IsNext HasSpelling s r
-  is_next spelled can accepted = subst (λ (b : Body). CanStandBehind HasSpelling s r.moment r.node b) (sym is) (record {
+  pub is_next : HasSpelling r → CanAct s r.moment r.node asked → IsOk (applied s r.moment r.node asked) → IsNext s r
+  is_next spelled can accepted = subst (λ (b : Body). CanStandBehind s r.moment r.node b) (sym is) (record {
     spelled = subst (λ (b : Body). HasSpelling (record { moment = r.moment; node = r.node; body = b })) is spelled;
     node_there = can.node_there;
     not_earlier = can.not_earlier;
@@ -74,19 +64,24 @@ module _ (s : System) (r : Record) (asked : Request) (is : r.body ≡ Ask asked)
     ap (λ (b : Body). after_record s (record { moment = r.moment; node = r.node; body = b })) is ∙ ap (system_after s) accepted ∙ left,
   )
 
--- the records of a queue file are an accepted log, which stands for its system
-pub file_is_accepted : (nodes : List Node) (bodies : List (List ℕ)) (s : System) → IsConsistent (new_system nodes) → IsFileOf nodes bodies s
-    → (log : List Record) × (bodies ≡ map record_text log) × IsAccepted HasSpelling log × (system_of log ≡ s)
-file_is_accepted nodes bodies s consistent f = (
-  new_rows nodes ++ f.requests,
+-- those in front are spelled as all are
+front_fits : (front behind : List Record) → AllByRecursion HasSpelling (front ++ behind) → AllByRecursion HasSpelling front
+front_fits [] behind fits = tt
+front_fits (r ∷ front) behind fits = (fits.0, front_fits front behind fits.1)
+
+-- the records of a queue file from a consistent system on are an accepted log, which stands for its system
+pub file_is_accepted : (first s : System) (bodies : List (List ℕ)) → IsConsistent first → IsFileFrom first bodies s
+    → (log : List Record) × (bodies ≡ map record_text log) × IsAccepted log × (system_of log ≡ s)
+file_is_accepted first s bodies consistent f = (
+  image_of first ++ f.requests,
   f.spelled,
   record {
-    image = new_system nodes;
+    image = first;
     requests = f.requests;
     consistent = consistent;
-    spelled = (f.fit.0, (f.fit.1.0, (f.fit.1.1.0, tt)));
+    spelled = front_fits (image_of first) f.requests f.fit;
     whole = refl;
     next = f.lead.stand;
   },
-  f.lead.leave,
+  replayed_append no_system (image_of first) f.requests ∙ ap (λ (t : System). replayed t f.requests) (image_stands first) ∙ f.lead.leave,
 )

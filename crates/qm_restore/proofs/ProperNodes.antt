@@ -1,17 +1,12 @@
 -- Nodes that a site can have.
-use Rattle.std.proofs.Common.{◌≡◌, ◌≢◌, ◌<◌, ◌≤◌, ℕ, suc, Bool, true, false, not, ◌&&◌, List, [], ◌∷◌, length, get_or, refl, arith}
-use Rattle.std.specs.Prelude.{nat_lt, nat_le}
+use Rattle.std.proofs.Common.{◌≡◌, ◌≢◌, ◌<◌, ◌≤◌, ℕ, suc, Bool, true, false, not, ◌&&◌, List, [], ◌∷◌, length, get_or, refl, arith, nat_lt, nat_le, bytes_eq, leb-true}
 use Rattle.std.specs.List.{AllByRecursion, list_any, list_all}
-use Rattle.std.specs.Str.{bytes_eq}
-use Rattle.std.proofs.lemmas.Bool.{leb-true}
 use Rattle.std.proofs.lemmas.Bool.Decides.{nat_tests}
 use Rattle.std.proofs.lemmas.List.Elements.{All-from_recursion, recursion_from_All}
 use Rattle.std.proofs.lemmas.List.Folds.{list_any_none, list_any_at}
 use Rattle.std.proofs.lemmas.List.Kept.{AllPairs-cons}
 use Rattle.std.proofs.lemmas.Slice.Eq.{bytes_eq-Decides}
-use Rattle.qm_kinds.specs.declared.limits.TheConstants.{NODES_LIMIT}
-use Rattle.qm_kinds.specs.declared.name.TheConstants.{NODE_NAME_BYTES}
-use Rattle.qm_kinds.specs.declared.system.Node.{Node}
+use Rattle.qm_history.specs.Common.{NODES_LIMIT, NODE_NAME_BYTES, Node}
 use Rattle.qm_model.specs.Consistent.{AreNodes, AreDistinct}
 use Rattle.qm_model.proofs.SettlingLemmas.{and_left, and_right}
 use Rattle.qm_restore.specs.Site.{are_distinct, are_nodes}

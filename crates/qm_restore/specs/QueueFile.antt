@@ -1,16 +1,8 @@
 -- What the records of a queue file stand for.
 use Rattle.std.specs.Prelude.{◌≡◌, ℕ, ◌+◌, ◌<◌, ◌≤◌, List, ◌++◌, length, map, take}
 use Rattle.std.specs.List.{AllByRecursion}
-use Rattle.qm_history.specs.Accepted.{AreNext, HasListsOfNodes}
-use Rattle.qm_kinds.specs.declared.record.Record.{Record}
-use Rattle.qm_kinds.specs.declared.request.Request.{Request}
-use Rattle.qm_kinds.specs.declared.system.Node.{Node}
-use Rattle.qm_kinds.specs.declared.system.System.{System}
-use Rattle.qm_model.specs.Consistent.{AreNodes}
-use Rattle.qm_model.specs.Folding.{replayed}
-use Rattle.qm_model.specs.Lawful.{IsLawful}
-use Rattle.qm_record.specs.Spelling.{HasSpelling, record_text}
-use Rattle.qm_restore.specs.Site.{new_system, new_rows}
+use Rattle.qm_history.specs.Common.{AreNext, HasListsOfNodes, IsAccepted, Record, Request, Node, System, AreNodes, replayed, system_of, IsLawful, image_of, HasSpelling, record_text}
+use Rattle.qm_restore.specs.Site.{new_system}
 
 -- A request can act: its moment doesn't go back, its node is there, and its names and lists of nodes keep their rules. What is
 -- spelled then, and isn't refused, can be the next record of a log.
@@ -22,22 +14,32 @@ pub record CanAct (s : System) (moment node : ℕ) (asked : Request) : Type 0 wh
 
 -- each of the records can be the next one of a log behind those before it, and they leave this system
 pub record LeadTo (s : System) (records : List Record) (t : System) : Type 0 where
-  pub stand : AreNext HasSpelling s records
+  pub stand : AreNext s records
   pub leave : replayed s records ≡ t
 
--- The records of a queue file, by their bodies, and the system that they stand for: the rows of a new site of these nodes, and
--- requests that were accepted one after the other.
-pub record IsFileOf (nodes : List Node) (bodies : List (List ℕ)) (s : System) : Type 0 where
+-- The records of a queue file, by their bodies, and the system that they stand for: the rows of a first system, and requests that
+-- were accepted one after the other from there on.
+pub record IsFileFrom (first : System) (bodies : List (List ℕ)) (s : System) : Type 0 where
   pub requests : List Record
-  pub fit : AllByRecursion HasSpelling (new_rows nodes ++ requests)
-  pub spelled : bodies ≡ map record_text (new_rows nodes ++ requests)
-  pub lead : LeadTo (new_system nodes) requests s
+  pub fit : AllByRecursion HasSpelling (image_of first ++ requests)
+  pub spelled : bodies ≡ map record_text (image_of first ++ requests)
+  pub lead : LeadTo first requests s
 
--- the same of a site of some nodes
-pub record IsSiteFile (bodies : List (List ℕ)) (s : System) : Type 0 where
+-- the system of a new site of some nodes
+pub record IsNewSite (first : System) : Type 0 where
   pub nodes : List Node
   pub proper : AreNodes nodes
-  pub file : IsFileOf nodes bodies s
+  pub is : first ≡ new_system nodes
+
+-- The records of a queue file, and the system that they stand for. The first ones are the rows of a new site.
+pub record IsSiteFile (bodies : List (List ℕ)) (s : System) : Type 0 where
+  pub first : System
+  pub is_new : IsNewSite first
+  pub file : IsFileFrom first bodies s
+
+-- these are the records of an accepted log, by their bodies, which stands for this system
+abbrev pub SpellAccepted : List (List ℕ) → System → Type 0
+SpellAccepted bodies s = (log : List Record) × (bodies ≡ map record_text log) × IsAccepted log × (system_of log ≡ s)
 
 -- some queue file begins with these records
 pub record Begins (bodies : List (List ℕ)) : Type 0 where

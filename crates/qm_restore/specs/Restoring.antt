@@ -1,22 +1,12 @@
 -- How the records of a queue file are judged, one by one.
 use Rattle.std.specs.Prelude.{◌≡◌, ℕ, ◌≤◌, ◌<◌, Bool, true, false, List, [], ◌∷◌, ◌++◌, map, Some, Result, Ok, Err, slice_get}
 use Rattle.std.specs.List.{AllByRecursion}
-use Rattle.qm_bytes.specs.Laws.{Spells}
-use Rattle.qm_history.specs.Accepted.{IsNext}
-use Rattle.qm_kinds.specs.declared.record.Record.{Record}
-use Rattle.qm_kinds.specs.declared.record.Body.{Body}
-use Rattle.qm_kinds.specs.declared.record.Body.TheVariants.{Head}
-use Rattle.qm_kinds.specs.declared.system.Node.{Node}
-use Rattle.qm_kinds.specs.declared.system.System.{System}
-use Rattle.qm_model.specs.Consistent.{AreNodes}
-use Rattle.qm_model.specs.Folding.{after_record}
-use Rattle.qm_record.specs.Spelling.{HasSpelling, record_text}
-use Rattle.qm_record.specs.Faults.{IsRecord}
+use Rattle.qm_history.specs.Common.{Spells, IsNext, Record, Body, Head, Node, System, AreNodes, after_record, HasSpelling, record_text, IsRecord}
 use Rattle.qm_record.specs.declared.fault.RecordFault.{RecordFault}
 use Rattle.qm_record.specs.declared.fault.RecordFault.TheVariants.{Bad}
 use Rattle.qm_record.specs.declared.fault.RecordFault.TheVariants as record_fault
-use Rattle.qm_restore.specs.Site.{new_rows}
-use Rattle.qm_restore.specs.QueueFile.{IsFileOf, IsSiteFile, IsFirstUnlawful, LeadTo}
+use Rattle.qm_restore.specs.Site.{new_rows, new_system}
+use Rattle.qm_restore.specs.QueueFile.{IsFileFrom, IsSiteFile, IsFirstUnlawful, LeadTo}
 use Rattle.qm_restore.specs.declared.fault.RestoreFault.{RestoreFault}
 use Rattle.qm_restore.specs.declared.fault.RestoreFault.TheVariants.{Unlawful, NoMemory}
 use Rattle.qm_restore.specs.declared.fault.Flaw.{Flaw}
@@ -69,7 +59,7 @@ pub record IsOf (bodies : List (List ℕ)) (nodes : List Node) : Type 0 where
   pub first : List ℕ
   pub others : List (List ℕ)
   pub are : bodies ≡ first ∷ others
-  pub only : (others : List Node) (more : List (List ℕ)) (s : System) → IsFileOf others (first ∷ more) s → others ≡ nodes
+  pub only : (others : List Node) (more : List (List ℕ)) (s : System) → IsFileFrom (new_system others) (first ∷ more) s → others ≡ nodes
 
 -- The first records are the rows of a new site of these nodes, and each queue file that begins with the first of them is of
 -- these nodes.
@@ -78,7 +68,7 @@ pub record BeginsWithRows (bodies : List (List ℕ)) (nodes : List Node) : Type 
   pub fit : AllByRecursion HasSpelling (new_rows nodes)
   pub rest : List (List ℕ)
   pub rows : bodies ≡ map record_text (new_rows nodes) ++ rest
-  pub only : (others : List Node) (more : List (List ℕ)) (s : System) → IsFileOf others (map record_text (new_rows nodes) ++ more) s → others ≡ nodes
+  pub only : (others : List Node) (more : List (List ℕ)) (s : System) → IsFileFrom (new_system others) (map record_text (new_rows nodes) ++ more) s → others ≡ nodes
 
 -- records with which a system goes on to another, by their bodies
 pub record GoesOn (s : System) (more : List (List ℕ)) (t : System) : Type 0 where
@@ -94,11 +84,11 @@ pub record Stands (front : List (List ℕ)) (s : System) : Type 0 where
 
 -- the record can be the next one behind this system, and leaves that one
 abbrev pub GoesTo : System → Record → System → Type 0
-GoesTo old r new = IsNext HasSpelling old r × (after_record old r ≡ new)
+GoesTo old r new = IsNext old r × (after_record old r ≡ new)
 
 -- it can't be the next one
 abbrev pub CannotStand : System → Record → Type 0
-CannotStand old r = IsNext HasSpelling old r → ⊥
+CannotStand old r = IsNext old r → ⊥
 
 -- the record was replayed, or it can't be the next one
 abbrev pub IsReplayed : Bool → System → Record → System → Type 0
@@ -134,7 +124,7 @@ IsFlawOfRead (Err fault) Refused = ⊥
 -- wanted where it was read.
 abbrev pub RefusesRead : ℕ → Result Record RecordFault → System → RestoreFault → Type 0
 RefusesRead index (Ok r) s (Unlawful i flaw) = (i ≡ index) × CannotStand s r × IsFlawOfRead (Ok r) flaw
-RefusesRead index (Ok r) s NoMemory = IsNext HasSpelling s r
+RefusesRead index (Ok r) s NoMemory = IsNext s r
 RefusesRead index (Err (Bad place)) s (Unlawful i flaw) = (i ≡ index) × IsFlawOfRead (Err (Bad place)) flaw
 RefusesRead index (Err (Bad place)) s NoMemory = ⊥
 RefusesRead index (Err record_fault.NoMemory) s (Unlawful i flaw) = ⊥

@@ -1,16 +1,8 @@
 -- A new site of several nodes.
 -- OpenVMS System Manager's Manual, Managing the Queue Manager and Queue Database, on creating a queue database.
-use Rattle.std.specs.Prelude.{ℕ, Bool, true, nat_lt, nat_le, not, ◌&&◌, List, [], ◌∷◌, length, map}
+use Rattle.std.specs.Prelude.{ℕ, Bool, true, nat_lt, nat_le, not, ◌&&◌, List, [], ◌∷◌, length, map, bytes_eq}
 use Rattle.std.specs.List.{list_any, list_all}
-use Rattle.std.specs.Str.{bytes_eq}
-use Rattle.qm_kinds.specs.declared.limits.TheConstants.{NODES_LIMIT}
-use Rattle.qm_kinds.specs.declared.name.TheConstants.{NODE_NAME_BYTES}
-use Rattle.qm_kinds.specs.declared.record.Record.{Record}
-use Rattle.qm_kinds.specs.declared.system.Node.{Node}
-use Rattle.qm_kinds.specs.declared.system.System.{System}
-use Rattle.qm_history.specs.Site.{first_name}
-use Rattle.qm_model.specs.First.{first_form, first_queue}
-use Rattle.qm_model.specs.Log.{image_of}
+use Rattle.qm_history.specs.Common.{NODES_LIMIT, NODE_NAME_BYTES, Record, Node, System, first_name, first_form, first_queue, image_of}
 
 -- the names of nodes, in their order
 abbrev pub names_of : List Node → List (List ℕ)

@@ -9,7 +9,9 @@ use qm_kinds::{Moment, Name, Request};
 
 // Whether each of these lists is one of the cluster's nodes.
 fn are_lists_of_nodes(image: &Image, gone: &[Name], up: &[Name], may: &[Name]) -> bool
-    ensures { (result ≡ true) ↔ (IsListOfNodes (system_of image.now) gone.now × IsListOfNodes (system_of image.now) up.now × IsListOfNodes (system_of image.now) may.now) }
+    ensures { (result ≡ true) ↔ (IsListOfNodes (system_of image.now) gone.now
+        × IsListOfNodes (system_of image.now) up.now
+        × IsListOfNodes (system_of image.now) may.now) }
 {
     if !image.is_list_of_nodes(gone) {
         return false;

@@ -1,9 +1,7 @@
 // How the records of a queue file become the image of a system.
 ghost use Rattle.std.specs.Prelude.{◌≡◌, ◌<◌, length, take, IsErr, IfOk, IfErr, OnOk};
-ghost use Rattle.qm_history.specs.Accepted.{IsNext};
-ghost use Rattle.qm_model.specs.Consistent.{AreNodes, IsConsistent};
+ghost use Rattle.qm_history.specs.Common.{IsNext, AreNodes, IsConsistent, HasSpelling};
 ghost use Rattle.qm_image.specs.Image.{system_of};
-ghost use Rattle.qm_record.specs.Spelling.{HasSpelling};
 ghost use Rattle.qm_restore.specs.QueueFile.{IsSiteFile};
 ghost use Rattle.qm_restore.specs.Restoring.{rows_count, OfBody, Judges, IsReplayed, Leaves, LeavesBy, IsRefused, RefusesRead, Stands};
 ghost use Rattle.qm_restore.specs.Site.{new_system};
@@ -29,9 +27,10 @@ fn replay(image: &mut Image, what: &Record) -> Result<bool, AllocError>
     requires sound { IsConsistent (system_of image.old) }
     requires spelled { HasSpelling what.now }
     ensures sound { IsConsistent (system_of image.new) }
-    ensures done { IfOk result (λ done. IsReplayed done (system_of image.old) what.now (system_of image.new)) }
+    ensures done { IfOk result (λ done.
+        IsReplayed done (system_of image.old) what.now (system_of image.new)) }
     // Memory is wanted for what can stand there alone.
-    ensures no_memory { IsErr result → IsNext HasSpelling (system_of image.old) what.now }
+    ensures no_memory { IsErr result → IsNext (system_of image.old) what.now }
 {
     let Body::Ask(request) = &what.body else {
         return Ok(false);
@@ -91,8 +90,10 @@ fn restore_record<B: Bodies>(
     requires within { index < length (B.bodies log.now) }
     requires sound { IsConsistent (system_of image.old) }
     ensures sound { IsConsistent (system_of image.new) }
-    ensures leaves { OnOk result (OfBody (B.bodies log.now) index (λ body. Leaves body (system_of image.old) (system_of image.new))) }
-    ensures refused { IfErr result (λ fault. OfBody (B.bodies log.now) index (λ body. IsRefused index body (system_of image.old) fault)) }
+    ensures leaves { OnOk result (OfBody (B.bodies log.now) index
+        (λ body. Leaves body (system_of image.old) (system_of image.new))) }
+    ensures refused { IfErr result (λ fault. OfBody (B.bodies log.now) index
+        (λ body. IsRefused index body (system_of image.old) fault)) }
 {
     let read = read_record(alloc, log.body(index));
     let done = replay_read(image, index, &read);

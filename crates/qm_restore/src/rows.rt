@@ -1,10 +1,7 @@
 // The rows with which a queue file begins.
 ghost use Rattle.std.specs.Prelude.{◌≡◌, ◌↔◌, ◌<◌, length, slice_get, Some, IfOk, IfErr, IsErrOf, true};
-ghost use Rattle.qm_bytes.specs.Laws.{Spells};
+ghost use Rattle.qm_history.specs.Common.{Spells, AreNodes, IsRecord, record_text, CanBeWritten, HasSpelling};
 ghost use Rattle.qm_kinds.specs.declared.record.Record.{Record as AnyRecord};
-ghost use Rattle.qm_model.specs.Consistent.{AreNodes};
-ghost use Rattle.qm_record.specs.Faults.{IsRecord};
-ghost use Rattle.qm_record.specs.Spelling.{record_text, CanBeWritten, HasSpelling};
 ghost use Rattle.qm_restore.specs.Restoring.{named_by, Names, NamesNone, OfBody, IsOf, BeginsWithRows, Judges, IsRead, IsUnreadableAt, IsFirst};
 
 use crate::bodies::Bodies;
@@ -28,10 +25,13 @@ fn named_by(body: &Body) -> &[Node]
 // The record of this index, if its body spells one.
 fn read_at<B: Bodies>(alloc: Global, log: &B, index: usize) -> Result<Record, RestoreFault>
     requires { index < length (B.bodies log.now) }
-    ensures found { OfBody (B.bodies log.now) index (λ body. IfOk result (λ r. Spells HasSpelling record_text r body)) }
-    ensures only { OfBody (B.bodies log.now) index (λ body. (r : AnyRecord) → HasSpelling r → body ≡ record_text r → IsRead r result) }
+    ensures found { OfBody (B.bodies log.now) index
+        (λ body. IfOk result (λ r. Spells HasSpelling record_text r body)) }
+    ensures only { OfBody (B.bodies log.now) index
+        (λ body. (r : AnyRecord) → HasSpelling r → body ≡ record_text r → IsRead r result) }
     ensures place { IfErr result (IsUnreadableAt index) }
-    ensures no_memory { OfBody (B.bodies log.now) index (λ body. IsErrOf result RestoreFault.NoMemory → IsRecord body) }
+    ensures no_memory { OfBody (B.bodies log.now) index
+        (λ body. IsErrOf result RestoreFault.NoMemory → IsRecord body) }
 {
     match read_record(alloc, log.body(index)) {
         Ok(record) => Ok(record),
@@ -85,7 +85,8 @@ pub fn read_nodes<B: Bodies>(alloc: Global, log: &B) -> Result<Vec<Node>, Restor
 // Whether the record of this index is this one.
 fn is_row<B: Bodies>(alloc: Global, log: &B, index: usize, row: &Record) -> Result<bool, AllocError>
     requires { CanBeWritten row.now }
-    ensures { IfOk result (λ is. is ≡ true ↔ (slice_get (B.bodies log.now) index ≡ Some (record_text row.now))) }
+    ensures { IfOk result (λ is. is ≡ true
+        ↔ (slice_get (B.bodies log.now) index ≡ Some (record_text row.now))) }
 {
     let text = write_record(alloc, row)?;
     Ok(index < log.count() && log.body(index) == text.as_slice())

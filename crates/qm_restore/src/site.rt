@@ -1,10 +1,6 @@
 // A new site, and the records with which its queue file begins.
 ghost use Rattle.std.specs.Prelude.{◌≡◌, ◌<◌, ◌^◌, length, All, IfOk};
-ghost use Rattle.qm_history.specs.Site.{first_name};
-ghost use Rattle.qm_kinds.specs.declared.record.Body.TheVariants.{Head};
-ghost use Rattle.qm_model.specs.First.{first_form, first_queue};
-ghost use Rattle.qm_model.specs.Log.{row};
-ghost use Rattle.qm_record.specs.Spelling.{CanBeWritten};
+ghost use Rattle.qm_history.specs.Common.{first_name, Head, first_form, first_queue, row, CanBeWritten};
 ghost use Rattle.qm_restore.specs.Site.{names_of, new_rows, new_system};
 
 use qm_kinds::{

@@ -1,6 +1,5 @@
 // The rows of a listing.
-ghost use Rattle.std.specs.Prelude.{◌≡◌, ◌<◌, [], flat_map, length, slice_get, IfOk, IfNone, IfSome};
-ghost use Rattle.std.specs.Option.{option_copied};
+ghost use Rattle.std.specs.Prelude.{◌≡◌, ◌<◌, [], flat_map, length, slice_get, IfOk, IfNone, IfSome, option_copied};
 
 use crate::part::Part;
 use qm_kinds::Row;

@@ -1,10 +1,8 @@
 -- What a loop over boxes has looked at.
-use Rattle.std.proofs.Common.{◌≡◌, ◌∙◌, ℕ, ◌+◌, ◌<◌, Bool, true, false, List, [], ◌∷◌, ◌++◌, length, get_or, take, drop, cond, sym, ap, arith}
-use Rattle.std.specs.List.{filter}
-use Rattle.std.specs.Prelude.{Box}
+use Rattle.std.proofs.Common.{◌≡◌, ◌∙◌, ℕ, ◌+◌, ◌<◌, Bool, true, false, List, [], ◌∷◌, ◌++◌, length, get_or, take, drop, cond, sym, ap, arith, filter, Box}
 use Rattle.std.proofs.lemmas.List.{append_assoc, append-nil, length-map, get_or-map, drop_more}
 use Rattle.std.proofs.lemmas.List.Elements.{filter_more}
-use Rattle.qm_entries.specs.Boxed.{contents}
+use Rattle.qm_tables.specs.Boxed.{contents}
 
 module _ {X Z : Type 0} (boxes : List (Box X Z)) (i : ℕ) (b : Box X Z) (x : X) (within : i < length boxes) (read : b ≡ get_or boxes i b) (is : x ≡ b.value) where
   -- the value that lies in the box of this place

@@ -1,15 +1,8 @@
 -- What refuses a change of an entry, gathered.
-use Rattle.std.proofs.Common.{◌≡◌, not, ◌&&◌, [], ◌∷◌, Option}
-use Rattle.std.specs.Option.{option_and_then}
-use Rattle.qm_kinds.specs.declared.entry.Entry.{Entry}
-use Rattle.qm_kinds.specs.declared.refusal.Refusal.{Refusal}
+use Rattle.std.proofs.Common.{◌≡◌, not, ◌&&◌, [], ◌∷◌, Option, option_and_then}
+use Rattle.qm_model.specs.Common.{Entry, Refusal, EntryChange, System, is_pending, is_waiting, first_refusal, refused_where, refused_form, refused_characteristics}
 use Rattle.qm_kinds.specs.declared.refusal.Refusal.TheVariants.{EntryBusy, NotHeld, WrongKind}
-use Rattle.qm_kinds.specs.declared.request.EntryChange.{EntryChange}
-use Rattle.qm_kinds.specs.declared.system.System.{System}
 use Rattle.qm_model.specs.Entries.{refused_queue, is_entry_of_other_kind, entry_change_refusal}
-use Rattle.qm_model.specs.JobStates.{is_pending, is_waiting}
-use Rattle.qm_model.specs.Outcome.{first_refusal, refused_where}
-use Rattle.qm_model.specs.Wanted.{refused_form, refused_characteristics}
 
 pub gathered : (s : System) (change : EntryChange) (e : Entry) (busy held queue wrong form characteristics : Option Refusal)
     → busy ≡ refused_where (not (is_waiting e.state)) (EntryBusy e.state)

@@ -1,21 +1,11 @@
 -- What follows where nothing refuses a request.
-use Rattle.std.proofs.Common.{◌≡◌, ◌∙◌, ◌≤◌, ℕ, nat_lt, Bool, true, false, not, ◌&&◌, List, [], ◌∷◌, Option, None, Some, refl, arith}
+use Rattle.std.proofs.Common.{◌≡◌, ◌∙◌, ◌≤◌, ℕ, nat_lt, Bool, true, false, not, ◌&&◌, List, [], ◌∷◌, Option, None, Some, refl, arith, is_none}
 use Rattle.std.proofs.lemmas.Bool.Decides.{nat_tests}
-use Rattle.std.specs.Prelude.{is_none}
 use Rattle.std.specs.Option.{option_map_or}
-use Rattle.qm_kinds.specs.declared.entry.Entry.{Entry}
-use Rattle.qm_kinds.specs.declared.form.Characteristic.{Characteristic}
-use Rattle.qm_kinds.specs.declared.form.Form.{Form}
-use Rattle.qm_kinds.specs.declared.limits.TheConstants.{LAST_CHARACTERISTIC}
-use Rattle.qm_kinds.specs.declared.queue.Queue.{Queue}
-use Rattle.qm_kinds.specs.declared.refusal.Refusal.{Refusal}
+use Rattle.qm_model.specs.Common.{Entry, Characteristic, Form, LAST_CHARACTERISTIC, Queue, Refusal, System, queue_named, is_generic, first_refusal, refused_where}
 use Rattle.qm_kinds.specs.declared.refusal.Refusal.TheVariants.{NoSuchQueue, WrongKind, NotRunning, NotRestartable, BadValue, DuplicateForm, DuplicateCharacteristic}
-use Rattle.qm_kinds.specs.declared.system.System.{System}
 use Rattle.qm_model.specs.Characteristics.{is_characteristic_taken, define_characteristic_refusal}
-use Rattle.qm_model.specs.Find.{queue_named}
 use Rattle.qm_model.specs.Forms.{is_bad_form, is_form_taken, define_form_refusal}
-use Rattle.qm_model.specs.Kinds.{is_generic}
-use Rattle.qm_model.specs.Outcome.{first_refusal, refused_where}
 use Rattle.qm_model.specs.Stopping.{job_to_abort, abort_refusal}
 
 pub none_first : (o : Option Refusal) (os : List (Option Refusal)) → first_refusal (o ∷ os) ≡ None → (o ≡ None) × (first_refusal os ≡ None)

@@ -1,8 +1,7 @@
 -- What a symbiont reports of a run, as the image takes it.
 use Rattle.std.specs.Prelude.{ℕ}
-use Rattle.qm_kinds.specs.declared.request.Request.{Request}
+use Rattle.qm_model.specs.Common.{Request, RunReport, MarkReport, EndReport}
 use Rattle.qm_kinds.specs.declared.request.Request.TheVariants as request
-use Rattle.qm_model.specs.Runs.{RunReport, MarkReport, EndReport}
 use Rattle.qm_rules.specs.declared.reported.Reported.{Reported}
 use Rattle.qm_rules.specs.declared.reported.Reported.TheVariants.{Mark, End}
 

@@ -1,11 +1,7 @@
 -- What entries and queues name.
-use Rattle.std.specs.Prelude.{ℕ, ◌==◌, Bool, not, bit_and}
+use Rattle.std.specs.Prelude.{ℕ, ◌==◌, Bool, not, bit_and, bytes_eq}
 use Rattle.std.specs.List.{list_any}
-use Rattle.std.specs.Str.{bytes_eq}
-use Rattle.qm_kinds.specs.declared.entry.Entry.{Entry}
-use Rattle.qm_kinds.specs.declared.queue.Queue.{Queue}
-use Rattle.qm_model.specs.Find.{same_file_name}
-use Rattle.qm_model.specs.Forms.{is_named}
+use Rattle.qm_model.specs.Common.{Entry, Queue, same_file_name, is_named}
 use Rattle.qm_rules.specs.declared.naming.Named.{Named}
 use Rattle.qm_rules.specs.declared.naming.Named.TheVariants.{File, Form, Characteristics}
 use Rattle.qm_rules.specs.declared.naming.QueueNamed.{QueueNamed}

@@ -1,26 +1,12 @@
 -- Why requests are refused, in systems that have the rows of tables.
-use Rattle.std.specs.Prelude.{◌≡◌, ℕ, Bool, false, not, List, find, Option}
+use Rattle.std.specs.Prelude.{◌≡◌, ℕ, Bool, false, not, List, find, Option, bytes_eq}
 use Rattle.std.specs.List.{list_any}
 use Rattle.std.specs.Option.{option_and_then, option_map, option_map_or}
-use Rattle.std.specs.Str.{bytes_eq}
-use Rattle.qm_kinds.specs.declared.entry.Entry.{Entry}
-use Rattle.qm_kinds.specs.declared.entry.JobKind.{JobKind}
-use Rattle.qm_kinds.specs.declared.queue.Queue.{Queue}
-use Rattle.qm_kinds.specs.declared.queue.QueueKind.{QueueKind}
-use Rattle.qm_kinds.specs.declared.queue.QueueChange.{QueueChange}
-use Rattle.qm_kinds.specs.declared.refusal.Refusal.{Refusal}
-use Rattle.qm_kinds.specs.declared.request.EntryChange.{EntryChange}
-use Rattle.qm_kinds.specs.declared.request.NameOrNumber.{NameOrNumber}
-use Rattle.qm_kinds.specs.declared.system.System.{System}
+use Rattle.qm_model.specs.Common.{Entry, JobKind, Queue, QueueKind, QueueChange, Refusal, EntryChange, NameOrNumber, System, queue_named, is_other_kind, is_same_queue_kind, refused_by_queue, change_refusal, refused_characteristics}
 use Rattle.qm_model.specs.Entries.{entry_change_refusal}
-use Rattle.qm_model.specs.Find.{queue_named}
-use Rattle.qm_model.specs.Kinds.{is_other_kind, is_same_queue_kind}
 use Rattle.qm_model.specs.Queues.{runs_for, delete_queue_refusal}
-use Rattle.qm_model.specs.Referring.{refused_by_queue}
-use Rattle.qm_model.specs.Settings.{change_refusal}
-use Rattle.qm_model.specs.Wanted.{refused_characteristics}
-use Rattle.qm_queues.specs.Forms.{Defined}
-use Rattle.qm_queues.specs.Queues.{Kept}
+use Rattle.qm_tables.specs.Forms.{Defined}
+use Rattle.qm_tables.specs.Queues.{Kept}
 use Rattle.qm_rules.specs.Settings.{HasForms, HasQueues}
 
 -- the queue of the name that is given takes jobs of the other kind

@@ -1,16 +1,11 @@
 -- Systems that have the rows of tables, and settings that a change gives.
 use Rattle.std.specs.Prelude.{◌≡◌, ℕ, List}
-use Rattle.qm_kinds.specs.declared.queue.Queue.{Queue}
-use Rattle.qm_kinds.specs.declared.queue.QueueChange.{QueueChange}
-use Rattle.qm_kinds.specs.declared.queue.NewQueue.{NewQueue}
-use Rattle.qm_kinds.specs.declared.system.Node.{Node}
-use Rattle.qm_kinds.specs.declared.system.System.{System}
+use Rattle.qm_model.specs.Common.{Queue, QueueChange, NewQueue, Node, System, with_change}
 use Rattle.qm_model.specs.Queues.{plain_queue}
-use Rattle.qm_model.specs.Settings.{with_change}
-use Rattle.qm_queues.specs.Forms.{Defined}
-use Rattle.qm_queues.specs.declared.queues.settings.Settings.{Settings}
-use Rattle.qm_queues.specs.Queues.{Kept}
-use Rattle.qm_queues.specs.Settings.{with_settings}
+use Rattle.qm_tables.specs.Forms.{Defined}
+use Rattle.qm_tables.specs.declared.queues.settings.Settings.{Settings}
+use Rattle.qm_tables.specs.Queues.{Kept}
+use Rattle.qm_tables.specs.Settings.{with_settings}
 
 -- the system has the forms and characteristics of the table
 pub record HasForms (s : System) (table : Defined) : Type 0 where

@@ -1,9 +1,7 @@
 // Why a change of an entry is refused, and what the entry becomes.
-ghost use Rattle.std.specs.Prelude.{◌≡◌, ◌&&◌, ◌||◌, not, unwrap_or, if◌then◌else◌, None};
-ghost use Rattle.std.specs.Option.{option_and_then};
-ghost use Rattle.qm_kinds.specs.declared.system.System.{System};
+ghost use Rattle.std.specs.Prelude.{◌≡◌, ◌&&◌, ◌||◌, not, unwrap_or, if◌then◌else◌, None, option_and_then};
+ghost use Rattle.qm_model.specs.Common.{System, is_pending, is_waiting};
 ghost use Rattle.qm_model.specs.Entries.{refused_queue, is_entry_of_other_kind, with_fields, changed_entry};
-ghost use Rattle.qm_model.specs.JobStates.{is_pending, is_waiting};
 ghost use Rattle.qm_rules.specs.Settings.{HasForms, HasQueues};
 ghost use Rattle.qm_rules.specs.Reasons.{is_home_of_other_kind, IsWhyEntryStays};
 
@@ -14,7 +12,7 @@ use crate::settings::{
 };
 use crate::submitting::state_of;
 use qm_kinds::{Entry, EntryChange, EntryState, JobKind, Moment, Name, Refusal};
-use qm_queues::{FormTable, QueueTable};
+use qm_tables::{FormTable, QueueTable};
 
 // Whether a job in this state waits: for its start, for its release or for its moment.
 fn is_waiting(state: &EntryState) -> bool

@@ -1,15 +1,9 @@
 // INITIALIZE/QUEUE: why it is refused, and the queue that it makes.
-ghost use Rattle.std.specs.Prelude.{◌≡◌, ◌&&◌, ◌||◌, if◌then◌else◌, nat_le, length, is_none, None, Some, IfOk};
+ghost use Rattle.std.specs.Prelude.{◌≡◌, ◌&&◌, ◌||◌, if◌then◌else◌, nat_le, length, is_none, None, Some, IfOk, bytes_eq};
 ghost use Rattle.std.specs.List.{list_any};
 ghost use Rattle.std.specs.Option.{option_and_then, option_copied, option_or};
-ghost use Rattle.std.specs.Str.{bytes_eq};
-ghost use Rattle.qm_kinds.specs.Names.{default_form};
-ghost use Rattle.qm_kinds.specs.declared.limits.TheConstants.{QUEUES_LIMIT};
-ghost use Rattle.qm_kinds.specs.declared.system.System.{System};
-ghost use Rattle.qm_model.specs.Kinds.{is_generic, is_print_queue};
-ghost use Rattle.qm_model.specs.Outcome.{refused_where};
+ghost use Rattle.qm_model.specs.Common.{default_form, QUEUES_LIMIT, System, is_generic, is_print_queue, refused_where, is_bad_change};
 ghost use Rattle.qm_model.specs.Queues.{has_repeats, is_misplaced, refused_unless_stopped, refused_node, is_target, refused_targets, initialize_refusal, plain_queue};
-ghost use Rattle.qm_model.specs.Settings.{is_bad_change};
 ghost use Rattle.qm_rules.specs.Settings.{AgreesWith, HasQueues, IsMadeFrom};
 ghost use Rattle.qm_rules.specs.Reasons.{is_of_other_kind};
 
@@ -21,7 +15,7 @@ use qm_kinds::{
     CharacteristicSet, Name, NewQueue, Node, QUEUES_LIMIT, Queue, QueueKind, QueueRetain,
     QueueState, Refusal, Seq, TARGETS_LIMIT, default_form,
 };
-use qm_queues::{FormTable, QueueTable};
+use qm_tables::{FormTable, QueueTable};
 use std::alloc::{AllocError, Global};
 
 // Whether the name is one of these.

@@ -6,7 +6,7 @@ ghost use Rattle.qm_model.specs.Merging.{merge_refusal};
 use crate::kinds::take_same_jobs;
 use crate::refusals::refused_where;
 use qm_kinds::{Name, Refusal};
-use qm_queues::QueueTable;
+use qm_tables::QueueTable;
 
 // Why the jobs of one queue can't be moved to another.
 pub fn merge_refusal(queues: &QueueTable, to: &Name, from: &Name) -> Option<Refusal>

@@ -1,9 +1,7 @@
 // What names a file, a form, a characteristic or a queue.
-ghost use Rattle.std.specs.Prelude.{◌≡◌, find};
-ghost use Rattle.std.specs.Option.{option_copied};
-ghost use Rattle.qm_entries.specs.Boxed.{contents};
-ghost use Rattle.qm_model.specs.Forms.{is_named};
-ghost use Rattle.qm_model.specs.Referring.{refused_by_entry, refused_by_queue};
+ghost use Rattle.std.specs.Prelude.{◌≡◌, find, option_copied};
+ghost use Rattle.qm_tables.specs.Boxed.{contents};
+ghost use Rattle.qm_model.specs.Common.{is_named, refused_by_entry, refused_by_queue};
 ghost use Rattle.qm_rules.specs.Naming.{has_one_of, names, queue_names};
 
 use qm_kinds::{CharacteristicSet, Entry, FileName, Holder, Name, Queue, Refusal};

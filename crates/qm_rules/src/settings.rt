@@ -1,11 +1,8 @@
 // The settings that SET QUEUE, START/QUEUE and INITIALIZE/QUEUE give: why they are refused, and what they are.
-ghost use Rattle.std.specs.Prelude.{◌≡◌, is_none};
-ghost use Rattle.std.specs.Option.{option_and_then, option_copied, option_map};
-ghost use Rattle.qm_kinds.specs.declared.system.System.{System};
-ghost use Rattle.qm_model.specs.Outcome.{refused_where};
+ghost use Rattle.std.specs.Prelude.{◌≡◌, is_none, option_and_then, option_copied, option_map};
+ghost use Rattle.qm_model.specs.Common.{System, refused_where, refused_form, form_named, characteristics_of};
 ghost use Rattle.qm_model.specs.Queues.{set_queue_refusal};
 ghost use Rattle.qm_model.specs.Settings.{are_bad_sizes, is_bad_change, is_change_of_other_kind, change_refusal};
-ghost use Rattle.qm_model.specs.Wanted.{refused_form, form_named, characteristics_of};
 ghost use Rattle.qm_rules.specs.Settings.{HasForms, HasQueues, AreSettingsOf};
 ghost use Rattle.qm_rules.specs.Reasons.{refused_among, refused_change_of};
 
@@ -14,7 +11,7 @@ use crate::refusals::{first_refusal, refused_where};
 use qm_kinds::{
     CharacteristicSet, Name, NameOrNumber, Queue, QueueChange, QueueKind, Refusal, Seq,
 };
-use qm_queues::{FormTable, QueueTable, Settings};
+use qm_tables::{FormTable, QueueTable, Settings};
 
 // Whether the least size is 0 or above the greatest.
 fn are_bad_sizes(least: u32, greatest: u32) -> bool

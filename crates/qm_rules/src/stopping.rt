@@ -6,7 +6,7 @@ ghost use Rattle.qm_model.specs.States.{state_on_stop, state_when_idle};
 ghost use Rattle.qm_rules.specs.Reasons.{IsWhyQueueStays};
 
 use qm_kinds::{Holder, Name, Queue, QueueState, Refusal, StopMode};
-use qm_queues::QueueTable;
+use qm_tables::QueueTable;
 
 /// The state of a queue after STOP/QUEUE, STOP/QUEUE/NEXT or STOP/QUEUE/RESET.
 pub fn state_on_stop(how: StopMode, state: QueueState) -> QueueState

@@ -1,8 +1,7 @@
 // What a job that is submitted may ask for, and its first state.
 ghost use Rattle.std.specs.Prelude.{◌≡◌, false};
 ghost use Rattle.std.specs.Option.{option_copied, option_map_or};
-ghost use Rattle.qm_model.specs.Kinds.{is_other_kind};
-ghost use Rattle.qm_model.specs.Outcome.{refused_where};
+ghost use Rattle.qm_model.specs.Common.{is_other_kind, refused_where};
 ghost use Rattle.qm_model.specs.Submitting.{has_bad_value, state_of};
 
 use crate::kinds::is_other_kind;

@@ -3,12 +3,9 @@
 use Rattle.std.specs.Prelude.{Bool, true, false, ◌&&◌, ℕ, List, length}
 use Rattle.std.specs.List.{list_all}
 use Rattle.std.specs.Option.{option_map_or}
-use Rattle.qm_kinds.specs.declared.input.Input.{Input}
-use Rattle.qm_kinds.specs.declared.input.Input.TheVariants.{Ask, Show, Compact, Fetch, StopNode, StartNode, TakeManager, Fault}
-use Rattle.qm_kinds.specs.declared.request.Request.{Request}
+use Rattle.qm_model.specs.Common.{Input, Ask, Show, Compact, Fetch, StopNode, StartNode, TakeManager, Fault, Request, is_short, is_definable}
 use Rattle.qm_kinds.specs.declared.request.Request.TheVariants.{Append, Fill, Drop, DefineForm, DeleteForm, DefineCharacteristic, DeleteCharacteristic, InitializeQueue, SetQueue, StartQueue, StopQueue, AbortJob, DeleteQueue, Merge, Submit, SetEntry, DeleteEntry, Mark, Done, Tick, NodeUp, NodeLost, Took}
 use Rattle.qm_dcl.specs.Values.{is_node_name}
-use Rattle.qm_model.specs.Built.{is_short, is_definable}
 use Rattle.qm_sayable.specs.Values.{fits_list}
 use Rattle.qm_sayable.specs.Queues.{are_queue_settings, sets_queue, is_new_queue}
 use Rattle.qm_sayable.specs.Jobs.{is_job, is_entry_change}

@@ -1,8 +1,7 @@
 -- What of a form a command can say.
 -- DCL Dictionary, DEFINE/FORM.
 use Rattle.std.specs.Prelude.{Bool, ◌&&◌}
-use Rattle.qm_kinds.specs.declared.form.Form.{Form}
-use Rattle.qm_model.specs.Built.{is_short, is_definable}
+use Rattle.qm_model.specs.Common.{Form, is_short, is_definable}
 
 -- a form that can be defined by a command
 abbrev pub is_form : Form → Bool

@@ -2,12 +2,8 @@
 -- DCL Dictionary, SUBMIT, PRINT and SET ENTRY.
 use Rattle.std.specs.Prelude.{ℕ, Bool, true, false, ◌&&◌, ◌||◌, ◌==◌, not, nat_lt, List, length, Option, None, Some, is_some}
 use Rattle.std.specs.Option.{option_map_or}
-use Rattle.qm_kinds.specs.declared.entry.JobKind.{JobKind}
+use Rattle.qm_model.specs.Common.{JobKind, EntryChange, Job, NameOrNumber, is_short}
 use Rattle.qm_kinds.specs.declared.entry.JobKind.TheVariants.{Batch, Print}
-use Rattle.qm_kinds.specs.declared.request.EntryChange.{EntryChange}
-use Rattle.qm_kinds.specs.declared.request.Job.{Job}
-use Rattle.qm_kinds.specs.declared.request.NameOrNumber.{NameOrNumber}
-use Rattle.qm_model.specs.Built.{is_short}
 use Rattle.qm_sayable.specs.Values.{is_form_reference, are_characteristics}
 
 -- only a print job has a form, copies or a flag page

@@ -1,10 +1,7 @@
 -- Which listings a command asks for.
 -- DCL Dictionary, SHOW ENTRY, SHOW QUEUE, SHOW QUEUE/CHARACTERISTICS, SHOW QUEUE/FORM and SHOW QUEUE/MANAGERS.
 use Rattle.std.specs.Prelude.{ℕ, Bool, false, ◌&&◌, ◌||◌, not, if◌then◌else◌, Option, None, Some, is_some}
-use Rattle.qm_kinds.specs.declared.query.Kinds.{Kinds}
-use Rattle.qm_kinds.specs.declared.query.Listing.{Listing}
-use Rattle.qm_kinds.specs.declared.query.Listing.TheVariants.{Queues, Jobs, Entries, Forms, Characteristics, Manager, Cancel}
-use Rattle.qm_kinds.specs.declared.query.Query.{Query}
+use Rattle.qm_model.specs.Common.{Kinds, Listing, Queues, Jobs, Entries, Forms, Characteristics, Manager, Cancel, Query}
 use Rattle.qm_dcl.specs.Values.{are_digits, says_all}
 
 -- queues of all kinds are listed

@@ -3,12 +3,9 @@
 use Rattle.std.specs.Prelude.{Bool, true, false, ◌&&◌, ◌||◌, ◌==◌, not, nat_lt, if◌then◌else◌, length, is_some}
 use Rattle.std.specs.List.{list_all}
 use Rattle.std.specs.Option.{option_map_or}
-use Rattle.qm_kinds.specs.declared.queue.NewQueue.{NewQueue}
-use Rattle.qm_kinds.specs.declared.queue.QueueChange.{QueueChange}
-use Rattle.qm_kinds.specs.declared.queue.QueueKind.{QueueKind}
+use Rattle.qm_model.specs.Common.{NewQueue, QueueChange, QueueKind, is_short}
 use Rattle.qm_kinds.specs.declared.queue.QueueKind.TheVariants.{Batch, Print, GenericBatch, GenericPrint}
 use Rattle.qm_dcl.specs.Values.{is_node_name}
-use Rattle.qm_model.specs.Built.{is_short}
 use Rattle.qm_sayable.specs.Values.{fits_list, is_form_reference, are_characteristics}
 
 -- what is set can be said

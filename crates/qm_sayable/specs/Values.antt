@@ -2,9 +2,7 @@
 -- OpenVMS User's Manual, on entering commands: values and lists.
 use Rattle.std.specs.Prelude.{ℕ, Bool, ◌&&◌, nat_le, List, length}
 use Rattle.std.specs.List.{list_all}
-use Rattle.qm_kinds.specs.declared.request.NameOrNumber.{NameOrNumber}
-use Rattle.qm_kinds.specs.declared.request.NameOrNumber.TheVariants.{Name, Number}
-use Rattle.qm_model.specs.Built.{is_definable}
+use Rattle.qm_model.specs.Common.{NameOrNumber, Name, Number, is_definable}
 
 -- a list isn't too long
 abbrev pub fits_list : ℕ → Bool

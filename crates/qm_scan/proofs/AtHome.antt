@@ -1,19 +1,13 @@
 -- Where no job runs in a queue, the entries that stand there have it as their home, and its tag.
-use Rattle.std.proofs.Common.{◌≡◌, ◌≢◌, ◌∙◌, ℕ, ◌+◌, ◌<◌, ◌&&◌, Bool, true, false, List, [], ◌∷◌, length, get_or, drop, Option, Some, None, refl, sym, ap}
+use Rattle.std.proofs.Common.{◌≡◌, ◌≢◌, ◌∙◌, ℕ, ◌+◌, ◌<◌, ◌&&◌, Bool, true, false, List, [], ◌∷◌, length, get_or, drop, Option, Some, None, refl, sym, ap, unwrap_or, bytes_eq}
 use Rattle.std.specs.List.{find, list_any}
 use Rattle.std.specs.Option.{option_map_or}
-use Rattle.std.specs.Prelude.{unwrap_or}
-use Rattle.std.specs.Str.{bytes_eq}
 use Rattle.std.proofs.lemmas.Bool.{or_parts}
 use Rattle.std.proofs.lemmas.List.{get_or-map}
 use Rattle.std.proofs.lemmas.Slice.Eq.{bytes_eq-Decides}
-use Rattle.qm_entries.specs.Tags.{tag_of, entry_tag, tags_of}
-use Rattle.qm_kinds.specs.Wildcards.{matches}
-use Rattle.qm_kinds.specs.declared.entry.Entry.{Entry}
-use Rattle.qm_kinds.specs.declared.query.Query.{Query}
-use Rattle.qm_model.specs.JobStates.{runs_in}
+use Rattle.qm_tables.specs.Tags.{tag_of, entry_tag, tags_of}
+use Rattle.qm_model.specs.Common.{matches, Entry, Query, runs_in, occupies}
 use Rattle.qm_model.specs.Rows.{is_of_user}
-use Rattle.qm_model.specs.Standing.{occupies}
 use Rattle.qm_scan.specs.Listed.{is_entry_listed, is_listed_at_home}
 use Rattle.qm_scan.proofs.Found.{find_nothing}
 

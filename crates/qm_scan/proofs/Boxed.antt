@@ -1,9 +1,8 @@
 -- What a loop over boxes has looked at.
-use Rattle.std.proofs.Common.{◌≡◌, ◌∙◌, ℕ, ◌<◌, ◌≤◌, ◌-◌, List, length, get_or, take, drop, sym, ap, arith}
-use Rattle.std.specs.Prelude.{Box}
+use Rattle.std.proofs.Common.{◌≡◌, ◌∙◌, ℕ, ◌<◌, ◌≤◌, ◌-◌, List, length, get_or, take, drop, sym, ap, arith, Box}
 use Rattle.std.proofs.lemmas.List.{length-map, get_or-map, length-drop, drop-map, take_all}
 use Rattle.qm_kinds.specs.declared.entry.Entry.{Entry}
-use Rattle.qm_entries.specs.Boxed.{contents}
+use Rattle.qm_tables.specs.Boxed.{contents}
 
 module _ {X Z : Type 0} (boxes : List (Box X Z)) (i : ℕ) (b : Box X Z) (x : X) (within : i < length boxes) (read : b ≡ get_or boxes i b) (is : x ≡ b.value) where
   -- the value that lies in the box of this place

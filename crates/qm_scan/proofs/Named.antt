@@ -1,18 +1,12 @@
 -- What the place of a name says of each queue.
-use Rattle.std.proofs.Common.{◌≡◌, ◌∙◌, ℕ, ◌==◌, ◌<◌, true, false, inl, inr, List, length, get_or, Some, Ok, refl, sym, ap, arith}
-use Rattle.std.specs.List.{slice_get}
+use Rattle.std.proofs.Common.{◌≡◌, ◌∙◌, ℕ, ◌==◌, ◌<◌, true, false, inl, inr, List, length, get_or, Some, Ok, refl, sym, ap, arith, slice_get, bytes_eq, Ordering, Less, Equal, Greater}
 use Rattle.std.specs.Ordering.{is_eq, ordering_reverse}
-use Rattle.std.specs.Str.{bytes_eq}
-use Rattle.std.specs.declared.cmp.Ordering.{Ordering}
-use Rattle.std.specs.declared.cmp.Ordering.TheVariants.{Less, Equal, Greater}
 use Rattle.std.proofs.lemmas.Bool.{cases_lt}
 use Rattle.std.proofs.lemmas.Bool.Decides.{nat_tests}
 use Rattle.std.proofs.lemmas.Cmp.{nat_list_cmp_total}
 use Rattle.std.proofs.lemmas.Map.Text.{is_eq-slice_cmp}
 use Rattle.std.proofs.lemmas.Option.{slice_get_cases, get_or_from_slice_get}
-use Rattle.qm_kinds.specs.declared.queue.Queue.{Queue}
-use Rattle.qm_model.specs.Consistent.{IsInOrder}
-use Rattle.qm_model.specs.Find.{name_cmp}
+use Rattle.qm_model.specs.Common.{Queue, IsInOrder, name_cmp}
 use Rattle.qm_keyed.specs.Places.{StandsAt, BelongsAt}
 use Rattle.qm_keyed.proofs.Searches.{place_from_search}
 

@@ -1,18 +1,12 @@
 -- Entries that are put below their queues.
-use Rattle.std.proofs.Common.{◌≡◌, ◌∙◌, ℕ, suc, ◌+◌, ◌==◌, ◌&&◌, ◌<◌, Bool, true, false, if◌then◌else◌, List, [], ◌∷◌, ◌++◌, length, get_or, set, take, map, refl, sym, ap, arith}
-use Rattle.std.specs.List.{filter, flat_map, slice_get}
-use Rattle.std.specs.Prelude.{Result, Ok, Err, OnErr, OnOk, Some}
+use Rattle.std.proofs.Common.{◌≡◌, ◌∙◌, ℕ, suc, ◌+◌, ◌==◌, ◌&&◌, ◌<◌, Bool, true, false, if◌then◌else◌, List, [], ◌∷◌, ◌++◌, length, get_or, set, take, map, refl, sym, ap, arith, filter, flat_map, slice_get, Result, Ok, Err, OnErr, OnOk, Some, bytes_eq}
 use Rattle.std.proofs.lemmas.Bool.Decides.{nat_tests}
 use Rattle.std.proofs.lemmas.List.{get_or-set_same, get_or-set_other, get_or-map, append-nil, map-append}
 use Rattle.std.proofs.lemmas.List.Elements.{filter_more}
 use Rattle.std.proofs.lemmas.Option.{get_or_from_slice_get}
-use Rattle.std.specs.Str.{bytes_eq}
 use Rattle.std.proofs.Math.Bool.{and-true}
-use Rattle.qm_kinds.specs.declared.entry.Entry.{Entry}
-use Rattle.qm_kinds.specs.declared.query.Query.{Query}
-use Rattle.qm_kinds.specs.declared.queue.Queue.{Queue}
+use Rattle.qm_model.specs.Common.{Entry, Query, Queue, stands_in}
 use Rattle.qm_model.specs.Rows.{is_of_user}
-use Rattle.qm_model.specs.Standing.{stands_in}
 use Rattle.qm_scan.specs.Listed.{is_below}
 use Rattle.qm_scan.proofs.Named.{place_within}
 

@@ -1,15 +1,11 @@
 -- A scan, and the row that it gives next.
 -- OpenVMS System Services Reference Manual, $GETQUI, on wildcard searches.
 use Rattle.std.specs.Prelude.{true, Option, None, Some}
-use Rattle.qm_kinds.specs.declared.query.After.{After}
+use Rattle.qm_model.specs.Common.{After, Listing, Query, Row, System}
 use Rattle.qm_kinds.specs.declared.query.After.TheVariants as after
-use Rattle.qm_kinds.specs.declared.query.Listing.{Listing}
 use Rattle.qm_kinds.specs.declared.query.Listing.TheVariants as listing
-use Rattle.qm_kinds.specs.declared.query.Query.{Query}
-use Rattle.qm_kinds.specs.declared.query.Row.{Row}
 use Rattle.qm_kinds.specs.declared.query.Row.TheVariants as row
-use Rattle.qm_kinds.specs.declared.system.System.{System}
-use Rattle.qm_model.specs.Rows.{next_row, single_rows}
+use Rattle.qm_scan.specs.Listed.{row_asked}
 use Rattle.qm_scan.specs.declared.scan.Scan.{Scan}
 use Rattle.qm_scan.specs.declared.scan.ScanKind.{ScanKind}
 use Rattle.qm_scan.specs.declared.scan.ScanKind.TheVariants.{Queues, Jobs, Entries, Forms, Characteristics}
@@ -37,7 +33,7 @@ query_of scan = record {
 
 -- the row that a scan gives next of a system, if there is one
 abbrev pub row_behind : Scan → System → Option Row
-row_behind scan s = next_row scan.after (single_rows s (query_of scan) (listing_of scan.kind))
+row_behind scan s = row_asked s (query_of scan)
 
 -- where a listing goes on behind a row
 abbrev pub place_behind : Row → Option After

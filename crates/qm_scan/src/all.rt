@@ -1,15 +1,10 @@
 // All rows of a listing.
-ghost use Rattle.std.specs.Prelude.{◌≡◌, ◌++◌, ◌∷◌, [], if◌then◌else◌, List, length, filter, flat_map, map, IfOk, OnOk};
-ghost use Rattle.qm_entries.specs.Boxed.{contents};
-ghost use Rattle.qm_kinds.specs.Wildcards.{matches};
-ghost use Rattle.qm_kinds.specs.declared.entry.Entry.{Entry as AnyEntry};
-ghost use Rattle.qm_kinds.specs.declared.query.Row.TheVariants as row;
-ghost use Rattle.qm_kinds.specs.declared.system.System.{System};
-ghost use Rattle.qm_model.specs.Consistent.{IsInOrder};
-ghost use Rattle.qm_model.specs.Find.{name_cmp};
+ghost use Rattle.std.specs.Prelude.{◌≡◌, ◌++◌, IfOk, OnOk};
+ghost use Rattle.qm_tables.specs.Boxed.{contents};
+ghost use Rattle.qm_model.specs.Common.{System, IsInOrder, name_cmp};
 ghost use Rattle.qm_model.specs.Rows.{all_rows};
 ghost use Rattle.qm_parts.specs.Tables.{with_tables};
-ghost use Rattle.qm_scan.specs.Listed.{AreBelow, is_entry_listed, is_queue_listed, rows_below};
+ghost use Rattle.qm_scan.specs.Listed.{listed_characteristic_rows, listed_entry_rows, listed_form_rows, listed_rows_below, row_if_listed};
 
 use crate::below::groups_of;
 use crate::group::Group;
@@ -49,7 +44,7 @@ fn queue_rows(
 ) -> Result<Rows, AllocError>
     requires { IsInOrder name_cmp (λ q. q.name) queues.now }
     ensures { IfOk result (λ rows. rows
-        ≡ flat_map (rows_below query.now (contents entries.now)) (filter (is_queue_listed query.now) queues.now)) }
+        ≡ listed_rows_below query.now (contents entries.now) queues.now) }
 {
     let groups = groups_of(alloc, queues, query, entries, tags)?;
     let parts = parts_of(alloc, groups)?;
@@ -70,7 +65,7 @@ fn push_listed(
     entry: &Entry,
 ) -> Result<(), AllocError>
     ensures { OnOk result (rows.new.items
-        ≡ rows.old.items ++ (if is_entry_listed query.now queue.now entry.now then row.Entry entry.now ∷ [] else [])) }
+        ≡ rows.old.items ++ row_if_listed query.now queue.now entry.now) }
 {
     if !is_entry_listed(query, queue, entry) {
         return Ok(());
@@ -86,7 +81,8 @@ fn entry_rows(
     queue: &Option<Name>,
     entries: &[Box<Entry>],
 ) -> Result<Vec<Row>, AllocError>
-    ensures { IfOk result (λ rows. rows.items ≡ map (λ e. row.Entry e) (filter (is_entry_listed query.now queue.now) (contents entries.now))) }
+    ensures { IfOk result (λ rows. rows.items
+        ≡ listed_entry_rows query.now queue.now (contents entries.now)) }
 {
     let room = if are_all_listed(query, queue) {
         entries.len()
@@ -102,7 +98,7 @@ fn entry_rows(
 
 // The rows of the forms whose names match.
 fn form_rows(alloc: Global, pattern: &Pattern, forms: &[Form]) -> Result<Vec<Row>, AllocError>
-    ensures { IfOk result (λ rows. rows.items ≡ map (λ f. row.Form f) (filter (λ f. matches pattern.now f.name) forms.now)) }
+    ensures { IfOk result (λ rows. rows.items ≡ listed_form_rows pattern.now forms.now) }
 {
     let mut rows = Vec::with_capacity(alloc, forms.len())?;
     for form in forms {
@@ -120,7 +116,7 @@ fn characteristic_rows(
     characteristics: &[Characteristic],
 ) -> Result<Vec<Row>, AllocError>
     ensures { IfOk result (λ rows. rows.items
-        ≡ map (λ c. row.Characteristic c) (filter (λ c. matches pattern.now c.name) characteristics.now)) }
+        ≡ listed_characteristic_rows pattern.now characteristics.now) }
 {
     let mut rows = Vec::with_capacity(alloc, characteristics.len())?;
     for characteristic in characteristics {
@@ -137,7 +133,8 @@ fn characteristic_rows(
 /// It walks over the entries once, in order, and takes memory for each row: no more than 1 KiB a row, and what the names of a generic
 /// queue's targets take.
 pub fn all_rows(alloc: Global, parts: &Parts, query: &Query) -> Result<Rows, AllocError>
-    ensures { (s : System) → IfOk result (λ rows. rows ≡ all_rows (with_tables s parts.now) query.now query.now.listing) }
+    ensures { (s : System) → IfOk result (λ rows. rows
+        ≡ all_rows (with_tables s parts.now) query.now query.now.listing) }
 {
     let rows = match query.listing {
         Listing::Queues => {

@@ -1,19 +1,15 @@
 // The rows below each queue of a listing.
-ghost use Rattle.std.specs.Prelude.{◌≡◌, ◌&&◌, ◌++◌, ◌∷◌, ◌<◌, [], ℕ, length, slice_get, slice_set, slice_index_or, map, Some, if◌then◌else◌, IfOk, IfSome, IsTrue, OnOk};
-ghost use Rattle.std.specs.Str.{bytes_eq};
-ghost use Rattle.qm_entries.specs.Boxed.{contents};
-ghost use Rattle.qm_kinds.specs.declared.query.Row.TheVariants as row;
-ghost use Rattle.qm_kinds.specs.declared.queue.Queue.{Queue as AnyQueue};
-ghost use Rattle.qm_model.specs.Consistent.{IsInOrder};
-ghost use Rattle.qm_model.specs.Find.{name_cmp};
-ghost use Rattle.qm_scan.specs.Listed.{AreBelow, is_below, is_place, is_queue_listed, rows_of_queue};
+ghost use Rattle.std.specs.Prelude.{◌≡◌, ◌<◌, [], length, map, Some, IfOk, IfSome, IsTrue, OnOk};
+ghost use Rattle.qm_tables.specs.Boxed.{contents};
+ghost use Rattle.qm_model.specs.Common.{IsInOrder, name_cmp};
+ghost use Rattle.qm_scan.specs.Listed.{AreBelow, HaveGained, IsPlaceOf, is_queue_listed, rows_of_queue, with_entry};
 
 use crate::all::copy_of;
 use crate::group::Group;
 use crate::listed::{is_of_user, is_queue_listed, stands_in};
-use qm_entries::home_tag;
 use qm_keyed::place_of;
 use qm_kinds::{Entry, ListedEntry, Name, Query, Queue, Row};
+use qm_tables::home_tag;
 use std::alloc::{AllocError, Global};
 
 // So many names can be told apart by what their tags leave when they are divided by it.
@@ -30,7 +26,7 @@ fn slot_of(tag: u16) -> usize
 fn is_there(queues: &[Queue], name: &Name, place: usize) -> bool
     requires { IsInOrder name_cmp (λ q. q.name) queues.now }
     ensures within { IsTrue result → place < length queues.now }
-    ensures named { IsTrue result → (there : ℕ) (queue : AnyQueue) → slice_get queues.now there ≡ Some queue → bytes_eq name.now queue.name ≡ is_place there (Some place) }
+    ensures named { IsTrue result → IsPlaceOf name.now queues.now (Some place) }
 {
     place < queues.len() && queues[place].name == *name
 }
@@ -39,7 +35,7 @@ fn is_there(queues: &[Queue], name: &Name, place: usize) -> bool
 fn place_named(queues: &[Queue], name: &Name) -> Option<usize>
     requires { IsInOrder name_cmp (λ q. q.name) queues.now }
     ensures within { IfSome result (λ place. place < length queues.now) }
-    ensures named { (place : ℕ) (queue : AnyQueue) → slice_get queues.now place ≡ Some queue → bytes_eq name.now queue.name ≡ is_place place result }
+    ensures named { IsPlaceOf name.now queues.now result }
 {
     match place_of(queues, name) {
         Ok(place) => Some(place),
@@ -58,7 +54,7 @@ fn place_tried(
     requires in_order { IsInOrder name_cmp (λ q. q.name) queues.now }
     requires slot { slot < SLOTS }
     ensures within { IfSome result (λ place. place < length queues.now) }
-    ensures named { (place : ℕ) (queue : AnyQueue) → slice_get queues.now place ≡ Some queue → bytes_eq name.now queue.name ≡ is_place place result }
+    ensures named { IsPlaceOf name.now queues.now result }
 {
     let place = tried[slot];
     if is_there(queues, name, place) {
@@ -80,7 +76,7 @@ fn put_in(
 ) -> Result<(), AllocError>
     requires { place < length groups.old.items }
     ensures count { length groups.new.items ≡ length groups.old.items }
-    ensures put { OnOk result (groups.new.items ≡ slice_set groups.old.items place (slice_index_or groups.old.items place [] ++ row.Entry entry.now ∷ [])) }
+    ensures put { OnOk result (groups.new.items ≡ with_entry groups.old.items place entry.now) }
 {
     let row = Row::Entry(ListedEntry::of(alloc, entry)?);
     groups[place].push(row)
@@ -102,8 +98,8 @@ fn put_below(
     requires count { length groups.old.items ≡ length queues.now }
     requires slot { slot < SLOTS }
     ensures count { length groups.new.items ≡ length queues.now }
-    ensures put { OnOk result ((place : ℕ) (queue : AnyQueue) → slice_get queues.now place ≡ Some queue → slice_index_or groups.new.items place []
-        ≡ slice_index_or groups.old.items place [] ++ (if is_queue_listed query.now queue && is_below query.now queue entry.now then row.Entry entry.now ∷ [] else [])) }
+    ensures put { OnOk result
+        (HaveGained query.now queues.now entry.now groups.old.items groups.new.items) }
 {
     if !is_of_user(query, entry) {
         return Ok(());
@@ -202,7 +198,8 @@ pub(crate) fn groups_of(
 ) -> Result<Vec<Group>, AllocError>
     requires { IsInOrder name_cmp (λ q. q.name) queues.now }
     ensures count { IfOk result (λ groups. length groups.items ≡ length queues.now) }
-    ensures below { IfOk result (λ groups. AreBelow query.now queues.now (contents entries.now) groups.items) }
+    ensures below { IfOk result (λ groups.
+        AreBelow query.now queues.now (contents entries.now) groups.items) }
 {
     let shown = shown_queues(alloc, queues, query)?;
     let counted: &[u16] = if query.user.is_none() { tags } else { &[] };

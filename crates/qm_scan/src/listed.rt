@@ -1,9 +1,8 @@
 // Which queues and entries are listed.
 ghost use Rattle.std.specs.Prelude.{◌≡◌, true};
 ghost use Rattle.std.specs.Option.{option_map_or};
-ghost use Rattle.qm_kinds.specs.Wildcards.{matches};
+ghost use Rattle.qm_model.specs.Common.{matches, stands_in};
 ghost use Rattle.qm_model.specs.Rows.{is_kind_listed, is_of_user, stands_there};
-ghost use Rattle.qm_model.specs.Standing.{stands_in};
 ghost use Rattle.qm_scan.specs.Listed.{is_entry_listed, is_listed_at_home, is_queue_listed};
 
 use qm_kinds::{Entry, EntryState, Kinds, Name, Pattern, Query, Queue, QueueKind};

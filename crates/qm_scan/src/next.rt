@@ -1,23 +1,19 @@
 // The first row of a listing behind the one that was given last.
-ghost use Rattle.std.specs.Prelude.{◌≡◌, ◌&&◌, filter, find, map, IfOk, IsSome, None, OnErr, Some};
-ghost use Rattle.std.specs.Option.{option_copied};
-ghost use Rattle.qm_entries.specs.Boxed.{contents};
-ghost use Rattle.qm_entries.specs.Tags.{tags_of};
-ghost use Rattle.qm_kinds.specs.Wildcards.{matches};
+ghost use Rattle.std.specs.Prelude.{◌≡◌, find, IfOk, IsSome, None, OnErr, Some, option_copied};
+ghost use Rattle.qm_tables.specs.Boxed.{contents};
+ghost use Rattle.qm_tables.specs.Tags.{tags_of};
 ghost use Rattle.qm_kinds.specs.declared.query.Row.TheVariants as row;
-ghost use Rattle.qm_kinds.specs.declared.system.System.{System};
-ghost use Rattle.qm_model.specs.Consistent.{IsInOrder};
-ghost use Rattle.qm_model.specs.Find.{name_cmp};
-ghost use Rattle.qm_model.specs.Rows.{next_row, single_rows};
+ghost use Rattle.qm_model.specs.Common.{System, IsInOrder, name_cmp};
+ghost use Rattle.qm_model.specs.Rows.{next_row};
 ghost use Rattle.qm_parts.specs.Tables.{with_tables};
-ghost use Rattle.qm_scan.specs.Listed.{is_behind, is_entry_listed, is_listed_at_home, is_queue_listed};
+ghost use Rattle.qm_scan.specs.Listed.{is_behind, is_entry_listed, is_listed_at_home, is_queue_listed, listed_characteristic_rows, listed_entry_rows, listed_form_rows, listed_queue_rows, row_asked, next_at_home, next_characteristic, next_entry, next_form, next_queue};
 
 use crate::all::copy_of;
 use crate::listed::{is_entry_listed, is_listed_at_home, is_named, is_queue_listed};
 use crate::places::{entries_behind, place_behind, queues_behind};
-use qm_entries::home_tag;
 use qm_kinds::{After, Characteristic, Entry, Form, ListedEntry, Listing, Name, Query, Queue, Row};
 use qm_parts::{Parts, see_entries};
+use qm_tables::home_tag;
 use std::alloc::{AllocError, Global};
 
 // Whether a form of a number stands behind the row that was given last, if one was.
@@ -52,14 +48,14 @@ fn first_queue<'a>(query: &Query, queues: &'a [Queue]) -> Option<&'a Queue>
 // The first queue behind the last row that is listed.
 fn next_queue<'a>(query: &Query, queues: &'a [Queue]) -> Option<&'a Queue>
     requires { IsInOrder name_cmp (λ q. q.name) queues.now }
-    ensures { option_copied result ≡ find (λ q. is_behind query.now.after (row.Queue q) && is_queue_listed query.now q) queues.now }
+    ensures { option_copied result ≡ next_queue query.now queues.now }
 {
     first_queue(query, queues_behind(&query.after, queues))
 }
 
 // The first form behind the last row whose name matches.
 fn next_form<'a>(query: &Query, forms: &'a [Form]) -> Option<&'a Form>
-    ensures { option_copied result ≡ find (λ f. is_behind query.now.after (row.Form f) && matches query.now.pattern f.name) forms.now }
+    ensures { option_copied result ≡ next_form query.now forms.now }
 {
     forms.iter().find(|form| is_form_behind(&query.after, form)
         && is_named(&query.pattern, &form.name))
@@ -70,7 +66,7 @@ fn next_characteristic<'a>(
     query: &Query,
     defined: &'a [Characteristic],
 ) -> Option<&'a Characteristic>
-    ensures { option_copied result ≡ find (λ c. is_behind query.now.after (row.Characteristic c) && matches query.now.pattern c.name) defined.now }
+    ensures { option_copied result ≡ next_characteristic query.now defined.now }
 {
     defined.iter().find(|one| is_characteristic_behind(&query.after, one)
         && is_named(&query.pattern, &one.name))
@@ -82,7 +78,8 @@ fn first_listed<'a>(
     queue: &Option<Name>,
     entries: &'a [Box<Entry>],
 ) -> Option<&'a Entry>
-    ensures { option_copied result ≡ find (is_entry_listed query.now queue.now) (contents entries.now) }
+    ensures { option_copied result
+        ≡ find (is_entry_listed query.now queue.now) (contents entries.now) }
 {
     for boxed in entries {
         let entry = boxed.as_ref();
@@ -102,7 +99,8 @@ fn first_at_home<'a>(
     tags: &[u16],
 ) -> Option<&'a Entry>
     requires { tags.now ≡ tags_of (contents entries.now) }
-    ensures { option_copied result ≡ find (is_listed_at_home query.now queue.now) (contents entries.now) }
+    ensures { option_copied result
+        ≡ find (is_listed_at_home query.now queue.now) (contents entries.now) }
 {
     let wanted = home_tag(queue);
     for place in 0..entries.len() {
@@ -119,7 +117,7 @@ fn first_at_home<'a>(
 
 // The first entry behind the last row that is listed, of all queues.
 fn next_of_all<'a>(query: &Query, parts: &'a Parts) -> Option<&'a Entry>
-    ensures { option_copied result ≡ find (λ e. is_behind query.now.after (row.Entry e) && is_entry_listed query.now None e) parts.now.entries }
+    ensures { option_copied result ≡ next_entry query.now None parts.now.entries }
 {
     see_entries(parts);
     first_listed(query, &None, entries_behind(&query.after, parts.entries()))
@@ -127,8 +125,7 @@ fn next_of_all<'a>(query: &Query, parts: &'a Parts) -> Option<&'a Entry>
 
 // The first entry behind the last row that is listed, of those that have this queue as their home.
 fn next_at_home<'a>(query: &Query, queue: &Name, parts: &'a Parts) -> Option<&'a Entry>
-    ensures { option_copied result
-        ≡ find (λ e. is_behind query.now.after (row.Entry e) && is_listed_at_home query.now queue.now e) parts.now.entries }
+    ensures { option_copied result ≡ next_at_home query.now queue.now parts.now.entries }
 {
     see_entries(parts);
     let entries = parts.entries();
@@ -139,8 +136,7 @@ fn next_at_home<'a>(query: &Query, queue: &Name, parts: &'a Parts) -> Option<&'a
 // The first entry behind the last row that is listed, of one queue. Where no job runs in the queue, those that stand there have it as
 // their home.
 fn next_in<'a>(query: &Query, queue: &Name, parts: &'a Parts) -> Option<&'a Entry>
-    ensures { option_copied result
-        ≡ find (λ e. is_behind query.now.after (row.Entry e) && is_entry_listed query.now (Some queue.now) e) parts.now.entries }
+    ensures { option_copied result ≡ next_entry query.now (Some queue.now) parts.now.entries }
 {
     if !parts.is_occupied(queue) {
         return next_at_home(query, queue, parts);
@@ -155,8 +151,7 @@ fn next_in<'a>(query: &Query, queue: &Name, parts: &'a Parts) -> Option<&'a Entr
 
 // The first entry behind the last row that is listed, of all queues or of one.
 fn next_entry<'a>(query: &Query, queue: &Option<Name>, parts: &'a Parts) -> Option<&'a Entry>
-    ensures { option_copied result
-        ≡ find (λ e. is_behind query.now.after (row.Entry e) && is_entry_listed query.now queue.now e) parts.now.entries }
+    ensures { option_copied result ≡ next_entry query.now queue.now parts.now.entries }
 {
     match queue {
         None => next_of_all(query, parts),
@@ -168,8 +163,10 @@ fn next_entry<'a>(query: &Query, queue: &Option<Name>, parts: &'a Parts) -> Opti
 #[inline(never)]
 fn next_queue_row(alloc: Global, query: &Query, queues: &[Queue]) -> Result<Option<Row>, AllocError>
     requires { IsInOrder name_cmp (λ q. q.name) queues.now }
-    ensures row { IfOk result (λ one. one ≡ next_row query.now.after (map (λ q. row.Queue q) (filter (is_queue_listed query.now) queues.now))) }
-    ensures no_memory { OnErr result (IsSome (next_row query.now.after (map (λ q. row.Queue q) (filter (is_queue_listed query.now) queues.now)))) }
+    ensures row { IfOk result (λ one. one
+        ≡ next_row query.now.after (listed_queue_rows query.now queues.now)) }
+    ensures no_memory { OnErr result (IsSome
+        (next_row query.now.after (listed_queue_rows query.now queues.now))) }
 {
     match next_queue(query, queues) {
         None => Ok(None),
@@ -185,8 +182,10 @@ fn next_entry_row(
     queue: &Option<Name>,
     parts: &Parts,
 ) -> Result<Option<Row>, AllocError>
-    ensures row { IfOk result (λ one. one ≡ next_row query.now.after (map (λ e. row.Entry e) (filter (is_entry_listed query.now queue.now) parts.now.entries))) }
-    ensures no_memory { OnErr result (IsSome (next_row query.now.after (map (λ e. row.Entry e) (filter (is_entry_listed query.now queue.now) parts.now.entries)))) }
+    ensures row { IfOk result (λ one. one
+        ≡ next_row query.now.after (listed_entry_rows query.now queue.now parts.now.entries)) }
+    ensures no_memory { OnErr result (IsSome
+        (next_row query.now.after (listed_entry_rows query.now queue.now parts.now.entries))) }
 {
     match next_entry(query, queue, parts) {
         None => Ok(None),
@@ -197,7 +196,7 @@ fn next_entry_row(
 // The row of the next form.
 #[inline(never)]
 fn next_form_row(query: &Query, forms: &[Form]) -> Option<Row>
-    ensures { result ≡ next_row query.now.after (map (λ f. row.Form f) (filter (λ f. matches query.now.pattern f.name) forms.now)) }
+    ensures { result ≡ next_row query.now.after (listed_form_rows query.now.pattern forms.now) }
 {
     match next_form(query, forms) {
         None => None,
@@ -208,7 +207,8 @@ fn next_form_row(query: &Query, forms: &[Form]) -> Option<Row>
 // The row of the next characteristic.
 #[inline(never)]
 fn next_characteristic_row(query: &Query, defined: &[Characteristic]) -> Option<Row>
-    ensures { result ≡ next_row query.now.after (map (λ c. row.Characteristic c) (filter (λ c. matches query.now.pattern c.name) defined.now)) }
+    ensures { result
+        ≡ next_row query.now.after (listed_characteristic_rows query.now.pattern defined.now) }
 {
     match next_characteristic(query, defined) {
         None => None,
@@ -223,8 +223,10 @@ fn next_characteristic_row(query: &Query, defined: &[Characteristic]) -> Option<
 /// The place behind that row is found by a logarithm of the queues, or of the entries, and from there it walks to the first that is
 /// listed. Of forms and characteristics it looks from the first on. A row of a queue or of an entry takes memory.
 pub fn next_row(alloc: Global, parts: &Parts, query: &Query) -> Result<Option<Row>, AllocError>
-    ensures row { (s : System) → IfOk result (λ one. one ≡ next_row query.now.after (single_rows (with_tables s parts.now) query.now query.now.listing)) }
-    ensures no_memory { (s : System) → OnErr result (IsSome (next_row query.now.after (single_rows (with_tables s parts.now) query.now query.now.listing))) }
+    ensures row { (s : System)
+        → IfOk result (λ one. one ≡ row_asked (with_tables s parts.now) query.now) }
+    ensures no_memory { (s : System)
+        → OnErr result (IsSome (row_asked (with_tables s parts.now) query.now)) }
 {
     match query.listing {
         Listing::Queues => next_queue_row(alloc, query, parts.queues()),

@@ -1,15 +1,11 @@
 // Where the rows of a listing go on behind the one that was given last.
-ghost use Rattle.std.specs.Prelude.{◌≡◌, ◌&&◌, ◌≤◌, nat_lt, length, Bool, drop, find};
+ghost use Rattle.std.specs.Prelude.{◌≤◌, nat_lt, length, drop};
 ghost use Rattle.std.specs.Ordering.{is_lt, nat_cmp};
-ghost use Rattle.qm_entries.specs.Boxed.{contents};
+ghost use Rattle.qm_tables.specs.Boxed.{contents};
 ghost use Rattle.qm_keyed.specs.Places.{IsPlace};
-ghost use Rattle.qm_kinds.specs.declared.entry.Entry.{Entry as AnyEntry};
-ghost use Rattle.qm_kinds.specs.declared.queue.Queue.{Queue as AnyQueue};
 ghost use Rattle.qm_kinds.specs.declared.query.Row.TheVariants as row;
-ghost use Rattle.qm_model.specs.Consistent.{IsInOrder};
-ghost use Rattle.qm_model.specs.Find.{name_cmp};
-ghost use Rattle.qm_model.specs.Rows.{is_past};
-ghost use Rattle.qm_scan.specs.Listed.{is_behind};
+ghost use Rattle.qm_model.specs.Common.{IsInOrder, name_cmp, is_past};
+ghost use Rattle.qm_scan.specs.Listed.{AreFoundIn, is_behind};
 
 use qm_keyed::place_of;
 use qm_kinds::{After, Entry, Name, Queue};
@@ -18,7 +14,8 @@ use qm_kinds::{After, Entry, Name, Queue};
 fn place_behind_name(queues: &[Queue], name: &Name) -> usize
     requires { IsInOrder name_cmp (λ q. q.name) queues.now }
     ensures within { result ≤ length queues.now }
-    ensures behind { (p : AnyQueue → Bool) → find (λ q. is_lt (name_cmp name.now q.name) && p q) queues.now ≡ find p (drop result queues.now) }
+    ensures behind { AreFoundIn (λ q. is_lt (name_cmp name.now q.name)) queues.now
+        (drop result queues.now) }
 {
     match place_of(queues, name) {
         Ok(place) => place + 1,
@@ -29,7 +26,7 @@ fn place_behind_name(queues: &[Queue], name: &Name) -> usize
 // The queues behind a row.
 fn queues_past<'a>(last: &After, queues: &'a [Queue]) -> &'a [Queue]
     requires { IsInOrder name_cmp (λ q. q.name) queues.now }
-    ensures { (p : AnyQueue → Bool) → find (λ q. is_past last.now (row.Queue q) && p q) queues.now ≡ find p result.now }
+    ensures { AreFoundIn (λ q. is_past last.now (row.Queue q)) queues.now result.now }
 {
     match last {
         After::Name(name) => &queues[place_behind_name(queues, name)..],
@@ -40,7 +37,7 @@ fn queues_past<'a>(last: &After, queues: &'a [Queue]) -> &'a [Queue]
 /// The queues behind the row that was given last, or all where none was. They are found by a logarithm of the queues.
 pub(crate) fn queues_behind<'a>(last: &Option<After>, queues: &'a [Queue]) -> &'a [Queue]
     requires { IsInOrder name_cmp (λ q. q.name) queues.now }
-    ensures { (p : AnyQueue → Bool) → find (λ q. is_behind last.now (row.Queue q) && p q) queues.now ≡ find p result.now }
+    ensures { AreFoundIn (λ q. is_behind last.now (row.Queue q)) queues.now result.now }
 {
     match last {
         None => queues,
@@ -60,7 +57,8 @@ fn place_numbered(entries: &[Box<Entry>], number: u32) -> Result<usize, usize>
 fn place_behind_number(entries: &[Box<Entry>], number: u32) -> usize
     requires { IsInOrder nat_cmp (λ e. e.number) (contents entries.now) }
     ensures within { result ≤ length entries.now }
-    ensures behind { (p : AnyEntry → Bool) → find (λ e. nat_lt number e.number && p e) (contents entries.now) ≡ find p (drop result (contents entries.now)) }
+    ensures behind { AreFoundIn (λ e. nat_lt number e.number) (contents entries.now)
+        (drop result (contents entries.now)) }
 {
     match place_numbered(entries, number) {
         Ok(place) => place + 1,
@@ -72,7 +70,8 @@ fn place_behind_number(entries: &[Box<Entry>], number: u32) -> usize
 fn place_past(last: &After, entries: &[Box<Entry>]) -> usize
     requires { IsInOrder nat_cmp (λ e. e.number) (contents entries.now) }
     ensures within { result ≤ length entries.now }
-    ensures behind { (p : AnyEntry → Bool) → find (λ e. is_past last.now (row.Entry e) && p e) (contents entries.now) ≡ find p (drop result (contents entries.now)) }
+    ensures behind { AreFoundIn (λ e. is_past last.now (row.Entry e)) (contents entries.now)
+        (drop result (contents entries.now)) }
 {
     match last {
         After::Name(_) => entries.len(),
@@ -85,7 +84,8 @@ fn place_past(last: &After, entries: &[Box<Entry>]) -> usize
 pub(crate) fn place_behind(last: &Option<After>, entries: &[Box<Entry>]) -> usize
     requires { IsInOrder nat_cmp (λ e. e.number) (contents entries.now) }
     ensures within { result ≤ length entries.now }
-    ensures behind { (p : AnyEntry → Bool) → find (λ e. is_behind last.now (row.Entry e) && p e) (contents entries.now) ≡ find p (drop result (contents entries.now)) }
+    ensures behind { AreFoundIn (λ e. is_behind last.now (row.Entry e)) (contents entries.now)
+        (drop result (contents entries.now)) }
 {
     match last {
         None => 0,
@@ -99,7 +99,8 @@ pub(crate) fn entries_behind<'a>(
     entries: &'a [Box<Entry>],
 ) -> &'a [Box<Entry>]
     requires { IsInOrder nat_cmp (λ e. e.number) (contents entries.now) }
-    ensures { (p : AnyEntry → Bool) → find (λ e. is_behind last.now (row.Entry e) && p e) (contents entries.now) ≡ find p (contents result.now) }
+    ensures { AreFoundIn (λ e. is_behind last.now (row.Entry e)) (contents entries.now)
+        (contents result.now) }
 {
     &entries[place_behind(last, entries)..]
 }

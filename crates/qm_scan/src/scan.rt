@@ -73,7 +73,13 @@ impl Scan {
         queue: Option<Name>,
         after: Option<After>,
     ) -> Scan
-        ensures { result ≡ record { alloc = alloc; kind = kind; pattern = pattern; queue = queue; after = after } }
+        ensures { result ≡ record {
+          alloc = alloc;
+          kind = kind;
+          pattern = pattern;
+          queue = queue;
+          after = after;
+        } }
     {
         Scan {
             alloc,
@@ -110,8 +116,10 @@ impl Scan {
     ///
     /// It asks a logarithm of the entries, and then walks to the next that matches.
     pub fn next(&mut self, parts: &Parts) -> Result<Option<Row>, AllocError>
-        ensures row { (s : System) → IfOk result (λ one. one ≡ row_behind self.old (with_tables s parts.now)) }
-        ensures no_memory { (s : System) → OnErr result (IsSome (row_behind self.old (with_tables s parts.now))) }
+        ensures row { (s : System)
+            → IfOk result (λ one. one ≡ row_behind self.old (with_tables s parts.now)) }
+        ensures no_memory { (s : System)
+            → OnErr result (IsSome (row_behind self.old (with_tables s parts.now))) }
         ensures goes_on { IfOk result (λ one. self.new ≡ behind_row self.old one) }
         ensures stays { OnErr result (self.new ≡ self.old) }
     {

@@ -1,21 +1,8 @@
 -- What the events of a call and its answer leave of the node's listings, and how their rows are printed.
-use Rattle.std.proofs.Common.{◌≡◌, inl, inr, ℕ, Bool, true, false, not, cond, ◌||◌, List, [], ◌∷◌, refl, sym, subst, Option, None, Some, Result, Ok, Err}
-use Rattle.std.specs.Prelude.{fold, is_none, ◌==◌}
-use Rattle.std.specs.Option.{option_and_then}
-use Rattle.qm_kinds.specs.declared.input.Input.{Input}
+use Rattle.std.proofs.Common.{◌≡◌, inl, inr, ℕ, Bool, true, false, not, cond, ◌||◌, List, [], ◌∷◌, refl, sym, subst, Option, None, Some, Result, Ok, Err, fold, is_none, ◌==◌, option_and_then}
+use Rattle.qm_history.specs.Common.{Input, Query, Row, Refusal, Reply, Request, acting, applied, Accepted, view, node_at, events_answer, last_moment, taken_answer, takeover_of, input_of, request_of_report, after_event, held_by, role_in, system_in}
 use Rattle.qm_kinds.specs.declared.input.Input.TheVariants as input
-use Rattle.qm_kinds.specs.declared.query.Query.{Query}
-use Rattle.qm_kinds.specs.declared.query.Row.{Row}
-use Rattle.qm_kinds.specs.declared.record.Record.{Record}
-use Rattle.qm_kinds.specs.declared.refusal.Refusal.{Refusal}
-use Rattle.qm_kinds.specs.declared.reply.Reply.{Reply}
-use Rattle.qm_kinds.specs.declared.request.Request.{Request}
 use Rattle.qm_kinds.specs.declared.request.Request.TheVariants as request
-use Rattle.qm_model.specs.Acting.{acting}
-use Rattle.qm_model.specs.Applied.{applied}
-use Rattle.qm_model.specs.Outcome.{Accepted}
-use Rattle.qm_model.specs.Rows.{view}
-use Rattle.qm_model.specs.Standing.{node_at}
 use Rattle.qm_history.specs.declared.call.Call.{Call}
 use Rattle.qm_history.specs.declared.call.Call.TheVariants as call
 use Rattle.qm_history.specs.declared.call.Takeover.{Takeover}
@@ -26,14 +13,10 @@ use Rattle.qm_history.specs.declared.turn.Why.{Why}
 use Rattle.qm_history.specs.declared.turn.Why.TheVariants as why
 use Rattle.qm_history.specs.declared.world.Role.{Role}
 use Rattle.qm_history.specs.declared.world.World.{World}
-use Rattle.qm_history.specs.Answers.{events_answer, last_moment, taken_answer, takeover_of}
-use Rattle.qm_history.specs.Calls.{input_of, request_of_report}
 use Rattle.qm_history.specs.Scans.{Scans, behind_event, rows_of}
-use Rattle.qm_history.specs.Step.{after_event}
 use Rattle.qm_history.specs.Takeover.{IsFailure, StandsOrFails, UnlessRefused, is_named, nodes_on, takes_over}
 use Rattle.qm_history.specs.Text.{FirstLine, answer_lines, is_single as shows_one}
 use Rattle.qm_history.specs.Turn.{ATakeover, Beside, FencedOr, IsAsked, IsBehindTakeover, IsChange, IsComeUp, IsCompaction, IsDecided, IsFull, IsLeft, IsLeftFull, IsOwn, IsRecorded, IsServed, IsStarted, IsStopped, IsTurnOf, IsViewed, Nothing, UnlessDown, fence, fence_of, has_other_manager, is_down, loss_of, start_refusal}
-use Rattle.qm_history.specs.World.{held_by, role_in, system_in}
 use Rattle.qm_scans.specs.declared.step.ScanStep.{ScanStep}
 use Rattle.qm_scans.specs.declared.step.ScanStep.TheVariants.{Lists, Stops, Stays}
 use Rattle.qm_scans.specs.Behind.{behind_answer, is_single, step_of, step_of_input}
@@ -295,7 +278,6 @@ module _ (w : World) (n reading : ℕ) (took : Option Takeover) (because : Why) 
   served_tells : (events : List Event) → IsServed w n reading asked events → Tells w took because acted (step_of asked) events
   served_tells events h = down_tells (is_down w n (input_of asked)) events h
 
-module _ (HasSpelling : Record → Type 0) where
-  pub turn_tells : (w : World) (asked : Call) (t : Turn) → IsTurnOf HasSpelling w asked t
-      → Tells w (takeover_of w t.events) t.why (last_moment t.moment t.events) (step_of asked) t.events
-  turn_tells w asked t turn = served_tells w t.node t.moment (takeover_of w t.events) t.why (last_moment t.moment t.events) asked t.events turn.1
+pub turn_tells : (w : World) (asked : Call) (t : Turn) → IsTurnOf w asked t
+    → Tells w (takeover_of w t.events) t.why (last_moment t.moment t.events) (step_of asked) t.events
+turn_tells w asked t turn = served_tells w t.node t.moment (takeover_of w t.events) t.why (last_moment t.moment t.events) asked t.events turn.1

@@ -2,9 +2,8 @@
 -- OpenVMS System Services Reference Manual, $GETQUI, on the calls that go on with a wildcard search.
 -- This site's own: that a node which stops ends its listings.
 use Rattle.std.specs.Prelude.{Bool, false}
-use Rattle.qm_kinds.specs.declared.input.Input.{Input}
+use Rattle.qm_history.specs.Common.{Input, Query}
 use Rattle.qm_kinds.specs.declared.input.Input.TheVariants as input
-use Rattle.qm_kinds.specs.declared.query.Query.{Query}
 use Rattle.qm_history.specs.declared.call.Answer.{Answer}
 use Rattle.qm_history.specs.declared.call.Answer.TheVariants as answer
 use Rattle.qm_history.specs.declared.call.Call.{Call}

@@ -1,20 +1,14 @@
 -- Settling, queue by queue in their places: how far it has come.
-use Rattle.std.proofs.Common.{◌≡◌, ◌∙◌, ℕ, zero, suc, ◌+◌, ◌<◌, ◌≤◌, cond, List, [], ◌∷◌, ◌++◌, length, get_or, refl, sym, ap, subst, arith, Option, None, Some}
-use Rattle.std.specs.List.{slice_get}
+use Rattle.std.proofs.Common.{◌≡◌, ◌∙◌, ℕ, zero, suc, ◌+◌, ◌<◌, ◌≤◌, cond, List, [], ◌∷◌, ◌++◌, length, get_or, refl, sym, ap, subst, arith, Option, None, Some, slice_get}
 use Rattle.std.specs.Ordering.{nat_cmp, ordering_reverse}
 use Rattle.std.specs.Cmp.{tied_itself}
 use Rattle.std.specs.Cmp.Lexicographic.{nat_list_cmp_total}
 use Rattle.std.proofs.lemmas.List.{get_or_default}
 use Rattle.qm_keyed.specs.Places.{StandsAt}
 use Rattle.qm_keyed.proofs.Rows.{next_behind}
-use Rattle.qm_kinds.specs.declared.queue.Queue.{Queue}
-use Rattle.qm_kinds.specs.declared.run.Start.{Start}
-use Rattle.qm_kinds.specs.declared.system.System.{System}
-use Rattle.qm_model.specs.Consistent.{IsInOrder}
-use Rattle.qm_model.specs.Find.{name_cmp}
-use Rattle.qm_model.specs.Settling.{AreStarts, settled}
-use Rattle.qm_queues.specs.Queues.{comes_after, queue_after}
-use Rattle.qm_queues.proofs.QueueNames.{name_of}
+use Rattle.qm_model.specs.Common.{Queue, Start, System, IsInOrder, name_cmp, AreStarts, settled}
+use Rattle.qm_tables.specs.Queues.{comes_after, queue_after}
+use Rattle.qm_tables.proofs.QueueNames.{name_of}
 use Rattle.qm_ready.proofs.Tiered.{slice_get_at, slice_get_past}
 use Rattle.qm_sched.specs.Choosing.{next_start, takes_jobs, execution_queues, IsNextStart}
 use Rattle.qm_parts.specs.Tables.{Tables, with_tables}

@@ -1,15 +1,6 @@
 -- What a queue starts, and when it starts nothing.
-use Rattle.std.proofs.Common.{◌≡◌, Bool, true, false, not, cond, ◌&&◌, refl, ◌∙◌, ap, None, Some}
-use Rattle.std.specs.Option.{option_map}
-use Rattle.qm_kinds.specs.declared.entry.Entry.{Entry}
-use Rattle.qm_kinds.specs.declared.queue.Queue.{Queue}
-use Rattle.qm_kinds.specs.declared.system.System.{System}
-use Rattle.qm_model.specs.Fitting.{fits, is_of_kind, is_open, is_reached, has_characteristics, has_stock, has_size}
-use Rattle.qm_model.specs.JobStates.{is_pending}
-use Rattle.qm_model.specs.Kinds.{is_generic, is_same_kind, job_kind}
-use Rattle.qm_model.specs.Before.{first_of}
-use Rattle.qm_model.specs.Free.{is_free}
-use Rattle.qm_model.specs.Settling.{next_job, has_run_numbers, start_of}
+use Rattle.std.proofs.Common.{◌≡◌, Bool, true, false, not, cond, ◌&&◌, refl, ◌∙◌, ap, None, Some, option_map}
+use Rattle.qm_model.specs.Common.{Entry, Queue, System, fits, is_of_kind, is_open, is_reached, has_characteristics, has_stock, has_size, is_pending, is_generic, is_same_kind, job_kind, first_of, is_free, next_job, has_run_numbers, start_of}
 use Rattle.qm_parts.proofs.Fits.{closed, nothing_passes}
 use Rattle.qm_sched.specs.Choosing.{next_start}
 

@@ -1,19 +1,10 @@
 -- Each start takes a place of a queue that is started, and no later start gives it back.
-use Rattle.std.proofs.Common.{◌≡◌, ℕ, zero, suc, ◌+◌, ◌-◌, ◌<◌, ◌≤◌, inl, inr, Bool, true, false, cond, ◌&&◌, ◌||◌, not, List, [], ◌∷◌, ◌++◌, length, refl, sym, ◌∙◌, ap, subst, arith, lit≤, Option, None, Some}
-use Rattle.std.specs.Prelude.{◌==◌, sum_by, count_by}
+use Rattle.std.proofs.Common.{◌≡◌, ℕ, zero, suc, ◌+◌, ◌-◌, ◌<◌, ◌≤◌, inl, inr, Bool, true, false, cond, ◌&&◌, ◌||◌, not, List, [], ◌∷◌, ◌++◌, length, refl, sym, ◌∙◌, ap, subst, arith, lit≤, Option, None, Some, ◌==◌, sum_by, count_by, option_to_list, bytes_eq}
 use Rattle.std.specs.List.{list_any}
-use Rattle.std.specs.Option.{option_to_list}
-use Rattle.std.specs.Str.{bytes_eq}
 use Rattle.std.proofs.lemmas.Bool.Decides.{nat_tests, Decides-eqb, Decides-ltb}
 use Rattle.std.proofs.lemmas.List.Recursion.{is_sum_by, is_count_by}
 use Rattle.std.proofs.lemmas.Slice.Eq.{bytes_eq-Decides}
-use Rattle.qm_kinds.specs.declared.entry.Entry.{Entry}
-use Rattle.qm_kinds.specs.declared.queue.Queue.{Queue}
-use Rattle.qm_kinds.specs.declared.system.System.{System}
-use Rattle.qm_model.specs.Standing.{with_entry, occupies}
-use Rattle.qm_model.specs.Fitting.{is_started, is_up}
-use Rattle.qm_model.specs.JobStates.{is_pending}
-use Rattle.qm_model.specs.Free.{places, places_taken}
+use Rattle.qm_model.specs.Common.{Entry, Queue, System, with_entry, occupies, is_started, is_up, is_pending, places, places_taken}
 use Rattle.qm_model.specs.Settling.{Choice, next_choice, made_running, after_start, settled_within, settled}
 use Rattle.qm_model.proofs.SettlingLemmas.{IsIn, and_left, and_right, fits_pending, settled_by}
 use Rattle.qm_model.proofs.SoundLemmas.{IsChoice, choice_is}

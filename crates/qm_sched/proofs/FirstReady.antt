@@ -1,16 +1,6 @@
 -- The first key of a queue's row is that of the job which the queue starts next.
-use Rattle.std.proofs.Common.{◌≡◌, ◌∙◌, ℕ, Bool, true, false, not, ◌&&◌, filter, Option, None, Some, refl, sym, ap}
-use Rattle.std.specs.Option.{option_map}
-use Rattle.std.specs.Ordering.{nat_cmp}
-use Rattle.qm_kinds.specs.declared.entry.Entry.{Entry}
-use Rattle.qm_kinds.specs.declared.queue.Queue.{Queue}
-use Rattle.qm_kinds.specs.declared.system.System.{System}
-use Rattle.qm_model.specs.Consistent.{IsInOrder}
-use Rattle.qm_model.specs.Find.{entry_numbered}
-use Rattle.qm_model.specs.Fitting.{fits, is_open}
-use Rattle.qm_model.specs.Free.{is_free}
-use Rattle.qm_model.specs.Kinds.{is_generic}
-use Rattle.qm_model.specs.Settling.{next_job, has_run_numbers}
+use Rattle.std.proofs.Common.{◌≡◌, ◌∙◌, ℕ, Bool, true, false, not, ◌&&◌, filter, Option, None, Some, refl, sym, ap, option_map, nat_cmp}
+use Rattle.qm_model.specs.Common.{Entry, Queue, System, IsInOrder, entry_numbered, fits, is_open, is_free, is_generic, next_job, has_run_numbers}
 use Rattle.qm_model.proofs.SettlingLemmas.{first_in, in_filter}
 use Rattle.qm_model.proofs.ListLemmas.{in_all}
 use Rattle.qm_ready.specs.Rows.{Row, IsRow, first_number}

@@ -1,26 +1,13 @@
 -- How far settling has come.
-use Rattle.std.proofs.Common.{◌≡◌, ℕ, ◌+◌, ◌≤◌, Bool, true, false, cond, not, ◌&&◌, List, [], ◌∷◌, ◌++◌, length, refl, sym, ◌∙◌, ap, subst, arith, lit≤, Option, None, Some, All, find}
-use Rattle.std.specs.Prelude.{count_by}
-use Rattle.std.specs.Ordering.{nat_cmp, is_lt}
-use Rattle.std.specs.declared.cmp.Ordering.{Ordering}
-use Rattle.std.specs.declared.cmp.Ordering.TheVariants.{Less, Equal, Greater}
+use Rattle.std.proofs.Common.{◌≡◌, ℕ, ◌+◌, ◌≤◌, Bool, true, false, cond, not, ◌&&◌, List, [], ◌∷◌, ◌++◌, length, refl, sym, ◌∙◌, ap, subst, arith, lit≤, Option, None, Some, All, find, count_by, nat_cmp, is_lt, Ordering, Less, Equal, Greater}
 use Rattle.std.specs.Cmp.Lexicographic.{nat_list_cmp_total}
 use Rattle.std.proofs.lemmas.List.Recursion.{is_count_by}
-use Rattle.qm_kinds.specs.declared.queue.Queue.{Queue}
-use Rattle.qm_kinds.specs.declared.run.Start.{Start}
-use Rattle.qm_kinds.specs.declared.system.System.{System}
-use Rattle.qm_model.specs.Find.{name_cmp}
-use Rattle.qm_model.specs.Consistent.{IsInOrder}
-use Rattle.qm_model.specs.Settling.{AreStarts, start_of, settled}
+use Rattle.qm_model.specs.Common.{Queue, Start, System, name_cmp, IsInOrder, AreStarts, start_of, settled, has_run_numbers, is_open, is_free, is_generic}
 use Rattle.qm_model.proofs.SettlingLemmas.{with_queue_of}
 use Rattle.qm_model.proofs.SoundLemmas.{find_in, name_not_below}
 use Rattle.qm_model.proofs.ListLemmas.{Pairs, pairs_of, in_all}
-use Rattle.qm_queues.specs.Queues.{comes_after, queue_after}
+use Rattle.qm_tables.specs.Queues.{comes_after, queue_after}
 use Rattle.qm_parts.specs.Tables.{Tables, with_tables}
-use Rattle.qm_model.specs.Fitting.{is_open}
-use Rattle.qm_model.specs.Free.{is_free}
-use Rattle.qm_model.specs.Kinds.{is_generic}
-use Rattle.qm_model.specs.Settling.{has_run_numbers}
 use Rattle.qm_sched.specs.Choosing.{next_start, IsNextStart, takes_jobs, execution_queues}
 use Rattle.qm_sched.proofs.FewStarts.{one_if}
 use Rattle.qm_sched.proofs.Steps.{step, pushed, within_settled, all_started}

@@ -1,24 +1,9 @@
 -- What is known of a start that is the next one.
-use Rattle.std.proofs.Common.{◌≡◌, ℕ, ◌+◌, ◌<◌, ◌^◌, inl, inr, Bool, true, false, cond, List, [], ◌∷◌, refl, sym, ◌∙◌, ap, subst, arith, Option, None, Some}
-use Rattle.std.specs.Prelude.{◌==◌, IfSome, IsSome, unwrap_or}
-use Rattle.std.specs.Option.{option_map}
-use Rattle.std.specs.Ordering.{nat_cmp}
-use Rattle.std.specs.Str.{bytes_eq}
-use Rattle.std.specs.declared.cmp.Ordering.TheVariants.{Less}
+use Rattle.std.proofs.Common.{◌≡◌, ℕ, ◌+◌, ◌<◌, ◌^◌, inl, inr, Bool, true, false, cond, List, [], ◌∷◌, refl, sym, ◌∙◌, ap, subst, arith, Option, None, Some, ◌==◌, IfSome, IsSome, unwrap_or, option_map, nat_cmp, bytes_eq, Less}
 use Rattle.std.proofs.lemmas.Bool.Decides.{nat_tests, Decides-eqb}
 use Rattle.std.proofs.lemmas.Slice.Eq.{bytes_eq-Decides}
-use Rattle.qm_kinds.specs.declared.entry.Entry.{Entry}
-use Rattle.qm_kinds.specs.declared.entry.EntryState.{EntryState}
+use Rattle.qm_model.specs.Common.{Entry, EntryState, Queue, Start, Node, System, name_cmp, queue_named, entry_numbered, IsInOrder, with_entry, is_started, is_up, is_pending}
 use Rattle.qm_kinds.specs.declared.entry.EntryState.TheVariants as entry
-use Rattle.qm_kinds.specs.declared.queue.Queue.{Queue}
-use Rattle.qm_kinds.specs.declared.run.Start.{Start}
-use Rattle.qm_kinds.specs.declared.system.Node.{Node}
-use Rattle.qm_kinds.specs.declared.system.System.{System}
-use Rattle.qm_model.specs.Find.{name_cmp, queue_named, entry_numbered}
-use Rattle.qm_model.specs.Consistent.{IsInOrder}
-use Rattle.qm_model.specs.Standing.{with_entry}
-use Rattle.qm_model.specs.Fitting.{is_started, is_up}
-use Rattle.qm_model.specs.JobStates.{is_pending}
 use Rattle.qm_model.specs.Settling.{Choice, AreStarts, next_choice, start_of}
 use Rattle.qm_model.proofs.SettlingLemmas.{IsIn, and_left, and_right, fits_pending}
 use Rattle.qm_model.proofs.SoundLemmas.{choice_is, name_not_below}

@@ -1,9 +1,6 @@
 -- Starts one after another, up to where nothing is left to start.
-use Rattle.std.proofs.Common.{◌≡◌, ◌+◌, ◌≤◌, List, [], ◌∷◌, ◌++◌, length, refl, sym, ◌∙◌, ap, subst, arith, Option, None, Some}
-use Rattle.std.specs.Prelude.{IfSome, IsSome}
-use Rattle.std.proofs.lemmas.List.{length-append}
-use Rattle.qm_kinds.specs.declared.run.Start.{Start}
-use Rattle.qm_kinds.specs.declared.system.System.{System}
+use Rattle.std.proofs.Common.{◌≡◌, ◌+◌, ◌≤◌, List, [], ◌∷◌, ◌++◌, length, refl, sym, ◌∙◌, ap, subst, arith, Option, None, Some, IfSome, IsSome, length-append}
+use Rattle.qm_model.specs.Common.{Start, System}
 use Rattle.qm_model.specs.Settling.{Choice, Settled, AreStarts, next_choice, after_start, start_of, settled}
 use Rattle.qm_model.proofs.SettlingLemmas.{nothing_starts}
 use Rattle.qm_model.proofs.StartLemmas.{are_starts}

@@ -1,31 +1,16 @@
 -- The queues are gone through by name, each as long as it can start a job.
-use Rattle.std.proofs.Common.{◌≡◌, ℕ, ◌+◌, ◌^◌, ◌≤◌, inl, inr, Bool, true, false, cond, ◌&&◌, ◌||◌, List, [], ◌∷◌, ◌++◌, refl, sym, ◌∙◌, ap, arith, lit≤, Option, None, Some, All, filter, find}
-use Rattle.std.specs.Prelude.{◌==◌, nat_lt}
+use Rattle.std.proofs.Common.{◌≡◌, ℕ, ◌+◌, ◌^◌, ◌≤◌, inl, inr, Bool, true, false, cond, ◌&&◌, ◌||◌, List, [], ◌∷◌, ◌++◌, refl, sym, ◌∙◌, ap, arith, lit≤, Option, None, Some, All, filter, find, ◌==◌, nat_lt, nat_cmp, is_lt, bytes_eq, Less}
 use Rattle.std.specs.List.{list_any}
 use Rattle.std.specs.Option.{option_map, option_map_or, option_and_then, option_to_list}
-use Rattle.std.specs.Ordering.{nat_cmp, is_lt}
-use Rattle.std.specs.Str.{bytes_eq}
-use Rattle.std.specs.declared.cmp.Ordering.TheVariants.{Less}
 use Rattle.std.proofs.lemmas.Bool.Decides.{nat_tests}
 use Rattle.std.proofs.lemmas.List.Elements.{All-cons, All-nil, All-head, All-tail, All-weaker}
-use Rattle.qm_kinds.specs.declared.entry.Entry.{Entry}
-use Rattle.qm_kinds.specs.declared.entry.EntryState.{EntryState}
+use Rattle.qm_model.specs.Common.{Entry, EntryState, Queue, Start, System, name_cmp, IsInOrder, with_entry, occupies, fits, is_pending, runs_in, first_of, is_free, places, places_taken}
 use Rattle.qm_kinds.specs.declared.entry.EntryState.TheVariants as entry
-use Rattle.qm_kinds.specs.declared.queue.Queue.{Queue}
-use Rattle.qm_kinds.specs.declared.run.Start.{Start}
-use Rattle.qm_kinds.specs.declared.system.System.{System}
-use Rattle.qm_model.specs.Find.{name_cmp}
-use Rattle.qm_model.specs.Consistent.{IsInOrder}
-use Rattle.qm_model.specs.Standing.{with_entry, occupies}
-use Rattle.qm_model.specs.Fitting.{fits}
-use Rattle.qm_model.specs.JobStates.{is_pending, runs_in}
-use Rattle.qm_model.specs.Before.{first_of}
-use Rattle.qm_model.specs.Free.{is_free, places, places_taken}
 use Rattle.qm_model.specs.Settling.{Choice, can_start, next_queue, next_job, next_choice, has_run_numbers, made_running, after_start, start_of}
 use Rattle.qm_model.proofs.SettlingLemmas.{IsIn, and_left, and_right, first_in, in_filter, fits_pending, with_queue_of}
 use Rattle.qm_model.proofs.SoundLemmas.{choice_is}
 use Rattle.qm_model.proofs.ListLemmas.{Pairs, pairs_of, in_all}
-use Rattle.qm_queues.specs.Queues.{comes_after, queue_after}
+use Rattle.qm_tables.specs.Queues.{comes_after, queue_after}
 use Rattle.qm_sched.specs.Choosing.{next_start}
 use Rattle.qm_sched.proofs.FewStarts.{counted, counted_is, no_fewer_at}
 

@@ -1,12 +1,6 @@
 -- What a queue starts next.
-use Rattle.std.specs.Prelude.{◌≡◌, ◌&&◌, ℕ, Bool, not, if◌then◌else◌, List, count_by, Option, None, IfSome, IsSome}
-use Rattle.std.specs.Option.{option_map}
-use Rattle.qm_kinds.specs.declared.queue.Queue.{Queue}
-use Rattle.qm_kinds.specs.declared.run.Start.{Start}
-use Rattle.qm_kinds.specs.declared.system.System.{System}
-use Rattle.qm_model.specs.Fitting.{is_open}
-use Rattle.qm_model.specs.Free.{is_free}
-use Rattle.qm_model.specs.Kinds.{is_generic}
+use Rattle.std.specs.Prelude.{◌≡◌, ◌&&◌, ℕ, Bool, not, if◌then◌else◌, List, count_by, Option, None, IfSome, IsSome, option_map}
+use Rattle.qm_model.specs.Common.{Queue, Start, System, is_open, is_free, is_generic}
 use Rattle.qm_model.specs.Settling.{has_run_numbers, next_choice, next_job, start_of}
 
 -- run numbers are left, and the queue has a place for one more run

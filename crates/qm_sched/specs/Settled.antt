@@ -1,8 +1,6 @@
 -- What settling makes of the tables, whatever else the system has.
 use Rattle.std.specs.Prelude.{◌≡◌, ◌≤◌, ℕ, List, length}
-use Rattle.qm_kinds.specs.declared.run.Start.{Start}
-use Rattle.qm_kinds.specs.declared.system.System.{System}
-use Rattle.qm_model.specs.Settling.{settled}
+use Rattle.qm_model.specs.Common.{Start, System, settled}
 use Rattle.qm_parts.specs.Tables.{Tables, with_tables}
 
 -- no more jobs can be started than this

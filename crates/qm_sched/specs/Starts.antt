@@ -1,8 +1,6 @@
 -- How many jobs can be started at most.
 use Rattle.std.specs.Prelude.{ℕ, if◌then◌else◌, List, sum_by}
-use Rattle.qm_kinds.specs.declared.queue.Queue.{Queue}
-use Rattle.qm_model.specs.Fitting.{is_started}
-use Rattle.qm_model.specs.Free.{places}
+use Rattle.qm_model.specs.Common.{Queue, is_started, places}
 
 -- the places of the queues that are started, taken or not
 abbrev pub start_places : List Queue → ℕ

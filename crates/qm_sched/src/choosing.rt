@@ -1,9 +1,7 @@
 // Which job a queue starts next.
 ghost use Rattle.std.specs.Prelude.{◌≡◌, ◌+◌, ◌<◌, length, slice_index_or};
 ghost use Rattle.qm_kinds.specs.declared.queue.Queue.{Queue as AnyQueue};
-ghost use Rattle.qm_kinds.specs.declared.system.System.{System};
-ghost use Rattle.qm_model.specs.Free.{places};
-ghost use Rattle.qm_model.specs.Settling.{start_of};
+ghost use Rattle.qm_model.specs.Common.{System, places, start_of};
 ghost use Rattle.qm_parts.specs.Tables.{with_tables};
 ghost use Rattle.qm_sched.specs.Choosing.{next_start, takes_jobs, has_place, looks_at};
 

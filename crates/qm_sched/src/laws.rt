@@ -1,7 +1,6 @@
 // What bounds the number of the jobs that are started.
 ghost use Rattle.std.specs.Prelude.{◌≤◌, length};
-ghost use Rattle.qm_kinds.specs.declared.system.System.{System};
-ghost use Rattle.qm_model.specs.Settling.{settled};
+ghost use Rattle.qm_model.specs.Common.{System, settled};
 ghost use Rattle.qm_sched.specs.Starts.{start_places};
 
 /// Settling starts no more jobs than there are entries, and no more than there are places in the queues that are started.

@@ -1,9 +1,7 @@
 // Starting the jobs that can start.
 ghost use Rattle.std.specs.Prelude.{◌≡◌, ◌+◌, ◌-◌, ◌<◌, ◌≤◌, ◌∷◌, [], length, vec_capacity};
 ghost use Rattle.std.specs.Ordering.{nat_cmp};
-ghost use Rattle.qm_kinds.specs.declared.system.System.{System};
-ghost use Rattle.qm_model.specs.Consistent.{IsInOrder};
-ghost use Rattle.qm_model.specs.Settling.{AreStarts, settled};
+ghost use Rattle.qm_model.specs.Common.{System, IsInOrder, AreStarts, settled};
 ghost use Rattle.qm_parts.specs.Tables.{with_tables};
 ghost use Rattle.qm_sched.specs.Choosing.{IsNextStart, execution_queues};
 ghost use Rattle.qm_sched.specs.Settled.{IsSettled, StartsAtMost};

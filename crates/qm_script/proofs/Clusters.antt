@@ -1,7 +1,5 @@
 -- The nodes that a word names are those that a site can have.
-use Rattle.std.proofs.Common.{◌≡◌, ◌≢◌, ◌<◌, ◌≤◌, ◌+◌, ◌==◌, ℕ, zero, suc, Bool, true, false, ◌||◌, nat_le, cond, if◌then◌else◌, List, [], ◌∷◌, ◌++◌, map, length, Option, None, Some, IfSome, All, AllPairs, refl, sym, ◌∙◌, ap, subst, arith, get_or, length-append, leb-true, leb-false}
-use Rattle.std.specs.Prelude.{option_and_then}
-use Rattle.std.specs.Str.{bytes_eq}
+use Rattle.std.proofs.Common.{◌≡◌, ◌≢◌, ◌<◌, ◌≤◌, ◌+◌, ◌==◌, ℕ, zero, suc, Bool, true, false, ◌||◌, nat_le, cond, if◌then◌else◌, List, [], ◌∷◌, ◌++◌, map, length, Option, None, Some, IfSome, All, AllPairs, refl, sym, ◌∙◌, ap, subst, arith, get_or, length-append, leb-true, leb-false, option_and_then, bytes_eq}
 use Rattle.std.specs.List.{list_any, slice_split}
 use Rattle.std.proofs.lemmas.List.Elements.{All-append, All-cons, All-nil, All-map}
 use Rattle.std.proofs.lemmas.List.Quantifiers.{all_pairs_push}
@@ -9,13 +7,8 @@ use Rattle.std.proofs.lemmas.List.{get_or-map, length-map}
 use Rattle.std.proofs.lemmas.Slice.Eq.{bytes_eq-Decides}
 use Rattle.std.proofs.lemmas.List.Splits.{length-slice_split}
 use Rattle.qm_kinds.specs.Files.{name_of}
-use Rattle.qm_kinds.specs.declared.limits.TheConstants.{NODES_LIMIT}
-use Rattle.qm_kinds.specs.declared.name.TheConstants.{NODE_NAME_BYTES}
-use Rattle.qm_kinds.specs.declared.system.Node.{Node}
-use Rattle.qm_model.specs.Consistent.{AreNodes}
-use Rattle.qm_model.specs.Find.{is_among}
+use Rattle.qm_history.specs.Common.{NODES_LIMIT, NODE_NAME_BYTES, Node, AreNodes, is_among, site_of}
 use Rattle.qm_model.specs.Script.{node_name_of}
-use Rattle.qm_history.specs.Site.{site_of}
 use Rattle.qm_script.specs.Sites.{nodes_from, nodes_of, with_node}
 use Rattle.qm_script.proofs.Commas.{is_comma}
 

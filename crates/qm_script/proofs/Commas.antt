@@ -1,9 +1,8 @@
 -- A word is parted by its commas.
-use Rattle.std.proofs.Common.{◌≡◌, ◌<◌, ◌+◌, ◌==◌, ℕ, Bool, true, false, if◌then◌else◌, List, [], ◌∷◌, length, take, drop, position, Option, None, Some, arith, refl, sym, ◌∙◌, ap}
+use Rattle.std.proofs.Common.{◌≡◌, ◌<◌, ◌+◌, ◌==◌, ℕ, Bool, true, false, if◌then◌else◌, List, [], ◌∷◌, length, take, drop, position, Option, None, Some, arith, refl, sym, ◌∙◌, ap, option_and_then}
 use Rattle.std.specs.List.{slice_split, position_or_len}
 use Rattle.std.proofs.lemmas.List.Splits.{slice_split_none, slice_split_first}
 use Rattle.std.proofs.lemmas.List.Sums.{fails_before_first}
-use Rattle.std.specs.Prelude.{option_and_then}
 use Rattle.qm_model.specs.Script.{node_name_of}
 use Rattle.qm_script.specs.Sites.{nodes_from, with_node}
 use Rattle.qm_script.proofs.Parts.{found_at, found_none}

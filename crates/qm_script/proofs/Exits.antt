@@ -1,12 +1,9 @@
 -- What the first line of a script is, by what was found of it.
 use Rattle.std.proofs.Common.{◌≡◌, ◌<◌, ◌≤◌, ◌+◌, ◌-◌, ◌==◌, ℕ, Bool, true, false, ◌&&◌, cond, List, [], ◌∷◌, ◌++◌, length, take, drop, Option, None, Some, Result, Ok, Err, arith, refl, sym, ◌∙◌, ap, subst, length-append}
 use Rattle.std.specs.List.{list_all, list_any}
-use Rattle.qm_kinds.specs.declared.script.ScriptKind.{ScriptKind}
+use Rattle.qm_history.specs.Common.{ScriptKind, is_line_byte, cut_at_blank, LineSort, UserLine}
 use Rattle.qm_kinds.specs.declared.script.ScriptKind.TheVariants as wrong
-use Rattle.qm_model.specs.Script.{is_line_byte}
-use Rattle.qm_model.specs.Texts.{cut_at_blank}
 use Rattle.qm_history.specs.Lines.{LineFault, line_from, line_of, lines_from, may_be_of}
-use Rattle.qm_history.specs.Script.{LineSort, UserLine}
 use Rattle.qm_script.specs.declared.extent.Extent.{Extent}
 use Rattle.qm_script.specs.ClusterLines.{whole}
 use Rattle.qm_script.specs.Heads.{behind_lines}

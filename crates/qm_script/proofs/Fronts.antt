@@ -1,16 +1,13 @@
 -- What stands in front of the text of a line stays where the text goes on.
-use Rattle.std.proofs.Common.{◌≡◌, ◌<◌, ◌≤◌, ◌+◌, ◌==◌, ℕ, suc, Bool, true, false, ◌&&◌, ◌||◌, not, cond, nat_lt, List, [], ◌∷◌, ◌++◌, length, take, drop, get_or, position, Option, None, Some, Result, Ok, Err, arith, refl, sym, ◌∙◌, ap, append_assoc, eqb-true, lt-ltb, length-append}
-use Rattle.std.specs.Prelude.{option_map, option_and_then}
+use Rattle.std.proofs.Common.{◌≡◌, ◌<◌, ◌≤◌, ◌+◌, ◌==◌, ℕ, suc, Bool, true, false, ◌&&◌, ◌||◌, not, cond, nat_lt, List, [], ◌∷◌, ◌++◌, length, take, drop, get_or, position, Option, None, Some, Result, Ok, Err, arith, refl, sym, ◌∙◌, ap, append_assoc, eqb-true, lt-ltb, length-append, option_map, option_and_then}
 use Rattle.std.specs.List.{list_all, list_any, position_or_len}
 use Rattle.std.proofs.lemmas.List.Folds.{list_all-append}
 use Rattle.std.proofs.lemmas.List.Sums.{split_at_first, passes_at_first}
 use Rattle.std.proofs.Math.Seq.{take-append_seam, drop-append-add}
-use Rattle.qm_kinds.specs.declared.script.ScriptKind.{ScriptKind}
+use Rattle.qm_history.specs.Common.{ScriptKind, is_line_byte, LineSort, UserLine}
 use Rattle.qm_kinds.specs.declared.script.ScriptKind.TheVariants as wrong
-use Rattle.qm_model.specs.Script.{is_line_byte}
 use Rattle.qm_model.specs.Texts.{cut_at, cut_at_blank}
 use Rattle.qm_history.specs.Lines.{LineFault, asker_of, is_to_go_on, line_from, line_made, line_of, may_be_of, sort_of, sorted}
-use Rattle.qm_history.specs.Script.{LineSort, UserLine}
 use Rattle.qm_script.proofs.Joining.{head_plain, tail_plain}
 use Rattle.qm_script.proofs.Parts.{found_at}
 

@@ -1,14 +1,12 @@
 -- Texts that go on in the next line, joined.
-use Rattle.std.proofs.Common.{◌≡◌, ◌<◌, ◌≤◌, ◌+◌, ◌-◌, ◌==◌, ℕ, suc, Bool, true, false, ◌&&◌, ◌||◌, not, cond, nat_eq, List, [], ◌∷◌, ◌++◌, length, take, drop, take_all, get_or, position, Option, None, Some, Result, arith, refl, sym, ◌∙◌, ap, append_assoc, append-nil, eqb-true, length-append}
+use Rattle.std.proofs.Common.{◌≡◌, ◌<◌, ◌≤◌, ◌+◌, ◌-◌, ◌==◌, ℕ, suc, Bool, true, false, ◌&&◌, ◌||◌, not, cond, nat_eq, List, [], ◌∷◌, ◌++◌, length, take, drop, take_all, get_or, position, Option, None, Some, Result, arith, refl, sym, ◌∙◌, ap, append_assoc, append-nil, eqb-true, length-append, take-append-drop}
 use Rattle.std.specs.List.{list_all, list_any, onto_first, slice_split, position_or_len, ends_with}
-use Rattle.std.proofs.lemmas.List.{take-append-drop}
 use Rattle.std.proofs.lemmas.List.Sums.{split_at_first, passes_at_first}
 use Rattle.std.proofs.lemmas.Bool.Decides.{Decides-eqb}
 use Rattle.std.proofs.lemmas.Slice.Eq.{ends_is}
 use Rattle.std.proofs.Math.Seq.{take-append_seam}
-use Rattle.qm_model.specs.Script.{is_line_byte}
+use Rattle.qm_history.specs.Common.{is_line_byte, UserLine}
 use Rattle.qm_history.specs.Lines.{LineFault, lines_from, without_last, cut_short, line_of, one_more}
-use Rattle.qm_history.specs.Script.{UserLine}
 use Rattle.qm_script.specs.Extents.{is_feed, parts_of, joined, lines_with}
 use Rattle.qm_script.proofs.Parts.{some_part, found_at, found_none}
 

@@ -1,11 +1,9 @@
 -- A text is cut at its first line feed.
-use Rattle.std.proofs.Common.{◌≡◌, ◌<◌, ◌≤◌, ◌+◌, ◌-◌, ◌==◌, ℕ, Bool, true, false, ◌&&◌, cond, if◌then◌else◌, nat_lt, List, [], ◌∷◌, ◌++◌, length, take, drop, position, Option, None, Some, arith, refl, sym, ◌∙◌, ap}
+use Rattle.std.proofs.Common.{◌≡◌, ◌<◌, ◌≤◌, ◌+◌, ◌-◌, ◌==◌, ℕ, Bool, true, false, ◌&&◌, cond, if◌then◌else◌, nat_lt, List, [], ◌∷◌, ◌++◌, length, take, drop, position, Option, None, Some, arith, refl, sym, ◌∙◌, ap, take_all, length-drop, append_assoc}
 use Rattle.std.specs.List.{slice_split, position_or_len, count_by}
-use Rattle.std.proofs.lemmas.List.Splits.{slice_split_none, slice_split_first}
+use Rattle.std.proofs.lemmas.List.Splits.{slice_split_none, slice_split_first, length-slice_split}
 use Rattle.std.proofs.lemmas.List.Sums.{fails_before_first}
 use Rattle.std.proofs.lemmas.Bool.Decides.{nat_tests}
-use Rattle.std.proofs.Common.{take_all, length-drop, append_assoc}
-use Rattle.std.proofs.lemmas.List.Splits.{length-slice_split}
 
 pub found_at : (i n place : ℕ) → Some place ≡ cond (nat_lt i n) (Some i) None → (place ≡ i) × (i < n)
 found_at i n place e = grind (arith, nat_tests)

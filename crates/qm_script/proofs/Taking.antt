@@ -1,17 +1,14 @@
 -- The first line of a script, or what is wrong there.
-use Rattle.std.proofs.Common.{◌≡◌, ◌<◌, ◌+◌, ◌==◌, ℕ, Bool, true, false, ◌&&◌, cond, if◌then◌else◌, List, [], ◌∷◌, ◌++◌, length, take, drop, Option, None, Some, Result, Ok, Err, arith, refl, sym, ◌∙◌, ap, append_assoc, append-nil, ne_eqb}
+use Rattle.std.proofs.Common.{◌≡◌, ◌<◌, ◌+◌, ◌==◌, ℕ, Bool, true, false, ◌&&◌, cond, if◌then◌else◌, List, [], ◌∷◌, ◌++◌, length, take, drop, Option, None, Some, Result, Ok, Err, arith, refl, sym, ◌∙◌, ap, append_assoc, append-nil, ne_eqb, option_to_list, option_map}
 use Rattle.std.specs.List.{list_all, list_any}
 use Rattle.std.proofs.lemmas.List.{map-append}
 use Rattle.std.proofs.Math.Seq.{take-append_seam}
-use Rattle.qm_kinds.specs.declared.script.ScriptKind.{ScriptKind}
+use Rattle.qm_history.specs.Common.{ScriptKind, is_line_byte, cut_at_blank}
 use Rattle.qm_kinds.specs.declared.script.ScriptKind.TheVariants as wrong
-use Rattle.qm_model.specs.Script.{is_line_byte}
-use Rattle.qm_model.specs.Texts.{cut_at_blank}
 use Rattle.qm_history.specs.Lines.{LineFault, cut_short, ends_open, goes_on, line_from, line_of, lines_from, may_be_of, one_more}
 use Rattle.qm_history.specs.Script.{LineSort, Command, Items, Act, UserLine}
 use Rattle.qm_script.specs.declared.extent.Extent.{Extent}
 use Rattle.qm_script.specs.declared.lines.UserLine.{UserLine as Line}
-use Rattle.std.specs.Option.{option_to_list, option_map}
 use Rattle.qm_script.specs.Heads.{behind_lines}
 use Rattle.qm_script.specs.ClusterLines.{user_line_view, user_lines_view, whole}
 use Rattle.qm_script.specs.Extents.{CutsFirst, IsTextOf, is_feed, joined, lines_with, parts_of}

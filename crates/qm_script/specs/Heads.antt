@@ -1,10 +1,8 @@
 -- What stands in front of the text of a line.
-use Rattle.std.specs.Prelude.{◌≡◌, ℕ, List, [], ◌++◌, Result, Ok, Err, Option, None, Some, option_map}
-use Rattle.std.specs.Option.{option_to_list}
+use Rattle.std.specs.Prelude.{◌≡◌, ℕ, List, [], ◌++◌, Result, Ok, Err, Option, None, Some, option_map, option_to_list}
 use Rattle.std.specs.Borrow.{Bor}
 use Rattle.qm_history.specs.Lines.{LineFault, lines_from}
-use Rattle.qm_history.specs.Script.{LineSort, UserLine}
-use Rattle.qm_kinds.specs.declared.script.ScriptKind.{ScriptKind}
+use Rattle.qm_history.specs.Common.{LineSort, UserLine, ScriptKind}
 use Rattle.qm_script.specs.declared.lines.Head.{Head}
 use Rattle.qm_script.specs.declared.lines.LineSort.{LineSort as CodeSort}
 use Rattle.qm_script.specs.declared.lines.Taken.{Taken}

@@ -1,10 +1,8 @@
 -- The words with which a new site is made: its nodes, and the most bytes of a queue file.
 use Rattle.std.specs.Prelude.{ℕ, nat_le, Bool, ◌||◌, if◌then◌else◌, List, [], ◌∷◌, ◌++◌, ◌==◌, length, Option, None, Some, option_and_then}
 use Rattle.std.specs.List.{slice_split}
-use Rattle.qm_kinds.specs.declared.limits.TheConstants.{NODES_LIMIT}
-use Rattle.qm_model.specs.Find.{is_among}
+use Rattle.qm_history.specs.Common.{NODES_LIMIT, GREATEST_CAP, LEAST_CAP, is_among}
 use Rattle.qm_model.specs.Script.{act_number, node_name_of}
-use Rattle.qm_kinds.specs.declared.limits.TheConstants.{GREATEST_CAP, LEAST_CAP}
 
 -- one more node behind these, if it isn't one of them and they aren't too many
 abbrev pub with_node : List (List ℕ) → List ℕ → Option (List (List ℕ))

@@ -1,9 +1,8 @@
 // What an act at a site asks for, and how many steps a line allows.
 ghost use Rattle.std.specs.Prelude.{◌≡◌, true, IfOk, OnErr, Some};
 ghost use Rattle.qm_model.specs.Script.{steps_in};
-ghost use Rattle.qm_model.specs.Texts.{cut_at_blank};
+ghost use Rattle.qm_history.specs.Common.{cut_at_blank, steps_asked};
 ghost use Rattle.qm_history.specs.Acts.{act_asked, bytes_act, bytes_by, hex_bytes, step_act, word_act};
-ghost use Rattle.qm_history.specs.Script.{steps_asked};
 ghost use Rattle.qm_script.specs.Asked.{can_be_added};
 ghost use Rattle.qm_script.specs.ClusterLines.{line_sort_view, whole};
 ghost use Rattle.qm_script.specs.Wanting.{TakesMemory};
@@ -113,7 +112,8 @@ fn steps_in(text: &[u8]) -> Option<u32>
 
 /// How many steps a line allows, 1 to 100,000, if it asks for steps.
 pub fn steps_of(line: &UserLine<'_>) -> Option<u32>
-    ensures { result ≡ steps_asked (line_sort_view line.now.sort) (whole (line_sort_view line.now.sort) line.now.text.now) }
+    ensures { result ≡ steps_asked (line_sort_view line.now.sort)
+        (whole (line_sort_view line.now.sort) line.now.text.now) }
 {
     match line.sort {
         LineSort::Command | LineSort::Items => None,

@@ -1,8 +1,7 @@
 // How far the text of a line goes, which may go on in the next line.
 ghost use Rattle.std.specs.Prelude.{◌≡◌, ◌==◌, ◌+◌, ◌≤◌, ◌<◌, true, length, position, IfOk, IfSome};
 ghost use Rattle.std.specs.List.{list_all};
-ghost use Rattle.qm_kinds.specs.declared.limits.TheConstants.{TEXT_LIMIT};
-ghost use Rattle.qm_model.specs.Script.{is_line_byte};
+ghost use Rattle.qm_history.specs.Common.{TEXT_LIMIT, is_line_byte};
 ghost use Rattle.qm_script.specs.Extents.{GoesOn, IsFirstLine, joined};
 
 use std::alloc::{AllocError, Global};

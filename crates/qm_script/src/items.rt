@@ -52,7 +52,8 @@ fn items_by(
     user: Name,
     scans: &Scans,
 ) -> Result<Input, AllocError>
-    ensures { IfOk result (λ input. input ≡ items_by items_mean user scans.now (Some function) (hex_bytes digits.now)) }
+    ensures { IfOk result (λ input. input
+        ≡ items_by items_mean user scans.now (Some function) (hex_bytes digits.now)) }
 {
     let Some(bytes) = read_bytes(alloc, digits)? else {
         return Ok(fault(ParseKind::Hex));
@@ -69,7 +70,8 @@ pub fn items_asked(
     user: Name,
     scans: &Scans,
 ) -> Result<Input, AllocError>
-    ensures { IfOk result (λ input. input ≡ items_from items_mean user scans.now (cut_at_blank text.now)) }
+    ensures { IfOk result (λ input. input
+        ≡ items_from items_mean user scans.now (cut_at_blank text.now)) }
 {
     let Some((number, digits)) = cut_at_blank(text) else {
         return Ok(fault(ParseKind::Form));

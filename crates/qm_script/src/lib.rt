@@ -18,7 +18,7 @@ mod sites;
 pub use asked::{act_asked, steps_of};
 pub use extent::joined;
 pub use items::items_asked;
-pub use laws::{a_script_has_a_limit, lines_ask_by_listings};
+pub use laws::a_script_has_a_limit;
 pub use lines::{LineSort, LinesEnd, UserLine, read_lines};
 pub use script::read_node_name;
 pub use served::{caps_have_limits, named_nodes_make_a_site};

@@ -1,6 +1,5 @@
 // A script of a cluster: lines of users at its nodes.
-ghost use Rattle.std.specs.Prelude.{◌≡◌, ◌==◌, ◌+◌, ◌-◌, ◌&&◌, ◌≤◌, ◌<◌, true, length, position, option_map, if◌then◌else◌, None, IfOk, IfSome};
-ghost use Rattle.std.specs.Option.{option_copied};
+ghost use Rattle.std.specs.Prelude.{◌≡◌, ◌==◌, ◌+◌, ◌-◌, ◌&&◌, ◌≤◌, ◌<◌, true, length, position, option_map, if◌then◌else◌, None, IfOk, IfSome, option_copied};
 ghost use Rattle.std.specs.List.{list_all};
 ghost use Rattle.qm_kinds.specs.declared.script.ScriptKind.TheVariants.{Byte, Form};
 ghost use Rattle.qm_model.specs.Script.{is_line_byte};
@@ -197,7 +196,8 @@ fn front_of(line: &[u8], text: &[u8]) -> usize
 
 // Whether each byte of a front and of a text that may go on can be printed, or is a blank, but for those at which it goes on.
 fn is_printable(front: &[u8], text: &[u8]) -> bool
-    ensures { result ≡ (list_all is_line_byte front.now && list_all is_line_byte (joined text.now)) }
+    ensures { result
+        ≡ (list_all is_line_byte front.now && list_all is_line_byte (joined text.now)) }
 {
     are_of_line(front) && is_of_line(text)
 }
@@ -215,7 +215,8 @@ fn take_line<'a>(
     requires few { length script.now ≤ TEXT_LIMIT }
     requires number { number + length script.now ≤ TEXT_LIMIT + 1 }
     ensures line { TakesLine (option_copied nodes.entry) number script.now result }
-    ensures behind { IfOk result (λ taken. taken.next + length taken.rest.now ≤ number + length script.now) }
+    ensures behind { IfOk result (λ taken.
+        taken.next + length taken.rest.now ≤ number + length script.now) }
     ensures less { IfOk result (λ taken. length taken.rest.now < length script.now) }
 {
     let Some(head) = read_head(first.text) else {
@@ -255,7 +256,8 @@ fn first_taken<'a>(
     requires few { length script.now ≤ TEXT_LIMIT }
     requires number { number + length script.now ≤ TEXT_LIMIT + 1 }
     ensures line { TakesLine (option_copied nodes.entry) number script.now result }
-    ensures behind { IfOk result (λ taken. taken.next + length taken.rest.now ≤ number + length script.now) }
+    ensures behind { IfOk result (λ taken.
+        taken.next + length taken.rest.now ≤ number + length script.now) }
     ensures less { IfOk result (λ taken. length taken.rest.now < length script.now) }
 {
     let first = first_line(script);
@@ -278,8 +280,10 @@ fn next_line<'a>(
     requires few { length script.now ≤ TEXT_LIMIT }
     requires number { number + length script.now ≤ TEXT_LIMIT + 1 }
     ensures line { TakesNext (option_copied nodes.entry) number script.now result }
-    ensures behind { IfSome result (λ step. IfOk step (λ taken. taken.next + length taken.rest.now ≤ number + length script.now)) }
-    ensures less { IfSome result (λ step. IfOk step (λ taken. length taken.rest.now < length script.now)) }
+    ensures behind { IfSome result (λ step. IfOk step (λ taken.
+        taken.next + length taken.rest.now ≤ number + length script.now)) }
+    ensures less { IfSome result (λ step. IfOk step (λ taken.
+        length taken.rest.now < length script.now)) }
 {
     if script.is_empty() {
         None
@@ -295,7 +299,8 @@ fn read_all<'a>(
     script: &'a [u8],
 ) -> Result<Vec<UserLine<'a>>, LinesEnd>
     requires { length script.now ≤ TEXT_LIMIT }
-    ensures { ReadsLines (λ lines. user_lines_view lines.items) (lines_from (option_copied nodes.entry) None 1 (parts_of script.now)) result }
+    ensures { ReadsLines (λ lines. user_lines_view lines.items)
+        (lines_from (option_copied nodes.entry) None 1 (parts_of script.now)) result }
 {
     let mut lines = Vec::new(alloc);
     let mut are_all = true;
@@ -334,7 +339,8 @@ pub fn read_lines<'a>(
     nodes: Option<&[Name]>,
     script: &'a [u8],
 ) -> Result<Vec<UserLine<'a>>, LinesEnd>
-    ensures { ReadsLines (λ lines. user_lines_view lines.items) (script_lines (option_copied nodes.entry) script.now) result }
+    ensures { ReadsLines (λ lines. user_lines_view lines.items)
+        (script_lines (option_copied nodes.entry) script.now) result }
 {
     if TEXT_LIMIT < script.len() {
         return Err(LinesEnd::Fault {

@@ -1,6 +1,5 @@
 // Parts of the lines of a script.
-ghost use Rattle.std.specs.Prelude.{◌≡◌, ◌==◌, ◌<◌, length, position, IfSome};
-ghost use Rattle.std.specs.Option.{option_map};
+ghost use Rattle.std.specs.Prelude.{◌≡◌, ◌==◌, ◌<◌, length, position, IfSome, option_map};
 ghost use Rattle.qm_model.specs.Texts.{cut_at_blank};
 ghost use Rattle.qm_model.specs.Script.{node_name_of};
 ghost use Rattle.qm_script.specs.Lines.{parts_view};

@@ -19,7 +19,8 @@ fn comma(text: &[u8]) -> Option<usize>
 // Puts the node that a part names behind the others, and tells whether it could: whether it is a name, none of the others, and
 // they aren't too many.
 fn add_node(nodes: &mut Vec<Name>, part: &[u8]) -> Result<bool, AllocError>
-    ensures { IfOk result (λ is_added. option_and_then (with_node nodes.old.items) (node_name_of part.now)
+    ensures { IfOk result (λ is_added.
+        option_and_then (with_node nodes.old.items) (node_name_of part.now)
         ≡ (if is_added then Some nodes.new.items else None)) }
 {
     let Some(name) = read_node_name(part) else {

@@ -1,7 +1,5 @@
 -- What a chest stands for behind calls of nodes.
-use Rattle.std.proofs.Common.{◌≡◌, ℕ, ◌+◌, ◌≤◌, Bool, true, false, cond, IsTrue, List, [], ◌∷◌, ◌++◌, length, refl, sym, ◌∙◌, ap, subst, arith, append_assoc, Option, None, Some}
-use Rattle.std.specs.Prelude.{◌&&◌, option_to_list}
-use Rattle.std.proofs.lemmas.List.{append-nil}
+use Rattle.std.proofs.Common.{◌≡◌, ℕ, ◌+◌, ◌≤◌, Bool, true, false, cond, IsTrue, List, [], ◌∷◌, ◌++◌, length, refl, sym, ◌∙◌, ap, subst, arith, append_assoc, Option, None, Some, ◌&&◌, option_to_list, append-nil}
 use Rattle.qm_acting.specs.Spare.{KeepsSpare}
 use Rattle.qm_acting.proofs.Spare.{keeps_on}
 use Rattle.qm_chest.specs.Noting.{HasServed, StandsSince, chest_told, failed_with, note_of}
@@ -10,22 +8,16 @@ use Rattle.qm_chest.proofs.Notes.{count_more, hidden_quiet, none_quiet, told_or_
 use Rattle.qm_history.specs.Serving.{Serves, TellsDisk}
 use Rattle.qm_node.specs.Taken.{RoseBy}
 use Rattle.qm_cluster.proofs.Counting.{rose_on}
-use Rattle.qm_disk.specs.Disk.{Meaning}
+use Rattle.qm_history.specs.Common.{Meaning, Tells, faults_told, is_journal, tells_disk_fault, after_turns}
 use Rattle.qm_cluster.specs.Sharing.{AreAsked}
-use Rattle.qm_disk.specs.Faults.{Tells}
-use Rattle.qm_glog.specs.Records.{IsLog}
 use Rattle.qm_history.specs.declared.call.Answer.{Answer}
 use Rattle.qm_history.specs.declared.call.Call.{Call}
 use Rattle.qm_history.specs.declared.turn.Turn.{Turn}
 use Rattle.qm_history.specs.declared.world.World.{World}
 use Rattle.qm_history.specs.Chest.{Chest as ChestTold, IsMadeFor, LeavesTurn as LeavesOfKept, Note, Serves as NotesCall, hides_events, is_unread, turns_kept, unread_of}
-use Rattle.qm_history.specs.Faults.{faults_told, is_journal, tells_disk_fault}
-use Rattle.qm_history.specs.Legal.{after_turns}
-use Rattle.qm_record.specs.Spelling.{HasSpelling, record_text}
 use Rattle.qm_chest.specs.Noted.{AreServed}
 use Rattle.qm_chest.specs.Opening.{MayBegin}
-use Rattle.qm_chest.specs.At.{chest_disk}
-use Rattle.qm_chest.specs.At.{chest_turns}
+use Rattle.qm_chest.specs.At.{chest_disk, chest_turns}
 use Rattle.qm_chest.specs.Manager.{HasDone, StandsAt, meaning_of}
 use Rattle.qm_serving.specs.SiteStanding.{HasNotedIn, HasStood}
 
@@ -71,12 +63,12 @@ abbrev pub NotesOn : {D : Type 0} → Meaning D → Type 0
 NotesOn {D} m =
     (cap : ℕ) (w : World) (began : D) (old new : Chest D) (failed : ℕ) (notes : List Note) (node now : ℕ) (asked : Call) (told : Answer) → StandsSince m cap w began old failed notes
     → (served : HasServed m cap node now asked old new told)
-    → NotesCall IsLog HasSpelling record_text m w began (chest_told old failed) (chest_told new (failed_with failed told)) notes node now (note_of asked served.one.turn told) told
+    → NotesCall m w began (chest_told old failed) (chest_told new (failed_with failed told)) notes node now (note_of asked served.one.turn told) told
 
 -- one call more behind those that were served
 module _ {D : Type 0} (m : Meaning D) (w : World) (began : D) (mid new : ChestTold D) (n : Note) (node now : ℕ) (told : Answer) where
   abbrev OneCall : ChestTold D → List Note → Type 0
-  OneCall from notes = NotesCall IsLog HasSpelling record_text m w began from new notes node now n told
+  OneCall from notes = NotesCall m w began from new notes node now n told
 
   served_more : (before notes : List Note) (old : ChestTold D) → AreServed m w began before old notes mid → OneCall mid (before ++ notes) → AreServed m w began before old (notes ++ n ∷ []) new
   served_more before [] old served call = (node, now, told, new, subst (λ (c : ChestTold D). OneCall c before) served (subst (OneCall mid) (append-nil before) call), refl)

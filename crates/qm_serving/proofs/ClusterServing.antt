@@ -1,26 +1,13 @@
 -- From what the nodes did to what serving at once leaves.
-use Rattle.std.proofs.Common.{◌≡◌, ℕ, zero, suc, ◌<◌, false, IsTrue, List, [], ◌∷◌, ◌++◌, length, map, refl, sym, ◌∙◌, ap, subst, Option, None, Some, Result, Ok, Err, arith}
-use Rattle.std.specs.Prelude.{IfOk, slice_get}
+use Rattle.std.proofs.Common.{◌≡◌, ℕ, zero, suc, ◌<◌, false, IsTrue, List, [], ◌∷◌, ◌++◌, length, map, refl, sym, ◌∙◌, ap, subst, Option, None, Some, Result, Ok, Err, arith, IfOk, slice_get, option_map}
 use Rattle.std.specs.List.{AllByRecursion}
-use Rattle.std.specs.Option.{option_map}
 use Rattle.std.proofs.lemmas.List.{length-map, map-append}
 use Rattle.std.proofs.lemmas.Option.{slice_get-map}
-use Rattle.qm_kinds.specs.declared.request.Request.{Request}
-use Rattle.qm_kinds.specs.declared.system.System.{System}
-use Rattle.qm_model.specs.Applied.{applied}
-use Rattle.qm_model.specs.Outcome.{Accepted}
-use Rattle.qm_record.specs.Spelling.{HasSpelling}
+use Rattle.qm_history.specs.Common.{Request, System, applied, Accepted, Meaning, Note, turns_kept, unread_of, Begun, UserLine, lines_of, cluster_text, visits_of, IsSound}
 use Rattle.qm_symb.specs.Device as symb
-use Rattle.qm_disk.specs.Disk.{Meaning}
 use Rattle.qm_history.specs.declared.turn.Turn.{Turn}
 use Rattle.qm_history.specs.declared.world.World.{World}
-use Rattle.qm_history.specs.Chest.{Note, turns_kept, unread_of}
-use Rattle.qm_history.specs.Course.{Begun}
 use Rattle.qm_history.specs.Ends.{BrokenOff, Ended, FileDamaged, HasPrinted, MemoryShort, NoMemory, NodeEnd, NodeText, ServingEnd, TurnsSpent, cuts_text, extent_of, texts_printed}
-use Rattle.qm_history.specs.Script.{UserLine, lines_of}
-use Rattle.qm_history.specs.Text.{cluster_text}
-use Rattle.qm_history.specs.Visits.{visits_of}
-use Rattle.qm_history.specs.World.{IsSound}
 use Rattle.qm_chest.specs.Noting.{StartsEarly}
 use Rattle.qm_cluster.specs.Fresh.{each_lines}
 use Rattle.qm_node.specs.Sides.{Side}
@@ -30,8 +17,7 @@ use Rattle.qm_sjc.specs.Printed.{items_line}
 use Rattle.qm_cluster.specs.Ends.{stop_of}
 use Rattle.qm_chest.specs.Opening.{IsOpened, MayBegin}
 use Rattle.qm_serving.specs.Serving.{Outside, outside}
-use Rattle.qm_chest.specs.At.{chest_disk, chest_names}
-use Rattle.qm_chest.specs.At.{chest_turns}
+use Rattle.qm_chest.specs.At.{chest_disk, chest_names, chest_turns}
 use Rattle.qm_chest.specs.Manager.{StandsAt, meaning_of}
 use Rattle.qm_chest.specs.declared.chest.Chest.{Chest}
 use Rattle.qm_turn.specs.History.{notes}
@@ -194,7 +180,7 @@ module _ {D Y : Type 0} (m : Meaning D) (y : symb.Meaning Y) (leaves : LeaveWhat
           (says (ends_of (map text_left texts)) (unbroken texts)) is_told
 
       module _ (keep : (s : System) (now node : ℕ) (asked : Request) (a : Accepted) → applied s now node asked ≡ Ok a → map (λ n. n.name) a.system.nodes ≡ map (λ n. n.name) s.nodes)
-          (sound : (disk : D) (chest : Chest D) (w : World) → IsOpened m disk chest → IsTrue m.tells → StartsEarly (m.seen disk) w → IsSound HasSpelling w)
+          (sound : (disk : D) (chest : Chest D) (w : World) → IsOpened m disk chest → IsTrue m.tells → StartsEarly (m.seen disk) w → IsSound w)
           (keeps : (disk : D) (chest : Chest D) (w : World) → IsOpened m disk chest → MayBegin m disk w → MayBegin m (chest_disk chest) w)
           (script : List UserLine) (own : lines ≡ each_lines script (chest_names old)) (count_was : length was ≡ length (chest_names old)) (count_now : length now ≡ length (chest_names old))
         where

@@ -1,16 +1,11 @@
 -- A run of which no turn was made.
-use Rattle.std.proofs.Common.{◌≡◌, ℕ, Bool, true, false, List, [], ◌∷◌, refl, sym, ◌∙◌, subst, arith, Option, None, Some}
-use Rattle.std.specs.Prelude.{slice_get}
+use Rattle.std.proofs.Common.{◌≡◌, ℕ, Bool, true, false, List, [], ◌∷◌, refl, sym, ◌∙◌, subst, arith, Option, None, Some, slice_get, append-nil}
 use Rattle.std.specs.Io.KnownBytes.{Appends}
-use Rattle.std.proofs.lemmas.List.{append-nil}
 use Rattle.qm_cluster.specs.Runs.{IsNodeOf, IsRun}
 use Rattle.qm_node.specs.Sides.{Side}
 use Rattle.qm_history.specs.Serving.{Meaning}
 use Rattle.qm_node.specs.Ends.{TakesFront}
-use Rattle.qm_history.specs.Course.{Begun, Reading, at_first, next_at}
-use Rattle.qm_history.specs.Order.{IsWaiting}
-use Rattle.qm_history.specs.Script.{UserLine, lines_of}
-use Rattle.qm_history.specs.World.{is_live}
+use Rattle.qm_history.specs.Common.{Begun, Reading, at_first, next_at, IsWaiting, UserLine, lines_of, is_live}
 use Rattle.qm_history.specs.declared.world.World.{World}
 use Rattle.qm_symb.specs.Device as symb
 

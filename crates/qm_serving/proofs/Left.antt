@@ -3,15 +3,11 @@ use Rattle.std.proofs.Common.{◌≡◌, ℕ, IsTrue, List, [], ◌∷◌, refl,
 use Rattle.qm_acting.specs.Spare.{KeepsSpare}
 use Rattle.qm_chest.specs.Noting.{chest_told}
 use Rattle.qm_node.specs.Taken.{RoseBy}
-use Rattle.qm_disk.specs.Disk.{Meaning}
+use Rattle.qm_history.specs.Common.{Meaning, Note, unread_of, IsLegal}
 use Rattle.qm_history.specs.declared.world.World.{World}
-use Rattle.qm_history.specs.Chest.{Note, unread_of}
-use Rattle.qm_history.specs.Legal.{IsLegal}
 use Rattle.qm_history.proofs.NotedLemmas.{noted_legal}
-use Rattle.qm_record.specs.Spelling.{HasSpelling, record_text}
 use Rattle.qm_chest.specs.Opening.{IsOpened, MayBegin}
-use Rattle.qm_chest.specs.At.{chest_disk}
-use Rattle.qm_chest.specs.At.{chest_turns}
+use Rattle.qm_chest.specs.At.{chest_disk, chest_turns}
 use Rattle.qm_chest.specs.declared.chest.Chest.{Chest}
 use Rattle.qm_serving.specs.SiteServing.{ServesNodes, ServesNodesIn}
 use Rattle.qm_serving.specs.SiteStanding.{HasNotedIn, HasStood}
@@ -22,7 +18,7 @@ module _ {D : Type 0} (m : Meaning D) (disk : D) (chest then : Chest D) (names :
   where
     left_in : (sure : IsTrue m.tells) (w : World) → HasNotedIn m w (chest_disk chest) then stood.failed notes → ServesNodesIn m w (chest_disk chest) (chest_disk then) (chest_turns then)
     left_in sure w in_it = record {
-      legal = subst (IsLegal HasSpelling w) (sym in_it.since.stands.turns) (noted_legal HasSpelling record_text notes w (in_it.since.stands.stands sure).noted);
+      legal = subst (IsLegal w) (sym in_it.since.stands.turns) (noted_legal notes w (in_it.since.stands.stands sure).noted);
       noted = record {
         first = in_it.first;
         begins = in_it.begins;

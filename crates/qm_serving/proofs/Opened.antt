@@ -1,17 +1,11 @@
 -- A site that was just opened.
-use Rattle.std.proofs.Common.{◌≡◌, ℕ, ◌<◌, ◌≤◌, ◌^◌, Bool, true, false, IsTrue, List, [], length, refl, sym, ◌∙◌, ap, subst, arith}
-use Rattle.std.specs.Prelude.{slice_get, unwrap_or}
+use Rattle.std.proofs.Common.{◌≡◌, ℕ, ◌<◌, ◌≤◌, ◌^◌, Bool, true, false, IsTrue, List, [], length, refl, sym, ◌∙◌, ap, subst, arith, slice_get, unwrap_or}
 use Rattle.qm_acting.proofs.Spare.{keeps_same}
 use Rattle.qm_chest.specs.Noting.{StandsSince, chest_told}
-use Rattle.qm_disk.specs.Disk.{Meaning}
+use Rattle.qm_history.specs.Common.{Meaning, turns_kept, faults_told, IsSound, is_live}
 use Rattle.qm_history.specs.declared.world.World.{World}
-use Rattle.qm_history.specs.Chest.{turns_kept}
-use Rattle.qm_history.specs.Faults.{faults_told}
-use Rattle.qm_history.specs.World.{IsSound, is_live}
-use Rattle.qm_record.specs.Spelling.{HasSpelling}
 use Rattle.qm_chest.specs.Opening.{IsOpened, MayBegin}
-use Rattle.qm_chest.specs.At.{chest_disk, chest_names}
-use Rattle.qm_chest.specs.At.{chest_turns}
+use Rattle.qm_chest.specs.At.{chest_disk, chest_names, chest_turns}
 use Rattle.qm_chest.specs.Manager.{StandsAt}
 use Rattle.qm_chest.specs.declared.chest.Chest.{Chest}
 use Rattle.qm_chest.proofs.SiteOpened.{first_live, starts_moved}
@@ -31,13 +25,13 @@ module _ {D : Type 0} (m : Meaning D) (disk : D) (chest : Chest D) (opened : IsO
       }
 
   -- a world for which it stands is sound, and each node is live there
-  pub sound_live : (w : World) → StandsAt m w chest → (node : ℕ) → node < length (chest_names chest) → IsSound HasSpelling w × (is_live w node ≡ true)
+  pub sound_live : (w : World) → StandsAt m w chest → (node : ℕ) → node < length (chest_names chest) → IsSound w × (is_live w node ≡ true)
   sound_live w stands node less =
       let first = opened.begins stands.tells in
       let at = opened.at stands.tells first.0 first.1 in
       let live : is_live first.0 node ≡ true =
       first_live (m.seen disk) first.0 first.1.starts node (subst (λ (names : List (List ℕ)). node < length names) (sym (opened.names stands.tells first.0 first.1)) less) in
-      (stands.at.sound, ap (λ (l : List Bool). unwrap_or (slice_get l node) false) (sym stands.at.state.book.live ∙ at.state.book.live) ∙ live)
+      (stands.at.sound, ap (λ (l : List Bool). unwrap_or (slice_get l node) false) (sym stands.at.state.members.live ∙ at.state.members.live) ∙ live)
 
   noted_first : IsTrue m.tells → (w : World) → MayBegin m (chest_disk chest) w → HasNotedIn m w (chest_disk chest) chest 0 []
   noted_first sure w begins =

@@ -15,25 +15,16 @@ use Rattle.qm_cluster.specs.Turning.{IsFullAt, IsToldTo, TakesUpTo}
 use Rattle.qm_node.specs.declared.turn.TurnEnd.{TurnEnd}
 use Rattle.qm_node.specs.declared.turn.TurnEnd.TheVariants as stop
 use Rattle.qm_cluster.proofs.Seated.{seated_cluster, seated_live}
-use Rattle.qm_disk.specs.Disk.{Meaning}
+use Rattle.qm_history.specs.Common.{Meaning, turns_kept, Whole, Begun, faults_told, after_turns, UserLine, text, is_live, NODES_LIMIT}
 use Rattle.qm_history.specs.declared.turn.Turn.{Turn}
 use Rattle.qm_history.specs.declared.world.World.{World}
-use Rattle.qm_history.specs.Chest.{turns_kept}
-use Rattle.qm_history.specs.Course.{Whole, Begun}
 use Rattle.qm_history.specs.Ends.{ServingEnd, Served, DiskFailed, NoMemory}
-use Rattle.qm_history.specs.Faults.{faults_told}
-use Rattle.qm_history.specs.Legal.{after_turns}
-use Rattle.qm_history.specs.Script.{UserLine}
-use Rattle.qm_history.specs.Text.{text}
-use Rattle.qm_history.specs.World.{is_live}
-use Rattle.qm_kinds.specs.declared.limits.TheConstants.{NODES_LIMIT}
 use Rattle.qm_script.specs.declared.lines.UserLine.{UserLine as CodeLine}
 use Rattle.qm_sjc.specs.Printed.{items_line}
 use Rattle.qm_cluster.specs.Ends.{CountsDisk, EndsBy, IsUndamaged, TakesTo, end_of_stop, end_of_turns, extent_to, serving_end, some_disk_failed, stop_of}
 use Rattle.qm_chest.specs.Opening.{IsFresh, IsOpened, MayBegin}
 use Rattle.qm_serving.specs.Serving.{Outside, Serves, outside}
-use Rattle.qm_chest.specs.At.{chest_disk, chest_names}
-use Rattle.qm_chest.specs.At.{chest_turns}
+use Rattle.qm_chest.specs.At.{chest_disk, chest_names, chest_turns}
 use Rattle.qm_chest.specs.Manager.{StandsAt, meaning_of}
 use Rattle.qm_cluster.specs.declared.ends.ServeEnd.{ServeEnd}
 use Rattle.qm_chest.specs.declared.chest.Chest.{Chest}

@@ -1,25 +1,13 @@
 -- The texts of nodes one behind another, and the text of the cluster.
-use Rattle.std.proofs.Common.{◌≡◌, ℕ, suc, ◌+◌, ◌==◌, Bool, true, false, cond, List, [], ◌∷◌, ◌++◌, codes, length, map, refl, sym, ◌∙◌, ap, Option, Some, Ok, arith, append_assoc, add-zero}
-use Rattle.std.specs.Prelude.{flat_map, slice_get}
+use Rattle.std.proofs.Common.{◌≡◌, ℕ, suc, ◌+◌, ◌==◌, Bool, true, false, cond, List, [], ◌∷◌, ◌++◌, codes, length, map, refl, sym, ◌∙◌, ap, Option, Some, Ok, arith, append_assoc, add-zero, flat_map, slice_get, unwrap_or}
 use Rattle.std.specs.List.{AllByRecursion, range_with_len}
-use Rattle.std.specs.Option.{unwrap_or}
 use Rattle.std.proofs.lemmas.Bool.Decides.{nat_tests}
 use Rattle.std.proofs.lemmas.List.{length-map}
-use Rattle.qm_kinds.specs.declared.system.Node.{Node}
-use Rattle.qm_kinds.specs.declared.request.Request.{Request}
-use Rattle.qm_kinds.specs.declared.system.System.{System}
-use Rattle.qm_model.specs.Applied.{applied}
-use Rattle.qm_model.specs.Outcome.{Accepted}
-use Rattle.qm_model.specs.Standing.{node_at}
-use Rattle.qm_record.specs.Spelling.{HasSpelling}
+use Rattle.qm_history.specs.Common.{Node, Request, System, applied, Accepted, node_at, cluster, IsLegal, after_turn, visits_of, IsSound, system_in}
 use Rattle.qm_history.specs.declared.turn.Turn.{Turn}
 use Rattle.qm_history.specs.declared.world.World.{World}
-use Rattle.qm_history.specs.Accepted.{cluster}
 use Rattle.qm_history.specs.Ends.{NodeEnd, NodeText, cuts_text, texts_printed}
-use Rattle.qm_history.specs.Legal.{IsLegal, after_turn}
 use Rattle.qm_history.specs.Text.{behind, cluster_text, prefix_of, text_of_node, turn_lines, turn_names, visit_text}
-use Rattle.qm_history.specs.Visits.{visits_of}
-use Rattle.qm_history.specs.World.{IsSound, system_in}
 use Rattle.qm_sjc.specs.Printed.{items_line}
 use Rattle.qm_cluster.specs.Driving.{text_told, visit_told}
 use Rattle.qm_cluster.specs.Printing.{name_at, turns_line, words_of}
@@ -72,15 +60,15 @@ module _ (keep : (s : System) (now node : ℕ) (asked : Request) (a : Accepted) 
     own_turn t is = grind (arith, nat_tests)
 
     -- the node's text is that of its turns
-    pub told_all : (w : World) (turns : List Turn) → IsSound HasSpelling w → IsLegal HasSpelling w turns → cluster (system_in w) ≡ names
+    pub told_all : (w : World) (turns : List Turn) → IsSound w → IsLegal w turns → cluster (system_in w) ≡ names
         → text_told name (visits_of node w turns) ≡ text_of_node items_line node w turns
     told_all w [] sound legal called = refl
     told_all w (t ∷ turns) sound legal called =
         told_turn w t turns called
-        (told_all (after_turn w t) turns (turn_sound HasSpelling keep w t sound legal.0) legal.1 (turn_names_stay HasSpelling keep w t sound legal.0 ∙ called)) (t.node == node) (own_turn t)
+        (told_all (after_turn w t) turns (turn_sound keep w t sound legal.0) legal.1 (turn_names_stay keep w t sound legal.0 ∙ called)) (t.node == node) (own_turn t)
 
   -- what the nodes printed, one behind another, is the text of the cluster
-  pub cluster_printed : (w : World) (turns : List Turn) (names : List (List ℕ)) (left : List NodeText) → IsSound HasSpelling w → IsLegal HasSpelling w turns → cluster (system_in w) ≡ names
+  pub cluster_printed : (w : World) (turns : List Turn) (names : List (List ℕ)) (left : List NodeText) → IsSound w → IsLegal w turns → cluster (system_in w) ≡ names
       → length left ≡ length names → AllByRecursion (λ (e : NodeEnd). cuts_text e ≡ false) (ends_of left)
       → ((k : ℕ) (at : NodeText) → slice_get left k ≡ Some at → (name : List ℕ) × (slice_get names k ≡ Some name) × (at.printed ≡ text_told name (visits_of k w turns)))
       → texts_printed (turns_line names turns) left ≡ cluster_text items_line w turns

@@ -1,12 +1,10 @@
 -- What is told of the turns of nodes, and what that says of the sink, the turns and the disks.
-use Rattle.std.proofs.Common.{◌≡◌, inl, inr, ℕ, ◌≤◌, Bool, true, false, cond, List, [], length, refl, sym, ◌∙◌, subst, Option, None, Some, arith}
-use Rattle.std.specs.Prelude.{slice_get}
+use Rattle.std.proofs.Common.{◌≡◌, inl, inr, ℕ, ◌≤◌, Bool, true, false, cond, List, [], length, refl, sym, ◌∙◌, subst, Option, None, Some, arith, slice_get}
 use Rattle.std.specs.Io.KnownBytes.{Appends}
 use Rattle.qm_node.specs.Ends.{TakesFront}
 use Rattle.qm_cluster.proofs.Counting.{appends_none}
-use Rattle.qm_disk.specs.Faults.{counted}
+use Rattle.qm_history.specs.Common.{counted, turns_kept}
 use Rattle.qm_history.specs.declared.turn.Turn.{Turn}
-use Rattle.qm_history.specs.Chest.{turns_kept}
 use Rattle.qm_history.specs.Ends.{Damaged, DiskFailed, FileDamaged, HistoryFull, NoMemory, NodeText, Served, ServingEnd, SinkFailed, TurnsSpent, worse}
 use Rattle.qm_cluster.specs.Ends.{CountsSink, EndsBy, IsUndamaged, TakesTo, end_of_turns, some_disk_failed, stop_of}
 use Rattle.qm_cluster.specs.AllTurns.{AreFull, NoneDamaged}

@@ -2,17 +2,13 @@
 -- OpenVMS System Manager's Manual, Managing the Queue Manager and Queue Database. This site's own: turns and their notes.
 use Rattle.std.specs.Prelude.{◌≡◌, ◌≤◌, ℕ, IsTrue, List, length, sum_by}
 use Rattle.qm_node.specs.Sides.{Side}
-use Rattle.qm_disk.specs.Disk.{Meaning}
+use Rattle.qm_history.specs.Common.{Meaning, Note, turns_kept, unread_of, NodeText, UserLine}
 use Rattle.qm_cluster.specs.Driving.{hidden_by}
 use Rattle.qm_history.specs.declared.world.World.{World}
-use Rattle.qm_history.specs.Chest.{Note, turns_kept, unread_of}
-use Rattle.qm_history.specs.Ends.{NodeText}
-use Rattle.qm_history.specs.Script.{UserLine}
 use Rattle.qm_cluster.specs.AllTurns.{AreFull, NoneDamaged}
 use Rattle.qm_cluster.specs.Served.{AllHaveServed}
 use Rattle.qm_chest.specs.Opening.{MayBegin}
-use Rattle.qm_chest.specs.At.{chest_disk}
-use Rattle.qm_chest.specs.At.{chest_turns}
+use Rattle.qm_chest.specs.At.{chest_disk, chest_turns}
 use Rattle.qm_chest.specs.declared.chest.Chest.{Chest}
 use Rattle.qm_serving.specs.SiteStanding.{HasStood}
 use Rattle.qm_symb.specs.Device as symb

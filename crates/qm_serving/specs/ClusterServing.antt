@@ -8,15 +8,9 @@ use Rattle.qm_node.specs.Sides.{Side}
 use Rattle.qm_node.specs.Taken.{AreTaken, AreTold, Rises}
 use Rattle.qm_node.specs.declared.turn.TurnEnd.{TurnEnd}
 use Rattle.qm_node.specs.declared.turn.TurnEnd.TheVariants as stop
-use Rattle.qm_disk.specs.Disk.{Meaning}
+use Rattle.qm_history.specs.Common.{Meaning, Extent, IsCourse, Whole, ServingEnd, UserLine, lines_of, cluster_text, visits_of}
 use Rattle.qm_history.specs.declared.turn.Turn.{Turn}
 use Rattle.qm_history.specs.declared.world.World.{World}
-use Rattle.qm_history.specs.Course.{Extent, IsCourse, Whole}
-use Rattle.qm_history.specs.Ends.{ServingEnd}
-use Rattle.qm_history.specs.Script.{UserLine, lines_of}
-use Rattle.qm_history.specs.Text.{cluster_text}
-use Rattle.qm_history.specs.Visits.{visits_of}
-use Rattle.qm_record.specs.Spelling.{HasSpelling}
 use Rattle.qm_cluster.specs.Ends.{EndsBy, IsUndamaged, TakesTo, stop_of}
 use Rattle.qm_chest.specs.Opening.{MayBegin}
 use Rattle.qm_serving.specs.Serving.{Outside}
@@ -44,7 +38,7 @@ module _ {Y : Type 0} (y : symb.Meaning Y) (w : World) (turns : List Turn) where
   -- devices took the blocks of its steps.
   pub record IsNodeOf (extent : Extent) (node : ℕ) (lines : List UserLine) (was now : Side Y) : Type 0 where
     pub faults : ℕ
-    pub course : IsCourse HasSpelling read_built extent w turns node lines faults
+    pub course : IsCourse read_built extent w turns node lines faults
     pub rose : Rises y faults was.symbiont now.symbiont
     pub told : AreTold extent (visits_of node w turns) was.told now.told
     pub taken : AreTaken y course.steps course.broken was.symbiont now.symbiont

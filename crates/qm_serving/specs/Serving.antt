@@ -5,12 +5,9 @@ use Rattle.std.specs.Prelude.{ℕ, IsTrue, List, Option}
 use Rattle.qm_acting.specs.Spare.{KeepsSpare}
 use Rattle.qm_cluster.specs.Runs.{IsRun}
 use Rattle.qm_node.specs.Sides.{Side}
-use Rattle.qm_disk.specs.Disk.{Meaning}
+use Rattle.qm_history.specs.Common.{Meaning, ServingEnd, UserLine, text}
 use Rattle.qm_history.specs.declared.turn.Turn.{Turn}
 use Rattle.qm_history.specs.declared.world.World.{World}
-use Rattle.qm_history.specs.Ends.{ServingEnd}
-use Rattle.qm_history.specs.Script.{UserLine}
-use Rattle.qm_history.specs.Text.{text}
 use Rattle.qm_sjc.specs.Printed.{items_line}
 use Rattle.qm_cluster.specs.Ends.{CountsDisk, EndsBy, IsUndamaged, TakesTo, extent_to, stop_of}
 use Rattle.qm_chest.specs.Noted.{HasNoted}

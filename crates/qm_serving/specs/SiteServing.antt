@@ -4,13 +4,9 @@
 use Rattle.std.specs.Prelude.{◌≡◌, ◌+◌, ◌≤◌, ℕ, IsTrue, List, length}
 use Rattle.qm_acting.specs.Spare.{KeepsSpare}
 use Rattle.qm_node.specs.Taken.{RoseBy}
-use Rattle.qm_disk.specs.Disk.{Meaning}
+use Rattle.qm_history.specs.Common.{Meaning, turns_kept, faults_told, IsLegal}
 use Rattle.qm_history.specs.declared.turn.Turn.{Turn}
 use Rattle.qm_history.specs.declared.world.World.{World}
-use Rattle.qm_history.specs.Chest.{turns_kept}
-use Rattle.qm_history.specs.Faults.{faults_told}
-use Rattle.qm_history.specs.Legal.{IsLegal}
-use Rattle.qm_record.specs.Spelling.{HasSpelling}
 use Rattle.qm_chest.specs.Noted.{HasNoted}
 use Rattle.qm_chest.specs.Opening.{MayBegin}
 
@@ -24,7 +20,7 @@ module _ {D : Type 0} (m : Meaning D) where
   -- In a world with which a program begins: the turns are a legal history, and all calls are noted, each of which did to the
   -- device, as the one before left it, what histories say.
   pub record ServesNodesIn (w : World) (old new : D) (turns : List Turn) : Type 0 where
-    pub legal : IsLegal HasSpelling w turns
+    pub legal : IsLegal w turns
     pub noted : HasNoted m w old new turns
 
   -- Nodes made these turns on a site that was opened on this device. The turns tell how often disks failed, but for so many of

@@ -3,19 +3,14 @@
 -- This site's own: the notes of turns.
 use Rattle.std.specs.Prelude.{◌≡◌, ◌+◌, ◌≤◌, ℕ, IsTrue, List, [], length}
 use Rattle.qm_acting.specs.Spare.{KeepsSpare}
-use Rattle.qm_chest.specs.At.{IsServing}
+use Rattle.qm_chest.specs.At.{IsServing, chest_disk, chest_names, chest_turns}
 use Rattle.qm_chest.specs.Noting.{StandsSince, chest_told}
 use Rattle.qm_node.specs.Taken.{RoseBy}
-use Rattle.qm_disk.specs.Disk.{Meaning}
-use Rattle.qm_glog.specs.Records.{IsLog}
+use Rattle.qm_history.specs.Common.{Meaning, faults_told}
 use Rattle.qm_history.specs.declared.world.World.{World}
 use Rattle.qm_history.specs.Chest.{Chest as ToldChest, Note, Stands, turns_kept, unread_of}
-use Rattle.qm_history.specs.Faults.{faults_told}
-use Rattle.qm_record.specs.Spelling.{HasSpelling, record_text}
 use Rattle.qm_chest.specs.Noted.{AreServed}
 use Rattle.qm_chest.specs.Opening.{MayBegin}
-use Rattle.qm_chest.specs.At.{chest_disk, chest_names}
-use Rattle.qm_chest.specs.At.{chest_turns}
 use Rattle.qm_chest.specs.declared.chest.Chest.{Chest}
 
 module _ {D : Type 0} (m : Meaning D) where
@@ -24,7 +19,7 @@ module _ {D : Type 0} (m : Meaning D) where
   pub record HasNotedIn (w : World) (began : D) (chest : Chest D) (failed : ℕ) (notes : List Note) : Type 0 where
     pub cap : ℕ
     pub first : ToldChest D
-    pub begins : Stands IsLog HasSpelling record_text m w began first []
+    pub begins : Stands m w began first []
     pub on : first.disk ≡ began
     pub calls : AreServed m w began [] first notes (chest_told chest failed)
     pub since : StandsSince m cap w began chest failed notes

@@ -46,7 +46,9 @@ where
     requires opened { (disk : D) × IsOpened D.meaning disk chest }
     requires lines { length lines.now ≡ length names.now }
     requires stations { length stations.old ≡ length names.now }
-    ensures ran { IfOk result (λ ran. HaveRun D.meaning Y.meaning (chest_names chest) (own_view lines.now) chest ran.manager (map text_left ran.texts.items)
+    ensures ran { IfOk result (λ ran.
+        HaveRun D.meaning Y.meaning (chest_names chest) (own_view lines.now) chest ran.manager
+        (map text_left ran.texts.items)
         (map (side_of C.told) stations.old) (map (side_of C.told) stations.new)) }
     ensures none { IfErr result (λ back. (back ≡ chest) × (stations.new ≡ stations.old)) }
 {

@@ -7,8 +7,7 @@ ghost use Rattle.qm_script.specs.ClusterLines.{user_lines_view};
 ghost use Rattle.qm_cluster.specs.Ends.{CountsSink, serving_end};
 ghost use Rattle.qm_chest.specs.Opening.{IsOpened};
 ghost use Rattle.qm_serving.specs.Serving.{outside};
-ghost use Rattle.qm_chest.specs.At.{chest_disk, chest_names};
-ghost use Rattle.qm_chest.specs.At.{chest_turns};
+ghost use Rattle.qm_chest.specs.At.{chest_disk, chest_names, chest_turns};
 ghost use Rattle.qm_history.specs.Ends.{texts_printed};
 ghost use Rattle.qm_history.specs.Script.{UserLine as AnyLine};
 ghost use Rattle.qm_cluster.specs.ClusterEnding.{IsToldBy, worst_of};
@@ -63,7 +62,8 @@ where
     ensures serves { (disk : D) → IsOpened D.meaning disk chest
         → ServesAtOnce D.meaning Y.meaning disk (chest_names chest) (user_lines_view lines.now)
         (outside (chest_disk chest) (O.taken sink.old) (map (side_of C.told) stations.old))
-        (outside result.disk (O.taken sink.new) (map (side_of C.told) stations.new)) result.turns.items (serving_end result.end) }
+        (outside result.disk (O.taken sink.new)
+        (map (side_of C.told) stations.new)) result.turns.items (serving_end result.end) }
     ensures sink { CountsSink (serving_end result.end) (O.faults sink.old) (O.faults sink.new) }
 {
     opened_sites_stand_for_no_notes::<D>();
@@ -95,10 +95,13 @@ where
     requires opened { (disk : D) × IsOpened D.meaning disk chest }
     requires own { length own.items ≡ length (chest_names chest) }
     requires stations { NODES_LIMIT ≤ length stations.old }
-    ensures serves { (disk : D) (script : List AnyLine) → own_view own.entry.items ≡ each_lines script (chest_names chest) → IsOpened D.meaning disk chest
+    ensures serves { (disk : D) (script : List AnyLine)
+        → own_view own.entry.items ≡ each_lines script (chest_names chest)
+        → IsOpened D.meaning disk chest
         → ServesAtOnce D.meaning Y.meaning disk (chest_names chest) script
         (outside (chest_disk chest) (O.taken sink.old) (map (side_of C.told) stations.old))
-        (outside result.disk (O.taken sink.new) (map (side_of C.told) stations.new)) result.turns.items (serving_end result.end) }
+        (outside result.disk (O.taken sink.new)
+        (map (side_of C.told) stations.new)) result.turns.items (serving_end result.end) }
     ensures sink { CountsSink (serving_end result.end) (O.faults sink.old) (O.faults sink.new) }
 {
     nodes_keep_their_names();
@@ -120,8 +123,10 @@ where
 fn tell<D: Disk, O: Sink>(made: MadeTurns<Chest<D>>, names: &[Name], sink: &mut O) -> Served<D>
     ensures disk { result.disk ≡ chest_disk made.manager }
     ensures turns { result.turns.items ≡ chest_turns made.manager }
-    ensures told { IsToldBy (worst_of (map text_left made.texts.items)) (O.taken sink.old) (O.taken sink.new) (O.faults sink.old) (O.faults sink.new)
-        (texts_printed (turns_line names.now (chest_turns made.manager)) (map text_left made.texts.items)) (chest_turns made.manager)
+    ensures told { IsToldBy (worst_of (map text_left made.texts.items)) (O.taken sink.old)
+        (O.taken sink.new) (O.faults sink.old) (O.faults sink.new)
+        (texts_printed (turns_line names.now (chest_turns made.manager))
+        (map text_left made.texts.items)) (chest_turns made.manager)
         (serving_end result.end) }
 {
     let MadeTurns { manager, texts } = made;

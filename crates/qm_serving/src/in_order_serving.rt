@@ -1,7 +1,6 @@
 // How the lines of a script are served by one thread, in their order.
 ghost use Rattle.std.specs.Prelude.{◌≡◌, ◌≤◌, length, map};
-ghost use Rattle.qm_chest.specs.At.{chest_disk, chest_names};
-ghost use Rattle.qm_chest.specs.At.{chest_turns};
+ghost use Rattle.qm_chest.specs.At.{chest_disk, chest_names, chest_turns};
 ghost use Rattle.qm_chest.specs.Opening.{IsFresh, IsOpened, IsScriptOf};
 ghost use Rattle.qm_cluster.specs.Ends.{CountsSink, serving_end};
 ghost use Rattle.qm_cluster.specs.Fresh.{each_lines, own_view};
@@ -40,7 +39,8 @@ pub fn serve_by_one<'a, O: Sink, D: Disk, C: Clock, Y: Symbiont>(
     ensures serves { (disk : D) → IsOpened D.meaning disk chest
         → Serves D.meaning Y.meaning disk (chest_names chest) (user_lines_view lines.now)
         (outside (chest_disk chest) (O.taken sink.old) (map (side_of C.told) stations.old))
-        (outside result.disk (O.taken sink.new) (map (side_of C.told) stations.new)) result.turns.items (serving_end result.end) }
+        (outside result.disk (O.taken sink.new)
+        (map (side_of C.told) stations.new)) result.turns.items (serving_end result.end) }
     ensures sink { CountsSink (serving_end result.end) (O.faults sink.old) (O.faults sink.new) }
 {
     let mut manager = Directly::new(chest);
@@ -62,7 +62,8 @@ fn serve_nodes<'a, O: Sink, D: Disk, C: Clock, Y: Symbiont>(
     ensures serves { (disk : D) → IsOpened D.meaning disk manager.old
         → Serves D.meaning Y.meaning disk (chest_names manager.old) (user_lines_view lines.now)
         (outside (chest_disk manager.old) (O.taken sink.old) (map (side_of C.told) stations.old))
-        (outside (chest_disk manager.new) (O.taken sink.new) (map (side_of C.told) stations.new)) (chest_turns manager.new) (serving_end result) }
+        (outside (chest_disk manager.new) (O.taken sink.new) (map (side_of C.told) stations.new))
+        (chest_turns manager.new) (serving_end result) }
     ensures sink { CountsSink (serving_end result) (O.faults sink.old) (O.faults sink.new) }
 {
     calls_are_noted::<D>();
@@ -83,12 +84,14 @@ fn serve_own<'a, O: Sink, D: Disk, C: Clock, Y: Symbiont>(
 ) -> ServeEnd
     requires fresh { IsFresh D.meaning manager.old }
     requires script { IsScriptOf (chest_names manager.old) (user_lines_view lines.now) }
-    requires own { own_view own.items ≡ each_lines (user_lines_view lines.now) (chest_names manager.old) }
+    requires own { own_view own.items
+        ≡ each_lines (user_lines_view lines.now) (chest_names manager.old) }
     requires stations { NODES_LIMIT ≤ length stations.old }
     ensures serves { (disk : D) → IsOpened D.meaning disk manager.old
         → Serves D.meaning Y.meaning disk (chest_names manager.old) (user_lines_view lines.now)
         (outside (chest_disk manager.old) (O.taken sink.old) (map (side_of C.told) stations.old))
-        (outside (chest_disk manager.new) (O.taken sink.new) (map (side_of C.told) stations.new)) (chest_turns manager.new) (serving_end result) }
+        (outside (chest_disk manager.new) (O.taken sink.new) (map (side_of C.told) stations.new))
+        (chest_turns manager.new) (serving_end result) }
     ensures sink { CountsSink (serving_end result) (O.faults sink.old) (O.faults sink.new) }
 {
     calls_are_noted::<D>();

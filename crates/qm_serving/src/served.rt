@@ -1,7 +1,6 @@
 // What the serving of a script leaves.
 ghost use Rattle.std.specs.Prelude.{◌≡◌};
-ghost use Rattle.qm_chest.specs.At.{chest_disk};
-ghost use Rattle.qm_chest.specs.At.{chest_turns};
+ghost use Rattle.qm_chest.specs.At.{chest_disk, chest_turns};
 
 use qm_chest::Chest;
 use qm_cluster::ServeEnd;

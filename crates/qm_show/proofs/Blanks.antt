@@ -1,7 +1,6 @@
 -- The blanks of columns, and the columns of an entry.
-use Rattle.std.proofs.Common.{◌≡◌, ◌≤◌, ◌-◌, ◌++◌, ◌∙◌, ap, ℕ, List, replicate, codes, arith, append_assoc}
+use Rattle.std.proofs.Common.{◌≡◌, ◌≤◌, ◌-◌, ◌++◌, ◌∙◌, ap, ℕ, List, replicate, codes, arith, append_assoc, slice_range}
 use Rattle.std.proofs.lemmas.List.{take-replicate}
-use Rattle.std.specs.List.{slice_range}
 use Rattle.qm_kinds.specs.declared.entry.Entry.{Entry}
 use Rattle.qm_kinds.specs.declared.entry.EntryState.{EntryState}
 use Rattle.qm_model.specs.Words.{entry_text, status_text}

@@ -71,7 +71,8 @@ pub(crate) fn push_line<T: fmt::Display + Drop>(
     front: &str,
     text: T,
 ) -> Result<(), AllocError>
-    ensures { OnOk result (IfSome (T.output text) (λ bytes. out.new.items ≡ out.old.items ++ behind front.now (bytes ∷ []))) }
+    ensures { OnOk result (IfSome (T.output text) (λ bytes.
+        out.new.items ≡ out.old.items ++ behind front.now (bytes ∷ []))) }
 {
     out.extend_from_slice(front.as_bytes())?;
     let Ok(()) = out.write_fmt(text) else {
@@ -104,14 +105,16 @@ fn count_text(word: &str, count: usize) -> ArrayString<32>
 
 /// Appends how many runs a node was shown.
 pub(crate) fn push_runs(out: &mut Vec<u8>, front: &str, count: usize) -> Result<(), AllocError>
-    ensures { OnOk result (out.new.items ≡ out.old.items ++ behind front.now (runs_line count ∷ [])) }
+    ensures { OnOk result (out.new.items
+        ≡ out.old.items ++ behind front.now (runs_line count ∷ [])) }
 {
     push_text(out, front, count_text("runs: ", count).as_str())
 }
 
 /// Appends the first line of a reply. The value of a mark may be any bytes.
 pub(crate) fn push_act(out: &mut Vec<u8>, front: &str, act: &Act) -> Result<(), AllocError>
-    ensures { OnOk result (out.new.items ≡ out.old.items ++ behind front.now (act_text act.now ∷ [])) }
+    ensures { OnOk result (out.new.items
+        ≡ out.old.items ++ behind front.now (act_text act.now ∷ [])) }
 {
     out.extend_from_slice(front.as_bytes())?;
     let Ok(()) = out.write_fmt(ActWords(act)) else {
@@ -128,7 +131,8 @@ pub(crate) fn push_starts(
     front: &str,
     starts: &[Start],
 ) -> Result<(), AllocError>
-    ensures { OnOk result (out.new.items ≡ out.old.items ++ behind front.now (map start_text starts.now)) }
+    ensures { OnOk result (out.new.items
+        ≡ out.old.items ++ behind front.now (map start_text starts.now)) }
 {
     for start in starts {
         push_line(out, front, StartText(start))?;
@@ -141,7 +145,8 @@ const MOST_OF_ROW: usize = 80;
 
 // Appends the lines of rows.
 fn push_row_texts(out: &mut Vec<u8>, front: &str, rows: &[Row]) -> Result<(), AllocError>
-    ensures { OnOk result (out.new.items ≡ out.old.items ++ behind front.now (map row_text rows.now)) }
+    ensures { OnOk result (out.new.items
+        ≡ out.old.items ++ behind front.now (map row_text rows.now)) }
 {
     for row in rows {
         push_line(out, front, RowText(row))?;

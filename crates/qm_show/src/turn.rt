@@ -1,6 +1,5 @@
 // The lines of a transcript that tell of a turn: one call for whatever a call of a node is answered.
-ghost use Rattle.std.specs.Prelude.{◌≡◌, ◌++◌, ◌∷◌, [], map, Some, IfOk, OnOk};
-ghost use Rattle.std.specs.Option.{option_copied};
+ghost use Rattle.std.specs.Prelude.{◌≡◌, ◌++◌, ◌∷◌, [], map, Some, IfOk, OnOk, option_copied};
 ghost use Rattle.qm_model.specs.Words.{act_text, refusal_line, start_text};
 ghost use Rattle.qm_model.specs.Transcript.{journal_line, runs_line};
 ghost use Rattle.qm_sjc.specs.Printed.{items_line};
@@ -92,7 +91,8 @@ fn push_kept(out: &mut Vec<u8>, front: &str, kept: Option<bool>) -> Result<(), A
 
 // Appends the lines of a takeover.
 fn push_takeover(out: &mut Vec<u8>, front: &str, took: Option<&Takeover>) -> Result<(), AllocError>
-    ensures { OnOk result (out.new.items ≡ out.old.items ++ behind front.now (takeover_lines (option_copied took.entry))) }
+    ensures { OnOk result (out.new.items
+        ≡ out.old.items ++ behind front.now (takeover_lines (option_copied took.entry))) }
 {
     let Some(took) = took else {
         return Ok(());
@@ -103,7 +103,8 @@ fn push_takeover(out: &mut Vec<u8>, front: &str, took: Option<&Takeover>) -> Res
 
 // Appends what was done, where the turn tells of it.
 fn push_first_act(out: &mut Vec<u8>, front: &str, why: Why, act: &Act) -> Result<(), AllocError>
-    ensures { OnOk result (out.new.items ≡ out.old.items ++ behind front.now (if_printed (first_line_of why) (act_text act.now))) }
+    ensures { OnOk result (out.new.items
+        ≡ out.old.items ++ behind front.now (if_printed (first_line_of why) (act_text act.now))) }
 {
     match why {
         Why::Line(_) | Why::Report => push_act(out, front, act),
@@ -114,7 +115,8 @@ fn push_first_act(out: &mut Vec<u8>, front: &str, why: Why, act: &Act) -> Result
 // Appends what was done, where the turn tells of it, and the jobs that were started.
 fn push_reply(out: &mut Vec<u8>, front: &str, why: Why, reply: &Reply) -> Result<(), AllocError>
     ensures { OnOk result (out.new.items ≡ out.old.items ++ behind front.now
-        (if_printed (first_line_of why) (act_text reply.now.act) ++ map start_text reply.now.started)) }
+        (if_printed (first_line_of why) (act_text reply.now.act)
+        ++ map start_text reply.now.started)) }
 {
     push_first_act(out, front, why, &reply.act)?;
     push_starts(out, front, reply.started.as_slice())
@@ -122,7 +124,8 @@ fn push_reply(out: &mut Vec<u8>, front: &str, why: Why, reply: &Reply) -> Result
 
 // Appends how many runs the node was shown, where the turn tells of it.
 fn push_duties(out: &mut Vec<u8>, front: &str, why: Why, count: usize) -> Result<(), AllocError>
-    ensures { OnOk result (out.new.items ≡ out.old.items ++ behind front.now (if_printed (first_line_of why) (runs_line count))) }
+    ensures { OnOk result (out.new.items
+        ≡ out.old.items ++ behind front.now (if_printed (first_line_of why) (runs_line count))) }
 {
     match why {
         Why::Line(_) | Why::Report => push_runs(out, front, count),
@@ -137,7 +140,8 @@ fn push_part_items(
     front: &str,
     rows: &[Row],
 ) -> Result<(), AllocError>
-    ensures { OnOk result (out.new.items ≡ out.old.items ++ behind front.now (map items_line rows.now)) }
+    ensures { OnOk result (out.new.items
+        ≡ out.old.items ++ behind front.now (map items_line rows.now)) }
 {
     for row in rows {
         let line = row_line(alloc, row)?;
@@ -148,7 +152,8 @@ fn push_part_items(
 
 // Appends the items of each row.
 fn push_items(alloc: Global, out: &mut Vec<u8>, front: &str, rows: &Rows) -> Result<(), AllocError>
-    ensures { OnOk result (out.new.items ≡ out.old.items ++ behind front.now (map items_line rows.now)) }
+    ensures { OnOk result (out.new.items
+        ≡ out.old.items ++ behind front.now (map items_line rows.now)) }
 {
     for part in rows.parts() {
         push_part_items(alloc, out, front, part.as_slice())?;
@@ -164,7 +169,8 @@ fn push_shown(
     single: bool,
     rows: &Rows,
 ) -> Result<(), AllocError>
-    ensures { OnOk result (out.new.items ≡ out.old.items ++ behind front.now (shown_lines items_line single rows.now)) }
+    ensures { OnOk result (out.new.items
+        ≡ out.old.items ++ behind front.now (shown_lines items_line single rows.now)) }
 {
     if single && rows.first().is_some() {
         push_items(alloc, out, front, rows)
@@ -175,7 +181,8 @@ fn push_shown(
 
 // Appends the line of a refusal.
 fn push_refusal(out: &mut Vec<u8>, front: &str, refusal: &Refusal) -> Result<(), AllocError>
-    ensures { OnOk result (out.new.items ≡ out.old.items ++ behind front.now (refusal_line refusal.now ∷ [])) }
+    ensures { OnOk result (out.new.items
+        ≡ out.old.items ++ behind front.now (refusal_line refusal.now ∷ [])) }
 {
     push_line(out, front, format_args!("%QMAN-E-{}", RefusalText(refusal)))
 }
@@ -189,7 +196,8 @@ fn push_journal(out: &mut Vec<u8>, front: &str) -> Result<(), AllocError>
 
 // Appends the line of a node that may not be queue manager.
 fn push_no_manager(out: &mut Vec<u8>, front: &str, node: &Name) -> Result<(), AllocError>
-    ensures { OnOk result (out.new.items ≡ out.old.items ++ behind front.now (no_manager_line node.now ∷ [])) }
+    ensures { OnOk result (out.new.items
+        ≡ out.old.items ++ behind front.now (no_manager_line node.now ∷ [])) }
 {
     push_line(out, front, format_args!("%QMAN-E-NOMANAGER, {node}"))
 }
@@ -203,7 +211,8 @@ fn push_answer(
     single: bool,
     answer: &Answer,
 ) -> Result<(), AllocError>
-    ensures { OnOk result (out.new.items ≡ out.old.items ++ behind front.now (answer_lines items_line (first_line_of why) single answer.now)) }
+    ensures { OnOk result (out.new.items ≡ out.old.items
+        ++ behind front.now (answer_lines items_line (first_line_of why) single answer.now)) }
 {
     match answer {
         Answer::Done { reply, .. } => push_reply(out, front, why, reply),

@@ -1,15 +1,9 @@
 -- What calls ask for, on worked lists of items.
 use Rattle.std.proofs.Common.{◌≡◌, ℕ, List, [], ◌∷◌, false, None, Some, Result, Ok, Err, codes, refl}
 use Rattle.qm_kinds.specs.declared.entry.JobKind.TheVariants.{Batch}
-use Rattle.qm_kinds.specs.declared.entry.JobRetain.TheVariants.{Default}
-use Rattle.qm_kinds.specs.declared.input.Input.{Input}
-use Rattle.qm_kinds.specs.declared.input.Input.TheVariants.{Ask, Show}
-use Rattle.qm_kinds.specs.declared.query.Listing.TheVariants.{Queues}
-use Rattle.qm_kinds.specs.declared.refusal.ParseKind.{ParseKind}
+use Rattle.qm_model.specs.Common.{Default, Input, Ask, Show, Queues, ParseKind, Submit, DeleteEntry, StopQueue, SetEntry, Pause}
 use Rattle.qm_kinds.specs.declared.refusal.ParseKind.TheVariants as fault
-use Rattle.qm_kinds.specs.declared.request.Request.TheVariants.{Submit, DeleteEntry, StopQueue, SetEntry}
-use Rattle.qm_kinds.specs.declared.request.StopMode.TheVariants.{Pause}
-use Rattle.qm_item.specs.declared.item.Item.{Item}
+use Rattle.qm_values.specs.declared.items.item.Item.{Item}
 use Rattle.qm_sjc.specs.declared.fault.Fault.{Fault}
 use Rattle.qm_values.specs.Asked.{query_of}
 use Rattle.qm_sjc.specs.Calls.{call_of}

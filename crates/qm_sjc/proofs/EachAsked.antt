@@ -1,32 +1,14 @@
 -- What holds of each request that item lists can make, and of listings and faults, holds of all that they ask for.
-use Rattle.std.proofs.Common.{◌≡◌, ◌<◌, ◌≤◌, ◌+◌, ◌^◌, lit<, ℕ, length, Bool, true, false, cond, ◌==◌, ◌&&◌, List, [], ◌∷◌, ◌++◌, Option, None, Some, Result, Ok, Err, refl, sym, ◌∙◌, ap, subst, IfSome, arith}
-use Rattle.std.specs.Prelude.{nat_le, filter_map, ok_or, option_map, option_and_then, unwrap_or}
+use Rattle.std.proofs.Common.{◌≡◌, ◌<◌, ◌≤◌, ◌+◌, ◌^◌, lit<, ℕ, length, Bool, true, false, cond, ◌==◌, ◌&&◌, List, [], ◌∷◌, ◌++◌, Option, None, Some, Result, Ok, Err, refl, sym, ◌∙◌, ap, subst, IfSome, arith, nat_le, filter_map, ok_or, option_map, option_and_then, unwrap_or, append_assoc, append-nil}
 use Rattle.std.specs.List.{cons_option, list_any}
 use Rattle.std.specs.Option.{option_map_or, option_or}
 use Rattle.std.proofs.lemmas.Bool.Decides.{nat_tests}
-use Rattle.std.proofs.lemmas.List.{append_assoc, append-nil}
 use Rattle.std.proofs.lemmas.List.Sums.{sum_by-append}
-use Rattle.qm_kinds.specs.Files.{file_name_of, name_of}
-use Rattle.qm_kinds.specs.declared.entry.JobKind.{JobKind}
-use Rattle.qm_kinds.specs.declared.file.FileName.{FileName}
-use Rattle.qm_kinds.specs.declared.form.Characteristic.{Characteristic}
-use Rattle.qm_kinds.specs.declared.form.Form.{Form}
-use Rattle.qm_kinds.specs.declared.input.Input.{Input}
+use Rattle.qm_model.specs.Common.{file_name_of, name_of, JobKind, FileName, Characteristic, Form, Input, Query, NewQueue, QueueChange, QueueKind, ParseKind, EntryChange, Job, NameOrNumber, Request, StopMode, is_built, is_definable, is_short}
 use Rattle.qm_kinds.specs.declared.input.Input.TheVariants.{Ask, Show, Fault as AFault}
-use Rattle.qm_kinds.specs.declared.query.Query.{Query}
-use Rattle.qm_kinds.specs.declared.queue.NewQueue.{NewQueue}
-use Rattle.qm_kinds.specs.declared.queue.QueueChange.{QueueChange}
-use Rattle.qm_kinds.specs.declared.queue.QueueKind.{QueueKind}
-use Rattle.qm_kinds.specs.declared.refusal.ParseKind.{ParseKind}
 use Rattle.qm_kinds.specs.declared.refusal.ParseKind.TheVariants as parse
-use Rattle.qm_kinds.specs.declared.request.EntryChange.{EntryChange}
-use Rattle.qm_kinds.specs.declared.request.Job.{Job}
-use Rattle.qm_kinds.specs.declared.request.NameOrNumber.{NameOrNumber}
-use Rattle.qm_kinds.specs.declared.request.Request.{Request}
 use Rattle.qm_kinds.specs.declared.request.Request.TheVariants as request
-use Rattle.qm_kinds.specs.declared.request.StopMode.{StopMode}
-use Rattle.qm_item.specs.declared.item.Item.{Item}
-use Rattle.qm_model.specs.Built.{is_built, is_definable, is_short}
+use Rattle.qm_values.specs.declared.items.item.Item.{Item}
 use Rattle.qm_values.specs.declared.codes.TheConstants.{CHARACTERISTIC, DEVICE, FILE, KIND, LINES, NAME, NUMBER, QUEUE, STOCK, TARGET, TO_QUEUE}
 use Rattle.qm_sjc.specs.declared.fault.Fault.{Fault}
 use Rattle.qm_values.specs.declared.holds.Holds.{Holds}

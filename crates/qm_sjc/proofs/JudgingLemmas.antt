@@ -1,13 +1,12 @@
 -- One item more of a call, which isn't at fault.
-use Rattle.std.proofs.Common.{◌≡◌, ℕ, ◌+◌, ◌^◌, ◌<◌, ◌≤◌, ◌==◌, Bool, true, false, cond, List, [], ◌∷◌, ◌++◌, length, get_or, take, drop, append_assoc, Option, None, refl, sym, ap, ◌∙◌, arith}
-use Rattle.std.specs.Prelude.{option_map}
+use Rattle.std.proofs.Common.{◌≡◌, ℕ, ◌+◌, ◌^◌, ◌<◌, ◌≤◌, ◌==◌, Bool, true, false, cond, List, [], ◌∷◌, ◌++◌, length, get_or, take, drop, append_assoc, Option, None, refl, sym, ap, ◌∙◌, arith, option_map}
 use Rattle.std.specs.Option.{option_or}
 use Rattle.std.proofs.lemmas.List.{length-append, take-append-drop, take_more, drop_more}
 use Rattle.std.proofs.lemmas.List.Sums.{count_by_more_yes, count_by_more_no}
 use Rattle.qm_kinds.specs.declared.refusal.ParseKind.{ParseKind}
-use Rattle.qm_item.specs.declared.item.Item.{Item}
-use Rattle.qm_item.specs.Text.{item_text, text}
-use Rattle.qm_item.proofs.Texts.{length-item_text, text_more}
+use Rattle.qm_values.specs.declared.items.item.Item.{Item}
+use Rattle.qm_values.specs.ItemText.{item_text, text}
+use Rattle.qm_values.proofs.ItemTexts.{length-item_text, text_more}
 use Rattle.qm_sjc.specs.declared.fault.Fault.{Fault}
 use Rattle.qm_values.specs.declared.function.Function.{Function}
 use Rattle.qm_sjc.specs.Judging.{field_in, count_in, kind_of, fault_behind}

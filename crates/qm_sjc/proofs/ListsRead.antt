@@ -1,20 +1,18 @@
 -- Bytes are read as the list that they are, and else their fault is told.
-use Rattle.std.proofs.Common.{◌≡◌, ℕ, zero, suc, ◌+◌, ◌^◌, ◌<◌, ◌≤◌, ◌==◌, Bool, true, false, List, [], ◌∷◌, ◌++◌, length, take, drop, Option, None, Some, Result, Ok, Err, All, refl, sym, ◌∙◌, ap, subst, arith, length-append, append_assoc}
-use Rattle.std.specs.Prelude.{nat_lt}
+use Rattle.std.proofs.Common.{◌≡◌, ℕ, zero, suc, ◌+◌, ◌^◌, ◌<◌, ◌≤◌, ◌==◌, Bool, true, false, List, [], ◌∷◌, ◌++◌, length, take, drop, Option, None, Some, Result, Ok, Err, All, refl, sym, ◌∙◌, ap, subst, arith, length-append, append_assoc, nat_lt, take_at, drop_at}
 use Rattle.std.specs.Int.{w16, from_le_bytes}
 use Rattle.std.specs.List.{AllByRecursion}
 use Rattle.std.proofs.lemmas.Bool.Decides.{nat_tests}
-use Rattle.std.proofs.lemmas.List.{take_at, drop_at}
 use Rattle.std.proofs.lemmas.List.Elements.{recursion_from_All}
 use Rattle.std.proofs.lemmas.Slice.Eq.{bytes_eq-Decides}
 use Rattle.qm_kinds.specs.declared.input.Input.TheVariants as input
 use Rattle.qm_kinds.specs.declared.refusal.ParseKind.TheVariants as parse
-use Rattle.qm_item.specs.declared.fault.ItemFault.{ItemFault}
-use Rattle.qm_item.specs.declared.fault.ItemFault.TheVariants.{Cut, NoEnd, After, NoMemory}
-use Rattle.qm_item.specs.declared.item.Item.{Item}
-use Rattle.qm_item.specs.Faults.{IsCut, GoesOn, StandsAt, IsFault}
-use Rattle.qm_item.specs.Text.{item_text, text, list_end, list_text, CanStand}
-use Rattle.qm_item.proofs.Texts.{length-item_text, count_at, code_at, behind_head, none_behind}
+use Rattle.qm_values.specs.declared.items.fault.ItemFault.{ItemFault}
+use Rattle.qm_values.specs.declared.items.fault.ItemFault.TheVariants.{Cut, NoEnd, After, NoMemory}
+use Rattle.qm_values.specs.declared.items.item.Item.{Item}
+use Rattle.qm_values.specs.ItemFaults.{IsCut, GoesOn, StandsAt, IsFault}
+use Rattle.qm_values.specs.ItemText.{item_text, text, list_end, list_text, CanStand}
+use Rattle.qm_values.proofs.ItemTexts.{length-item_text, count_at, code_at, behind_head, none_behind}
 use Rattle.qm_sjc.specs.declared.fault.Fault.{Fault}
 use Rattle.qm_sjc.specs.Calls.{call_of}
 use Rattle.qm_sjc.specs.Meant.{behind_item, count_here, is_cut, is_end, item_here, items_from, items_mean, items_read, list_fault, one_item, or_fault}

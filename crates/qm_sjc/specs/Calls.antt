@@ -1,9 +1,8 @@
 -- What the call of a function asks for, or what is wrong with it and where.
 use Rattle.std.specs.Prelude.{◌≡◌, ℕ, List, Option, None, Some, Result, Err, ok_or}
-use Rattle.qm_kinds.specs.declared.input.Input.{Input}
-use Rattle.qm_kinds.specs.declared.refusal.ParseKind.{ParseKind}
+use Rattle.qm_model.specs.Common.{Input, ParseKind}
 use Rattle.qm_kinds.specs.declared.refusal.ParseKind.TheVariants.{Form, Missing}
-use Rattle.qm_item.specs.declared.item.Item.{Item}
+use Rattle.qm_values.specs.declared.items.item.Item.{Item}
 use Rattle.qm_sjc.specs.declared.fault.CallFault.{CallFault}
 use Rattle.qm_sjc.specs.declared.fault.CallFault.TheVariants.{At, NoMemory}
 use Rattle.qm_sjc.specs.declared.fault.Fault.{Fault}

@@ -5,8 +5,8 @@ use Rattle.std.specs.List.{list_any}
 use Rattle.std.specs.Option.{option_or}
 use Rattle.qm_kinds.specs.declared.refusal.ParseKind.{ParseKind}
 use Rattle.qm_kinds.specs.declared.refusal.ParseKind.TheVariants.{Code, Value, Repeated}
-use Rattle.qm_item.specs.declared.item.Item.{Item}
-use Rattle.qm_item.specs.Text.{text}
+use Rattle.qm_values.specs.declared.items.item.Item.{Item}
+use Rattle.qm_values.specs.ItemText.{text}
 use Rattle.qm_values.specs.declared.codes.TheConstants.{CHARACTERISTIC, TARGET}
 use Rattle.qm_sjc.specs.declared.fault.Fault.{Fault}
 use Rattle.qm_values.specs.declared.holds.Holds.{Holds}

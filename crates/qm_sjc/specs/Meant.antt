@@ -1,15 +1,14 @@
 -- What the bytes of an item list ask for, in the call of a function.
 -- OpenVMS System Services Reference Manual, $SNDJBC and $GETQUI, on item lists.
-use Rattle.std.specs.Prelude.{ℕ, zero, suc, ◌+◌, ◌==◌, nat_lt, Bool, if◌then◌else◌, List, [], ◌∷◌, length, take, drop, Option, None, Some, Result, Ok, Err}
+use Rattle.std.specs.Prelude.{ℕ, zero, suc, ◌+◌, ◌==◌, nat_lt, Bool, if◌then◌else◌, List, [], ◌∷◌, length, take, drop, Option, None, Some, Result, Ok, Err, bytes_eq}
 use Rattle.std.specs.Int.{w16, from_le_bytes}
-use Rattle.std.specs.Str.{bytes_eq}
 use Rattle.qm_kinds.specs.declared.input.Input.{Input}
 use Rattle.qm_kinds.specs.declared.input.Input.TheVariants as input
 use Rattle.qm_kinds.specs.declared.refusal.ParseKind.TheVariants as parse
-use Rattle.qm_item.specs.declared.fault.ItemFault.{ItemFault}
-use Rattle.qm_item.specs.declared.fault.ItemFault.TheVariants as wrong
-use Rattle.qm_item.specs.declared.item.Item.{Item}
-use Rattle.qm_item.specs.Text.{list_end}
+use Rattle.qm_values.specs.declared.items.fault.ItemFault.{ItemFault}
+use Rattle.qm_values.specs.declared.items.fault.ItemFault.TheVariants as wrong
+use Rattle.qm_values.specs.declared.items.item.Item.{Item}
+use Rattle.qm_values.specs.ItemText.{list_end}
 use Rattle.qm_sjc.specs.declared.fault.Fault.{Fault}
 use Rattle.qm_sjc.specs.Calls.{call_of}
 

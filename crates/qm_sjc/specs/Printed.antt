@@ -3,7 +3,7 @@
 use Rattle.std.specs.Prelude.{ℕ, List}
 use Rattle.hex.specs.Hex.{encode_lower}
 use Rattle.qm_kinds.specs.declared.query.Row.{Row}
-use Rattle.qm_item.specs.Text.{list_text}
+use Rattle.qm_values.specs.ItemText.{list_text}
 use Rattle.qm_sjc.specs.Rows.{items_of}
 
 -- the list of a row's items, two digits a byte, with small letters

@@ -2,16 +2,11 @@
 -- OpenVMS System Services Reference Manual, $GETQUI, on output items. This site's own: which items a row has.
 use Rattle.std.specs.Prelude.{ℕ, List, [], ◌∷◌}
 use Rattle.std.specs.Int.{w16, w32, w64, to_le_bytes}
-use Rattle.qm_item.specs.declared.item.Item.{Item}
-use Rattle.qm_kinds.specs.declared.entry.EntryState.{EntryState}
-use Rattle.qm_kinds.specs.declared.entry.EntryState.TheVariants.{Pending, Holding, Timed, Running, Aborting, Retained}
-use Rattle.qm_kinds.specs.declared.query.Row.{Row}
+use Rattle.qm_values.specs.declared.items.item.Item.{Item}
+use Rattle.qm_model.specs.Common.{EntryState, Pending, Holding, Timed, Running, Aborting, Retained, Row, QueueKind, QueueState, stands_in}
 use Rattle.qm_kinds.specs.declared.query.Row.TheVariants as row
-use Rattle.qm_kinds.specs.declared.queue.QueueKind.{QueueKind}
 use Rattle.qm_kinds.specs.declared.queue.QueueKind.TheVariants as kind
-use Rattle.qm_kinds.specs.declared.queue.QueueState.{QueueState}
 use Rattle.qm_kinds.specs.declared.queue.QueueState.TheVariants as state
-use Rattle.qm_model.specs.Standing.{stands_in}
 use Rattle.qm_values.specs.declared.codes.TheConstants.{QUEUE, JOB_NAME, PRIORITY, KIND, NODE, ENTRY, NAME, NUMBER, STOCK, STATE, EPOCH}
 
 abbrev pub item : ℕ → List ℕ → Item

@@ -1,18 +1,14 @@
 // Calls: what a function asks for with its items.
 ghost use Rattle.std.specs.Prelude.{◌≡◌, ◌<◌, ◌^◌, Ok, IfOk, IfErr, length, option_map};
-ghost use Rattle.qm_item.specs.Text.{text};
+ghost use Rattle.qm_values.specs.ItemText.{text};
 ghost use Rattle.qm_values.specs.Asked.{request_of, asked};
 ghost use Rattle.qm_sjc.specs.Calls.{call_of, Explains};
 
 use crate::fault::{CallFault, Fault};
 use crate::jobs::submit_of;
 use crate::judging::first_fault;
-use qm_item::Item;
 use qm_kinds::{Input, Listing, Name, ParseKind, Request, RequestKind};
-use qm_values::{
-    Function, Lists, append_of, function_of, initialize_of, listless_of, lists_in, query_of,
-    set_entry, set_queue, start_queue,
-};
+use qm_values::{Function, Item, Lists, change_asked, function_of, lists_in, query_of};
 use std::alloc::{AllocError, Global};
 
 // What a function changes, where nothing that it needs is missing.
@@ -27,13 +23,8 @@ fn request_of(
     ensures { result ≡ request_of user function items.now lists }
 {
     match function {
-        Function::Request(RequestKind::Append) => append_of(items, lists.bytes),
-        Function::Request(RequestKind::InitializeQueue) => initialize_of(items, lists),
-        Function::Request(RequestKind::SetQueue) => set_queue(items, lists),
-        Function::Request(RequestKind::StartQueue) => start_queue(items, lists),
         Function::Request(RequestKind::Submit) => submit_of(alloc, user, items, lists),
-        Function::Request(RequestKind::SetEntry) => set_entry(items, lists),
-        _ => listless_of(function, items),
+        _ => change_asked(function, items, lists),
     }
 }
 

@@ -2,12 +2,11 @@
 ghost use Rattle.std.specs.Prelude.{◌≡◌};
 ghost use Rattle.qm_values.specs.Asked.{read_in, default_queue, default_restart, job_of, submit_of};
 
-use qm_item::Item;
 use qm_kinds::{FileName, Job, JobKind, JobRetain, Name, Request, Seq, batch_queue, print_queue};
 use qm_values::codes::*;
 use qm_values::{
-    Lists, after_in, byte_in, file_in, is_given, job_kind_in, job_retain_in, name_in, reference_in,
-    short_name_in, truth_in,
+    Item, Lists, after_in, byte_in, file_in, is_given, job_kind_in, job_retain_in, name_in,
+    reference_in, short_name_in, truth_in,
 };
 use std::alloc::Global;
 

@@ -1,15 +1,14 @@
 // What is wrong with an item of a call.
 ghost use Rattle.std.specs.Prelude.{◌≡◌, ◌==◌, ◌+◌, ◌<◌, ◌^◌, if◌then◌else◌, find, length};
 ghost use Rattle.std.specs.List.{list_any};
-ghost use Rattle.qm_item.specs.Text.{text};
+ghost use Rattle.qm_values.specs.ItemText.{text};
 ghost use Rattle.qm_sjc.specs.Judging.{field_in, count_in, is_spent, is_empty_beside, kind_of, first_fault};
 
 use crate::fault::Fault;
 use crate::fields::{Field, fields_of};
-use qm_item::Item;
 use qm_kinds::ParseKind;
 use qm_values::codes::{CHARACTERISTIC, TARGET};
-use qm_values::{Function, Holds, is_held};
+use qm_values::{Function, Holds, Item, is_held};
 
 // How many items there are of the codes that may come again.
 #[derive(Clone, Copy)]
@@ -103,8 +102,10 @@ fn kind_of(
 fn counted(repeats: Repeats, item: &Item) -> Repeats
     requires characteristics { repeats.characteristics < 2 ^ 63 }
     requires targets { repeats.targets < 2 ^ 63 }
-    ensures characteristics { result.characteristics ≡ repeats.characteristics + (if item.now.code == CHARACTERISTIC then 1 else 0) }
-    ensures targets { result.targets ≡ repeats.targets + (if item.now.code == TARGET then 1 else 0) }
+    ensures characteristics { result.characteristics
+        ≡ repeats.characteristics + (if item.now.code == CHARACTERISTIC then 1 else 0) }
+    ensures targets { result.targets
+        ≡ repeats.targets + (if item.now.code == TARGET then 1 else 0) }
 {
     Repeats {
         characteristics: repeats.characteristics + usize::from(item.code == CHARACTERISTIC),

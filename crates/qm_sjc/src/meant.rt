@@ -1,23 +1,25 @@
 // Item lists as bytes: what a function asks for with the items of which they are a list.
 ghost use Rattle.std.specs.Prelude.{◌≡◌, ◌<◌, ◌^◌, ℕ, List, All, Ok, Err, Some, IfOk, length};
-ghost use Rattle.qm_item.specs.declared.fault.ItemFault.{ItemFault as AnyFault};
-ghost use Rattle.qm_item.specs.declared.item.Item.{Item as AnyItem};
-ghost use Rattle.qm_item.specs.Faults.{IsFault};
-ghost use Rattle.qm_item.specs.Text.{list_text, text, CanStand};
+ghost use Rattle.qm_values.specs.declared.items.fault.ItemFault.{ItemFault as AnyFault};
+ghost use Rattle.qm_values.specs.declared.items.item.Item.{Item as AnyItem};
+ghost use Rattle.qm_values.specs.ItemFaults.{IsFault};
+ghost use Rattle.qm_values.specs.ItemText.{list_text, text, CanStand};
 ghost use Rattle.qm_sjc.specs.declared.fault.Fault.{Fault as AnyCallFault};
 ghost use Rattle.qm_sjc.specs.Calls.{call_of};
 ghost use Rattle.qm_sjc.specs.Meant.{items_mean, items_read, list_fault, or_fault};
 
 use crate::call::read_call;
 use crate::fault::{CallFault, Fault};
-use qm_item::{Item, ItemFault, read_items};
 use qm_kinds::{Input, Name, ParseKind};
+use qm_values::{Item, ItemFault, read_items};
 use std::alloc::{AllocError, Global};
 
 /// Bytes are read as the items of which they are a list, and others have their one fault.
 pub fn lists_are_read()
-    ensures items { (items : List AnyItem) → All CanStand items → items_read (list_text items) ≡ Ok items }
-    ensures fault { (bytes : List ℕ) (fault : AnyFault) (told : AnyCallFault) → IsFault bytes fault → list_fault fault ≡ Some told → items_read bytes ≡ Err told }
+    ensures items { (items : List AnyItem) → All CanStand items
+        → items_read (list_text items) ≡ Ok items }
+    ensures fault { (bytes : List ℕ) (fault : AnyFault) (told : AnyCallFault) → IsFault bytes fault
+        → list_fault fault ≡ Some told → items_read bytes ≡ Err told }
 {}
 
 // Why bytes are no list, as it is told.

@@ -1,11 +1,10 @@
 // How a row is printed for a call that asks for rows one by one.
-ghost use Rattle.std.specs.Prelude.{◌≡◌, IfOk};
-ghost use Rattle.std.specs.String.{string_bytes};
+ghost use Rattle.std.specs.Prelude.{◌≡◌, IfOk, string_bytes};
 ghost use Rattle.qm_sjc.specs.Printed.{items_line};
 
 use crate::rows::row_items;
-use qm_item::write_items;
 use qm_kinds::Row;
+use qm_values::write_items;
 use std::alloc::{AllocError, Global};
 
 /// The list of a row's items in hexadecimal, two digits a byte, with small letters.

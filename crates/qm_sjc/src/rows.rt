@@ -1,12 +1,12 @@
 // The items of a row.
 ghost use Rattle.std.specs.Prelude.{◌≡◌, ◌<◌, ◌^◌, ◌++◌, ◌∷◌, [], length, All, IfOk, OnOk};
 ghost use Rattle.std.specs.Int.{to_le_bytes, w64};
-ghost use Rattle.qm_item.specs.Text.{CanStand};
+ghost use Rattle.qm_values.specs.ItemText.{CanStand};
 ghost use Rattle.qm_model.specs.Standing.{stands_in};
 ghost use Rattle.qm_sjc.specs.Rows.{entry_state_code, item, items_of, queue_kind_code, queue_state_code};
 
-use qm_item::Item;
 use qm_kinds::{Entry, EntryState, Form, Name, Queue, QueueKind, QueueState, Row, Seq};
+use qm_values::Item;
 use qm_values::codes::*;
 use std::alloc::{AllocError, Global};
 
@@ -111,7 +111,8 @@ fn form_items(alloc: Global, form: &Form) -> Result<Vec<Item>, AllocError>
 
 // The items of a name and a number of eight bits, as a characteristic has them.
 fn characteristic_items(alloc: Global, name: &Name, number: u8) -> Result<Vec<Item>, AllocError>
-    ensures items { IfOk result (λ items. items.items ≡ items_of (Row.Characteristic (record { name = name.now; number = number }))) }
+    ensures items { IfOk result (λ items. items.items
+        ≡ items_of (Row.Characteristic (record { name = name.now; number = number }))) }
     ensures stand { IfOk result (λ items. All CanStand items.items) }
 {
     let mut items = Vec::with_capacity(alloc, 2)?;
@@ -122,7 +123,8 @@ fn characteristic_items(alloc: Global, name: &Name, number: u8) -> Result<Vec<It
 
 // The items of the queue manager: its node and its epoch.
 fn manager_items(alloc: Global, node: &Name, epoch: u64) -> Result<Vec<Item>, AllocError>
-    ensures items { IfOk result (λ items. items.items ≡ item NODE node.now ∷ item EPOCH (to_le_bytes w64 epoch) ∷ []) }
+    ensures items { IfOk result (λ items. items.items
+        ≡ item NODE node.now ∷ item EPOCH (to_le_bytes w64 epoch) ∷ []) }
     ensures stand { IfOk result (λ items. All CanStand items.items) }
 {
     let mut items = Vec::with_capacity(alloc, 2)?;

@@ -1,10 +1,9 @@
 -- What a text asks for has a spelling.
-use Rattle.std.proofs.Common.{◌≡◌, inr, ℕ, Bool, true, false, cond, ◌&&◌, ◌||◌, nat_lt, List, [], ◌∷◌, length, map, find, Option, None, Some, Result, Ok, Err, IfOk, IfSome, is_some, refl, sym, ap, ◌∙◌, subst, arith, Contains}
-use Rattle.std.specs.Prelude.{option_map, filter_map, ok_or}
+use Rattle.std.proofs.Common.{◌≡◌, inr, ℕ, Bool, true, false, cond, ◌&&◌, ◌||◌, nat_lt, List, [], ◌∷◌, length, map, find, Option, None, Some, Result, Ok, Err, IfOk, IfSome, is_some, refl, sym, ap, ◌∙◌, subst, arith, Contains, option_map, filter_map, ok_or}
 use Rattle.std.specs.List.{list_all}
 use Rattle.qm_kinds.specs.declared.input.Input.{Input}
-use Rattle.qm_lex.specs.declared.token.Token.{Token}
-use Rattle.qm_lex.specs.Tokens.{tokens_of}
+use Rattle.qm_commands.specs.declared.tokens.token.Token.{Token}
+use Rattle.qm_commands.specs.Tokens.{tokens_of}
 use Rattle.qm_commands.specs.declared.fault.Fault.{Fault}
 use Rattle.qm_grammar.specs.declared.part.Part.{Part}
 use Rattle.qm_grammar.specs.declared.part.Part.TheVariants.{Value}
@@ -16,14 +15,13 @@ use Rattle.qm_commands.specs.declared.table.Verb.{Verb}
 use Rattle.qm_commands.specs.declared.table.Verb.TheVariants as verbs
 use Rattle.qm_commands.specs.declared.word.Word.{Word}
 use Rattle.qm_commands.specs.declared.word.Word.TheVariants as words
-use Rattle.qm_names.specs.Conflicts.{counting_place, first_conflict}
+use Rattle.qm_names.specs.Conflicts.{counting_place, first_conflict, or_conflict}
 use Rattle.qm_grammar.specs.Finding.{verb_of, is_named, row_of, named_behind, named_command}
 use Rattle.qm_commands.specs.Naming.{names_for}
 use Rattle.qm_grammar.specs.Parsed.{tokens_in, tokens_by, parts_in, or_unreadable, command_in}
 use Rattle.qm_grammar.specs.Parts.{parts_from, parts_behind, parts_of}
 use Rattle.qm_grammar.specs.Places.{begun}
 use Rattle.qm_grammar.specs.Reading.{read_from, command_by, command_behind, command_of as read_command}
-use Rattle.qm_names.specs.Conflicts.{or_conflict}
 use Rattle.qm_commands.specs.Rules.{rules_of, exclusions_of}
 use Rattle.qm_commands.specs.Table.{rows_of}
 use Rattle.qm_commands.specs.Words.{spelling}

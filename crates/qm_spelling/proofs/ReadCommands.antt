@@ -1,22 +1,11 @@
 -- What a command asks for has a spelling, where all that is given can be said.
-use Rattle.std.proofs.Common.{◌≡◌, ℕ, Bool, true, false, cond, ◌&&◌, ◌||◌, ◌==◌, not, nat_lt, List, [], length, Option, None, Some, IfSome, is_some, unwrap_or, refl, sym, subst}
-use Rattle.std.specs.Prelude.{option_map, option_and_then}
+use Rattle.std.proofs.Common.{◌≡◌, ℕ, Bool, true, false, cond, ◌&&◌, ◌||◌, ◌==◌, not, nat_lt, List, [], length, Option, None, Some, IfSome, is_some, unwrap_or, refl, sym, subst, option_map, option_and_then}
 use Rattle.std.specs.List.{list_all}
 use Rattle.std.specs.Option.{option_map_or}
-use Rattle.qm_kinds.specs.declared.entry.JobKind.{JobKind}
+use Rattle.qm_model.specs.Common.{JobKind, FileName, Input, Ask, Show, NewQueue, QueueChange, EntryChange, Job, NameOrNumber, DefineForm, DeleteForm, DefineCharacteristic, DeleteCharacteristic, Submit, SetEntry, DeleteEntry, Merge, is_short, is_definable}
 use Rattle.qm_kinds.specs.declared.entry.JobKind.TheVariants.{Batch, Print}
-use Rattle.qm_kinds.specs.declared.file.FileName.{FileName}
-use Rattle.qm_kinds.specs.declared.input.Input.{Input}
-use Rattle.qm_kinds.specs.declared.input.Input.TheVariants.{Ask, Show}
-use Rattle.qm_kinds.specs.declared.queue.NewQueue.{NewQueue}
-use Rattle.qm_kinds.specs.declared.queue.QueueChange.{QueueChange}
-use Rattle.qm_kinds.specs.declared.request.EntryChange.{EntryChange}
-use Rattle.qm_kinds.specs.declared.request.Job.{Job}
-use Rattle.qm_kinds.specs.declared.request.NameOrNumber.{NameOrNumber}
-use Rattle.qm_kinds.specs.declared.request.Request.TheVariants.{DefineForm, DeleteForm, DefineCharacteristic, DeleteCharacteristic, Submit, SetEntry, DeleteEntry, Merge}
 use Rattle.qm_commands.specs.declared.table.Command.{Command}
 use Rattle.qm_commands.specs.declared.table.Command.TheVariants as command
-use Rattle.qm_model.specs.Built.{is_short, is_definable}
 use Rattle.qm_dcl.specs.declared.lists.Lists.{Lists}
 use Rattle.qm_dcl.specs.declared.settings.Definition.{Definition}
 use Rattle.qm_dcl.specs.declared.settings.JobSettings.{JobSettings}

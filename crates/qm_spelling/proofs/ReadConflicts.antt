@@ -1,9 +1,8 @@
 -- What counts of the qualifiers of a command by its parts counts by its tokens, so that no two count that exclude each other.
-use Rattle.std.proofs.Common.{◌≡◌, ℕ, Bool, true, false, cond, nat_lt, List, [], ◌∷◌, ◌++◌, Option, None, Some, Result, Ok, Err, IfOk, is_some, refl, sym, ◌∙◌}
-use Rattle.std.specs.Option.{option_to_list}
-use Rattle.qm_lex.specs.declared.token.Token.{Token}
-use Rattle.qm_lex.specs.declared.token.TokenKind.{TokenKind}
-use Rattle.qm_lex.specs.declared.token.TokenKind.TheVariants as kinds
+use Rattle.std.proofs.Common.{◌≡◌, ℕ, Bool, true, false, cond, nat_lt, List, [], ◌∷◌, ◌++◌, Option, None, Some, Result, Ok, Err, IfOk, is_some, refl, sym, ◌∙◌, option_to_list}
+use Rattle.qm_commands.specs.declared.tokens.token.Token.{Token}
+use Rattle.qm_commands.specs.declared.tokens.token.TokenKind.{TokenKind}
+use Rattle.qm_commands.specs.declared.tokens.token.TokenKind.TheVariants as kinds
 use Rattle.qm_commands.specs.declared.fault.Fault.{Fault}
 use Rattle.qm_grammar.specs.declared.part.Part.{Part}
 use Rattle.qm_grammar.specs.declared.part.Part.TheVariants as part

@@ -1,7 +1,6 @@
 -- SET ENTRY sets something.
 use Rattle.std.proofs.Common.{◌≡◌, ℕ, Bool, true, false, ◌||◌, not, List, Option, None, Some, Result, Ok, Err, IfOk, IfSome, is_some, refl, sym, ◌∙◌, subst}
-use Rattle.qm_kinds.specs.Files.{name_of}
-use Rattle.qm_kinds.specs.declared.request.NameOrNumber.{NameOrNumber}
+use Rattle.qm_model.specs.Common.{name_of, NameOrNumber}
 use Rattle.qm_commands.specs.declared.fault.Fault.{Fault}
 use Rattle.qm_grammar.specs.declared.part.Part.{Part}
 use Rattle.qm_commands.specs.declared.table.Command.TheVariants as command

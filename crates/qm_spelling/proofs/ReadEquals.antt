@@ -1,14 +1,14 @@
 -- Where an = follows a token within the text, it is the next token.
 use Rattle.std.proofs.Common.{◌≡◌, ◌<◌, ◌+◌, ◌-◌, ◌==◌, ◌||◌, ℕ, zero, suc, Bool, true, false, cond, List, [], ◌∷◌, drop, drop-drop, Option, None, Some, Result, Ok, Err, IfOk, refl, ap, ◌∙◌, subst, arith}
 use Rattle.std.proofs.lemmas.Bool.Decides.{nat_tests}
-use Rattle.qm_lex.specs.Bytes.{word_length, quoted_length}
-use Rattle.qm_lex.specs.Tokens.{quoted, piece_of, tokens_from, tokens_of, with_piece, one_more}
-use Rattle.qm_lex.specs.declared.byte.Sort.{Sort}
-use Rattle.qm_lex.specs.declared.byte.Sort.TheVariants as sorts
-use Rattle.qm_lex.specs.declared.token.Piece.TheVariants.{Takes, Blank, Comment}
-use Rattle.qm_lex.specs.declared.token.Token.{Token}
-use Rattle.qm_lex.specs.declared.token.TokenKind.{TokenKind}
-use Rattle.qm_lex.specs.declared.token.TokenKind.TheVariants as kinds
+use Rattle.qm_commands.specs.TokenBytes.{word_length, quoted_length}
+use Rattle.qm_commands.specs.Tokens.{quoted, piece_of, tokens_from, tokens_of, with_piece, one_more}
+use Rattle.qm_commands.specs.declared.tokens.byte.Sort.{Sort}
+use Rattle.qm_commands.specs.declared.tokens.byte.Sort.TheVariants as sorts
+use Rattle.qm_commands.specs.declared.tokens.token.Piece.TheVariants.{Takes, Blank, Comment}
+use Rattle.qm_commands.specs.declared.tokens.token.Token.{Token}
+use Rattle.qm_commands.specs.declared.tokens.token.TokenKind.{TokenKind}
+use Rattle.qm_commands.specs.declared.tokens.token.TokenKind.TheVariants as kinds
 use Rattle.qm_dcl.specs.Values.{leads_to_equals, has_equals}
 use Rattle.qm_spelling.proofs.ReadTokens.{is_equals, begins_with_equals, HaveEquals}
 

@@ -1,8 +1,7 @@
 -- What is given of a job and of where a queue stands is given by its qualifiers.
-use Rattle.std.proofs.Common.{◌≡◌, ℕ, Bool, true, false, ◌||◌, List, Option, None, Some, IfOk, IfSome, is_some, refl, sym, ap, ◌∙◌, subst}
-use Rattle.std.specs.Prelude.{option_map}
+use Rattle.std.proofs.Common.{◌≡◌, ℕ, Bool, true, false, ◌||◌, List, Option, None, Some, IfOk, IfSome, is_some, refl, sym, ap, ◌∙◌, subst, option_map}
 use Rattle.qm_kinds.specs.Files.{name_of, file_name_of}
-use Rattle.qm_lex.specs.declared.token.Token.{Token}
+use Rattle.qm_commands.specs.declared.tokens.token.Token.{Token}
 use Rattle.qm_grammar.specs.declared.part.Part.{Part}
 use Rattle.qm_commands.specs.declared.table.Command.TheVariants as command
 use Rattle.qm_commands.specs.declared.word.Word.{Word}

@@ -1,10 +1,8 @@
 -- What a qualifier leaves by the tokens of a command, by their names.
-use Rattle.std.proofs.Common.{◌≡◌, ◌⊎◌, inl, inr, ◌<◌, ℕ, zero, suc, Bool, true, false, cond, ◌&&◌, ◌||◌, not, List, [], ◌∷◌, length, map, find, Option, None, Some, IfSome, is_some, refl, sym, ap, ◌∙◌, subst, arith, Contains}
-use Rattle.std.specs.Prelude.{option_map}
+use Rattle.std.proofs.Common.{◌≡◌, ◌⊎◌, inl, inr, ◌<◌, ℕ, zero, suc, Bool, true, false, cond, ◌&&◌, ◌||◌, not, List, [], ◌∷◌, length, map, find, Option, None, Some, IfSome, is_some, refl, sym, ap, ◌∙◌, subst, arith, Contains, option_map, bytes_eq}
 use Rattle.std.specs.List.{list_all, slice_index_or}
-use Rattle.std.specs.Str.{bytes_eq}
 use Rattle.std.proofs.lemmas.Slice.Eq.{bytes_eq-Decides}
-use Rattle.qm_lex.specs.declared.token.Token.{Token}
+use Rattle.qm_commands.specs.declared.tokens.token.Token.{Token}
 use Rattle.qm_commands.specs.declared.rules.Takes.{Takes}
 use Rattle.qm_commands.specs.declared.table.Row.{Row}
 use Rattle.qm_commands.specs.declared.table.Verb.{Verb}

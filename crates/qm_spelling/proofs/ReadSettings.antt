@@ -1,10 +1,7 @@
 -- What holds of what the parts of a command give, one after the other.
-use Rattle.std.proofs.Common.{◌≡◌, ℕ, Bool, true, false, cond, ◌&&◌, not, List, [], ◌∷◌, Option, None, Some, Result, Ok, Err, IfOk, IfSome, refl}
-use Rattle.std.specs.Prelude.{option_map}
-use Rattle.qm_kinds.specs.declared.entry.JobRetain.{JobRetain}
-use Rattle.qm_kinds.specs.declared.entry.JobRetain.TheVariants.{Until}
-use Rattle.qm_kinds.specs.declared.queue.QueueRetain.{QueueRetain}
-use Rattle.qm_lex.specs.declared.token.Token.{Token}
+use Rattle.std.proofs.Common.{◌≡◌, ℕ, Bool, true, false, cond, ◌&&◌, not, List, [], ◌∷◌, Option, None, Some, Result, Ok, Err, IfOk, IfSome, refl, option_map}
+use Rattle.qm_model.specs.Common.{JobRetain, Until, QueueRetain}
+use Rattle.qm_commands.specs.declared.tokens.token.Token.{Token}
 use Rattle.qm_commands.specs.declared.fault.Fault.{Fault}
 use Rattle.qm_grammar.specs.declared.part.Part.{Part}
 use Rattle.qm_grammar.specs.declared.part.Part.TheVariants.{Parameter, Qualifier, Value, KeyValue}

@@ -1,17 +1,13 @@
 -- What is read from a value can be said.
-use Rattle.std.proofs.Common.{◌≡◌, ℕ, ◌+◌, ◌<◌, ◌==◌, Bool, true, false, cond, not, ◌&&◌, nat_lt, nat_le, List, [], ◌∷◌, length, map, take, drop, position, Option, None, Some, IfSome, Err, refl, ap, ◌∙◌, arith}
-use Rattle.std.specs.Prelude.{option_map, option_and_then}
+use Rattle.std.proofs.Common.{◌≡◌, ℕ, ◌+◌, ◌<◌, ◌==◌, Bool, true, false, cond, not, ◌&&◌, nat_lt, nat_le, List, [], ◌∷◌, length, map, take, drop, position, Option, None, Some, IfSome, Err, refl, ap, ◌∙◌, arith, option_map, option_and_then}
 use Rattle.std.specs.List.{list_all}
 use Rattle.std.specs.Result.{result_ok}
 use Rattle.std.specs.Char.{is_ascii_digit, to_ascii_uppercase}
 use Rattle.std.proofs.lemmas.Bool.Decides.{nat_tests}
 use Rattle.std.proofs.lemmas.List.{length-map}
-use Rattle.qm_kinds.specs.Files.{name_of}
+use Rattle.qm_model.specs.Common.{name_of, Name, Number, is_short, is_definable, value_of}
 use Rattle.qm_kinds.specs.Text.{is_name_byte, is_pattern_byte, text_of, raised_unless}
 use Rattle.qm_kinds.specs.declared.fault.NameFault.{NameFault}
-use Rattle.qm_kinds.specs.declared.request.NameOrNumber.TheVariants.{Name, Number}
-use Rattle.qm_model.specs.Built.{is_short, is_definable}
-use Rattle.qm_model.specs.Texts.{value_of}
 use Rattle.qm_dcl.specs.declared.value.Location.{Location}
 use Rattle.qm_dcl.specs.Values.{are_digits, number_to, if_passes, short_name_said, definable_name_said, is_node_name, node_said, reference_said, pattern_said, behind_colon, before_colon, device_said, located, location_cut_at, location_said}
 use Rattle.qm_sayable.specs.Values.{is_reference}

@@ -1,15 +1,10 @@
 -- What values give, one behind the other, and which lists they are.
-use Rattle.std.proofs.Common.{◌≡◌, ℕ, List, [], ◌∷◌, ◌++◌, length, map, decimal, Option, None, Some, Bool, true, false, not, ◌&&◌, if◌then◌else◌, nat_lt, refl, ap, ◌∙◌, arith}
-use Rattle.std.specs.Prelude.{option_map, filter_map}
+use Rattle.std.proofs.Common.{◌≡◌, ℕ, List, [], ◌∷◌, ◌++◌, length, map, decimal, Option, None, Some, Bool, true, false, not, ◌&&◌, if◌then◌else◌, nat_lt, refl, ap, ◌∙◌, arith, option_map, filter_map, leb-true}
 use Rattle.std.specs.List.{list_all, cons_option}
 use Rattle.std.specs.Option.{option_or}
 use Rattle.std.specs.Char.{is_ascii_digit}
-use Rattle.std.proofs.lemmas.Bool.{leb-true}
 use Rattle.std.proofs.lemmas.List.{length-map}
-use Rattle.qm_kinds.specs.declared.input.Input.{Input}
-use Rattle.qm_kinds.specs.declared.request.NameOrNumber.{NameOrNumber}
-use Rattle.qm_kinds.specs.declared.request.NameOrNumber.TheVariants.{Name, Number}
-use Rattle.qm_model.specs.Built.{is_short}
+use Rattle.qm_model.specs.Common.{Input, NameOrNumber, Name, Number, is_short}
 use Rattle.qm_commands.specs.declared.rules.Takes.{Takes}
 use Rattle.qm_commands.specs.declared.rules.Takes.TheVariants as takes
 use Rattle.qm_commands.specs.declared.table.Command.{Command}

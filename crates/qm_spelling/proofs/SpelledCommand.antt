@@ -1,6 +1,5 @@
 -- A command that is spelled in full is read as what it was spelled of.
-use Rattle.std.proofs.Common.{◌≡◌, ℕ, List, ◌∷◌, Option, None, Some, Bool, true, false, if◌then◌else◌, Result, Ok, refl, sym, ap, ◌∙◌}
-use Rattle.std.specs.Prelude.{option_and_then, ok_or}
+use Rattle.std.proofs.Common.{◌≡◌, ℕ, List, ◌∷◌, Option, None, Some, Bool, true, false, if◌then◌else◌, Result, Ok, refl, sym, ap, ◌∙◌, option_and_then, ok_or}
 use Rattle.qm_kinds.specs.declared.input.Input.{Input}
 use Rattle.qm_commands.specs.declared.fault.Fault.{Fault}
 use Rattle.qm_grammar.specs.declared.part.Part.{Part}

@@ -1,10 +1,6 @@
 -- DELETE/FORM and its like, and ASSIGN/MERGE.
-use Rattle.std.proofs.Common.{◌≡◌, ◌<◌, ◌≤◌, ◌^◌, ℕ, List, [], ◌∷◌, ◌++◌, codes, decimal, None, Some, true, refl, ap, ◌∙◌, sym, append-nil, append_assoc, arith}
-use Rattle.std.specs.Prelude.{option_map}
-use Rattle.qm_kinds.specs.Text.{IsText, is_name_byte}
-use Rattle.qm_kinds.specs.declared.input.Input.TheVariants.{Ask}
-use Rattle.qm_kinds.specs.declared.request.Request.TheVariants.{DeleteForm, DeleteCharacteristic, DeleteQueue, DeleteEntry, Merge}
-use Rattle.qm_model.specs.Built.{is_short, is_definable}
+use Rattle.std.proofs.Common.{◌≡◌, ◌<◌, ◌≤◌, ◌^◌, ℕ, List, [], ◌∷◌, ◌++◌, codes, decimal, None, Some, true, refl, ap, ◌∙◌, sym, append-nil, append_assoc, arith, option_map}
+use Rattle.qm_model.specs.Common.{IsText, is_name_byte, Ask, DeleteForm, DeleteCharacteristic, DeleteQueue, DeleteEntry, Merge, is_short, is_definable}
 use Rattle.qm_commands.specs.declared.rules.Takes.TheVariants as takes
 use Rattle.qm_commands.specs.declared.table.Command.TheVariants as command
 use Rattle.qm_commands.specs.declared.table.Verb.TheVariants as verb

@@ -1,15 +1,8 @@
 -- SET ENTRY.
-use Rattle.std.proofs.Common.{◌≡◌, inl, inr, ◌<◌, ◌^◌, ℕ, List, [], ◌∷◌, ◌++◌, length, codes, decimal, IfSome, Option, None, Some, is_some, Bool, true, false, not, ◌&&◌, ◌||◌, if◌then◌else◌, nat_lt, refl, sym, ap, subst, ◌∙◌, arith, lit<, append_assoc, append-nil}
-use Rattle.std.specs.Prelude.{option_map, filter_map}
+use Rattle.std.proofs.Common.{◌≡◌, inl, inr, ◌<◌, ◌^◌, ℕ, List, [], ◌∷◌, ◌++◌, length, codes, decimal, IfSome, Option, None, Some, is_some, Bool, true, false, not, ◌&&◌, ◌||◌, if◌then◌else◌, nat_lt, refl, sym, ap, subst, ◌∙◌, arith, lit<, append_assoc, append-nil, option_map, filter_map}
 use Rattle.std.specs.List.{list_all}
 use Rattle.std.specs.Option.{option_map_or, option_or}
-use Rattle.qm_kinds.specs.declared.entry.JobRetain.{JobRetain}
-use Rattle.qm_kinds.specs.declared.input.Input.{Input}
-use Rattle.qm_kinds.specs.declared.input.Input.TheVariants.{Ask}
-use Rattle.qm_kinds.specs.declared.request.EntryChange.{EntryChange}
-use Rattle.qm_kinds.specs.declared.request.NameOrNumber.{NameOrNumber}
-use Rattle.qm_kinds.specs.declared.request.Request.TheVariants.{SetEntry}
-use Rattle.qm_model.specs.Built.{is_short}
+use Rattle.qm_model.specs.Common.{JobRetain, Input, Ask, EntryChange, NameOrNumber, SetEntry, is_short}
 use Rattle.qm_commands.specs.declared.rules.Takes.{Takes}
 use Rattle.qm_commands.specs.declared.rules.Takes.TheVariants as takes
 use Rattle.qm_commands.specs.declared.table.Command.TheVariants as command

@@ -1,14 +1,10 @@
 -- Names of files as words of a command.
-use Rattle.std.proofs.Common.{◌≡◌, ◌+◌, ℕ, suc, List, [], ◌∷◌, ◌++◌, length, drop, position, IfSome, Option, None, Some, is_some, true, false, ◌==◌, refl, sym, ap, ◌∙◌, arith, length-append}
-use Rattle.std.specs.Prelude.{option_map, option_and_then, nat_lt}
+use Rattle.std.proofs.Common.{◌≡◌, ◌+◌, ℕ, suc, List, [], ◌∷◌, ◌++◌, length, drop, position, IfSome, Option, None, Some, is_some, true, false, ◌==◌, refl, sym, ap, ◌∙◌, arith, length-append, option_map, option_and_then, nat_lt, le-leb, take_at, drop_at, append_assoc}
 use Rattle.std.specs.List.{list_all, position_or_len}
-use Rattle.std.proofs.lemmas.Bool.{le-leb}
 use Rattle.std.proofs.lemmas.Bool.Decides.{nat_tests}
-use Rattle.std.proofs.lemmas.List.{take_at, drop_at, append_assoc}
 use Rattle.std.proofs.lemmas.List.Folds.{list_all-append}
 use Rattle.qm_kinds.specs.Files.{name_of, file_name_from, file_name_cut_at, file_name_of, file_name_text}
-use Rattle.qm_kinds.specs.Text.{is_name_byte}
-use Rattle.qm_kinds.specs.declared.file.FileName.{FileName}
+use Rattle.qm_model.specs.Common.{is_name_byte, FileName}
 use Rattle.qm_spelling.specs.Lawful.{IsName, IsFileName}
 use Rattle.qm_spelling.proofs.Values.{name_reads_back}
 use Rattle.qm_spelling.proofs.SpelledLexemes.{is_word_byte}

@@ -1,10 +1,9 @@
 -- Which command pieces name, and that nothing in them excludes anything else.
-use Rattle.std.proofs.Common.{◌≡◌, ◌+◌, ℕ, List, [], ◌∷◌, length, find, Option, None, Some, is_some, Bool, true, false, cond, ◌&&◌, ◌||◌, if◌then◌else◌, Result, Ok, refl, ap, ◌∙◌}
+use Rattle.std.proofs.Common.{◌≡◌, ◌+◌, ℕ, List, [], ◌∷◌, length, find, Option, None, Some, is_some, Bool, true, false, cond, ◌&&◌, ◌||◌, if◌then◌else◌, Result, Ok, refl, ap, ◌∙◌, option_map}
 use Rattle.std.specs.List.{list_all}
-use Rattle.std.specs.Option.{option_map}
-use Rattle.qm_lex.specs.declared.token.Token.{Token}
-use Rattle.qm_lex.specs.declared.token.TokenKind.TheVariants as kinds
-use Rattle.qm_lex.specs.Tokens.{tokens_of}
+use Rattle.qm_commands.specs.declared.tokens.token.Token.{Token}
+use Rattle.qm_commands.specs.declared.tokens.token.TokenKind.TheVariants as kinds
+use Rattle.qm_commands.specs.Tokens.{tokens_of}
 use Rattle.qm_grammar.specs.declared.part.Part.{Part}
 use Rattle.qm_grammar.specs.declared.place.Place.TheVariants as place
 use Rattle.qm_commands.specs.declared.rules.Takes.TheVariants as takes
@@ -12,14 +11,13 @@ use Rattle.qm_commands.specs.declared.table.Row.{Row}
 use Rattle.qm_commands.specs.declared.table.Verb.{Verb}
 use Rattle.qm_commands.specs.declared.table.Verb.TheVariants as verb
 use Rattle.qm_commands.specs.declared.word.Word.{Word}
-use Rattle.qm_names.specs.Conflicts.{is_word_given, place_with, place_from, counting_place, later_of_both, earlier, conflict_of, first_conflict}
+use Rattle.qm_names.specs.Conflicts.{is_word_given, place_with, place_from, counting_place, later_of_both, earlier, conflict_of, first_conflict, or_conflict}
 use Rattle.qm_grammar.specs.Finding.{verb_of, first_parameter, has_object, has_option, is_named, row_of, named_behind, named_command}
 use Rattle.qm_commands.specs.Names.{is_name}
 use Rattle.qm_grammar.specs.Parsed.{tokens_in, tokens_by, parts_in, command_in, or_unreadable}
 use Rattle.qm_grammar.specs.Parts.{parts_of, parts_behind, parts_from}
 use Rattle.qm_grammar.specs.Places.{begun}
 use Rattle.qm_grammar.specs.Reading.{command_of, command_behind, command_by, read_from}
-use Rattle.qm_names.specs.Conflicts.{or_conflict}
 use Rattle.qm_commands.specs.Rules.{exclusions_of}
 use Rattle.qm_commands.specs.Spelled.{bytes_of}
 use Rattle.qm_commands.specs.Table.{rows_of, verbs}

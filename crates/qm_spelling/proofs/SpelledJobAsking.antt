@@ -1,12 +1,7 @@
 -- What the qualifiers of jobs give.
-use Rattle.std.proofs.Common.{◌≡◌, ◌<◌, ◌^◌, ℕ, List, [], ◌∷◌, ◌++◌, map, codes, decimal, IfSome, Option, None, Some, Bool, true, false, if◌then◌else◌, refl, ap, ◌∙◌, arith}
-use Rattle.std.specs.Prelude.{option_map, filter_map}
-use Rattle.qm_kinds.specs.declared.entry.JobRetain.{JobRetain}
+use Rattle.std.proofs.Common.{◌≡◌, ◌<◌, ◌^◌, ℕ, List, [], ◌∷◌, ◌++◌, map, codes, decimal, IfSome, Option, None, Some, Bool, true, false, if◌then◌else◌, refl, ap, ◌∙◌, arith, option_map, filter_map}
+use Rattle.qm_model.specs.Common.{JobRetain, FileName, Input, NameOrNumber, is_short}
 use Rattle.qm_kinds.specs.declared.entry.JobRetain.TheVariants.{Default, Always, Failed, Until}
-use Rattle.qm_kinds.specs.declared.file.FileName.{FileName}
-use Rattle.qm_kinds.specs.declared.input.Input.{Input}
-use Rattle.qm_kinds.specs.declared.request.NameOrNumber.{NameOrNumber}
-use Rattle.qm_model.specs.Built.{is_short}
 use Rattle.qm_commands.specs.declared.table.Command.{Command}
 use Rattle.qm_commands.specs.declared.word.Word.{Word}
 use Rattle.qm_commands.specs.declared.word.Word.TheVariants as words

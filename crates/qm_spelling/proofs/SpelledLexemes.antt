@@ -1,18 +1,15 @@
 -- The tokens of a text that is put together of words, quoted strings and signs, with blanks between them.
-use Rattle.std.proofs.Common.{◌≡◌, ◌<◌, ◌+◌, ◌-◌, ℕ, zero, suc, List, [], ◌∷◌, ◌++◌, drop, take, length, Some, Bool, true, false, ◌||◌, not, ◌==◌, if◌then◌else◌, nat_le, slice_range, Result, Ok, refl, sym, ◌∙◌, ap, arith, append_assoc, length-append}
+use Rattle.std.proofs.Common.{◌≡◌, ◌<◌, ◌+◌, ◌-◌, ℕ, zero, suc, List, [], ◌∷◌, ◌++◌, drop, take, length, Some, Bool, true, false, ◌||◌, not, ◌==◌, if◌then◌else◌, nat_le, slice_range, Result, Ok, refl, sym, ◌∙◌, ap, arith, append_assoc, length-append, option_map, le-leb, take_at, drop_at}
 use Rattle.std.specs.List.{list_all}
-use Rattle.std.specs.Option.{option_map}
-use Rattle.std.proofs.lemmas.Bool.{le-leb}
-use Rattle.std.proofs.lemmas.List.{take_at, drop_at}
-use Rattle.qm_lex.specs.Bytes.{sort_of, is_word, word_length, quoted_length}
-use Rattle.qm_lex.specs.Tokens.{piece_of, tokens_from, with_piece, one_more}
-use Rattle.qm_lex.specs.declared.byte.Sort.{Sort}
-use Rattle.qm_lex.specs.declared.byte.Sort.TheVariants as sorts
-use Rattle.qm_lex.specs.declared.token.TokenKind.{TokenKind}
-use Rattle.qm_lex.specs.declared.token.TokenKind.TheVariants as kinds
-use Rattle.qm_lex.specs.declared.token.Piece.{Piece}
-use Rattle.qm_lex.specs.declared.token.Piece.TheVariants.{Takes}
-use Rattle.qm_lex.specs.declared.token.Token.{Token}
+use Rattle.qm_commands.specs.TokenBytes.{sort_of, is_word, word_length, quoted_length}
+use Rattle.qm_commands.specs.Tokens.{piece_of, tokens_from, with_piece, one_more}
+use Rattle.qm_commands.specs.declared.tokens.byte.Sort.{Sort}
+use Rattle.qm_commands.specs.declared.tokens.byte.Sort.TheVariants as sorts
+use Rattle.qm_commands.specs.declared.tokens.token.TokenKind.{TokenKind}
+use Rattle.qm_commands.specs.declared.tokens.token.TokenKind.TheVariants as kinds
+use Rattle.qm_commands.specs.declared.tokens.token.Piece.{Piece}
+use Rattle.qm_commands.specs.declared.tokens.token.Piece.TheVariants.{Takes}
+use Rattle.qm_commands.specs.declared.tokens.token.Token.{Token}
 use Rattle.qm_commands.specs.Spelled.{bytes_of}
 use Rattle.qm_spelling.proofs.SpelledTruth.{and_left, and_right}
 

@@ -1,14 +1,7 @@
 -- SHOW QUEUE and SHOW ENTRY.
-use Rattle.std.proofs.Common.{◌≡◌, inl, inr, ◌<◌, ◌^◌, ℕ, List, [], ◌∷◌, ◌++◌, codes, decimal, IfSome, Option, None, Some, is_some, Bool, true, false, cond, not, ◌&&◌, ◌||◌, if◌then◌else◌, refl, sym, ap, subst, ◌∙◌, arith, lit<, append_assoc, append-nil}
-use Rattle.std.specs.Prelude.{option_map, unwrap_or}
+use Rattle.std.proofs.Common.{◌≡◌, inl, inr, ◌<◌, ◌^◌, ℕ, List, [], ◌∷◌, ◌++◌, codes, decimal, IfSome, Option, None, Some, is_some, Bool, true, false, cond, not, ◌&&◌, ◌||◌, if◌then◌else◌, refl, sym, ap, subst, ◌∙◌, arith, lit<, append_assoc, append-nil, option_map, unwrap_or}
 use Rattle.std.proofs.lemmas.Slice.Eq.{bytes_eq-Decides}
-use Rattle.qm_kinds.specs.Text.{IsText, is_pattern_byte}
-use Rattle.qm_kinds.specs.declared.input.Input.{Input}
-use Rattle.qm_kinds.specs.declared.input.Input.TheVariants.{Show}
-use Rattle.qm_kinds.specs.declared.query.After.{After}
-use Rattle.qm_kinds.specs.declared.query.Listing.{Listing}
-use Rattle.qm_kinds.specs.declared.query.Listing.TheVariants.{Queues, Jobs, Entries, Forms, Characteristics, Manager, Cancel}
-use Rattle.qm_kinds.specs.declared.query.Query.{Query}
+use Rattle.qm_model.specs.Common.{IsText, is_pattern_byte, Input, Show, After, Listing, Queues, Jobs, Entries, Forms, Characteristics, Manager, Cancel, Query}
 use Rattle.qm_commands.specs.declared.rules.Takes.{Takes}
 use Rattle.qm_commands.specs.declared.rules.Takes.TheVariants as takes
 use Rattle.qm_commands.specs.declared.table.Command.{Command}

@@ -1,9 +1,8 @@
 -- The lists that qualifiers give, by what their values say.
-use Rattle.std.proofs.Common.{◌≡◌, ℕ, List, [], ◌∷◌, map, Option, None, Some, Bool, true, false, if◌then◌else◌, refl, ap, ◌∙◌}
-use Rattle.std.specs.Prelude.{option_map, filter_map}
+use Rattle.std.proofs.Common.{◌≡◌, ℕ, List, [], ◌∷◌, map, Option, None, Some, Bool, true, false, if◌then◌else◌, refl, ap, ◌∙◌, option_map, filter_map}
 use Rattle.std.specs.List.{cons_option}
 use Rattle.std.specs.Option.{option_or}
-use Rattle.qm_lex.specs.declared.token.Token.{Token}
+use Rattle.qm_commands.specs.declared.tokens.token.Token.{Token}
 use Rattle.qm_grammar.specs.declared.part.Part.{Part}
 use Rattle.qm_grammar.specs.declared.part.Part.TheVariants as parts
 use Rattle.qm_dcl.specs.declared.lists.ListOf.{ListOf}

@@ -1,12 +1,9 @@
 -- START/QUEUE/MANAGER.
-use Rattle.std.proofs.Common.{◌≡◌, ℕ, List, [], ◌∷◌, ◌++◌, length, map, codes, IfSome, Option, None, Some, Bool, true, false, not, if◌then◌else◌, refl, ap, subst, ◌∙◌, lit<}
-use Rattle.std.specs.Prelude.{option_map, filter_map}
+use Rattle.std.proofs.Common.{◌≡◌, ℕ, List, [], ◌∷◌, ◌++◌, length, map, codes, IfSome, Option, None, Some, Bool, true, false, not, if◌then◌else◌, refl, ap, subst, ◌∙◌, lit<, option_map, filter_map}
 use Rattle.std.specs.List.{list_all, cons_option}
 use Rattle.std.specs.Option.{option_map_or, option_or}
 use Rattle.std.proofs.lemmas.Slice.Eq.{bytes_eq-Decides}
-use Rattle.qm_kinds.specs.Text.{is_name_byte}
-use Rattle.qm_kinds.specs.declared.input.Input.{Input}
-use Rattle.qm_kinds.specs.declared.input.Input.TheVariants.{TakeManager}
+use Rattle.qm_model.specs.Common.{is_name_byte, Input, TakeManager}
 use Rattle.qm_commands.specs.declared.rules.Takes.TheVariants as takes
 use Rattle.qm_commands.specs.declared.table.Command.TheVariants as command
 use Rattle.qm_commands.specs.declared.table.Row.{Row}

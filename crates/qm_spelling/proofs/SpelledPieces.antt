@@ -1,8 +1,8 @@
 -- The pieces that a full spelling is put together of, and the tokens that they make.
 use Rattle.std.proofs.Common.{◌≡◌, ◌<◌, ◌||◌, ℕ, List, [], ◌∷◌, ◌++◌, length, lit<, Option, None, Some, Bool, true, false, not, ◌==◌, refl}
 use Rattle.std.specs.List.{list_all}
-use Rattle.qm_lex.specs.declared.token.TokenKind.{TokenKind}
-use Rattle.qm_lex.specs.declared.token.TokenKind.TheVariants as kinds
+use Rattle.qm_commands.specs.declared.tokens.token.TokenKind.{TokenKind}
+use Rattle.qm_commands.specs.declared.tokens.token.TokenKind.TheVariants as kinds
 use Rattle.qm_commands.specs.declared.table.Verb.{Verb}
 use Rattle.qm_commands.specs.declared.table.Verb.TheVariants as verbs
 use Rattle.qm_commands.specs.declared.word.Word.{Word}

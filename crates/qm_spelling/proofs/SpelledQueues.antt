@@ -1,14 +1,7 @@
 -- SET QUEUE and START/QUEUE.
-use Rattle.std.proofs.Common.{◌≡◌, ℕ, List, [], ◌∷◌, ◌++◌, codes, Option, None, Some, is_some, Bool, true, false, cond, ◌&&◌, ◌||◌, refl, sym, ap, subst, ◌∙◌, lit<}
-use Rattle.std.specs.Prelude.{option_map, option_and_then, filter_map}
-use Rattle.qm_kinds.specs.declared.input.Input.TheVariants.{Ask}
-use Rattle.qm_kinds.specs.declared.queue.QueueChange.{QueueChange}
-use Rattle.qm_kinds.specs.declared.queue.QueueRetain.{QueueRetain}
+use Rattle.std.proofs.Common.{◌≡◌, ℕ, List, [], ◌∷◌, ◌++◌, codes, Option, None, Some, is_some, Bool, true, false, cond, ◌&&◌, ◌||◌, refl, sym, ap, subst, ◌∙◌, lit<, option_map, option_and_then, filter_map}
+use Rattle.qm_model.specs.Common.{Ask, QueueChange, QueueRetain, NameOrNumber, Request, SetQueue, StartQueue, is_short}
 use Rattle.qm_kinds.specs.declared.queue.QueueRetain.TheVariants.{Nothing, Failed, All}
-use Rattle.qm_kinds.specs.declared.request.NameOrNumber.{NameOrNumber}
-use Rattle.qm_kinds.specs.declared.request.Request.{Request}
-use Rattle.qm_kinds.specs.declared.request.Request.TheVariants.{SetQueue, StartQueue}
-use Rattle.qm_model.specs.Built.{is_short}
 use Rattle.qm_commands.specs.declared.rules.Takes.TheVariants as takes
 use Rattle.qm_commands.specs.declared.table.Command.{Command}
 use Rattle.qm_commands.specs.declared.table.Command.TheVariants as command

@@ -1,13 +1,10 @@
 -- Pieces are read by the grammar as the command and the parts that they are meant as.
-use Rattle.std.proofs.Common.{◌≡◌, ◌<◌, ◌≤◌, ◌+◌, ℕ, suc, List, [], ◌∷◌, ◌++◌, length, take, find, map, Option, None, Some, Bool, true, false, not, ◌==◌, ◌&&◌, ◌||◌, nat_le, nat_lt, Result, Ok, refl, ap, ◌∙◌, arith}
+use Rattle.std.proofs.Common.{◌≡◌, ◌<◌, ◌≤◌, ◌+◌, ℕ, suc, List, [], ◌∷◌, ◌++◌, length, take, find, map, Option, None, Some, Bool, true, false, not, ◌==◌, ◌&&◌, ◌||◌, nat_le, nat_lt, Result, Ok, refl, ap, ◌∙◌, arith, option_to_list, bytes_eq, le-leb}
 use Rattle.std.specs.List.{list_all}
-use Rattle.std.specs.Option.{option_to_list}
 use Rattle.std.specs.Char.{to_ascii_uppercase}
-use Rattle.std.specs.Str.{bytes_eq}
-use Rattle.std.proofs.lemmas.Bool.{le-leb}
 use Rattle.std.proofs.lemmas.Bool.Decides.{nat_tests}
-use Rattle.qm_lex.specs.declared.token.Token.{Token}
-use Rattle.qm_lex.specs.declared.token.TokenKind.TheVariants as kinds
+use Rattle.qm_commands.specs.declared.tokens.token.Token.{Token}
+use Rattle.qm_commands.specs.declared.tokens.token.TokenKind.TheVariants as kinds
 use Rattle.qm_commands.specs.declared.fault.Fault.{Fault}
 use Rattle.qm_grammar.specs.declared.part.Part.{Part}
 use Rattle.qm_grammar.specs.declared.part.Part.TheVariants as parts

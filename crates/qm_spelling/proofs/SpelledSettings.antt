@@ -1,10 +1,9 @@
 -- What the parts of a command give, by what they say.
-use Rattle.std.proofs.Common.{◌≡◌, ℕ, List, [], ◌∷◌, map, Option, None, Some, Bool, true, false, not, if◌then◌else◌, Result, Ok, refl, ap, ◌∙◌}
-use Rattle.std.specs.Prelude.{option_and_then, ok_or}
+use Rattle.std.proofs.Common.{◌≡◌, ℕ, List, [], ◌∷◌, map, Option, None, Some, Bool, true, false, not, if◌then◌else◌, Result, Ok, refl, ap, ◌∙◌, option_and_then, ok_or}
 use Rattle.std.specs.Char.{to_ascii_uppercase}
 use Rattle.qm_kinds.specs.declared.entry.JobRetain.{JobRetain}
 use Rattle.qm_kinds.specs.declared.refusal.ParseKind.TheVariants as fault
-use Rattle.qm_lex.specs.declared.token.Token.{Token}
+use Rattle.qm_commands.specs.declared.tokens.token.Token.{Token}
 use Rattle.qm_commands.specs.declared.fault.Fault.{Fault}
 use Rattle.qm_grammar.specs.declared.part.Part.{Part}
 use Rattle.qm_grammar.specs.declared.part.Part.TheVariants as parts

@@ -1,11 +1,6 @@
 -- STOP/QUEUE of a queue, and of one of its jobs.
-use Rattle.std.proofs.Common.{◌≡◌, ◌<◌, ◌≤◌, ◌^◌, ℕ, List, [], ◌∷◌, ◌++◌, codes, decimal, IfSome, Option, None, Some, Bool, true, false, refl, sym, ap, ◌∙◌, arith, append_assoc, append-nil}
-use Rattle.std.specs.Prelude.{option_map}
-use Rattle.qm_kinds.specs.declared.input.Input.TheVariants.{Ask}
-use Rattle.qm_kinds.specs.declared.request.Request.TheVariants.{StopQueue, AbortJob}
-use Rattle.qm_kinds.specs.declared.request.StopMode.{StopMode}
-use Rattle.qm_kinds.specs.declared.request.StopMode.TheVariants.{Pause, Next, Reset}
-use Rattle.qm_model.specs.Built.{is_short}
+use Rattle.std.proofs.Common.{◌≡◌, ◌<◌, ◌≤◌, ◌^◌, ℕ, List, [], ◌∷◌, ◌++◌, codes, decimal, IfSome, Option, None, Some, Bool, true, false, refl, sym, ap, ◌∙◌, arith, append_assoc, append-nil, option_map}
+use Rattle.qm_model.specs.Common.{Ask, StopQueue, AbortJob, StopMode, Pause, Next, Reset, is_short}
 use Rattle.qm_commands.specs.declared.rules.Takes.TheVariants as takes
 use Rattle.qm_commands.specs.declared.table.Command.TheVariants as command
 use Rattle.qm_commands.specs.declared.table.Row.{Row}

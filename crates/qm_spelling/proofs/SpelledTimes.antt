@@ -1,6 +1,5 @@
 -- Times as quoted strings of a command.
-use Rattle.std.proofs.Common.{◌≡◌, ◌≤◌, ◌+◌, ◌/◌, ◌%◌, ℕ, List, [], ◌∷◌, ◌++◌, codes, Some, Bool, true, false, not, ◌==◌, if◌then◌else◌, refl, sym, ◌∙◌, arith, append-nil}
-use Rattle.std.specs.Prelude.{nat_lt}
+use Rattle.std.proofs.Common.{◌≡◌, ◌≤◌, ◌+◌, ◌/◌, ◌%◌, ℕ, List, [], ◌∷◌, ◌++◌, codes, Some, Bool, true, false, not, ◌==◌, if◌then◌else◌, refl, sym, ◌∙◌, arith, append-nil, nat_lt}
 use Rattle.std.proofs.lemmas.Bool.Decides.{nat_tests}
 use Rattle.std.proofs.lemmas.List.Folds.{list_all-append}
 use Rattle.qm_model.specs.Calendar.{CivilDate, date_of_day}

@@ -1,12 +1,10 @@
 -- Names, numbers and times as words of a command, and what they say.
-use Rattle.std.proofs.Common.{◌≡◌, ◌<◌, ◌^◌, ℕ, List, [], ◌∷◌, decimal, Some, Bool, true, refl, ap, ◌∙◌, arith}
-use Rattle.std.specs.Prelude.{option_and_then}
+use Rattle.std.proofs.Common.{◌≡◌, ◌<◌, ◌^◌, ℕ, List, [], ◌∷◌, decimal, Some, Bool, true, refl, ap, ◌∙◌, arith, option_and_then}
 use Rattle.std.specs.List.{list_all}
 use Rattle.std.specs.Char.{is_ascii_digit}
 use Rattle.std.proofs.lemmas.Bool.Decides.{nat_tests}
 use Rattle.std.proofs.lemmas.Fmt.{decimal_nonempty}
-use Rattle.qm_kinds.specs.Text.{IsText, is_name_byte, is_pattern_byte}
-use Rattle.qm_model.specs.Built.{is_short, is_definable}
+use Rattle.qm_model.specs.Common.{IsText, is_name_byte, is_pattern_byte, is_short, is_definable}
 use Rattle.qm_dcl.specs.Values.{if_passes, short_name_said, definable_name_said, is_node_name, node_said}
 use Rattle.qm_spelling.proofs.Values.{name_reads_back, decimal_is_digits}
 use Rattle.qm_spelling.proofs.SpelledLexemes.{is_word_byte}

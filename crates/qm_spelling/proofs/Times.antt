@@ -1,6 +1,5 @@
 -- What stands between quotes.
-use Rattle.std.proofs.Common.{◌≡◌, ℕ, ◌-◌, List, [], ◌∷◌, ◌++◌, length, codes, arith, length-append}
-use Rattle.std.proofs.lemmas.List.{take_at}
+use Rattle.std.proofs.Common.{◌≡◌, ℕ, ◌-◌, List, [], ◌∷◌, ◌++◌, length, codes, arith, length-append, take_at}
 use Rattle.qm_dcl.specs.Values.{unquoted}
 
 -- a text in quotes says that text

@@ -1,16 +1,13 @@
 -- What values say is read back.
-use Rattle.std.proofs.Common.{◌≡◌, ℕ, ◌+◌, ◌-◌, ◌*◌, ◌<◌, ◌≤◌, ◌^◌, Bool, true, false, not, cond, ◌&&◌, List, [], ◌∷◌, length, map, decimal, Option, None, Some, Ok, refl, ap, ◌∙◌, arith}
-use Rattle.std.specs.Prelude.{fold, nat_le, nat_lt}
+use Rattle.std.proofs.Common.{◌≡◌, ℕ, ◌+◌, ◌-◌, ◌*◌, ◌<◌, ◌≤◌, ◌^◌, Bool, true, false, not, cond, ◌&&◌, List, [], ◌∷◌, length, map, decimal, Option, None, Some, Ok, refl, ap, ◌∙◌, arith, fold, nat_le, nat_lt, leb-true, le-leb, le-ltb}
 use Rattle.std.specs.Result.{result_ok}
 use Rattle.std.specs.List.{list_all, position, position_or_len}
 use Rattle.std.specs.Char.{is_ascii_digit, to_ascii_uppercase}
 use Rattle.std.proofs.lemmas.Bool.Decides.{nat_tests}
-use Rattle.std.proofs.lemmas.Bool.{leb-true, le-leb, le-ltb}
 use Rattle.std.proofs.lemmas.Fmt.{digits_decimal, digits_value-decimal, decimal_nonempty}
 use Rattle.std.proofs.lemmas.Str.Parse.{IsDigitsTest, IsNumeralModel, numerals_by_fold}
-use Rattle.qm_kinds.specs.Files.{name_of}
+use Rattle.qm_model.specs.Common.{name_of, value_of}
 use Rattle.qm_kinds.specs.Text.{IsText, is_name_byte, is_pattern_byte, text_of, text_unless}
-use Rattle.qm_model.specs.Texts.{value_of}
 use Rattle.qm_dcl.specs.Values.{are_digits, number_to, pattern_said}
 
 and_left : (a b : Bool) → a && b ≡ true → a ≡ true

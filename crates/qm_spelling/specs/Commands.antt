@@ -2,9 +2,7 @@
 -- where nothing is given, in the order of the tables. It says nothing of the user who types it and of the moment when it is read.
 -- DCL Dictionary, on the commands of queues, jobs, forms and characteristics.
 use Rattle.std.specs.Prelude.{ℕ, if◌then◌else◌, List, [], ◌∷◌, ◌++◌, codes, decimal, Option, None, Some}
-use Rattle.qm_kinds.specs.declared.input.Input.{Input}
-use Rattle.qm_kinds.specs.declared.input.Input.TheVariants.{Ask, Show, Compact, Fetch, StopNode, StartNode, TakeManager, Fault}
-use Rattle.qm_kinds.specs.declared.request.Request.{Request}
+use Rattle.qm_model.specs.Common.{Input, Ask, Show, Compact, Fetch, StopNode, StartNode, TakeManager, Fault, Request}
 use Rattle.qm_kinds.specs.declared.request.Request.TheVariants.{Append, Fill, Drop, DefineForm, DeleteForm, DefineCharacteristic, DeleteCharacteristic, InitializeQueue, SetQueue, StartQueue, StopQueue, AbortJob, DeleteQueue, Merge, Submit, SetEntry, DeleteEntry, Mark, Done, Tick, NodeUp, NodeLost, Took}
 use Rattle.qm_commands.specs.declared.word.Word.TheVariants as words
 use Rattle.qm_sayable.specs.Commands.{is_command}

@@ -1,9 +1,7 @@
 -- Commands of forms and characteristics.
 -- DCL Dictionary, DEFINE/FORM, DELETE/FORM, DEFINE/CHARACTERISTIC and DELETE/CHARACTERISTIC.
 use Rattle.std.specs.Prelude.{ℕ, Bool, ◌&&◌, ◌==◌, if◌then◌else◌, List, [], ◌∷◌, ◌++◌, codes, decimal, Option, None, Some, option_map}
-use Rattle.qm_kinds.specs.declared.form.Characteristic.{Characteristic}
-use Rattle.qm_kinds.specs.declared.form.Form.{Form}
-use Rattle.qm_kinds.specs.declared.form.Shape.{Shape}
+use Rattle.qm_model.specs.Common.{Characteristic, Form, Shape}
 use Rattle.qm_commands.specs.declared.word.Word.TheVariants as words
 use Rattle.qm_dcl.specs.Forms.{default_shape}
 use Rattle.qm_spelling.specs.Pieces.{marked, valued, list_text}

@@ -1,15 +1,10 @@
 -- Commands of jobs.
 -- DCL Dictionary, SUBMIT, PRINT, SET ENTRY and DELETE/ENTRY.
-use Rattle.std.specs.Prelude.{ℕ, Bool, true, false, ◌==◌, if◌then◌else◌, List, [], ◌∷◌, ◌++◌, codes, decimal, Option, None, Some, option_map}
-use Rattle.std.specs.Str.{bytes_eq}
+use Rattle.std.specs.Prelude.{ℕ, Bool, true, false, ◌==◌, if◌then◌else◌, List, [], ◌∷◌, ◌++◌, codes, decimal, Option, None, Some, option_map, bytes_eq}
 use Rattle.qm_kinds.specs.Files.{file_name_text}
-use Rattle.qm_kinds.specs.declared.entry.JobKind.{JobKind}
+use Rattle.qm_model.specs.Common.{JobKind, JobRetain, EntryChange, Job, NameOrNumber}
 use Rattle.qm_kinds.specs.declared.entry.JobKind.TheVariants.{Batch, Print}
-use Rattle.qm_kinds.specs.declared.entry.JobRetain.{JobRetain}
 use Rattle.qm_kinds.specs.declared.entry.JobRetain.TheVariants.{Default, Always, Failed, Until}
-use Rattle.qm_kinds.specs.declared.request.EntryChange.{EntryChange}
-use Rattle.qm_kinds.specs.declared.request.Job.{Job}
-use Rattle.qm_kinds.specs.declared.request.NameOrNumber.{NameOrNumber}
 use Rattle.qm_commands.specs.declared.word.Word.TheVariants as words
 use Rattle.qm_dcl.specs.Submitting.{default_queue}
 use Rattle.qm_sayable.specs.Times.{time_text}

@@ -1,23 +1,7 @@
 -- What the types of requests promise of the values in them.
 use Rattle.std.specs.Prelude.{◌≡◌, ◌<◌, ◌≤◌, ◌^◌, ℕ, List, [], ◌∷◌, IfSome}
-use Rattle.qm_kinds.specs.Text.{IsText, is_name_byte, is_pattern_byte}
-use Rattle.qm_kinds.specs.declared.entry.JobRetain.{JobRetain}
+use Rattle.qm_model.specs.Common.{IsText, is_name_byte, is_pattern_byte, JobRetain, FileName, Characteristic, Form, Shape, Input, Ask, Show, TakeManager, LAST_MOMENT, Query, NewQueue, QueueChange, EntryChange, Job, NameOrNumber, Name, Number, Request, DefineForm, DeleteForm, DefineCharacteristic, DeleteCharacteristic, InitializeQueue, SetQueue, StartQueue, StopQueue, AbortJob, DeleteQueue, Merge, Submit, SetEntry, DeleteEntry}
 use Rattle.qm_kinds.specs.declared.entry.JobRetain.TheVariants.{Default, Always, Failed, Until}
-use Rattle.qm_kinds.specs.declared.file.FileName.{FileName}
-use Rattle.qm_kinds.specs.declared.form.Characteristic.{Characteristic}
-use Rattle.qm_kinds.specs.declared.form.Form.{Form}
-use Rattle.qm_kinds.specs.declared.form.Shape.{Shape}
-use Rattle.qm_kinds.specs.declared.input.Input.{Input}
-use Rattle.qm_kinds.specs.declared.input.Input.TheVariants.{Ask, Show, TakeManager}
-use Rattle.qm_kinds.specs.declared.query.Query.{Query}
-use Rattle.qm_kinds.specs.declared.queue.NewQueue.{NewQueue}
-use Rattle.qm_kinds.specs.declared.queue.QueueChange.{QueueChange}
-use Rattle.qm_kinds.specs.declared.request.EntryChange.{EntryChange}
-use Rattle.qm_kinds.specs.declared.request.Job.{Job}
-use Rattle.qm_kinds.specs.declared.request.NameOrNumber.{NameOrNumber}
-use Rattle.qm_kinds.specs.declared.request.NameOrNumber.TheVariants.{Name, Number}
-use Rattle.qm_kinds.specs.declared.request.Request.{Request}
-use Rattle.qm_kinds.specs.declared.request.Request.TheVariants.{DefineForm, DeleteForm, DefineCharacteristic, DeleteCharacteristic, InitializeQueue, SetQueue, StartQueue, StopQueue, AbortJob, DeleteQueue, Merge, Submit, SetEntry, DeleteEntry}
 
 -- a name
 abbrev pub IsName : List ℕ → Type 0
@@ -72,7 +56,7 @@ pub record IsQueryOf (user : List ℕ) (query : Query) : Type 0 where
 
 -- a moment before the end of 9999
 abbrev pub IsMoment : ℕ → Type 0
-IsMoment moment = moment ≤ 25690901759999
+IsMoment moment = moment ≤ LAST_MOMENT
 
 -- whether a job is kept
 abbrev pub IsRetain : JobRetain → Type 0

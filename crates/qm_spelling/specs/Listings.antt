@@ -1,10 +1,7 @@
 -- SHOW QUEUE and SHOW ENTRY.
 -- DCL Dictionary, SHOW ENTRY, SHOW QUEUE, SHOW QUEUE/CHARACTERISTICS, SHOW QUEUE/FORM and SHOW QUEUE/MANAGERS.
 use Rattle.std.specs.Prelude.{ℕ, not, if◌then◌else◌, List, [], ◌++◌, codes, decimal, Option, None, Some, is_some}
-use Rattle.qm_kinds.specs.declared.query.Kinds.{Kinds}
-use Rattle.qm_kinds.specs.declared.query.Listing.{Listing}
-use Rattle.qm_kinds.specs.declared.query.Listing.TheVariants.{Queues, Jobs, Entries, Forms, Characteristics, Manager, Cancel}
-use Rattle.qm_kinds.specs.declared.query.Query.{Query}
+use Rattle.qm_model.specs.Common.{Kinds, Listing, Queues, Jobs, Entries, Forms, Characteristics, Manager, Cancel, Query}
 use Rattle.qm_commands.specs.declared.word.Word.TheVariants as words
 use Rattle.qm_dcl.specs.Values.{says_all}
 use Rattle.qm_sayable.specs.Listings.{are_all}

@@ -1,8 +1,7 @@
 -- What commands are put together of.
 -- OpenVMS User's Manual, on entering commands: qualifiers, values, lists, quoted strings.
 use Rattle.std.specs.Prelude.{ℕ, Bool, if◌then◌else◌, List, [], ◌++◌, map, codes, decimal, Option, None, Some}
-use Rattle.qm_kinds.specs.declared.request.NameOrNumber.{NameOrNumber}
-use Rattle.qm_kinds.specs.declared.request.NameOrNumber.TheVariants.{Name, Number}
+use Rattle.qm_model.specs.Common.{NameOrNumber, Name, Number}
 use Rattle.qm_commands.specs.declared.word.Word.{Word}
 use Rattle.qm_commands.specs.Words.{spelling}
 use Rattle.qm_model.specs.Words.{listed}

@@ -1,15 +1,9 @@
 -- Commands of queues.
 -- DCL Dictionary, INITIALIZE/QUEUE, SET QUEUE, START/QUEUE, STOP/QUEUE, DELETE/QUEUE and ASSIGN/MERGE.
 use Rattle.std.specs.Prelude.{ℕ, Bool, true, false, ◌&&◌, ◌==◌, not, if◌then◌else◌, List, [], ◌∷◌, ◌++◌, codes, decimal, Option, None, Some, option_map}
-use Rattle.qm_kinds.specs.declared.queue.NewQueue.{NewQueue}
-use Rattle.qm_kinds.specs.declared.queue.QueueChange.{QueueChange}
-use Rattle.qm_kinds.specs.declared.queue.QueueKind.{QueueKind}
+use Rattle.qm_model.specs.Common.{NewQueue, QueueChange, QueueKind, QueueRetain, NameOrNumber, StopMode, Pause, Next, Reset}
 use Rattle.qm_kinds.specs.declared.queue.QueueKind.TheVariants.{Batch, Print, GenericBatch, GenericPrint}
-use Rattle.qm_kinds.specs.declared.queue.QueueRetain.{QueueRetain}
 use Rattle.qm_kinds.specs.declared.queue.QueueRetain.TheVariants.{Nothing, Failed, All}
-use Rattle.qm_kinds.specs.declared.request.NameOrNumber.{NameOrNumber}
-use Rattle.qm_kinds.specs.declared.request.StopMode.{StopMode}
-use Rattle.qm_kinds.specs.declared.request.StopMode.TheVariants.{Pause, Next, Reset}
 use Rattle.qm_commands.specs.declared.word.Word.TheVariants as words
 use Rattle.qm_spelling.specs.Pieces.{marked, valued, list_text, reference_text, references_text}
 

@@ -68,15 +68,7 @@ impl fmt::Display for RequestText<'_> {
                 write!(f, "{}", SetEntryText { entry, change })
             }
             Request::DeleteEntry { entry } => write!(f, "DELETE/ENTRY={entry}"),
-            Request::Append { .. }
-            | Request::Fill { .. }
-            | Request::Drop { .. }
-            | Request::Mark { .. }
-            | Request::Done { .. }
-            | Request::Tick
-            | Request::NodeUp
-            | Request::NodeLost { .. }
-            | Request::Took { .. } => Ok(()),
+            _ => Ok(()),
         }
     }
 }

@@ -1,15 +1,6 @@
 -- What the model makes of a request, where the numbers of runs are spent and where they aren't.
 use Rattle.std.proofs.Common.{◌≡◌, ◌∙◌, ℕ, ◌&&◌, Bool, false, cond, List, Option, None, Some, Ok, ap, sym, subst}
-use Rattle.qm_kinds.specs.declared.refusal.Refusal.{Refusal}
-use Rattle.qm_kinds.specs.declared.refusal.Refusal.TheVariants.{NumbersSpent}
-use Rattle.qm_kinds.specs.declared.request.Request.{Request}
-use Rattle.qm_kinds.specs.declared.system.System.{System}
-use Rattle.qm_model.specs.Applied.{applied, are_numbers_spent, asks_for_numbers, change_of, completed, first_refusal_of, refusal_of}
-use Rattle.qm_model.specs.Consistent.{IsConsistent}
-use Rattle.qm_model.specs.Lawful.{IsLawful}
-use Rattle.qm_model.specs.Outcome.{Accepted, unless_refused}
-use Rattle.qm_model.specs.Standing.{node_at}
-use Rattle.qm_model.specs.States.{stopped_when_idle}
+use Rattle.qm_model.specs.Common.{Refusal, NumbersSpent, Request, System, applied, are_numbers_spent, asks_for_numbers, change_of, completed, first_refusal_of, refusal_of, IsConsistent, IsLawful, Accepted, unless_refused, node_at, stopped_when_idle}
 use Rattle.qm_model.proofs.JobLemmas.{change_is_consistent}
 use Rattle.qm_image.specs.declared.image.Image.{Image}
 use Rattle.qm_image.specs.declared.prepared.Change.{Change}

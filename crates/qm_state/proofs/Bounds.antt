@@ -1,25 +1,10 @@
 -- How many jobs start behind a change.
-use Rattle.std.proofs.Common.{◌≡◌, ℕ, ◌≤◌, Bool, true, false, not, cond, List, [], ◌∷◌, length, filter, map, Option, None, Some, refl, ap, arith}
+use Rattle.std.proofs.Common.{◌≡◌, ℕ, ◌≤◌, Bool, true, false, not, cond, List, [], ◌∷◌, length, filter, map, Option, None, Some, refl, ap, arith, bytes_eq}
 use Rattle.std.specs.List.{list_any}
 use Rattle.std.specs.Option.{option_map_or}
-use Rattle.std.specs.Str.{bytes_eq}
 use Rattle.std.proofs.lemmas.List.{length-map}
 use Rattle.std.proofs.lemmas.List.Sums.{sum_by-cons, length-filter, count_by-le-length}
-use Rattle.qm_kinds.specs.declared.entry.Entry.{Entry}
-use Rattle.qm_kinds.specs.declared.queue.Queue.{Queue}
-use Rattle.qm_kinds.specs.declared.queue.QueueState.{QueueState}
-use Rattle.qm_kinds.specs.declared.queue.QueueState.TheVariants.{Stopped, Started, Paused, Stopping}
-use Rattle.qm_kinds.specs.declared.request.StopMode.{StopMode}
-use Rattle.qm_kinds.specs.declared.request.StopMode.TheVariants.{Pause, Next, Reset}
-use Rattle.qm_kinds.specs.declared.system.System.{System}
-use Rattle.qm_model.specs.Due.{is_over, entry_at}
-use Rattle.qm_model.specs.Fitting.{is_started}
-use Rattle.qm_model.specs.Free.{places}
-use Rattle.qm_model.specs.Outcome.{Accepted}
-use Rattle.qm_model.specs.Runs.{RunReport, run_reported, entry_of_run}
-use Rattle.qm_model.specs.Standing.{with_queue, occupies}
-use Rattle.qm_model.specs.States.{state_when_idle, when_idle, state_on_stop}
-use Rattle.qm_model.specs.Stopping.{stopped_queue}
+use Rattle.qm_model.specs.Common.{Entry, Queue, QueueState, Stopped, Started, Paused, Stopping, StopMode, Pause, Next, Reset, System, is_over, entry_at, is_started, places, Accepted, RunReport, run_reported, entry_of_run, with_queue, occupies, state_when_idle, when_idle, state_on_stop, stopped_queue}
 use Rattle.qm_sched.specs.Starts.{start_places}
 use Rattle.qm_image.specs.Preparing.{found}
 

@@ -1,30 +1,17 @@
 -- A change that was prepared is made on what the moment finds, and the jobs are started behind it.
-use Rattle.std.proofs.Common.{◌≡◌, ◌∙◌, ℕ, zero, suc, ◌+◌, ◌≤◌, true, List, [], ◌∷◌, length, map, Option, None, Some, refl, sym, ap, subst}
+use Rattle.std.proofs.Common.{◌≡◌, ◌∙◌, ℕ, zero, suc, ◌+◌, ◌≤◌, true, List, [], ◌∷◌, length, map, Option, None, Some, refl, sym, ap, subst, nat_cmp, Less}
 use Rattle.std.specs.Option.{option_map_or}
-use Rattle.std.specs.Ordering.{nat_cmp}
-use Rattle.std.specs.declared.cmp.Ordering.TheVariants.{Less}
-use Rattle.qm_kinds.specs.declared.entry.Entry.{Entry}
-use Rattle.qm_kinds.specs.declared.entry.EntryState.{EntryState}
-use Rattle.qm_kinds.specs.declared.entry.EntryState.TheVariants.{Pending, Holding, Timed, Running, Aborting, Retained}
-use Rattle.qm_kinds.specs.declared.reply.Act.{Act}
-use Rattle.qm_kinds.specs.declared.run.Start.{Start}
-use Rattle.qm_kinds.specs.declared.system.System.{System}
-use Rattle.qm_model.specs.Applied.{completed}
-use Rattle.qm_model.specs.Consistent.{IsConsistent}
-use Rattle.qm_model.specs.Find.{entry_numbered}
-use Rattle.qm_model.specs.JobStates.{is_pending}
-use Rattle.qm_model.specs.Outcome.{Accepted}
+use Rattle.qm_model.specs.Common.{Entry, EntryState, Pending, Holding, Timed, Running, Aborting, Retained, Act, Start, System, completed, IsConsistent, entry_numbered, is_pending, Accepted, when_idle, stopped_when_idle}
 use Rattle.qm_model.specs.Settling.{Choice, Settled, settled, settled_within, next_choice, after_start, start_of, preceded_by, made_running}
-use Rattle.qm_model.specs.States.{when_idle, stopped_when_idle}
 use Rattle.qm_model.proofs.ListLemmas.{pairs_of}
 use Rattle.qm_model.proofs.SettlingLemmas.{fits_pending}
 use Rattle.qm_model.proofs.SoundLemmas.{choice_is, start_is_consistent}
 use Rattle.qm_parts.proofs.Left.{that_one}
 use Rattle.qm_sched.proofs.Starting.{entry_found}
 use Rattle.qm_parts.specs.Tables.{Tables, with_tables}
-use Rattle.qm_timers.proofs.SpoolCounting.{counts_changed}
-use Rattle.qm_timers.specs.SpoolCounts.{CountsOf}
-use Rattle.qm_timers.specs.Spool.{Counted}
+use Rattle.qm_tables.proofs.SpoolCounting.{counts_changed}
+use Rattle.qm_tables.specs.SpoolCounts.{CountsOf}
+use Rattle.qm_tables.specs.Spool.{Counted}
 use Rattle.qm_image.proofs.Timed.{wanted_changed}
 use Rattle.qm_image.specs.declared.image.Image.{Image}
 use Rattle.qm_image.specs.declared.prepared.Prepared.{Prepared}

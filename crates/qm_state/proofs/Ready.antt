@@ -1,24 +1,13 @@
 -- A change that can be made on an image can still be made on one that has lost entries, and no more.
-use Rattle.std.proofs.Common.{◌≡◌, ◌∙◌, ℕ, ◌≤◌, ◌<◌, false, not, List, length, get_or, count_by, filter, find, map, None, refl, sym, ap, subst, arith}
-use Rattle.std.specs.List.{All}
-use Rattle.std.specs.Option.{IsSome}
+use Rattle.std.proofs.Common.{◌≡◌, ◌∙◌, ℕ, ◌≤◌, ◌<◌, false, not, List, length, get_or, count_by, filter, find, map, None, refl, sym, ap, subst, arith, All, IsSome}
 use Rattle.std.proofs.lemmas.List.{length-map}
 use Rattle.std.proofs.lemmas.List.Filters.{length-filter_both}
-use Rattle.qm_kinds.specs.declared.entry.Entry.{Entry}
-use Rattle.qm_kinds.specs.declared.file.FileName.{FileName}
-use Rattle.qm_kinds.specs.declared.queue.Queue.{Queue}
-use Rattle.qm_kinds.specs.declared.system.System.{System}
-use Rattle.qm_model.specs.Appending.{is_spool_full}
-use Rattle.qm_model.specs.Characteristics.{is_characteristic_taken}
-use Rattle.qm_model.specs.Due.{entry_at, is_over}
-use Rattle.qm_model.specs.Find.{file_named, same_file_name}
-use Rattle.qm_model.specs.Forms.{is_form_taken}
-use Rattle.qm_model.specs.Queues.{runs_for}
+use Rattle.qm_model.specs.Common.{Entry, FileName, Queue, System, is_spool_full, is_characteristic_taken, entry_at, is_over, file_named, same_file_name, is_form_taken, runs_for}
 use Rattle.qm_parts.specs.Nodes.{is_run_on_one}
 use Rattle.qm_parts.specs.Rooms.{CanPut, HavePlacesFor, is_home, may_come, reach}
 use Rattle.qm_parts.specs.Tables.{Tables}
 use Rattle.qm_parts.proofs.Reach.{count_map, count_filter_le}
-use Rattle.qm_timers.specs.Spool.{Kept, HasRoomFor}
+use Rattle.qm_tables.specs.Spool.{Kept, HasRoomFor}
 use Rattle.qm_image.proofs.Reached.{NamesItsFile, file_found, no_run_found, unnamed_found}
 use Rattle.qm_image.specs.declared.image.Image.{Image}
 use Rattle.qm_image.specs.declared.prepared.Change.{Change}

@@ -1,11 +1,7 @@
 -- What bounds the number of the jobs that start behind a change, by kinds of changes.
 use Rattle.std.proofs.Common.{◌≡◌, ◌⊎◌, ⊎_elim, ℕ, ◌≤◌, List, length, Option, refl, sym, ap, subst, arith}
-use Rattle.qm_kinds.specs.declared.queue.Queue.{Queue}
-use Rattle.qm_kinds.specs.declared.queue.QueueState.{QueueState}
-use Rattle.qm_kinds.specs.declared.system.System.{System}
-use Rattle.qm_model.specs.Settling.{settled}
-use Rattle.qm_model.specs.States.{stopped_when_idle}
-use Rattle.qm_queues.specs.declared.queues.settings.Settings.{Settings}
+use Rattle.qm_model.specs.Common.{Queue, QueueState, System, settled, stopped_when_idle}
+use Rattle.qm_tables.specs.declared.queues.settings.Settings.{Settings}
 use Rattle.qm_sched.specs.Starts.{start_places}
 use Rattle.qm_image.specs.declared.prepared.Change.{Change}
 use Rattle.qm_image.specs.declared.prepared.Change.TheVariants.{NewFile, MoreBytes, MoreLines, RemoveFile, NewForm, RemoveForm, NewCharacteristic, RemoveCharacteristic, NewEntry, PutQueue, SetQueue, StopQueue, CutShort, RemoveQueue, Merge, ReplaceEntry, RemoveEntry, Report, NodeUp, LoseNodes, TakeOver, Tick}

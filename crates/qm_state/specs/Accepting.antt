@@ -1,8 +1,6 @@
 -- What is prepared is what the model accepts.
 use Rattle.std.specs.Prelude.{◌≡◌, ℕ, Ok}
-use Rattle.qm_kinds.specs.declared.request.Request.{Request}
-use Rattle.qm_kinds.specs.declared.system.System.{System}
-use Rattle.qm_model.specs.Applied.{applied}
+use Rattle.qm_model.specs.Common.{Request, System, applied}
 use Rattle.qm_image.specs.declared.prepared.Prepared.{Prepared}
 use Rattle.qm_image.specs.Preparing.{made}
 

@@ -1,8 +1,6 @@
 -- What the start of jobs leaves of the tables.
 use Rattle.std.specs.Prelude.{◌≡◌, List}
-use Rattle.qm_kinds.specs.declared.run.Start.{Start}
-use Rattle.qm_kinds.specs.declared.system.System.{System}
-use Rattle.qm_model.specs.Settling.{settled}
+use Rattle.qm_model.specs.Common.{Start, System, settled}
 use Rattle.qm_parts.specs.Tables.{Tables, with_tables}
 
 -- these jobs start that can, and this is left

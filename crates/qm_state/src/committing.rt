@@ -1,7 +1,6 @@
 // What was prepared is made.
 ghost use Rattle.std.specs.Prelude.{◌≡◌, ◌≤◌};
-ghost use Rattle.qm_model.specs.Consistent.{IsConsistent};
-ghost use Rattle.qm_model.specs.Replying.{replied};
+ghost use Rattle.qm_model.specs.Common.{IsConsistent, replied};
 ghost use Rattle.qm_image.specs.Image.{system_of};
 ghost use Rattle.qm_image.specs.Preparing.{made, outcome_of, IsPrepared, IsReady};
 

@@ -1,9 +1,6 @@
 // What is asked is prepared.
 ghost use Rattle.std.specs.Prelude.{◌≡◌, ◌<◌, ◌≤◌, ◌&&◌, IfOk, length};
-ghost use Rattle.qm_model.specs.Applied.{applied, are_numbers_spent, asks_for_numbers};
-ghost use Rattle.qm_model.specs.Consistent.{IsConsistent};
-ghost use Rattle.qm_model.specs.Lawful.{IsLawful};
-ghost use Rattle.qm_model.specs.Standing.{node_at};
+ghost use Rattle.qm_model.specs.Common.{applied, are_numbers_spent, asks_for_numbers, IsConsistent, IsLawful, node_at};
 ghost use Rattle.qm_image.specs.Deciding.{PreparesAt};
 ghost use Rattle.qm_image.specs.Image.{system_of};
 ghost use Rattle.qm_image.specs.Preparing.{IsPrepared};
@@ -11,18 +8,18 @@ ghost use Rattle.qm_image.specs.Refusing.{Refuses, KeepsRefused};
 ghost use Rattle.qm_state.specs.Accepting.{IsAccepted};
 
 use crate::room::reserve_starts;
-use qm_deciding::{
-    prepare_append, prepare_define_characteristic, prepare_define_form,
-    prepare_delete_characteristic, prepare_delete_form, prepare_delete_queue, prepare_drop,
-    prepare_fill, prepare_initialize, prepare_node_lost, prepare_node_up, prepare_set,
-    prepare_start, prepare_stop, prepare_took,
-};
 use qm_image::{Change, Image, Prepared, Refused};
 use qm_jobs::{
     prepare_abort, prepare_delete_entry, prepare_merge, prepare_report, prepare_set_entry,
     prepare_submit, prepare_tick,
 };
 use qm_kinds::{Moment, Name, RUNS_LIMIT, Refusal, Request};
+use qm_making::{
+    prepare_append, prepare_define_characteristic, prepare_define_form,
+    prepare_delete_characteristic, prepare_delete_form, prepare_delete_queue, prepare_drop,
+    prepare_fill, prepare_initialize, prepare_node_lost, prepare_node_up, prepare_set,
+    prepare_start, prepare_stop, prepare_took,
+};
 use qm_rules::Reported;
 use std::alloc::AllocError;
 

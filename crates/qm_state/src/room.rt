@@ -1,8 +1,6 @@
 // Room for the jobs that start behind a change.
 ghost use Rattle.std.specs.Prelude.{◌≡◌, ◌≤◌, [], if◌then◌else◌, length, vec_capacity, IfOk};
-ghost use Rattle.qm_kinds.specs.declared.limits.TheConstants.{QUEUES_LIMIT};
-ghost use Rattle.qm_model.specs.Fitting.{is_started};
-ghost use Rattle.qm_model.specs.Free.{places};
+ghost use Rattle.qm_model.specs.Common.{QUEUES_LIMIT, is_started, places};
 ghost use Rattle.qm_sched.specs.Starts.{start_places};
 ghost use Rattle.qm_image.specs.Image.{system_of};
 ghost use Rattle.qm_image.specs.Preparing.{StartAtMost};

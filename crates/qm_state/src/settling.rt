@@ -1,7 +1,6 @@
 // Jobs start, and nobody counts the looks at rows.
 ghost use Rattle.std.specs.Prelude.{◌≡◌, ◌<◌, ◌≤◌, [], length, vec_capacity};
-ghost use Rattle.qm_kinds.specs.declared.system.System.{System};
-ghost use Rattle.qm_model.specs.Settling.{settled};
+ghost use Rattle.qm_model.specs.Common.{System, settled};
 ghost use Rattle.qm_parts.specs.Tables.{with_tables};
 ghost use Rattle.qm_state.specs.Settling.{AreSettled, DifferInRuns};
 

@@ -1,12 +1,9 @@
 -- What a record that is appended to the live file is to the database.
 use Rattle.std.proofs.Common.{◌≡◌, ◌≢◌, sym, ap, subst, arith, ℕ, IsTrue, List, [], ◌∷◌, ◌++◌}
-use Rattle.qm_disk.specs.Disk.{Meaning, Only, KeepsOthers, LeavesOnly}
+use Rattle.qm_history.specs.Common.{Meaning, Only, KeepsOthers, LeavesOnly, Log, TornAppend, IsLog}
 use Rattle.qm_disk.proofs.Moments.{weaker}
 use Rattle.qm_glog.specs.Appending.{Appends, Adds as LogAdds}
 use Rattle.qm_glog.specs.Log.{bodies_of, file_of, cap_of}
-use Rattle.qm_glog.specs.declared.log.Log.{Log}
-use Rattle.qm_glog.specs.Moments.{TornAppend}
-use Rattle.qm_glog.specs.Records.{IsLog}
 use Rattle.qm_store.specs.Files.{recorded_in}
 use Rattle.qm_store.specs.Recorded.{HoldsEither, IsAtRest, with_body}
 use Rattle.qm_store.specs.declared.files.Files.{Files}

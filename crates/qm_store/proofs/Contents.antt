@@ -1,15 +1,9 @@
 -- What a queue database holds is one thing, and what the records of a site hold.
 use Rattle.std.proofs.Common.{◌≡◌, refl, subst, ℕ, List, map}
-use Rattle.qm_disk.specs.Disk.{CrashState}
+use Rattle.qm_history.specs.Common.{CrashState, IsLog, IsAccepted, MasterState, master_text, HoldRecords, Record, record_text}
 use Rattle.qm_glog.proofs.Texts.{one_list}
-use Rattle.qm_glog.specs.Records.{IsLog}
-use Rattle.qm_history.specs.Accepted.{IsAccepted}
-use Rattle.qm_history.specs.Master.{MasterState, master_text}
-use Rattle.qm_history.specs.Start.{HoldRecords}
-use Rattle.qm_kinds.specs.declared.record.Record.{Record}
 use Rattle.qm_store.proofs.Masters.{one_master}
 use Rattle.qm_store.specs.MasterJudging.{IsMaster}
-use Rattle.qm_record.specs.Spelling.{HasSpelling, record_text}
 use Rattle.qm_store.specs.Recorded.{Recorded, Holds}
 
 pub one_content : (files : CrashState) (a b : Recorded) → Holds files a → Holds files b → a ≡ b
@@ -20,8 +14,8 @@ one_content files a b left right =
     one_list (files b.says.live) a.bodies b.bodies (subst (λ (s : MasterState). IsLog (files s.live) a.bodies) says left.live_is_log) right.live_is_log in
     λ i. record { master = master i; says = says i; bodies = bodies i }
 
-pub held_records : (files : CrashState) (r : Recorded) (records : List Record) → Holds files r → r.bodies ≡ map record_text records → IsAccepted HasSpelling records
-    → HoldRecords IsLog HasSpelling record_text files r.says records
+pub held_records : (files : CrashState) (r : Recorded) (records : List Record) → Holds files r → r.bodies ≡ map record_text records → IsAccepted records
+    → HoldRecords files r.says records
 held_records files r records holds same accepted = record {
   masters = holds.is_master.masters;
   master_is_log = subst (IsLog (files 0)) holds.is_master.whole holds.master_is_log;
@@ -31,7 +25,7 @@ held_records files r records holds same accepted = record {
   accepted = accepted;
 }
 
-pub held_bodies : (files : CrashState) (says : MasterState) (records : List Record) (h : HoldRecords IsLog HasSpelling record_text files says records)
+pub held_bodies : (files : CrashState) (says : MasterState) (records : List Record) (h : HoldRecords files says records)
     → Holds files (record { master = map master_text h.masters; says = says; bodies = map record_text records })
 held_bodies files says records h = record {
   master_is_log = h.master_is_log;

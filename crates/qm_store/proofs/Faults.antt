@@ -1,18 +1,15 @@
 -- What loading finds wrong with files, and that it finds nothing wrong with those that hold a database.
 use Rattle.std.proofs.Common.{◌≡◌, ◌∙◌, refl, sym, ap, subst, inl, inr, ⊎_elim, ℕ, List, map}
-use Rattle.qm_disk.specs.Disk.{CrashState}
+use Rattle.qm_history.specs.Common.{CrashState, IsLog}
 use Rattle.qm_glog.proofs.Texts.{one_list, sound_if_log}
-use Rattle.qm_glog.specs.Records.{IsLog, IsDamaged}
 use Rattle.qm_history.specs.Master.{MasterRecord, MasterState, AreMaster, master_of, master_text, no_master}
 use Rattle.qm_history.specs.Start.{first_byte, AreDamaged, IsMasterDamaged}
 use Rattle.qm_store.proofs.Masters.{has_record, one_master}
-use Rattle.qm_store.specs.MasterJudging.{place_of}
-use Rattle.qm_record.specs.Spelling.{HasSpelling, record_text}
 use Rattle.qm_store.proofs.Loading.{begins_open}
 use Rattle.qm_store.specs.Loading.{IsDamagedAt, IsLiveCut}
 use Rattle.qm_store.specs.Recorded.{Recorded, Holds}
 
-pub found_is_damage : (files : CrashState) (file place : ℕ) → IsDamagedAt files file place → AreDamaged IsLog IsDamaged place_of HasSpelling record_text files file place
+pub found_is_damage : (files : CrashState) (file place : ℕ) → IsDamagedAt files file place → AreDamaged files file place
 found_is_damage files file place found = ⊎_elim (λ master. inl master) (λ live. inr (record {
   masters = live.masters;
   master_is_log = live.master_is_log;
@@ -34,7 +31,7 @@ live_is_whole files r file place holds live =
     (subst (λ (f : ℕ). IsLog (files f) r.bodies) (ap (λ (s : MasterState). s.live) same ∙ sym live.file_is) holds.live_is_log) live.cut
 
 module _ (judged : (file : List ℕ) (masters : List MasterRecord) (place : ℕ) → IsLog file (map master_text masters) → AreMaster masters
-    → IsMasterDamaged IsLog IsDamaged place_of HasSpelling record_text file place → ⊥)
+    → IsMasterDamaged file place → ⊥)
   where
     pub held_is_sound : (files : CrashState) (r : Recorded) (file place : ℕ) → Holds files r → IsDamagedAt files file place → ⊥
     held_is_sound files r file place holds found =

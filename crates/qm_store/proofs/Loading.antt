@@ -1,14 +1,11 @@
 -- What the logs of the files tell of the database.
 use Rattle.std.proofs.Common.{◌≡◌, ◌≢◌, sym, refl, ◌∙◌, ap, arith, ℕ, ◌<◌, ◌≤◌, inl, inr, List, [], ◌∷◌, ◌++◌, length, subst, Result, Ok, Err, IsErrAnd}
-use Rattle.qm_disk.specs.Disk.{Meaning, CrashState, OnlyLooks}
+use Rattle.qm_history.specs.Common.{Meaning, CrashState, OnlyLooks, Log, OpenFault, first_byte, place_of}
 use Rattle.qm_glog.specs.Log.{bodies_of, IsAsLeft}
 use Rattle.qm_glog.specs.Records.{text, IsLog, IsBroken, IsDamaged}
 use Rattle.qm_glog.specs.Opened.{IsOpenFault}
-use Rattle.qm_glog.specs.declared.log.Log.{Log}
-use Rattle.qm_glog.specs.declared.fault.OpenFault.{OpenFault}
 use Rattle.qm_glog.specs.declared.fault.OpenFault.TheVariants.{Disk, Unformatted, Damaged, NoMemory}
-use Rattle.qm_history.specs.Start.{first_byte}
-use Rattle.qm_store.specs.MasterJudging.{IsFirstBad, place_of}
+use Rattle.qm_store.specs.MasterJudging.{IsFirstBad}
 use Rattle.qm_store.specs.MasterRecords.{state_of}
 use Rattle.qm_store.specs.declared.master.state.MasterState.{MasterState}
 use Rattle.qm_store.proofs.Masters.{has_record, says_lawful}

@@ -3,11 +3,9 @@ use Rattle.std.proofs.Common.{◌≡◌, ◌≢◌, sym, refl, ◌∙◌, ap, su
 use Rattle.std.specs.declared.alloc.Global.{Global}
 use Rattle.qm_disk.specs.Disk.{Meaning, Only, KeepsOthers, ChangesOnly}
 use Rattle.qm_disk.proofs.Moments.{weaker, goes_further}
-use Rattle.qm_glog.specs.Bodies.{contents}
-use Rattle.qm_glog.specs.Records.{IsLog, size_of}
+use Rattle.qm_history.specs.Common.{contents, IsLog, size_of, Found, master_text, Record}
 use Rattle.qm_glog.proofs.Made.{contents_more}
 use Rattle.qm_glog.proofs.Texts.{size_of-push}
-use Rattle.qm_history.specs.Master.{Found, master_text}
 use Rattle.qm_store.specs.MasterJudging.{IsMaster}
 use Rattle.qm_store.proofs.Masters.{master_begins}
 use Rattle.qm_store.specs.Faults.{making_fault}
@@ -16,7 +14,6 @@ use Rattle.qm_store.specs.declared.fault.WriteFault.{WriteFault}
 use Rattle.qm_store.specs.declared.fault.WriteFault.TheVariants.{Disk, Full, NoMemory}
 use Rattle.qm_glog.specs.declared.fault.MakeFault.{MakeFault}
 use Rattle.qm_glog.specs.declared.fault.MakeFault.TheVariants as make
-use Rattle.qm_kinds.specs.declared.record.Record.{Record}
 use Rattle.qm_store.specs.Recorded.{database_of}
 use Rattle.qm_store.proofs.Opening.{stays_durable}
 

@@ -2,8 +2,7 @@
 use Rattle.std.proofs.Common.{◌≡◌, ◌≢◌, refl, sym, subst, ⊎_elim, inl, inr, arith, ℕ, ◌≤◌, List, [], ◌∷◌, ◌++◌}
 use Rattle.qm_disk.specs.Disk.{Meaning, CrashState, IsLeft, LeavesOnly, KeepsOthers}
 use Rattle.qm_disk.proofs.Moments.{started}
-use Rattle.qm_glog.specs.Moments.{TornAppend}
-use Rattle.qm_glog.specs.Records.{IsLog}
+use Rattle.qm_history.specs.Common.{TornAppend, IsLog}
 use Rattle.qm_history.specs.Master.{IsQueueFile}
 use Rattle.qm_store.specs.MasterJudging.{IsMaster}
 use Rattle.qm_store.proofs.Masters.{says_lawful}

@@ -1,15 +1,11 @@
 -- What an epoch that is appended to the master is to the database.
 use Rattle.std.proofs.Common.{◌≡◌, ◌≢◌, sym, refl, ◌∙◌, ap, subst, arith, ℕ, ◌<◌, ◌≤◌, ◌^◌, IsTrue, List, Ok, Err}
-use Rattle.qm_disk.specs.Disk.{Meaning, Only, KeepsOthers, LeavesOnly}
+use Rattle.qm_history.specs.Common.{Meaning, Only, KeepsOthers, LeavesOnly, Log, TornAppend, IsLog, Epoch, master_text}
 use Rattle.qm_disk.proofs.Moments.{weaker}
 use Rattle.qm_glog.specs.Appending.{Appended, Appends, Adds}
 use Rattle.qm_glog.specs.declared.fault.AppendFault.{AppendFault}
 use Rattle.qm_glog.specs.declared.fault.AppendFault.TheVariants.{Disk, Full}
 use Rattle.qm_glog.specs.Log.{bodies_of, file_of, cap_of, need_of, IsAsLeft}
-use Rattle.qm_glog.specs.declared.log.Log.{Log}
-use Rattle.qm_glog.specs.Moments.{TornAppend}
-use Rattle.qm_glog.specs.Records.{IsLog}
-use Rattle.qm_history.specs.Master.{Epoch, master_text}
 use Rattle.qm_store.specs.MasterJudging.{IsMaster}
 use Rattle.qm_store.proofs.Masters.{master_grows}
 use Rattle.qm_store.specs.Files.{recorded_in, epoch_need, HasBegun, BeginsEpoch}

@@ -1,7 +1,6 @@
 -- What an append answers, and what it leaves.
 use Rattle.std.specs.Prelude.{◌≡◌, ◌≢◌, ◌<◌, ◌≤◌, ℕ, IsTrue, List, Result, Ok, Err}
-use Rattle.qm_disk.specs.Disk.{Meaning}
-use Rattle.qm_glog.specs.Log.{need_of}
+use Rattle.qm_history.specs.Common.{Meaning, need_of}
 use Rattle.qm_store.specs.Database.{open_disk, open_record, spare_of}
 use Rattle.qm_store.specs.Recorded.{Recorded, IsAtRest, with_body}
 use Rattle.qm_store.specs.declared.fault.AppendFault.{AppendFault}

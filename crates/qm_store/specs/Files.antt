@@ -1,8 +1,7 @@
 -- What was read of the files, and whether each is as the last call left it.
 use Rattle.std.specs.Prelude.{◌≡◌, ℕ, IsTrue, Result, Ok, Err, ◌<◌, ◌≤◌}
-use Rattle.qm_disk.specs.Disk.{Meaning}
+use Rattle.qm_history.specs.Common.{Meaning, Epoch, master_text}
 use Rattle.qm_glog.specs.Log.{bodies_of, need_of, IsAsLeft}
-use Rattle.qm_history.specs.Master.{Epoch, master_text}
 use Rattle.qm_store.specs.MasterRecords.{state_of}
 use Rattle.qm_store.specs.Recorded.{Recorded, with_epoch}
 use Rattle.qm_glog.specs.declared.fault.AppendFault.{AppendFault}

@@ -1,17 +1,14 @@
 -- What loading tells of the files.
 use Rattle.std.specs.Prelude.{◌≡◌, ◌≢◌, ◌⊎◌, ℕ, List, map, Result, Ok, Err}
-use Rattle.qm_disk.specs.Disk.{CrashState}
+use Rattle.qm_history.specs.Common.{CrashState, OpenFault, Log}
 use Rattle.qm_glog.specs.Log.{bodies_of}
 use Rattle.qm_glog.specs.Records.{IsLog, IsDamaged}
-use Rattle.qm_glog.specs.declared.fault.OpenFault.{OpenFault}
 use Rattle.qm_glog.specs.declared.fault.OpenFault.TheVariants.{Disk, Unformatted, Damaged, NoMemory}
-use Rattle.qm_glog.specs.declared.log.Log.{Log}
 use Rattle.qm_history.specs.Master.{MasterRecord, AreMaster, master_of, master_text, no_master}
 use Rattle.qm_history.specs.Start.{first_byte, IsMasterDamaged, IsUnformatted}
-use Rattle.qm_store.specs.MasterJudging.{IsMaster, place_of}
+use Rattle.qm_store.specs.MasterJudging.{IsMaster}
 use Rattle.qm_store.specs.MasterRecords.{state_of}
 use Rattle.qm_store.specs.declared.master.state.MasterState.{MasterState}
-use Rattle.qm_record.specs.Spelling.{HasSpelling, record_text}
 use Rattle.qm_store.specs.Database.{disk_of, loaded_disk, loaded_record}
 use Rattle.qm_store.specs.Files.{recorded_in}
 use Rattle.qm_store.specs.Recorded.{Holds}
@@ -31,14 +28,14 @@ pub record IsLiveCut (files : CrashState) (file place : ℕ) : Type 0 where
 -- a place is the first that is wrong: in the master as it is judged whole, or else in the live file as a log alone
 abbrev pub IsDamagedAt : CrashState → ℕ → ℕ → Type 0
 IsDamagedAt files file place =
-    ((file ≡ MASTER_FILE) × IsMasterDamaged IsLog IsDamaged place_of HasSpelling record_text (files MASTER_FILE) place) ⊎ IsLiveCut files file place
+    ((file ≡ MASTER_FILE) × IsMasterDamaged (files MASTER_FILE) place) ⊎ IsLiveCut files file place
 
 -- The master doesn't begin with a record; or a place is the first that is wrong, the master before the live file; or the device
 -- failed; or memory ran out, behind a gate that is open.
 abbrev pub IsLoadFault : CrashState → OpenFault → Type 0
 IsLoadFault files Disk = Unit {0}
 IsLoadFault files NoMemory = first_byte (files MASTER_FILE) ≡ 1
-IsLoadFault files (Unformatted byte) = IsUnformatted IsLog IsDamaged place_of HasSpelling record_text files byte
+IsLoadFault files (Unformatted byte) = IsUnformatted files byte
 IsLoadFault files (Damaged file place) = IsDamagedAt files file place
 
 -- what the files hold, or why they aren't a database
@@ -68,7 +65,7 @@ abbrev pub IsMasterFault : List ℕ → OpenFault → Type 0
 IsMasterFault file Disk = Unit {0}
 IsMasterFault file NoMemory = first_byte file ≡ 1
 IsMasterFault file (Unformatted byte) = (byte ≡ first_byte file) × (byte ≢ 1)
-IsMasterFault file (Damaged number place) = (number ≡ MASTER_FILE) × IsMasterDamaged IsLog IsDamaged place_of HasSpelling record_text file place
+IsMasterFault file (Damaged number place) = (number ≡ MASTER_FILE) × IsMasterDamaged file place
 
 -- its log, or why it has none
 abbrev pub ReadsMasterLog : List ℕ → Result Log OpenFault → Type 0

@@ -1,10 +1,6 @@
 -- How a database is made.
 use Rattle.std.specs.Prelude.{◌≡◌, ◌<◌, ◌≤◌, ◌+◌, ◌-◌, ◌^◌, min, ℕ, IsTrue, List, Result, Ok, Err, map}
-use Rattle.qm_disk.specs.Disk.{Meaning, CrashState, LeavesOnly}
-use Rattle.qm_glog.specs.Records.{size_of}
-use Rattle.qm_kinds.specs.declared.record.Record.{Record}
-use Rattle.qm_kinds.specs.declared.limits.TheConstants.{LEAST_CAP, GREATEST_CAP}
-use Rattle.qm_record.specs.Spelling.{record_text}
+use Rattle.qm_history.specs.Common.{Meaning, CrashState, LeavesOnly, size_of, Record, LEAST_CAP, GREATEST_CAP, record_text}
 use Rattle.qm_store.specs.Database.{disk_of}
 use Rattle.qm_store.specs.Recorded.{IsAtRest, new_database, database_of}
 use Rattle.qm_store.specs.declared.closed.Closed.{Closed}

@@ -1,12 +1,10 @@
 -- What the bodies of a master's records say together, or which is the first that can't stand there.
-use Rattle.std.specs.Prelude.{◌≡◌, ◌<◌, ◌≤◌, ◌^◌, ℕ, List, map, take, Result, Ok, Err}
-use Rattle.qm_glog.specs.Records.{size_of, IsLog, IsDamaged}
+use Rattle.std.specs.Prelude.{◌≡◌, ◌<◌, ◌≤◌, ◌^◌, ℕ, List, map, Result, Ok, Err}
 use Rattle.qm_history.specs.Master.{MasterRecord, MasterState as State, master_text, master_of, no_master, AreMaster, IsQueueFile}
 use Rattle.qm_history.specs.Start.{IsFirstBadMaster}
 use Rattle.qm_store.specs.MasterRecords.{state_of}
 use Rattle.qm_store.specs.declared.master.state.MasterState.{MasterState}
 use Rattle.qm_kinds.specs.declared.limits.TheConstants.{LEAST_CAP, GREATEST_CAP}
-use Rattle.qm_record.specs.Spelling.{HasSpelling, record_text}
 
 -- the bodies are those of a master that says this
 pub record IsMaster (bodies : List (List ℕ)) (says : State) : Type 0 where
@@ -22,13 +20,9 @@ pub record IsLawful (says : State) : Type 0 where
   pub live : IsQueueFile says.live
   pub epoch : says.epoch < 2 ^ 62
 
--- the place of a record's gate in a file of these bodies
-abbrev pub place_of : List (List ℕ) → ℕ → ℕ
-place_of bodies index = size_of (take index bodies)
-
 -- the body of this index is the first one that can't stand in a master
 abbrev pub IsFirstBad : List (List ℕ) → ℕ → Type 0
-IsFirstBad bodies index = IsFirstBadMaster IsLog IsDamaged place_of HasSpelling record_text bodies index
+IsFirstBad bodies index = IsFirstBadMaster bodies index
 
 -- what the bodies say, or the first that is wrong
 abbrev pub IsJudged : List (List ℕ) → Result MasterState ℕ → Type 0

@@ -2,11 +2,8 @@
 -- OpenVMS System Manager's Manual, Managing the Queue Manager and Queue Database, on the files of the queue database.
 use Rattle.std.specs.Prelude.{◌⊎◌, ℕ, ◌+◌, max, List, [], ◌∷◌, ◌++◌, map}
 use Rattle.qm_disk.specs.Disk.{Meaning, CrashState, Only, OthersLeft}
-use Rattle.qm_glog.specs.Records.{IsLog}
-use Rattle.qm_history.specs.Master.{MasterState, Found, Epoch, master_text}
-use Rattle.qm_kinds.specs.declared.record.Record.{Record}
+use Rattle.qm_history.specs.Common.{IsLog, MasterState, Found, Epoch, master_text, Record, record_text}
 use Rattle.qm_store.specs.MasterJudging.{IsMaster}
-use Rattle.qm_record.specs.Spelling.{record_text}
 use Rattle.qm_store.specs.declared.files.TheConstants.{MASTER_FILE, FIRST_QUEUE_FILE}
 
 -- the bodies of the master's records, what they say, and the bodies of the live queue file's records

@@ -32,11 +32,13 @@ impl<D: Disk> Closed<D> {
     /// The other queue file is never looked at, and nothing is changed. An `Err` hands the database back.
     pub fn load(self) -> Result<Loaded<D>, (Closed<D>, LoadFault)>
         ensures found { IsTrue D.meaning.tells → Loads (D.meaning.seen (disk_of self)) result }
-        ensures at_rest { IfOk result (λ loaded. IsTrue D.meaning.tells → IsAtRest D.meaning (loaded_record loaded) (loaded_disk loaded)) }
+        ensures at_rest { IfOk result (λ loaded. IsTrue D.meaning.tells
+            → IsAtRest D.meaning (loaded_record loaded) (loaded_disk loaded)) }
 
         // The files read as before, and a crash at any moment leaves what it might before.
         ensures looks { OnlyLooks D.meaning (disk_of self) (disk_after result) }
-        ensures faults { TellsFaults D.meaning (disk_of self) (disk_after result) (FailsBy result fault.Disk) }
+        ensures faults { TellsFaults D.meaning (disk_of self) (disk_after result)
+            (FailsBy result fault.Disk) }
     {
         let Closed { alloc, mut disk } = self;
         match read_files(alloc, &mut disk) {

@@ -33,10 +33,9 @@ pub(crate) struct Files {
 
 impl Files {
     ghost use Rattle.std.specs.Prelude.{◌≡◌, ◌<◌, IsTrue, OnOk, IsErrOf};
-    ghost use Rattle.qm_disk.specs.Disk.{TellsFaults};
+    ghost use Rattle.qm_history.specs.Common.{TellsFaults, Epoch, master_text};
     ghost use Rattle.qm_glog.specs.Appending.{Appends};
     ghost use Rattle.qm_glog.specs.Log.{spare_of, IsAsLeft};
-    ghost use Rattle.qm_history.specs.Master.{Epoch, master_text};
     ghost use Rattle.qm_store.specs.declared.master.record.TheConstants.{MASTER_RECORD_BYTES};
     ghost use Rattle.qm_store.specs.Files.{recorded_in, BeginsEpoch};
 
@@ -59,7 +58,8 @@ impl Files {
         requires room { MASTER_RECORD_BYTES < spare_of self.old.master }
         requires left { IsTrue D.meaning.tells → IsAsLeft D.meaning self.old.master disk.old }
         ensures answer { BeginsEpoch D.meaning epoch node self.old self.new disk.old disk.new result }
-        ensures leaves { Appends D.meaning (master_text (Epoch epoch node)) self.old.master disk.old disk.new }
+        ensures leaves { Appends D.meaning
+            (master_text (Epoch epoch node)) self.old.master disk.old disk.new }
         ensures faults { TellsFaults D.meaning disk.old disk.new (IsErrOf result AppendFault.Disk) }
     {
         let body = write_master(MasterRecord::Epoch { epoch, node });

@@ -21,11 +21,8 @@ pub struct Loaded<D> {
 
 impl<D: Disk> Loaded<D> {
     ghost use Rattle.std.specs.Prelude.{◌≡◌, ◌<◌, ◌≤◌, ◌^◌, ℕ, IsTrue, length, IfOk, OnOk, IsErrOf, slice_get, Some};
-    ghost use Rattle.qm_disk.specs.Disk.{LeavesOnly, KeepsOthers, TellsFaults};
-    ghost use Rattle.qm_bytes.specs.Laws.{Spells};
+    ghost use Rattle.qm_history.specs.Common.{LeavesOnly, KeepsOthers, TellsFaults, Spells, place_of, record_text, HasSpelling};
     ghost use Rattle.qm_kinds.specs.declared.record.Record.{Record as AnyRecord};
-    ghost use Rattle.qm_store.specs.MasterJudging.{place_of};
-    ghost use Rattle.qm_record.specs.Spelling.{record_text, HasSpelling};
     ghost use Rattle.qm_record.specs.Faults.{IsRead, IsFirstFault, IsRecord};
     ghost use Rattle.qm_store.specs.Database.{disk_of, loaded_disk, loaded_record, loaded_spare, OfBody};
     ghost use Rattle.qm_store.specs.Opening.{Opens, FailsBy, disk_behind, in_next_epoch};
@@ -57,13 +54,17 @@ impl<D: Disk> Loaded<D> {
     pub fn record(&self, index: usize) -> Result<Record, RecordFault>
         requires { index < length (loaded_record self.now).bodies }
         // What is read is spelled so.
-        ensures found { OfBody (loaded_record self.now).bodies index (λ body. IfOk result (λ r. Spells HasSpelling record_text r body)) }
+        ensures found { OfBody (loaded_record self.now).bodies index
+            (λ body. IfOk result (λ r. Spells HasSpelling record_text r body)) }
         // What is spelled so is read, unless memory runs out.
-        ensures only { OfBody (loaded_record self.now).bodies index (λ body. (r : AnyRecord) → HasSpelling r → body ≡ record_text r → IsRead r result) }
+        ensures only { OfBody (loaded_record self.now).bodies index (λ body. (r : AnyRecord)
+            → HasSpelling r → body ≡ record_text r → IsRead r result) }
         // A fault is the first one.
-        ensures first { OfBody (loaded_record self.now).bodies index (λ body. (place : ℕ) → IsErrOf result (RecordFault.Bad place) → IsFirstFault body place) }
+        ensures first { OfBody (loaded_record self.now).bodies index (λ body. (place : ℕ)
+            → IsErrOf result (RecordFault.Bad place) → IsFirstFault body place) }
         // Memory runs out only over a record.
-        ensures no_memory { OfBody (loaded_record self.now).bodies index (λ body. IsErrOf result RecordFault.NoMemory → IsRecord body) }
+        ensures no_memory { OfBody (loaded_record self.now).bodies index
+            (λ body. IsErrOf result RecordFault.NoMemory → IsRecord body) }
     {
         read_record(self.alloc, self.files.queue.record(index))
     }
@@ -98,14 +99,19 @@ impl<D: Disk> Loaded<D> {
     /// was tried by then: at `Disk` the new one, which may be recorded; else nothing has changed.
     pub fn open(self, tried: u64, node: u8) -> Result<Open<D>, (Closed<D>, WriteFault, u64)>
         requires tried { tried < 2 ^ 63 }
-        requires at_rest { IsTrue D.meaning.tells → IsAtRest D.meaning (loaded_record self) (loaded_disk self) }
+        requires at_rest { IsTrue D.meaning.tells
+            → IsAtRest D.meaning (loaded_record self) (loaded_disk self) }
         ensures answer { Opens D.meaning tried node self result }
 
         // A crash at any moment leaves the same records, in the new epoch or before it.
-        ensures any_moment { IsTrue D.meaning.tells → epoch_behind (loaded_record self) tried < 2 ^ 62 → LeavesOnly D.meaning (loaded_disk self) (disk_behind result)
-            (HoldsEither (D.meaning.may_leave (loaded_disk self)) MASTER_FILE (loaded_record self) (in_next_epoch (loaded_record self) tried node)) }
+        ensures any_moment { IsTrue D.meaning.tells
+            → epoch_behind (loaded_record self) tried < 2 ^ 62
+            → LeavesOnly D.meaning (loaded_disk self) (disk_behind result)
+            (HoldsEither (D.meaning.may_leave (loaded_disk self)) MASTER_FILE (loaded_record self)
+            (in_next_epoch (loaded_record self) tried node)) }
         ensures others { KeepsOthers D.meaning MASTER_FILE (loaded_disk self) (disk_behind result) }
-        ensures faults { TellsFaults D.meaning (loaded_disk self) (disk_behind result) (FailsBy result WriteFault.Disk) }
+        ensures faults { TellsFaults D.meaning (loaded_disk self) (disk_behind result)
+            (FailsBy result WriteFault.Disk) }
     {
         let Loaded {
             alloc,

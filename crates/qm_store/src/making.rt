@@ -1,10 +1,6 @@
 // How a database is made.
 ghost use Rattle.std.specs.Prelude.{◌≡◌, ◌≤◌, ◌+◌, ◌∷◌, [], IsTrue, All, IfOk, OnOk, IsErrOf};
-ghost use Rattle.qm_disk.specs.Disk.{TellsFaults};
-ghost use Rattle.qm_glog.specs.Bodies.{contents};
-ghost use Rattle.qm_glog.specs.Records.{size_of};
-ghost use Rattle.qm_history.specs.Master.{Found, master_text};
-ghost use Rattle.qm_record.specs.Spelling.{CanBeWritten, HasSpelling};
+ghost use Rattle.qm_history.specs.Common.{TellsFaults, contents, size_of, Found, master_text, CanBeWritten, HasSpelling};
 ghost use Rattle.qm_store.specs.Loading.{FailsBy};
 ghost use Rattle.qm_store.specs.Making.{need_for, Makes, IsWritten, IsMade, IsNotFull, made_disk, KeepsFile, IsQueueCap, texts_of};
 ghost use Rattle.qm_store.specs.declared.files.TheConstants.{FIRST_QUEUE_FILE};
@@ -42,7 +38,8 @@ fn file_need(bodies: &[Vec<u8>]) -> u64
 
 // The body of a new master's first record.
 fn master_bodies(alloc: Global, cap: u64) -> Result<Vec<Vec<u8>>, AllocError>
-    ensures { IfOk result (λ bodies. contents bodies.items ≡ master_text (Found cap FIRST_QUEUE_FILE) ∷ []) }
+    ensures { IfOk result (λ bodies. contents bodies.items
+        ≡ master_text (Found cap FIRST_QUEUE_FILE) ∷ []) }
 {
     let said = MasterRecord::Found {
         cap,
@@ -65,7 +62,8 @@ fn write_files<D: Disk>(
     requires cap { IsQueueCap cap }
     requires master { contents master.now ≡ master_text (Found cap FIRST_QUEUE_FILE) ∷ [] }
     requires room { size_of (contents queue.now) + 1 ≤ cap }
-    ensures written { OnOk result (IsTrue D.meaning.tells → IsWritten D.meaning cap (contents queue.now) disk.new) }
+    ensures written { OnOk result (IsTrue D.meaning.tells
+        → IsWritten D.meaning cap (contents queue.now) disk.new) }
     ensures other { KeepsFile D.meaning 2 disk.old disk.new }
     ensures not_full { IsNotFull result }
     ensures faults { TellsFaults D.meaning disk.old disk.new (IsErrOf result WriteFault.Disk) }
@@ -113,7 +111,8 @@ pub fn init<D: Disk>(
 
     // A crash at any moment leaves of the second queue file what it might before.
     ensures other { KeepsFile D.meaning 2 disk (made_disk result) }
-    ensures faults { TellsFaults D.meaning disk (made_disk result) (FailsBy result WriteFault.Disk) }
+    ensures faults { TellsFaults D.meaning disk (made_disk result)
+        (FailsBy result WriteFault.Disk) }
 {
     let mut disk = disk;
     match make(alloc, &mut disk, rows, cap) {

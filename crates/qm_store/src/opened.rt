@@ -56,14 +56,19 @@ impl<D: Disk> Open<D> {
     pub fn append(&mut self, epoch: u64, body: &[u8]) -> Result<(), AppendFault>
         requires room { length body.now < spare_of self.old }
         // No call of this database answered `Disk`.
-        requires at_rest { IsTrue D.meaning.tells → IsAtRest D.meaning (open_record self.old) (open_disk self.old) }
+        requires at_rest { IsTrue D.meaning.tells
+            → IsAtRest D.meaning (open_record self.old) (open_disk self.old) }
         ensures answer { Appended D.meaning epoch body.now self.old self.new result }
 
         // A crash at any moment leaves the old records, or these and the new one.
-        ensures any_moment { IsTrue D.meaning.tells → LeavesOnly D.meaning (open_disk self.old) (open_disk self.new)
-            (HoldsEither (D.meaning.may_leave (open_disk self.old)) (open_record self.old).says.live (open_record self.old) (with_body (open_record self.old) body.now)) }
-        ensures others { KeepsOthers D.meaning (open_record self.old).says.live (open_disk self.old) (open_disk self.new) }
-        ensures faults { TellsFaults D.meaning (open_disk self.old) (open_disk self.new) (IsErrOf result AppendFault.Disk) }
+        ensures any_moment { IsTrue D.meaning.tells
+            → LeavesOnly D.meaning (open_disk self.old) (open_disk self.new)
+            (HoldsEither (D.meaning.may_leave (open_disk self.old)) (open_record self.old).says.live
+            (open_record self.old) (with_body (open_record self.old) body.now)) }
+        ensures others { KeepsOthers D.meaning (open_record self.old).says.live (open_disk self.old)
+            (open_disk self.new) }
+        ensures faults { TellsFaults D.meaning (open_disk self.old) (open_disk self.new)
+            (IsErrOf result AppendFault.Disk) }
     {
         let current = self.files.says.epoch;
         if epoch != current {

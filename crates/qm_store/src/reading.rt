@@ -1,12 +1,10 @@
 // How the files of a device are read.
 ghost use Rattle.std.specs.Prelude.{◌≡◌, ◌<◌, ◌≤◌, ◌^◌, ◌↔◌, ℕ, List, IsTrue, IsErr, length, IfOk, IsErrOf};
-ghost use Rattle.qm_disk.specs.Disk.{OnlyLooks, TellsFaults};
+ghost use Rattle.qm_history.specs.Common.{OnlyLooks, TellsFaults, GREATEST_CAP, first_byte, place_of};
 ghost use Rattle.qm_glog.specs.Log.{bodies_of, IsAsLeft, StandsIn};
-ghost use Rattle.qm_kinds.specs.declared.limits.TheConstants.{GREATEST_CAP};
 ghost use Rattle.qm_glog.specs.Opened.{IsOpenFault};
 ghost use Rattle.qm_glog.specs.declared.fault.OpenFault.TheVariants as opening;
-ghost use Rattle.qm_history.specs.Start.{first_byte};
-ghost use Rattle.qm_store.specs.MasterJudging.{place_of, IsLawful};
+ghost use Rattle.qm_store.specs.MasterJudging.{IsLawful};
 ghost use Rattle.qm_store.specs.MasterRecords.{state_of};
 ghost use Rattle.qm_store.specs.Files.{AreLeft};
 ghost use Rattle.qm_store.specs.Loading.{ReadsFiles, ReadsMaster, ReadsMasterLog, ReadsLive, IsLiveFault};
@@ -36,7 +34,8 @@ pub(crate) fn place_in(log: &Log, index: usize) -> u64
 // The first byte of the master, which isn't empty.
 fn read_first_byte<D: Disk>(disk: &mut D) -> Result<u8, DiskFault>
     requires { IsTrue D.meaning.tells → 1 ≤ length (D.meaning.seen disk.old MASTER_FILE) }
-    ensures byte { IfOk result (λ byte. IsTrue D.meaning.tells → byte ≡ first_byte (D.meaning.seen disk.old MASTER_FILE)) }
+    ensures byte { IfOk result (λ byte. IsTrue D.meaning.tells
+        → byte ≡ first_byte (D.meaning.seen disk.old MASTER_FILE)) }
     ensures looks { OnlyLooks D.meaning disk.old disk.new }
     ensures faults { TellsFaults D.meaning disk.old disk.new (IsErr result) }
 {
@@ -47,7 +46,8 @@ fn read_first_byte<D: Disk>(disk: &mut D) -> Result<u8, DiskFault>
 
 // The log of the master, which has a record.
 fn read_master_log<D: Disk>(alloc: Global, disk: &mut D) -> Result<Log, LoadFault>
-    ensures found { IsTrue D.meaning.tells → ReadsMasterLog (D.meaning.seen disk.old MASTER_FILE) result }
+    ensures found { IsTrue D.meaning.tells
+        → ReadsMasterLog (D.meaning.seen disk.old MASTER_FILE) result }
     ensures some { IfOk result (λ log. 0 < length (bodies_of log)) }
     ensures place { IfOk result (StandsIn MASTER_FILE MASTER_CAP) }
     ensures left { IfOk result (λ log. IsTrue D.meaning.tells → IsAsLeft D.meaning log disk.new) }
@@ -64,10 +64,12 @@ fn read_master_log<D: Disk>(alloc: Global, disk: &mut D) -> Result<Log, LoadFaul
 
 // The master's log, and what it says.
 fn read_master_file<D: Disk>(alloc: Global, disk: &mut D) -> Result<(Log, MasterState), LoadFault>
-    ensures found { IsTrue D.meaning.tells → ReadsMaster (D.meaning.seen disk.old MASTER_FILE) result }
+    ensures found { IsTrue D.meaning.tells
+        → ReadsMaster (D.meaning.seen disk.old MASTER_FILE) result }
     ensures lawful { IfOk result (λ read. IsLawful (state_of read.1)) }
     ensures place { IfOk result (λ read. StandsIn MASTER_FILE MASTER_CAP read.0) }
-    ensures left { IfOk result (λ read. IsTrue D.meaning.tells → IsAsLeft D.meaning read.0 disk.new) }
+    ensures left { IfOk result (λ read. IsTrue D.meaning.tells
+        → IsAsLeft D.meaning read.0 disk.new) }
     ensures looks { OnlyLooks D.meaning disk.old disk.new }
     ensures faults { TellsFaults D.meaning disk.old disk.new (IsErrOf result opening.Disk) }
 {
@@ -86,7 +88,8 @@ fn read_master_file<D: Disk>(alloc: Global, disk: &mut D) -> Result<(Log, Master
 
 // What a fault of its log is to the live file. An empty one is damaged at its beginning.
 fn live_fault(file: u8, fault: LoadFault) -> LoadFault
-    ensures told { (content : List ℕ) → IsOpenFault file content fault → IsLiveFault file content result }
+    ensures told { (content : List ℕ) → IsOpenFault file content fault
+        → IsLiveFault file content result }
     ensures disk { (fault ≡ opening.Disk) ↔ (result ≡ opening.Disk) }
 {
     match fault {
@@ -122,7 +125,8 @@ fn read_live_file<D: Disk>(
 pub(crate) fn read_files<D: Disk>(alloc: Global, disk: &mut D) -> Result<Files, LoadFault>
     ensures found { IsTrue D.meaning.tells → ReadsFiles (D.meaning.seen disk.old) result }
     ensures epoch { IfOk result (λ files. files.says.epoch < 2 ^ 62) }
-    ensures left { IfOk result (λ files. IsTrue D.meaning.tells → AreLeft D.meaning files disk.new) }
+    ensures left { IfOk result (λ files. IsTrue D.meaning.tells
+        → AreLeft D.meaning files disk.new) }
     ensures looks { OnlyLooks D.meaning disk.old disk.new }
     ensures faults { TellsFaults D.meaning disk.old disk.new (IsErrOf result opening.Disk) }
 {

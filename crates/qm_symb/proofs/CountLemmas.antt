@@ -1,12 +1,10 @@
 -- How many blocks a job can have.
-use Rattle.std.proofs.Common.{◌≡◌, ◌⊎◌, inl, inr, ⊎_elim, ℕ, zero, suc, ◌+◌, ◌*◌, ◌≤◌, ◌<◌, Bool, true, false, cond, ◌==◌, List, [], ◌∷◌, length, take, drop, length-drop, length-append, refl, ◌∙◌, ap, arith}
-use Rattle.std.specs.Prelude.{flat_map, max}
+use Rattle.std.proofs.Common.{◌≡◌, ◌⊎◌, inl, inr, ⊎_elim, ℕ, zero, suc, ◌+◌, ◌*◌, ◌≤◌, ◌<◌, Bool, true, false, cond, ◌==◌, List, [], ◌∷◌, length, take, drop, length-drop, length-append, refl, ◌∙◌, ap, arith, flat_map, max}
 use Rattle.std.specs.List.{repeat}
 use mir.Val.{bool_byte}
 use Rattle.std.proofs.lemmas.Nat.{mul-le}
 use Rattle.std.proofs.lemmas.List.{length-map}
-use Rattle.qm_kinds.specs.declared.form.Shape.{Shape}
-use Rattle.qm_kinds.specs.declared.work.Work.{Work}
+use Rattle.qm_model.specs.Common.{Shape, Work}
 use Rattle.qm_model.specs.Pages.{parts_ended_by, rows, columns, fitted, wrapped, lines, sections, section_pages, pieces, page_block, text_blocks, flag_block, flag_blocks, page_blocks}
 use Rattle.qm_symb.specs.TextParts.{part_in_front, part_behind}
 use Rattle.qm_symb.proofs.PartLemmas.{parts_are}

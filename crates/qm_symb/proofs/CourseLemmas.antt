@@ -1,13 +1,9 @@
 -- What a batch run does from a line on, and how far a step of it came.
-use Rattle.std.proofs.Common.{◌≡◌, ℕ, zero, suc, ◌+◌, ◌-◌, ◌<◌, ◌≤◌, ◌^◌, min, true, false, Ok, Err, List, [], ◌∷◌, ◌++◌, length, length-append, take, refl, sym, ◌∙◌, ap, subst, arith, append_assoc}
-use Rattle.std.specs.Prelude.{nat_le, if◌then◌else◌, Result, OnOk, OnErr, is_err}
+use Rattle.std.proofs.Common.{◌≡◌, ℕ, zero, suc, ◌+◌, ◌-◌, ◌<◌, ◌≤◌, ◌^◌, min, true, false, Ok, Err, List, [], ◌∷◌, ◌++◌, length, length-append, take, refl, sym, ◌∙◌, ap, subst, arith, append_assoc, nat_le, if◌then◌else◌, Result, OnOk, OnErr, is_err}
 use Rattle.std.proofs.lemmas.List.{take_at, append-nil, map-append}
 use Rattle.qm_kinds.specs.declared.entry.JobKind.TheVariants.{Batch}
-use Rattle.qm_kinds.specs.declared.work.Work.{Work}
-use Rattle.qm_kinds.specs.declared.work.Place.{Place}
-use Rattle.qm_kinds.specs.declared.work.Report.{Report}
+use Rattle.qm_model.specs.Common.{Work, Place, Report, lines}
 use Rattle.qm_kinds.specs.declared.work.Report.TheVariants.{Done}
-use Rattle.qm_model.specs.Pages.{lines}
 use Rattle.qm_model.specs.Batch.{BatchMove, move_at, normal_status, line_limit_status}
 use Rattle.qm_model.specs.Reports.{Step, Handed, Reported, line_limit, steps_of, batch_steps, course_of, course, next_report, blocks_before_report}
 use Rattle.qm_symb.specs.Device.{Meaning, Takes, OneFailed, IsQuiet, handed_by}

@@ -1,6 +1,5 @@
 -- The pages of a text, one by one.
-use Rattle.std.proofs.Common.{◌≡◌, ℕ, zero, suc, ◌+◌, ◌<◌, Bool, true, false, cond, ◌==◌, List, [], ◌∷◌, ◌++◌, length, map, take, drop, get_or, eq-eqb, length-drop, refl, sym, ◌∙◌, ap, subst, arith}
-use Rattle.std.specs.Prelude.{flat_map}
+use Rattle.std.proofs.Common.{◌≡◌, ℕ, zero, suc, ◌+◌, ◌<◌, Bool, true, false, cond, ◌==◌, List, [], ◌∷◌, ◌++◌, length, map, take, drop, get_or, eq-eqb, length-drop, refl, sym, ◌∙◌, ap, subst, arith, flat_map}
 use Rattle.std.proofs.lemmas.List.{take_all, drop_all, drop-drop, map-append, flat_map_more}
 use Rattle.qm_kinds.specs.declared.form.Shape.{Shape}
 use Rattle.qm_model.specs.Pages.{lines, sections, rows, section_pages, page_block, line_block, text_blocks, pieces}

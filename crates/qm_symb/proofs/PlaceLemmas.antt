@@ -2,8 +2,7 @@
 use Rattle.std.proofs.Common.{◌≡◌, ◌⊎◌, inl, inr, ℕ, zero, suc, ◌+◌, ◌≤◌, ◌<◌, Bool, true, false, cond, ◌==◌, List, [], ◌∷◌, ◌++◌, length, map, take, drop, length-drop, length-append, refl, sym, ◌∙◌, ap, subst, arith}
 use Rattle.std.specs.List.{repeat}
 use Rattle.std.proofs.lemmas.List.{drop_all, drop-drop}
-use Rattle.qm_kinds.specs.declared.work.Work.{Work}
-use Rattle.qm_kinds.specs.declared.form.Shape.{Shape}
+use Rattle.qm_model.specs.Common.{Work, Shape}
 use Rattle.qm_model.specs.Pages.{rows, columns, fitted, wrapped, flag_block, flag_blocks, page_block, page_blocks, text_blocks}
 use Rattle.qm_symb.specs.TextParts.{part_in_front, part_behind, section, others, is_in_section}
 use Rattle.qm_symb.specs.PageLines.{IsFirstPage, first_page, printed_lines}

@@ -1,12 +1,8 @@
 -- Where runs of either kind stand: at their beginning, and behind a step.
-use Rattle.std.proofs.Common.{◌≡◌, ⊎_elim, ℕ, ◌+◌, true, false, List, [], ◌∷◌, Result, Ok, Err, refl, sym, subst, drop, length, ap}
-use Rattle.std.specs.Prelude.{nat_lt, decimal, if◌then◌else◌, IfOk}
+use Rattle.std.proofs.Common.{◌≡◌, ⊎_elim, ℕ, ◌+◌, true, false, List, [], ◌∷◌, Result, Ok, Err, refl, sym, subst, drop, length, ap, nat_lt, decimal, if◌then◌else◌, IfOk}
 use Rattle.qm_kinds.specs.declared.entry.JobKind.TheVariants.{Batch, Print}
-use Rattle.qm_kinds.specs.declared.work.Work.{Work}
-use Rattle.qm_kinds.specs.declared.work.Place.{Place}
-use Rattle.qm_kinds.specs.declared.work.Report.{Report}
+use Rattle.qm_model.specs.Common.{Work, Place, Report, page_blocks}
 use Rattle.qm_kinds.specs.declared.work.Report.TheVariants.{Mark, Done}
-use Rattle.qm_model.specs.Pages.{page_blocks}
 use Rattle.qm_model.specs.Reports.{begin, begin_at, course, next_report, print_report}
 use Rattle.qm_symb.specs.Device.{Meaning}
 use Rattle.qm_symb.specs.Symbiont.{IfGoesOn, Steps}

@@ -1,13 +1,10 @@
 -- One step of a print job.
-use Rattle.std.proofs.Common.{◌≡◌, ⊎_elim, ℕ, ◌+◌, ◌<◌, List, [], ◌∷◌, length, drop, length-drop, refl, sym, ◌∙◌, ap, arith}
-use Rattle.std.specs.Prelude.{decimal}
+use Rattle.std.proofs.Common.{◌≡◌, ⊎_elim, ℕ, ◌+◌, ◌<◌, List, [], ◌∷◌, length, drop, length-drop, refl, sym, ◌∙◌, ap, arith, decimal}
 use Rattle.std.proofs.lemmas.Bool.{cases_lt, lt-ltb, le-ltb}
 use Rattle.std.proofs.lemmas.List.{drop_all}
 use Rattle.qm_kinds.specs.declared.entry.JobKind.TheVariants.{Print}
-use Rattle.qm_kinds.specs.declared.work.Work.{Work}
-use Rattle.qm_kinds.specs.declared.work.Place.{Place}
+use Rattle.qm_model.specs.Common.{Work, Place, page_blocks}
 use Rattle.qm_kinds.specs.declared.work.Report.TheVariants.{Mark, Done}
-use Rattle.qm_model.specs.Pages.{page_blocks}
 use Rattle.qm_model.specs.Reports.{print_report, print_steps, course, course_of, next_report, blocks_before_report}
 use Rattle.qm_model.proofs.ReportLemmas.{last_report, next_mark, drop_next}
 

@@ -1,11 +1,10 @@
 -- The lines of a text, one by one.
-use Rattle.std.proofs.Common.{◌≡◌, ⊎_elim, ℕ, suc, ◌+◌, ◌<◌, ◌≤◌, Bool, true, false, cond, not, List, [], ◌∷◌, length, take, drop, length-drop, length-take, Some, None, refl, sym, ◌∙◌, ap, arith}
+use Rattle.std.proofs.Common.{◌≡◌, ⊎_elim, ℕ, suc, ◌+◌, ◌<◌, ◌≤◌, Bool, true, false, cond, not, List, [], ◌∷◌, length, take, drop, length-drop, length-take, Some, None, refl, sym, ◌∙◌, ap, arith, nat_le}
 use Rattle.std.specs.List.{position, position_or_len, position_from}
 use Rattle.std.proofs.lemmas.Bool.{cases_lt, lt-ltb, le-ltb, le-leb, lt-leb}
 use Rattle.std.proofs.lemmas.List.{drop_all, drop-drop}
 use Rattle.std.proofs.lemmas.List.Sums.{prefix_len-le-length}
 use Rattle.std.proofs.lemmas.Iterator.Adapters.{position_from-zero}
-use Rattle.std.specs.Prelude.{nat_le}
 use Rattle.qm_model.specs.Pages.{lines}
 use Rattle.qm_model.proofs.ReportLemmas.{drop_next}
 use Rattle.qm_symb.specs.TextParts.{part_in_front, part_behind}

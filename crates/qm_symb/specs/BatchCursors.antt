@@ -1,8 +1,6 @@
 -- Where a batch run is in its text.
 use Rattle.std.specs.Prelude.{◌≡◌, ◌==◌, ◌+◌, ◌-◌, ◌<◌, ◌≤◌, ℕ, Bool, List, ◌∷◌, length, drop}
-use Rattle.qm_kinds.specs.declared.work.Work.{Work}
-use Rattle.qm_kinds.specs.declared.work.Place.{Place}
-use Rattle.qm_model.specs.Pages.{lines}
+use Rattle.qm_model.specs.Common.{Work, Place, lines}
 use Rattle.qm_symb.specs.declared.batch.cursor.Cursor.{Cursor}
 
 -- a byte that ends a line

@@ -1,6 +1,5 @@
 -- What a line that was read means.
-use Rattle.std.specs.Prelude.{◌≤◌, ℕ, List, [], ◌∷◌, ◌++◌, codes, length, if◌then◌else◌, Option, None, Some}
-use Rattle.std.specs.Option.{option_and_then}
+use Rattle.std.specs.Prelude.{◌≤◌, ℕ, List, [], ◌∷◌, ◌++◌, codes, length, if◌then◌else◌, Option, None, Some, option_and_then}
 use Rattle.qm_model.specs.Texts.{value_of}
 use Rattle.qm_model.specs.Batch.{BatchLine, is_mark, is_status, has_no_quote, only_if, behind, ahead_of}
 use Rattle.qm_model.specs.Batch as batch

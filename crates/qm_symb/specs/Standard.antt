@@ -1,9 +1,7 @@
 -- Where a run of either kind stands in its work.
 use Rattle.std.specs.Prelude.{◌≡◌, drop}
 use Rattle.qm_kinds.specs.declared.entry.JobKind.TheVariants.{Batch, Print}
-use Rattle.qm_kinds.specs.declared.work.Work.{Work}
-use Rattle.qm_kinds.specs.declared.work.Place.{Place}
-use Rattle.qm_model.specs.Pages.{page_blocks}
+use Rattle.qm_model.specs.Common.{Work, Place, page_blocks}
 use Rattle.qm_symb.specs.PagePlaces.{blocks_from}
 use Rattle.qm_symb.specs.declared.print.cursor.Cursor as pages
 use Rattle.qm_symb.specs.BatchCursors.{Stands}

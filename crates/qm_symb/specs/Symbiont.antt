@@ -1,12 +1,8 @@
 -- What a step of a symbiont leaves, from a place of a run's work on.
 use Rattle.std.specs.Prelude.{◌≡◌, ◌⊎◌, ◌+◌, ◌<◌, ◌≤◌, length}
-use Rattle.qm_kinds.specs.declared.work.Work.{Work}
-use Rattle.qm_kinds.specs.declared.work.Place.{Place}
-use Rattle.qm_kinds.specs.declared.work.Report.{Report}
+use Rattle.qm_model.specs.Common.{Work, Place, Report, course, next_report, blocks_before_report, TEXT_LIMIT}
 use Rattle.qm_kinds.specs.declared.work.Report.TheVariants.{Done, Mark}
-use Rattle.qm_model.specs.Reports.{course, next_report, blocks_before_report}
 use Rattle.qm_symb.specs.Device.{Meaning, Takes, TakesNotAll, OneFailed, IsQuiet}
-use Rattle.qm_kinds.specs.declared.limits.TheConstants.{TEXT_LIMIT}
 use Rattle.qm_symb.specs.declared.symbiont.TheConstants.{DEVICE_FAULT_STATUS}
 
 -- a page has a row and a column between its margins, and the text isn't too long

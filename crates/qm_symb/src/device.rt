@@ -19,7 +19,8 @@ pub trait Device {
     /// Hands a block of a run to the device of this name. It is taken whole, or the call fails and it doesn't count
     /// as taken.
     fn hand(&mut self, run: u64, device: &Name, block: &[u8]) -> Result<(), DeviceFault>
-        ensures handed { OnOk result (Takes meaning run device.now (block.now ∷ []) self.old self.new) }
+        ensures handed { OnOk result
+            (Takes meaning run device.now (block.now ∷ []) self.old self.new) }
         ensures refused { OnErr result (Takes meaning run device.now [] self.old self.new) }
         ensures faults { TellsFaults meaning self.old self.new (IsErr result) };
 }

@@ -60,7 +60,8 @@ fn keep(
     device: &Name,
     block: &[u8],
 ) -> Result<(), AllocError>
-    ensures ok { OnOk result (taken.new.items ≡ taken.old.items ++ handed_by run device.now (block.now ∷ [])) }
+    ensures ok { OnOk result (taken.new.items
+        ≡ taken.old.items ++ handed_by run device.now (block.now ∷ [])) }
     ensures err { OnErr result (taken.new.items ≡ taken.old.items) }
 {
     let block = Seq::of(block.to_vec(alloc)?);
@@ -87,7 +88,8 @@ impl Device for MemoryDevice {
           faults = counted self.old.faults;
         }) }
 
-        ensures handed { OnOk result (Takes in_memory run device.now (block.now ∷ []) self.old self.new) }
+        ensures handed { OnOk result
+            (Takes in_memory run device.now (block.now ∷ []) self.old self.new) }
         ensures refused { OnErr result (Takes in_memory run device.now [] self.old self.new) }
         ensures faults { TellsFaults in_memory self.old self.new (IsErr result) }
     {

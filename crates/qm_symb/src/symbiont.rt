@@ -1,8 +1,6 @@
 // What carries out the runs of a node.
 ghost use Rattle.std.specs.Prelude.{◌≡◌, IfOk, OnErr};
-ghost use Rattle.qm_kinds.specs.declared.work.Work.{Work};
-ghost use Rattle.qm_kinds.specs.declared.work.Place.{Place};
-ghost use Rattle.qm_model.specs.Reports.{begin};
+ghost use Rattle.qm_model.specs.Common.{Work, Place, begin};
 ghost use Rattle.qm_symb.specs.Device.{Meaning};
 ghost use Rattle.qm_symb.specs.Symbiont.{IfGoesOn, IsWithinLimits, Steps};
 
@@ -59,8 +57,10 @@ pub trait Symbiont {
     ) -> Result<Report, AllocError>
         requires limits { IsWithinLimits work.now }
         requires place { stands work.now at cursor.old }
-        ensures stepped { IfOk result (λ report. Steps meaning work.now at report self.old self.new) }
-        ensures next_place { IfOk result (λ report. IfGoesOn report (λ next. stands work.now next cursor.new)) }
+        ensures stepped { IfOk result (λ report.
+            Steps meaning work.now at report self.old self.new) }
+        ensures next_place { IfOk result (λ report.
+            IfGoesOn report (λ next. stands work.now next cursor.new)) }
         ensures no_memory { OnErr result (self.new ≡ self.old) }
         ensures same_place { OnErr result (stands work.now at cursor.new) };
 }

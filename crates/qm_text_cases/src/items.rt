@@ -1,9 +1,9 @@
 // Calls by item lists, and what each asks for, or what is wrong with it and where.
 use crate::commands::{now, tell_input, tell_typed, user};
-use qm_item::{ItemFault, read_items};
 use qm_kinds::{Input, ParseKind};
 use qm_plans::{number_and_rest, push_line, push_times};
 use qm_sjc::{CallFault, read_call};
+use qm_values::{ItemFault, read_items};
 use std::alloc::{AllocError, Global};
 
 // The end of a list, in hexadecimal.

@@ -1,6 +1,5 @@
 // What is printed of rows, replies and refusals, and the items of rows.
 use qm_history::{Answer, Why};
-use qm_item::write_items;
 use qm_kinds::{
     Act, Boxed, Characteristic, CharacteristicSet, Duty, Entry, EntryState, FileName, Form,
     JobKind, JobRetain, ListedEntry, Listing, Mark, Moment, Name, ParseKind, Queue, QueueKind,
@@ -10,6 +9,7 @@ use qm_plans::push_line;
 use qm_rows::Rows;
 use qm_show::{show_answer, show_rows};
 use qm_sjc::row_items;
+use qm_values::write_items;
 use std::alloc::{AllocError, Global};
 
 // The name that a text spells, and SYS$BATCH where it spells none.

@@ -1,6 +1,6 @@
 // Texts of commands, and their tokens.
 use crate::lines::tell_number;
-use qm_lex::{LexFault, Token, TokenKind, lex};
+use qm_commands::{LexFault, Token, TokenKind, lex};
 use qm_plans::push_line;
 use std::alloc::{AllocError, Global};
 

@@ -1,7 +1,7 @@
 // Work at each place of two slices.
 ghost use Rattle.std.specs.Prelude.{ℕ};
 
-use qm_pairs::{Work, work_on_each};
+use qm_turn::{Work, work_on_each};
 use std::alloc::Global;
 use std::marker::Sync;
 use std::test::Fail;

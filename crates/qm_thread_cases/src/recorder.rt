@@ -1,9 +1,7 @@
 // A value in memory that records what it was asked.
 ghost use Rattle.std.specs.Prelude.{◌≡◌, ◌≢◌, [], false, IfOk, IsTrue};
-ghost use Rattle.qm_history.specs.Calls.{why_of};
-ghost use Rattle.qm_history.specs.Faults.{is_journal};
+ghost use Rattle.qm_history.specs.Common.{why_of, is_journal, AreShown, ShowsDuties};
 ghost use Rattle.qm_history.specs.declared.call.Answer.TheVariants as answer;
-ghost use Rattle.qm_history.specs.ShownDuties.{AreShown, ShowsDuties};
 ghost use Rattle.qm_model.specs.Duties.{IsProperWork};
 
 use qm_history::{Answer, Call, Serve, Turn, Why};

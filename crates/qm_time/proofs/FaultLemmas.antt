@@ -1,6 +1,5 @@
 -- The readers of times look at no byte behind the place where they end or fail.
-use Rattle.std.proofs.Common.{◌≡◌, ℕ, zero, suc, ◌+◌, ◌-◌, ◌*◌, ◌≤◌, Bool, true, false, cond, nat_eq, List, [], ◌∷◌, length, drop, max, Option, None, Some, Ok, Err, refl, sym, ap, ◌∙◌, arith}
-use Rattle.std.specs.Prelude.{slice_get, is_some, Result, codes, ◌==◌, ◌||◌, ◌&&◌, nat_le}
+use Rattle.std.proofs.Common.{◌≡◌, ℕ, zero, suc, ◌+◌, ◌-◌, ◌*◌, ◌≤◌, Bool, true, false, cond, nat_eq, List, [], ◌∷◌, length, drop, max, Option, None, Some, Ok, Err, refl, sym, ap, ◌∙◌, arith, slice_get, is_some, Result, codes, ◌==◌, ◌||◌, ◌&&◌, nat_le}
 use Rattle.qm_time.specs.declared.number.Number.{Number}
 use Rattle.qm_time.specs.declared.fault.TimeFault.{TimeFault}
 use Rattle.qm_time.specs.declared.fault.TimeFault.TheVariants.{Form}

@@ -1,6 +1,5 @@
 -- No time has more than 40 bytes: a date, a blank, a clock time, a sign and a delta.
-use Rattle.std.proofs.Common.{◌≡◌, ℕ, zero, suc, ◌+◌, ◌*◌, ◌≤◌, ◌<◌, Bool, true, false, cond, List, [], ◌∷◌, length, drop, Option, None, Some, Ok, Err, IfOk, refl, arith}
-use Rattle.std.specs.Prelude.{slice_get, is_none, is_some, Result, codes, ◌==◌, ◌||◌, ◌&&◌, nat_le}
+use Rattle.std.proofs.Common.{◌≡◌, ℕ, zero, suc, ◌+◌, ◌*◌, ◌≤◌, ◌<◌, Bool, true, false, cond, List, [], ◌∷◌, length, drop, Option, None, Some, Ok, Err, IfOk, refl, arith, slice_get, is_none, is_some, Result, codes, ◌==◌, ◌||◌, ◌&&◌, nat_le}
 use Rattle.std.specs.Result.{result_ok}
 use Rattle.qm_time.specs.declared.number.Number.{Number}
 use Rattle.qm_time.specs.declared.fault.TimeFault.{TimeFault}

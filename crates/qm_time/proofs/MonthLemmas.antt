@@ -1,10 +1,8 @@
 -- Words in front of a text.
-use Rattle.std.proofs.Common.{◌≡◌, ℕ, zero, suc, ◌+◌, ◌-◌, ◌<◌, ◌≤◌, cond, nat_eq, max, List, [], length, drop, get_or, Option, None, Some, refl, sym, arith, eq-eqb, false, true}
-use Rattle.std.specs.Prelude.{is_some, Bool, ◌∷◌}
+use Rattle.std.proofs.Common.{◌≡◌, ℕ, zero, suc, ◌+◌, ◌-◌, ◌<◌, ◌≤◌, cond, nat_eq, max, List, [], length, drop, get_or, Option, None, Some, refl, sym, arith, eq-eqb, false, true, is_some, Bool, ◌∷◌, ne_eqb}
 use Rattle.std.specs.List.{common_prefix_len}
 use Rattle.std.proofs.lemmas.List.Sums.{common_prefix_len-drop_yes, common_prefix_len-drop_no}
 use Rattle.std.proofs.lemmas.List.{drop_all}
-use Rattle.std.proofs.lemmas.Bool.{ne_eqb}
 use Rattle.qm_model.specs.MomentText.{month_letters}
 use Rattle.qm_time.specs.Months.{shared, month_in_front, most_shared}
 

@@ -1,6 +1,5 @@
 -- What is printed of a moment reads back.
-use Rattle.std.proofs.Common.{◌≡◌, ℕ, zero, suc, ◌+◌, ◌-◌, ◌*◌, ◌/◌, ◌%◌, ◌<◌, ◌≤◌, inl, inr, true, false, List, [], ◌∷◌, ◌++◌, drop, Some, Ok, refl, ap, ◌∙◌, arith}
-use Rattle.std.specs.Prelude.{is_none, slice_index}
+use Rattle.std.proofs.Common.{◌≡◌, ℕ, zero, suc, ◌+◌, ◌-◌, ◌*◌, ◌/◌, ◌%◌, ◌<◌, ◌≤◌, inl, inr, true, false, List, [], ◌∷◌, ◌++◌, drop, Some, Ok, refl, ap, ◌∙◌, arith, is_none, slice_index}
 use Rattle.std.proofs.lemmas.Bool.{le-leb, ne_eqb, lt-ltb, le-ltb, cases_lt}
 use Rattle.qm_time.specs.declared.number.Number.{Number}
 use Rattle.qm_time.specs.declared.time.Base.TheVariants.{Date}

@@ -1,8 +1,6 @@
 -- What is read where known bytes stand.
-use Rattle.std.proofs.Common.{◌≡◌, ℕ, zero, suc, ◌+◌, ◌*◌, ◌/◌, ◌%◌, ◌≤◌, true, false, nat_eq, List, [], ◌∷◌, ◌++◌, drop, None, Some, Ok, refl, ap, ◌∙◌, arith}
+use Rattle.std.proofs.Common.{◌≡◌, ℕ, zero, suc, ◌+◌, ◌*◌, ◌/◌, ◌%◌, ◌≤◌, true, false, nat_eq, List, [], ◌∷◌, ◌++◌, drop, None, Some, Ok, refl, ap, ◌∙◌, arith, slice_get, le-leb, eq-eqb}
 use Rattle.std.specs.Char.{is_ascii_digit}
-use Rattle.std.specs.Prelude.{slice_get}
-use Rattle.std.proofs.lemmas.Bool.{le-leb, eq-eqb}
 use Rattle.std.proofs.lemmas.Bool.Decides.{nat_tests}
 use Rattle.qm_time.specs.declared.number.Number.{Number}
 use Rattle.qm_time.specs.Numbers.{stands, digit_of, digit_at, one_digit_at, with_digit, number_at, next_digit, two_digits_at, four_digits_at}

@@ -1,6 +1,5 @@
 -- A reader looks at no byte behind the place where it ends or fails.
-use Rattle.std.proofs.Common.{◌≡◌, ℕ, ◌≤◌, Bool, true, false, cond, List, Ok, Err, refl, sym, ap, ◌∙◌, arith}
-use Rattle.std.specs.Prelude.{is_none, Result, ◌==◌}
+use Rattle.std.proofs.Common.{◌≡◌, ℕ, ◌≤◌, Bool, true, false, cond, List, Ok, Err, refl, sym, ap, ◌∙◌, arith, is_none, Result, ◌==◌}
 use Rattle.std.specs.Option.{option_map_or}
 use Rattle.qm_time.specs.declared.number.Number.{Number}
 use Rattle.qm_time.specs.declared.fault.TimeFault.{TimeFault}

@@ -1,8 +1,6 @@
 -- The text of a moment is ASCII.
-use Rattle.std.proofs.Common.{◌≡◌, ℕ, zero, suc, ◌/◌, ◌%◌, ◌<◌, List, [], ◌∷◌, length, lit<, refl, arith, ℤ, pos, to_z, of_z, nat_abs, ◌^◌}
-use Rattle.std.specs.Prelude.{slice_index, ◌==◌, cond, Bool, true, false}
+use Rattle.std.proofs.Common.{◌≡◌, ℕ, zero, suc, ◌/◌, ◌%◌, ◌<◌, List, [], ◌∷◌, length, lit<, refl, arith, ℤ, pos, to_z, of_z, nat_abs, ◌^◌, slice_index, ◌==◌, cond, Bool, true, false, IsAscii, IsUtf8}
 use Rattle.std.specs.Int.{Width}
-use Rattle.std.specs.Str.{IsAscii, IsUtf8}
 use Rattle.jiff_core.proofs.SignedLemmas.{back_small}
 use Rattle.qm_model.specs.Calendar.{date_of_day}
 use Rattle.qm_model.specs.MomentText.{two_digits, four_digits, right_in_two, month_letters, moment_text}

@@ -1,6 +1,5 @@
 -- The moments that times name.
-use Rattle.std.specs.Prelude.{ℕ, ◌+◌, ◌-◌, ◌*◌, ◌/◌, ◌&&◌, ◌||◌, nat_le, nat_lt, if◌then◌else◌, List, Option, None, Some, Result, Ok, Err}
-use Rattle.std.specs.Option.{option_and_then, option_map}
+use Rattle.std.specs.Prelude.{ℕ, ◌+◌, ◌-◌, ◌*◌, ◌/◌, ◌&&◌, ◌||◌, nat_le, nat_lt, if◌then◌else◌, List, Option, None, Some, Result, Ok, Err, option_and_then, option_map}
 use Rattle.qm_time.specs.declared.fault.TimeFault.{TimeFault}
 use Rattle.qm_time.specs.declared.fault.TimeFault.TheVariants.{Range}
 use Rattle.qm_time.specs.declared.time.Base.{Base}

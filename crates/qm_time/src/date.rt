@@ -1,7 +1,7 @@
 // Days and dates of the calendar, by `jiff`.
-ghost use Rattle.std.specs.Prelude.{◌≡◌, ◌<◌, ◌≤◌, ◌≤ℤ◌, pos, unsigned_abs, IfSome};
+ghost use Rattle.std.specs.Prelude.{◌≡◌, ◌<◌, ◌≤◌, ◌≤ℤ◌, pos, IfSome};
 ghost use Rattle.qm_model.specs.Calendar.{date_of_day, day_count};
-ghost use Rattle.qm_time.specs.Dates.{IsSameDate};
+ghost use Rattle.qm_time.specs.Dates.{civil_date, IsSameDate};
 ghost use Rattle.qm_time.specs.Moments.{day_of_date};
 
 use jiff::ToSpan;
@@ -33,7 +33,7 @@ pub(crate) fn day_of_date(year: u64, month: u64, day: u64) -> Option<u64>
 // The days from the first of January of the year 0 to a date of a year from it on.
 fn days_since_year_0(of: Date) -> u64
     requires { pos 0 ≤ℤ of.year }
-    ensures value { result ≡ day_count (record { year = unsigned_abs of.year; month = of.month; day = of.day }) }
+    ensures value { result ≡ day_count (civil_date of) }
     ensures low { result ≤ 3652424 }
 {
     let hours = of.duration_since(date(0, 1, 1)).as_hours();

@@ -111,7 +111,7 @@ pub(crate) fn long_number_at(text: &[u8], place: usize) -> Result<Number, TimeFa
 fn next_digit(text: &[u8], number: Number) -> Result<Number, TimeFault>
     requires few { number.value ≤ 999 }
     ensures value { result ≡ next_digit text.now number }
-    ensures within { IfOk result (λ n. (n.value ≤ 10 * number.value + 9) × (n.end ≤ length text.now)) }
+    ensures within { IfOk result (IsWithin (10 * number.value + 9) text.now) }
 {
     let digit = one_digit_at(text, number.end)?;
     Ok(Number {

@@ -1,6 +1,5 @@
 // The text of a moment.
-ghost use Rattle.std.specs.Prelude.{◌≡◌, ◌<◌, ◌≤◌, pos, Some, IfOk, vec_len};
-ghost use Rattle.std.specs.Str.{IsAscii};
+ghost use Rattle.std.specs.Prelude.{◌≡◌, ◌<◌, ◌≤◌, pos, Some, IfOk, vec_len, IsAscii};
 ghost use Rattle.qm_model.specs.Calendar.{date_of_day};
 ghost use Rattle.qm_model.specs.MomentText.{two_digits, four_digits, right_in_two, month_letters, clock_text, date_text, moment_text};
 
@@ -17,8 +16,7 @@ pub struct TimeText {
 }
 
 impl Model for TimeText {
-    ghost use Rattle.std.specs.Prelude.{◌≡◌, ℕ, List, length};
-    ghost use Rattle.std.specs.Str.{IsAscii};
+    ghost use Rattle.std.specs.Prelude.{◌≡◌, ℕ, List, length, IsAscii};
 
     ghost Value = { List ℕ };
 

@@ -1,6 +1,5 @@
 -- A pass reads how many turns have ended, and has then seen them.
-use Rattle.std.proofs.Common.{◌≡◌, ℕ, ◌+◌, List, [], length, slice_index, set, refl, ap, ◌∙◌, arith}
-use Rattle.std.proofs.Common.{Option as Optional}
+use Rattle.std.proofs.Common.{◌≡◌, ℕ, ◌+◌, List, [], length, slice_index, set, refl, ap, ◌∙◌, arith, Option as Optional}
 use mathlib.Core.Option.{none, some}
 use lib.ListN.{get_elem?}
 use Rattle.atomic_table.specs.Table.{State, Allows, keeps, step}

@@ -10,3 +10,4 @@ pub mod Splitting
 pub mod Joining
 pub mod Closing
 pub mod Gathering
+mod Halves

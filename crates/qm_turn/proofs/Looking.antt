@@ -1,6 +1,5 @@
 -- A pass looks whether its ticket is served, and takes the value where it is.
-use Rattle.std.proofs.Common.{◌≡◌, ℕ, ◌+◌, ◌≤◌, List, [], ◌∷◌, length, slice_index, set, Some, refl, sym, ap, ◌∙◌, subst, arith, inl, inr, ⊎_elim}
-use Rattle.std.proofs.Common.{Option as Optional}
+use Rattle.std.proofs.Common.{◌≡◌, ℕ, ◌+◌, ◌≤◌, List, [], ◌∷◌, length, slice_index, set, Some, refl, sym, ap, ◌∙◌, subst, arith, inl, inr, ⊎_elim, Option as Optional}
 use mathlib.Core.Option.{none, some, some-injective}
 use mathlib.Core.Logic.{dite}
 use native.Mathlib.Decide.{ℕ_discrete}
@@ -10,7 +9,7 @@ use Rattle.atomic_table.proofs.Lists.{set_again}
 use Rattle.qm_turn.specs.declared.view.View.{View}
 use Rattle.qm_turn.specs.declared.view.Phase.TheVariants.{Waits, Served}
 use Rattle.qm_turn.specs.History.{times, numbers_of, Agrees}
-use Rattle.qm_turn.specs.Rule.{most, total, below, tickets, numbers, pairs, unless_spent, drawn, IsServed, Fits, Kept, Home, Out, Sat, Serves, Looks}
+use Rattle.qm_turn.specs.Rule.{most, total, below, tickets, numbers, pairs, unless_spent, drawn, IsServed, Fits, Kept, Home, Out, Sat, HasTurn, Looks}
 use Rattle.qm_turn.proofs.Counts.{total_set, each_set, at_here}
 use Rattle.qm_turn.proofs.Histories.{prefix_same}
 use Rattle.qm_turn.proofs.Facts.{alone, word_serving}
@@ -84,7 +83,7 @@ module _ {V N : Type 0} (stands : V → List N → Type 0) (passes : ℕ) (s : S
       within = k.within;
     }
 
-    serves : Serves stands t (v, []) (w, (0, Some home.0) ∷ [])
+    serves : HasTurn stands t (v, []) (w, (0, Some home.0) ∷ [])
     serves = (home.0, k.log, refl, home.2, (k.fits id v at).seen, (k.fits id v at).agrees)
 
 looks_at : {V N : Type 0} (stands : V → List N → Type 0) (passes slots id t : ℕ) (v : View N) → v.phase ≡ Waits t
@@ -97,7 +96,7 @@ looks_at {V} {N} stands passes slots id t v waits s k long at small =
       takes 0 (Some (home stands passes s k id t v at waits now).0),
       ap (λ hs. get_elem? hs 0) (home stands passes s k id t v at waits now).1,
       after stands passes s k id t v at waits now (home stands passes s k id t v at waits now).0 (home stands passes s k id t v at waits now).1,
-      (λ u e. inr (subst (λ n. (slice_index s.words 0 ≡ n) × Serves stands n (v, []) (w stands passes s k id t v at waits now, (0, Some (home stands passes s k id t v at waits now).0) ∷ [])) (same u e) (now, serves stands passes s k id t v at waits now))),
+      (λ u e. inr (subst (λ n. (slice_index s.words 0 ≡ n) × HasTurn stands n (v, []) (w stands passes s k id t v at waits now, (0, Some (home stands passes s k id t v at waits now).0) ∷ [])) (same u e) (now, serves stands passes s k id t v at waits now))),
     ))
     (λ later. (v, keeps, tt, unchanged stands passes s k id v at, (λ u e. inl ((λ is. later (is ∙ sym (same u e))), refl))))
 

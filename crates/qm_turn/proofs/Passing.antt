@@ -1,6 +1,5 @@
 -- A pass ends its turn: it gives the value back, and the next ticket is served.
-use Rattle.std.proofs.Common.{◌≡◌, ◌≢◌, ℕ, ◌+◌, ◌<◌, ◌≤◌, ◌%◌, ◌^◌, ◌==◌, List, [], ◌∷◌, ◌++◌, length, slice_index, set, Some, if◌then◌else◌, refl, sym, ap, ◌∙◌, subst, arith, inl, ⊎_elim, length-append}
-use Rattle.std.proofs.Common.{Option as Optional}
+use Rattle.std.proofs.Common.{◌≡◌, ◌≢◌, ℕ, ◌+◌, ◌<◌, ◌≤◌, ◌%◌, ◌^◌, ◌==◌, List, [], ◌∷◌, ◌++◌, length, slice_index, set, Some, if◌then◌else◌, refl, sym, ap, ◌∙◌, subst, arith, inl, ⊎_elim, length-append, Option as Optional}
 use mathlib.Core.Option.{none, some}
 use mathlib.Core.List.{IsPrefix}
 use lib.ListN.{get_elem?}

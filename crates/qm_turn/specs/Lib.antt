@@ -1,3 +1,4 @@
 pub mod History
 pub mod Turns
 pub mod Rule
+pub mod Each

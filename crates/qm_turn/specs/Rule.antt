@@ -143,18 +143,26 @@ module _ {N : Type 0} where
 abbrev pub Sat : Type 0 → Type 0 → Type 0
 Sat V N = Me (Optional V) (View N)
 
+-- the seat rests: it has no ticket, no value, and nothing to look at
+abbrev pub IsResting : {V N : Type 0} → Sat V N → Type 0
+IsResting m = (m.1 ≡ []) × (m.0.phase ≡ Rests) × (m.0.heard ≡ [])
+
 module _ {V N : Type 0} where
   -- draw: the pass has the ticket that it found
   abbrev pub Draws : Step (Optional V) → Sat V N → ℕ → Sat V N → Type 0
   Draws st m found m' = m' ≡ (in_phase m.0 (Waits found), m.1)
 
-  -- the pass is served: it has the value, which stands for the history, and has seen all of it
-  abbrev pub Serves : (V → List N → Type 0) → ℕ → Sat V N → Sat V N → Type 0
-  Serves stands t m m' = (x : V) × (log : List (ℕ × N)) × (m' ≡ (record m.0 { seen = log; phase = Served t }, (0, Some x) ∷ [])) × stands x (notes log) × IsPrefix m.0.seen log × Agrees log (pairs m.0)
+  -- it is the pass's turn: it has the value, which stands for the history, and has seen all of it
+  abbrev pub HasTurn : (V → List N → Type 0) → ℕ → Sat V N → Sat V N → Type 0
+  HasTurn stands t m m' = (x : V) × (log : List (ℕ × N)) × (m' ≡ (record m.0 { seen = log; phase = Served t }, (0, Some x) ∷ [])) × stands x (notes log) × IsPrefix m.0.seen log × Agrees log (pairs m.0)
 
-  -- look: nothing changed, or the number that was found is the ticket of the pass, and it is served
+  -- look: nothing changed, or the number that was found is the ticket of the pass, and it is the pass's turn
   abbrev pub Looks : (V → List N → Type 0) → Step (Optional V) → Sat V N → ℕ → Sat V N → Type 0
-  Looks stands st m found m' = (t : ℕ) → m.0.phase ≡ Waits t → (¬ (found ≡ t) × (m' ≡ m)) ⊎ ((found ≡ t) × Serves stands t m m')
+  Looks stands st m found m' = (t : ℕ) → m.0.phase ≡ Waits t → (¬ (found ≡ t) × (m' ≡ m)) ⊎ ((found ≡ t) × HasTurn stands t m m')
+
+  -- the value stands for this history with the one note behind it that is made
+  abbrev pub StandsBehind : (V → List N → Type 0) → List (ℕ × N) → List N → V → Type 0
+  StandsBehind stands seen made value = (note : N) × (made ≡ note ∷ []) × stands value (notes seen ++ note ∷ [])
 
   -- pass on: the pass made its turn, and gave the value back
   abbrev pub PassesOn : List N → Step (Optional V) → Sat V N → ℕ → Sat V N → Type 0
@@ -164,14 +172,16 @@ module _ {V N : Type 0} where
   abbrev pub Hears : Step (Optional V) → Sat V N → ℕ → Sat V N → Type 0
   Hears st m found m' = (log : List (ℕ × N)) × (m' ≡ (record m.0 { seen = log; heard = [] }, m.1)) × (found ≡ length log) × IsPrefix m.0.seen log × IsPrefix m.0.heard log × Agrees log (pairs m.0)
 
-  -- a whole turn of a seat: the work was done on the value as the turn before it left it, and its note was added
-  pub record Ran (stands : V → List N → Type 0) (does : V → V → Type 0) (note : V → V → N) (before : View N) (after : Sat V N) : Type 0 where
-    pub log : List (ℕ × N)
-    pub found : V
-    pub left : V
-    pub seen : IsPrefix before.seen log
-    pub agrees : Agrees log (pairs before)
-    pub found_stands : stands found (notes log)
-    pub worked : does found left
-    pub left_stands : stands left (notes log ++ note found left ∷ [])
-    pub now : after ≡ (after_turn (record before { seen = log }) (note found left ∷ []), [])
+  -- a whole turn of a seat: the work was done, which answered so, on the value as the turn before it left it, and its note was added
+  pub record Ran {A : Type 0} (stands : V → List N → Type 0) (does : V → V → A → Type 0) (note : V → V → A → N) (answer : A) (before : View N) (after : Sat V N)
+      : Type 0
+    where
+      pub log : List (ℕ × N)
+      pub found : V
+      pub left : V
+      pub seen : IsPrefix before.seen log
+      pub agrees : Agrees log (pairs before)
+      pub found_stands : stands found (notes log)
+      pub worked : does found left answer
+      pub left_stands : stands left (notes log ++ note found left answer ∷ [])
+      pub now : after ≡ (after_turn (record before { seen = log }) (note found left answer ∷ []), [])

@@ -1,5 +1,6 @@
 -- What callers of a turnstile see: the turnstile, a pass, and what one turn does.
-use Rattle.std.specs.Prelude.{◌≡◌, ℕ, ◌<◌, ◌≤◌, List, [], ◌∷◌, ◌++◌}
+use Rattle.std.specs.Prelude.{◌≡◌, ℕ, ◌<◌, ◌≤◌, List, [], ◌∷◌, ◌++◌, map}
+use Rattle.std.specs.List.{range_with_len}
 use mathlib.Core.List.{IsPrefix}
 use Rattle.atomic_table.specs.Seated.{TableId}
 use Rattle.qm_turn.specs.History.{notes, notes_by, Agrees, numbers_of, times}
@@ -21,6 +22,10 @@ pub record Known (N : Type 0) : Type 0 where
 abbrev pub fresh : {N : Type 0} → TableId → ℕ → Known N
 fresh place number = record { place = place; number = number; seen = []; mine = []; took = [] }
 
+-- all passes of a turnstile as opening makes them, in the order of their numbers
+abbrev pub all_fresh : {N : Type 0} → TableId → ℕ → List (Known N)
+all_fresh place passes = map (fresh place) (range_with_len 0 passes)
+
 -- each number that the pass knows all of, with its notes
 abbrev pub own : {N : Type 0} → Known N → List (ℕ × List N)
 own pass = (pass.number, pass.mine) ∷ pass.took
@@ -29,20 +34,26 @@ own pass = (pass.number, pass.mine) ∷ pass.took
 abbrev pub IsLast : {N : Type 0} → ℕ → Known N → Type 0
 IsLast passes pass = (number : ℕ) → number < passes → 1 ≤ times number (numbers_of (own pass))
 
--- the work was done once, on the value that the turn before it in the history left; the pass has seen all turns up to its own, which is the last, and has its note behind those of its earlier ones
-pub record Turned {V N : Type 0} (stands : V → List N → Type 0) (does : V → V → Type 0) (note : V → V → N) (before after : Known N) : Type 0 where
-  pub between : List (ℕ × N)
-  pub found : V
-  pub left : V
-  pub found_stands : stands found (notes (before.seen ++ between))
-  pub worked : does found left
-  pub left_stands : stands left (notes after.seen)
-  pub seen : after.seen ≡ (before.seen ++ between) ++ (before.number, note found left) ∷ []
-  pub mine : after.mine ≡ before.mine ++ note found left ∷ []
-  pub all_mine : notes_by after.number after.seen ≡ after.mine
-  pub number : after.number ≡ before.number
-  pub took : after.took ≡ before.took
-  pub place : after.place ≡ before.place
+-- whatever notes the former value stands for, the latter stands for these and one more
+abbrev pub StandsForOneMore : {V N : Type 0} → (V → List N → Type 0) → V → V → N → Type 0
+StandsForOneMore {V} {N} stands found left note = (told : List N) → stands found told → stands left (told ++ note ∷ [])
+
+-- the work was done once, which answered so, on the value that the turn before it in the history left; the pass has seen all turns up to its own, which is the last, and has its note behind those of its earlier ones
+pub record Turned {V N A : Type 0} (stands : V → List N → Type 0) (does : V → V → A → Type 0) (note : V → V → A → N) (answer : A) (before after : Known N)
+    : Type 0
+  where
+    pub between : List (ℕ × N)
+    pub found : V
+    pub left : V
+    pub found_stands : stands found (notes (before.seen ++ between))
+    pub worked : does found left answer
+    pub left_stands : stands left (notes after.seen)
+    pub seen : after.seen ≡ (before.seen ++ between) ++ (before.number, note found left answer) ∷ []
+    pub mine : after.mine ≡ before.mine ++ note found left answer ∷ []
+    pub all_mine : notes_by after.number after.seen ≡ after.mine
+    pub number : after.number ≡ before.number
+    pub took : after.took ≡ before.took
+    pub place : after.place ≡ before.place
 
 -- the pass has seen more of the history, or as much, in which its own turns and those of the passes that it took are as it knows them
 pub record Heard {N : Type 0} (before after : Known N) : Type 0 where

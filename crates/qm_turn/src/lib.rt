@@ -4,12 +4,14 @@
 //! That a thread gets its turn, or when, isn't said.
 #![tactic(auto)]
 
+mod each;
 mod pass;
 mod rule;
 mod told;
 mod turnstile;
 mod view;
 
+pub use each::{Work, work_on_each};
 pub use pass::{Pass, PassOf, TurnsSpent};
 pub use told::{Task, Told};
 pub use turnstile::Turnstile;

@@ -1,7 +1,6 @@
 // A pass: what one thread takes its turns with.
-ghost use Rattle.std.specs.Prelude.{◌≡◌, []};
-ghost use Rattle.qm_turn.specs.Rule.{known};
-ghost use Rattle.qm_turn.specs.declared.view.Phase.TheVariants.{Rests};
+ghost use Rattle.std.specs.Prelude.{◌≡◌};
+ghost use Rattle.qm_turn.specs.Rule.{IsResting, known};
 
 use crate::told::Told;
 use crate::view::View;
@@ -37,7 +36,7 @@ impl<V, N> Pass<V, N> {
     // The seat, which rests.
     pub(crate) fn into_seat(self) -> Seat<Option<V>, View<N>>
         ensures known { known result.table_id result.me.0 ≡ self }
-        ensures rests { (result.me.1 ≡ []) × (result.me.0.phase ≡ Rests) × (result.me.0.heard ≡ []) }
+        ensures rests { IsResting result.me }
     {
         let Self { seat, turns: _ } = self;
         seat

@@ -1,5 +1,6 @@
 // What a value says of the turns that led to it, and what one turn does.
-ghost use Rattle.std.specs.Prelude.{List, [], ◌∷◌, ◌++◌};
+ghost use Rattle.std.specs.Prelude.{List};
+ghost use Rattle.qm_turn.specs.Turns.{StandsForOneMore};
 
 /// A value that stands for the notes of the turns that led to it.
 pub trait Told {
@@ -25,5 +26,5 @@ pub trait Task<V: Told> {
     fn work(self, value: &mut V) -> Self::Answer
         requires { (told : List V.Note) × V.stands value.old told }
         ensures does { does self value.old value.new result }
-        ensures told { (told : List V.Note) → V.stands value.old told → V.stands value.new (told ++ note self value.old value.new result ∷ []) };
+        ensures told { StandsForOneMore V.stands value.old value.new (note self value.old value.new result) };
 }

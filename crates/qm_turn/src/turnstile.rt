@@ -1,10 +1,8 @@
 // The turnstile: the steps on its table, and the turns that they make.
-ghost use Rattle.std.specs.Prelude.{◌≡◌, ℕ, ◌<◌, ◌≤◌, ◌↔◌, List, [], ◌∷◌, ◌++◌, map, length, vec_capacity, IsErr, IfOk, IfErr, MatchResult, Some, None};
-ghost use Rattle.std.specs.List.{range_with_len};
+ghost use Rattle.std.specs.Prelude.{◌≡◌, ℕ, ◌<◌, ◌≤◌, ◌↔◌, List, [], ◌∷◌, length, vec_capacity, IsErr, IfOk, IfErr, MatchResult, Some, None};
 ghost use Rattle.qm_turn.specs.declared.view.Phase.TheVariants.{Rests, Waits, Served};
-ghost use Rattle.qm_turn.specs.History.{notes};
-ghost use Rattle.qm_turn.specs.Turns.{fresh, IsLast, Turned, Heard, Joined, Closed};
-ghost use Rattle.qm_turn.specs.Rule.{most, first_view, in_phase, after_turn, Serves, Ran};
+ghost use Rattle.qm_turn.specs.Turns.{all_fresh, IsLast, Turned, Heard, Joined, Closed};
+ghost use Rattle.qm_turn.specs.Rule.{most, first_view, in_phase, after_turn, HasTurn, Ran, StandsBehind};
 
 use crate::pass::{Pass, PassOf, TurnsSpent};
 use crate::rule::{Draw, Look, News, NextNumber, Noted, Order, PassOn, Together};
@@ -89,7 +87,7 @@ impl<V: Told> Turnstile<V> {
         requires some { 1 ≤ passes }
         requires few { passes ≤ 64 }
         requires untouched { V.stands value [] }
-        ensures opened { IfOk result (λ r. (r.0.passes ≡ passes) × (r.1.items ≡ map (fresh r.0.place) (range_with_len 0 passes))) }
+        ensures opened { IfOk result (λ r. (r.0.passes ≡ passes) × (r.1.items ≡ all_fresh r.0.place passes)) }
         ensures refused { IfErr result (λ back. back ≡ value) }
     {
         let Ok(list) = Vec::with_capacity(alloc, passes as usize) else {
@@ -116,7 +114,7 @@ impl<V: Told> Turnstile<V> {
         requires new { first.me ≡ (first_view, []) }
         requires count { (1 ≤ passes) × (passes ≡ self.now.passes) }
         requires room { (list.items ≡ []) × (passes ≤ vec_capacity list) }
-        ensures { result.items ≡ map (fresh self.now.place) (range_with_len 0 passes) }
+        ensures { result.items ≡ all_fresh self.now.place passes }
     {
         for _number in 1..passes {
             let seat = self.table.shared.split_seat::<NextNumber>(&mut first);
@@ -154,7 +152,7 @@ impl<V: Told> Turnstile<V> {
         requires here { seat.old.table_id ≡ self.now.place }
         requires waits { (seat.old.me.0.phase ≡ Waits ticket) × (seat.old.me.1 ≡ []) }
         ensures same { (seat.new.table_id ≡ seat.old.table_id) × (seat.new.id ≡ seat.old.id) }
-        ensures served { Serves V.stands ticket seat.old.me seat.new.me }
+        ensures served { HasTurn V.stands ticket seat.old.me seat.new.me }
     {
         for _ in rt.forever() {
             if self.table.shared.load::<Look<V>>(seat, 0) == ticket {
@@ -189,7 +187,7 @@ impl<V: Told> Turnstile<V> {
         requires here { seat.old.table_id ≡ self.now.place }
         requires served { (ticket : ℕ) × (seat.old.me.0.phase ≡ Served ticket) }
         requires empty { seat.old.me.1 ≡ (0, None) ∷ [] }
-        requires stands { (note : V.Note) × (J.made ≡ note ∷ []) × V.stands value (notes seat.old.me.0.seen ++ note ∷ []) }
+        requires stands { StandsBehind V.stands seat.old.me.0.seen J.made value }
         ensures same { (seat.new.table_id ≡ seat.old.table_id) × (seat.new.id ≡ seat.old.id) }
         ensures passed { seat.new.me ≡ (after_turn seat.old.me.0 J.made, []) }
     {
@@ -205,7 +203,7 @@ impl<V: Told> Turnstile<V> {
         requires rests { (seat.old.me.0.phase ≡ Rests) × (seat.old.me.1 ≡ []) }
         requires room { length seat.old.me.0.mine < most }
         ensures same { (seat.new.table_id ≡ seat.old.table_id) × (seat.new.id ≡ seat.old.id) }
-        ensures ran { Ran V.stands (λ found left. W.does work found left result) (λ found left. W.note work found left result) seat.old.me.0 seat.new.me }
+        ensures ran { Ran V.stands (W.does work) (W.note work) result seat.old.me.0 seat.new.me }
     {
         let ticket = self.draw(seat);
         self.look(rt, seat, ticket);
@@ -232,7 +230,7 @@ impl<V: Told> Turnstile<V> {
         work: W,
     ) -> Result<W::Answer, TurnsSpent>
         requires { pass.old.place ≡ self.now.place }
-        ensures turned { IfOk result (λ answer. Turned V.stands (λ found left. W.does work found left answer) (λ found left. W.note work found left answer) pass.old pass.new) }
+        ensures turned { IfOk result (λ answer. Turned V.stands (W.does work) (W.note work) answer pass.old pass.new) }
         ensures unturned { IfErr result (λ _. pass.new ≡ pass.old) }
         ensures spent { IsErr result ↔ (length pass.old.mine ≡ most) }
     {

@@ -1,29 +1,12 @@
 -- What a function asks for with its items. What isn't given has the default that commands have.
 -- OpenVMS System Services Reference Manual, $SNDJBC and $GETQUI; DCL Dictionary, on defaults of the same commands.
 use Rattle.std.specs.Prelude.{ℕ, nat_lt, Bool, true, false, if◌then◌else◌, List, [], ◌∷◌, length, Option, None, Some, option_map, option_and_then, unwrap_or}
-use Rattle.qm_kinds.specs.Files.{file_name_of}
+use Rattle.qm_model.specs.Common.{file_name_of, JobKind, Default, FileName, Form, Shape, Input, Ask, Show, Listing, Query, NewQueue, QueueChange, QueueKind, EntryChange, Job, NameOrNumber, Request, Pause}
 use Rattle.qm_kinds.specs.Names.{batch_queue, print_queue}
-use Rattle.qm_kinds.specs.declared.entry.JobKind.{JobKind}
 use Rattle.qm_kinds.specs.declared.entry.JobKind.TheVariants.{Batch, Print}
-use Rattle.qm_kinds.specs.declared.entry.JobRetain.TheVariants.{Default}
-use Rattle.qm_kinds.specs.declared.file.FileName.{FileName}
-use Rattle.qm_kinds.specs.declared.form.Form.{Form}
-use Rattle.qm_kinds.specs.declared.form.Shape.{Shape}
-use Rattle.qm_kinds.specs.declared.input.Input.{Input}
-use Rattle.qm_kinds.specs.declared.input.Input.TheVariants.{Ask, Show}
-use Rattle.qm_kinds.specs.declared.query.Listing.{Listing}
 use Rattle.qm_kinds.specs.declared.query.Listing.TheVariants as listing
-use Rattle.qm_kinds.specs.declared.query.Query.{Query}
-use Rattle.qm_kinds.specs.declared.queue.NewQueue.{NewQueue}
-use Rattle.qm_kinds.specs.declared.queue.QueueChange.{QueueChange}
-use Rattle.qm_kinds.specs.declared.queue.QueueKind.{QueueKind}
-use Rattle.qm_kinds.specs.declared.request.EntryChange.{EntryChange}
-use Rattle.qm_kinds.specs.declared.request.Job.{Job}
-use Rattle.qm_kinds.specs.declared.request.NameOrNumber.{NameOrNumber}
-use Rattle.qm_kinds.specs.declared.request.Request.{Request}
 use Rattle.qm_kinds.specs.declared.request.Request.TheVariants as request
-use Rattle.qm_kinds.specs.declared.request.StopMode.TheVariants.{Pause}
-use Rattle.qm_item.specs.declared.item.Item.{Item}
+use Rattle.qm_values.specs.declared.items.item.Item.{Item}
 use Rattle.qm_values.specs.declared.codes.TheConstants.{QUEUE, FILE, JOB_NAME, PRIORITY, AFTER, HOLD, RETAIN, RESTART, FORM, COPIES, FLAG, KIND, NODE, DEVICE, JOB_LIMIT, BLOCK_LOWER, BLOCK_UPPER, BY_SIZE, QUEUE_RETAIN, START, ENTRY, HOW, REQUEUE, TO_QUEUE, NAME, NUMBER, STOCK, SHAPE, LINES, SEARCH, RELEASE}
 use Rattle.qm_kinds.specs.declared.request_kind.RequestKind.TheVariants as requests
 use Rattle.qm_values.specs.declared.function.Function.{Function}
@@ -193,30 +176,31 @@ query_of list items = record {
 
 -- ---- each function
 
--- what a function changes that takes no list of values, where nothing that it needs is missing
-abbrev pub listless_of : Function → List Item → Option Request
-listless_of (function.Request requests.Fill) items = fill_of items
-listless_of (function.Request requests.Drop) items = option_map request.Drop (read_in file_name_of FILE items)
-listless_of (function.Request requests.DefineForm) items = define_form items
-listless_of (function.Request requests.DeleteForm) items = option_map request.DeleteForm (read_in definable_name_said NAME items)
-listless_of (function.Request requests.DefineCharacteristic) items = define_characteristic items
-listless_of (function.Request requests.DeleteCharacteristic) items = option_map request.DeleteCharacteristic (read_in definable_name_said NAME items)
-listless_of (function.Request requests.StopQueue) items = stop_queue items
-listless_of (function.Request requests.AbortJob) items = abort_job items
-listless_of (function.Request requests.DeleteQueue) items = option_map request.DeleteQueue (read_in short_name_said QUEUE items)
-listless_of (function.Request requests.Merge) items = merge_of items
-listless_of (function.Request requests.DeleteEntry) items = option_map request.DeleteEntry (read_in long_said ENTRY items)
-listless_of _ items = None
+-- what a function changes but for submitting a job, where nothing that it needs is missing
+abbrev pub change_asked : Function → List Item → Lists → Option Request
+change_asked (function.Request requests.Append) items lists = append_of items lists.bytes
+change_asked (function.Request requests.Fill) items lists = fill_of items
+change_asked (function.Request requests.Drop) items lists = option_map request.Drop (read_in file_name_of FILE items)
+change_asked (function.Request requests.DefineForm) items lists = define_form items
+change_asked (function.Request requests.DeleteForm) items lists = option_map request.DeleteForm (read_in definable_name_said NAME items)
+change_asked (function.Request requests.DefineCharacteristic) items lists = define_characteristic items
+change_asked (function.Request requests.DeleteCharacteristic) items lists =
+    option_map request.DeleteCharacteristic (read_in definable_name_said NAME items)
+change_asked (function.Request requests.InitializeQueue) items lists = initialize_of items lists
+change_asked (function.Request requests.SetQueue) items lists = set_queue items lists
+change_asked (function.Request requests.StartQueue) items lists = start_queue items lists
+change_asked (function.Request requests.StopQueue) items lists = stop_queue items
+change_asked (function.Request requests.AbortJob) items lists = abort_job items
+change_asked (function.Request requests.DeleteQueue) items lists = option_map request.DeleteQueue (read_in short_name_said QUEUE items)
+change_asked (function.Request requests.Merge) items lists = merge_of items
+change_asked (function.Request requests.SetEntry) items lists = set_entry items lists
+change_asked (function.Request requests.DeleteEntry) items lists = option_map request.DeleteEntry (read_in long_said ENTRY items)
+change_asked _ items lists = None
 
 -- what a function changes, where nothing that it needs is missing
 abbrev pub request_of : List ℕ → Function → List Item → Lists → Option Request
-request_of user (function.Request requests.Append) items lists = append_of items lists.bytes
-request_of user (function.Request requests.InitializeQueue) items lists = initialize_of items lists
-request_of user (function.Request requests.SetQueue) items lists = set_queue items lists
-request_of user (function.Request requests.StartQueue) items lists = start_queue items lists
 request_of user (function.Request requests.Submit) items lists = submit_of user items lists
-request_of user (function.Request requests.SetEntry) items lists = set_entry items lists
-request_of user f items lists = listless_of f items
+request_of user f items lists = change_asked f items lists
 
 -- what a function asks for, where nothing that it needs is missing
 abbrev pub asked : List ℕ → Function → List Item → Lists → Option Input

@@ -1,7 +1,7 @@
 -- The items of a code.
 use Rattle.std.specs.Prelude.{ℕ, ◌==◌, Bool, if◌then◌else◌, List, [], ◌∷◌, filter_map, Option, None, Some, is_some}
 use Rattle.qm_kinds.specs.declared.request.NameOrNumber.{NameOrNumber}
-use Rattle.qm_item.specs.declared.item.Item.{Item}
+use Rattle.qm_values.specs.declared.items.item.Item.{Item}
 use Rattle.qm_values.specs.declared.codes.TheConstants.{BYTES, CHARACTERISTIC, TARGET}
 use Rattle.qm_values.specs.declared.looking.Lists.{Lists}
 use Rattle.qm_values.specs.Values.{reference_said, short_name_said}

@@ -5,25 +5,13 @@ use Rattle.std.specs.List.{list_all}
 use Rattle.std.specs.Char.{is_ascii_digit}
 use Rattle.std.specs.Int.{w16, w32, w64, from_le_bytes}
 use Rattle.std.specs.Result.{result_ok}
-use Rattle.qm_kinds.specs.Files.{name_of, file_name_of}
+use Rattle.qm_model.specs.Common.{name_of, file_name_of, JobKind, JobRetain, Shape, LAST_MOMENT, NODE_NAME_BYTES, QueueKind, QueueRetain, NameOrNumber, Name, Number, StopMode, is_short, is_definable, value_of}
 use Rattle.qm_kinds.specs.Text.{text_of, is_pattern_byte}
-use Rattle.qm_kinds.specs.declared.entry.JobKind.{JobKind}
 use Rattle.qm_kinds.specs.declared.entry.JobKind.TheVariants as job
-use Rattle.qm_kinds.specs.declared.entry.JobRetain.{JobRetain}
 use Rattle.qm_kinds.specs.declared.entry.JobRetain.TheVariants as retain
-use Rattle.qm_kinds.specs.declared.form.Shape.{Shape}
-use Rattle.qm_kinds.specs.declared.moment.TheConstants.{LAST_MOMENT}
-use Rattle.qm_kinds.specs.declared.name.TheConstants.{NODE_NAME_BYTES}
-use Rattle.qm_kinds.specs.declared.queue.QueueKind.{QueueKind}
 use Rattle.qm_kinds.specs.declared.queue.QueueKind.TheVariants as kind
-use Rattle.qm_kinds.specs.declared.queue.QueueRetain.{QueueRetain}
 use Rattle.qm_kinds.specs.declared.queue.QueueRetain.TheVariants as kept
-use Rattle.qm_kinds.specs.declared.request.NameOrNumber.{NameOrNumber}
-use Rattle.qm_kinds.specs.declared.request.NameOrNumber.TheVariants.{Name, Number}
-use Rattle.qm_kinds.specs.declared.request.StopMode.{StopMode}
 use Rattle.qm_kinds.specs.declared.request.StopMode.TheVariants as mode
-use Rattle.qm_model.specs.Built.{is_short, is_definable}
-use Rattle.qm_model.specs.Texts.{value_of}
 use Rattle.qm_values.specs.declared.holds.Holds.{Holds}
 use Rattle.qm_values.specs.declared.holds.Holds.TheVariants as holds
 

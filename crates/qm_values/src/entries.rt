@@ -4,12 +4,12 @@ ghost use Rattle.qm_values.specs.Values.{long_said};
 ghost use Rattle.qm_values.specs.Asked.{read_in, entry_change, set_entry};
 
 use crate::codes::*;
+use crate::items::Item;
 use crate::looking::{Lists, is_given};
 use crate::queues::has_more;
 use crate::reading::{
     after_in, byte_in, job_retain_in, long_in, name_in, reference_in, short_name_in, truth_in,
 };
-use qm_item::Item;
 use qm_kinds::{EntryChange, Request};
 
 // What is changed of an entry.
@@ -35,7 +35,7 @@ fn entry_change(items: &[Item], lists: Lists) -> EntryChange
 }
 
 /// An entry is changed, in one thing at least.
-pub fn set_entry(items: &[Item], lists: Lists) -> Option<Request>
+pub(crate) fn set_entry(items: &[Item], lists: Lists) -> Option<Request>
     ensures { result ≡ set_entry items.now lists }
 {
     if !has_more(items) {

@@ -7,22 +7,22 @@ pub mod codes;
 mod entries;
 mod function;
 mod holds;
-mod listless;
+mod items;
 mod looking;
 mod others;
 mod queues;
 mod reading;
+mod request;
 mod value;
 
-pub use entries::set_entry;
 pub use function::{Function, function_of};
 pub use holds::Holds;
-pub use listless::listless_of;
+pub use items::{Item, ItemFault, lists_are_read_once, read_items, write_items};
 pub use looking::{Lists, is_given, lists_in};
-pub use others::{append_of, query_of};
-pub use queues::{initialize_of, set_queue, start_queue};
+pub use others::query_of;
 pub use reading::{
     after_in, byte_in, file_in, job_kind_in, job_retain_in, name_in, reference_in, short_name_in,
     truth_in,
 };
+pub use request::change_asked;
 pub use value::is_held;

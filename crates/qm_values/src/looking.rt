@@ -1,11 +1,10 @@
 // The items of a code.
-ghost use Rattle.std.specs.Prelude.{◌≡◌, IfOk};
-ghost use Rattle.std.specs.Option.{option_copied};
+ghost use Rattle.std.specs.Prelude.{◌≡◌, IfOk, option_copied};
 ghost use Rattle.qm_values.specs.Looking.{value_in, is_given, characteristic_of, characteristics_in, target_of, targets_in, lists_in};
 
 use crate::codes::{BYTES, CHARACTERISTIC, TARGET};
+use crate::items::Item;
 use crate::value::{reference_said, short_name_said};
-use qm_item::Item;
 use qm_kinds::{Name, NameOrNumber, Seq};
 use std::alloc::{AllocError, Global};
 

@@ -5,14 +5,14 @@ ghost use Rattle.qm_values.specs.Asked.{read_in, append_of, fill_of, form_of, de
 ghost use Rattle.qm_values.specs.Values.{definable_name_said};
 
 use crate::codes::*;
+use crate::items::Item;
 use crate::reading::{
     definable_name_in, file_in, pattern_in, shape_in, short_in, short_name_in, small_in,
 };
-use qm_item::Item;
 use qm_kinds::{Characteristic, Form, Kinds, Listing, Pattern, Query, Request, Seq, Shape};
 
 /// Bytes are added to a file.
-pub fn append_of(items: &[Item], bytes: Option<Seq<u8>>) -> Option<Request>
+pub(crate) fn append_of(items: &[Item], bytes: Option<Seq<u8>>) -> Option<Request>
     ensures { result ≡ append_of items.now bytes }
 {
     let file = file_in(items, FILE)?;
@@ -81,7 +81,8 @@ pub(crate) fn delete_form(items: &[Item]) -> Option<Request>
 
 /// A characteristic is deleted.
 pub(crate) fn delete_characteristic(items: &[Item]) -> Option<Request>
-    ensures { result ≡ option_map Request.DeleteCharacteristic (read_in definable_name_said NAME items.now) }
+    ensures { result
+        ≡ option_map Request.DeleteCharacteristic (read_in definable_name_said NAME items.now) }
 {
     let name = definable_name_in(items, NAME)?;
     Some(Request::DeleteCharacteristic { name })

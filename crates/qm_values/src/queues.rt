@@ -1,15 +1,15 @@
 // Requests for queues.
 ghost use Rattle.std.specs.Prelude.{◌≡◌, option_map};
 ghost use Rattle.qm_values.specs.Values.{short_name_said};
-ghost use Rattle.qm_values.specs.Asked.{read_in, blocks_of, change_of, initialize_of, has_more, set_queue, start_queue, stop_queue, abort_job, merge_of};
+ghost use Rattle.qm_values.specs.Asked.{read_in, blocks_of, change_of, initialize_of, has_more, set_queue, start_queue, stop_queue, abort_job};
 
 use crate::codes::*;
+use crate::items::Item;
 use crate::looking::{Lists, is_given};
 use crate::reading::{
     byte_in, how_in, long_in, node_in, queue_kind_in, queue_retain_in, reference_in, short_name_in,
     truth_in,
 };
-use qm_item::Item;
 use qm_kinds::{NameOrNumber, NewQueue, QueueChange, Request, Seq, StopMode};
 
 // The limits of the sizes of jobs. The lower one is 1, and the upper one all that can be said, where only the other is given.
@@ -39,7 +39,7 @@ fn change_of(items: &[Item], characteristics: Option<Seq<NameOrNumber>>) -> Queu
 }
 
 /// A new queue.
-pub fn initialize_of(items: &[Item], lists: Lists) -> Option<Request>
+pub(crate) fn initialize_of(items: &[Item], lists: Lists) -> Option<Request>
     ensures { result ≡ initialize_of items.now lists }
 {
     let name = short_name_in(items, QUEUE)?;
@@ -68,7 +68,7 @@ pub(crate) fn has_more(items: &[Item]) -> bool
 }
 
 /// Other settings of a queue, one at least.
-pub fn set_queue(items: &[Item], lists: Lists) -> Option<Request>
+pub(crate) fn set_queue(items: &[Item], lists: Lists) -> Option<Request>
     ensures { result ≡ set_queue items.now lists }
 {
     if !has_more(items) {
@@ -82,7 +82,7 @@ pub fn set_queue(items: &[Item], lists: Lists) -> Option<Request>
 }
 
 /// A queue is started, with other settings perhaps.
-pub fn start_queue(items: &[Item], lists: Lists) -> Option<Request>
+pub(crate) fn start_queue(items: &[Item], lists: Lists) -> Option<Request>
     ensures { result ≡ start_queue items.now lists }
 {
     let name = short_name_in(items, QUEUE)?;
@@ -121,13 +121,4 @@ pub(crate) fn delete_queue(items: &[Item]) -> Option<Request>
 {
     let name = short_name_in(items, QUEUE)?;
     Some(Request::DeleteQueue { name })
-}
-
-/// The jobs that wait in a queue go to another.
-pub(crate) fn merge_of(items: &[Item]) -> Option<Request>
-    ensures { result ≡ merge_of items.now }
-{
-    let to = short_name_in(items, TO_QUEUE)?;
-    let from = short_name_in(items, QUEUE)?;
-    Some(Request::Merge { to, from })
 }

@@ -4,13 +4,13 @@ ghost use Rattle.qm_kinds.specs.Files.{file_name_of};
 ghost use Rattle.qm_values.specs.Asked.{read_in};
 ghost use Rattle.qm_values.specs.Values.{name_said, short_name_said, definable_name_said, node_said, pattern_said, reference_said, byte_said, short_said, long_said, small_said, after_said, truth_said, queue_kind_said, job_kind_said, queue_retain_said, job_retain_said, how_said, shape_said};
 
+use crate::items::Item;
 use crate::looking::value_in;
 use crate::value::{
     after_said, byte_said, definable_name_said, how_said, job_kind_said, job_retain_said,
     long_said, name_said, node_said, pattern_said, queue_kind_said, queue_retain_said,
     reference_said, shape_said, short_name_said, short_said, small_said, truth_said,
 };
-use qm_item::Item;
 use qm_kinds::{
     FileName, JobKind, JobRetain, Moment, Name, NameOrNumber, Pattern, QueueKind, QueueRetain,
     Shape, StopMode,

@@ -1,35 +1,18 @@
 -- What a node has to do for its runs.
-use Rattle.std.proofs.Common.{◌≡◌, ◌∙◌, ℕ, ◌+◌, ◌<◌, ◌≤◌, ◌==◌, inl, inr, Bool, true, false, cond, List, [], ◌∷◌, ◌++◌, length, get_or, take, map, filter, option_to_list, Option, None, Some, Result, Ok, Err, refl, sym, ap, subst, arith}
+use Rattle.std.proofs.Common.{◌≡◌, ◌∙◌, ℕ, ◌+◌, ◌<◌, ◌≤◌, ◌==◌, inl, inr, Bool, true, false, cond, List, [], ◌∷◌, ◌++◌, length, get_or, take, map, filter, option_to_list, Option, None, Some, Result, Ok, Err, refl, sym, ap, subst, arith, nat_cmp, bytes_eq, MatchResult, is_ok}
 use Rattle.std.specs.List.{All, cons_option, filter_map, list_any}
 use Rattle.std.specs.List.Sorted.{IsNonDecreasing, IsBinarySearchResult}
 use Rattle.std.specs.Option.{IfSome, IsSome, option_and_then, option_map_or}
-use Rattle.std.specs.Ordering.{nat_cmp}
-use Rattle.std.specs.Str.{bytes_eq}
-use Rattle.std.specs.Result.{MatchResult}
-use Rattle.std.specs.Prelude.{is_ok}
 use Rattle.std.proofs.lemmas.Bool.{cases_lt}
 use Rattle.std.proofs.lemmas.Bool.Decides.{nat_tests}
 use Rattle.std.proofs.lemmas.List.{get_or_default, take_more, map-append}
 use Rattle.std.proofs.lemmas.List.Elements.{All-cons, All-nil, All-head, All-tail, filter_map-append}
 use Rattle.std.proofs.lemmas.List.Folds.{list_any_at, list_any_none}
 use Rattle.std.proofs.lemmas.List.Sorted.{searched}
-use Rattle.qm_kinds.specs.declared.entry.Entry.{Entry}
-use Rattle.qm_kinds.specs.declared.entry.EntryState.{EntryState}
-use Rattle.qm_kinds.specs.declared.entry.EntryState.TheVariants.{Pending, Holding, Timed, Running, Aborting, Retained}
-use Rattle.qm_kinds.specs.declared.entry.JobKind.{JobKind}
+use Rattle.qm_model.specs.Common.{Entry, EntryState, Pending, Holding, Timed, Running, Aborting, Retained, JobKind, Form, Queue, Name, Run, System, Duty, queue_named, form_wanted, runs_in, runs_on, is_generic, execution_kind, is_run_on}
 use Rattle.qm_kinds.specs.declared.entry.JobKind.TheVariants as job
-use Rattle.qm_kinds.specs.declared.form.Form.{Form}
-use Rattle.qm_kinds.specs.declared.queue.Queue.{Queue}
-use Rattle.qm_kinds.specs.declared.request.NameOrNumber.TheVariants.{Name}
-use Rattle.qm_kinds.specs.declared.run.Run.{Run}
-use Rattle.qm_kinds.specs.declared.system.System.{System}
-use Rattle.qm_kinds.specs.declared.work.Duty.{Duty}
 use Rattle.qm_model.specs.Consistent.{IsConsistent, IsEntry, IsQueue, IsPlaced, IsExecutionQueue, HasForm}
 use Rattle.qm_model.specs.Duties.{work_of, duty_of, by_run, run_number, form_that_shapes}
-use Rattle.qm_model.specs.Find.{queue_named, form_wanted}
-use Rattle.qm_model.specs.JobStates.{runs_in, runs_on}
-use Rattle.qm_model.specs.Kinds.{is_generic, execution_kind}
-use Rattle.qm_model.specs.Standing.{is_run_on}
 use Rattle.qm_model.proofs.DutyLemmas.{found_of_all}
 use Rattle.qm_parts.specs.ByRun.{entry_on}
 use Rattle.qm_parts.proofs.ByRun.{sorted_all}

@@ -1,12 +1,7 @@
 -- What it takes to tell a node the work of an entry.
 use Rattle.std.specs.Prelude.{ℕ, List, map, filter_map, option_to_list, IfSome, IsSome}
-use Rattle.qm_kinds.specs.declared.entry.Entry.{Entry}
-use Rattle.qm_kinds.specs.declared.work.Duty.{Duty}
-use Rattle.qm_kinds.specs.declared.run.Run.{Run}
-use Rattle.qm_kinds.specs.declared.request.NameOrNumber.TheVariants.{Name}
-use Rattle.qm_kinds.specs.declared.system.System.{System}
+use Rattle.qm_model.specs.Common.{Entry, Duty, Run, Name, System, form_wanted}
 use Rattle.qm_model.specs.Duties.{device_of_run, duty_of, form_that_shapes}
-use Rattle.qm_model.specs.Find.{form_wanted}
 use Rattle.qm_parts.specs.ByRun.{entry_on}
 
 -- the entry runs at a device, and the form that shapes its pages is there

@@ -1,8 +1,6 @@
 -- Rows that are asked for one by one.
 use Rattle.std.specs.Prelude.{Option}
-use Rattle.qm_kinds.specs.declared.query.Query.{Query}
-use Rattle.qm_kinds.specs.declared.query.Row.{Row}
-use Rattle.qm_kinds.specs.declared.system.System.{System}
+use Rattle.qm_model.specs.Common.{Query, Row, System}
 use Rattle.qm_model.specs.Rows.{next_row, single_rows}
 
 -- the row of the listing behind the last one, if there is one

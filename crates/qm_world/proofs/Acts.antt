@@ -1,7 +1,5 @@
 -- The derived test of what requests did tells whether they did the same.
-use Rattle.std.proofs.Common.{◌≡◌, ◌&&◌, true, rules, refl}
-use Rattle.std.specs.Prelude.{◌==◌}
-use Rattle.std.specs.Str.{bytes_eq}
+use Rattle.std.proofs.Common.{◌≡◌, ◌&&◌, true, rules, refl, ◌==◌, bytes_eq}
 use Rattle.std.proofs.lemmas.Bool.{and_parts, false≢true}
 use Rattle.std.proofs.lemmas.Slice.Eq.{bytes_eq-Decides}
 use Rattle.qm_kinds.specs.declared.reply.Act.{Act}

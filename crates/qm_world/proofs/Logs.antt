@@ -1,17 +1,11 @@
 -- Lists of records, and their bytes.
-use Rattle.std.proofs.Common.{◌≡◌, ◌∙◌, ◌+◌, ◌<◌, ℕ, List, [], ◌∷◌, ◌++◌, length, map, take, get_or, refl, sym, ap, subst, Some, Vec}
+use Rattle.std.proofs.Common.{◌≡◌, ◌∙◌, ◌+◌, ◌<◌, ℕ, List, [], ◌∷◌, ◌++◌, length, map, take, get_or, refl, sym, ap, subst, Some, Vec, slice_get}
 use Rattle.std.specs.List.{All, AllByRecursion}
-use Rattle.std.specs.Prelude.{slice_get}
 use Rattle.std.proofs.lemmas.List.{append-nil, map-append, take_more}
 use Rattle.std.proofs.lemmas.List.Elements.{All-append, All-cons, All-nil, recursion_from_All}
 use Rattle.std.proofs.lemmas.Option.{get_or_from_slice_get, slice_get_within}
 use Rattle.std.specs.declared.alloc.Global.{Global}
-use Rattle.qm_bytes.specs.Laws.{Spells}
-use Rattle.qm_kinds.specs.declared.record.Record.{Record}
-use Rattle.qm_kinds.specs.declared.system.System.{System}
-use Rattle.qm_model.specs.Folding.{system_of}
-use Rattle.qm_record.specs.Spelling.{HasSpelling, record_text}
-use Rattle.qm_history.specs.Accepted.{IsAccepted}
+use Rattle.qm_history.specs.Common.{Spells, Record, System, system_of, HasSpelling, record_text, IsAccepted}
 use Rattle.qm_restore.specs.QueueFile.{IsSiteFile}
 use Rattle.qm_world.specs.Texts.{texts}
 use Rattle.qm_world.proofs.Spelled.{log_spelled}
@@ -66,18 +60,18 @@ module _ (alone : (a b : Record) (rest : List ℕ) → HasSpelling a → HasSpel
       let more : a ≡ b = one_log a b all.1 others.1 (same_others (record_text x) (record_text y) (map record_text a) (map record_text b) same) in
       λ i. first i ∷ more i
 
-  module _ (accepted : (bodies : List (List ℕ)) (s : System) → IsSiteFile bodies s → (log : List Record) × (bodies ≡ map record_text log) × IsAccepted HasSpelling log × (system_of log ≡ s))
+  module _ (accepted : (bodies : List (List ℕ)) (s : System) → IsSiteFile bodies s → (log : List Record) × (bodies ≡ map record_text log) × IsAccepted log × (system_of log ≡ s))
       (bodies : List (List ℕ)) (s : System) (site : IsSiteFile bodies s) (log : List Record) (spelled : All HasSpelling log) (same : bodies ≡ map record_text log)
     where
-      abbrev found : (log : List Record) × (bodies ≡ map record_text log) × IsAccepted HasSpelling log × (system_of log ≡ s)
+      abbrev found : (log : List Record) × (bodies ≡ map record_text log) × IsAccepted log × (system_of log ≡ s)
       found = accepted bodies s site
 
       is_found : found.0 ≡ log
       is_found =
           one_log found.0 log (recursion_from_All HasSpelling found.0 (log_spelled found.0 found.2)) (recursion_from_All HasSpelling log spelled) (sym found.1 ∙ same)
 
-      pub log_accepted : IsAccepted HasSpelling log
-      log_accepted = subst (IsAccepted HasSpelling) is_found found.2
+      pub log_accepted : IsAccepted log
+      log_accepted = subst IsAccepted is_found found.2
 
       pub log_system : system_of log ≡ s
       log_system = ap (λ (l : List Record). system_of l) (sym is_found) ∙ found.3

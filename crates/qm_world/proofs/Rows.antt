@@ -4,19 +4,8 @@ use Rattle.std.specs.List.{All, AllByRecursion, prefix_len}
 use Rattle.std.proofs.lemmas.List.{drop_at, drop_more, take-append-drop, take_all, take_at, take_more}
 use Rattle.std.proofs.lemmas.List.Elements.{All-from_recursion}
 use Rattle.std.proofs.lemmas.List.Sums.{prefix_len-le-length}
-use Rattle.qm_kinds.specs.declared.record.Record.{Record}
-use Rattle.qm_kinds.specs.declared.record.Body.{Body}
+use Rattle.qm_history.specs.Common.{Record, Body, System, Request, applied, IsConsistent, after_record, no_system, replayed, system_of, IsLawful, image_of, row, Accepted, is_row, AreNext, CanStandBehind, IsAccepted, IsNext}
 use Rattle.qm_kinds.specs.declared.record.Body.TheVariants as body
-use Rattle.qm_kinds.specs.declared.system.System.{System}
-use Rattle.qm_kinds.specs.declared.request.Request.{Request}
-use Rattle.qm_model.specs.Applied.{applied}
-use Rattle.qm_model.specs.Consistent.{IsConsistent}
-use Rattle.qm_model.specs.Folding.{after_record, no_system, replayed, system_of}
-use Rattle.qm_model.specs.Lawful.{IsLawful}
-use Rattle.qm_model.specs.Log.{image_of, row}
-use Rattle.qm_model.specs.Outcome.{Accepted}
-use Rattle.qm_record.specs.Spelling.{HasSpelling, is_row}
-use Rattle.qm_history.specs.Accepted.{AreNext, CanStandBehind, IsAccepted, IsNext}
 use Rattle.qm_history.proofs.LogLemmas.{image_stands, next_consistent, replayed_append}
 
 abbrev pub IsRowOf : Record → Type 0
@@ -36,7 +25,7 @@ front [] ys rows = omega arith
 front (r ∷ xs) ys rows = front_at r xs ys rows.0 (test r) refl (front xs ys rows.1)
 
 -- behind an image stands no row
-none_body : (s : System) (moment node : ℕ) (b : Body) → CanStandBehind HasSpelling s moment node b → is_row b ≡ false
+none_body : (s : System) (moment node : ℕ) (b : Body) → CanStandBehind s moment node b → is_row b ≡ false
 none_body s moment node (body.Ask asked) can = refl
 none_body s moment node (body.Head nodes may next_entry next_run last) can = absurd can
 none_body s moment node (body.Form f) can = absurd can
@@ -45,7 +34,7 @@ none_body s moment node (body.File f) can = absurd can
 none_body s moment node (body.Queue q) can = absurd can
 none_body s moment node (body.Entry e) can = absurd can
 
-none : (s : System) (requests : List Record) → AreNext HasSpelling s requests → prefix_len test requests ≡ 0
+none : (s : System) (requests : List Record) → AreNext s requests → prefix_len test requests ≡ 0
 none s [] next = refl
 none s (r ∷ requests) next = ap (λ (b : Bool). cond b (1 + prefix_len test requests) 0) (none_body s r.moment r.node r.body next.0)
 
@@ -71,7 +60,7 @@ image_rows s = (
 
 -- ---- the log
 
-pub rows_counted : (log : List Record) (h : IsAccepted HasSpelling log) → prefix_len test log ≡ length (image_of h.image)
+pub rows_counted : (log : List Record) (h : IsAccepted log) → prefix_len test log ≡ length (image_of h.image)
 rows_counted log h =
     ap (λ (rs : List Record). prefix_len test rs) h.whole
     ∙ front (image_of h.image) h.requests (image_rows h.image)
@@ -90,9 +79,9 @@ next_row s rows i r old new within is so made =
 pub record Begun (log items : List Record) (n i : ℕ) (s : System) : Type 0 where
   pub at : s ≡ replayed (system_of (take n log)) (take i items)
   pub sound : IsConsistent s
-  pub next : AreNext HasSpelling s (drop i items)
+  pub next : AreNext s (drop i items)
 
-module _ (log : List Record) (h : IsAccepted HasSpelling log) (n : ℕ) (counted : n ≡ prefix_len test log) where
+module _ (log : List Record) (h : IsAccepted log) (n : ℕ) (counted : n ≡ prefix_len test log) where
   size : length (image_of h.image) ≡ n
   size = sym (counted ∙ rows_counted log h)
 
@@ -115,27 +104,27 @@ module _ (log : List Record) (h : IsAccepted HasSpelling log) (n : ℕ) (counted
   begun s items are is = record {
     at = is;
     sound = subst IsConsistent (sym is) front_consistent;
-    next = subst (λ (rs : List Record). AreNext HasSpelling s rs) (sym (are ∙ back_is))
-        (subst (λ (x : System). AreNext HasSpelling x h.requests) (sym (is ∙ front_system)) h.next);
+    next = subst (λ (rs : List Record). AreNext s rs) (sym (are ∙ back_is))
+        (subst (λ (x : System). AreNext x h.requests) (sym (is ∙ front_system)) h.next);
   }
 
   pub within_log : n ≤ length log
   within_log = rw counted (prefix_len-le-length test log)
 
 module _ (log items : List Record) (n i : ℕ) (s : System) (h : Begun log items n i s) where
-  pub next_begun : (r : Record) → i < length items → r ≡ get_or items i r → IsNext HasSpelling s r
+  pub next_begun : (r : Record) → i < length items → r ≡ get_or items i r → IsNext s r
   next_begun r within is =
-      let next : AreNext HasSpelling s (get_or items i r ∷ drop (i + 1) items) = subst (λ (rs : List Record). AreNext HasSpelling s rs) (drop_more items i r within) h.next in
-      subst (λ (x : Record). IsNext HasSpelling s x) (sym is) next.0
+      let next : AreNext s (get_or items i r ∷ drop (i + 1) items) = subst (λ (rs : List Record). AreNext s rs) (drop_more items i r within) h.next in
+      subst (λ (x : Record). IsNext s x) (sym is) next.0
 
   pub more_begun : (keeps : (s : System) (now node : ℕ) (asked : Request) (a : Accepted) → IsConsistent s → IsLawful s node asked → applied s now node asked ≡ Ok a → IsConsistent a.system)
       → (r : Record) (t : System) → i < length items → r ≡ get_or items i r → t ≡ after_record s r → Begun log items n (i + 1) t
   more_begun keeps r t within is made =
-      let next : AreNext HasSpelling s (get_or items i r ∷ drop (i + 1) items) = subst (λ (rs : List Record). AreNext HasSpelling s rs) (drop_more items i r within) h.next in
+      let next : AreNext s (get_or items i r ∷ drop (i + 1) items) = subst (λ (rs : List Record). AreNext s rs) (drop_more items i r within) h.next in
       record {
         at = next_row (system_of (take n log)) items i r s t within is h.at made;
-        sound = subst IsConsistent (sym made) (next_consistent HasSpelling keeps s r (next_begun r within is) h.sound);
-        next = subst (λ (x : System). AreNext HasSpelling x (drop (i + 1) items)) (sym (made ∙ ap (λ (x : Record). after_record s x) is)) next.1;
+        sound = subst IsConsistent (sym made) (next_consistent keeps s r (next_begun r within is) h.sound);
+        next = subst (λ (x : System). AreNext x (drop (i + 1) items)) (sym (made ∙ ap (λ (x : Record). after_record s x) is)) next.1;
       }
 
   pub all_begun : length items ≤ i → items ≡ drop n log → s ≡ system_of log

@@ -2,17 +2,10 @@
 use Rattle.std.proofs.Common.{◌<◌, ◌^◌, ℕ, List, [], ◌∷◌, length, Option, None, Some, subst, sym}
 use Rattle.std.specs.List.{All, AllByRecursion}
 use Rattle.std.proofs.lemmas.List.Elements.{All-append, All-from_recursion}
-use Rattle.qm_bytes.specs.Spelling.{AllOf, IsList}
-use Rattle.qm_kinds.specs.declared.record.Record.{Record}
-use Rattle.qm_kinds.specs.declared.record.Body.{Body}
+use Rattle.qm_history.specs.Common.{AllOf, IsList, Record, Body, Request, System, after_record, image_of, AreNext, CanStandBehind, IsAccepted, IsNext}
 use Rattle.qm_kinds.specs.declared.record.Body.TheVariants as body
-use Rattle.qm_kinds.specs.declared.request.Request.{Request}
 use Rattle.qm_kinds.specs.declared.request.Request.TheVariants as ask
-use Rattle.qm_kinds.specs.declared.system.System.{System}
-use Rattle.qm_model.specs.Folding.{after_record}
-use Rattle.qm_model.specs.Log.{image_of}
 use Rattle.qm_record.specs.Spelling.{AreListsShort, BodyFits, CanBeWritten, HasSpelling, IsShortBody, RequestFits}
-use Rattle.qm_history.specs.Accepted.{AreNext, CanStandBehind, IsAccepted, IsNext}
 
 few : {A : Type 0} (Fits : A → Type 0) (o : Option (List A)) → AllOf (IsList Fits) o → AllOf (λ (xs : List A). length xs < 2 ^ 16) o
 few Fits None h = tt
@@ -47,7 +40,7 @@ spelled_is_short asked moment node h = request_short asked h.body_fits
 
 -- ---- the records of a log
 
-body_spelled : (s : System) (moment node : ℕ) (b : Body) → CanStandBehind HasSpelling s moment node b → HasSpelling (record { moment = moment; node = node; body = b })
+body_spelled : (s : System) (moment node : ℕ) (b : Body) → CanStandBehind s moment node b → HasSpelling (record { moment = moment; node = node; body = b })
 body_spelled s moment node (body.Ask asked) can = can.spelled
 body_spelled s moment node (body.Head nodes may next_entry next_run last) can = absurd can
 body_spelled s moment node (body.Form f) can = absurd can
@@ -56,14 +49,14 @@ body_spelled s moment node (body.File f) can = absurd can
 body_spelled s moment node (body.Queue q) can = absurd can
 body_spelled s moment node (body.Entry e) can = absurd can
 
-pub next_spelled : (s : System) (r : Record) → IsNext HasSpelling s r → HasSpelling r
+pub next_spelled : (s : System) (r : Record) → IsNext s r → HasSpelling r
 next_spelled s r can = body_spelled s r.moment r.node r.body can
 
-all_next_spelled : (s : System) (records : List Record) → AreNext HasSpelling s records → AllByRecursion HasSpelling records
+all_next_spelled : (s : System) (records : List Record) → AreNext s records → AllByRecursion HasSpelling records
 all_next_spelled s [] next = tt
 all_next_spelled s (r ∷ records) next = (next_spelled s r next.0, all_next_spelled (after_record s r) records next.1)
 
-pub log_spelled : (log : List Record) → IsAccepted HasSpelling log → All HasSpelling log
+pub log_spelled : (log : List Record) → IsAccepted log → All HasSpelling log
 log_spelled log h =
     subst (λ (rs : List Record). All HasSpelling rs) (sym h.whole)
     (All-append HasSpelling (image_of h.image) h.requests (All-from_recursion HasSpelling (image_of h.image) h.spelled)

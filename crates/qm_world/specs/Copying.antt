@@ -1,9 +1,6 @@
 -- Which requests have a record.
 use Rattle.std.specs.Prelude.{◌≡◌, ℕ, Option, None, Some}
-use Rattle.qm_kinds.specs.declared.record.Record.{Record}
-use Rattle.qm_kinds.specs.declared.request.Request.{Request}
-use Rattle.qm_model.specs.Log.{request_record}
-use Rattle.qm_record.specs.Spelling.{HasSpelling}
+use Rattle.qm_history.specs.Common.{Record, Request, request_record, HasSpelling}
 
 -- the record of a request that has a spelling, or none where it has none
 abbrev pub IsSpelled : ℕ → ℕ → Request → Option Record → Type 0

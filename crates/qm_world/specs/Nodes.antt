@@ -1,11 +1,8 @@
 -- The lists of nodes of a takeover, and when its record may be in doubt.
 use Rattle.std.specs.Prelude.{◌≡◌, ℕ, Bool, not, ◌&&◌, IsSome, IsNone}
-use Rattle.qm_kinds.specs.declared.request.Request.{Request}
+use Rattle.qm_history.specs.Common.{Request, Node, System, NamesNodes}
 use Rattle.qm_kinds.specs.declared.request.Request.TheVariants as request
-use Rattle.qm_kinds.specs.declared.system.Node.{Node}
-use Rattle.qm_kinds.specs.declared.system.System.{System}
 use Rattle.qm_history.specs.declared.world.World.{World}
-use Rattle.qm_history.specs.Step.{NamesNodes}
 use Rattle.qm_world.specs.declared.nodes.Which.{Which}
 use Rattle.qm_world.specs.declared.nodes.Which.TheVariants.{Lost, Live}
 

@@ -1,10 +1,8 @@
 // The image of the system for which a log stands.
 ghost use Rattle.std.specs.Prelude.{◌≡◌, ◌++◌, ◌∷◌, [], ℕ, take, true, IfOk, OnOk};
 ghost use Rattle.std.specs.List.{All, prefix_len};
-ghost use Rattle.qm_model.specs.Consistent.{IsConsistent};
+ghost use Rattle.qm_history.specs.Common.{IsConsistent, is_row, IsAccepted};
 ghost use Rattle.qm_model.specs.Folding.{after_body, no_system, system_of as system_of_log};
-ghost use Rattle.qm_record.specs.Spelling.{HasSpelling, is_row};
-ghost use Rattle.qm_history.specs.Accepted.{IsAccepted};
 ghost use Rattle.qm_image.specs.Image.{system_of};
 
 use crate::copying::put;
@@ -99,7 +97,8 @@ fn copy_file(alloc: Global, file: &File) -> Result<File, AllocError>
 
 // Adds an entry to a system.
 fn add_entry(alloc: Global, system: &mut System, entry: &Entry) -> Result<(), AllocError>
-    ensures { OnOk result (system.new ≡ record system.old { entries = system.old.entries ++ entry.now ∷ [] }) }
+    ensures { OnOk result (system.new
+        ≡ record system.old { entries = system.old.entries ++ entry.now ∷ [] }) }
 {
     let mut entries = mem::replace(&mut system.entries, Seq::new(alloc)).into_vec();
     entries.extend_from_slice(slice::from_ref(entry))?;
@@ -110,7 +109,8 @@ fn add_entry(alloc: Global, system: &mut System, entry: &Entry) -> Result<(), Al
 // Adds what a row says to a system.
 fn add_row(alloc: Global, system: &mut System, row: &Body) -> Result<(), AllocError>
     requires { is_row row.now ≡ true }
-    ensures { OnOk result ((moment node : ℕ) → system.new ≡ after_body system.old moment node row.now) }
+    ensures { OnOk result ((moment node : ℕ)
+        → system.new ≡ after_body system.old moment node row.now) }
 {
     match row {
         Body::Head {
@@ -168,7 +168,7 @@ fn image_of_rows(alloc: Global, rows: &[Record]) -> Result<Image, AllocError>
 
 // Makes the changes of all requests that stand behind the rows of an accepted log.
 fn replay_from(image: &mut Image, log: &[Record], rows: usize) -> Result<(), AllocError>
-    requires accepted { IsAccepted HasSpelling log.now }
+    requires accepted { IsAccepted log.now }
     requires rows { rows ≡ prefix_len (λ r. is_row r.body) log.now }
     requires begun { system_of image.old ≡ system_of_log (take rows log.now) }
     ensures { OnOk result (system_of image.new ≡ system_of_log log.now) }
@@ -185,7 +185,7 @@ fn replay_from(image: &mut Image, log: &[Record], rows: usize) -> Result<(), All
 ///
 /// An image is let go by a call of `drop`: where a function ends it would be let go field by field, at each of its ends.
 pub(crate) fn image_of_log(alloc: Global, log: &[Record]) -> Result<Image, AllocError>
-    requires { IsAccepted HasSpelling log.now }
+    requires { IsAccepted log.now }
     ensures { IfOk result (λ image. system_of image ≡ system_of_log log.now) }
 {
     let rows = count_rows(log);

@@ -1,10 +1,8 @@
 // Copies of records and of worlds. A record is copied by its spelling, which is written and read again, so there is no copy of
 // each kind of record here.
-ghost use Rattle.std.specs.Prelude.{◌≡◌, ◌↔◌, ◌<◌, ◌^◌, ◌++◌, ◌∷◌, [], true, length, IfOk, IfSome, OnOk, slice_set};
-ghost use Rattle.std.specs.List.{All};
-ghost use Rattle.qm_bytes.specs.Spelling.{AllOf};
+ghost use Rattle.std.specs.Prelude.{◌≡◌, ◌↔◌, ◌<◌, ◌^◌, ◌++◌, ◌∷◌, [], true, length, IfOk, IfSome, OnOk, slice_set, All};
+ghost use Rattle.qm_history.specs.Common.{AllOf, IsSound};
 ghost use Rattle.qm_record.specs.Spelling.{AreListsShort, HasSpelling, IsShortChange, IsShortEntryChange, IsShortQueue};
-ghost use Rattle.qm_history.specs.World.{IsSound};
 ghost use Rattle.qm_world.specs.Copying.{IsSpelled};
 
 use qm_history::World;
@@ -80,7 +78,7 @@ fn copy_doubt(alloc: Global, doubt: &Option<Record>) -> Result<Option<Record>, A
 
 /// A copy of a sound world, with its whole log.
 pub(crate) fn copy_world(alloc: Global, world: &World) -> Result<World, AllocError>
-    requires { IsSound HasSpelling world.now }
+    requires { IsSound world.now }
     ensures { IfOk result (λ copy. copy ≡ world.now) }
 {
     let live = Seq::of(Vec::from_slice(alloc, world.live.as_slice())?);

@@ -1,15 +1,10 @@
 // Worlds, and the records of queue files.
-ghost use Rattle.std.specs.Prelude.{◌≡◌, ◌++◌, length, map, option_to_list, IfOk, IfErr};
-ghost use Rattle.std.specs.List.{All};
-ghost use Rattle.qm_bytes.specs.Laws.{Spells};
-ghost use Rattle.qm_model.specs.Folding.{system_of};
-ghost use Rattle.qm_record.specs.Spelling.{HasSpelling, record_text};
-ghost use Rattle.qm_history.specs.Start.{first_world};
-ghost use Rattle.qm_history.specs.World.{IsSound};
+ghost use Rattle.std.specs.Prelude.{◌≡◌, ◌++◌, length, map, option_to_list, IfOk, IfErr, All};
+ghost use Rattle.qm_history.specs.Common.{Spells, system_of, HasSpelling, record_text, first_world, IsSound};
 ghost use Rattle.qm_restore.specs.Restoring.{Judges};
 ghost use Rattle.qm_world.specs.Texts.{texts, AreOfSite};
 
-use qm_history::{QueueFile, World, programs_begin_sound};
+use qm_history::{World, programs_begin_sound};
 use qm_kinds::{Record, Seq};
 use qm_record::{no_record_begins_another, read_record, write_record};
 use qm_restore::{Bodies, RestoreFault, restore, site_files_are_accepted};
@@ -70,12 +65,12 @@ fn begin(alloc: Global, log: Vec<Record>, nodes: usize, epoch: u64) -> Result<Wo
 pub fn first_world<B: Bodies>(alloc: Global, file: &B, epoch: u64) -> Result<World, RestoreFault>
     ensures texts { IfOk result (λ world. B.bodies file.now ≡ map record_text world.log) }
     ensures first { IfOk result (λ world. world ≡ first_world world.log epoch) }
-    ensures sound { IfOk result (IsSound HasSpelling) }
+    ensures sound { IfOk result IsSound }
     ensures judged { IfErr result (Judges (B.bodies file.now)) }
 {
     site_files_are_accepted();
     no_record_begins_another();
-    programs_begin_sound::<QueueFile>();
+    programs_begin_sound();
     let nodes = count_nodes(alloc, file)?;
     let log = read_log(alloc, file)?;
     Ok(begin(alloc, log, nodes, epoch)?)
@@ -95,8 +90,9 @@ fn spell_log(alloc: Global, log: &[Record]) -> Result<Vec<Vec<u8>>, AllocError>
 
 /// The records of a sound world's log as a queue file has them, and behind them the one that is in doubt.
 pub fn texts_of(alloc: Global, world: &World) -> Result<Vec<Vec<u8>>, AllocError>
-    requires { IsSound HasSpelling world.now }
-    ensures { IfOk result (λ spelled. texts spelled.items ≡ map record_text (world.now.log ++ option_to_list world.now.doubt)) }
+    requires { IsSound world.now }
+    ensures { IfOk result (λ spelled. texts spelled.items
+        ≡ map record_text (world.now.log ++ option_to_list world.now.doubt)) }
 {
     let mut spelled = spell_log(alloc, world.log.as_slice())?;
     if let Some(record) = &world.doubt {

@@ -1,9 +1,6 @@
 // Records that come behind those of a log, and what the image makes of them.
 ghost use Rattle.std.specs.Prelude.{◌≡◌, OnOk};
-ghost use Rattle.qm_model.specs.Consistent.{IsConsistent};
-ghost use Rattle.qm_model.specs.Folding.{after_record};
-ghost use Rattle.qm_record.specs.Spelling.{HasSpelling};
-ghost use Rattle.qm_history.specs.Accepted.{IsNext};
+ghost use Rattle.qm_history.specs.Common.{IsConsistent, after_record, IsNext};
 ghost use Rattle.qm_image.specs.Image.{system_of};
 ghost use Rattle.qm_world.specs.Following.{IsFollowed, IsJudged};
 
@@ -32,7 +29,7 @@ pub(crate) struct Followed {
 /// Does what a record says that comes next.
 pub(crate) fn replay(image: &mut Image, what: &Record) -> Result<(), AllocError>
     requires sound { IsConsistent (system_of image.old) }
-    requires next { IsNext HasSpelling (system_of image.old) what.now }
+    requires next { IsNext (system_of image.old) what.now }
     ensures { OnOk result (system_of image.new ≡ after_record (system_of image.old) what.now) }
 {
     let Body::Ask(request) = &what.body else {
@@ -87,7 +84,8 @@ pub(crate) fn follow(
     request: &Request,
 ) -> Result<Followed, Stop>
     requires { IsConsistent (system_of image.old) }
-    ensures { IsFollowed (system_of image.old) (system_of image.new) moment node request.now result }
+    ensures { IsFollowed (system_of image.old)
+        (system_of image.new) moment node request.now result }
 {
     let Next { record, prepared } = judge(alloc, image, moment, node, request)?;
     let reply = commit(image, prepared);

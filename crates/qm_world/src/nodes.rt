@@ -1,9 +1,6 @@
 // The lists of nodes of a takeover.
 ghost use Rattle.std.specs.Prelude.{◌≡◌, ◌↔◌, ◌<◌, true, length, map, IfOk};
-ghost use Rattle.qm_kinds.specs.declared.system.System.{System};
-ghost use Rattle.qm_model.specs.Find.{is_among};
-ghost use Rattle.qm_model.specs.Standing.{node_at};
-ghost use Rattle.qm_history.specs.Step.{NamesNodes};
+ghost use Rattle.qm_history.specs.Common.{System, is_among, node_at, NamesNodes};
 ghost use Rattle.qm_history.specs.World.{gone_in, is_none_taken, nodes_where, up_with};
 ghost use Rattle.qm_world.specs.Nodes.{is_one};
 
@@ -66,7 +63,8 @@ fn is_none_taken(world: &World) -> bool
 // The nodes whose runs a takeover finds lost.
 fn gone_in(alloc: Global, world: &World, nodes: &[Node]) -> Result<Vec<Name>, AllocError>
     requires { length world.now.live ≡ length nodes.now }
-    ensures { IfOk result (λ names. (s : System) → s.nodes ≡ nodes.now → names.items ≡ gone_in world.now s) }
+    ensures { IfOk result (λ names. (s : System) → s.nodes ≡ nodes.now
+        → names.items ≡ gone_in world.now s) }
 {
     if is_none_taken(world) {
         names_of_all(alloc, nodes)
@@ -79,7 +77,8 @@ fn gone_in(alloc: Global, world: &World, nodes: &[Node]) -> Result<Vec<Name>, Al
 fn up_with(alloc: Global, world: &World, node: u8, nodes: &[Node]) -> Result<Vec<Name>, AllocError>
     requires within { node < length nodes.now }
     requires live { length world.now.live ≡ length nodes.now }
-    ensures { IfOk result (λ names. (s : System) → s.nodes ≡ nodes.now → names.items ≡ up_with world.now node s) }
+    ensures { IfOk result (λ names. (s : System) → s.nodes ≡ nodes.now
+        → names.items ≡ up_with world.now node s) }
 {
     let mut live = Vec::from_slice(alloc, world.live.as_slice())?;
     live[usize::from(node)] = true;
@@ -121,7 +120,8 @@ pub(crate) fn names_nodes(
 ) -> Result<bool, AllocError>
     requires within { node < length nodes.now }
     requires live { length world.now.live ≡ length nodes.now }
-    ensures { IfOk result (λ names. (s : System) → s.nodes ≡ nodes.now → (names ≡ true) ↔ NamesNodes world.now s node gone.now up.now may.now) }
+    ensures { IfOk result (λ names. (s : System) → s.nodes ≡ nodes.now
+        → (names ≡ true) ↔ NamesNodes world.now s node gone.now up.now may.now) }
 {
     if !is_among(may, &name_of(node, nodes)) {
         return Ok(false);

@@ -8,7 +8,7 @@ use crate::end::Stop;
 use crate::following::{Next, follow, judge};
 use crate::nodes::names_nodes;
 use crate::walker::Walker;
-use qm_history::{Event, QueueFile, sound_worlds_are_consistent};
+use qm_history::{Event, sound_worlds_are_consistent};
 use qm_kinds::{Act, Moment, Name, Reply, Request, Seq, Start};
 use std::alloc::AllocError;
 
@@ -46,9 +46,10 @@ impl Walker {
         reply: &Reply,
     ) -> Result<(), Stop>
         requires { IsAt self.old }
-        ensures { StepsOrStops self.old (Event.Done node moment request.now reply.now) self.new result }
+        ensures { StepsOrStops self.old
+            (Event.Done node moment request.now reply.now) self.new result }
     {
-        sound_worlds_are_consistent::<QueueFile>();
+        sound_worlds_are_consistent();
         if !self.has_manager() {
             return Err(Stop::Illegal);
         }
@@ -72,7 +73,9 @@ impl Walker {
     ) -> Result<bool, AllocError>
         requires at { IsAt self.now }
         requires there { node < length (system_of self.now.image).nodes }
-        ensures { IfOk result (λ can. (can ≡ true) ↔ MayBeInDoubt self.now.world (system_of self.now.image) node (Request.Took epoch gone.now up.now may.now)) }
+        ensures { IfOk result (λ can.
+            (can ≡ true) ↔ MayBeInDoubt self.now.world (system_of self.now.image) node
+            (Request.Took epoch gone.now up.now may.now)) }
     {
         if self.has_manager() || self.has_doubt() || epoch != self.world.greatest {
             return Ok(false);
@@ -92,7 +95,9 @@ impl Walker {
     fn may_be_in_doubt(&self, node: u8, request: &Request) -> Result<bool, AllocError>
         requires at { IsAt self.now }
         requires there { node < length (system_of self.now.image).nodes }
-        ensures { IfOk result (λ can. (can ≡ true) ↔ MayBeInDoubt self.now.world (system_of self.now.image) node request.now) }
+        ensures { IfOk result (λ can.
+            (can ≡ true) ↔ MayBeInDoubt self.now.world
+            (system_of self.now.image) node request.now) }
     {
         match request {
             Request::Took {
@@ -115,7 +120,7 @@ impl Walker {
         requires { IsAt self.old }
         ensures { StepsOrStops self.old (Event.Doubt node moment request.now) self.new result }
     {
-        sound_worlds_are_consistent::<QueueFile>();
+        sound_worlds_are_consistent();
         if !self.has_node(node) || !self.may_be_in_doubt(node, request)? {
             return Err(Stop::Illegal);
         }

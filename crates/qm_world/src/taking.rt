@@ -9,7 +9,7 @@ use crate::end::Stop;
 use crate::following::{Followed, follow, replay};
 use crate::nodes::names_nodes;
 use crate::walker::Walker;
-use qm_history::{Event, QueueFile, Role, World, sound_worlds_are_consistent};
+use qm_history::{Event, Role, World, sound_worlds_are_consistent};
 use qm_image::Image;
 use qm_kinds::{Moment, Name, Request, Seq};
 use qm_model::{nodes_keep_their_names, requests_keep_consistent};
@@ -47,7 +47,8 @@ fn take_over(
 ) -> Result<Followed, Stop>
     requires sound { IsConsistent (system_of image.old) }
     requires live { length world.now.live ≡ length (system_of image.old).nodes }
-    ensures { IsTaken world.now (system_of image.old) (system_of image.new) node moment epoch gone.now up.now may.now result }
+    ensures { IsTaken world.now (system_of image.old)
+        (system_of image.new) node moment epoch gone.now up.now may.now result }
 {
     let nodes = image.nodes();
     if usize::from(node) >= nodes.len() {
@@ -70,7 +71,7 @@ impl Walker {
         requires { IsAt self.old }
         ensures { OnOk result (Reads self.old self.new (Some true)) }
     {
-        sound_worlds_are_consistent::<QueueFile>();
+        sound_worlds_are_consistent();
         let Some(record) = self.world.doubt.take() else {
             return Ok(());
         };
@@ -96,7 +97,8 @@ impl Walker {
 
     // Whether a takeover may begin this epoch, and tells of the record in doubt, where there is one.
     fn may_begin(&self, epoch: u64, kept: Option<bool>) -> bool
-        ensures { (result ≡ true) ↔ ((epoch ≡ self.now.world.greatest + 1) × (is_some kept ≡ is_some self.now.world.doubt)) }
+        ensures { (result ≡ true) ↔ ((epoch ≡ self.now.world.greatest + 1)
+            × (is_some kept ≡ is_some self.now.world.doubt)) }
     {
         self.world.greatest.checked_add(1) == Some(epoch) && kept.is_some() == self.has_doubt()
     }
@@ -113,7 +115,8 @@ impl Walker {
         kept: Option<bool>,
     ) -> Result<(), Stop>
         requires { IsAt self.old }
-        ensures { StepsOrStops self.old (Event.Took node moment epoch gone.now up.now may.now kept) self.new result }
+        ensures { StepsOrStops self.old
+            (Event.Took node moment epoch gone.now up.now may.now kept) self.new result }
     {
         nodes_keep_their_names();
         requests_keep_consistent();
@@ -142,7 +145,8 @@ impl Walker {
 
     // Whether a takeover that failed may have tried this epoch.
     fn may_try(&self, tried: u64) -> bool
-        ensures { (result ≡ true) ↔ ((tried ≡ self.now.world.greatest) ⊎ (tried ≡ self.now.world.greatest + 1)) }
+        ensures { (result ≡ true) ↔ ((tried ≡ self.now.world.greatest)
+            ⊎ (tried ≡ self.now.world.greatest + 1)) }
     {
         tried == self.world.greatest || self.world.greatest.checked_add(1) == Some(tried)
     }

@@ -1,6 +1,5 @@
 // Where a walk is: a world, and beside it the image of the system for which its log stands.
 ghost use Rattle.std.specs.Prelude.{◌≡◌, ◌↔◌, ◌<◌, length, IfOk, IsSome, IsTrue};
-ghost use Rattle.qm_record.specs.Spelling.{HasSpelling};
 ghost use Rattle.qm_history.specs.World.{epoch_of, held_by, is_live, IsSound};
 ghost use Rattle.qm_image.specs.Image.{system_of};
 
@@ -23,7 +22,7 @@ impl Walker {
 
     /// A walk at its start. The world is copied, with its whole log.
     pub(crate) fn new(alloc: Global, start: &World) -> Result<Walker, AllocError>
-        requires { IsSound HasSpelling start.now }
+        requires { IsSound start.now }
         ensures at { IfOk result IsAt }
         ensures start { IfOk result (λ walker. walker.world ≡ start.now) }
     {

@@ -1,12 +1,11 @@
 // The way along events, one behind the other.
 ghost use Rattle.std.specs.Prelude.{IfErr, IfOk, OnOk};
-ghost use Rattle.qm_record.specs.Spelling.{HasSpelling};
 ghost use Rattle.qm_history.specs.World.{IsSound};
 ghost use Rattle.qm_world.specs.Walking.{IsAt, IsEndOf, LeadTo, StepsOrStops};
 
 use crate::end::{Stop, WalkEnd};
 use crate::walker::Walker;
-use qm_history::{Event, QueueFile, World, worlds_stay_sound};
+use qm_history::{Event, World, worlds_stay_sound};
 use std::alloc::{AllocError, Global};
 
 // Goes along one event.
@@ -60,7 +59,7 @@ fn go_along(walker: &mut Walker, steps: &[Event]) -> Result<(), WalkEnd>
     ensures led { OnOk result (LeadTo walker.old.world steps.now walker.new.world) }
     ensures end { IfErr result (IsEndOf walker.old.world steps.now) }
 {
-    worlds_stay_sound::<QueueFile>();
+    worlds_stay_sound();
     for (index, event) in steps.iter().enumerate() {
         match step(walker, event) {
             Ok(()) => {}
@@ -75,9 +74,9 @@ fn go_along(walker: &mut Walker, steps: &[Event]) -> Result<(), WalkEnd>
 /// front of the first request an image of any system, is taken over; each request is made anew by an image of the system. So it
 /// takes memory for the log, for that system and for each record that comes; that may run out at any event.
 pub fn walk(alloc: Global, start: &World, steps: &[Event]) -> Result<World, WalkEnd>
-    requires { IsSound HasSpelling start.now }
+    requires { IsSound start.now }
     ensures world { IfOk result (LeadTo start.now steps.now) }
-    ensures sound { IfOk result (IsSound HasSpelling) }
+    ensures sound { IfOk result IsSound }
     ensures end { IfErr result (IsEndOf start.now steps.now) }
 {
     let mut walker = match Walker::new(alloc, start) {

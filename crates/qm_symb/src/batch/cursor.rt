@@ -1,11 +1,8 @@
 // Where a batch run is in its text, and the lines there. No list of lines is made: a cursor is a byte of the text.
-ghost use Rattle.std.specs.Prelude.{◌≡◌, ◌≤◌, ◌<◌, [], length, take, drop, option_map, MatchOption, IfSome};
-ghost use Rattle.std.specs.List.{position};
+ghost use Rattle.std.specs.Prelude.{◌≡◌, ◌≤◌, ◌<◌, [], length, take, drop, option_map, MatchOption, IfSome, position};
 ghost use Rattle.qm_kinds.specs.declared.entry.JobKind.TheVariants.{Batch};
-ghost use Rattle.qm_kinds.specs.declared.work.Work.{Work};
-ghost use Rattle.qm_model.specs.Pages.{lines};
+ghost use Rattle.qm_model.specs.Common.{Work, lines, begin};
 ghost use Rattle.qm_model.specs.Batch.{place_of_label};
-ghost use Rattle.qm_model.specs.Reports.{begin};
 ghost use Rattle.qm_symb.specs.TextParts.{part_in_front, part_behind};
 ghost use Rattle.qm_symb.specs.BatchCursors.{is_line_feed, IsInText, IsLineAt, Stands};
 
@@ -77,7 +74,8 @@ fn first_line(text: &[u8]) -> FirstLine
 pub(crate) fn line_at(text: &[u8], at: Cursor) -> Option<LineAt>
     requires short { length text.now ≤ TEXT_LIMIT }
     requires in_text { IsInText text.now at }
-    ensures { MatchOption result (drop at.line (lines text.now) ≡ []) (λ found. IsLineAt text.now at found.line.now found.next) }
+    ensures { MatchOption result (drop at.line (lines text.now) ≡ [])
+        (λ found. IsLineAt text.now at found.line.now found.next) }
 {
     let rest = &text[at.byte..];
     if rest.is_empty() {
@@ -96,7 +94,8 @@ pub(crate) fn line_at(text: &[u8], at: Cursor) -> Option<LineAt>
 /// The cursor in front of the first line that is this label. It walks the text once.
 pub(crate) fn find_label(text: &[u8], label: &[u8]) -> Option<Cursor>
     requires { length text.now ≤ TEXT_LIMIT }
-    ensures place { option_map (λ found. found.line) result ≡ place_of_label label.now (lines text.now) }
+    ensures place { option_map (λ found. found.line) result
+        ≡ place_of_label label.now (lines text.now) }
     ensures in_text { IfSome result (λ found. IsInText text.now found) }
 {
     let mut here = FIRST;

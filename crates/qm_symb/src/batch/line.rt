@@ -1,6 +1,5 @@
 // The lines of batch jobs, each with what it asks for.
-ghost use Rattle.std.specs.Prelude.{◌≡◌, ◌≤◌, codes, length, option_map, IfSome};
-ghost use Rattle.std.specs.Option.{option_and_then};
+ghost use Rattle.std.specs.Prelude.{◌≡◌, ◌≤◌, codes, length, option_map, IfSome, option_and_then};
 ghost use Rattle.qm_model.specs.Batch.{batch_line, behind, only_if, is_label, is_label_line, label_of};
 ghost use Rattle.qm_symb.specs.BatchLines.{meaning, text_written, mark_set, status_of, IsShort};
 
@@ -67,7 +66,8 @@ pub(crate) fn is_label_line(label: &[u8], line: &[u8]) -> bool
 
 // $ GOTO label
 fn destination(line: &[u8]) -> Option<&[u8]>
-    ensures { option_map (λ label. label.now) result ≡ option_and_then (only_if is_label) (behind (codes "$ GOTO ") line.now) }
+    ensures { option_map (λ label. label.now) result
+        ≡ option_and_then (only_if is_label) (behind (codes "$ GOTO ") line.now) }
 {
     let label = behind(b"$ GOTO ", line)?;
     if is_label(label) { Some(label) } else { None }

@@ -58,7 +58,8 @@ fn restart_label(work: &Work) -> Option<&[u8]>
 pub(crate) fn move_at(work: &Work, here: Cursor) -> Move
     requires short { length work.now.text ≤ TEXT_LIMIT }
     requires in_text { IsInText work.now.text here }
-    ensures meaning { move_meaning result ≡ move_at (lines work.now.text) work.now.again work.now.mark here.line }
+    ensures meaning { move_meaning result
+        ≡ move_at (lines work.now.text) work.now.again work.now.mark here.line }
     ensures within { StaysWithin work.now.text result }
 {
     let text = work.text.as_slice();

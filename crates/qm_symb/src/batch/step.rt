@@ -48,7 +48,8 @@ fn mark_report(mark: &[u8], next: Cursor, used: u32) -> Report
 // The status of a run that has read as many lines as it may: it ends well where none is left.
 fn status_at_limit(work: &Work, here: Cursor) -> u32
     requires { IsInText work.now.text here }
-    ensures { result ≡ (if nat_le (length (lines work.now.text)) here.line then NORMAL_STATUS else LINE_LIMIT_STATUS) }
+    ensures { result ≡ (if nat_le (length (lines work.now.text)) here.line
+        then NORMAL_STATUS else LINE_LIMIT_STATUS) }
 {
     if here.byte < work.text.len() {
         LINE_LIMIT_STATUS
@@ -79,8 +80,10 @@ pub fn batch_step<P: Device>(
     requires limits { IsWithinLimits work.now }
     requires kind { work.now.kind ≡ Batch }
     requires place { Stands work.now at cursor.old }
-    ensures stepped { IfOk result (λ report. Steps P.meaning work.now at report device.old device.new) }
-    ensures next_place { IfOk result (λ report. IfGoesOn report (λ next. Stands work.now next cursor.new)) }
+    ensures stepped { IfOk result (λ report.
+        Steps P.meaning work.now at report device.old device.new) }
+    ensures next_place { IfOk result (λ report.
+        IfGoesOn report (λ next. Stands work.now next cursor.new)) }
     ensures no_memory { OnErr result (device.new ≡ device.old) }
     ensures same_place { OnErr result (cursor.new ≡ cursor.old) }
 {

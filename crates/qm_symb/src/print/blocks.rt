@@ -13,7 +13,8 @@ use std::alloc::{AllocError, Global};
 /// OpenVMS System Manager's Manual, Setting Up and Maintaining Queues, on forms, page overflow and flag pages.
 pub fn page_blocks(alloc: Global, work: &Work) -> Result<Vec<Vec<u8>>, AllocError>
     requires { IsWithinLimits work.now }
-    ensures { IfOk result (λ blocks. map (λ block. block.items) blocks.items ≡ page_blocks work.now) }
+    ensures { IfOk result (λ blocks. map (λ block. block.items) blocks.items
+        ≡ page_blocks work.now) }
 {
     let mut blocks = Vec::new(alloc);
     let mut cursor = Cursor::start(work);

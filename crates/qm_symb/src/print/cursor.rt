@@ -38,7 +38,8 @@ impl Cursor {
     fn turned(self, work: &Work) -> Cursor
         ensures flag { result.flag ≡ self.flag }
         ensures same { blocks_from work.now result ≡ blocks_from work.now self }
-        ensures done { length work.now.text ≤ result.at → result.flag ≡ false → blocks_from work.now result ≡ [] }
+        ensures done { length work.now.text ≤ result.at → result.flag ≡ false
+            → blocks_from work.now result ≡ [] }
     {
         if self.at < work.text.len() || self.copies == 0 || work.text.is_empty() {
             return self;
@@ -62,7 +63,8 @@ impl Cursor {
     /// The place behind the next block, where one is left. It takes no memory.
     pub fn behind_block(self, work: &Work) -> Option<Cursor>
         requires { IsWithinLimits work.now }
-        ensures { MatchOption result (blocks_from work.now self ≡ []) (λ next. IsOneLess (blocks_from work.now self) (blocks_from work.now next)) }
+        ensures { MatchOption result (blocks_from work.now self ≡ [])
+            (λ next. IsOneLess (blocks_from work.now self) (blocks_from work.now next)) }
     {
         if self.flag {
             return Some(Cursor {
@@ -103,7 +105,10 @@ pub fn next_block(
     cursor: &mut Cursor,
 ) -> Result<Option<Vec<u8>>, AllocError>
     requires { IsWithinLimits work.now }
-    ensures block { IfOk result (λ found. MatchOption found (IsDone (blocks_from work.now cursor.old) cursor.old cursor.new) (λ block. blocks_from work.now cursor.old ≡ block.items ∷ blocks_from work.now cursor.new)) }
+    ensures block { IfOk result (λ found. MatchOption found
+        (IsDone (blocks_from work.now cursor.old) cursor.old cursor.new)
+        (λ block. blocks_from work.now cursor.old
+        ≡ block.items ∷ blocks_from work.now cursor.new)) }
     ensures no_memory { OnErr result (cursor.new ≡ cursor.old) }
 {
     if cursor.flag {

@@ -1,6 +1,5 @@
 // Lines as they are printed: cut at their ends, and where they are wider than the page.
-ghost use Rattle.std.specs.Prelude.{◌≡◌, ◌<◌, ◌≤◌, ◌+◌, ◌-◌, ◌∷◌, true, length, take, drop};
-ghost use Rattle.std.specs.List.{position};
+ghost use Rattle.std.specs.Prelude.{◌≡◌, ◌<◌, ◌≤◌, ◌+◌, ◌-◌, ◌∷◌, true, length, take, drop, position};
 ghost use Rattle.qm_model.specs.Pages.{columns};
 ghost use Rattle.qm_symb.specs.TextParts.{ends_line, is_in_section, is_section_over, behind_line, bytes_of_line};
 ghost use Rattle.qm_symb.specs.PageLines.{IsFirstLine};
@@ -94,7 +93,8 @@ fn behind_line(text: &[u8]) -> Behind
 pub(crate) fn first_line(shape: Shape, text: &[u8]) -> FirstLine
     requires columns { shape.left + shape.right < shape.width }
     requires inside { is_in_section text.now ≡ true }
-    ensures line { IsFirstLine shape text.now (take result.shown text.now) (drop result.next text.now) result.is_last }
+    ensures line { IsFirstLine shape text.now
+        (take result.shown text.now) (drop result.next text.now) result.is_last }
     ensures shown { result.shown ≤ length text.now }
     ensures some { 0 < result.next }
     ensures next { result.next ≤ length text.now }

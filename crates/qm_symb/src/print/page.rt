@@ -51,7 +51,8 @@ fn write_lines(block: &mut Vec<u8>, shape: Shape, text: &[u8]) -> Result<usize, 
     requires rows { shape.top + shape.bottom < shape.length }
     requires columns { shape.left + shape.right < shape.width }
     requires some { 0 < length text.now }
-    ensures lines { OnOk result (block.new.items ≡ block.old.items ++ flat_map (line_block shape.left) (first_page shape text.now)) }
+    ensures lines { OnOk result (block.new.items
+        ≡ block.old.items ++ flat_map (line_block shape.left) (first_page shape text.now)) }
     ensures page { IfOk result (λ next. IsFirstPage shape text.now (drop next text.now)) }
     ensures moves { IfOk result (λ next. 0 < next) }
     ensures inside { IfOk result (λ next. next ≤ length text.now) }
@@ -77,7 +78,8 @@ pub(crate) fn page_of(alloc: Global, shape: Shape, text: &[u8]) -> Result<Page, 
     requires rows { shape.top + shape.bottom < shape.length }
     requires columns { shape.left + shape.right < shape.width }
     requires some { 0 < length text.now }
-    ensures block { IfOk result (λ page. page.block.items ≡ page_block shape (first_page shape text.now)) }
+    ensures block { IfOk result (λ page. page.block.items
+        ≡ page_block shape (first_page shape text.now)) }
     ensures page { IfOk result (λ page. IsFirstPage shape text.now (drop page.next text.now)) }
     ensures moves { IfOk result (λ page. 0 < page.next) }
     ensures inside { IfOk result (λ page. page.next ≤ length text.now) }

@@ -62,8 +62,10 @@ pub fn print_step<P: Device>(
     requires limits { IsWithinLimits work.now }
     requires kind { work.now.kind ≡ Print }
     requires place { blocks_from work.now cursor.old ≡ drop at.at (page_blocks work.now) }
-    ensures stepped { IfOk result (λ report. Steps P.meaning work.now at report device.old device.new) }
-    ensures next_place { OnOk result (blocks_from work.now cursor.new ≡ drop (at.at + 1) (page_blocks work.now)) }
+    ensures stepped { IfOk result (λ report.
+        Steps P.meaning work.now at report device.old device.new) }
+    ensures next_place { OnOk result (blocks_from work.now cursor.new
+        ≡ drop (at.at + 1) (page_blocks work.now)) }
     ensures no_memory { OnErr result (device.new ≡ device.old) }
     ensures same_place { OnErr result (cursor.new ≡ cursor.old) }
 {

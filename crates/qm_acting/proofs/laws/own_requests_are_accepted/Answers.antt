@@ -1,5 +1,4 @@
-use Rattle.std.proofs.Common.{◌≡◌, Bool, cond, false, None, Some, refl, sym, subst}
-use Rattle.std.specs.Prelude.{IsOk}
+use Rattle.std.proofs.Common.{◌≡◌, Bool, cond, false, None, Some, refl, sym, subst, IsOk}
 use Rattle.qm_kinds.specs.declared.refusal.Refusal.TheVariants.{NumbersSpent}
 use Rattle.qm_model.specs.Outcome.{Accepted, unless_refused}
 use Rattle.qm_acting.proofs.laws.own_requests_are_accepted.Goals as goal

@@ -1,7 +1,6 @@
 use Rattle.std.proofs.Common.{◌≡◌, ◌+◌, ℕ, List, ◌∙◌, ap, refl, rules, subst, sym, Some, Err}
-use Rattle.qm_history.specs.Chest.{turns_kept}
+use Rattle.qm_history.specs.Common.{turns_kept, Ended}
 use Rattle.qm_script.specs.ClusterLines.{user_lines_view}
-use Rattle.qm_history.specs.Ends.{Ended}
 use Rattle.qm_node.specs.Seats.{HeldSeat}
 use Rattle.qm_turn.specs.Turns.{Known}
 use Rattle.qm_cluster.specs.declared.noted.Noted.{Noted}

@@ -1,6 +1,4 @@
-use Rattle.std.proofs.Common.{refl, sym, ap}
-use Rattle.std.specs.Prelude.{flat_map}
-use Rattle.qm_record.specs.Spelling.{HasSpelling}
+use Rattle.std.proofs.Common.{refl, sym, ap, flat_map}
 use Rattle.qm_history.specs.Text.{visit_text}
 use Rattle.qm_history.proofs.HistoryLemmas.{same_course}
 use Rattle.qm_cluster.specs.Passes.{turns_in}
@@ -12,7 +10,7 @@ returns-clause-visits c = visits_whole
 
 pub returns-clause-course : goal.returns-clause-course
 returns-clause-course c read extent node w seen log lines faults same h =
-    same_course HasSpelling read extent w w (turns_in seen) (turns_in log) node lines faults refl (sym same) h
+    same_course read extent w w (turns_in seen) (turns_in log) node lines faults refl (sym same) h
 
 pub returns-clause-text : goal.returns-clause-text
 returns-clause-text c items_line node w seen log same = ap (flat_map (visit_text items_line)) same

@@ -1,6 +1,4 @@
-use Rattle.std.proofs.Common.{◌<◌, ◌∙◌, ℕ, [], length, get_or, refl, sym, subst, arith}
-use Rattle.std.specs.Prelude.{slice_set}
-use Rattle.std.proofs.lemmas.List.{length-set}
+use Rattle.std.proofs.Common.{◌<◌, ◌∙◌, ℕ, [], length, get_or, refl, sym, subst, arith, slice_set, length-set}
 use Rattle.std.proofs.lemmas.Option.{slice_get-get_or}
 use Rattle.qm_cluster.specs.Runs.{IsCluster, site_of, so_far}
 use Rattle.qm_node.proofs.Ends.{stop_on}

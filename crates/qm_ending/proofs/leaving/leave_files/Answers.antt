@@ -1,10 +1,9 @@
-use Rattle.std.proofs.Common.{◌≡◌, ◌∙◌, ◌+◌, ◌++◌, List, not, take, drop, ap, sym, subst}
-use Rattle.std.specs.List.{filter}
-use Rattle.qm_entries.specs.Boxed.{contents}
+use Rattle.std.proofs.Common.{◌≡◌, ◌∙◌, ◌+◌, ◌++◌, List, not, take, drop, ap, sym, subst, filter}
+use Rattle.qm_tables.specs.Boxed.{contents}
 use Rattle.qm_kinds.specs.declared.entry.Entry.{Entry}
-use Rattle.qm_timers.specs.Spool.{Kept}
-use Rattle.qm_timers.specs.SpoolCounts.{CountsOf}
-use Rattle.qm_timers.proofs.SpoolCounting.{counted_somewhere, counts_left}
+use Rattle.qm_tables.specs.Spool.{Kept}
+use Rattle.qm_tables.specs.SpoolCounts.{CountsOf}
+use Rattle.qm_tables.proofs.SpoolCounting.{counted_somewhere, counts_left}
 use Rattle.qm_ending.specs.Leaving.{goes}
 use Rattle.qm_rules.proofs.Boxed.{value_at, value_within, next_left, next_kept, next_gone}
 use Rattle.qm_ending.proofs.leaving.leave_files.Goals.{then-goes, else-goes}

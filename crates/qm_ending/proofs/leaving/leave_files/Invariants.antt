@@ -1,7 +1,6 @@
-use Rattle.std.proofs.Common.{◌≡◌, ◌++◌, not, take, drop}
-use Rattle.std.specs.List.{filter}
-use Rattle.qm_entries.specs.Boxed.{contents}
-use Rattle.qm_timers.specs.SpoolCounts.{CountsOf}
+use Rattle.std.proofs.Common.{◌≡◌, ◌++◌, not, take, drop, filter}
+use Rattle.qm_tables.specs.Boxed.{contents}
+use Rattle.qm_tables.specs.SpoolCounts.{CountsOf}
 use Rattle.qm_ending.specs.Leaving.{goes}
 use Rattle.qm_ending.proofs.leaving.leave_files.Given as goal
 

@@ -4,4 +4,4 @@ use Rattle.qm_history.proofs.AnswerLemmas.{all_above}
 use Rattle.qm_history.proofs.answers.full_files_are_full.Goals as goal
 
 pub returns : goal.returns
-returns g c w m asked t told = all_above g.F.FileFormat.text None w m t.moment (input_of asked) t.events told
+returns c w m asked t told = all_above None w m t.moment (input_of asked) t.events told

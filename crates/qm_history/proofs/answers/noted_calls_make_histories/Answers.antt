@@ -2,7 +2,7 @@ use Rattle.qm_history.proofs.NotedLemmas.{noted_legal, noted_within}
 use Rattle.qm_history.proofs.answers.noted_calls_make_histories.Goals as goal
 
 pub returns-clause-legal : goal.returns-clause-legal
-returns-clause-legal g c = noted_legal g.F.Format.has_spelling g.F.FileFormat.text
+returns-clause-legal c = noted_legal
 
 pub returns-clause-within : goal.returns-clause-within
-returns-clause-within g c notes w noted room told = noted_within g.F.Format.has_spelling g.F.FileFormat.text notes w room noted told
+returns-clause-within c notes w noted room told = noted_within notes w room noted told

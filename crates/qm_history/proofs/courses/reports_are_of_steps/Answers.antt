@@ -2,4 +2,4 @@ use Rattle.qm_history.proofs.ReportLemmas.{course_reports}
 use Rattle.qm_history.proofs.courses.reports_are_of_steps.Goals as goal
 
 pub returns : goal.returns
-returns g c read extent w turns node lines faults h = course_reports g.F.Format.has_spelling read extent w turns node lines faults h
+returns c read extent w turns node lines faults h = course_reports read extent w turns node lines faults h

@@ -3,7 +3,7 @@ use Rattle.qm_history.proofs.EventLemmas.{all_come, rise}
 use Rattle.qm_history.proofs.events.epochs_rise.Goals as goal
 
 pub returns-clause-events : goal.returns-clause-events
-returns-clause-events g c = rise g.F.Format.has_spelling
+returns-clause-events c = rise
 
 pub returns-clause-history : goal.returns-clause-history
-returns-clause-history g c w turns legal = rise g.F.Format.has_spelling w (events_of turns) (all_come g.F.Format.has_spelling w turns legal)
+returns-clause-history c w turns legal = rise w (events_of turns) (all_come w turns legal)

@@ -2,16 +2,16 @@ use Rattle.qm_history.proofs.HistoryLemmas.{compaction_goes, compaction_comes, c
 use Rattle.qm_history.proofs.histories.compactions_can_go_and_come.Goals as goal
 
 pub returns-clause-go : goal.returns-clause-go
-returns-clause-go g c = compaction_goes g.F.Format.has_spelling
+returns-clause-go c = compaction_goes
 
 pub returns-clause-come : goal.returns-clause-come
-returns-clause-come g c = compaction_comes g.F.Format.has_spelling
+returns-clause-come c = compaction_comes
 
 pub returns-clause-with_it : goal.returns-clause-with_it
-returns-clause-with_it g c = visits_with
+returns-clause-with_it c = visits_with
 
 pub returns-clause-without_it : goal.returns-clause-without_it
-returns-clause-without_it g c = visits_append
+returns-clause-without_it c = visits_append
 
 pub returns-clause-may_come : goal.returns-clause-may_come
-returns-clause-may_come g c = compaction_may_come g.F.Format.has_spelling
+returns-clause-may_come c = compaction_may_come

@@ -2,4 +2,4 @@ use Rattle.qm_history.proofs.FenceLemmas.{fenced_stays}
 use Rattle.qm_history.proofs.histories.fenced_turns_change_nothing.Goals as goal
 
 pub returns : goal.returns
-returns g c = fenced_stays g.F.Format.has_spelling
+returns c = fenced_stays

@@ -2,13 +2,13 @@ use Rattle.qm_history.proofs.MasterLemmas.{sound_master, one_place, unformatted_
 use Rattle.qm_history.proofs.masters.masters_are_judged_once.Goals as goal
 
 pub returns-clause-sound : goal.returns-clause-sound
-returns-clause-sound g c file masters place one_way =
-    sound_master g.F.FileFormat.is_log g.F.FileFormat.is_broken_at g.F.FileFormat.place_of g.F.Format.has_spelling g.F.FileFormat.text one_way file masters place
+returns-clause-sound c file masters place one_way =
+    sound_master one_way file masters place
 
 pub returns-clause-one_place : goal.returns-clause-one_place
-returns-clause-one_place g c file p q one_way =
-    one_place g.F.FileFormat.is_log g.F.FileFormat.is_broken_at g.F.FileFormat.place_of g.F.Format.has_spelling g.F.FileFormat.text one_way file p q
+returns-clause-one_place c file p q one_way =
+    one_place one_way file p q
 
 pub returns-clause-unformatted : goal.returns-clause-unformatted
-returns-clause-unformatted g c files byte place one_way =
-    unformatted_apart g.F.FileFormat.is_log g.F.FileFormat.is_broken_at g.F.FileFormat.place_of g.F.Format.has_spelling g.F.FileFormat.text one_way files byte place
+returns-clause-unformatted c files byte place one_way =
+    unformatted_apart one_way files byte place

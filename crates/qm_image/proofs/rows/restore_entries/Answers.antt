@@ -1,6 +1,6 @@
 use Rattle.std.proofs.Common.{◌≡◌, ◌∙◌, ◌<◌, List, length, get_or, ap, subst}
 use Rattle.qm_kinds.specs.declared.entry.Entry.{Entry}
-use Rattle.qm_timers.specs.Spool.{Kept}
+use Rattle.qm_tables.specs.Spool.{Kept}
 use Rattle.qm_image.proofs.Restoring.{number_last, run_free, restored_more, counted_more, timed_more}
 use Rattle.qm_image.proofs.rows.restore_entries.Goals as goal
 

@@ -1,6 +1,6 @@
 use Rattle.std.proofs.Common.{◌≡◌, take}
 use Rattle.qm_parts.specs.Tables.{with_tables}
-use Rattle.qm_timers.specs.SpoolCounts.{CountsOf}
+use Rattle.qm_tables.specs.SpoolCounts.{CountsOf}
 use Rattle.qm_image.specs.Timers.{AreTimersOf}
 use Rattle.qm_image.proofs.rows.restore_entries.Given as goal
 

@@ -1,5 +1,4 @@
-use Rattle.std.proofs.Common.{◌∙◌, ap, sym}
-use Rattle.std.specs.Option.{option_copied}
+use Rattle.std.proofs.Common.{◌∙◌, ap, sym, option_copied}
 use Rattle.qm_image.specs.Image.{system_of}
 use Rattle.qm_image.proofs.Changed.{entry_prepared, entry_unprepared}
 use Rattle.qm_jobs.proofs.changing.prepare_set_entry.Goals as goal

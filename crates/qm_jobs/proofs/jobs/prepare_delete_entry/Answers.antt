@@ -1,9 +1,6 @@
 use Rattle.std.proofs.Common.{◌∙◌, sym, ap, refl, false, if◌then◌else◌}
 use Rattle.std.specs.Option.{option_copied, option_map_or}
-use Rattle.qm_kinds.specs.declared.entry.Entry.{Entry}
-use Rattle.qm_kinds.specs.declared.entry.Fate.TheVariants.{Remove}
-use Rattle.qm_model.specs.Standing.{is_executing}
-use Rattle.qm_model.specs.Stopping.{entry_aborting}
+use Rattle.qm_model.specs.Common.{Entry, Remove, is_executing, entry_aborting}
 use Rattle.qm_image.specs.Image.{system_of}
 use Rattle.qm_image.specs.Preparing.{found, entry_removed}
 use Rattle.qm_parts.proofs.Ordered.{once}

@@ -1,9 +1,5 @@
-use Rattle.std.proofs.Common.{◌∙◌, ℕ, List, ap, sym, subst, arith}
-use Rattle.std.specs.Prelude.{IsSome}
-use Rattle.qm_kinds.specs.declared.entry.Entry.{Entry}
-use Rattle.qm_kinds.specs.declared.file.FileName.{FileName}
-use Rattle.qm_model.specs.Find.{file_named}
-use Rattle.qm_model.specs.JobStates.{run_of}
+use Rattle.std.proofs.Common.{◌∙◌, ℕ, List, ap, sym, subst, arith, IsSome}
+use Rattle.qm_model.specs.Common.{Entry, FileName, file_named, run_of}
 use Rattle.qm_parts.specs.Rooms.{HavePlacesFor}
 use Rattle.qm_image.specs.Image.{system_of}
 use Rattle.qm_image.proofs.Accepting.{accepted, number_left, waits_at_first}

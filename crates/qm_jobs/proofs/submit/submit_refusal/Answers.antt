@@ -1,10 +1,7 @@
 use Rattle.std.proofs.Common.{◌∙◌, nat_le, not, false, ap, sym, is_none}
 use Rattle.std.specs.Option.{option_map_or}
-use Rattle.qm_kinds.specs.declared.limits.TheConstants.{ENTRIES_LIMIT}
+use Rattle.qm_model.specs.Common.{ENTRIES_LIMIT, is_other_kind, refused_where, refused_characteristics}
 use Rattle.qm_kinds.specs.declared.refusal.Refusal.TheVariants.{NoSuchQueue, WrongKind, NoSuchFile, BadValue, EntriesFull}
-use Rattle.qm_model.specs.Kinds.{is_other_kind}
-use Rattle.qm_model.specs.Outcome.{refused_where}
-use Rattle.qm_model.specs.Wanted.{refused_characteristics}
 use Rattle.qm_image.specs.Image.{system_of}
 use Rattle.qm_image.proofs.Accepting.{gathered}
 use Rattle.qm_jobs.proofs.submit.submit_refusal.Goals as goal

@@ -1,5 +1,4 @@
-use Rattle.std.proofs.Common.{refl}
-use Rattle.std.specs.Ordering.{is_eq}
+use Rattle.std.proofs.Common.{refl, is_eq}
 use Rattle.qm_keyed.proofs.Rows.{passes, fails, find_is, find_none}
 use Rattle.qm_keyed.proofs.laws.rows_are_found_in_their_places.Goals as goal
 

@@ -1,6 +1,4 @@
-use Rattle.std.proofs.Common.{ℕ, ◌<◌, List, ap, subst}
-use Rattle.std.specs.List.{All}
-use Rattle.std.specs.Option.{is_some}
+use Rattle.std.proofs.Common.{ℕ, ◌<◌, List, ap, subst, All, is_some}
 use Rattle.qm_image.proofs.Timed.{none_due}
 use Rattle.qm_making.proofs.due.next_due.Goals as goal
 

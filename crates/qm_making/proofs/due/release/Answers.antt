@@ -1,8 +1,5 @@
-use Rattle.std.proofs.Common.{◌≡◌, ◌∙◌, ℕ, ◌<◌, Bool, true, false, cond, Option, None, Some, IfSome, refl, ap, sym, subst, arith}
-use Rattle.std.specs.Option.{option_copied}
-use Rattle.qm_kinds.specs.declared.entry.Entry.{Entry}
-use Rattle.qm_kinds.specs.declared.system.System.{System}
-use Rattle.qm_model.specs.Due.{entry_at, is_over}
+use Rattle.std.proofs.Common.{◌≡◌, ◌∙◌, ℕ, ◌<◌, Bool, true, false, cond, Option, None, Some, IfSome, refl, ap, sym, subst, arith, option_copied}
+use Rattle.qm_model.specs.Common.{Entry, System, entry_at, is_over}
 use Rattle.qm_parts.specs.Rooms.{HavePlacesFor}
 use Rattle.qm_making.proofs.Ended.{home_kept}
 use Rattle.qm_image.specs.Image.{system_of}

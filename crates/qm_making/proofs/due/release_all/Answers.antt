@@ -1,13 +1,11 @@
-use Rattle.std.proofs.Common.{◌≡◌, ◌∙◌, nat_lt, not, cond, List, filter, map, length, Some, None, ap, refl, sym, subst, arith}
-use Rattle.std.specs.Option.{option_and_then}
-use Rattle.qm_entries.specs.Boxed.{contents}
-use Rattle.qm_kinds.specs.declared.entry.Entry.{Entry}
-use Rattle.qm_model.specs.Due.{entry_at, is_over}
+use Rattle.std.proofs.Common.{◌≡◌, ◌∙◌, nat_lt, not, cond, List, filter, map, length, Some, None, ap, refl, sym, subst, arith, option_and_then}
+use Rattle.qm_tables.specs.Boxed.{contents}
+use Rattle.qm_model.specs.Common.{Entry, entry_at, is_over}
 use Rattle.qm_parts.specs.Tables.{Tables}
-use Rattle.qm_timers.proofs.SpoolCounting.{counts_kept}
-use Rattle.qm_timers.specs.SpoolCounts.{CountsOf}
+use Rattle.qm_tables.proofs.SpoolCounting.{counts_kept}
+use Rattle.qm_tables.specs.SpoolCounts.{CountsOf}
 use Rattle.qm_image.specs.Timers.{AreTimersOf, entries_at}
-use Rattle.qm_timers.specs.Timers.{moment_of}
+use Rattle.qm_tables.specs.Timers.{moment_of}
 use Rattle.qm_image.proofs.Timed.{timers_found, no_more_left}
 use Rattle.qm_making.proofs.due.release_all.Goals as goal
 

@@ -1,12 +1,11 @@
 use Rattle.std.proofs.Common.{◌≡◌, ◌∙◌, ◌==◌, ◌<◌, ◌++◌, ◌∷◌, [], ℕ, List, Option, cond, ap, sym, subst, arith}
 use Rattle.std.proofs.lemmas.List.Elements.{All-weaker}
-use Rattle.qm_kinds.specs.declared.entry.Entry.{Entry}
-use Rattle.qm_model.specs.Consistent.{IsEntry}
+use Rattle.qm_model.specs.Common.{Entry, IsEntry}
 use Rattle.qm_parts.specs.Rooms.{HavePlacesFor}
 use Rattle.qm_parts.specs.Tables.{Tables}
-use Rattle.qm_timers.specs.SpoolCounts.{CountsOf}
+use Rattle.qm_tables.specs.SpoolCounts.{CountsOf}
 use Rattle.qm_image.specs.Timers.{AreTimersOf}
-use Rattle.qm_timers.specs.Timers.{moment_of}
+use Rattle.qm_tables.specs.Timers.{moment_of}
 use Rattle.qm_image.specs.Image.{system_of}
 use Rattle.qm_making.proofs.Entries.{counts_behind}
 use Rattle.qm_image.proofs.Timed.{timers_behind}

@@ -1,4 +1,4 @@
-use Rattle.qm_timers.proofs.SpoolCounting.{unnamed_at_0}
+use Rattle.qm_tables.proofs.SpoolCounting.{unnamed_at_0}
 use Rattle.qm_making.proofs.files.remove_file.Goals as goal
 
 pub remove-requires-clause-unnamed : goal.remove-requires-clause-unnamed

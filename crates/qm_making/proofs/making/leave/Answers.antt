@@ -1,15 +1,11 @@
-use Rattle.std.proofs.Common.{◌≡◌, ◌∙◌, ◌==◌, false, ℕ, List, Option, Some, cond, IfSome, ap, sym, subst}
-use Rattle.std.specs.Option.{option_and_then}
-use Rattle.std.specs.Str.{bytes_eq}
-use Rattle.qm_kinds.specs.declared.entry.Entry.{Entry}
-use Rattle.qm_model.specs.Standing.{with_entry}
+use Rattle.std.proofs.Common.{◌≡◌, ◌∙◌, ◌==◌, false, ℕ, List, Option, Some, cond, IfSome, ap, sym, subst, option_and_then, bytes_eq}
+use Rattle.qm_model.specs.Common.{Entry, with_entry, entry_numbered}
 use Rattle.qm_parts.specs.Mirror.{run_of_entry}
 use Rattle.qm_parts.specs.Rooms.{HavePlacesFor}
 use Rattle.qm_parts.specs.Tables.{Tables}
-use Rattle.qm_timers.specs.SpoolCounts.{CountsOf}
-use Rattle.qm_timers.specs.Timers.{moment_of}
+use Rattle.qm_tables.specs.SpoolCounts.{CountsOf}
+use Rattle.qm_tables.specs.Timers.{moment_of}
 use Rattle.qm_image.specs.Timers.{AreTimersOf}
-use Rattle.qm_model.specs.Find.{entry_numbered}
 use Rattle.qm_image.specs.Preparing.{IsLeftOf}
 use Rattle.qm_making.proofs.Entries.{counts_kept_by}
 use Rattle.qm_image.proofs.Timed.{timers_replaced}

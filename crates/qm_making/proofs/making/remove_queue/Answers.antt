@@ -1,8 +1,7 @@
-use Rattle.std.proofs.Common.{◌≡◌, ◌∙◌, not, List, filter, ap, sym, subst}
-use Rattle.std.specs.Str.{bytes_eq}
+use Rattle.std.proofs.Common.{◌≡◌, ◌∙◌, not, List, filter, ap, sym, subst, bytes_eq}
 use Rattle.qm_kinds.specs.declared.entry.Entry.{Entry}
 use Rattle.qm_parts.specs.Tables.{Tables}
-use Rattle.qm_timers.specs.SpoolCounts.{CountsOf}
+use Rattle.qm_tables.specs.SpoolCounts.{CountsOf}
 use Rattle.qm_image.specs.Timers.{AreTimersOf}
 use Rattle.qm_image.proofs.Timed.{timers_elsewhere}
 use Rattle.qm_making.proofs.making.remove_queue.Goals as goal

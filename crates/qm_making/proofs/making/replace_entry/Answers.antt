@@ -1,7 +1,5 @@
-use Rattle.std.proofs.Common.{◌≡◌, Option, None, Some, IfSome, refl}
-use Rattle.qm_kinds.specs.declared.entry.Entry.{Entry}
-use Rattle.std.specs.Option.{option_and_then}
-use Rattle.qm_model.specs.Find.{entry_numbered}
+use Rattle.std.proofs.Common.{◌≡◌, Option, None, Some, IfSome, refl, option_and_then}
+use Rattle.qm_model.specs.Common.{Entry, entry_numbered}
 use Rattle.qm_image.proofs.Changed.{file_is_kept, waiting_there}
 use Rattle.qm_parts.specs.Mirror.{run_of_entry}
 use Rattle.qm_image.specs.Timers.{moment_in}

@@ -1,8 +1,5 @@
 use Rattle.std.proofs.Common.{◌&&◌, ◌∙◌, Option, sym, ap}
-use Rattle.qm_kinds.specs.declared.entry.Entry.{Entry}
-use Rattle.qm_kinds.specs.declared.entry.Fate.{Fate}
-use Rattle.qm_model.specs.Runs.{report_act}
-use Rattle.qm_model.specs.Standing.{has_run, is_run_on}
+use Rattle.qm_model.specs.Common.{Entry, Fate, report_act, has_run, is_run_on}
 use Rattle.qm_parts.specs.Rooms.{HavePlacesFor}
 use Rattle.qm_rules.specs.Ending.{report_of}
 use Rattle.qm_image.specs.Image.{system_of}

@@ -1,12 +1,11 @@
 use Rattle.std.proofs.Common.{◌≡◌, ◌∙◌, ◌==◌, cond, List, None, refl, sym, ap, subst}
-use Rattle.qm_kinds.specs.declared.entry.Entry.{Entry}
-use Rattle.qm_model.specs.Standing.{with_entry}
+use Rattle.qm_model.specs.Common.{Entry, with_entry}
 use Rattle.qm_parts.proofs.Left.{absent_stays}
 use Rattle.qm_parts.specs.Tables.{Tables}
-use Rattle.qm_timers.proofs.SpoolCounting.{counts_gone}
-use Rattle.qm_timers.specs.SpoolCounts.{CountsOf}
+use Rattle.qm_tables.proofs.SpoolCounting.{counts_gone}
+use Rattle.qm_tables.specs.SpoolCounts.{CountsOf}
 use Rattle.qm_image.specs.Timers.{AreTimersOf}
-use Rattle.qm_timers.specs.Timers.{moment_of}
+use Rattle.qm_tables.specs.Timers.{moment_of}
 use Rattle.qm_image.specs.Image.{system_of}
 use Rattle.qm_making.proofs.Entries.{found_is_counted}
 use Rattle.qm_image.proofs.Timed.{timers_without, no_timer}

@@ -1,9 +1,5 @@
 use Rattle.std.proofs.Common.{◌≡◌, ◌∙◌, ℕ, true, List, count_by, length, refl, ap, sym, arith}
-use Rattle.qm_kinds.specs.declared.entry.Entry.{Entry}
-use Rattle.qm_kinds.specs.declared.queue.Queue.{Queue}
-use Rattle.qm_kinds.specs.declared.system.System.{System}
-use Rattle.qm_model.specs.Losing.{after_loss}
-use Rattle.qm_model.specs.Standing.{with_entry}
+use Rattle.qm_model.specs.Common.{Entry, Queue, System, after_loss, with_entry}
 use Rattle.qm_parts.specs.Nodes.{is_run_on_one}
 use Rattle.qm_parts.specs.Rooms.{HavePlacesFor}
 use Rattle.qm_parts.specs.Tables.{Tables}

@@ -1,10 +1,6 @@
 use Rattle.std.proofs.Common.{◌≡◌, ◌∙◌, List, ap, sym}
-use Rattle.qm_kinds.specs.declared.entry.Entry.{Entry}
-use Rattle.qm_kinds.specs.declared.reply.Act.{Act}
+use Rattle.qm_model.specs.Common.{Entry, Act, Node, System, replied}
 use Rattle.qm_kinds.specs.declared.reply.Act.TheVariants.{Managing}
-use Rattle.qm_kinds.specs.declared.system.Node.{Node}
-use Rattle.qm_kinds.specs.declared.system.System.{System}
-use Rattle.qm_model.specs.Replying.{replied}
 use Rattle.qm_parts.specs.Tables.{Tables, with_tables}
 use Rattle.qm_image.specs.Image.{system_of}
 use Rattle.qm_image.specs.Losing.{entries_left}

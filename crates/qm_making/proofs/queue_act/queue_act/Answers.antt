@@ -1,9 +1,7 @@
 use Rattle.std.proofs.Common.{ap, sym, ◌∙◌}
 use Rattle.std.specs.Option.{option_map_or}
-use Rattle.qm_kinds.specs.declared.queue.Queue.{Queue}
-use Rattle.qm_kinds.specs.declared.queue.QueueState.TheVariants.{Stopped}
+use Rattle.qm_model.specs.Common.{Queue, Stopped, state_when_idle}
 use Rattle.qm_kinds.specs.declared.reply.Act.TheVariants.{QueueIs}
-use Rattle.qm_model.specs.States.{state_when_idle}
 use Rattle.qm_image.specs.Image.{system_of}
 use Rattle.qm_image.proofs.Found.{state_told}
 use Rattle.qm_making.proofs.queue_act.queue_act.Goals as goal

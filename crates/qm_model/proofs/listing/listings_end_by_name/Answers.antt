@@ -1,12 +1,6 @@
 use Rattle.std.proofs.Common.{◌≡◌, ℕ, Bool, true, false, cond, List, refl, ◌∙◌, Option, None, Some, Ok, Err}
-use Rattle.qm_kinds.specs.declared.entry.Entry.{Entry}
-use Rattle.qm_kinds.specs.declared.query.Listing.{Listing}
-use Rattle.qm_kinds.specs.declared.query.Listing.TheVariants.{Queues, Jobs, Entries, Forms, Characteristics, Manager, Cancel}
-use Rattle.qm_kinds.specs.declared.query.Query.{Query}
-use Rattle.qm_kinds.specs.declared.query.Row.{Row}
+use Rattle.qm_model.specs.Common.{Entry, Listing, Queues, Jobs, Entries, Forms, Characteristics, Manager, Cancel, Query, Row, System, entry_numbered}
 use Rattle.qm_kinds.specs.declared.refusal.Refusal.TheVariants.{NoMore}
-use Rattle.qm_kinds.specs.declared.system.System.{System}
-use Rattle.qm_model.specs.Find.{entry_numbered}
 use Rattle.qm_model.specs.Listing.{entry_row}
 use Rattle.qm_model.specs.Rows.{ManagerRole, one_row, rows_listed, rows_of_jobs, rows_of_entries, rows_in, next_row, single_rows, all_rows}
 use Rattle.qm_model.proofs.listing.listings_end_by_name.Goals as goal
@@ -39,13 +33,11 @@ entries_end s q what None h = listed_ends s q what h
 entries_end s q what (Some number) h = entry_ends q what number (entry_numbered number s.entries) h
 
 ends : (s : System) (manager : Option ManagerRole) (q : Query) (what listing : Listing) → rows_in s manager q listing ≡ Err (NoMore what) → Ends q what
-ends s manager q what Queues h = listed_ends s q what h
 ends s manager q what Jobs h = jobs_end s q what q.queue h
 ends s manager q what Entries h = entries_end s q what q.number h
-ends s manager q what Forms h = listed_ends s q what h
-ends s manager q what Characteristics h = listed_ends s q what h
 ends s manager q what Manager h = cc
 ends s manager q what Cancel h = cc
+ends s manager q what _ h = listed_ends s q what h
 
 never_manager : (s : System) (manager : Option ManagerRole) (q : Query) (listing : Listing) → q.listing ≡ listing → rows_in s manager q listing ≡ Err (NoMore Manager) → ⊥
 never_manager s manager q Manager is h = cc

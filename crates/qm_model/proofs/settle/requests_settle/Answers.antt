@@ -1,9 +1,5 @@
 use Rattle.std.proofs.Common.{◌≡◌, subst, None}
-use Rattle.qm_model.specs.Outcome.{Accepted}
-use Rattle.qm_model.specs.Applied.{at_moment, first_refusal_of, change_of, completed}
-use Rattle.qm_model.specs.Due.{due}
-use Rattle.qm_model.specs.Standing.{node_at}
-use Rattle.qm_model.specs.States.{stopped_when_idle}
+use Rattle.qm_model.specs.Common.{Accepted, at_moment, first_refusal_of, change_of, completed, due, node_at, stopped_when_idle}
 use Rattle.qm_model.specs.Settling.{next_choice}
 use Rattle.qm_model.proofs.SettlingLemmas.{nothing_starts, accepted_is}
 use Rattle.qm_model.proofs.ChoiceLemmas.{none_left}

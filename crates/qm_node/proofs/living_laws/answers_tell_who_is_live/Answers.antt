@@ -2,4 +2,4 @@ use Rattle.qm_node.proofs.Lives.{answer_tells}
 use Rattle.qm_node.proofs.living_laws.answers_tell_who_is_live.Goals as goal
 
 pub returns : goal.returns
-returns g c = λ w asked t sound turn. answer_tells g.F.Format.has_spelling w asked t sound turn
+returns c = λ w asked t sound turn. answer_tells w asked t sound turn

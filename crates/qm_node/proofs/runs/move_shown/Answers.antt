@@ -11,9 +11,9 @@ loop-duty-preserved g c =
     let all = kept_after c.args.fetch (all_bare c.args.old.items) c.args.duties.items in (
       moved_one c.args.fetch g.Y.Symbiont.stands all c.loop-duty.old.items c.move_one.new.old.items c.pop.new.self.items c.in-Some.duty c.loop-duty.rows.items c.move_one.new.rows.items
           (subst (λ (ds : List Duty). Moved c.args.fetch g.Y.Symbiont.stands all c.loop-duty.old.items ds c.loop-duty.rows.items) c.in-Some.ensures.items c.loop-duty.invariant.0)
-          c.move_one.ensures.shown c.move_one.ensures.others c.move_one.ensures.order c.move_one.ensures.each c.move_one.ensures.moved,
-      omega (arith, c.move_one.ensures.few, c.move_one.ensures.capacity, c.in-Some.ensures.cases, c.loop-duty.invariant.1),
-      omega (arith, c.move_one.ensures.few, c.in-Some.ensures.cases, c.loop-duty.invariant.2),
+          c.move_one.ensures.shown c.move_one.ensures.others c.move_one.ensures.kept.0 c.move_one.ensures.kept.1 c.move_one.ensures.moved,
+      omega (arith, c.move_one.ensures.room.0, c.move_one.ensures.room.1, c.in-Some.ensures.cases, c.loop-duty.invariant.1),
+      omega (arith, c.move_one.ensures.room.0, c.in-Some.ensures.cases, c.loop-duty.invariant.2),
     )
 
 pub returns-clause-shown : goal.returns-clause-shown

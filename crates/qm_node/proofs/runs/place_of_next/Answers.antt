@@ -1,7 +1,4 @@
-use Rattle.std.proofs.Common.{◌≡◌, ◌∙◌, ℕ, true, false, None, List, [], ◌∷◌, sym, ap}
-use Rattle.std.specs.Prelude.{IfSome, slice_get, slice_index_or}
-use Rattle.std.specs.Option.{IsSome, is_some, option_map}
-use Rattle.std.specs.Ordering.{nat_cmp}
+use Rattle.std.proofs.Common.{◌≡◌, ◌∙◌, ℕ, true, false, None, List, [], ◌∷◌, sym, ap, IfSome, slice_get, slice_index_or, IsSome, is_some, option_map, nat_cmp}
 use Rattle.qm_keyed.specs.Places.{BelongsAt}
 use Rattle.qm_keyed.proofs.Keys.{absent}
 use Rattle.qm_model.specs.Kept.{run_kept}

@@ -1,7 +1,6 @@
 use Rattle.std.proofs.Common.{◌≡◌, ◌∙◌, Bool, true, false, not, Some, List, refl, subst, sym}
 use Rattle.std.proofs.lemmas.Slice.Eq.{bytes_eq-Decides}
-use Rattle.qm_kinds.specs.declared.entry.Entry.{Entry}
-use Rattle.qm_model.specs.Standing.{with_entry}
+use Rattle.qm_model.specs.Common.{Entry, with_entry}
 use Rattle.qm_parts.specs.Rooms.{AreBounds}
 use Rattle.qm_parts.proofs.Bounds.{fewer_bounds, raised_bounds}
 use Rattle.qm_parts.proofs.Left.{absent_stays}

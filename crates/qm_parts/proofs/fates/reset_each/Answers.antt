@@ -1,9 +1,7 @@
 use Rattle.std.proofs.Common.{◌∙◌, ◌<◌, List, Some, length, sym, ap, arith}
-use Rattle.qm_kinds.specs.declared.entry.Entry.{Entry}
-use Rattle.qm_model.specs.Standing.{with_entry}
-use Rattle.qm_model.specs.Stopping.{reset_in}
-use Rattle.qm_entries.specs.Entries.{Kept}
-use Rattle.qm_entries.proofs.Numbers.{kept_as}
+use Rattle.qm_model.specs.Common.{Entry, with_entry, reset_in}
+use Rattle.qm_tables.specs.Entries.{Kept}
+use Rattle.qm_tables.proofs.Numbers.{kept_as}
 use Rattle.qm_parts.proofs.Resets.{reset_by_none, reset_step, reset_pass}
 use Rattle.qm_parts.proofs.fates.reset_each.Goals as goal
 use Rattle.qm_parts.proofs.fates.reset_each.Goals.{then-eq, else-eq}

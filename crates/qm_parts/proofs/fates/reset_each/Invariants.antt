@@ -1,6 +1,6 @@
 use Rattle.std.proofs.Common.{◌≡◌, map, take}
 use Rattle.qm_parts.specs.Mirror.{reset_by}
-use Rattle.qm_entries.proofs.Numbers.{kept_as}
+use Rattle.qm_tables.proofs.Numbers.{kept_as}
 use Rattle.qm_parts.proofs.fates.reset_each.Given as goal
 
 -- the runs so far have reset their entries

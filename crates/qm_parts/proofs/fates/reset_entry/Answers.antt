@@ -1,8 +1,6 @@
 use Rattle.std.proofs.Common.{◌∙◌, Bool, cond, List, Some, sym, ap}
-use Rattle.qm_kinds.specs.declared.entry.Entry.{Entry}
-use Rattle.qm_kinds.specs.declared.entry.Fate.{Fate}
-use Rattle.qm_model.specs.Stopping.{with_fate, reset_fate, reset_in}
-use Rattle.qm_entries.proofs.Numbers.{kept_as}
+use Rattle.qm_model.specs.Common.{Entry, Fate, with_fate, reset_fate, reset_in}
+use Rattle.qm_tables.proofs.Numbers.{kept_as}
 use Rattle.qm_parts.proofs.Left.{absent_stays, agree_at_it, stays_at_it}
 use Rattle.qm_parts.proofs.fates.reset_entry.Goals as goal
 

@@ -1,8 +1,6 @@
 use Rattle.std.proofs.Common.{◌∙◌, List, Some, sym, ap}
-use Rattle.qm_kinds.specs.declared.entry.Entry.{Entry}
-use Rattle.qm_kinds.specs.declared.entry.EntryState.{EntryState}
-use Rattle.qm_model.specs.Stopping.{with_fate}
-use Rattle.qm_entries.proofs.Numbers.{kept_as}
+use Rattle.qm_model.specs.Common.{Entry, EntryState, with_fate}
+use Rattle.qm_tables.proofs.Numbers.{kept_as}
 use Rattle.qm_parts.proofs.Left.{absent_stays, agree_at_it}
 use Rattle.qm_parts.proofs.fates.set_fate.Goals as goal
 

@@ -1,8 +1,6 @@
-use Rattle.std.proofs.Common.{◌∙◌, ◌&&◌, ◌||◌, ◌≡◌, Bool, Option, false, sym, ap}
+use Rattle.std.proofs.Common.{◌∙◌, ◌&&◌, ◌||◌, ◌≡◌, Bool, Option, false, sym, ap, bytes_eq}
 use Rattle.std.specs.Option.{option_map_or}
-use Rattle.std.specs.Str.{bytes_eq}
-use Rattle.qm_kinds.specs.declared.queue.Queue.{Queue}
-use Rattle.qm_model.specs.Fitting.{is_reached, has_stock, passes_on_to}
+use Rattle.qm_model.specs.Common.{Queue, is_reached, has_stock, passes_on_to}
 use Rattle.qm_parts.specs.Tables.{with_tables}
 use Rattle.qm_parts.proofs.Fits.{closed_fits, fits_where_open}
 use Rattle.qm_parts.proofs.fitting.fits.Goals as goal

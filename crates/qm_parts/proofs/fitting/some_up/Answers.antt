@@ -1,5 +1,4 @@
-use Rattle.std.proofs.Common.{◌∙◌, ◌<◌, ◌&&◌, Bool, List, length, arith, sym}
-use Rattle.std.specs.Str.{bytes_eq}
+use Rattle.std.proofs.Common.{◌∙◌, ◌<◌, ◌&&◌, Bool, List, length, arith, sym, bytes_eq}
 use Rattle.qm_kinds.specs.declared.system.Node.{Node}
 use Rattle.qm_parts.proofs.Searches.{any_here, none_more, none_of_all}
 use Rattle.qm_parts.proofs.fitting.some_up.Goals as goal

@@ -1,6 +1,5 @@
-use Rattle.std.proofs.Common.{◌≡◌, ◌&&◌, false, take}
+use Rattle.std.proofs.Common.{◌≡◌, ◌&&◌, false, take, bytes_eq}
 use Rattle.std.specs.List.{list_any}
-use Rattle.std.specs.Str.{bytes_eq}
 use Rattle.qm_parts.proofs.fitting.some_up.Given as goal
 
 -- none of those that were passed is it

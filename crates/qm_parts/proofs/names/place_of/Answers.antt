@@ -1,7 +1,7 @@
 use Rattle.std.proofs.Common.{rules}
 use Rattle.std.specs.Cmp.Lexicographic.{nat_list_cmp_total}
 use Rattle.qm_keyed.proofs.Searches.{place_from_clause}
-use Rattle.qm_queues.proofs.QueueNames.{name_of}
+use Rattle.qm_tables.proofs.QueueNames.{name_of}
 use Rattle.qm_parts.proofs.names.place_of.Goals as goal
 
 -- the closure compares names

@@ -1,7 +1,5 @@
-use Rattle.std.proofs.Common.{◌∙◌, ◌<◌, Bool, List, length, count_by, ap, arith, sym}
-use Rattle.std.proofs.lemmas.List.{take_all}
-use Rattle.qm_kinds.specs.declared.run.Run.{Run}
-use Rattle.qm_model.specs.Find.{is_among}
+use Rattle.std.proofs.Common.{◌∙◌, ◌<◌, Bool, List, length, count_by, ap, arith, sym, take_all}
+use Rattle.qm_model.specs.Common.{Run, is_among}
 use Rattle.qm_parts.proofs.Searches.{counted, passed}
 use Rattle.qm_parts.proofs.nodes.count_on.Goals as goal
 use Rattle.qm_parts.proofs.nodes.count_on.Goals.{then-is_among, else-is_among}

@@ -1,5 +1,4 @@
-use Rattle.std.proofs.Common.{◌∙◌, ◌<◌, ℕ, Bool, List, length, arith, sym}
-use Rattle.std.specs.Str.{bytes_eq}
+use Rattle.std.proofs.Common.{◌∙◌, ◌<◌, ℕ, Bool, List, length, arith, sym, bytes_eq}
 use Rattle.qm_parts.proofs.Searches.{any_here, none_more, none_of_all}
 use Rattle.qm_parts.proofs.nodes.is_among.Goals as goal
 

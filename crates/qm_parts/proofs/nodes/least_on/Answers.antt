@@ -1,9 +1,7 @@
-use Rattle.std.proofs.Common.{◌∙◌, ◌<◌, ℕ, Bool, List, Option, Some, filter, length, map, min, ap, arith, sym}
+use Rattle.std.proofs.Common.{◌∙◌, ◌<◌, ℕ, Bool, List, Option, Some, filter, length, map, min, ap, arith, sym, take_all}
 use Rattle.std.specs.List.{reduce}
 use Rattle.std.specs.Option.{option_map_or}
-use Rattle.std.proofs.lemmas.List.{take_all}
-use Rattle.qm_kinds.specs.declared.run.Run.{Run}
-use Rattle.qm_model.specs.Find.{is_among}
+use Rattle.qm_model.specs.Common.{Run, is_among}
 use Rattle.qm_parts.proofs.Least.{least_taken, least_passed}
 use Rattle.qm_parts.proofs.nodes.least_on.Goals as goal
 use Rattle.qm_parts.proofs.nodes.least_on.Goals.{then-is_among, else-is_among}

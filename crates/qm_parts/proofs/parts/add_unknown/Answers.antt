@@ -1,5 +1,4 @@
-use Rattle.std.proofs.Common.{◌∷◌, [], ℕ, List, None, Option, get_or, length, ◌∙◌, ap, arith}
-use Rattle.std.proofs.lemmas.List.{length-append}
+use Rattle.std.proofs.Common.{◌∷◌, [], ℕ, List, None, Option, get_or, length, ◌∙◌, ap, arith, length-append}
 use Rattle.qm_parts.proofs.Bounds.{unknown_more}
 use Rattle.qm_parts.proofs.parts.add_unknown.Goals as goal
 

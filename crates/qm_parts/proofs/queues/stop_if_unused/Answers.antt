@@ -2,10 +2,9 @@ use Rattle.std.proofs.Common.{◌≡◌, ◌∙◌, ◌≤◌, List, sym, ap, ar
 use denote.Enum.Bare.{same_true}
 use Rattle.std.proofs.lemmas.Bool.{not-false, le-ltb}
 use Rattle.qm_kinds.specs.contracts.queue.QueueState.{the_type}
-use Rattle.qm_kinds.specs.declared.queue.Queue.{Queue}
-use Rattle.qm_kinds.specs.declared.queue.QueueState.TheVariants.{Stopping}
-use Rattle.qm_queues.proofs.QueueNames.{kept_as}
-use Rattle.qm_queues.specs.Runs.{places_in_use}
+use Rattle.qm_model.specs.Common.{Queue, Stopping}
+use Rattle.qm_tables.proofs.QueueNames.{kept_as}
+use Rattle.qm_tables.specs.Runs.{places_in_use}
 use Rattle.qm_parts.proofs.Stops.{stop_is}
 use Rattle.qm_parts.proofs.queues.stop_if_unused.Goals as goal
 

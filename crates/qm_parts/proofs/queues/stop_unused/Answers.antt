@@ -1,6 +1,6 @@
 use Rattle.std.proofs.Common.{◌<◌, ◌∙◌, List, length, refl, ap, arith}
 use Rattle.qm_kinds.specs.declared.queue.Queue.{Queue}
-use Rattle.qm_queues.proofs.QueueNames.{kept_as}
+use Rattle.qm_tables.proofs.QueueNames.{kept_as}
 use Rattle.qm_parts.proofs.Stops.{kept_more, mixed_all}
 use Rattle.qm_parts.proofs.queues.stop_unused.Goals as goal
 

@@ -1,5 +1,5 @@
 use Rattle.std.proofs.Common.{◌≡◌}
-use Rattle.qm_queues.proofs.QueueNames.{kept_as}
+use Rattle.qm_tables.proofs.QueueNames.{kept_as}
 use Rattle.qm_parts.proofs.Stops.{mixed}
 use Rattle.qm_parts.proofs.queues.stop_unused.Given as goal
 

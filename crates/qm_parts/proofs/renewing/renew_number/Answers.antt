@@ -1,5 +1,4 @@
-use Rattle.std.proofs.Common.{◌≡◌, ℕ, ap, sym, subst, ◌∙◌}
-use Rattle.std.specs.Prelude.{IfSome}
+use Rattle.std.proofs.Common.{◌≡◌, ℕ, ap, sym, subst, ◌∙◌, IfSome}
 use Rattle.qm_model.specs.Find.{entry_numbered}
 use Rattle.qm_parts.specs.Ready.{AreStale}
 use Rattle.qm_parts.proofs.ReadyKeys.{number_found}

@@ -1,5 +1,5 @@
 use Rattle.std.proofs.Common.{◌≡◌, ◌≤◌, count_by, take}
-use Rattle.qm_entries.specs.Boxed.{contents}
+use Rattle.qm_tables.specs.Boxed.{contents}
 use Rattle.qm_parts.specs.Rooms.{leads_to, may_come}
 use Rattle.qm_parts.proofs.rooms.count_coming.Given as goal
 

@@ -1,10 +1,8 @@
-use Rattle.std.proofs.Common.{◌≡◌, ◌∙◌, ◌||◌, ℕ, List, get_or, set, arith, subst, sym, ap}
+use Rattle.std.proofs.Common.{◌≡◌, ◌∙◌, ◌||◌, ℕ, List, get_or, set, arith, subst, sym, ap, bytes_eq}
 use Rattle.std.specs.List.{list_any}
-use Rattle.std.specs.Str.{bytes_eq}
 use Rattle.qm_keyed.specs.Places.{StandsAt, BelongsAt}
-use Rattle.qm_kinds.specs.declared.queue.Queue.{Queue}
-use Rattle.qm_model.specs.Find.{name_cmp}
-use Rattle.qm_queues.proofs.QueueNames.{name_of}
+use Rattle.qm_model.specs.Common.{Queue, name_cmp}
+use Rattle.qm_tables.proofs.QueueNames.{name_of}
 use Rattle.qm_parts.specs.Rooms.{leads_to, targets_of}
 use Rattle.qm_parts.proofs.Widening.{leads_nowhere, only_there, raised_either, raised_none, raised_there, targets_there}
 use Rattle.qm_parts.proofs.rooms.raise_each.Goals as goal

@@ -1,9 +1,7 @@
-use Rattle.std.proofs.Common.{List, arith, subst}
-use Rattle.std.specs.Str.{bytes_eq}
+use Rattle.std.proofs.Common.{List, arith, subst, bytes_eq}
 use Rattle.qm_keyed.specs.Places.{StandsAt, BelongsAt}
-use Rattle.qm_kinds.specs.declared.queue.Queue.{Queue}
-use Rattle.qm_model.specs.Find.{name_cmp}
-use Rattle.qm_queues.proofs.QueueNames.{name_of}
+use Rattle.qm_model.specs.Common.{Queue, name_cmp}
+use Rattle.qm_tables.proofs.QueueNames.{name_of}
 use Rattle.qm_parts.proofs.Widening.{only_there, none_named_so, raised_none, raised_there}
 use Rattle.qm_parts.proofs.rooms.raise_named.Goals as goal
 

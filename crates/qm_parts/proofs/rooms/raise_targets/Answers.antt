@@ -1,7 +1,5 @@
-use Rattle.std.proofs.Common.{◌∙◌, ◌+◌, ◌||◌, ℕ, List, take, ap, arith, sym, subst}
+use Rattle.std.proofs.Common.{◌∙◌, ◌+◌, ◌||◌, ℕ, List, take, ap, arith, sym, subst, bytes_eq, take_all}
 use Rattle.std.specs.List.{list_any}
-use Rattle.std.specs.Str.{bytes_eq}
-use Rattle.std.proofs.lemmas.List.{take_all}
 use Rattle.std.proofs.lemmas.List.Folds.{list_any_more}
 use Rattle.qm_parts.specs.Rooms.{IsRaisedWhere}
 use Rattle.qm_parts.proofs.Widening.{raised_either}

@@ -1,6 +1,5 @@
-use Rattle.std.proofs.Common.{◌∙◌, ℕ, List, refl, arith}
+use Rattle.std.proofs.Common.{◌∙◌, ℕ, List, refl, arith, bytes_eq}
 use Rattle.std.specs.List.{list_any}
-use Rattle.std.specs.Str.{bytes_eq}
 use Rattle.qm_parts.specs.Rooms.{is_one_of}
 use Rattle.qm_parts.proofs.Widening.{if_ok, keeps_on, room_either, still_room}
 use Rattle.qm_parts.proofs.rooms.widen_each.Goals as goal

@@ -1,11 +1,8 @@
-use Rattle.std.proofs.Common.{◌≡◌, ◌<◌, ◌∙◌, ◌||◌, ℕ, List, length, set, ap, arith, subst, sym}
+use Rattle.std.proofs.Common.{◌≡◌, ◌<◌, ◌∙◌, ◌||◌, ℕ, List, length, set, ap, arith, subst, sym, bytes_eq, length-set}
 use Rattle.std.specs.List.{list_any}
-use Rattle.std.specs.Str.{bytes_eq}
-use Rattle.std.proofs.lemmas.List.{length-set}
 use Rattle.qm_keyed.specs.Places.{StandsAt, BelongsAt}
-use Rattle.qm_kinds.specs.declared.queue.Queue.{Queue}
-use Rattle.qm_model.specs.Find.{name_cmp}
-use Rattle.qm_queues.proofs.QueueNames.{name_of}
+use Rattle.qm_model.specs.Common.{Queue, name_cmp}
+use Rattle.qm_tables.proofs.QueueNames.{name_of}
 use Rattle.qm_ready.specs.Rows.{Row}
 use Rattle.qm_parts.specs.Rooms.{HasRoomWhere, is_one_of, targets_of}
 use Rattle.qm_parts.proofs.Bounds.{bound_here, bounds_set}

@@ -1,9 +1,7 @@
-use Rattle.std.proofs.Common.{◌<◌, List, length, arith, subst}
-use Rattle.std.proofs.lemmas.List.{length-set}
+use Rattle.std.proofs.Common.{◌<◌, List, length, arith, subst, length-set}
 use Rattle.qm_keyed.specs.Places.{StandsAt, BelongsAt}
-use Rattle.qm_kinds.specs.declared.queue.Queue.{Queue}
-use Rattle.qm_model.specs.Find.{name_cmp}
-use Rattle.qm_queues.proofs.QueueNames.{name_of}
+use Rattle.qm_model.specs.Common.{Queue, name_cmp}
+use Rattle.qm_tables.proofs.QueueNames.{name_of}
 use Rattle.qm_parts.proofs.Bounds.{bound_here, bounds_set}
 use Rattle.qm_parts.proofs.KeptRows.{wider_set}
 use Rattle.qm_parts.proofs.Widening.{if_ok, none_there, room_there, wider_of}

@@ -1,6 +1,5 @@
-use Rattle.std.proofs.Common.{◌≡◌, length, take}
+use Rattle.std.proofs.Common.{◌≡◌, length, take, bytes_eq}
 use Rattle.std.specs.List.{list_any}
-use Rattle.std.specs.Str.{bytes_eq}
 use Rattle.qm_parts.specs.Ready.{KeepsKeys}
 use Rattle.qm_parts.specs.Rooms.{AreBounds, HasRoomWhere}
 use Rattle.qm_parts.proofs.rooms.widen_targets.Given as goal

@@ -1,5 +1,4 @@
-use Rattle.std.proofs.Common.{◌∷◌, [], List, length, get_or, remove, ap, arith}
-use Rattle.std.proofs.lemmas.List.{length-append}
+use Rattle.std.proofs.Common.{◌∷◌, [], List, length, get_or, remove, ap, arith, length-append}
 use Rattle.std.proofs.lemmas.List.Edits.{length-remove}
 use Rattle.qm_ready.specs.Rows.{Row}
 use Rattle.qm_parts.proofs.RowPlaces.{no_row, met_out, met_none}

@@ -1,7 +1,6 @@
 use Rattle.std.proofs.Common.{◌≤◌, List, count_by, filter, map, subst, sym, ◌∙◌, ap}
-use Rattle.qm_kinds.specs.declared.entry.Entry.{Entry}
+use Rattle.qm_model.specs.Common.{Entry, fits}
 use Rattle.qm_match.specs.Keys.{key_of}
-use Rattle.qm_model.specs.Fitting.{fits}
 use Rattle.qm_parts.specs.Tables.{with_tables}
 use Rattle.qm_parts.proofs.Fits.{closed_row}
 use Rattle.qm_parts.proofs.rows.gather.Goals as goal

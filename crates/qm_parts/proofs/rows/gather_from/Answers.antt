@@ -1,13 +1,10 @@
 use Rattle.std.proofs.Common.{◌≡◌, ◌+◌, ◌<◌, ◌≤◌, ◌++◌, ◌∷◌, [], Bool, true, List, filter, get_or, length, map, take, ap, arith, sym, ◌∙◌}
 use Rattle.std.proofs.lemmas.List.{length-append, length-map, get_or-map, take_all}
 use Rattle.std.proofs.lemmas.List.Sums.{length-filter, count_by_more_yes}
-use Rattle.qm_entries.specs.Boxed.{contents}
-use Rattle.qm_kinds.specs.declared.entry.Entry.{Entry}
-use Rattle.qm_kinds.specs.declared.system.System.{System}
+use Rattle.qm_tables.specs.Boxed.{contents}
+use Rattle.qm_model.specs.Common.{Entry, System, fits, no_system}
 use Rattle.qm_match.specs.declared.order.Key.{Key}
 use Rattle.qm_match.specs.Keys.{key_of}
-use Rattle.qm_model.specs.Fitting.{fits}
-use Rattle.qm_model.specs.Folding.{no_system}
 use Rattle.qm_ready.specs.Rows.{Row}
 use Rattle.qm_parts.specs.Tables.{with_tables}
 use Rattle.qm_parts.proofs.Reach.{count_take_le}

@@ -1,8 +1,7 @@
 use Rattle.std.proofs.Common.{◌≡◌, ◌+◌, filter, length, map, take}
-use Rattle.qm_entries.specs.Boxed.{contents}
-use Rattle.qm_kinds.specs.declared.system.System.{System}
+use Rattle.qm_tables.specs.Boxed.{contents}
+use Rattle.qm_model.specs.Common.{System, fits}
 use Rattle.qm_match.specs.Keys.{key_of}
-use Rattle.qm_model.specs.Fitting.{fits}
 use Rattle.qm_parts.specs.Reaching.{KnowsWay}
 use Rattle.qm_parts.specs.Tables.{with_tables}
 use Rattle.qm_parts.proofs.rows.gather_from.Given as goal

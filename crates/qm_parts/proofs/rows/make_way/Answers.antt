@@ -2,7 +2,7 @@ use Rattle.std.proofs.Common.{◌<◌, ℕ, List, length, get_or, remove, ap, ar
 use Rattle.std.proofs.lemmas.List.Edits.{length-insert, length-remove}
 use Rattle.qm_keyed.specs.Places.{StandsAt, BelongsAt}
 use Rattle.qm_model.specs.Find.{name_cmp}
-use Rattle.qm_queues.proofs.QueueNames.{name_of}
+use Rattle.qm_tables.proofs.QueueNames.{name_of}
 use Rattle.qm_ready.specs.Rows.{Row}
 use Rattle.qm_parts.proofs.KeptRows.{none_named}
 use Rattle.qm_parts.proofs.RowPlaces.{no_row, met_in, met_over}

@@ -1,8 +1,5 @@
-use Rattle.std.proofs.Common.{rules, sym, subst, ◌∙◌, ap}
-use Rattle.std.specs.Ordering.{nat_cmp}
-use Rattle.qm_model.specs.Consistent.{IsInOrder}
-use Rattle.qm_model.specs.Fitting.{fits}
-use Rattle.qm_model.specs.Folding.{no_system}
+use Rattle.std.proofs.Common.{rules, sym, subst, ◌∙◌, ap, nat_cmp}
+use Rattle.qm_model.specs.Common.{IsInOrder, fits, no_system}
 use Rattle.qm_ready.specs.Rows.{Row, HasNumbersOnce}
 use Rattle.qm_parts.specs.Tables.{Tables, with_tables}
 use Rattle.qm_parts.proofs.Reach.{fitting_reach}

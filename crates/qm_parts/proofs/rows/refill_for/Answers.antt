@@ -1,9 +1,7 @@
 use Rattle.std.proofs.Common.{◌≡◌, List, get_or, false, arith, subst}
 use Rattle.qm_keyed.specs.Places.{StandsAt}
-use Rattle.qm_kinds.specs.declared.queue.Queue.{Queue}
-use Rattle.qm_model.specs.Find.{name_cmp}
-use Rattle.qm_model.specs.Kinds.{is_generic}
-use Rattle.qm_queues.proofs.QueueNames.{name_of}
+use Rattle.qm_model.specs.Common.{Queue, name_cmp, is_generic}
+use Rattle.qm_tables.proofs.QueueNames.{name_of}
 use Rattle.qm_parts.proofs.OneQueue.{one_row, row_set}
 use Rattle.qm_parts.proofs.RowLoops.{room_here}
 use Rattle.qm_parts.proofs.rows.refill_for.Goals as goal

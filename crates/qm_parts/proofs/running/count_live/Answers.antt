@@ -1,5 +1,4 @@
-use Rattle.std.proofs.Common.{◌∙◌, ◌<◌, Bool, List, length, count_by, ap, arith, sym}
-use Rattle.std.proofs.lemmas.List.{take_all}
+use Rattle.std.proofs.Common.{◌∙◌, ◌<◌, Bool, List, length, count_by, ap, arith, sym, take_all}
 use Rattle.qm_kinds.specs.declared.run.Run.{Run}
 use Rattle.qm_parts.specs.Mirror.{is_live_in}
 use Rattle.qm_parts.proofs.Searches.{counted, passed}

@@ -1,7 +1,6 @@
-use Rattle.std.proofs.Common.{◌∙◌, ◌<◌, ℕ, Bool, List, Option, Some, filter, length, map, min, ap, arith, sym}
+use Rattle.std.proofs.Common.{◌∙◌, ◌<◌, ℕ, Bool, List, Option, Some, filter, length, map, min, ap, arith, sym, take_all}
 use Rattle.std.specs.List.{reduce}
 use Rattle.std.specs.Option.{option_map_or}
-use Rattle.std.proofs.lemmas.List.{take_all}
 use Rattle.qm_kinds.specs.declared.run.Run.{Run}
 use Rattle.qm_parts.specs.Mirror.{is_run_for}
 use Rattle.qm_parts.proofs.Least.{least_taken, least_passed}

@@ -1,6 +1,5 @@
 use Rattle.std.proofs.Common.{sym, ◌∙◌}
-use Rattle.qm_kinds.specs.declared.entry.Entry.{Entry}
-use Rattle.qm_model.specs.Stopping.{is_running_in}
+use Rattle.qm_model.specs.Common.{Entry, is_running_in}
 use Rattle.qm_parts.proofs.Asked.{none_of_number, fails_of_number, passes_of_number}
 use Rattle.qm_parts.proofs.running.running_numbered.Goals as goal
 

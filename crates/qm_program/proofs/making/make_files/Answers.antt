@@ -1,9 +1,7 @@
 use Rattle.std.proofs.Common.{◌≡◌, ◌∙◌, subst}
 use Rattle.qm_store.specs.Making.{IsNotMade}
 use Rattle.qm_store.specs.declared.fault.WriteFault.{WriteFault}
-use Rattle.qm_history.specs.Site.{site_of}
-use Rattle.qm_model.specs.Consistent.{IsConsistent}
-use Rattle.qm_model.specs.Log.{image_of}
+use Rattle.qm_history.specs.Common.{site_of, IsConsistent, image_of}
 use Rattle.qm_program.proofs.NewSite.{has_new_site, never_full}
 use Rattle.qm_program.proofs.making.make_files.Goals as goal
 

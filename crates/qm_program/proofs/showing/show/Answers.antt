@@ -1,7 +1,6 @@
 use Rattle.std.proofs.Common.{Err, IfErr, IsErrOf, Result, Vec, ℕ, Global, subst}
 use Rattle.qm_acting.specs.Reading.{IsRestoreFault}
-use Rattle.qm_disk.specs.Disk.{TellsFaults}
-use Rattle.qm_glog.specs.declared.fault.OpenFault.{OpenFault}
+use Rattle.qm_history.specs.Common.{TellsFaults, OpenFault}
 use Rattle.qm_glog.specs.declared.fault.OpenFault.TheVariants as opening
 use Rattle.qm_program.specs.Doing.{IsWithoutFault}
 use Rattle.qm_program.proofs.Listing.{short_alone}

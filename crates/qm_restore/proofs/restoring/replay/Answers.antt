@@ -1,7 +1,5 @@
 use Rattle.std.proofs.Common.{◌∙◌, sym, ap, subst}
-use Rattle.qm_kinds.specs.declared.system.System.{System}
-use Rattle.qm_model.specs.Consistent.{IsConsistent}
-use Rattle.qm_model.specs.Outcome.{Accepted}
+use Rattle.qm_history.specs.Common.{System, IsConsistent, Accepted}
 use Rattle.qm_image.specs.Image.{system_of}
 use Rattle.qm_image.specs.Preparing.{made}
 use Rattle.qm_restore.proofs.Beginning.{not_both}

@@ -1,6 +1,5 @@
 use Rattle.std.proofs.Common.{◌≡◌, ◌∙◌, sym, ap, subst, take}
-use Rattle.qm_kinds.specs.declared.system.System.{System}
-use Rattle.qm_model.specs.Consistent.{AreNodes}
+use Rattle.qm_history.specs.Common.{System, AreNodes}
 use Rattle.qm_image.specs.Image.{system_of}
 use Rattle.qm_restore.specs.Restoring.{Stands}
 use Rattle.qm_restore.specs.Site.{new_system}

@@ -1,11 +1,7 @@
-use Rattle.std.proofs.Common.{◌∙◌, [], ◌∷◌, ◌&&◌, Option, false, not, nat_le, length, ap, sym}
-use Rattle.std.specs.Prelude.{is_none}
+use Rattle.std.proofs.Common.{◌∙◌, [], ◌∷◌, ◌&&◌, Option, false, not, nat_le, length, ap, sym, is_none}
 use Rattle.std.specs.Option.{option_and_then, option_map_or}
-use Rattle.qm_kinds.specs.declared.queue.Queue.{Queue}
+use Rattle.qm_model.specs.Common.{Queue, queue_named, is_same_queue_kind, first_refusal, refused_where}
 use Rattle.qm_kinds.specs.declared.refusal.Refusal.TheVariants.{BadValue, DuplicateQueue, QueuesFull}
-use Rattle.qm_model.specs.Find.{queue_named}
-use Rattle.qm_model.specs.Kinds.{is_same_queue_kind}
-use Rattle.qm_model.specs.Outcome.{first_refusal, refused_where}
 use Rattle.qm_model.specs.Queues.{refused_unless_stopped}
 use Rattle.qm_rules.proofs.initializing.initialize_refusal.Goals as goal
 

@@ -1,9 +1,7 @@
-use Rattle.std.proofs.Common.{◌∙◌, ap, sym, not}
+use Rattle.std.proofs.Common.{◌∙◌, ap, sym, not, bytes_eq}
 use Rattle.std.specs.List.{list_any}
-use Rattle.std.specs.Str.{bytes_eq}
 use Rattle.qm_kinds.specs.declared.refusal.Refusal.TheVariants.{NoSuchNode}
-use Rattle.qm_kinds.specs.declared.system.Node.{Node}
-use Rattle.qm_model.specs.Outcome.{refused_where}
+use Rattle.qm_model.specs.Common.{Node, refused_where}
 use Rattle.qm_rules.proofs.initializing.refused_node.Goals as goal
 
 pub returns-in-Some : goal.returns-in-Some

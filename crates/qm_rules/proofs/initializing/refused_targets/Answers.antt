@@ -1,7 +1,5 @@
-use Rattle.std.proofs.Common.{◌∙◌, ℕ, List, not, ap, sym}
+use Rattle.std.proofs.Common.{◌∙◌, ℕ, List, not, ap, sym, find, option_map}
 use Rattle.std.proofs.Math.ListN.{drop_of_length-le}
-use Rattle.std.specs.List.{find}
-use Rattle.std.specs.Option.{option_map}
 use Rattle.qm_kinds.specs.declared.refusal.Refusal.TheVariants.{GenericTarget}
 use Rattle.qm_model.specs.Queues.{is_target}
 use Rattle.qm_rules.proofs.Given.{find_hit, find_miss}

@@ -1,5 +1,4 @@
-use Rattle.std.proofs.Common.{◌≡◌, drop, not}
-use Rattle.std.specs.List.{find}
+use Rattle.std.proofs.Common.{◌≡◌, drop, not, find}
 use Rattle.qm_kinds.specs.declared.system.System.{System}
 use Rattle.qm_model.specs.Queues.{is_target}
 use Rattle.qm_rules.specs.Settings.{HasQueues}

@@ -1,5 +1,5 @@
 use Rattle.std.proofs.Common.{◌∙◌, sym}
-use Rattle.qm_entries.specs.Boxed.{contents}
+use Rattle.qm_tables.specs.Boxed.{contents}
 use Rattle.qm_rules.specs.Naming.{names}
 use Rattle.qm_rules.proofs.Given.{find_hit, find_miss}
 use Rattle.qm_rules.proofs.Boxed.{value_at, value_within}

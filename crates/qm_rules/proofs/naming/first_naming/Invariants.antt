@@ -1,6 +1,5 @@
-use Rattle.std.proofs.Common.{◌≡◌, drop}
-use Rattle.std.specs.List.{find}
-use Rattle.qm_entries.specs.Boxed.{contents}
+use Rattle.std.proofs.Common.{◌≡◌, drop, find}
+use Rattle.qm_tables.specs.Boxed.{contents}
 use Rattle.qm_rules.specs.Naming.{names}
 use Rattle.qm_rules.proofs.naming.first_naming.Given as goal
 

@@ -1,5 +1,4 @@
-use Rattle.std.proofs.Common.{◌≡◌, drop}
-use Rattle.std.specs.List.{find}
+use Rattle.std.proofs.Common.{◌≡◌, drop, find}
 use Rattle.qm_rules.specs.Naming.{queue_names}
 use Rattle.qm_rules.proofs.naming.refused_by_queue.Given as goal
 

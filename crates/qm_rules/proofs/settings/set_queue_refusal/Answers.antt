@@ -1,11 +1,6 @@
-use Rattle.std.proofs.Common.{◌∙◌, [], ◌∷◌, Option, ap, sym}
-use Rattle.std.specs.Prelude.{is_none}
-use Rattle.std.specs.Option.{option_and_then}
-use Rattle.qm_kinds.specs.declared.queue.Queue.{Queue}
+use Rattle.std.proofs.Common.{◌∙◌, [], ◌∷◌, Option, ap, sym, is_none, option_and_then}
+use Rattle.qm_model.specs.Common.{Queue, queue_named, first_refusal, refused_where, change_refusal}
 use Rattle.qm_kinds.specs.declared.refusal.Refusal.TheVariants.{NoSuchQueue, BadValue}
-use Rattle.qm_model.specs.Find.{queue_named}
-use Rattle.qm_model.specs.Outcome.{first_refusal, refused_where}
-use Rattle.qm_model.specs.Settings.{change_refusal}
 use Rattle.qm_rules.proofs.settings.set_queue_refusal.Goals as goal
 
 pub returns : goal.returns

@@ -1,7 +1,6 @@
 use Rattle.std.proofs.Common.{◌∙◌, unwrap_or, ap}
 use Rattle.std.specs.Option.{option_or}
-use Rattle.qm_model.specs.Settings.{with_change}
-use Rattle.qm_model.specs.Wanted.{characteristics_of}
+use Rattle.qm_model.specs.Common.{with_change, characteristics_of}
 use Rattle.qm_rules.proofs.Given.{made_or}
 use Rattle.qm_rules.proofs.settings.settings_of.Goals as goal
 

@@ -1,6 +1,5 @@
-use Rattle.std.proofs.Common.{◌≡◌, map, take}
-use Rattle.std.specs.List.{filter}
-use Rattle.qm_entries.specs.Boxed.{contents}
+use Rattle.std.proofs.Common.{◌≡◌, map, take, filter}
+use Rattle.qm_tables.specs.Boxed.{contents}
 use Rattle.qm_kinds.specs.declared.query.Row.TheVariants as row
 use Rattle.qm_scan.specs.Listed.{is_entry_listed}
 use Rattle.qm_scan.proofs.all.entry_rows.Given as goal

@@ -1,6 +1,5 @@
-use Rattle.std.proofs.Common.{◌∙◌, List, ap}
-use Rattle.std.specs.List.{flat_map}
-use Rattle.qm_entries.specs.Boxed.{contents}
+use Rattle.std.proofs.Common.{◌∙◌, List, ap, flat_map}
+use Rattle.qm_tables.specs.Boxed.{contents}
 use Rattle.qm_kinds.specs.declared.query.Row.{Row}
 use Rattle.qm_scan.specs.Listed.{is_queue_listed, rows_below, rows_of_queue}
 use Rattle.qm_scan.proofs.Put.{joined, listed_alone}

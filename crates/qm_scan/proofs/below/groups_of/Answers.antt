@@ -1,8 +1,7 @@
 use Rattle.std.proofs.Common.{◌≡◌, ◌∙◌, ◌<◌, ◌&&◌, if◌then◌else◌, List, [], ◌∷◌, ◌++◌, length, get_or, ap, arith}
 use Rattle.std.proofs.lemmas.List.{length-map}
-use Rattle.qm_kinds.specs.declared.entry.Entry.{Entry}
-use Rattle.qm_entries.specs.Boxed.{contents}
-use Rattle.qm_kinds.specs.declared.query.Row.{Row}
+use Rattle.qm_model.specs.Common.{Entry, Row}
+use Rattle.qm_tables.specs.Boxed.{contents}
 use Rattle.qm_kinds.specs.declared.query.Row.TheVariants as row
 use Rattle.qm_scan.specs.Listed.{is_below, is_queue_listed, rows_of_queue}
 use Rattle.qm_scan.proofs.Boxed.{value_at, value_within, all_seen}

@@ -1,5 +1,5 @@
 use Rattle.std.proofs.Common.{◌≡◌, length, take}
-use Rattle.qm_entries.specs.Boxed.{contents}
+use Rattle.qm_tables.specs.Boxed.{contents}
 use Rattle.qm_scan.specs.Listed.{AreBelow}
 use Rattle.qm_scan.proofs.below.groups_of.Given as goal
 

@@ -1,6 +1,4 @@
-use Rattle.std.proofs.Common.{◌≡◌, ◌∙◌, ◌==◌, ◌&&◌, ℕ, true, false, [], get_or, sym, ap, arith}
-use Rattle.std.specs.List.{slice_get}
-use Rattle.std.specs.Prelude.{Some}
+use Rattle.std.proofs.Common.{◌≡◌, ◌∙◌, ◌==◌, ◌&&◌, ℕ, true, false, [], get_or, sym, ap, arith, slice_get, Some}
 use Rattle.std.proofs.lemmas.Bool.Decides.{nat_tests}
 use Rattle.qm_kinds.specs.declared.query.Row.TheVariants as row
 use Rattle.qm_kinds.specs.declared.queue.Queue.{Queue}

@@ -1,8 +1,5 @@
 use Rattle.std.proofs.Common.{◌≡◌, ◌≢◌, Option, refl}
-use Rattle.qm_kinds.specs.declared.query.Listing.{Listing}
-use Rattle.qm_kinds.specs.declared.query.Listing.TheVariants.{Queues, Jobs, Entries, Forms, Characteristics, Manager, Cancel}
-use Rattle.qm_kinds.specs.declared.query.Query.{Query}
-use Rattle.qm_kinds.specs.declared.system.System.{System}
+use Rattle.qm_model.specs.Common.{Listing, Queues, Jobs, Entries, Forms, Characteristics, Manager, Cancel, Query, System}
 use Rattle.qm_model.specs.Rows.{ManagerRole, rows_in}
 use Rattle.qm_scan.proofs.laws.the_manager_shows_in_its_listing.Goals as goal
 

@@ -1,6 +1,6 @@
 use Rattle.std.proofs.Common.{◌<◌, ◌∙◌, length, sym, arith}
 use Rattle.std.proofs.lemmas.List.{length-map}
-use Rattle.qm_entries.specs.Boxed.{contents}
+use Rattle.qm_tables.specs.Boxed.{contents}
 use Rattle.qm_scan.specs.Listed.{is_listed_at_home}
 use Rattle.qm_scan.proofs.AtHome.{other_tag}
 use Rattle.qm_scan.proofs.Boxed.{value_at, value_within, value_of}

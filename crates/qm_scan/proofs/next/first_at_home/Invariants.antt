@@ -1,6 +1,5 @@
-use Rattle.std.proofs.Common.{◌≡◌, drop}
-use Rattle.std.specs.List.{find}
-use Rattle.qm_entries.specs.Boxed.{contents}
+use Rattle.std.proofs.Common.{◌≡◌, drop, find}
+use Rattle.qm_tables.specs.Boxed.{contents}
 use Rattle.qm_scan.specs.Listed.{is_listed_at_home}
 use Rattle.qm_scan.proofs.next.first_at_home.Given as goal
 

@@ -1,5 +1,5 @@
 use Rattle.std.proofs.Common.{◌∙◌, sym}
-use Rattle.qm_entries.specs.Boxed.{contents}
+use Rattle.qm_tables.specs.Boxed.{contents}
 use Rattle.qm_scan.specs.Listed.{is_entry_listed}
 use Rattle.qm_scan.proofs.Boxed.{value_at, value_within}
 use Rattle.qm_scan.proofs.Found.{find_hit, find_miss}

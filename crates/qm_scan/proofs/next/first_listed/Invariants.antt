@@ -1,6 +1,5 @@
-use Rattle.std.proofs.Common.{◌≡◌, drop}
-use Rattle.std.specs.List.{find}
-use Rattle.qm_entries.specs.Boxed.{contents}
+use Rattle.std.proofs.Common.{◌≡◌, drop, find}
+use Rattle.qm_tables.specs.Boxed.{contents}
 use Rattle.qm_scan.specs.Listed.{is_entry_listed}
 use Rattle.qm_scan.proofs.next.first_listed.Given as goal
 

@@ -1,10 +1,9 @@
-use Rattle.std.proofs.Common.{◌≡◌, ◌∙◌, ◌&&◌, List, length, drop, sym, ap, arith}
-use Rattle.std.specs.List.{find}
+use Rattle.std.proofs.Common.{◌≡◌, ◌∙◌, ◌&&◌, List, length, drop, sym, ap, arith, find}
 use Rattle.std.proofs.lemmas.List.{length-map, drop-map}
 use Rattle.qm_kinds.specs.declared.entry.Entry.{Entry}
 use Rattle.qm_kinds.specs.declared.query.Row.TheVariants as row
-use Rattle.qm_entries.specs.Boxed.{contents}
-use Rattle.qm_entries.specs.Tags.{entry_tag, tags_of}
+use Rattle.qm_tables.specs.Boxed.{contents}
+use Rattle.qm_tables.specs.Tags.{entry_tag, tags_of}
 use Rattle.qm_scan.specs.Listed.{is_behind, is_listed_at_home}
 use Rattle.qm_scan.proofs.Behind.{slice_from}
 use Rattle.qm_scan.proofs.Boxed.{left_of, value_of}

@@ -1,8 +1,6 @@
-use Rattle.std.proofs.Common.{◌∙◌, sym, ap}
-use Rattle.std.specs.Option.{option_map}
-use Rattle.qm_kinds.specs.declared.form.Characteristic.{Characteristic}
+use Rattle.std.proofs.Common.{◌∙◌, sym, ap, option_map}
+use Rattle.qm_model.specs.Common.{Characteristic, matches}
 use Rattle.qm_kinds.specs.declared.query.Row.TheVariants as row
-use Rattle.qm_kinds.specs.Wildcards.{matches}
 use Rattle.qm_scan.specs.Listed.{is_behind}
 use Rattle.qm_scan.proofs.Found.{find_row}
 use Rattle.qm_scan.proofs.next.next_characteristic_row.Goals as goal

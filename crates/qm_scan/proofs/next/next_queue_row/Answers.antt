@@ -1,8 +1,5 @@
-use Rattle.std.proofs.Common.{◌∙◌, Option, Some, refl, sym, ap, subst}
-use Rattle.std.specs.Prelude.{IsSome}
-use Rattle.qm_kinds.specs.declared.query.Row.{Row}
-use Rattle.std.specs.Option.{option_map}
-use Rattle.qm_kinds.specs.declared.queue.Queue.{Queue}
+use Rattle.std.proofs.Common.{◌∙◌, Option, Some, refl, sym, ap, subst, IsSome, option_map}
+use Rattle.qm_model.specs.Common.{Row, Queue}
 use Rattle.qm_kinds.specs.declared.query.Row.TheVariants as row
 use Rattle.qm_scan.specs.Listed.{is_behind, is_queue_listed}
 use Rattle.qm_scan.proofs.Found.{find_row}

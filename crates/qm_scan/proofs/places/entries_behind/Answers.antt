@@ -1,5 +1,4 @@
-use Rattle.std.proofs.Common.{◌∙◌, sym, ap}
-use Rattle.std.specs.List.{find}
+use Rattle.std.proofs.Common.{◌∙◌, sym, ap, find}
 use Rattle.qm_scan.proofs.Boxed.{left_of}
 use Rattle.qm_scan.proofs.places.entries_behind.Goals as goal
 

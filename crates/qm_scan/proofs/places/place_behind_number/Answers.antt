@@ -1,4 +1,4 @@
-use Rattle.qm_entries.specs.Boxed.{contents}
+use Rattle.qm_tables.specs.Boxed.{contents}
 use Rattle.qm_scan.proofs.Behind.{behind_number, from_number}
 use Rattle.qm_scan.proofs.places.place_behind_number.Goals as goal
 

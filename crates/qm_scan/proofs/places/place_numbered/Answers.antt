@@ -1,5 +1,4 @@
-use Rattle.std.proofs.Common.{rules}
-use Rattle.std.specs.Ordering.{nat_cmp}
+use Rattle.std.proofs.Common.{rules, nat_cmp}
 use Rattle.std.specs.Cmp.{nat_cmp_total}
 use Rattle.qm_keyed.proofs.Mapped.{order_unmapped, place_mapped}
 use Rattle.qm_keyed.proofs.Searches.{place_from_clause}

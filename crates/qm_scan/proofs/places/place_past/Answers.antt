@@ -1,11 +1,8 @@
-use Rattle.std.proofs.Common.{◌∙◌, ◌&&◌, length, sym, ap, arith}
-use Rattle.std.specs.List.{find}
+use Rattle.std.proofs.Common.{◌∙◌, ◌&&◌, length, sym, ap, arith, find}
 use Rattle.std.proofs.lemmas.List.{length-map}
-use Rattle.qm_kinds.specs.declared.entry.Entry.{Entry}
-use Rattle.qm_kinds.specs.declared.query.After.{After}
+use Rattle.qm_model.specs.Common.{Entry, After, is_past}
 use Rattle.qm_kinds.specs.declared.query.Row.TheVariants as row
-use Rattle.qm_entries.specs.Boxed.{contents}
-use Rattle.qm_model.specs.Rows.{is_past}
+use Rattle.qm_tables.specs.Boxed.{contents}
 use Rattle.qm_scan.proofs.Found.{find_never, find_at_end}
 use Rattle.qm_scan.proofs.places.place_past.Goals as goal
 

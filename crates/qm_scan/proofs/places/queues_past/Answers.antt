@@ -1,9 +1,6 @@
-use Rattle.std.proofs.Common.{◌∙◌, ◌&&◌, length, sym, ap, arith}
-use Rattle.std.specs.List.{find}
-use Rattle.qm_kinds.specs.declared.query.After.{After}
-use Rattle.qm_kinds.specs.declared.queue.Queue.{Queue}
+use Rattle.std.proofs.Common.{◌∙◌, ◌&&◌, length, sym, ap, arith, find}
+use Rattle.qm_model.specs.Common.{After, Queue, is_past}
 use Rattle.qm_kinds.specs.declared.query.Row.TheVariants as row
-use Rattle.qm_model.specs.Rows.{is_past}
 use Rattle.qm_scan.proofs.Behind.{slice_from}
 use Rattle.qm_scan.proofs.Found.{find_never, find_at_end}
 use Rattle.qm_scan.proofs.places.queues_past.Goals as goal

@@ -5,6 +5,6 @@ use Rattle.qm_scans.proofs.Tells.{turn_tells}
 use Rattle.qm_scans.proofs.laws.answers_tell_how_rows_are_printed.Goals as goal
 
 pub returns : goal.returns
-returns g c = λ items_line v asked turn.
+returns c = λ items_line v asked turn.
     ap (λ (l : List (List ℕ)). takeover_lines (told_takeover (answered v)) ++ l)
-    ((turn_tells g.F.Format.has_spelling v.before asked v.turn turn).rows items_line (first_line_of v.turn.why))
+    ((turn_tells v.before asked v.turn turn).rows items_line (first_line_of v.turn.why))

@@ -1,7 +1,6 @@
 use Rattle.std.proofs.Common.{◌≡◌, ◌∙◌, ℕ, Bool, Some, cond, get_or, sym, ap, arith}
 use Rattle.std.proofs.lemmas.List.{get_or_default}
-use Rattle.qm_kinds.specs.declared.queue.Queue.{Queue}
-use Rattle.qm_kinds.specs.declared.run.Start.{Start}
+use Rattle.qm_model.specs.Common.{Queue, Start}
 use Rattle.qm_model.specs.Settling.{start_of as model_start}
 use Rattle.qm_sched.specs.Choosing.{takes_jobs}
 use Rattle.qm_parts.specs.Tables.{with_tables}

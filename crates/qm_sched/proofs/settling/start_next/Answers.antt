@@ -1,9 +1,5 @@
-use Rattle.std.proofs.Common.{◌≡◌, ℕ, ◌+◌, None, Some, sym, ◌∙◌, ap, List}
-use Rattle.std.specs.Option.{option_copied}
-use Rattle.qm_kinds.specs.declared.entry.EntryState.TheVariants.{Running}
-use Rattle.qm_kinds.specs.declared.queue.Queue.{Queue}
-use Rattle.qm_model.specs.Find.{queue_named}
-use Rattle.qm_model.specs.Standing.{with_entry}
+use Rattle.std.proofs.Common.{◌≡◌, ℕ, ◌+◌, None, Some, sym, ◌∙◌, ap, List, option_copied}
+use Rattle.qm_model.specs.Common.{Running, Queue, queue_named, with_entry}
 use Rattle.qm_parts.specs.Tables.{Tables, with_tables}
 use Rattle.qm_sched.proofs.Starting.{blank, its_queue, its_state, has_number}
 use Rattle.qm_sched.proofs.settling.start_next.Goals as goal

@@ -1,5 +1,4 @@
-use Rattle.std.proofs.Common.{eqb-true, sym, ◌∙◌, length}
-use Rattle.std.specs.Option.{option_copied}
+use Rattle.std.proofs.Common.{eqb-true, sym, ◌∙◌, length, option_copied}
 use Rattle.qm_script.proofs.Taking.{line_skipped}
 use Rattle.qm_script.proofs.lines.first_taken.Goals as goal
 

@@ -1,7 +1,5 @@
-use Rattle.std.proofs.Common.{◌+◌, ◌≤◌, ◌<◌, ◌++◌, ◌&&◌, Bool, List, [], is_ok, arith, sym, ◌∙◌, ap, subst, length, IfOk, Result}
-use Rattle.std.specs.Option.{option_copied, option_map, option_to_list}
-use Rattle.qm_kinds.specs.declared.script.ScriptKind.{ScriptKind}
-use Rattle.qm_history.specs.Script.{UserLine}
+use Rattle.std.proofs.Common.{◌+◌, ◌≤◌, ◌<◌, ◌++◌, ◌&&◌, Bool, List, [], is_ok, arith, sym, ◌∙◌, ap, subst, length, IfOk, Result, option_copied, option_map, option_to_list}
+use Rattle.qm_history.specs.Common.{ScriptKind, UserLine}
 use Rattle.qm_script.specs.declared.lines.Taken.{Taken}
 use Rattle.qm_script.specs.ClusterLines.{user_line_view, user_lines_view}
 use Rattle.qm_script.specs.Heads.{TakesLine}

@@ -1,5 +1,4 @@
-use Rattle.std.proofs.Common.{◌≡◌, ◌+◌, ◌≤◌, true, List, length, None}
-use Rattle.std.specs.Option.{option_copied}
+use Rattle.std.proofs.Common.{◌≡◌, ◌+◌, ◌≤◌, true, List, length, None, option_copied}
 use Rattle.qm_history.specs.Lines.{lines_from}
 use Rattle.qm_history.specs.Script.{UserLine}
 use Rattle.qm_script.specs.ClusterLines.{user_lines_view}

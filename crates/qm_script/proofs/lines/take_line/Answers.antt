@@ -1,5 +1,4 @@
-use Rattle.std.proofs.Common.{refl}
-use Rattle.std.specs.Option.{option_copied}
+use Rattle.std.proofs.Common.{refl, option_copied}
 use Rattle.qm_history.specs.Lines.{may_be_of}
 use Rattle.qm_script.specs.Heads.{head_view}
 use Rattle.qm_script.proofs.Exits.{exit_byte, exit_end, exit_headless, exit_line, exit_node, head_within, text_begins}

@@ -6,8 +6,7 @@ use Rattle.qm_node.specs.Sides.{side_of}
 use Rattle.qm_script.specs.ClusterLines.{user_lines_view}
 use Rattle.qm_cluster.specs.Ends.{CountsSink, serving_end}
 use Rattle.qm_serving.specs.Serving.{outside}
-use Rattle.qm_chest.specs.At.{chest_disk, chest_names}
-use Rattle.qm_chest.specs.At.{chest_turns}
+use Rattle.qm_chest.specs.At.{chest_disk, chest_names, chest_turns}
 use Rattle.qm_serving.proofs.ClusterServing.{handed, none_serves}
 use Rattle.qm_serving.proofs.cluster_serving.serve_by_each.Goals as goal
 

@@ -5,8 +5,7 @@ use Rattle.qm_cluster.specs.Fresh.{own_view}
 use Rattle.qm_node.specs.Sides.{side_of}
 use Rattle.qm_cluster.specs.Ends.{CountsSink, serving_end}
 use Rattle.qm_serving.specs.Serving.{outside}
-use Rattle.qm_chest.specs.At.{chest_disk, chest_names}
-use Rattle.qm_chest.specs.At.{chest_turns}
+use Rattle.qm_chest.specs.At.{chest_disk, chest_names, chest_turns}
 use Rattle.qm_cluster.specs.Gathered.{text_left}
 use Rattle.qm_cluster.specs.Printing.{turns_line}
 use Rattle.qm_cluster.specs.ClusterEnding.{IsToldBy, worst_of}

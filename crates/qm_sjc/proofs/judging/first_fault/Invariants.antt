@@ -1,5 +1,5 @@
 use Rattle.std.proofs.Common.{◌≡◌, length, take, drop}
-use Rattle.qm_item.specs.Text.{text}
+use Rattle.qm_values.specs.ItemText.{text}
 use Rattle.qm_values.specs.declared.codes.TheConstants.{CHARACTERISTIC, TARGET}
 use Rattle.qm_sjc.specs.Judging.{count_in, fault_behind, first_fault}
 use Rattle.qm_sjc.proofs.judging.first_fault.Given as goal

@@ -1,8 +1,7 @@
 use Rattle.std.proofs.Common.{◌≡◌, ◌∙◌, ◌≤◌, length, List, ap, sym, subst, arith}
-use Rattle.qm_kinds.specs.declared.entry.Entry.{Entry}
-use Rattle.qm_model.specs.Consistent.{IsConsistent}
+use Rattle.qm_model.specs.Common.{Entry, IsConsistent}
 use Rattle.qm_parts.specs.Tables.{Tables}
-use Rattle.qm_timers.specs.SpoolCounts.{CountsOf}
+use Rattle.qm_tables.specs.SpoolCounts.{CountsOf}
 use Rattle.qm_state.proofs.Ready.{ready_found}
 use Rattle.qm_state.proofs.Committed.{few_starts, is_done, idle_sound, settled_counts, settled_timers}
 use Rattle.qm_image.specs.Timers.{AreTimersOf}

@@ -1,6 +1,5 @@
 use Rattle.std.proofs.Common.{◌≡◌, ◌∙◌, ◌≤◌, length, vec_capacity, sym, subst, ap}
-use Rattle.qm_kinds.specs.declared.limits.TheConstants.{QUEUES_LIMIT}
-use Rattle.qm_kinds.specs.declared.system.System.{System}
+use Rattle.qm_model.specs.Common.{QUEUES_LIMIT, System}
 use Rattle.qm_image.specs.declared.image.Image.{Image}
 use Rattle.qm_image.specs.Deciding.{PreparesAt}
 use Rattle.qm_image.specs.Image.{system_of}

@@ -1,9 +1,7 @@
 use Rattle.std.proofs.Common.{◌≡◌, ◌∙◌, sym, ap, subst, arith, below_more, ◌++◌, ◌∷◌, [], ℕ, ◌+◌, ◌<◌, List, length, map, take, get_or, Vec}
 use Rattle.std.proofs.lemmas.List.{take_more, map-append, get_or_default}
 use Rattle.std.specs.declared.alloc.Global.{Global}
-use Rattle.qm_kinds.specs.declared.record.Record.{Record}
-use Rattle.qm_record.specs.Spelling.{record_text, HasSpelling}
-use Rattle.qm_glog.specs.Bodies.{contents}
+use Rattle.qm_history.specs.Common.{Record, record_text, HasSpelling, contents}
 use Rattle.qm_store.proofs.making.spell.Goals as goal
 
 -- the spelling of one row more

@@ -1,7 +1,5 @@
 use Rattle.std.proofs.Common.{◌≡◌, ℕ, ◌<◌, map, take, get_or}
-use Rattle.qm_kinds.specs.declared.record.Record.{Record}
-use Rattle.qm_record.specs.Spelling.{record_text, HasSpelling}
-use Rattle.qm_glog.specs.Bodies.{contents}
+use Rattle.qm_history.specs.Common.{Record, record_text, HasSpelling, contents}
 use Rattle.qm_store.proofs.making.spell.Given as goal
 
 abbrev pub invariant-loop-row : goal.invariant-loop-row

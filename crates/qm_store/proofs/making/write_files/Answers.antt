@@ -1,8 +1,5 @@
 use Rattle.std.proofs.Common.{subst, ℕ, List, ◌∙◌, ◌∷◌, []}
-use Rattle.qm_disk.specs.Disk.{Only}
-use Rattle.qm_glog.specs.Bodies.{contents}
-use Rattle.qm_glog.specs.Records.{IsLog}
-use Rattle.qm_history.specs.Master.{Found, master_text}
+use Rattle.qm_history.specs.Common.{Only, contents, IsLog, Found, master_text}
 use Rattle.qm_store.proofs.Made.{is_written}
 use Rattle.qm_store.proofs.making.write_files.Goals as goal
 

@@ -1,5 +1,4 @@
-use Rattle.std.proofs.Common.{◌≡◌, ℕ, ◌<◌, ◌≤◌, ◌+◌, map, vec_len}
-use Rattle.std.specs.Prelude.{All}
+use Rattle.std.proofs.Common.{◌≡◌, ℕ, ◌<◌, ◌≤◌, ◌+◌, map, vec_len, All}
 use Rattle.qm_turn.specs.History.{numbers_of, times}
 use Rattle.qm_turn.specs.Turns.{own}
 use Rattle.qm_thread_cases.proofs.turnstile.close_all.Given as goal

@@ -1,5 +1,4 @@
-use Rattle.std.proofs.Common.{arith, ◌∙◌, ◌≡◌, ap, pos, refl, w64, to_z, of_z}
-use Rattle.std.specs.Prelude.{int_div}
+use Rattle.std.proofs.Common.{arith, ◌∙◌, ◌≡◌, ap, pos, refl, w64, to_z, of_z, int_div}
 use Rattle.qm_model.specs.Calendar.{day_count}
 use Rattle.qm_time.proofs.DateLemmas.{plain_date, few_days, hours_are, days_are}
 use Rattle.qm_time.proofs.date.days_since_year_0.Goals as goal

@@ -2,8 +2,7 @@ use Rattle.std.proofs.Common.{◌≡◌, ◌∙◌, ℕ, Bool, map, filter, sym,
 use Rattle.std.specs.List.{list_any}
 use Rattle.std.specs.List.Sorted.{IsNonDecreasing}
 use Rattle.std.proofs.lemmas.List.Sorted.{IsNonDecreasingBy-from_sort, list_any-IsPermutation}
-use Rattle.qm_model.specs.Duties.{duty_of, by_run}
-use Rattle.qm_model.specs.Standing.{is_run_on}
+use Rattle.qm_model.specs.Common.{duty_of, by_run, is_run_on}
 use Rattle.qm_image.specs.Image.{system_of}
 use Rattle.qm_view.proofs.Works.{works_there, same_duties}
 use Rattle.qm_view.proofs.telling.duties.Goals as goal

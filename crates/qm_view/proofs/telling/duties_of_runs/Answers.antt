@@ -1,6 +1,5 @@
 use Rattle.std.proofs.Common.{◌∙◌, ◌<◌, ◌++◌, List, length, map, option_to_list, take_all, sym, ap, arith}
-use Rattle.qm_kinds.specs.declared.work.Duty.{Duty}
-use Rattle.qm_model.specs.Duties.{duty_of}
+use Rattle.qm_model.specs.Common.{Duty, duty_of}
 use Rattle.qm_parts.specs.ByRun.{entry_on}
 use Rattle.qm_image.specs.Image.{system_of}
 use Rattle.qm_view.proofs.Works.{one_more}

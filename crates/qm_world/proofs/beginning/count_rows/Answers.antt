@@ -1,10 +1,7 @@
 use Rattle.std.proofs.Common.{◌≡◌, ◌∙◌, false, length, arith, sym, []}
 use Rattle.std.proofs.lemmas.List.Elements.{at_read}
 use Rattle.std.proofs.lemmas.List.Sums.{prefix_len_is}
-use Rattle.qm_kinds.specs.declared.record.Body.TheVariants.{Head}
-use Rattle.qm_kinds.specs.declared.record.Record.{Record}
-use Rattle.qm_model.specs.Log.{row}
-use Rattle.qm_record.specs.Spelling.{is_row}
+use Rattle.qm_history.specs.Common.{Head, Record, row, is_row}
 use Rattle.qm_world.proofs.beginning.count_rows.Goals as goal
 
 abbrev any : Record

@@ -1,6 +1,5 @@
 use Rattle.std.proofs.Common.{◌≡◌, ◌<◌, ℕ, get_or, true}
-use Rattle.qm_kinds.specs.declared.record.Record.{Record}
-use Rattle.qm_record.specs.Spelling.{is_row}
+use Rattle.qm_history.specs.Common.{Record, is_row}
 use Rattle.qm_world.proofs.beginning.count_rows.Given as goal
 
 abbrev pub invariant-loop-place : goal.invariant-loop-place

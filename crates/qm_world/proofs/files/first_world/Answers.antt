@@ -1,7 +1,5 @@
 use Rattle.std.proofs.Common.{◌∙◌, sym, ap, length, subst}
-use Rattle.qm_kinds.specs.declared.system.System.{System}
-use Rattle.qm_history.specs.World.{IsSound}
-use Rattle.qm_record.specs.Spelling.{HasSpelling}
+use Rattle.qm_history.specs.Common.{System, IsSound}
 use Rattle.qm_world.proofs.Logs.{log_accepted, log_system}
 use Rattle.qm_world.proofs.files.first_world.Goals as goal
 
@@ -16,6 +14,6 @@ pub returns-clause-sound : goal.returns-clause-sound
 returns-clause-sound g c =
     let log = c.in_ok-log.log.items in
     let site = c.in_ok-nodes.ensures.site in
-    subst (IsSound HasSpelling) (sym c.in_ok-begin.ensures)
+    subst IsSound (sym c.in_ok-begin.ensures)
     (c.programs_begin_sound.ensures.sound log c.args.epoch
     (log_accepted c.no_record_begins_another.ensures c.site_files_are_accepted.ensures (g.B.Bodies.bodies c.args.file.now) site.system site.is log c.in_ok-log.ensures.spelled c.in_ok-log.ensures.texts))

@@ -1,5 +1,4 @@
-use Rattle.std.proofs.Common.{◌≡◌, map, take}
-use Rattle.std.specs.List.{All}
+use Rattle.std.proofs.Common.{◌≡◌, map, take, All}
 use Rattle.qm_record.specs.Spelling.{HasSpelling, record_text}
 use Rattle.qm_world.proofs.files.read_log.Given as goal
 

@@ -1,6 +1,5 @@
 use Rattle.std.proofs.Common.{subst, sym}
 use Rattle.qm_history.specs.World.{IsSound}
-use Rattle.qm_record.specs.Spelling.{HasSpelling}
 use Rattle.qm_world.proofs.Worlds.{leads_on}
 use Rattle.qm_world.proofs.walking.go_along.Goals as goal
 
@@ -9,7 +8,7 @@ loop-index-preserved c =
     let step = c.in-Ok.ensures in
     record {
       at = record {
-        sound = subst (IsSound HasSpelling) (sym step.after)
+        sound = subst IsSound (sym step.after)
             (c.worlds_stay_sound.ensures.event c.loop-index.walker.world c.index-steps-index.result c.loop-index.invariant.at.sound step.can);
         image = step.image;
       };

@@ -1,12 +1,14 @@
-use Rattle.std.proofs.Common.{length, vec_capacity, ◌≤◌, ◌∙◌, Ok, Err, refl, sym, ap, subst}
-use Rattle.qm_disk.specs.Disk.{OneFailed, IsQuiet}
-use Rattle.qm_model.specs.Outcome.{Accepted}
+use Rattle.std.proofs.Common.{ℕ, length, vec_capacity, ◌≤◌, ◌∙◌, Ok, Err, refl, subst, sym, IsErrOf}
+use Rattle.qm_history.specs.Common.{Accepted, Refusal}
 use Rattle.qm_image.specs.Preparing.{made}
 use Rattle.qm_acting.specs.Deciding.{Records}
 use Rattle.qm_acting.specs.Standing.{Standing, disk_of, standing_of}
+use Rattle.qm_acting.specs.declared.fault.AskFault.{AskFault}
+use Rattle.qm_acting.specs.declared.fault.AskFault.TheVariants as fault
+use Rattle.qm_acting.specs.declared.replies.Replies.{Replies}
 use Rattle.qm_acting.specs.declared.fault.RecordFault.TheVariants as recording
 use Rattle.qm_acting.proofs.Decided.{ready_on, same_system, site_behind, done_so, doubt_so, lacks_so, writes_behind}
-use Rattle.qm_acting.proofs.Spare.{keeps_at, keeps_same, record_keeps}
+use Rattle.qm_acting.proofs.Leaving.{leaves_at, leaves_from, leaves_so}
 use Rattle.qm_acting.proofs.Taken.{done_is, full_is}
 use Rattle.qm_acting.proofs.manager.Manager.ask.Goals as goal
 
@@ -20,6 +22,18 @@ decide-requires-clause-can g c = c.requires.can
 
 -- ---- it isn't accepted, or memory is wanted
 
+refused_is : (refusal : Refusal) → IsErrOf {T = Replies} (Err (fault.Refused refusal)) fault.Disk → ⊥
+refused_is refusal same = cc
+
+no_memory_is : IsErrOf {T = Replies} (Err fault.NoMemory) fault.Disk → ⊥
+no_memory_is same = cc
+
+ask_full_is : (need cap : ℕ) → IsErrOf {T = Replies} (Err (fault.Full need cap)) fault.Disk → ⊥
+ask_full_is need cap same = cc
+
+asked_is : (replies : Replies) → IsErrOf {E = AskFault} (Ok replies) fault.Disk → ⊥
+asked_is replies same = cc
+
 pub returns-in-Err-By-clause-answer : goal.returns-in-Err-By-clause-answer
 returns-in-Err-By-clause-answer g c =
     let e = rw c.in-Err-By.field-0-is at c.in-Err-By.ensures in
@@ -30,11 +44,12 @@ returns-in-Err-By-clause-ready g c = λ no.
     let st = standing_of c.args.self.now in
     ready_on g.D.Disk.meaning st _ (disk_of c.args.self.now) (disk_of c.args.self.now) (same_system st _ c.decide.ensures.rows) refl c.requires.ready
 
-pub returns-in-Err-By-clause-device : goal.returns-in-Err-By-clause-device
-returns-in-Err-By-clause-device g c = refl
+pub returns-in-Err-By-clause-writes : goal.returns-in-Err-By-clause-writes
+returns-in-Err-By-clause-writes g c = refl
 
-pub returns-in-Err-By-clause-spare : goal.returns-in-Err-By-clause-spare
-returns-in-Err-By-clause-spare g c = λ tells. keeps_same g.D.Disk.meaning (disk_of c.args.self.now)
+pub returns-in-Err-By-clause-leaves : goal.returns-in-Err-By-clause-leaves
+returns-in-Err-By-clause-leaves g c =
+    leaves_at g.D.Disk.meaning (disk_of c.args.self.now) (disk_of c.args.self.now) _ refl (refused_is _)
 
 pub returns-in-Err-NoMemory-clause-answer : goal.returns-in-Err-NoMemory-clause-answer
 returns-in-Err-NoMemory-clause-answer g c =
@@ -46,11 +61,11 @@ returns-in-Err-NoMemory-clause-ready g c = λ no.
     let st = standing_of c.args.self.now in
     ready_on g.D.Disk.meaning st _ (disk_of c.args.self.now) (disk_of c.args.self.now) (same_system st _ c.decide.ensures.rows) refl c.requires.ready
 
-pub returns-in-Err-NoMemory-clause-device : goal.returns-in-Err-NoMemory-clause-device
-returns-in-Err-NoMemory-clause-device g c = refl
+pub returns-in-Err-NoMemory-clause-writes : goal.returns-in-Err-NoMemory-clause-writes
+returns-in-Err-NoMemory-clause-writes g c = refl
 
-pub returns-in-Err-NoMemory-clause-spare : goal.returns-in-Err-NoMemory-clause-spare
-returns-in-Err-NoMemory-clause-spare g c = λ tells. keeps_same g.D.Disk.meaning (disk_of c.args.self.now)
+pub returns-in-Err-NoMemory-clause-leaves : goal.returns-in-Err-NoMemory-clause-leaves
+returns-in-Err-NoMemory-clause-leaves g c = leaves_at g.D.Disk.meaning (disk_of c.args.self.now) (disk_of c.args.self.now) _ refl no_memory_is
 
 pub take_room-requires : goal.take_room-requires
 take_room-requires g c = record { prepared = c.in-Ok.ensures.decides.prepared }
@@ -64,11 +79,12 @@ returns-in_default-clause-ready g c = λ no.
     ready_on g.D.Disk.meaning st (standing_of c.take_room.new.self) (disk_of c.args.self.now) (disk_of c.take_room.new.self)
     (c.take_room.ensures.standing ∙ same_system st _ c.decide.ensures.rows) c.take_room.ensures.disk c.requires.ready
 
-pub returns-in_default-clause-device : goal.returns-in_default-clause-device
-returns-in_default-clause-device g c = c.take_room.ensures.disk
+pub returns-in_default-clause-writes : goal.returns-in_default-clause-writes
+returns-in_default-clause-writes g c = c.take_room.ensures.disk
 
-pub returns-in_default-clause-spare : goal.returns-in_default-clause-spare
-returns-in_default-clause-spare g c = λ tells. keeps_at g.D.Disk.meaning (disk_of c.args.self.now) (disk_of c.take_room.new.self) c.take_room.ensures.disk
+pub returns-in_default-clause-leaves : goal.returns-in_default-clause-leaves
+returns-in_default-clause-leaves g c =
+    leaves_at g.D.Disk.meaning (disk_of c.args.self.now) (disk_of c.take_room.new.self) _ c.take_room.ensures.disk no_memory_is
 
 -- ---- the record is written
 
@@ -112,23 +128,20 @@ returns-in-Ok-record-clause-answer g c =
 pub returns-in-Ok-record-clause-ready : goal.returns-in-Ok-record-clause-ready
 returns-in-Ok-record-clause-ready g c = λ no. c.in-Ok-record.ensures.ready (done_is c.in-Ok-record.reply)
 
-pub returns-in-Ok-record-clause-device : goal.returns-in-Ok-record-clause-device
-returns-in-Ok-record-clause-device g c =
+pub returns-in-Ok-record-clause-writes : goal.returns-in-Ok-record-clause-writes
+returns-in-Ok-record-clause-writes g c =
     let m = g.D.Disk.meaning in
     let st = standing_of c.args.self.now in
     let after = disk_of c.record.new.self in
-    let is = c.take_room.ensures.standing ∙ same_system st _ c.decide.ensures.rows in (
-      subst (λ d. IsQuiet m d after) c.take_room.ensures.disk (c.in-Ok-record.ensures.faults.quiet (done_is c.in-Ok-record.reply)),
-      writes_behind st c.args.moment c.args.node c.args.request.now c.decide.new.image c.in-Ok.decision c.requires.can c.in-Ok.ensures.decides m
-          (standing_of c.take_room.new.self) (disk_of c.args.self.now) (disk_of c.take_room.new.self) after is c.take_room.ensures.disk c.record.ensures.writes,
-    )
+    let is = c.take_room.ensures.standing ∙ same_system st _ c.decide.ensures.rows in
+    writes_behind st c.args.moment c.args.node c.args.request.now c.decide.new.image c.in-Ok.decision c.requires.can c.in-Ok.ensures.decides m
+    (standing_of c.take_room.new.self) (disk_of c.args.self.now) (disk_of c.take_room.new.self) after is c.take_room.ensures.disk c.record.ensures.writes
 
-pub returns-in-Ok-record-clause-spare : goal.returns-in-Ok-record-clause-spare
-returns-in-Ok-record-clause-spare g c = λ tells.
+pub returns-in-Ok-record-clause-leaves : goal.returns-in-Ok-record-clause-leaves
+returns-in-Ok-record-clause-leaves g c =
     let m = g.D.Disk.meaning in
-    let st = standing_of c.args.self.now in
-    record_keeps m st.recorded (standing_of c.take_room.new.self).recorded (disk_of c.args.self.now) (disk_of c.take_room.new.self) (disk_of c.record.new.self)
-    (ap (λ (x : Standing). x.recorded) c.take_room.ensures.standing) c.take_room.ensures.disk (c.requires.ready.at_rest tells).holds c.record.ensures.writes.others
+    leaves_from m (disk_of c.args.self.now) (disk_of c.take_room.new.self) (disk_of c.record.new.self) _ c.take_room.ensures.disk
+    (leaves_so m (disk_of c.take_room.new.self) (disk_of c.record.new.self) _ _ (λ is. absurd (done_is c.in-Ok-record.reply is)) (λ is. absurd (asked_is _ is)) c.in-Ok-record.ensures.leaves)
 
 pub returns-in-Err-Full-clause-answer : goal.returns-in-Err-Full-clause-answer
 returns-in-Err-Full-clause-answer g c =
@@ -146,15 +159,15 @@ returns-in-Err-Full-clause-ready g c = λ no.
     let e = rw c.in-Err-Full.field-0-is at c.in-Err-Full.ensures in
     e.ready (full_is c.in-Err-Full.need c.in-Err-Full.cap)
 
-pub returns-in-Err-Full-clause-device : goal.returns-in-Err-Full-clause-device
-returns-in-Err-Full-clause-device g c =
+pub returns-in-Err-Full-clause-writes : goal.returns-in-Err-Full-clause-writes
+returns-in-Err-Full-clause-writes g c =
     let e = rw c.in-Err-Full.field-0-is at c.in-Err-Full.ensures in
     e.full ∙ c.take_room.ensures.disk
 
-pub returns-in-Err-Full-clause-spare : goal.returns-in-Err-Full-clause-spare
-returns-in-Err-Full-clause-spare g c = λ tells.
+pub returns-in-Err-Full-clause-leaves : goal.returns-in-Err-Full-clause-leaves
+returns-in-Err-Full-clause-leaves g c =
     let e = rw c.in-Err-Full.field-0-is at c.in-Err-Full.ensures in
-    keeps_at g.D.Disk.meaning (disk_of c.args.self.now) (disk_of c.record.new.self) (e.full ∙ c.take_room.ensures.disk)
+    leaves_at g.D.Disk.meaning (disk_of c.args.self.now) (disk_of c.record.new.self) _ (e.full ∙ c.take_room.ensures.disk) (ask_full_is _ _)
 
 pub returns-clause-answer : goal.returns-clause-answer
 returns-clause-answer g c =
@@ -169,21 +182,18 @@ returns-clause-answer g c =
 pub returns-clause-ready : goal.returns-clause-ready
 returns-clause-ready g c = λ no. absurd (no refl)
 
-pub returns-clause-device : goal.returns-clause-device
-returns-clause-device g c =
+pub returns-clause-writes : goal.returns-clause-writes
+returns-clause-writes g c =
     let m = g.D.Disk.meaning in
     let st = standing_of c.args.self.now in
     let after = disk_of c.record.new.self in
     let is = c.take_room.ensures.standing ∙ same_system st _ c.decide.ensures.rows in
-    let e = rw c.in-Err-Disk.field-0-is at c.in-Err-Disk.ensures in (
-      subst (λ d. OneFailed m d after) c.take_room.ensures.disk (e.faults.fault refl),
-      writes_behind st c.args.moment c.args.node c.args.request.now c.decide.new.image c.in-Ok.decision c.requires.can c.in-Ok.ensures.decides m
-          (standing_of c.take_room.new.self) (disk_of c.args.self.now) (disk_of c.take_room.new.self) after is c.take_room.ensures.disk c.record.ensures.writes,
-    )
+    writes_behind st c.args.moment c.args.node c.args.request.now c.decide.new.image c.in-Ok.decision c.requires.can c.in-Ok.ensures.decides m
+    (standing_of c.take_room.new.self) (disk_of c.args.self.now) (disk_of c.take_room.new.self) after is c.take_room.ensures.disk c.record.ensures.writes
 
-pub returns-clause-spare : goal.returns-clause-spare
-returns-clause-spare g c = λ tells.
+pub returns-clause-leaves : goal.returns-clause-leaves
+returns-clause-leaves g c =
     let m = g.D.Disk.meaning in
-    let st = standing_of c.args.self.now in
-    record_keeps m st.recorded (standing_of c.take_room.new.self).recorded (disk_of c.args.self.now) (disk_of c.take_room.new.self) (disk_of c.record.new.self)
-    (ap (λ (x : Standing). x.recorded) c.take_room.ensures.standing) c.take_room.ensures.disk (c.requires.ready.at_rest tells).holds c.record.ensures.writes.others
+    let e = rw c.in-Err-Disk.field-0-is at c.in-Err-Disk.ensures in
+    leaves_from m (disk_of c.args.self.now) (disk_of c.take_room.new.self) (disk_of c.record.new.self) _ c.take_room.ensures.disk
+    (leaves_so m (disk_of c.take_room.new.self) (disk_of c.record.new.self) _ _ (λ is. refl) (λ is. refl) e.leaves)

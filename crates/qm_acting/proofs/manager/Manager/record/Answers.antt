@@ -1,4 +1,5 @@
-use Rattle.std.proofs.Common.{length, ◌<◌, ◌∙◌, ◌≤◌, ℕ, List, refl, sym, ap, subst}
+use Rattle.std.proofs.Common.{Ok, length, ◌<◌, ◌∙◌, ◌≤◌, ℕ, List, refl, sym, ap, subst, IsErrOf}
+use Rattle.qm_store.specs.declared.fault.AppendFault.TheVariants as AppendFault
 use Rattle.qm_store.specs.Database.{open_disk, spare_of}
 use Rattle.qm_store.specs.Recorded.{Recorded, with_body}
 use Rattle.qm_model.specs.Outcome.{Accepted}
@@ -7,6 +8,9 @@ use Rattle.qm_image.specs.Image.{system_of}
 use Rattle.qm_acting.specs.Asking.{need_with, Writes}
 use Rattle.qm_acting.specs.Standing.{disk_of, standing_of}
 use Rattle.qm_acting.proofs.Decided.{ready_on}
+use Rattle.qm_acting.proofs.Leaving.{leaves_at}
+use Rattle.qm_acting.proofs.Spare.{append_keeps}
+use Rattle.qm_acting.proofs.Taken.{done_is, full_is}
 use Rattle.qm_acting.proofs.manager.Manager.record.Goals as goal
 
 pub append-requires-clause-at_rest : goal.append-requires-clause-at_rest
@@ -102,3 +106,29 @@ returns-in-Err-Disk-clause-answer g c =
     let st = standing_of c.args.self.now in
     let e = rw c.in-Err-Disk.field-0-is at c.in-Err-Disk.ensures in
     (subst (λ (text : List ℕ). need_with st.recorded text ≤ st.recorded.says.cap) c.deref.ensures.value e.answer.1, ap (λ (x : Recorded). record { system = st.system; recorded = x }) e.answer.2)
+
+-- ---- the count of faults, and the other queue file
+
+appended_is : (done : Unit {0}) → IsErrOf {T = Unit {0}} (Ok done) AppendFault.Disk → ⊥
+appended_is done is = cc
+
+pub returns-in-Ok-clause-leaves : goal.returns-in-Ok-clause-leaves
+returns-in-Ok-clause-leaves g c = record {
+  faults = record { fault = λ is. absurd (done_is c.commit.result is); quiet = λ none. c.in-Ok.ensures.faults.quiet (appended_is c.in-Ok.field-0) };
+  spare = λ tells.
+      append_keeps g.D.Disk.meaning (standing_of c.args.self.now).recorded (disk_of c.args.self.now) (open_disk c.append.new.self) (c.requires.ready.at_rest tells).holds c.append.ensures.others;
+}
+
+pub returns-in-Err-Full-clause-leaves : goal.returns-in-Err-Full-clause-leaves
+returns-in-Err-Full-clause-leaves g c =
+    let e = rw c.in-Err-Full.field-0-is at c.in-Err-Full.ensures in
+    leaves_at g.D.Disk.meaning (disk_of c.args.self.now) (open_disk c.append.new.self) _ e.answer.4.disk (full_is _ _)
+
+pub returns-in-Err-Disk-clause-leaves : goal.returns-in-Err-Disk-clause-leaves
+returns-in-Err-Disk-clause-leaves g c =
+    let e = rw c.in-Err-Disk.field-0-is at c.in-Err-Disk.ensures in
+    record {
+      faults = record { fault = λ is. e.faults.fault refl; quiet = λ none. absurd (none refl) };
+      spare = λ tells.
+          append_keeps g.D.Disk.meaning (standing_of c.args.self.now).recorded (disk_of c.args.self.now) (open_disk c.append.new.self) (c.requires.ready.at_rest tells).holds c.append.ensures.others;
+    }

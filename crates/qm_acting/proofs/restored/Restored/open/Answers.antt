@@ -28,12 +28,18 @@ returns-in-Ok-clause-any_moment g c = λ told. c.in-Ok.ensures.any_moment told (
 pub returns-in-Err-clause-any_moment : goal.returns-in-Err-clause-any_moment
 returns-in-Err-clause-any_moment g c = λ told. c.in-Err.ensures.any_moment told (c.requires.early told)
 
-pub returns-in-Ok-clause-spare : goal.returns-in-Ok-clause-spare
-returns-in-Ok-clause-spare g c = λ told.
-    opening_keeps g.D.Disk.meaning g.met.D.Disk.counts_now (λ disk f le. g.met.D.Disk.reads_a_crash_state disk f told le) (restored_standing c.args.self).recorded c.args.tried c.args.node
-    (restored_disk c.args.self) (open_disk c.in-Ok.store) (c.requires.restored.at_rest told).holds (c.in-Ok.ensures.any_moment told (c.requires.early told)) c.in-Ok.ensures.others
+pub returns-in-Ok-clause-leaves : goal.returns-in-Ok-clause-leaves
+returns-in-Ok-clause-leaves g c = record {
+  faults = c.in-Ok.ensures.faults;
+  spare = λ told.
+      opening_keeps g.D.Disk.meaning g.met.D.Disk.counts_now (λ disk f le. g.met.D.Disk.reads_a_crash_state disk f told le) (restored_standing c.args.self).recorded c.args.tried c.args.node
+      (restored_disk c.args.self) (open_disk c.in-Ok.store) (c.requires.restored.at_rest told).holds (c.in-Ok.ensures.any_moment told (c.requires.early told)) c.in-Ok.ensures.others;
+}
 
-pub returns-in-Err-clause-spare : goal.returns-in-Err-clause-spare
-returns-in-Err-clause-spare g c = λ told.
-    opening_keeps g.D.Disk.meaning g.met.D.Disk.counts_now (λ disk f le. g.met.D.Disk.reads_a_crash_state disk f told le) (restored_standing c.args.self).recorded c.args.tried c.args.node
-    (restored_disk c.args.self) _ (c.requires.restored.at_rest told).holds (c.in-Err.ensures.any_moment told (c.requires.early told)) c.in-Err.ensures.others
+pub returns-in-Err-clause-leaves : goal.returns-in-Err-clause-leaves
+returns-in-Err-clause-leaves g c = record {
+  faults = c.in-Err.ensures.faults;
+  spare = λ told.
+      opening_keeps g.D.Disk.meaning g.met.D.Disk.counts_now (λ disk f le. g.met.D.Disk.reads_a_crash_state disk f told le) (restored_standing c.args.self).recorded c.args.tried c.args.node
+      (restored_disk c.args.self) _ (c.requires.restored.at_rest told).holds (c.in-Err.ensures.any_moment told (c.requires.early told)) c.in-Err.ensures.others;
+}

@@ -3,16 +3,14 @@ use Rattle.qm_store.specs.Database.{disk_of as closed_disk}
 use Rattle.qm_store.specs.Opening.{next_need}
 use Rattle.qm_store.specs.Recorded.{epoch_behind}
 use Rattle.qm_store.specs.declared.files.TheConstants.{MASTER_CAP}
-use Rattle.qm_disk.specs.Faults.{Tells}
 use Rattle.qm_image.specs.Preparing.{IsPrepared}
 use Rattle.qm_image.specs.declared.image.Image.{Image}
 use Rattle.qm_acting.specs.Asking.{text_of}
 use Rattle.qm_acting.specs.Standing.{Standing, standing_of, disk_of, restored_standing, restored_disk}
-use Rattle.qm_acting.specs.Taking.{in_next, IsDiskFault, FailLeaves, TakesNot}
-use Rattle.qm_acting.specs.Spare.{KeepsSpare}
+use Rattle.qm_acting.specs.Taking.{in_next, FailLeaves, TakesNot}
 use Rattle.qm_acting.proofs.Decided.{ready_on}
-use Rattle.qm_acting.proofs.Spare.{append_keeps, keeps_at, keeps_on}
-use Rattle.qm_acting.proofs.Taken.{epoch_faults, epoch_moments, moments_before, site_in_next, does_in_next, taken_moments, record_moments, record_told, record_faults, faults_behind, done_is}
+use Rattle.qm_acting.proofs.Leaving.{leaves_at, leaves_from, leaves_on, leaves_so, leaves_to}
+use Rattle.qm_acting.proofs.Taken.{epoch_disk, epoch_moments, moments_before, site_in_next, does_in_next, taken_moments, record_moments, record_told, record_disk, done_is}
 use Rattle.qm_acting.proofs.restored.Restored.take_over.Goals as goal
 
 pub decide-requires-clause-restored : goal.decide-requires-clause-restored
@@ -29,13 +27,6 @@ returns-in_default-clause-answer g c = c.close.ensures ∙ c.decide.ensures.disk
 
 pub returns-in_default-clause-any_moment : goal.returns-in_default-clause-any_moment
 returns-in_default-clause-any_moment g c = λ told. tt
-
-pub returns-in_default-clause-spare : goal.returns-in_default-clause-spare
-returns-in_default-clause-spare g c = λ told.
-    keeps_at g.D.Disk.meaning (restored_disk c.args.self) (closed_disk c.close.result) (c.close.ensures ∙ c.decide.ensures.disk)
-
-pub returns-in_default-clause-faults : goal.returns-in_default-clause-faults
-returns-in_default-clause-faults g c = record { fault = λ is. absurd is; quiet = λ not. ap g.D.Disk.meaning.faults (c.close.ensures ∙ c.decide.ensures.disk) }
 
 pub open-requires-clause-tried : goal.open-requires-clause-tried
 open-requires-clause-tried g c = c.requires.tried
@@ -59,14 +50,6 @@ pub record-requires-clause-room : goal.record-requires-clause-room
 record-requires-clause-room g c =
     subst (λ n. length c.in-Ok.decision.body.items < n) (sym c.in-Ok-open.ensures.answer.spare) c.in-Ok.ensures.room
 
-pub returns-in-Ok-record-clause-faults : goal.returns-in-Ok-record-clause-faults
-returns-in-Ok-record-clause-faults g c =
-    record {
-      fault = λ is. absurd is;
-      quiet = λ not.
-          c.in-Ok-record.ensures.faults.quiet (done_is c.in-Ok-record.reply) ∙ (c.in-Ok-open.ensures.faults.quiet (λ no. no) ∙ ap g.D.Disk.meaning.faults c.decide.ensures.disk);
-    }
-
 pub returns-in-Err-clause-any_moment : goal.returns-in-Err-clause-any_moment
 returns-in-Err-clause-any_moment g c = λ told.
     let m = g.D.Disk.meaning in
@@ -75,12 +58,6 @@ returns-in-Err-clause-any_moment g c = λ told.
     c.in-Err.fault c.opening_fault.result c.opening_fault.ensures
     (moments_before m 0 c.args.tried c.args.node (restored_disk c.args.self) (restored_disk c.decide.new.self) (closed_disk c.in-Err.closed) st (restored_standing c.decide.new.self)
     c.decide.ensures.disk c.decide.ensures.standing (c.in-Err.ensures.any_moment told))
-
-pub returns-in-Err-clause-faults : goal.returns-in-Err-clause-faults
-returns-in-Err-clause-faults g c =
-    let m = g.D.Disk.meaning in
-    epoch_faults (m.faults (restored_disk c.args.self)) (m.faults (closed_disk c.in-Err.closed)) c.in-Err.fault c.opening_fault.result c.opening_fault.ensures
-    (faults_behind _ (m.faults (restored_disk c.args.self)) (m.faults (restored_disk c.decide.new.self)) (m.faults (closed_disk c.in-Err.closed)) (ap m.faults c.decide.ensures.disk) c.in-Err.ensures.faults)
 
 pub record-requires-clause-goes_on : goal.record-requires-clause-goes_on
 record-requires-clause-goes_on g c =
@@ -139,31 +116,31 @@ returns-in-Err-record-clause-any_moment g c = λ told.
     (moments_before m 0 c.args.tried c.args.node (restored_disk c.args.self) (restored_disk c.decide.new.self) (disk_of c.in-Ok-open.manager) st (restored_standing c.decide.new.self)
     c.decide.ensures.disk c.decide.ensures.standing (c.in-Ok-open.ensures.any_moment told)) c.in-Err-record.ensures.writes c.in-Err-record.ensures.full)
 
-pub returns-in-Err-record-clause-faults : goal.returns-in-Err-record-clause-faults
-returns-in-Err-record-clause-faults g c =
+-- ---- the count of faults, and the other queue file
+
+pub returns-in_default-clause-leaves : goal.returns-in_default-clause-leaves
+returns-in_default-clause-leaves g c =
+    leaves_at g.D.Disk.meaning (restored_disk c.args.self) (closed_disk c.close.result) _ (c.close.ensures ∙ c.decide.ensures.disk) (λ is. is)
+
+pub returns-in-Err-clause-leaves : goal.returns-in-Err-clause-leaves
+returns-in-Err-clause-leaves g c =
     let m = g.D.Disk.meaning in
-    subst (λ d. Tells (m.faults (restored_disk c.args.self)) (m.faults d) (IsDiskFault c.record_fault.result)) (sym c.close-in-Err-record.ensures)
-    (record_faults (m.faults (restored_disk c.args.self)) (m.faults (disk_of c.record.new.self)) c.in-Err-record.fault c.record_fault.result c.record_fault.ensures
-    (faults_behind _ (m.faults (restored_disk c.args.self)) (m.faults (disk_of c.in-Ok-open.manager)) (m.faults (disk_of c.record.new.self))
-    (c.in-Ok-open.ensures.faults.quiet (λ no. no) ∙ ap m.faults c.decide.ensures.disk) c.in-Err-record.ensures.faults))
+    epoch_disk m (restored_disk c.args.self) (closed_disk c.in-Err.closed) c.in-Err.fault c.opening_fault.result c.opening_fault.ensures
+    (leaves_from m (restored_disk c.args.self) (restored_disk c.decide.new.self) (closed_disk c.in-Err.closed) _ c.decide.ensures.disk c.in-Err.ensures.leaves)
 
-pub returns-in-Err-clause-spare : goal.returns-in-Err-clause-spare
-returns-in-Err-clause-spare g c = λ told.
-    subst (λ d. KeepsSpare g.D.Disk.meaning d (closed_disk c.in-Err.closed)) c.decide.ensures.disk (c.in-Err.ensures.spare told)
-
-pub returns-in-Ok-record-clause-spare : goal.returns-in-Ok-record-clause-spare
-returns-in-Ok-record-clause-spare g c = λ told.
-    let m = g.D.Disk.meaning in
-    let mid = disk_of c.in-Ok-open.manager in
-    keeps_on m (restored_disk c.args.self) mid (disk_of c.record.new.self)
-    (subst (λ d. KeepsSpare m d mid) c.decide.ensures.disk (c.in-Ok-open.ensures.spare told))
-    (append_keeps m (standing_of c.in-Ok-open.manager).recorded mid (disk_of c.record.new.self) (c.in-Ok-open.ensures.answer.ready.at_rest told).holds c.in-Ok-record.ensures.writes.others)
-
-pub returns-in-Err-record-clause-spare : goal.returns-in-Err-record-clause-spare
-returns-in-Err-record-clause-spare g c = λ told.
+pub returns-in-Ok-record-clause-leaves : goal.returns-in-Ok-record-clause-leaves
+returns-in-Ok-record-clause-leaves g c =
     let m = g.D.Disk.meaning in
     let mid = disk_of c.in-Ok-open.manager in
-    subst (λ d. KeepsSpare m (restored_disk c.args.self) d) (sym c.close-in-Err-record.ensures)
-    (keeps_on m (restored_disk c.args.self) mid (disk_of c.record.new.self)
-    (subst (λ d. KeepsSpare m d mid) c.decide.ensures.disk (c.in-Ok-open.ensures.spare told))
-    (append_keeps m (standing_of c.in-Ok-open.manager).recorded mid (disk_of c.record.new.self) (c.in-Ok-open.ensures.answer.ready.at_rest told).holds c.in-Err-record.ensures.writes.others))
+    leaves_so m (restored_disk c.args.self) (disk_of c.record.new.self) _ _ (done_is c.in-Ok-record.reply) (λ is. absurd is)
+    (leaves_on m (restored_disk c.args.self) mid (disk_of c.record.new.self) _ _ (λ no. no)
+    (leaves_from m (restored_disk c.args.self) (restored_disk c.decide.new.self) mid _ c.decide.ensures.disk c.in-Ok-open.ensures.leaves) c.in-Ok-record.ensures.leaves)
+
+pub returns-in-Err-record-clause-leaves : goal.returns-in-Err-record-clause-leaves
+returns-in-Err-record-clause-leaves g c =
+    let m = g.D.Disk.meaning in
+    let mid = disk_of c.in-Ok-open.manager in
+    leaves_to m (restored_disk c.args.self) (disk_of c.record.new.self) _ _ c.close-in-Err-record.ensures
+    (record_disk m (restored_disk c.args.self) (disk_of c.record.new.self) c.in-Err-record.fault c.record_fault.result c.record_fault.ensures
+    (leaves_on m (restored_disk c.args.self) mid (disk_of c.record.new.self) _ _ (λ no. no)
+    (leaves_from m (restored_disk c.args.self) (restored_disk c.decide.new.self) mid _ c.decide.ensures.disk c.in-Ok-open.ensures.leaves) c.in-Err-record.ensures.leaves))

@@ -1,5 +1,4 @@
-use Rattle.std.proofs.Common.{◌≡◌, ◌∙◌, ap, ◌≤◌, ◌++◌, ◌∷◌, [], List, ℕ, length, take, drop, vec_len, rules, arith}
-use Rattle.std.proofs.lemmas.List.{take_at, drop_at}
+use Rattle.std.proofs.Common.{◌≡◌, ◌∙◌, ap, ◌≤◌, ◌++◌, ◌∷◌, [], List, ℕ, length, take, drop, vec_len, rules, arith, take_at, drop_at}
 use Rattle.qm_glog.specs.Bodies.{list_of}
 use Rattle.qm_glog.proofs.Cut.{AreEnds-on, list_on}
 use Rattle.qm_glog.proofs.bodies.Bodies.push_reserved.Goals as goal

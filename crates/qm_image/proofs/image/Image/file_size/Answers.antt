@@ -1,5 +1,4 @@
-use Rattle.std.proofs.Common.{◌∙◌, ap, sym}
-use Rattle.std.specs.Option.{option_copied}
+use Rattle.std.proofs.Common.{◌∙◌, ap, sym, option_copied}
 use Rattle.qm_image.proofs.Accepting.{bytes_fit}
 use Rattle.qm_image.proofs.image.Image.file_size.Goals as goal
 

@@ -1,6 +1,4 @@
-use Rattle.std.proofs.Common.{◌∙◌, ap, sym}
-use Rattle.std.specs.Prelude.{is_some}
-use Rattle.std.specs.Option.{option_copied}
+use Rattle.std.proofs.Common.{◌∙◌, ap, sym, is_some, option_copied}
 use Rattle.qm_model.specs.Find.{file_named}
 use Rattle.qm_image.proofs.Accepting.{is_there}
 use Rattle.qm_image.proofs.image.Image.has_file.Goals as goal

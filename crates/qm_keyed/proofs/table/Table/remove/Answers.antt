@@ -1,5 +1,4 @@
-use Rattle.std.proofs.Common.{Some, not, refl, sym, ap, ◌∙◌, arith}
-use Rattle.std.specs.List.{filter}
+use Rattle.std.proofs.Common.{Some, not, refl, sym, ap, ◌∙◌, arith, filter}
 use Rattle.qm_keyed.specs.Places.{StandsAt, BelongsAt}
 use Rattle.qm_keyed.specs.Rows.{Rows}
 use Rattle.qm_keyed.proofs.Keys.{Keys, found, absent, removed, kept, rows_are}

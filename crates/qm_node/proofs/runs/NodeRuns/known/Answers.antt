@@ -1,5 +1,4 @@
-use Rattle.std.proofs.Common.{◌∙◌, ℕ, List, subst, sym}
-use Rattle.std.specs.Ordering.{nat_cmp}
+use Rattle.std.proofs.Common.{◌∙◌, ℕ, List, subst, sym, nat_cmp}
 use Rattle.qm_model.specs.Consistent.{IsInOrder}
 use Rattle.qm_node.proofs.Rows.{known_bare, numbers_rise}
 use Rattle.qm_node.proofs.Stepped.{when_ok}

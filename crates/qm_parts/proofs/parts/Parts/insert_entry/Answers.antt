@@ -1,5 +1,4 @@
-use Rattle.std.proofs.Common.{◌<◌, ◌-◌, ◌++◌, ◌∷◌, [], List, None, ap, arith, length, subst, sym, ◌∙◌}
-use Rattle.std.specs.List.{All}
+use Rattle.std.proofs.Common.{◌<◌, ◌-◌, ◌++◌, ◌∷◌, [], List, None, ap, arith, length, subst, sym, ◌∙◌, All}
 use Rattle.qm_ready.specs.Rows.{Row}
 use Rattle.qm_parts.specs.Ready.{AreStale}
 use Rattle.qm_parts.specs.Rooms.{AreBounds, HavePlacesFor, HaveRoom, leads_to, rooms_of}

@@ -1,6 +1,5 @@
 use Rattle.std.proofs.Common.{◌-◌, ◌≤◌, Bool, true, false, cond, is_some, ℕ, List, ap, arith, length, subst, sym, ◌∙◌}
-use Rattle.qm_kinds.specs.declared.queue.Queue.{Queue}
-use Rattle.qm_model.specs.Find.{queue_named}
+use Rattle.qm_model.specs.Common.{Queue, queue_named}
 use Rattle.qm_parts.specs.Rooms.{CanPut, HaveRoom, rooms_of}
 use Rattle.qm_parts.specs.Tables.{Tables}
 use Rattle.qm_parts.proofs.Bounds.{unknown_bounds}

@@ -1,4 +1,4 @@
-use Rattle.qm_timers.specs.Timers.{later_than}
+use Rattle.qm_tables.specs.Timers.{later_than}
 use Rattle.qm_parts.proofs.KeptTimers.{kept_timers}
 use Rattle.qm_parts.proofs.parts.Parts.remove_due_timers.Goals as goal
 

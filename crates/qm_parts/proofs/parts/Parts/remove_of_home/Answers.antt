@@ -1,8 +1,7 @@
 use Rattle.qm_parts.proofs.KeptRows.{kept_by, enough_for, room_for}
 use Rattle.qm_parts.proofs.Reach.{some_stay}
 use Rattle.qm_parts.specs.Tables.{Tables}
-use Rattle.std.proofs.Common.{ap, arith, not}
-use Rattle.std.specs.Str.{bytes_eq}
+use Rattle.std.proofs.Common.{ap, arith, not, bytes_eq}
 use Rattle.qm_parts.proofs.parts.Parts.remove_of_home.Goals as goal
 
 pub refill_all-requires-clause-enough : goal.refill_all-requires-clause-enough

@@ -1,9 +1,6 @@
-use Rattle.std.proofs.Common.{◌≡◌, ap, arith, false, length, subst, sym, Some, Option, ◌∙◌}
-use Rattle.std.specs.Prelude.{IfSome}
-use Rattle.std.specs.Str.{bytes_eq}
+use Rattle.std.proofs.Common.{◌≡◌, ap, arith, false, length, subst, sym, Some, Option, ◌∙◌, IfSome, bytes_eq}
 use Rattle.qm_match.specs.declared.order.Key.{Key}
-use Rattle.qm_model.specs.Find.{entry_numbered}
-use Rattle.qm_model.specs.Standing.{with_entry}
+use Rattle.qm_model.specs.Common.{entry_numbered, with_entry}
 use Rattle.qm_parts.specs.Ready.{AreStale}
 use Rattle.qm_parts.specs.Rooms.{AreBounds, HavePlacesFor, HaveRoom, rooms_of}
 use Rattle.qm_parts.specs.Tables.{Tables}

@@ -1,8 +1,7 @@
 use Rattle.std.proofs.Common.{List, is_some, sym, ap, subst}
 use Rattle.qm_keyed.specs.Places.{StandsAt, BelongsAt}
-use Rattle.qm_kinds.specs.declared.queue.Queue.{Queue}
-use Rattle.qm_model.specs.Find.{name_cmp}
-use Rattle.qm_queues.proofs.QueueNames.{name_of}
+use Rattle.qm_model.specs.Common.{Queue, name_cmp}
+use Rattle.qm_tables.proofs.QueueNames.{name_of}
 use Rattle.qm_parts.specs.Ready.{ready_key}
 use Rattle.qm_parts.proofs.KeptRows.{is_named, none_named, row_of_named}
 use Rattle.qm_parts.proofs.parts.Parts.row_named.Goals as goal

@@ -1,4 +1,4 @@
-use Rattle.qm_queues.specs.Settings.{with_settings_and_state}
+use Rattle.qm_tables.specs.Settings.{with_settings_and_state}
 use Rattle.qm_parts.proofs.KeptRows.{kept_by, enough_for, room_for}
 use Rattle.qm_parts.proofs.OneQueue.{one_changed, one_name, one_targets}
 use Rattle.qm_parts.proofs.Reach.{queues_stay}

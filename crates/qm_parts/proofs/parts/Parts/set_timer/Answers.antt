@@ -1,4 +1,4 @@
-use Rattle.qm_timers.specs.Timers.{with_timer}
+use Rattle.qm_tables.specs.Timers.{with_timer}
 use Rattle.qm_parts.proofs.KeptTimers.{kept_timers}
 use Rattle.qm_parts.proofs.parts.Parts.set_timer.Goals as goal
 

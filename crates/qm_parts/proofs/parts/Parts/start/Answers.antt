@@ -1,5 +1,4 @@
-use Rattle.qm_kinds.specs.declared.entry.Entry.{Entry}
-use Rattle.qm_kinds.specs.declared.entry.EntryState.TheVariants.{Running}
+use Rattle.qm_model.specs.Common.{Entry, Running}
 use Rattle.qm_parts.proofs.KeptRows.{kept_by}
 use Rattle.qm_parts.proofs.Reach.{home_stays}
 use Rattle.qm_parts.proofs.ReadyRows.{started_rows}

@@ -1,5 +1,4 @@
-use Rattle.std.proofs.Common.{ℕ, List, ap, subst}
-use Rattle.std.specs.Result.{OnOk}
+use Rattle.std.proofs.Common.{ℕ, List, ap, subst, OnOk}
 use Rattle.qm_parts.specs.Rooms.{HasRoomWhere, is_one_of, rooms_of}
 use Rattle.qm_parts.specs.Tables.{Tables}
 use Rattle.qm_parts.proofs.KeptRows.{kept_wider}

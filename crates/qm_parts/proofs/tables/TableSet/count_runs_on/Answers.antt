@@ -1,6 +1,5 @@
 use Rattle.std.proofs.Common.{◌∙◌}
-use Rattle.qm_kinds.specs.declared.run.Run.{Run}
-use Rattle.qm_model.specs.Find.{is_among}
+use Rattle.qm_model.specs.Common.{Run, is_among}
 use Rattle.qm_parts.specs.Nodes.{is_run_on_one}
 use Rattle.qm_parts.proofs.Mirrored.{count_as, run_on_one}
 use Rattle.qm_parts.proofs.tables.TableSet.count_runs_on.Goals as goal

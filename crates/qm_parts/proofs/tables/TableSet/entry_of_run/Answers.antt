@@ -1,5 +1,4 @@
-use Rattle.std.proofs.Common.{sym, ◌∙◌}
-use Rattle.std.specs.Str.{bytes_eq}
+use Rattle.std.proofs.Common.{sym, ◌∙◌, bytes_eq}
 use Rattle.std.proofs.lemmas.Bool.{not-true, not-false}
 use Rattle.qm_parts.proofs.Asked.{no_such_run, on_another_node, on_the_node}
 use Rattle.qm_parts.proofs.tables.TableSet.entry_of_run.Goals as goal

@@ -1,5 +1,4 @@
-use Rattle.std.proofs.Common.{◌≡◌, ◌∙◌, Option, None, Some, is_some, Bor, refl, ap}
-use Rattle.std.specs.Option.{option_copied}
+use Rattle.std.proofs.Common.{◌≡◌, ◌∙◌, Option, None, Some, is_some, Bor, refl, ap, option_copied}
 use Rattle.std.specs.List.{list_any}
 use Rattle.qm_model.specs.Standing.{has_run}
 use Rattle.qm_parts.specs.Tables.{Tables}

@@ -1,8 +1,6 @@
-use Rattle.std.proofs.Common.{nat_lt, ap, ◌∙◌}
+use Rattle.std.proofs.Common.{nat_lt, ap, ◌∙◌, bytes_eq}
 use Rattle.std.specs.List.{list_any}
-use Rattle.std.specs.Str.{bytes_eq}
-use Rattle.qm_kinds.specs.declared.run.Run.{Run}
-use Rattle.qm_model.specs.Standing.{occupies}
+use Rattle.qm_model.specs.Common.{Run, occupies}
 use Rattle.qm_parts.specs.Tables.{Tables}
 use Rattle.qm_parts.proofs.Counts.{any_counted}
 use Rattle.qm_parts.proofs.Mirrored.{count_as, in_queue}

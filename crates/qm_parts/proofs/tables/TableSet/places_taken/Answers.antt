@@ -1,8 +1,5 @@
-use Rattle.std.proofs.Common.{ap, ◌∙◌}
-use Rattle.std.specs.Str.{bytes_eq}
-use Rattle.qm_kinds.specs.declared.run.Run.{Run}
-use Rattle.qm_model.specs.Free.{places_taken}
-use Rattle.qm_model.specs.Standing.{occupies}
+use Rattle.std.proofs.Common.{ap, ◌∙◌, bytes_eq}
+use Rattle.qm_model.specs.Common.{Run, places_taken, occupies}
 use Rattle.qm_parts.specs.Tables.{Tables}
 use Rattle.qm_parts.proofs.Mirrored.{count_as, in_queue}
 use Rattle.qm_parts.proofs.tables.TableSet.places_taken.Goals as goal

@@ -1,6 +1,5 @@
 use Rattle.std.proofs.Common.{◌≡◌, ◌∙◌, List, Some, sym, ap}
-use Rattle.qm_kinds.specs.declared.queue.Queue.{Queue}
-use Rattle.qm_model.specs.Find.{queue_named}
+use Rattle.qm_model.specs.Common.{Queue, queue_named}
 use Rattle.qm_parts.specs.Tables.{Tables}
 use Rattle.qm_parts.proofs.KeptRows.{named_at, none_named}
 use Rattle.qm_parts.proofs.tables.TableSet.queue.Goals as goal

@@ -1,5 +1,5 @@
 use Rattle.std.proofs.Common.{ap, ◌∙◌, ◌≡◌, sym, subst, find, None}
-use Rattle.qm_entries.specs.Entries.{Kept}
+use Rattle.qm_tables.specs.Entries.{Kept}
 use Rattle.qm_model.specs.Queues.{runs_for}
 use Rattle.qm_parts.specs.Tables.{Tables}
 use Rattle.qm_parts.specs.Mirror.{runs_of}

@@ -1,5 +1,5 @@
 use Rattle.std.proofs.Common.{ap, ◌∙◌}
-use Rattle.qm_entries.specs.Entries.{Kept}
+use Rattle.qm_tables.specs.Entries.{Kept}
 use Rattle.qm_parts.specs.Mirror.{runs_of}
 use Rattle.qm_parts.proofs.Swept.{still_mirrors, runs_without_over}
 use Rattle.qm_parts.proofs.tables.TableSet.remove_over.Goals as goal

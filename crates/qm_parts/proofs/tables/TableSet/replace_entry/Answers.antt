@@ -1,7 +1,6 @@
 use Rattle.std.proofs.Common.{◌≡◌, ◌∙◌, ℕ, true, false, not, Option, None, Some, is_some, [], refl, sym, ap}
 use Rattle.std.specs.List.{cons_option}
-use Rattle.qm_kinds.specs.declared.entry.Entry.{Entry}
-use Rattle.qm_kinds.specs.declared.run.Run.{Run}
+use Rattle.qm_model.specs.Common.{Entry, Run}
 use Rattle.qm_parts.proofs.Mirrored.{no_run}
 use Rattle.qm_parts.proofs.Left.{stays, absent_stays, entry_gone, same_run}
 use Rattle.qm_parts.proofs.tables.TableSet.replace_entry.Goals as goal

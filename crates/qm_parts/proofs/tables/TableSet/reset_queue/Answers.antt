@@ -1,8 +1,6 @@
 use Rattle.std.proofs.Common.{◌≡◌, ◌∙◌, List, map, ap}
-use Rattle.qm_kinds.specs.declared.entry.Entry.{Entry}
-use Rattle.qm_kinds.specs.declared.run.Run.{Run}
-use Rattle.qm_model.specs.Stopping.{reset_in}
-use Rattle.qm_entries.proofs.Numbers.{kept_as}
+use Rattle.qm_model.specs.Common.{Entry, Run, reset_in}
+use Rattle.qm_tables.proofs.Numbers.{kept_as}
 use Rattle.qm_parts.specs.Mirror.{reset_by}
 use Rattle.qm_parts.specs.Tables.{Tables}
 use Rattle.qm_parts.proofs.Left.{stays}

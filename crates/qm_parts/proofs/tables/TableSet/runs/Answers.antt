@@ -1,5 +1,4 @@
-use Rattle.std.proofs.Common.{◌∙◌, List, ap}
-use Rattle.std.specs.List.{filter_map}
+use Rattle.std.proofs.Common.{◌∙◌, List, ap, filter_map}
 use Rattle.qm_kinds.specs.declared.run.Run.{Run}
 use Rattle.qm_parts.specs.ByRun.{entry_on}
 use Rattle.qm_parts.proofs.ByRun.{entries_by_run}

@@ -1,8 +1,6 @@
 use Rattle.std.proofs.Common.{Option, [], Some, get_or, ap}
 use Rattle.std.specs.List.{cons_option}
-use Rattle.qm_kinds.specs.declared.entry.Entry.{Entry}
-use Rattle.qm_kinds.specs.declared.run.Run.{Run}
-use Rattle.qm_model.specs.Stopping.{with_fate}
+use Rattle.qm_model.specs.Common.{Entry, Run, with_fate}
 use Rattle.qm_parts.proofs.Left.{stays, kept_runs}
 use Rattle.qm_parts.proofs.Resets.{run_with_fate}
 use Rattle.qm_parts.proofs.tables.TableSet.set_fate.Goals as goal

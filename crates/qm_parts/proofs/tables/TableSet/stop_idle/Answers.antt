@@ -1,7 +1,6 @@
 use Rattle.std.proofs.Common.{◌≡◌, ◌∙◌, List, map, ap}
-use Rattle.qm_kinds.specs.declared.queue.Queue.{Queue}
-use Rattle.qm_model.specs.States.{when_idle}
-use Rattle.qm_queues.proofs.QueueNames.{kept_as}
+use Rattle.qm_model.specs.Common.{Queue, when_idle}
+use Rattle.qm_tables.proofs.QueueNames.{kept_as}
 use Rattle.qm_parts.specs.Tables.{Tables}
 use Rattle.qm_parts.proofs.Stops.{all_idle}
 use Rattle.qm_parts.proofs.tables.TableSet.stop_idle.Goals as goal

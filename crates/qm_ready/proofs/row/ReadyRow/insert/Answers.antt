@@ -1,5 +1,4 @@
-use Rattle.std.proofs.Common.{◌≢◌, ◌∙◌, List, ap, refl, arith}
-use Rattle.std.specs.List.{All}
+use Rattle.std.proofs.Common.{◌≢◌, ◌∙◌, List, ap, refl, arith, All}
 use Rattle.qm_match.specs.declared.order.Key.{Key}
 use Rattle.qm_match.specs.Keys.{comes_before}
 use Rattle.qm_ready.specs.Rows.{Row, key_numbered}

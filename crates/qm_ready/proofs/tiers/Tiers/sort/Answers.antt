@@ -1,5 +1,4 @@
-use Rattle.std.proofs.Common.{◌∙◌, List, sym, ap}
-use Rattle.std.specs.List.Sorted.{IsPermutation}
+use Rattle.std.proofs.Common.{◌∙◌, List, sym, ap, IsPermutation}
 use Rattle.std.proofs.lemmas.List.Sorted.{IsPermutation-trans}
 use Rattle.qm_match.specs.declared.order.Key.{Key}
 use Rattle.qm_ready.specs.Rows.{HasNumbersOnce, key_numbered}

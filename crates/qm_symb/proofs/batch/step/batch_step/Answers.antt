@@ -1,5 +1,4 @@
-use Rattle.std.proofs.Common.{◌≡◌, inl, inr, ◌+◌, [], ◌∷◌, ◌++◌, true, false, refl, sym, ◌∙◌, ap, arith}
-use Rattle.std.specs.Prelude.{is_err}
+use Rattle.std.proofs.Common.{◌≡◌, inl, inr, ◌+◌, [], ◌∷◌, ◌++◌, true, false, refl, sym, ◌∙◌, ap, arith, is_err}
 use Rattle.qm_kinds.specs.declared.work.Report.TheVariants.{Mark, Done}
 use Rattle.qm_model.specs.Batch.{GoOn, Output, SaveMark, EndRun}
 use Rattle.qm_model.specs.Reports.{course}

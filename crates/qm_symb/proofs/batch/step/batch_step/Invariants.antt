@@ -1,5 +1,4 @@
-use Rattle.std.proofs.Common.{◌≡◌, ◌<◌, length}
-use Rattle.std.specs.Prelude.{vec_capacity}
+use Rattle.std.proofs.Common.{◌≡◌, ◌<◌, length, vec_capacity}
 use Rattle.qm_symb.specs.BatchCursors.{IsInText}
 use Rattle.qm_symb.proofs.CourseLemmas.{Passed, steps_from}
 use Rattle.qm_symb.proofs.batch.step.batch_step.Given as goal

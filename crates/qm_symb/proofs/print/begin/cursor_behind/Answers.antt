@@ -1,5 +1,4 @@
-use Rattle.std.proofs.Common.{drop, sym, ap, ◌∙◌}
-use Rattle.std.proofs.lemmas.List.{drop-drop}
+use Rattle.std.proofs.Common.{drop, sym, ap, ◌∙◌, drop-drop}
 use Rattle.qm_model.specs.Pages.{page_blocks}
 use Rattle.qm_symb.proofs.print.begin.cursor_behind.Goals as goal
 

@@ -1,5 +1,4 @@
-use Rattle.std.proofs.Common.{◌≡◌, ◌+◌, ◌++◌, length, take, drop, arith, sym, ap, ◌∙◌, length-drop}
-use Rattle.std.specs.Prelude.{flat_map}
+use Rattle.std.proofs.Common.{◌≡◌, ◌+◌, ◌++◌, length, take, drop, arith, sym, ap, ◌∙◌, length-drop, flat_map}
 use Rattle.std.proofs.lemmas.List.{take_rest}
 use Rattle.qm_model.specs.Pages.{line_block, rows}
 use Rattle.qm_symb.specs.TextParts.{section}

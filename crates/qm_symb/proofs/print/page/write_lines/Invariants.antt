@@ -1,5 +1,4 @@
-use Rattle.std.proofs.Common.{◌≡◌, ◌≤◌, ◌<◌, ◌++◌, length, drop, take}
-use Rattle.std.specs.Prelude.{flat_map}
+use Rattle.std.proofs.Common.{◌≡◌, ◌≤◌, ◌<◌, ◌++◌, length, drop, take, flat_map}
 use Rattle.qm_model.specs.Pages.{line_block}
 use Rattle.qm_symb.specs.TextParts.{section}
 use Rattle.qm_symb.specs.PageLines.{IsInFront, printed_lines}

@@ -1,8 +1,6 @@
-use Rattle.std.proofs.Common.{◌≤◌, ◌≡◌, ◌∙◌, List, [], ◌∷◌, length, refl, sym, ap, arith, true, false, Some}
-use Rattle.std.proofs.lemmas.List.{length-append}
+use Rattle.std.proofs.Common.{◌≤◌, ◌≡◌, ◌∙◌, List, [], ◌∷◌, length, refl, sym, ap, arith, true, false, Some, length-append}
 use Rattle.qm_history.specs.declared.turn.Turn.{Turn}
-use Rattle.qm_history.specs.Chest.{turns_kept}
-use Rattle.qm_history.specs.Faults.{tells_disk_fault}
+use Rattle.qm_history.specs.Common.{turns_kept, tells_disk_fault}
 use Rattle.qm_thread_cases.proofs.recorder.RecorderServe.serve.Goals as goal
 
 pub returns-in-Ok : goal.returns-in-Ok

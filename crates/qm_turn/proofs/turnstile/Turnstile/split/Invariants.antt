@@ -1,6 +1,5 @@
-use Rattle.std.proofs.Common.{◌≡◌, ◌≤◌, ◌+◌, ◌-◌, map, []}
+use Rattle.std.proofs.Common.{◌≡◌, ◌≤◌, ◌+◌, ◌-◌, map, [], vec_capacity, vec_len}
 use Rattle.std.specs.List.{range_with_len}
-use Rattle.std.specs.Prelude.{vec_capacity, vec_len}
 use Rattle.qm_turn.specs.Turns.{fresh}
 use Rattle.qm_turn.specs.Rule.{pass_view}
 use Rattle.qm_turn.proofs.turnstile.Turnstile.split.Given as goal

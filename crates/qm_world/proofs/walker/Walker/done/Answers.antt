@@ -1,5 +1,4 @@
-use Rattle.std.proofs.Common.{◌≡◌, List, ap, rules}
-use Rattle.std.specs.Prelude.{IsSome}
+use Rattle.std.proofs.Common.{◌≡◌, List, ap, rules, IsSome}
 use Rattle.qm_kinds.specs.declared.record.Record.{Record}
 use Rattle.qm_image.specs.Image.{system_of}
 use Rattle.qm_world.proofs.Worlds.{follows, log_is, replies, system_is}

@@ -1,8 +1,5 @@
 use Rattle.std.proofs.Common.{◌∙◌, None, Some, ap, subst}
-use Rattle.qm_kinds.specs.declared.record.Record.{Record}
-use Rattle.qm_kinds.specs.declared.system.System.{System}
-use Rattle.qm_history.specs.Accepted.{CanFollow}
-use Rattle.qm_record.specs.Spelling.{HasSpelling}
+use Rattle.qm_history.specs.Common.{Record, System, CanFollow}
 use Rattle.qm_image.specs.Image.{system_of}
 use Rattle.qm_world.specs.Nodes.{MayBeInDoubt}
 use Rattle.qm_world.proofs.Worlds.{doubt_can}
@@ -17,7 +14,7 @@ returns c =
     record {
       can =
           doubt_can w c.args.node c.args.moment c.args.request.now (subst (λ (x : System). MayBeInDoubt w x c.args.node c.args.request.now) c.requires.image may)
-          (subst (λ (x : System). CanFollow HasSpelling x c.args.moment c.args.node c.args.request.now) c.requires.image next.follows);
+          (subst (λ (x : System). CanFollow x c.args.moment c.args.node c.args.request.now) c.requires.image next.follows);
       after = ap (λ d. record w { doubt = d; manager = None }) (c.put_doubt.ensures ∙ ap (λ (r : Record). Some r) next.record_is);
       image = c.in_ok-record.ensures.rows ∙ c.requires.image;
     }

@@ -1,5 +1,4 @@
-use Rattle.std.proofs.Common.{◌∙◌, List, ◌++◌, Option, ap}
-use Rattle.std.specs.Prelude.{option_to_list}
+use Rattle.std.proofs.Common.{◌∙◌, List, ◌++◌, Option, ap, option_to_list}
 use Rattle.qm_kinds.specs.declared.record.Record.{Record}
 use Rattle.qm_image.specs.Image.{system_of}
 use Rattle.qm_world.proofs.Worlds.{kept_log, kept_system}

@@ -1,11 +1,7 @@
-use Rattle.std.proofs.Common.{◌≡◌, ◌∙◌, ◌++◌, ◌∷◌, [], Option, Some, ap}
-use Rattle.std.specs.Prelude.{length}
-use Rattle.qm_kinds.specs.declared.record.Record.{Record}
-use Rattle.qm_kinds.specs.declared.request.Request.TheVariants.{Took}
+use Rattle.std.proofs.Common.{◌≡◌, ◌∙◌, ◌++◌, ◌∷◌, [], Option, Some, ap, length}
+use Rattle.qm_history.specs.Common.{Record, Took, log_read, doubt_read, request_record}
 use Rattle.qm_history.specs.declared.world.World.{World}
-use Rattle.qm_history.specs.World.{log_read, doubt_read}
 use Rattle.qm_model.specs.Folding.{system_of as system_of_log}
-use Rattle.qm_model.specs.Log.{request_record}
 use Rattle.qm_image.specs.Image.{system_of}
 use Rattle.qm_world.proofs.Worlds.{follows, log_is, names_read, read_consistent, read_live, system_is, taken_world}
 use Rattle.qm_world.proofs.walker.Walker.took.Goals as goal

@@ -1,9 +1,0 @@
--- How many bytes lines have.
-use Rattle.std.proofs.Common.{◌≡◌, ℕ, zero, suc, ◌*◌, ◌++◌, [], ◌∷◌, length, refl, arith}
-use Rattle.std.specs.Prelude.{replicate}
-use Rattle.std.proofs.lemmas.List.{length-append}
-use Rattle.qm_model.specs.Filing.{filling}
-
-pub filling_length : (n : ℕ) → length (filling n) ≡ n * 64
-filling_length zero = refl
-filling_length (suc n) = omega (arith, length-append (replicate 63 120 ++ 10 ∷ []) (filling n), filling_length n)

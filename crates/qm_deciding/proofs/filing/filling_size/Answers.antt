@@ -1,6 +1,0 @@
-use Rattle.std.proofs.Common.{arith}
-use Rattle.qm_deciding.proofs.Filling.{filling_length}
-use Rattle.qm_deciding.proofs.filing.filling_size.Goals as goal
-
-pub returns : goal.returns
-returns c = omega (arith, filling_length c.args.lines)

@@ -1,5 +1,0 @@
-pub mod Entries
-pub mod Boxed
-pub mod Changes
-pub mod Tags
-pub mod Shelved

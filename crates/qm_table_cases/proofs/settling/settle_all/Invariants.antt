@@ -1,5 +1,0 @@
-use Rattle.qm_table_cases.proofs.settling.settle_all.Given as goal
-
--- a ledger of its own
-abbrev pub ghosts-settle_by : goal.ghosts-settle_by
-ghosts-settle_by a = record { name = a.blank.name; parts = a.blank.parts }

@@ -1,0 +1,11 @@
+use Rattle.std.proofs.Common.{rules}
+use Rattle.std.specs.Cmp.Lexicographic.{nat_list_cmp_total}
+use Rattle.qm_keyed.proofs.Searches.{place_from_clause}
+use Rattle.qm_tables.proofs.RunCounting.{queue_of}
+use Rattle.qm_tables.proofs.runs.counts.place_of.Goals as goal
+
+-- the closure compares names
+pub returns : goal.returns
+returns c =
+    place_from_clause nat_list_cmp_total queue_of c.args.queue.now c.args.counts.now c.requires c.binary_search_by.result c.binary_search_by.ensures.bound c.binary_search_by.ensures.position
+    (λ a q f called. search rules)

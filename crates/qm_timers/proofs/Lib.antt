@@ -1,9 +1,0 @@
-pub mod TimerOrders
-pub mod TimerNumbers
-pub mod TimersKeeping
-pub mod TimersDetermined
-pub mod FileNames
-pub mod Replacing
-pub mod NamedRows
-pub mod Spooling
-pub mod SpoolCounting

@@ -1,6 +1,0 @@
-use Rattle.std.proofs.Common.{◌≡◌, map, take}
-use Rattle.qm_timers.specs.SpoolRows.{file_of}
-use Rattle.qm_timers.proofs.spool.rows.copy_files.Given as goal
-
-abbrev pub invariant-loop-file : goal.invariant-loop-file
-invariant-loop-file l = l.copies.items ≡ map file_of (take l.file-index l.files)

@@ -1,7 +1,0 @@
-use Rattle.std.proofs.Common.{◌≡◌, map, take}
-use Rattle.qm_model.specs.Consistent.{spooled}
-use Rattle.qm_timers.specs.SpoolRows.{file_of}
-use Rattle.qm_timers.proofs.spool.rows.size_of_all.Given as goal
-
-abbrev pub invariant-loop-file : goal.invariant-loop-file
-invariant-loop-file l = l.size ≡ spooled (map file_of (take l.file-index l.files))

@@ -1,0 +1,2 @@
+pub mod ItemTexts
+pub mod ItemWalk
